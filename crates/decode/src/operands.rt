@@ -1,0 +1,92 @@
+//! The operands in the fields of a word.
+//!
+//! Source: RISC-V Unprivileged ISA 20191213, chapter 2, "Immediate Encoding Variants".
+
+ghost use Rattle.isa_table.specs.Operands.{i_immediate as i_immediate_of, s_immediate as s_immediate_of, set_bits};
+ghost use Rattle.std.specs.Prelude.{◌≡◌, ◌+◌, ◌^◌, ◌<◌, ◌≤◌};
+ghost use Rattle.word_bits.specs.Numbers.{field as field_of, signed as signed_of};
+
+use isa_table::{AccessSet, Reg};
+use word_bits::field;
+
+/// The destination register.
+pub fn rd(word: u32) -> Reg
+    ensures { result.number ≡ field_of word 7 5 }
+{
+    register(word, 7)
+}
+
+/// The first source register.
+pub fn rs1(word: u32) -> Reg
+    ensures { result.number ≡ field_of word 15 5 }
+{
+    register(word, 15)
+}
+
+/// The second source register.
+pub fn rs2(word: u32) -> Reg
+    ensures { result.number ≡ field_of word 20 5 }
+{
+    register(word, 20)
+}
+
+/// The register whose number stands in five bits from bit `lo` upwards.
+fn register(word: u32, lo: u32) -> Reg
+    requires { lo + 5 ≤ 32 }
+    ensures { result.number ≡ field_of word lo 5 }
+{
+    Reg {
+        number: field(word, lo, 5) as u8,
+    }
+}
+
+/// The immediate of an I-type word.
+pub fn i_immediate(word: u32) -> i32
+    ensures { result ≡ i_immediate_of word }
+{
+    signed(field(word, 20, 12), 12)
+}
+
+/// The immediate of an S-type word.
+pub fn s_immediate(word: u32) -> i32
+    ensures { result ≡ s_immediate_of word }
+{
+    signed(field(word, 7, 5) + (field(word, 25, 7) << 5), 12)
+}
+
+/// The two's complement value of `n` bits.
+#[tactic(auto, using(isa_table::proofs::Signs::signed_low, isa_table::proofs::Signs::signed_high))]
+fn signed(bits: u32, n: u32) -> i32
+    requires n { (1 ≤ n) × (n < 31) }
+    requires bits { bits < 2 ^ n }
+    ensures { result ≡ signed_of bits n }
+{
+    if bits < power_of_two(n - 1) {
+        bits as i32
+    } else {
+        bits as i32 - power_of_two(n) as i32
+    }
+}
+
+#[tactic(auto, using(isa_table::proofs::Signs::power_fits, isa_table::proofs::Signs::power_below))]
+fn power_of_two(exponent: u32) -> u32
+    requires { exponent < 31 }
+    ensures value { result ≡ 2 ^ exponent }
+    ensures below { result < 2 ^ 31 }
+{
+    1 << exponent
+}
+
+/// The set of a fence that stands in four bits from bit `lo` upwards.
+pub fn set(word: u32, lo: u32) -> AccessSet
+    requires { lo + 4 ≤ 32 }
+    ensures { set_bits result ≡ field_of word lo 4 }
+{
+    let bits = field(word, lo, 4);
+    AccessSet {
+        device_input: bits / 8 == 1,
+        device_output: bits / 4 % 2 == 1,
+        memory_reads: bits / 2 % 2 == 1,
+        memory_writes: bits % 2 == 1,
+    }
+}

@@ -1,0 +1,4 @@
+pub mod Registers
+pub mod Effect
+pub mod Needs
+pub mod Requests

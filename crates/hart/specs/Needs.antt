@@ -1,0 +1,18 @@
+-- What a running hart needs, by the word that it fetches: None where pc is outside the text region.
+use Rattle.std.specs.Prelude.{◌≡◌, ℕ, Option, Some, None}
+use Rattle.decode.specs.Decoding.{Decodes}
+use Rattle.isa_table.specs.declared.instruction.Instr.{Instr}
+use Rattle.hart.specs.declared.state.HartState.{HartState}
+use Rattle.hart.specs.declared.state.Trap.TheVariants.{NoInstruction, OutsideText}
+use Rattle.hart.specs.declared.need.Need.{Need}
+use Rattle.hart.specs.declared.need.Need.TheVariants.{Stop}
+use Rattle.hart.specs.Effect.{effect}
+
+-- by the instruction that the word spells: its effect, or a trap where there is none
+abbrev pub need_of : HartState → Option Instr → Need
+need_of s None = Stop NoInstruction
+need_of s (Some i) = effect s i
+
+abbrev pub Needs : HartState → Option ℕ → Need → Type 0
+Needs s None need = need ≡ Stop OutsideText
+Needs s (Some w) need = (spelled : Option Instr) × Decodes w spelled × (need ≡ need_of s spelled)

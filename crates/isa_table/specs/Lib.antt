@@ -1,0 +1,4 @@
+pub mod Columns
+pub mod Operands
+pub mod Ranges
+pub mod Table

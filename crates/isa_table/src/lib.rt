@@ -1,0 +1,21 @@
+//! The instruction table: the instructions of RV64I and of cache-block management, their check and
+//! their canonical words.
+//!
+//! Source: RISC-V Unprivileged ISA 20191213, chapters 2, 3, 5 and 24; RISC-V Cache Management
+//! Operations (CMO) 1.0.
+#![tactic(auto)]
+
+mod access;
+mod checking;
+mod encoding;
+mod fault;
+mod instruction;
+mod register;
+#[cfg(test)]
+mod tests;
+
+pub use access::AccessSet;
+pub use encoding::encode;
+pub use fault::FieldFault;
+pub use instruction::{CacheOp, ImmediateOp, Instr, StoreOp, SystemOp, UpperOp};
+pub use register::Reg;

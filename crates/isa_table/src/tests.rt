@@ -1,0 +1,47 @@
+//! Words from the manuals' encodings, and operands at and past the ends of their ranges.
+
+use crate::{CacheOp, FieldFault, ImmediateOp, Instr, Reg, StoreOp, UpperOp, encode};
+use std::test::Fail;
+
+#[test]
+fn words_are_canonical(rt: HostRuntime) -> Result<(), Fail> {
+    let x5 = Reg::new(5).ok_or("x5")?;
+    let x6 = Reg::new(6).ok_or("x6")?;
+    assert_eq!(rt; Reg::new(32), None);
+    let lui = Instr::Upper {
+        op: UpperOp::Lui,
+        rd: x6,
+        immediate: 0x40000,
+    };
+    assert_eq!(rt; encode(lui.check()?), 0x4000_0337);
+    let sd = Instr::Store {
+        op: StoreOp::Sd,
+        rs2: x5,
+        rs1: x6,
+        offset: -1,
+    };
+    assert_eq!(rt; encode(sd.check()?), 0xfe53_3fa3);
+    let clean = Instr::Cache {
+        op: CacheOp::Clean,
+        rs1: x6,
+    };
+    assert_eq!(rt; encode(clean.check()?), 0x0013_200f);
+    Ok(())
+}
+
+#[test]
+fn immediates_out_of_range_are_refused(rt: HostRuntime) {
+    let zero = Reg { number: 0 };
+    let addi = |immediate: i32| -> Instr {
+        Instr::Immediate {
+            op: ImmediateOp::Addi,
+            rd: zero,
+            rs1: zero,
+            immediate,
+        }
+    };
+    assert_eq!(rt; addi(2047).check(), Ok(addi(2047)));
+    assert_eq!(rt; addi(-2048).check(), Ok(addi(-2048)));
+    assert_eq!(rt; addi(2048).check(), Err(FieldFault::ImmediateOutOfRange));
+    assert_eq!(rt; addi(-2049).check(), Err(FieldFault::ImmediateOutOfRange));
+}

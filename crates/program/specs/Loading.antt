@@ -1,0 +1,13 @@
+-- What loading makes of an object: a text region filled with zeros past the object's text.
+use Rattle.std.specs.Prelude.{ℕ, ◌≡◌, ◌-◌, List, ◌++◌, length, replicate}
+use Rattle.object.specs.Sections.{Sections}
+use Rattle.object.specs.declared.TheConstants.{TEXT_LIMIT}
+
+-- the bytes, and zeros up to a size
+abbrev pub zero_filled : List ℕ → ℕ → List ℕ
+zero_filled bytes size = bytes ++ replicate (size - length bytes) 0
+
+-- a program holds the whole text region and the bytes of the data section that an object gives
+pub record Loads (program object : Sections) : Type 0 where
+  pub text : program.text ≡ zero_filled object.text TEXT_LIMIT
+  pub static_data : program.static_data ≡ object.static_data
