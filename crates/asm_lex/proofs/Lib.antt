@@ -1,0 +1,6 @@
+pub mod Cuts
+pub mod Digits
+pub mod Cutting
+pub mod Lexing
+pub mod Spelling
+pub mod TokenFacts

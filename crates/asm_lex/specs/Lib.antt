@@ -1,0 +1,5 @@
+pub mod Lines
+pub mod Pieces
+pub mod Kinds
+pub mod Tokens
+pub mod Scan

@@ -1,0 +1,88 @@
+//! The tokens of assembler source: a source is cut into lines, and each line into tokens.
+//!
+//! A token is a longest run of letters, digits, `_` and `.`, or one of `, ( ) : + -`. A run that
+//! begins with a digit is a number: decimal without a needless leading zero, or `0x` and
+//! hexadecimal digits in either case. Spaces, tabs and comments, from `#` on, stand between tokens.
+#![tactic(auto)]
+
+ghost use Rattle.asm_lex.specs.Tokens.{AreTokensOf, IsFaultOf};
+ghost use Rattle.asm_lex.specs.declared.LexFault.TheVariants.{Memory};
+ghost use Rattle.std.specs.Prelude.{◌≡◌, IfErr, IfOk};
+
+mod kinds;
+mod lines;
+mod scan;
+#[cfg(test)]
+mod tests;
+
+use kinds::kind_of;
+pub use lines::next_line;
+use scan::next_piece;
+use std::alloc::{AllocFailed, Global};
+
+/// What a token is: a name, a number with its value, which is None from 2^64 on, or a mark.
+#[derive(Clone, Copy, Debug, PartialEq, Eq)]
+pub enum Kind {
+    Name,
+    Number(Option<u64>),
+    Comma,
+    Open,
+    Close,
+    Colon,
+    Plus,
+    Minus,
+}
+
+/// A token: its bytes, which begin at the byte `start` of its line, and that line's number.
+#[derive(Clone, Copy, Debug, PartialEq, Eq)]
+pub struct Token<'a> {
+    pub text: &'a [u8],
+    pub kind: Kind,
+    pub line: u32,
+    pub start: usize,
+}
+
+/// Why a line has no tokens.
+#[derive(Clone, Copy, Debug, PartialEq, Eq)]
+pub enum LexFault {
+    /// A byte or a run outside comments is no token.
+    BadToken,
+    /// Memory was refused.
+    Memory,
+}
+
+impl<T: Drop> From<AllocFailed<T>> for LexFault {
+    ghost from_gives = { λ _ fault. fault ≡ Memory };
+
+    fn from(_failed: AllocFailed<T>) -> LexFault {
+        LexFault::Memory
+    }
+}
+
+/// The tokens of one line, whose bytes are `source` without the line's end and whose number is
+/// `line`, in the order in which they stand.
+///
+/// A bad token is answered exactly where some piece of the line is no token, unless memory was
+/// refused before that piece; memory is answered only where it was refused.
+#[tactic(auto, using(crate::proofs::Lexing::lexed_start, crate::proofs::Lexing::lexed_all))]
+pub fn tokens<'a>(alloc: Global, source: &'a [u8], line: u32) -> Result<Vec<Token<'a>>, LexFault>
+    ensures found { IfOk result (λ found. AreTokensOf source.now line found.items) }
+    ensures fault { IfErr result (IsFaultOf source.now) }
+{
+    let mut found = Vec::new(alloc);
+    let mut at = 0;
+    while let Some((start, end)) = next_piece(source, at) {
+        let text = &source[start..end];
+        let Some(kind) = kind_of(text) else {
+            return Err(LexFault::BadToken);
+        };
+        found.push(Token {
+            text,
+            kind,
+            line,
+            start,
+        })?;
+        at = end;
+    }
+    Ok(found)
+}
