@@ -2,7 +2,7 @@
 -- reply does. It speaks of whole numbers, by the shape and mnemonic of the instruction.
 -- Source: RISC-V Unprivileged ISA 20191213, chapters 2 and 5; RISC-V Cache Management Operations 1.0; the three
 -- calls of ECALL are this project's.
-use Rattle.std.specs.Prelude.{ℕ, ◌+◌, ◌*◌, ◌%◌, ◌^◌, ◌==◌, if◌then◌else◌, List, pos, ◌+ℤ◌}
+use Rattle.std.specs.Prelude.{ℕ, ◌+◌, ◌*◌, ◌%◌, ◌^◌, ◌==◌, if◌then◌else◌, pos, ◌+ℤ◌}
 use Rattle.word_bits.specs.Numbers.{signed, wrap}
 use Rattle.isa_table.specs.declared.access.AccessSet.{AccessSet}
 use Rattle.isa_table.specs.declared.instruction.Instr.{Instr}

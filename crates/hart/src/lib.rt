@@ -10,3 +10,6 @@ pub use answering::answer;
 pub use need::{AccessFault, Need, Reply, Request};
 pub use state::{HartState, Registers, Status, Trap};
 pub use stepping::next;
+
+#[cfg(test)]
+mod tests;

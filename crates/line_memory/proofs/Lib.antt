@@ -1,0 +1,5 @@
+pub mod Accesses
+pub mod Flat
+pub mod Loops
+pub mod Maps
+pub mod Numbers

@@ -1,0 +1,4 @@
+pub mod Lines
+pub mod Memory
+pub mod Places
+pub mod Regions

@@ -1,0 +1,136 @@
+//! Text and data: the memory of a program that a power cut loses.
+
+ghost use Rattle.std.specs.Prelude.{◌≡◌, ◌≤◌, Some, None, length, IfOk, IfErr, IsOk};
+ghost use Rattle.line_memory.specs.Memory.{IsWidth, loaded_from, stored_to, fault_of};
+ghost use Rattle.line_memory.specs.Regions.{RamView, IsRam, padded, ram_bytes};
+ghost use Rattle.line_memory.specs.Places.{IsPlace, IsRefused};
+
+use crate::bytes::{load_bytes, store_bytes};
+use crate::{DATA_BASE, DATA_SIZE, MediumFault, MemFault, TEXT_BASE, TEXT_SIZE};
+use std::alloc::Global;
+use std::marker::Model;
+use word_bits::replace_bytes;
+
+/// The text and data regions. Addresses are those of the whole address space.
+#[derive(Drop)]
+pub struct Ram {
+    text: Vec<u8>,
+    bytes: Vec<u8>,
+}
+
+impl Model for Ram {
+    ghost use Rattle.line_memory.specs.Regions.{RamView, IsRam};
+
+    ghost Value = { RamView };
+
+    ghost view = { λ r. record { text = r.text.items; bytes = r.bytes.items } };
+
+    ghost invariant = { λ r. IsRam (record { text = r.text.items; bytes = r.bytes.items }) };
+}
+
+/// Where an access begins: a place of the text or of the data.
+enum Place {
+    Text(usize),
+    Data(usize),
+}
+
+impl Ram {
+    /// A program's text and data, with zeros past the bytes given.
+    pub fn from_bytes(alloc: Global, text: &[u8], data: &[u8]) -> Result<Ram, MediumFault>
+        requires text { length text.now ≤ TEXT_SIZE }
+        requires bytes { length «data».now ≤ DATA_SIZE }
+        ensures ok { IfOk result (λ ram. ram ≡ record {
+          text = padded text.now TEXT_SIZE;
+          bytes = padded «data».now DATA_SIZE;
+        }) }
+        ensures sound { IfOk result (λ ram. IsRam ram) }
+        ensures err { IfErr result (λ fault. fault ≡ MediumFault.Memory) }
+    {
+        let text = region(alloc, text, TEXT_SIZE as usize)?;
+        let bytes = region(alloc, data, DATA_SIZE as usize)?;
+        Ok(Ram { text, bytes })
+    }
+
+    /// The number of the `width` bytes at an address. Misaligned comes before Outside.
+    #[tactic(auto, using(crate::proofs::Accesses::ram_refused))]
+    pub fn load(&self, addr: u64, width: u32) -> Result<u64, MemFault>
+        requires { IsWidth width }
+        ensures ok { IfOk result (λ value. (fault_of (ram_bytes self.now) addr width ≡ None)
+            × (loaded_from (ram_bytes self.now) addr width ≡ Some value)) }
+        ensures err { IfErr result (λ fault. fault_of (ram_bytes self.now) addr width ≡ Some fault) }
+    {
+        match place_of(addr, width) {
+            Ok(Place::Text(at)) => Ok(load_bytes(&self.text, at, width as usize)),
+            Ok(Place::Data(at)) => Ok(load_bytes(&self.bytes, at, width as usize)),
+            Err(fault) => Err(fault),
+        }
+    }
+
+    /// Writes the low `width` bytes of `value` at an address. A refused store changes nothing.
+    #[tactic(auto, using(crate::proofs::Accesses::ram_refused))]
+    pub fn store(&mut self, addr: u64, width: u32, value: u64) -> Result<(), MemFault>
+        requires { IsWidth width }
+        ensures ok { IfOk result (λ _. (fault_of (ram_bytes self.old) addr width ≡ None)
+            × (ram_bytes self.new ≡ stored_to (ram_bytes self.old) addr width value)) }
+        ensures err { IfErr result (λ fault. (fault_of (ram_bytes self.old) addr width ≡ Some fault)
+            × (self.new ≡ self.old)) }
+        ensures sound { IsOk result → IsRam self.new }
+    {
+        match place_of(addr, width) {
+            Ok(Place::Text(at)) => store_bytes(&mut self.text, at, width as usize, value),
+            Ok(Place::Data(at)) => store_bytes(&mut self.bytes, at, width as usize, value),
+            Err(fault) => return Err(fault),
+        }
+        Ok(())
+    }
+
+    /// The byte at an address; None outside of text and data.
+    #[tactic(auto, using(crate::proofs::Accesses::none_peeked))]
+    pub fn peek(&self, addr: u64) -> Option<u8>
+        ensures { result ≡ ram_bytes self.now addr }
+    {
+        match place_of(addr, 1) {
+            Ok(Place::Text(at)) => Some(self.text[at]),
+            Ok(Place::Data(at)) => Some(self.bytes[at]),
+            Err(_) => None,
+        }
+    }
+
+    /// The bytes of the whole text region, as they stand.
+    pub fn text(&self) -> &[u8]
+        ensures value { result.now ≡ self.now.text }
+        ensures whole { length result.now ≡ TEXT_SIZE }
+        ensures sound { IsRam self.now }
+    {
+        self.text.as_slice()
+    }
+}
+
+/// Zeros, with the bytes given at their front.
+fn region(alloc: Global, bytes: &[u8], size: usize) -> Result<Vec<u8>, MediumFault>
+    requires { length bytes.now ≤ size }
+    ensures ok { IfOk result (λ made. made.items ≡ padded bytes.now size) }
+    ensures whole { IfOk result (λ made. length made.items ≡ size) }
+    ensures err { IfErr result (λ fault. fault ≡ MediumFault.Memory) }
+{
+    let mut made = vec![in alloc; 0u8; size]?;
+    replace_bytes(&mut made, 0, bytes);
+    Ok(made)
+}
+
+/// The place of an aligned access. A region's size is a multiple of each width, so its end need not be looked at.
+fn place_of(addr: u64, width: u32) -> Result<Place, MemFault>
+    requires { IsWidth width }
+    ensures ok { IfOk result (λ found. IsPlace addr width found) }
+    ensures err { IfErr result (λ fault. IsRefused addr width fault) }
+{
+    if addr % u64::from(width) != 0 {
+        Err(MemFault::Misaligned)
+    } else if (TEXT_BASE..TEXT_BASE + TEXT_SIZE).contains(&addr) {
+        Ok(Place::Text((addr - TEXT_BASE) as usize))
+    } else if (DATA_BASE..DATA_BASE + DATA_SIZE).contains(&addr) {
+        Ok(Place::Data((addr - DATA_BASE) as usize))
+    } else {
+        Err(MemFault::Outside)
+    }
+}
