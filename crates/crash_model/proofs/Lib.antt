@@ -1,0 +1,10 @@
+pub mod Bounds
+pub mod Fenced
+pub mod Pendings
+pub mod Radix
+pub mod Explained
+pub mod Images
+pub mod Lines
+pub mod Leaving
+pub mod Front
+pub mod Product

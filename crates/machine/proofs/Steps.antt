@@ -1,0 +1,98 @@
+-- Runs of several steps.
+use Rattle.std.proofs.Common.{◌≡◌, ℕ, zero, suc, ◌+◌, ◌-◌, ◌<◌, ◌≤◌, List, [], ◌∷◌, ◌++◌, length, take, replicate, Option, Some, None, true, slice_get, get_or, refl, ap, ◌∙◌, arith}
+use Rattle.std.proofs.lemmas.List.{append-nil, length-replicate, replicate_more, replicate-append-replicate, take-replicate, take_more}
+use Rattle.std.proofs.lemmas.Grind.{flat_map-append}
+use Rattle.std.proofs.lemmas.Option.{slice_get-get_or}
+use Rattle.hart.specs.declared.state.HartState.{HartState}
+use Rattle.hart.specs.declared.state.Status.{Status}
+use Rattle.hart.specs.declared.state.Status.TheVariants.{Running, Exited, Trapped}
+use Rattle.machine.specs.declared.schedule.Item.{Item}
+use Rattle.machine.specs.declared.schedule.Step.{Step}
+use Rattle.machine.specs.declared.schedule.Step.TheVariants.{Hart}
+use Rattle.machine.specs.Run.{Config, HartSteps, HartStepsIfThere, RunsTo, all_steps, steps_of}
+use Rattle.machine.specs.Stands.{MachineView, Runs}
+use Rattle.machine.specs.declared.fault.RunStop.{RunStop}
+use Rattle.machine.specs.Stops.{StopsAt, has_stopped, is_stopped}
+
+-- no step changes nothing
+pub runs_none : (m : MachineView) → Runs m m []
+runs_none m = record { text = refl; lines = refl; stands = λ c s. (c, refl, s) }
+
+joined : (text : List ℕ) (xs ys : List Step) (c d e : Config) → RunsTo text c xs d → RunsTo text d ys e → RunsTo text c (xs ++ ys) e
+joined text [] ys c d e a b = rw (← a) b
+joined text (x ∷ xs) ys c d e a b = (a.0, a.1, joined text xs ys a.0 d e a.2 b)
+
+-- steps after steps
+pub runs_more : (old middle new : MachineView) (xs ys : List Step) → Runs old middle xs → Runs middle new ys → Runs old new (xs ++ ys)
+runs_more old middle new xs ys a b = record {
+  text = b.text ∙ a.text;
+  lines = b.lines ∙ a.lines;
+  stands = λ c s.
+      let first = a.stands c s in
+      let then = b.stands first.0 first.2 in
+      (then.0, joined old.text xs ys c first.0 then.0 first.1 (rw (← a.text) then.1), then.2);
+}
+
+-- a hart that stopped makes no step
+rests : (text : List ℕ) (c : Config) (h : ℕ) (s : HartState) (status : Status) → has_stopped status ≡ true → HartSteps text c h s status c
+rests text c h s Running e = cc
+rests text c h s (Exited code) e = refl
+rests text c h s (Trapped trap) e = refl
+
+rests_if_there : (text : List ℕ) (c : Config) (h : ℕ) (o : Option HartState) → is_stopped o ≡ true → HartStepsIfThere text c h o c
+rests_if_there text c h None e = refl
+rests_if_there text c h (Some s) e = rests text c h s s.status e
+
+all_rest : (text : List ℕ) (c : Config) (h n : ℕ) → is_stopped (slice_get c.harts h) ≡ true → RunsTo text c (replicate n (Hart h)) c
+all_rest text c h zero e = refl
+all_rest text c h (suc n) e = (c, rests_if_there text c h (slice_get c.harts h) e, all_rest text c h n e)
+
+pub stopped_runs : (m : MachineView) (h n : ℕ) → is_stopped (slice_get m.harts h) ≡ true → Runs m m (replicate n (Hart h))
+stopped_runs m h n e = record {
+  text = refl;
+  lines = refl;
+  stands = λ c s. (c, all_rest m.text c h n (rw (← s.harts) e), s);
+}
+
+-- one more step of a hart, and none of one that stopped
+pub hart_runs_more : (old middle new : MachineView) (h n : ℕ) → Runs old middle (replicate n (Hart h)) → Runs middle new (Hart h ∷ [])
+    → Runs old new (replicate (n + 1) (Hart h))
+hart_runs_more old middle new h n a b = rw (← replicate_more n (Hart h)) (runs_more old middle new (replicate n (Hart h)) (Hart h ∷ []) a b)
+
+pub hart_rests : (old new : MachineView) (h done count : ℕ) → done ≤ count → Runs old new (replicate done (Hart h))
+    → is_stopped (slice_get new.harts h) ≡ true → Runs old new (replicate count (Hart h))
+hart_rests old new h done count fits a stopped =
+    let all : done + (count - done) ≡ count = omega arith in
+    let steps : replicate done (Hart h) ++ replicate (count - done) (Hart h) ≡ replicate count (Hart h) =
+    replicate-append-replicate done (count - done) (Hart h) ∙ ap (λ (n : ℕ). replicate n (Hart h)) all in
+    rw (← steps) (runs_more old new new (replicate done (Hart h)) (replicate (count - done) (Hart h)) a (stopped_runs new h (count - done) stopped))
+
+-- a hart whose next step is refused
+pub hart_stops : (old new : MachineView) (h done count : ℕ) → done < count → Runs old new (replicate done (Hart h))
+    → (done < length (replicate count (Hart h))) × Runs old new (take done (replicate count (Hart h)))
+hart_stops old new h done count fits runs =
+    (rw length-replicate fits, let less : done ≤ count = omega arith in rw take-replicate runs)
+
+-- a run of the items so far, and one item more
+pub items_run_more : (old middle new : MachineView) (items : List Item) (i : ℕ) (d : Item) → i < length items
+    → Runs old middle (all_steps (take i items)) → Runs middle new (steps_of (get_or items i d))
+    → Runs old new (all_steps (take (i + 1) items))
+items_run_more old middle new items i d fits a b =
+    let item : Item = get_or items i d in
+    let steps : all_steps (take (i + 1) items) ≡ all_steps (take i items) ++ steps_of item =
+    ap (λ (front : List Item). all_steps front) (take_more items i d fits)
+    ∙ flat_map-append steps_of (take i items) (item ∷ [])
+    ∙ ap (λ (more : List Step). all_steps (take i items) ++ more) (append-nil (steps_of item)) in
+    rw steps (runs_more old middle new (all_steps (take i items)) (steps_of item) a b)
+
+pub item_stops : (old middle new : MachineView) (items : List Item) (stop : RunStop) (d : Item) → stop.item < length items
+    → Runs old middle (all_steps (take stop.item items))
+    → (stop.steps < length (steps_of (get_or items stop.item d))) × Runs middle new (take stop.steps (steps_of (get_or items stop.item d)))
+    → StopsAt old new items stop
+item_stops old middle new items stop d fits a b =
+    let there : slice_get items stop.item ≡ Some (get_or items stop.item d) = slice_get-get_or items stop.item d fits in
+    record {
+      item = fits;
+      steps = rw there b.0;
+      runs = rw there (runs_more old middle new (all_steps (take stop.item items)) _ a b.1);
+    }

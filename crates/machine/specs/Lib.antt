@@ -1,0 +1,6 @@
+pub mod Faults
+pub mod Outcomes
+pub mod Served
+pub mod Run
+pub mod Stands
+pub mod Stops

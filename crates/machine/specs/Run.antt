@@ -1,0 +1,102 @@
+-- Run: a schedule's steps of harts and evictions, one after another, from a start.
+-- Source: RISC-V Unprivileged ISA 20191213, chapter 1 ("Exceptions, Traps, and Interrupts") and chapter 2; harts
+-- interleave one instruction at a time.
+use Rattle.std.specs.Prelude.{◌≡◌, ℕ, ◌+◌, ◌-◌, ◌&&◌, List, [], ◌∷◌, Option, Some, None, map, nat_le, if◌then◌else◌, slice_get, slice_set, replicate}
+use Rattle.std.specs.List.{range_with_len, flat_map}
+use Rattle.word_bits.specs.Bytes.{loaded}
+use Rattle.isa_table.specs.Table.{Spells}
+use Rattle.isa_table.specs.declared.instruction.Instr.{Instr}
+use Rattle.line_memory.specs.Lines.{line_bytes}
+use Rattle.line_memory.specs.Regions.{ram_bytes, flat, padded}
+use Rattle.line_memory.specs.declared.TheConstants.{TEXT_BASE, TEXT_SIZE, DATA_SIZE}
+use Rattle.object.specs.Sections.{Sections}
+use Rattle.hart.specs.declared.state.HartState.{HartState}
+use Rattle.hart.specs.declared.state.Status.{Status}
+use Rattle.hart.specs.declared.state.Status.TheVariants.{Running, Exited, Trapped}
+use Rattle.hart.specs.declared.need.Need.{Need}
+use Rattle.hart.specs.declared.need.Need.TheVariants.{Local, Ask, Stop}
+use Rattle.hart.specs.declared.need.Request.{Request}
+use Rattle.hart.specs.Effect.{answered, start}
+use Rattle.hart.specs.Needs.{Needs}
+use Rattle.machine.specs.declared.history.Entry.TheVariants.{Evicted}
+use Rattle.machine.specs.declared.schedule.Step.{Step}
+use Rattle.machine.specs.declared.schedule.Step.TheVariants.{Hart, Evict}
+use Rattle.machine.specs.declared.schedule.Item.{Item}
+use Rattle.machine.specs.declared.schedule.Item.TheVariants as items
+use Rattle.machine.specs.Served.{Common, asked, replied}
+
+-- all that a run changes: the harts, by their number, and what they share
+pub record Config : Type 0 where
+  pub harts : List HartState
+  pub common : Common
+
+-- the start of a number of harts over a program's sections and the lines of a medium
+abbrev pub started : Sections → List (List ℕ) → ℕ → Config
+started program lines harts = record {
+  harts = map start (range_with_len 0 harts);
+  common = record {
+    memory = flat (ram_bytes (record { text = padded program.text TEXT_SIZE; bytes = padded program.static_data DATA_SIZE })) (line_bytes lines);
+    history = [];
+    trace = [];
+  };
+}
+
+-- the word of a text region at an address, None where it doesn't lie in the region. Each hart fetches from the text
+-- as it was loaded
+abbrev pub fetched : List ℕ → ℕ → Option ℕ
+fetched text pc =
+    if nat_le TEXT_BASE pc && nat_le (pc + 4) (TEXT_BASE + TEXT_SIZE) then Some (loaded text (pc - TEXT_BASE) 4) else None
+
+-- hart h as it is after a step of its own
+abbrev pub with_hart : Config → ℕ → HartState → Config
+with_hart c h s = record c { harts = slice_set c.harts h s }
+
+-- the word that was fetched spells the instruction
+abbrev pub IsSpelledBy : Option ℕ → Instr → Type 0
+IsSpelledBy None i = ⊥
+IsSpelledBy (Some word) i = Spells word i
+
+-- hart h, whose instruction is i, after the reply of memory to its request
+abbrev pub after_request : Config → ℕ → HartState → Instr → Request → Config
+after_request c h s i request = record {
+  harts = slice_set c.harts h (answered s i (replied c.common.memory request));
+  common = asked c.common h request;
+}
+
+-- from c hart h comes to d when what its instruction needs is met
+abbrev pub Meets : Config → ℕ → HartState → Option ℕ → Need → Config → Type 0
+Meets c h s word (Local after) d = d ≡ with_hart c h after
+Meets c h s word (Stop trap) d = d ≡ with_hart c h (record s { status = Trapped trap })
+Meets c h s word (Ask request) d = (i : Instr) × IsSpelledBy word i × (d ≡ after_request c h s i request)
+
+-- from c running hart h comes to d by the instruction that the word it fetches spells
+abbrev pub Executes : Config → ℕ → HartState → Option ℕ → Config → Type 0
+Executes c h s word d = (need : Need) × Needs s word need × Meets c h s word need d
+
+-- a hart that runs executes; one that stopped changes nothing
+abbrev pub HartSteps : List ℕ → Config → ℕ → HartState → Status → Config → Type 0
+HartSteps text c h s Running d = Executes c h s (fetched text s.pc) d
+HartSteps text c h s (Exited code) d = d ≡ c
+HartSteps text c h s (Trapped trap) d = d ≡ c
+
+abbrev pub HartStepsIfThere : List ℕ → Config → ℕ → Option HartState → Config → Type 0
+HartStepsIfThere text c h None d = d ≡ c
+HartStepsIfThere text c h (Some s) d = HartSteps text c h s s.status d
+
+-- one step of a schedule from c to d: an eviction changes neither harts nor flat memory, and joins the history
+abbrev pub StepsTo : List ℕ → Config → Step → Config → Type 0
+StepsTo text c (Hart h) d = HartStepsIfThere text c h (slice_get c.harts h) d
+StepsTo text c (Evict line) d = d ≡ record c { common = record c.common { history = Evicted line ∷ c.common.history } }
+
+-- the steps of a list, in order, from c to d
+abbrev pub RunsTo : List ℕ → Config → List Step → Config → Type 0
+RunsTo text c [] d = d ≡ c
+RunsTo text c (step ∷ steps) d = (middle : Config) × StepsTo text c step middle × RunsTo text middle steps d
+
+-- the steps of an item of a schedule, and those of all of them
+abbrev pub steps_of : Item → List Step
+steps_of (items.Steps hart count) = replicate count (Hart hart)
+steps_of (items.Evict line) = Evict line ∷ []
+
+abbrev pub all_steps : List Item → List Step
+all_steps items = flat_map steps_of items

@@ -1,0 +1,15 @@
+//! The machine: harts that interleave one instruction at a time over shared memory, by a schedule.
+#![tactic(auto)]
+
+mod fault;
+mod history;
+mod machine;
+mod running;
+mod schedule;
+mod shared;
+
+pub use fault::{RunStop, StepFault};
+pub use history::Entry;
+pub use machine::{Machine, Outcome};
+pub use schedule::{Item, Schedule, Step};
+pub use shared::Shared;

@@ -1,0 +1,269 @@
+//! A machine of one to eight harts, and one step of it.
+
+ghost use Rattle.std.specs.Prelude.{◌≡◌, ℕ, ◌+◌, ◌<◌, ◌≤◌, ◌↔◌, ◌⊎◌, List, [], ◌∷◌, Some, length, slice_get, slice_set, map, vec_len, IfOk, IfErr, OnOk, OnErr, IsErrOf};
+ghost use Rattle.hart.specs.Effect.{start};
+ghost use Rattle.hart.specs.Needs.{Needs};
+ghost use Rattle.hart.specs.Requests.{IsRequest};
+ghost use Rattle.std.specs.List.{range_with_len};
+ghost use Rattle.word_bits.specs.Bytes.{loaded};
+ghost use Rattle.machine.specs.Outcomes.{outcome_after, outcome_of};
+ghost use Rattle.machine.specs.Run.{fetched as fetched_from, started};
+ghost use Rattle.machine.specs.Stands.{Answers, IsRunning, NeedsAt, Runs, Stands, memory_of};
+
+use crate::fault::StepFault;
+use crate::schedule::Step;
+use crate::shared::Shared;
+use byteorder::{ByteOrder, LittleEndian};
+use decode::decode;
+use hart::{HartState, Need, Request, Status, Trap, answer, next};
+use line_memory::{Medium, TEXT_BASE, TEXT_SIZE};
+use program::Program;
+use std::alloc::Global;
+use std::marker::Model;
+use store_trace::{Event, Trace};
+
+/// What a step did, by the status of its hart after it.
+#[derive(Clone, Copy, Debug, PartialEq, Eq)]
+pub enum Outcome {
+    /// The hart runs; of an eviction, that it was made.
+    Done,
+    /// The hart exited with this code.
+    Exited(u8),
+    Trapped(Trap),
+    /// The hart had stopped before, and nothing changed.
+    Stopped,
+}
+
+/// Harts over the memory and the trace that they share.
+#[derive(Drop)]
+pub struct Machine {
+    program: Program,
+    harts: Vec<HartState>,
+    shared: Shared,
+}
+
+impl Model for Machine {
+    ghost use Rattle.machine.specs.Stands.{MachineView};
+    ghost use Rattle.std.specs.Prelude.{◌≤◌, ◌<◌, length};
+
+    ghost Value = { MachineView };
+
+    ghost view = { λ m. record { text = m.program.text; harts = m.harts.items; shared = m.shared } };
+
+    ghost invariant = { λ m. length m.harts.items ≤ 8 };
+}
+
+impl Machine {
+    /// A machine of one to eight harts, which begin at the base of the text of `program`, over `medium`.
+    pub fn new(
+        alloc: Global,
+        program: Program,
+        medium: Medium,
+        harts: u32,
+    ) -> Result<Machine, StepFault>
+        ensures ok { IfOk result (λ machine. Stands machine (started program medium harts)) }
+        ensures text { IfOk result (λ machine. machine.text ≡ program.text) }
+        ensures lines { IfOk result (λ machine. machine.shared.lines ≡ medium) }
+        ensures count { (result ≡ Err StepFault.NoSuchHart) ↔ ((harts < 1) ⊎ (8 < harts)) }
+        ensures err { IfErr result (λ fault. (fault ≡ StepFault.NoSuchHart) ⊎ (fault ≡ StepFault.Memory)) }
+    {
+        if harts < 1 || harts > 8 {
+            return Err(StepFault::NoSuchHart);
+        }
+        let states = starting_harts(alloc, harts)?;
+        let shared = Shared::new(alloc, &program, medium)?;
+        Ok(Machine {
+            program,
+            harts: states,
+            shared,
+        })
+    }
+
+    /// Makes one step of a schedule. A refused step changes nothing.
+    pub fn step(&mut self, step: Step) -> Result<Outcome, StepFault>
+        ensures ok { IfOk result (λ outcome. outcome ≡ outcome_after self.old.harts self.new.harts step) }
+        ensures runs { OnOk result (Runs self.old self.new (step ∷ [])) }
+        ensures err { OnErr result (self.new ≡ self.old) }
+    {
+        match step {
+            Step::Hart(hart) => self.step_hart(hart),
+            Step::Evict(line) => self.evict(line),
+        }
+    }
+
+    /// The number of harts.
+    pub fn harts(&self) -> u32
+        ensures count { result ≡ length self.now.harts }
+        ensures limit { result ≤ 8 }
+    {
+        self.harts.len() as u32
+    }
+
+    /// A hart's state.
+    pub fn hart(&self, hart: u32) -> &HartState
+        requires { hart < length self.now.harts }
+        ensures { slice_get self.now.harts hart ≡ Some result.now }
+    {
+        &self.harts[hart as usize]
+    }
+
+    /// What the next instruction of a running hart needs.
+    pub fn need(&self, hart: u32) -> Need
+        requires { IsRunning (slice_get self.now.harts hart) }
+        ensures { NeedsAt self.now (slice_get self.now.harts hart) result }
+    {
+        let state = self.hart(hart);
+        next(state, self.fetch(state.pc))
+    }
+
+    /// The byte of flat memory at an address; None outside the regions. Nothing changes.
+    pub fn peek(&self, address: u64) -> Option<u8>
+        ensures { result ≡ memory_of self.now.shared address }
+    {
+        self.shared.peek(address)
+    }
+
+    /// The events so far, the oldest first.
+    pub fn events(&self) -> &[Event]
+        ensures { result.now ≡ self.now.shared.trace }
+    {
+        self.shared.events()
+    }
+
+    /// What a power cut leaves: the lines of persistent memory, beside the trace.
+    pub fn power_cut(self) -> (Medium, Trace)
+        ensures lines { result.0 ≡ self.shared.lines }
+        ensures trace { result.1.events ≡ self.shared.trace }
+    {
+        let Machine { shared, .. } = self;
+        shared.power_cut()
+    }
+
+    fn step_hart(&mut self, hart: u32) -> Result<Outcome, StepFault>
+        ensures ok { IfOk result (λ outcome. outcome ≡ outcome_after self.old.harts self.new.harts (Step.Hart hart)) }
+        ensures runs { OnOk result (Runs self.old self.new (Step.Hart hart ∷ [])) }
+        ensures err { OnErr result (self.new ≡ self.old) }
+    {
+        let state = match self.harts.get(hart as usize) {
+            Some(state) => *state,
+            None => return Err(StepFault::NoSuchHart),
+        };
+        match state.status {
+            Status::Running => self.execute(hart, state),
+            Status::Exited(_) | Status::Trapped(_) => Ok(Outcome::Stopped),
+        }
+    }
+
+    fn evict(&mut self, line: u32) -> Result<Outcome, StepFault>
+        ensures ok { IfOk result (λ outcome. outcome ≡ Outcome.Done) }
+        ensures runs { OnOk result (Runs self.old self.new (Step.Evict line ∷ [])) }
+        ensures err { OnErr result (self.new ≡ self.old) }
+    {
+        if line >= self.shared.lines() {
+            return Err(StepFault::NoSuchLine);
+        }
+        Ok(Outcome::Done)
+    }
+
+    /// Makes the next instruction of a running hart.
+    fn execute(&mut self, hart: u32, state: HartState) -> Result<Outcome, StepFault>
+        requires there { slice_get self.old.harts hart ≡ Some state }
+        requires running { state.status ≡ Status.Running }
+        ensures ok { IfOk result (λ outcome. outcome ≡ outcome_after self.old.harts self.new.harts (Step.Hart hart)) }
+        ensures runs { OnOk result (Runs self.old self.new (Step.Hart hart ∷ [])) }
+        ensures err { OnErr result (self.new ≡ self.old) }
+    {
+        let fetched = self.fetch(state.pc);
+        match next(&state, fetched) {
+            Need::Local(after) => Ok(self.replace(hart, after)),
+            Need::Stop(trap) => Ok(self.replace(hart, trapped(state, trap))),
+            Need::Ask(request) => {
+                let after = ask(&mut self.shared, hart, &state, fetched, request)?;
+                Ok(self.replace(hart, after))
+            }
+        }
+    }
+
+    /// Puts a hart's state in the place of its old one.
+    fn replace(&mut self, hart: u32, after: HartState) -> Outcome
+        requires { hart < length self.old.harts }
+        ensures replaced { self.new ≡ record self.old { harts = slice_set self.old.harts hart after } }
+        ensures outcome { result ≡ outcome_of after.status }
+    {
+        let outcome = outcome_of(after.status);
+        let harts = &mut self.harts;
+        harts[hart as usize] = after;
+        outcome
+    }
+
+    /// The word of the text at `pc`; None where it doesn't lie in the text region.
+    fn fetch(&self, pc: u64) -> Option<u32>
+        ensures { result ≡ fetched_from self.now.text pc }
+    {
+        if pc < TEXT_BASE || pc > TEXT_BASE + TEXT_SIZE - 4 {
+            return None;
+        }
+        Some(word_at(self.program.text_bytes(), (pc - TEXT_BASE) as usize))
+    }
+}
+
+#[tactic(auto, using(line_memory::proofs::Numbers::loaded_is))]
+fn word_at(text: &[u8], at: usize) -> u32
+    requires { at + 4 ≤ length text.now }
+    ensures { result ≡ loaded text.now at 4 }
+{
+    LittleEndian::read_u32(&text[at..])
+}
+
+/// Has a request served, and gives the hart that is told the reply.
+fn ask(
+    shared: &mut Shared,
+    hart: u32,
+    state: &HartState,
+    fetched: Option<u32>,
+    request: Request,
+) -> Result<HartState, StepFault>
+    requires hart { hart < 8 }
+    requires width { IsRequest request }
+    requires needs { Needs state.now fetched (Need.Ask request) }
+    ensures ok { IfOk result (λ after. Answers shared.old shared.new hart state.now fetched request after) }
+    ensures err { OnErr result (shared.new ≡ shared.old) }
+{
+    let Some(word) = fetched else { unreachable!() };
+    let Some(instr) = decode(word) else {
+        unreachable!()
+    };
+    let reply = shared.request(hart, request)?;
+    Ok(answer(state, instr, reply))
+}
+
+fn starting_harts(alloc: Global, harts: u32) -> Result<Vec<HartState>, StepFault>
+    requires { harts ≤ 8 }
+    ensures ok { IfOk result (λ made. made.items ≡ map start (range_with_len 0 harts)) }
+    ensures len { IfOk result (λ made. vec_len made ≡ harts) }
+    ensures err { IfErr result (λ fault. fault ≡ StepFault.Memory) }
+{
+    match (0..harts).map(HartState::start).collect(alloc) {
+        Ok(made) => Ok(made),
+        Err(_) => Err(StepFault::Memory),
+    }
+}
+
+fn trapped(state: HartState, trap: Trap) -> HartState
+    ensures { result ≡ record state { status = Status.Trapped trap } }
+{
+    HartState {
+        status: Status::Trapped(trap),
+        ..state
+    }
+}
+
+fn outcome_of(status: Status) -> Outcome
+    ensures { result ≡ outcome_of status }
+{
+    match status {
+        Status::Running => Outcome::Done,
+        Status::Exited(code) => Outcome::Exited(code),
+        Status::Trapped(trap) => Outcome::Trapped(trap),
+    }
+}

@@ -1,0 +1,81 @@
+//! Runs of a schedule.
+
+ghost use Rattle.std.specs.Prelude.{◌≡◌, ◌<◌, ◌∷◌, [], replicate, slice_get, take, length, OnOk, IfErr};
+ghost use Rattle.machine.specs.Run.{all_steps, steps_of};
+ghost use Rattle.machine.specs.Stands.{Runs};
+ghost use Rattle.machine.specs.Stops.{StopsAt, is_stopped};
+
+use crate::fault::{RunStop, StepFault};
+use crate::machine::Machine;
+use crate::schedule::{Item, Schedule, Step};
+use hart::Status;
+
+/// A step of an item that was refused, after as many as `steps` says.
+#[derive(Clone, Copy)]
+struct ItemStop {
+    steps: u32,
+    fault: StepFault,
+}
+
+impl Machine {
+    /// Carries out the items of a schedule, in order, up to the first step that is refused. The steps before it stand.
+    #[tactic(auto, using(crate::proofs::Steps::runs_none))]
+    pub fn run(&mut self, schedule: &Schedule) -> Result<(), RunStop>
+        ensures ok { OnOk result (Runs self.old self.new (all_steps schedule.now)) }
+        ensures err { IfErr result (StopsAt self.old self.new schedule.now) }
+    {
+        for (index, item) in schedule.items().iter().enumerate() {
+            if let Err(stop) = self.run_item(*item) {
+                return Err(RunStop {
+                    item: index,
+                    steps: stop.steps,
+                    fault: stop.fault,
+                });
+            }
+        }
+        Ok(())
+    }
+
+    #[tactic(auto, using(crate::proofs::Steps::runs_none))]
+    fn run_item(&mut self, item: Item) -> Result<(), ItemStop>
+        ensures ok { OnOk result (Runs self.old self.new (steps_of item)) }
+        ensures err { IfErr result (λ stop. (stop.steps < length (steps_of item)) × Runs self.old self.new (take stop.steps (steps_of item))) }
+    {
+        match item {
+            Item::Steps { hart, count } => self.run_hart(hart, count),
+            Item::Evict { line } => match self.step(Step::Evict(line)) {
+                Ok(_) => Ok(()),
+                Err(fault) => Err(ItemStop { steps: 0, fault }),
+            },
+        }
+    }
+
+    #[tactic(auto, using(crate::proofs::Steps::runs_none, crate::proofs::Steps::hart_stops))]
+    fn run_hart(&mut self, hart: u32, count: u32) -> Result<(), ItemStop>
+        ensures ok { OnOk result (Runs self.old self.new (replicate count (Step.Hart hart))) }
+        ensures err { IfErr result (λ stop. (stop.steps < length (replicate count (Step.Hart hart))) × Runs self.old self.new (take stop.steps (replicate count (Step.Hart hart)))) }
+    {
+        for done in 0..count {
+            if self.has_stopped(hart) {
+                // A hart that stopped changes nothing by the steps that are left.
+                return Ok(());
+            }
+            if let Err(fault) = self.step(Step::Hart(hart)) {
+                return Err(ItemStop { steps: done, fault });
+            }
+        }
+        Ok(())
+    }
+
+    fn has_stopped(&self, hart: u32) -> bool
+        ensures { result ≡ is_stopped (slice_get self.now.harts hart) }
+    {
+        if hart >= self.harts() {
+            return false;
+        }
+        match self.hart(hart).status {
+            Status::Running => false,
+            Status::Exited(_) | Status::Trapped(_) => true,
+        }
+    }
+}

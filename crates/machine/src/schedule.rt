@@ -1,0 +1,66 @@
+//! Schedules: which hart makes the next step, and which line is evicted in between.
+
+ghost use Rattle.std.specs.Prelude.{◌≡◌, [], ◌∷◌, ◌++◌, OnOk, OnErr};
+
+use std::alloc::{AllocError, Global};
+use std::marker::Model;
+
+/// One step of a schedule.
+#[derive(Clone, Copy)]
+pub enum Step {
+    /// One instruction of the hart of this number.
+    Hart(u32),
+    /// The eviction of the cache line of this number.
+    Evict(u32),
+}
+
+/// An item of a schedule.
+#[derive(Clone, Copy)]
+pub enum Item {
+    /// As many steps of one hart as `count` says.
+    Steps { hart: u32, count: u32 },
+    /// The eviction of a cache line.
+    Evict { line: u32 },
+}
+
+/// A list of items, which are carried out in order.
+#[derive(Drop)]
+pub struct Schedule {
+    items: Vec<Item>,
+}
+
+impl Model for Schedule {
+    ghost use Rattle.std.specs.Prelude.{List};
+    ghost use Rattle.machine.specs.declared.schedule.Item.{Item};
+
+    ghost Value = { List Item };
+
+    ghost view = { λ s. s.items.items };
+}
+
+impl Schedule {
+    /// The schedule without items.
+    pub fn new(alloc: Global) -> Schedule
+        ensures { result ≡ [] }
+    {
+        Schedule {
+            items: Vec::new(alloc),
+        }
+    }
+
+    /// Adds an item at the end. A refused growth leaves the schedule as it was.
+    pub fn push(&mut self, item: Item) -> Result<(), AllocError>
+        ensures ok { OnOk result (self.new ≡ self.old ++ item ∷ []) }
+        ensures err { OnErr result (self.new ≡ self.old) }
+    {
+        self.items.push(item)?;
+        Ok(())
+    }
+
+    /// The items, in order.
+    pub fn items(&self) -> &[Item]
+        ensures { result.now ≡ self.now }
+    {
+        &self.items
+    }
+}

@@ -1,0 +1,36 @@
+//! The events of a trace.
+
+/// What one instruction of a hart did to persistent memory, or the mark of an operation that it set.
+///
+/// Harts are numbered from 0 to 7 and lines of 64 bytes from 0, the first line of persistent memory;
+/// an offset is a byte's place in its line, and a width is a number of bytes.
+#[derive(Clone, Copy, Debug, PartialEq, Eq)]
+pub enum Event {
+    /// A store, an AMO or a successful SC: the low `width` bytes of `value`, the least significant first.
+    Store {
+        hart: u32,
+        line: u32,
+        offset: u32,
+        width: u32,
+        value: u64,
+    },
+    /// A `cbo.clean`, `cbo.flush` or `cbo.inval` of the line.
+    Clean {
+        hart: u32,
+        line: u32,
+    },
+    /// A FENCE whose predecessor set has W.
+    Fence {
+        hart: u32,
+    },
+    /// The operation `op` begins.
+    Begin {
+        hart: u32,
+        op: u64,
+    },
+    /// The operation `op` ends.
+    End {
+        hart: u32,
+        op: u64,
+    },
+}
