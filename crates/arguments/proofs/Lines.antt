@@ -1,0 +1,54 @@
+-- What clap's errors and values say of a line.
+use Rattle.std.proofs.Common.{◌≡◌, ◌∙◌, List, [], ◌∷◌, Option, Some, None, refl, subst, sym, true, inl, inr, option_map}
+use Rattle.std.specs.Prelude.{◌≢◌, ◌⊎◌, MatchOption}
+use Rattle.std.specs.Borrow.{Bor}
+use Rattle.clap.specs.Kinds.{HasKind, IsAmong, Kinds}
+use Rattle.clap.specs.Words.{App, Text, app_of, fault_of, first_of, first_value, is_simple_and_free, kind_of, rows_of}
+use Rattle.clap.specs.declared.builder.command.Command.{Command as Clap}
+use Rattle.clap.specs.declared.error.Error.{Error}
+use Rattle.clap.specs.declared.error.ErrorKind.{ErrorKind}
+use Rattle.clap.specs.declared.error.ErrorKind.TheVariants as kinds
+use Rattle.clap.specs.declared.parser.matches.Found.{Found}
+use Rattle.clap.proofs.WalkLemmas.{first_value-rows}
+use Rattle.arguments.specs.Grammar.{IsGrammar, novacrash}
+use Rattle.arguments.specs.Line.{IsKindOf, Refuses}
+use Rattle.arguments.specs.declared.asked.LineFault.{LineFault}
+use Rattle.arguments.specs.declared.asked.LineFault.TheVariants.{Help, Fault, Memory}
+
+-- the getter of clap's matches, by the rows of the walk
+pub value_found : (found : Found) (name : Text) (value : Option (Bor Text))
+    → option_map (λ s. s.now) value ≡ first_value found name
+    → MatchOption value (first_of name (rows_of found) ≡ None) (λ s. first_of name (rows_of found) ≡ Some s.now)
+value_found found name None e = sym (e ∙ first_value-rows found name)
+value_found found name (Some s) e = sym (e ∙ first_value-rows found name)
+
+-- a list with another kind in it than help isn't help alone, nor empty
+others : (kind : ErrorKind) (faults : Kinds) → IsAmong kind faults → kind ≢ kinds.DisplayHelp → faults ≢ kinds.DisplayHelp ∷ []
+others kind faults among other e =
+    let P : Kinds → Type 0 = λ all. IsAmong kind all in
+    elim (subst P e among) [ inl is ↦ other is | inr never ↦ absurd never ]
+
+some : (kind : ErrorKind) (faults : Kinds) → IsAmong kind faults → faults ≢ []
+some kind faults among e = let P : Kinds → Type 0 = λ all. IsAmong kind all in subst P e among
+
+-- what clap refuses by this kind, the line refuses by this fault
+refused_by_kind : (words : List Text) (kind : ErrorKind) (fault : LineFault)
+    → (kind ≡ kinds.OutOfMemory) ⊎ IsAmong kind (fault_of novacrash words) → IsKindOf kind fault → Refuses words fault
+refused_by_kind words kind (Help text) (inl memory) is = absurd cc
+refused_by_kind words kind (Help text) (inr among) is =
+    let P : ErrorKind → Type 0 = λ k. IsAmong k (fault_of novacrash words) in subst P is among
+refused_by_kind words kind (Fault text) (inl memory) is = absurd (is.1 memory)
+refused_by_kind words kind (Fault text) (inr among) is =
+    (others kind (fault_of novacrash words) among is.0, λ command line. some kind (fault_of novacrash words) among line.grammatical)
+refused_by_kind words kind Memory among is = tt
+
+is_simple : is_simple_and_free novacrash ≡ true
+is_simple = refl
+
+-- an error of the grammar's parse is refused by the fault for its kind
+pub refused : (command : Clap) (words : List Text) (error : Error) (fault : LineFault) → IsGrammar novacrash command
+    → (is_simple_and_free (app_of command) ≡ true → HasKind (fault_of (app_of command) words) error)
+    → IsKindOf (kind_of error) fault → Refuses words fault
+refused command words error fault by fails is =
+    let P : App → Type 0 = λ app. is_simple_and_free app ≡ true → HasKind (fault_of app words) error in
+    refused_by_kind words (kind_of error) fault (subst P by.shape fails is_simple) is

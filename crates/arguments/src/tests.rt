@@ -1,0 +1,129 @@
+//! Lines that are read, and lines that are refused, one for each rule of the command line.
+
+use crate::{Command, LineFault, command, decimal, decimal_within};
+use std::alloc::{AllocError, Global};
+use std::test::Fail;
+
+/// The words of a line, which are parted by single spaces.
+fn words_of(alloc: Global, line: &str) -> Result<Vec<String>, AllocError> {
+    line.split(' ')
+        .map(|word| String::from_str(alloc, word))
+        .try_collect(alloc)
+}
+
+/// What a line is read as: the source and the steps, or which fault it is.
+fn read(alloc: Global, line: &str) -> Result<String, AllocError> {
+    let words = words_of(alloc, line)?;
+    match command(alloc, words.as_slice()) {
+        Ok(Command::Run { source, steps }) => format!(in alloc; "{source} {steps}"),
+        Err(LineFault::Help(_)) => String::from_str(alloc, "help"),
+        Err(LineFault::Fault(_)) => String::from_str(alloc, "fault"),
+        Err(LineFault::Memory) => String::from_str(alloc, "memory"),
+    }
+}
+
+#[test]
+fn lines_are_read(rt: HostRuntime) -> Result<(), Fail> {
+    let lines = [
+        ("novacrash run a.s", "a.s 1000000"),
+        ("novacrash run a.s --steps 1", "a.s 1"),
+        ("novacrash run a.s --steps 500000000", "a.s 500000000"),
+        ("novacrash run a.s --steps=0007", "a.s 7"),
+        ("novacrash run --steps 20 a.s", "a.s 20"),
+        ("novacrash run --steps=20 -- a.s", "a.s 20"),
+        ("novacrash run -- -a.s", "-a.s 1000000"),
+        ("novacrash run -- --steps", "--steps 1000000"),
+        ("novacrash --help", "help"),
+        ("novacrash run --help", "help"),
+    ];
+    for (line, expected) in lines {
+        let outcome = read(rt.alloc(), line)?;
+        assert_eq!(rt; outcome.as_str(), expected, "{line}");
+    }
+    Ok(())
+}
+
+#[test]
+fn lines_are_refused(rt: HostRuntime) -> Result<(), Fail> {
+    let lines = [
+        "novacrash",
+        "novacrash run",
+        "novacrash run a.s b.s",
+        "novacrash run a.s --steps",
+        "novacrash run a.s --steps 0",
+        "novacrash run a.s --steps 500000001",
+        "novacrash run a.s --steps 4294967297",
+        "novacrash run a.s --steps 18446744073709551617",
+        "novacrash run a.s --steps +5",
+        "novacrash run a.s --steps=+5",
+        "novacrash run a.s --steps=-5",
+        "novacrash run a.s --steps -5",
+        "novacrash run a.s --steps 0x10",
+        "novacrash run a.s --steps=",
+        "novacrash run a.s --steps  5",
+        "novacrash run a.s --steps 5 --steps 5",
+        "novacrash run a.s --step 5",
+        "novacrash run a.s --medium m",
+        "novacrash run -a.s",
+        "novacrash run -h",
+        "novacrash -h",
+        "novacrash -V",
+        "novacrash --version",
+        "novacrash help",
+        "novacrash help run",
+        "novacrash ru a.s",
+        "novacrash --steps 5 run a.s",
+        "novacrash asm a.s a.o",
+    ];
+    for line in lines {
+        let outcome = read(rt.alloc(), line)?;
+        assert_eq!(rt; outcome.as_str(), "fault", "{line}");
+    }
+    Ok(())
+}
+
+#[test]
+fn texts_are_shown(rt: HostRuntime) -> Result<(), Fail> {
+    let texts = [
+        (
+            "novacrash run a.s --steps 0",
+            "error: --steps takes a decimal number from 1 to 500000000\n",
+        ),
+        (
+            "novacrash run a.s b.s",
+            "error: unexpected argument 'b.s' found\n\n\
+             Usage: novacrash run [OPTIONS] <SOURCE>\n\n\
+             For more information, try '--help'.\n",
+        ),
+        (
+            "novacrash run --help",
+            "Assemble a program and run it on one hart\n\n\
+             Usage: novacrash run [OPTIONS] <SOURCE>\n\n\
+             Arguments:\n  <SOURCE>  The program's file\n\n\
+             Options:\n      --steps <N>  The most steps, from 1 to 500000000 [default: 1000000]\n      \
+             --help       Print help\n",
+        ),
+    ];
+    for (line, expected) in texts {
+        let words = words_of(rt.alloc(), line)?;
+        let fault = command(rt.alloc(), words.as_slice())
+            .err()
+            .ok_or("a fault")?;
+        let shown = format!(in rt.alloc(); "{fault}")?;
+        assert_eq!(rt; shown.as_str(), expected, "{line}");
+    }
+    Ok(())
+}
+
+#[test]
+fn numbers_are_digits(rt: HostRuntime) {
+    assert_eq!(rt; decimal(b"4294967295"), Some(4_294_967_295));
+    assert_eq!(rt; decimal(b"0000000000000000000000042"), Some(42));
+    assert_eq!(rt; decimal(b"4294967296"), None);
+    assert_eq!(rt; decimal(b""), None);
+    assert_eq!(rt; decimal(b"+1"), None);
+    assert_eq!(rt; decimal(b"1 "), None);
+    assert_eq!(rt; decimal(b"\xd9\xa1"), None);
+    assert_eq!(rt; decimal_within(b"8", 1, 8), Some(8));
+    assert_eq!(rt; decimal_within(b"9", 1, 8), None);
+}

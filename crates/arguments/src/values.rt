@@ -1,0 +1,72 @@
+//! The values that clap found for a subcommand's words and options.
+
+ghost use Rattle.std.specs.Prelude.{◌≡◌, ◌≤◌, ℕ, IfOk, IfErr, MatchOption, string_bytes};
+ghost use Rattle.clap.specs.Words.{first_of, found_of, rows_of};
+ghost use Rattle.arguments.specs.Line.{IsNumber, OnFault};
+
+use crate::asked::LineFault;
+use crate::number::decimal_within;
+use clap::ArgMatches;
+use std::alloc::Global;
+
+/// The value of an option or a word, where the line has it.
+#[tactic(auto, using(crate::proofs::Lines::value_found))]
+fn value<'a>(found: &ArgMatches<'a>, name: &str) -> Option<&'a str>
+    ensures { MatchOption result (first_of name.now (rows_of (found_of found.now)) ≡ None)
+        (λ value. first_of name.now (rows_of (found_of found.now)) ≡ Some value.now) }
+{
+    found.get_str(name)
+}
+
+/// The word that a command needs.
+pub(crate) fn word(alloc: Global, found: &ArgMatches<'_>, name: &str) -> Result<String, LineFault>
+    ensures ok { IfOk result (λ word.
+        first_of name.now (rows_of (found_of found.now)) ≡ Some (string_bytes word)) }
+    ensures err { IfErr result (OnFault (first_of name.now (rows_of (found_of found.now)) ≡ None)) }
+{
+    match value(found, name) {
+        Some(word) => Ok(String::from_str(alloc, word)?),
+        None => Err(LineFault::Fault(format!(in alloc; "error: {name} is missing\n")?)),
+    }
+}
+
+/// An option whose value is a number.
+pub(crate) struct NumberOption {
+    pub(crate) name: &'static str,
+    pub(crate) default: u32,
+    pub(crate) low: u32,
+    pub(crate) high: u32,
+}
+
+/// The number that an option's value writes, where it is within the option's limits, and the default
+/// where the line doesn't have the option.
+pub(crate) fn number(
+    alloc: Global,
+    found: &ArgMatches<'_>,
+    option: &NumberOption,
+) -> Result<u32, LineFault>
+    requires low { option.now.low ≤ option.now.default }
+    requires high { option.now.default ≤ option.now.high }
+    ensures ok { IfOk result (IsNumber option.now.default option.now.low option.now.high
+        (first_of option.now.name.now (rows_of (found_of found.now)))) }
+    ensures within { IfOk result (λ n. (option.now.low ≤ n) × (n ≤ option.now.high)) }
+    ensures err { IfErr result (OnFault ((n : ℕ)
+        → ¬ (IsNumber option.now.default option.now.low option.now.high
+        (first_of option.now.name.now (rows_of (found_of found.now))) n))) }
+{
+    let NumberOption {
+        name,
+        default,
+        low,
+        high,
+    } = *option;
+    let Some(text) = value(found, name) else {
+        return Ok(default);
+    };
+    match decimal_within(text.as_bytes(), low, high) {
+        Some(number) => Ok(number),
+        None => Err(LineFault::Fault(format!(in alloc;
+            "error: --{name} takes a decimal number from {low} to {high}\n"
+        )?)),
+    }
+}
