@@ -1,0 +1,5 @@
+pub mod Registers
+pub mod Lines
+pub mod Passes
+pub mod TextSteps
+pub mod Whole

@@ -1,0 +1,48 @@
+-- A run of one hart's steps from the start of a source's program.
+use Rattle.std.proofs.Common.{◌≡◌, ℕ, ◌+◌, ◌<◌, ◌≤◌, List, [], ◌∷◌, ◌++◌, length, take, replicate, slice_get, Some, refl, sym, ap, ◌∙◌, arith}
+use Rattle.std.proofs.lemmas.List.{append-nil, length-replicate, take-replicate}
+use Rattle.machine.specs.Run.{RunsTo, all_steps, steps_of}
+use Rattle.machine.specs.Stands.{MachineView, Runs}
+use Rattle.machine.specs.Stops.{StopsAt, steps_before, steps_of_item}
+use Rattle.machine.specs.declared.fault.RunStop.{RunStop}
+use Rattle.machine.specs.declared.fault.StepFault.{StepFault}
+use Rattle.machine.specs.declared.schedule.Item.{Item}
+use Rattle.machine.specs.declared.schedule.Item.TheVariants as items
+use Rattle.machine.specs.declared.schedule.Step.{Step}
+use Rattle.machine.specs.declared.schedule.Step.TheVariants.{Hart}
+use Rattle.tester.specs.SourceRun.{HasRun, IsAtStart, StopsBefore}
+
+runs_of_hart : (source : List ℕ) (steps : ℕ) (old new : MachineView) → IsAtStart source old → Runs old new (replicate steps (Hart 0))
+    → HasRun source steps new
+runs_of_hart source steps old new at runs =
+    let made = runs.stands at.start at.stands in
+    record {
+      start = at.start;
+      end = made.0;
+      is_start = rw runs.text at.is_start;
+      run = rw runs.text made.1;
+      stands = made.2
+    }
+
+pub has_run : (source : List ℕ) (steps : ℕ) (old new : MachineView) (schedule : List Item) → IsAtStart source old
+    → schedule ≡ items.Steps 0 steps ∷ [] → Runs old new (all_steps schedule) → HasRun source steps new
+has_run source steps old new schedule at is runs =
+    let all : all_steps schedule ≡ replicate steps (Hart 0) = rw is (append-nil (replicate steps (Hart 0))) in
+    runs_of_hart source steps old new at (rw all at runs)
+
+pub stops_before : (source : List ℕ) (steps : ℕ) (old new : MachineView) (schedule : List Item) (stop : RunStop) → IsAtStart source old
+    → schedule ≡ items.Steps 0 steps ∷ [] → StopsAt old new schedule stop → StopsBefore source steps stop.fault
+stops_before source steps old new schedule stop at is stops =
+    let few : stop.item < length schedule = stops.item in
+    let one : length schedule ≡ 1 = rw is refl in
+    let first : stop.item ≡ 0 = omega arith in
+    let fewer : stop.steps < steps = simp length-replicate at (rw (is, first) at stops.steps) in
+    let less : stop.steps ≤ steps = omega arith in
+    let front : steps_before schedule stop.item stop.steps ≡ replicate stop.steps (Hart 0) =
+        rw (is, first) (take-replicate stop.steps steps (Hart 0) less) in
+    record {
+      machine = new;
+      made = stop.steps;
+      fewer = fewer;
+      has_run = runs_of_hart source stop.steps old new at (rw front at stops.runs)
+    }
