@@ -3,6 +3,8 @@
 //! Source: RISC-V Unprivileged ISA 20191213, chapter 2 ("Load and Store Instructions": little-endian).
 #![tactic(auto)]
 
+ghost use Rattle.std.specs.Prelude.{◌≡◌};
+
 pub use bytes::{load_bytes, store_bytes};
 pub use medium::Medium;
 pub use ram::Ram;
@@ -31,6 +33,14 @@ pub const LINE_SIZE: usize = 64;
 pub const MIN_LINES: u32 = 512;
 /// The most lines of a medium.
 pub const MAX_LINES: u32 = 16_384;
+
+/// The regions of the address space, and the sizes of a medium, in numbers: a law, with nothing to run.
+pub fn regions()
+    ensures text { (TEXT_BASE ≡ 0x1_0000) × (TEXT_SIZE ≡ 65536) }
+    ensures static_data { (DATA_BASE ≡ 0x10_0000) × (DATA_SIZE ≡ 1048576) }
+    ensures persistent { PERSISTENT_BASE ≡ 0x4000_0000 }
+    ensures lines { (LINE_SIZE ≡ 64) × (MIN_LINES ≡ 512) × (MAX_LINES ≡ 16384) }
+{}
 
 /// Why an access to memory is refused. Misaligned comes before Outside.
 #[derive(Clone, Copy, Debug, PartialEq, Eq)]

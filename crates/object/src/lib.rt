@@ -12,6 +12,12 @@ pub const TEXT_LIMIT: usize = 65_536;
 /// The most bytes that a data section has: the size of the data region.
 pub const DATA_LIMIT: usize = 1_048_576;
 
+/// The limits in numbers: a law, with nothing to run.
+pub fn limits()
+    ensures text { TEXT_LIMIT ≡ 65536 }
+    ensures static_data { DATA_LIMIT ≡ 1048576 }
+{}
+
 /// The bytes of a text of whole words and of a data section, each within its limit.
 #[derive(Drop)]
 pub struct Object {
@@ -63,3 +69,6 @@ impl Object {
         (text, static_data)
     }
 }
+
+#[cfg(test)]
+mod tests;

@@ -21,7 +21,7 @@ runs_of_hart source steps old new at runs =
       end = made.0;
       is_start = rw runs.text at.is_start;
       run = rw runs.text made.1;
-      stands = made.2
+      stands = made.2;
     }
 
 pub has_run : (source : List ℕ) (steps : ℕ) (old new : MachineView) (schedule : List Item) → IsAtStart source old
@@ -39,10 +39,10 @@ stops_before source steps old new schedule stop at is stops =
     let fewer : stop.steps < steps = simp length-replicate at (rw (is, first) at stops.steps) in
     let less : stop.steps ≤ steps = omega arith in
     let front : steps_before schedule stop.item stop.steps ≡ replicate stop.steps (Hart 0) =
-        rw (is, first) (take-replicate stop.steps steps (Hart 0) less) in
+    rw (is, first) (take-replicate stop.steps steps (Hart 0) less) in
     record {
       machine = new;
       made = stop.steps;
       fewer = fewer;
-      has_run = runs_of_hart source stop.steps old new at (rw front at stops.runs)
+      has_run = runs_of_hart source stop.steps old new at (rw front at stops.runs);
     }

@@ -54,12 +54,7 @@ fn start(alloc: Global, source: &[u8]) -> Result<Machine, SourceFault>
 {
     let object = match assemble(alloc, source) {
         Ok(object) => object,
-        Err(
-            AsmFault {
-                code: AsmCode::Memory,
-                ..
-            },
-        ) => return Err(SourceFault::Memory),
+        Err(fault) if fault.code == AsmCode::Memory => return Err(SourceFault::Memory),
         Err(fault) => return Err(SourceFault::Assembly(fault)),
     };
     let Ok(program) = load(object) else {
@@ -88,3 +83,6 @@ fn one_hart(alloc: Global, steps: u32) -> Result<Schedule, SourceFault>
         Err(_) => Err(SourceFault::Memory),
     }
 }
+
+#[cfg(test)]
+mod tests;
