@@ -1,6 +1,6 @@
 -- A line's tokens, and its words.
-use Rattle.std.proofs.Common.{◌≡◌, ◌≢◌, ℕ, suc, ◌<◌, Bool, true, false, ◌&&◌, List, [], ◌∷◌, length, get_or, map, refl, sym, ap, ◌∙◌, arith}
-use Rattle.std.specs.Prelude.{Some, None, Option, Result, Ok, Err, All, is_some}
+use Rattle.std.proofs.Common.{◌≡◌, ℕ, suc, ◌<◌, Bool, false, ◌&&◌, List, [], ◌∷◌, length, get_or, map, refl, ap, arith}
+use Rattle.std.specs.Prelude.{Some, None, Option, is_some}
 use Rattle.std.specs.List.{list_all}
 use Rattle.asm_lex.specs.Pieces.{pieces}
 use Rattle.asm_lex.specs.Kinds.{kind_of, are_tokens}
@@ -9,11 +9,9 @@ use Rattle.asm_lex.specs.declared.Token.{Token}
 use Rattle.asm_lex.specs.declared.Kind.{Kind}
 use Rattle.asm_lex.specs.declared.LexFault.{LexFault}
 use Rattle.asm_lex.specs.declared.LexFault.TheVariants.{BadToken, Memory}
-use Rattle.isa_table.specs.declared.instruction.Instr.{Instr}
-use Rattle.assemble.specs.declared.fault.AsmCode.{AsmCode}
-use Rattle.assemble.specs.declared.fault.AsmCode.TheVariants as codes
 use Rattle.assemble.specs.Lexemes.{Word, lexeme_of, word_of, words_of, with_word, code_of_lex}
-use Rattle.assemble.specs.Statements.{statement_of, statement_if, line_of, tokens_statement, Fails}
+use Rattle.assemble.specs.Statements.{statement_of, line_of}
+use Rattle.assemble.specs.Steps.{tokens_statement, Fails}
 
 -- the words of tokens
 words_along : (ts : List Token) → ((k : ℕ) (d : Token) → k < length ts → kind_of (text_of (get_or ts k d)) ≡ Some (get_or ts k d).kind) → words_of (map text_of ts) ≡ Some (map word_of ts)
@@ -33,7 +31,6 @@ unfolding line_of
 line_of_tokens line number ts tokens =
     let words : words_of (pieces line) ≡ Some (map word_of ts) = rw (← tokens.texts) (words_along ts tokens.kinds) in
     rw words (statement_of_words ts)
-
 
 -- a piece that is no token
 word_missing : (k : Option Kind) (p : List ℕ) (rest : Option (List Word)) (tokens : Bool) → (is_some k && tokens) ≡ false → (tokens ≡ false → rest ≡ None) → with_word k p rest ≡ None

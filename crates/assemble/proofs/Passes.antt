@@ -1,12 +1,13 @@
 -- One step of the pass over the lines.
-use Rattle.std.proofs.Common.{◌≡◌, ◌≢◌, ℕ, ◌+◌, List, [], ◌∷◌, refl, sym, ap, ◌∙◌}
-use Rattle.std.specs.Prelude.{Result, Ok, Err}
+use Rattle.std.proofs.Common.{◌≡◌, ℕ, ◌+◌, List, [], ◌∷◌, refl, sym, ap, ◌∙◌}
+use Rattle.std.specs.Prelude.{Result, Ok}
 use Rattle.asm_lex.specs.Lines.{lines_of, cut_at_feeds, without_returns}
 use Rattle.assemble.specs.declared.fault.AsmCode.{AsmCode}
 use Rattle.assemble.specs.declared.fault.AsmFault.{AsmFault}
 use Rattle.assemble.specs.declared.reading.Line.{Line}
-use Rattle.assemble.specs.Statements.{line_of, Fails}
-use Rattle.assemble.specs.Reading.{added, go_on, read_after, FailsAt}
+use Rattle.assemble.specs.Statements.{line_of}
+use Rattle.assemble.specs.Steps.{Fails}
+use Rattle.assemble.specs.Steps.{added, go_on, read_after, FailsAt}
 
 pub line_read : (rest line after : List ℕ) (found more : List Line) (number : ℕ) (all : Result (List Line) AsmFault)
     → lines_of rest ≡ line ∷ lines_of after → added found number (line_of line) ≡ Ok more

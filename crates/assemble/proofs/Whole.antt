@@ -1,9 +1,9 @@
 -- What the pass over the lines says of each line.
-use Rattle.std.proofs.Common.{◌≡◌, ◌≢◌, ℕ, zero, suc, ◌+◌, ◌-◌, ◌*◌, ◌<◌, ◌≤◌, Bool, true, false, ◌||◌, ◌&&◌, List, [], ◌∷◌, ◌++◌, length, take, get_or, map, refl, sym, ap, subst, ◌∙◌, arith, length-append, append_assoc, zero-add, add-one, ltb-true, ltb-false, lt-ltb, le-ltb, leb-true, leb-false}
+use Rattle.std.proofs.Common.{◌≡◌, ℕ, zero, suc, ◌+◌, ◌-◌, ◌*◌, ◌<◌, ◌≤◌, Bool, true, false, ◌||◌, ◌&&◌, List, [], ◌∷◌, ◌++◌, length, take, get_or, refl, sym, ap, subst, ◌∙◌, arith, length-append, append_assoc, zero-add, add-one, lt-ltb, le-ltb, leb-true, leb-false}
 use Rattle.std.specs.Prelude.{Result, Ok, Err, Option, Some, None, nat_lt, nat_le, ◌==◌, if◌then◌else◌}
+use Rattle.std.specs.Int.{w32, to_le_bytes}
 use Rattle.std.specs.Result.{result_err}
 use Rattle.std.proofs.lemmas.List.{append-nil, map_push, length-map}
-use Rattle.std.proofs.lemmas.Bool.Decides.{nat_tests}
 use Rattle.asm_lex.specs.Lines.{lines_of}
 use Rattle.isa_table.specs.declared.instruction.Instr.{Instr}
 use Rattle.object.specs.Sections.{AreWithinLimits}
@@ -14,10 +14,10 @@ use Rattle.assemble.specs.declared.fault.AsmCode.TheVariants.{TooLarge}
 use Rattle.assemble.specs.declared.fault.AsmFault.{AsmFault}
 use Rattle.assemble.specs.declared.reading.Line.{Line}
 use Rattle.assemble.specs.Statements.{line_of}
-use Rattle.assemble.specs.Reading.{added, go_on, read_after, instrs_of}
-use Rattle.assemble.specs.Text.{IsTextOf}
+use Rattle.assemble.specs.Steps.{added, go_on, read_after, instrs_of}
+use Rattle.assemble.specs.Text.{AreWordsOf, bytes_of, IsTextOf}
 use Rattle.assemble.proofs.TextSteps.{length_text}
-use Rattle.assemble.specs.Assembly.{instr_in, instructions, size_of, lowest, code_from, code_at, IsFirstFault}
+use Rattle.assemble.specs.Assembly.{instr_in, instructions, size_of, HasBytes, AreBytesOf, lowest, code_at, IsFirstFault}
 
 -- the lines after this one, read from what has been found with it
 abbrev pub goes_on : ℕ → List (List ℕ) → Result (List Line) AsmCode → Result (List Line) AsmFault
@@ -77,15 +77,10 @@ unfolding read_after
 are_read [] found all n e = λ k lt. absurd (omega arith)
 are_read (l ∷ ls) found all n e = are_read_step l ls found all n (line_of l) refl (λ more. are_read ls more all (n + 1)) e
 
--- the first lines take no more than all
-pub size_grows : (m : ℕ) (ls : List (List ℕ)) → length (instructions (take m ls)) ≤ length (instructions ls)
-size_grows zero ls = omega arith
-size_grows (suc m) [] = omega arith
-size_grows (suc m) (l ∷ ls) =
-    let before = size_grows m ls in
-    let front = length-append (instr_in (line_of l)) (instructions (take m ls)) in
-    let whole = length-append (instr_in (line_of l)) (instructions ls) in
-    omega arith
+-- the lowest code of the line at an index, where bytes of text stand before the lines
+abbrev pub code_from : ℕ → List (List ℕ) → ℕ → Option AsmCode
+code_from size lines k =
+    lowest (result_err (line_of (get_or lines k []))) (nat_lt TEXT_LIMIT (size + size_of (take (k + 1) lines)))
 
 -- a fault of one of the lines from number n on, the first
 pub record FaultIn (size n : ℕ) (ls : List (List ℕ)) (fault : AsmFault) : Type 0 where
@@ -184,7 +179,7 @@ code_same source k fits =
     let past = nat_lt TEXT_LIMIT (size_of (take (k + 1) (lines_of source))) in
     let sizes : nat_lt TEXT_LIMIT (0 + size_of (take (k + 1) (lines_of source))) ≡ past = rw zero-add refl in
     let test : ((k == 0 && nat_lt SOURCE_LIMIT (length source)) || past) ≡ nat_lt TEXT_LIMIT (0 + size_of (take (k + 1) (lines_of source))) =
-      rw within (never (k == 0) past ∙ sym sizes) in
+    rw within (never (k == 0) past ∙ sym sizes) in
     ap (lowest (result_err (line_of (get_or (lines_of source) k [])))) test
 
 pub first_fault : (source : List ℕ) (fault : AsmFault) → length source ≤ SOURCE_LIMIT → read_after [] 1 (lines_of source) ≡ Err fault → IsFirstFault source fault
@@ -200,15 +195,27 @@ first_fault source fault fits e =
       first = λ k lt. code_same source k fits ∙ found.first k (omega arith);
     }
 
-pub accepted : (source : List ℕ) (all : List Line) → length source ≤ SOURCE_LIMIT → read_after [] 1 (lines_of source) ≡ Ok all → 4 * length all ≤ TEXT_LIMIT
-    → (k : ℕ) → k < length (lines_of source) → code_at source k ≡ None
-accepted source all fits e room k lt =
-    let own = are_read (lines_of source) [] all 1 e k lt in
-    let same = ap length (read_all (lines_of source) [] all 1 e) in
-    let count : length (instrs_of all) ≡ length all = length-map all (λ (x : Line). x.instr) in
-    let grows = size_grows (k + 1) (lines_of source) in
-    let past : nat_lt TEXT_LIMIT (0 + size_of (take (k + 1) (lines_of source))) ≡ false = not_past _ (omega arith) in
-    code_same source k fits ∙ rw (own, past) refl
+-- the bytes of the lines' words are those of the lines
+bytes_step : (l : List ℕ) (ls : List (List ℕ)) (ws : List ℕ) (here : Result (Option Instr) AsmCode) → line_of l ≡ here → result_err here ≡ None
+    → ((vs : List ℕ) → AreWordsOf vs (instructions ls) → AreBytesOf ls (bytes_of vs))
+    → AreWordsOf ws (instr_in here ++ instructions ls) → AreBytesOf (l ∷ ls) (bytes_of ws)
+bytes_step l ls ws (Err code) is own later words = cc
+bytes_step l ls ws (Ok None) is own later words =
+    ([], bytes_of ws, subst (λ (r : Result (Option Instr) AsmCode). HasBytes r []) (sym is) refl, later ws words, refl)
+bytes_step l ls [] (Ok (Some i)) is own later words = elim words [ ]
+bytes_step l ls (w ∷ ws) (Ok (Some i)) is own later words =
+    let bytes = to_le_bytes w32 w in
+    (bytes, bytes_of ws, subst (λ (r : Result (Option Instr) AsmCode). HasBytes r bytes) (sym is) (w, words.0, words.1, refl), later ws words.2, refl)
+
+bytes_of_lines : (ls : List (List ℕ)) (ws : List ℕ) → AreRead ls → AreWordsOf ws (instructions ls) → AreBytesOf ls (bytes_of ws)
+bytes_of_lines [] [] read words = refl
+bytes_of_lines [] (w ∷ ws) read words = elim words [ ]
+bytes_of_lines (l ∷ ls) ws read words =
+    bytes_step l ls ws (line_of l) refl (read 0 (omega arith)) (λ vs. bytes_of_lines ls vs (λ k lt. read (suc k) (omega arith))) words
+
+pub lines_of_text : (source text : List ℕ) (all : List Line) → read_after [] 1 (lines_of source) ≡ Ok all → IsTextOf (instructions (lines_of source)) text
+    → AreBytesOf (lines_of source) text
+lines_of_text source text all e t = rw t.bytes (bytes_of_lines (lines_of source) t.words (are_read (lines_of source) [] all 1 e) t.canonical)
 
 pub text_of_source : (source : List ℕ) (all : List Line) (text : List ℕ) → read_after [] 1 (lines_of source) ≡ Ok all → IsTextOf (instrs_of all) text
     → IsTextOf (instructions (lines_of source)) text

@@ -1,8 +1,8 @@
 pub mod Names
 pub mod Lexemes
-pub mod Operands
+pub mod Numbers
 pub mod Grammar
 pub mod Statements
-pub mod Reading
+pub mod Steps
 pub mod Text
 pub mod Assembly

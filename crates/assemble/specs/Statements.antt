@@ -1,16 +1,14 @@
 -- The statement of one line.
-use Rattle.std.specs.Prelude.{◌≡◌, ◌≢◌, ℕ, List, [], ◌∷◌, Option, Some, None, Result, Ok, Err, map, ok_or}
+use Rattle.std.specs.Prelude.{ℕ, List, [], ◌∷◌, Option, Some, None, Result, Ok, Err, map, ok_or}
 use Rattle.asm_lex.specs.Pieces.{pieces}
-use Rattle.asm_lex.specs.Tokens.{text_of}
-use Rattle.asm_lex.specs.declared.Token.{Token}
 use Rattle.asm_lex.specs.declared.Kind.{Kind}
 use Rattle.asm_lex.specs.declared.Kind.TheVariants.{Name as NameKind}
 use Rattle.isa_table.specs.declared.instruction.Instr.{Instr}
 use Rattle.assemble.specs.declared.fault.AsmCode.{AsmCode}
-use Rattle.assemble.specs.declared.fault.AsmCode.TheVariants.{BadToken, Mnemonic, Operands, Memory}
+use Rattle.assemble.specs.declared.fault.AsmCode.TheVariants.{BadToken, Mnemonic, Operands}
 use Rattle.assemble.specs.declared.lexeme.Lexeme.{Lexeme}
 use Rattle.assemble.specs.Grammar.{◌>>=◌, instruction_at}
-use Rattle.assemble.specs.Lexemes.{Word, lexeme_of, word_of, words_of}
+use Rattle.assemble.specs.Lexemes.{Word, lexeme_of, words_of}
 use Rattle.assemble.specs.Names.{mnemonic_of}
 
 -- the instruction of a statement that begins with a token of this kind and text, and goes on with these
@@ -30,12 +28,3 @@ statement_if (Some words) = statement_of words
 -- the instruction of a line, if it has one, or the line's lowest code
 unfoldable pub line_of : List ℕ → Result (Option Instr) AsmCode
 line_of line = statement_if (words_of (pieces line))
-
--- the same of a line's tokens
-abbrev pub tokens_statement : List Token → Result (Option Instr) AsmCode
-tokens_statement [] = Ok None
-tokens_statement (t ∷ ts) = started t.kind (text_of t) (map (λ u. lexeme_of (word_of u)) ts) >>= λ instr. Ok (Some instr)
-
--- the code is that of a step, unless memory was refused, which says nothing of the step
-abbrev pub Fails : {A : Type 0} → AsmCode → Result A AsmCode → Type 0
-Fails code r = code ≢ Memory → r ≡ Err code

@@ -1,14 +1,14 @@
 -- The bytes of a text section.
-use Rattle.std.specs.Prelude.{◌≡◌, ℕ, List, [], ◌∷◌, map}
+use Rattle.std.specs.Prelude.{◌≡◌, ℕ, ◌^◌, ◌<◌, List, [], ◌∷◌}
 use Rattle.std.specs.Int.{w32, to_le_bytes}
 use Rattle.std.specs.List.{flat_map}
 use Rattle.isa_table.specs.declared.instruction.Instr.{Instr}
 use Rattle.isa_table.specs.Table.{IsCanonical}
 
--- each word is the canonical one of its instruction
+-- each word, of 32 bits, is the canonical one of its instruction
 abbrev pub AreWordsOf : List ℕ → List Instr → Type 0
 AreWordsOf [] [] = Unit {0}
-AreWordsOf (w ∷ ws) (i ∷ is) = IsCanonical w i × AreWordsOf ws is
+AreWordsOf (w ∷ ws) (i ∷ is) = (w < 2 ^ 32) × IsCanonical w i × AreWordsOf ws is
 AreWordsOf ws is = ⊥
 
 -- the bytes of words, each least significant first

@@ -1,14 +1,13 @@
 //! The second pass: the bytes of the instructions.
 
-ghost use Rattle.assemble.specs.Reading.{AreChecked, instrs_of};
+ghost use Rattle.assemble.specs.Steps.{AreChecked, instrs_of};
 ghost use Rattle.assemble.specs.Text.{IsTextOf};
 ghost use Rattle.std.specs.Prelude.{◌≡◌, IfOk, IfErr, map};
 
-use isa_table::encode;
-use std::alloc::Global;
-
 use crate::fault::{AsmCode, AsmFault};
 use crate::reading::Line;
+use isa_table::encode;
+use std::alloc::Global;
 
 /// The canonical words of the instructions, each least significant byte first.
 pub(crate) fn text_of(alloc: Global, lines: &[Line]) -> Result<Vec<u8>, AsmFault>

@@ -3,10 +3,9 @@
 ghost use Rattle.assemble.specs.Lexemes.{lexeme_of, word_of};
 ghost use Rattle.std.specs.Prelude.{◌≡◌};
 
+use crate::names::{register_of, set_of};
 use asm_lex::{Kind, Token};
 use isa_table::{AccessSet, Reg};
-
-use crate::names::{register_of, set_of};
 
 /// A token, with what its text stands for.
 #[derive(Clone, Copy)]

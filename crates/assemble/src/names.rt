@@ -2,7 +2,8 @@
 //!
 //! Source: RISC-V Unprivileged ISA 20191213, chapters 24 and 25; CMO 1.0 for `cbo.clean`.
 
-ghost use Rattle.assemble.specs.Names.{mnemonic_of, convention_number, short_number, plain_number, register_number, register_of, set_of};
+ghost use Rattle.assemble.specs.Names.{mnemonic_of, register_of, register_number, plain_number};
+ghost use Rattle.assemble.specs.Names.{short_number, convention_number, set_of};
 ghost use Rattle.std.specs.Char.{is_digit, digit_value};
 ghost use Rattle.std.specs.Prelude.{◌≡◌, ◌<◌, Some, None, IfSome, if◌then◌else◌};
 
@@ -164,7 +165,12 @@ fn access_set(
     memory_reads: bool,
     memory_writes: bool,
 ) -> AccessSet
-    ensures { result ≡ record { device_input = device_input; device_output = device_output; memory_reads = memory_reads; memory_writes = memory_writes } }
+    ensures { result ≡ record {
+      device_input = device_input;
+      device_output = device_output;
+      memory_reads = memory_reads;
+      memory_writes = memory_writes;
+    } }
 {
     AccessSet {
         device_input,

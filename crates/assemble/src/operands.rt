@@ -1,12 +1,13 @@
 //! The operands of statements: numbers with a sign, and places of memory.
 
-ghost use Rattle.assemble.specs.Operands.{number_then, number_of, place_of, base_of, within};
-ghost use Rattle.std.specs.Prelude.{◌≡◌, ◌^◌, ◌≤ℤ◌, pos, negsuc, neg_ℤ, int_le, Ok, Err, if◌then◌else◌, Some, None, MatchOption, IfOk, ok_or};
-
-use isa_table::Reg;
+ghost use Rattle.assemble.specs.Numbers.{number_then, within};
+ghost use Rattle.assemble.specs.Grammar.{fit, number_shape, place_shape, base_shape, of_number, of_place, of_name};
+ghost use Rattle.std.specs.Prelude.{◌≡◌, ◌^◌, ◌≤ℤ◌, pos, negsuc, neg_ℤ, int_le, if◌then◌else◌};
+ghost use Rattle.std.specs.Prelude.{Some, None, Ok, Err, MatchOption, IfOk, ok_or, option_map};
 
 use crate::fault::AsmCode;
 use crate::lexeme::Lexeme;
+use isa_table::Reg;
 
 /// A number with its sign. The size is None from 2^64 on.
 #[derive(Clone, Copy)]
@@ -17,7 +18,8 @@ pub(crate) struct SignedNumber {
 
 /// The number that stands first, after at most one sign, and what follows it.
 fn number_then(lexemes: &[Lexeme]) -> Option<(SignedNumber, &[Lexeme])>
-    ensures { MatchOption result (number_then lexemes.now ≡ None) (λ (number, rest). number_then lexemes.now ≡ Some (number, rest.now)) }
+    ensures { MatchOption result (number_then lexemes.now ≡ None)
+        (λ (number, rest). number_then lexemes.now ≡ Some (number, rest.now)) }
 {
     let (is_negative, size, rest) = match lexemes {
         [Lexeme::Number { value, .. }, rest @ ..] => (false, *value, rest),
@@ -30,7 +32,7 @@ fn number_then(lexemes: &[Lexeme]) -> Option<(SignedNumber, &[Lexeme])>
 
 /// A number alone.
 pub(crate) fn number(lexemes: &[Lexeme]) -> Option<SignedNumber>
-    ensures { result ≡ number_of lexemes.now }
+    ensures { fit number_shape lexemes.now ≡ option_map of_number result }
 {
     match number_then(lexemes)? {
         (number, []) => Some(number),
@@ -40,7 +42,7 @@ pub(crate) fn number(lexemes: &[Lexeme]) -> Option<SignedNumber>
 
 /// An offset, which may be missing, and the name of a register in parentheses.
 pub(crate) fn place(lexemes: &[Lexeme]) -> Option<(SignedNumber, Option<Reg>)>
-    ensures { result ≡ place_of lexemes.now }
+    ensures { fit place_shape lexemes.now ≡ option_map of_place result }
 {
     match number_then(lexemes) {
         Some((offset, rest)) => Some((offset, base(rest)?)),
@@ -55,7 +57,7 @@ const ZERO: SignedNumber = SignedNumber {
 
 /// A name in parentheses, and the register that it stands for.
 fn base(lexemes: &[Lexeme]) -> Option<Option<Reg>>
-    ensures { result ≡ base_of lexemes.now }
+    ensures { fit base_shape lexemes.now ≡ option_map of_name result }
 {
     match lexemes {
         [Lexeme::Open, Lexeme::Name { register, .. }, Lexeme::Close] => Some(*register),
@@ -88,7 +90,8 @@ pub(crate) fn within(number: SignedNumber, low: i64, high: i64) -> Result<i64, A
 fn negative(size: u64, low: i64) -> Result<i64, AsmCode>
     requires least { negsuc (2 ^ 62) ≤ℤ low }
     requires low { low ≤ℤ pos 0 }
-    ensures value { result ≡ (if int_le low (neg_ℤ (pos size)) then Ok (neg_ℤ (pos size)) else Err AsmCode.Range) }
+    ensures value { result
+        ≡ (if int_le low (neg_ℤ (pos size)) then Ok (neg_ℤ (pos size)) else Err AsmCode.Range) }
     ensures range { IfOk result (λ z. (low ≤ℤ z) × (z ≤ℤ pos 0)) }
 {
     if size <= low.unsigned_abs() {
@@ -100,7 +103,8 @@ fn negative(size: u64, low: i64) -> Result<i64, AsmCode>
 
 fn positive(size: u64, high: i64) -> Result<i64, AsmCode>
     requires { pos 0 ≤ℤ high }
-    ensures value { result ≡ (if int_le (pos size) high then Ok (pos size) else Err AsmCode.Range) }
+    ensures value { result
+        ≡ (if int_le (pos size) high then Ok (pos size) else Err AsmCode.Range) }
     ensures range { IfOk result (λ z. (pos 0 ≤ℤ z) × (z ≤ℤ high)) }
 {
     if size <= high.unsigned_abs() {

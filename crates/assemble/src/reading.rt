@@ -1,20 +1,20 @@
 //! The first pass over a source: its instructions, each with the number of its line.
 
-ghost use Rattle.assemble.specs.Reading.{added, read_after, FailsAt, AreChecked};
-ghost use Rattle.assemble.specs.Statements.{line_of, Fails};
+ghost use Rattle.assemble.specs.Steps.{added, read_after, FailsAt, AreChecked};
+ghost use Rattle.assemble.specs.Statements.{line_of};
+ghost use Rattle.assemble.specs.Steps.{Fails};
 ghost use Rattle.assemble.specs.declared.TheConstants.{SOURCE_LIMIT};
 ghost use Rattle.asm_lex.specs.Lines.{lines_of};
 ghost use Rattle.object.specs.declared.TheConstants.{TEXT_LIMIT};
 ghost use Rattle.std.specs.Prelude.{◌≡◌, ◌+◌, ◌*◌, ◌≤◌, [], Ok, length, vec_len, IfOk, IfErr, OnOk};
 
+use crate::SOURCE_LIMIT;
+use crate::fault::{AsmCode, AsmFault};
+use crate::statement::statement;
 use asm_lex::next_line;
 use isa_table::Instr;
 use object::TEXT_LIMIT;
 use std::alloc::Global;
-
-use crate::SOURCE_LIMIT;
-use crate::fault::{AsmCode, AsmFault};
-use crate::statement::statement;
 
 /// The instruction of a line, with the line's number from 1.
 #[derive(Clone, Copy)]
@@ -46,12 +46,7 @@ pub(crate) fn read(alloc: Global, source: &[u8]) -> Result<Vec<Line>, AsmFault>
 }
 
 /// Adds the instruction of the line of this number to those of the lines before.
-fn add_line(
-    alloc: Global,
-    found: &mut Vec<Line>,
-    text: &[u8],
-    number: u32,
-) -> Result<(), AsmCode>
+fn add_line(alloc: Global, found: &mut Vec<Line>, text: &[u8], number: u32) -> Result<(), AsmCode>
     requires fits { 4 * vec_len found.old ≤ TEXT_LIMIT }
     requires checked { AreChecked found.old.items }
     ensures ok { OnOk result (added found.old.items number (line_of text.now) ≡ Ok found.new.items) }

@@ -2,16 +2,15 @@
 //!
 //! Source: RISC-V Unprivileged ISA 20191213, chapter 25; CMO 1.0.
 
-ghost use Rattle.assemble.specs.Grammar.{instruction_at, upper_at, immediate_at, store_at, cache_at, fence_at, system_at, set_at};
+ghost use Rattle.assemble.specs.Grammar.{instruction_at, set_at};
 ghost use Rattle.isa_table.specs.Ranges.{IsChecked};
 ghost use Rattle.std.specs.Prelude.{◌≡◌, IfOk, ok_or};
-
-use isa_table::{AccessSet, CacheOp, ImmediateOp, Instr, StoreOp, SystemOp, UpperOp};
 
 use crate::fault::AsmCode;
 use crate::lexeme::Lexeme;
 use crate::names::Mnemonic;
 use crate::operands::{number, place, register, within};
+use isa_table::{AccessSet, CacheOp, ImmediateOp, Instr, StoreOp, SystemOp, UpperOp};
 
 /// The instruction of a mnemonic with these operands.
 pub(crate) fn instruction(mnemonic: Mnemonic, operands: &[Lexeme]) -> Result<Instr, AsmCode>
@@ -30,7 +29,7 @@ pub(crate) fn instruction(mnemonic: Mnemonic, operands: &[Lexeme]) -> Result<Ins
 
 /// `rd, immediate`
 fn upper(op: UpperOp, operands: &[Lexeme]) -> Result<Instr, AsmCode>
-    ensures value { result ≡ upper_at op operands.now }
+    ensures value { result ≡ instruction_at (Mnemonic.Upper op) operands.now }
     ensures checked { IfOk result IsChecked }
 {
     match operands {
@@ -46,12 +45,17 @@ fn upper(op: UpperOp, operands: &[Lexeme]) -> Result<Instr, AsmCode>
 
 /// `rd, rs1, immediate`
 fn immediate(op: ImmediateOp, operands: &[Lexeme]) -> Result<Instr, AsmCode>
-    ensures value { result ≡ immediate_at op operands.now }
+    ensures value { result ≡ instruction_at (Mnemonic.Immediate op) operands.now }
     ensures checked { IfOk result IsChecked }
 {
     match operands {
-        [Lexeme::Name { register: rd, .. }, Lexeme::Comma, Lexeme::Name { register: rs1, .. }, Lexeme::Comma, rest @ ..] =>
-        {
+        [
+            Lexeme::Name { register: rd, .. },
+            Lexeme::Comma,
+            Lexeme::Name { register: rs1, .. },
+            Lexeme::Comma,
+            rest @ ..,
+        ] => {
             let number = number(rest).ok_or(AsmCode::Operands)?;
             let rd = register(*rd)?;
             let rs1 = register(*rs1)?;
@@ -69,7 +73,7 @@ fn immediate(op: ImmediateOp, operands: &[Lexeme]) -> Result<Instr, AsmCode>
 
 /// `rs2, offset(rs1)`, where the offset may be missing.
 fn store(op: StoreOp, operands: &[Lexeme]) -> Result<Instr, AsmCode>
-    ensures value { result ≡ store_at op operands.now }
+    ensures value { result ≡ instruction_at (Mnemonic.Store op) operands.now }
     ensures checked { IfOk result IsChecked }
 {
     match operands {
@@ -91,7 +95,7 @@ fn store(op: StoreOp, operands: &[Lexeme]) -> Result<Instr, AsmCode>
 
 /// `(rs1)`, which may have an offset of 0.
 fn cache(op: CacheOp, operands: &[Lexeme]) -> Result<Instr, AsmCode>
-    ensures value { result ≡ cache_at op operands.now }
+    ensures value { result ≡ instruction_at (Mnemonic.Cache op) operands.now }
     ensures checked { IfOk result IsChecked }
 {
     let (offset, base) = place(operands).ok_or(AsmCode::Operands)?;
@@ -102,7 +106,7 @@ fn cache(op: CacheOp, operands: &[Lexeme]) -> Result<Instr, AsmCode>
 
 /// Nothing, which stands for all accesses before and after, or `set, set`.
 fn fence(operands: &[Lexeme]) -> Result<Instr, AsmCode>
-    ensures value { result ≡ fence_at operands.now }
+    ensures value { result ≡ instruction_at Mnemonic.Fence operands.now }
     ensures checked { IfOk result IsChecked }
 {
     let (predecessor, successor) = match operands {
@@ -135,7 +139,7 @@ fn set(lexeme: Lexeme) -> Result<AccessSet, AsmCode>
 
 /// Nothing.
 fn system(op: SystemOp, operands: &[Lexeme]) -> Result<Instr, AsmCode>
-    ensures value { result ≡ system_at op operands.now }
+    ensures value { result ≡ instruction_at (Mnemonic.System op) operands.now }
     ensures checked { IfOk result IsChecked }
 {
     match operands {

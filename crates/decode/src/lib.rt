@@ -10,10 +10,13 @@ ghost use Rattle.isa_table.specs.Table.{Spells};
 ghost use Rattle.isa_table.specs.declared.instruction.Instr.{Instr as AnInstr};
 ghost use Rattle.std.specs.Prelude.{◌≡◌, ℕ, ◌^◌, ◌<◌, IfSome};
 
+mod mnemonics;
 mod operands;
 mod shapes;
 #[cfg(test)]
 mod tests;
+#[cfg(test)]
+mod words;
 
 use isa_table::Instr;
 

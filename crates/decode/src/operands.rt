@@ -2,7 +2,9 @@
 //!
 //! Source: RISC-V Unprivileged ISA 20191213, chapter 2, "Immediate Encoding Variants".
 
-ghost use Rattle.isa_table.specs.Operands.{i_immediate as i_immediate_of, s_immediate as s_immediate_of, set_bits};
+ghost use Rattle.isa_table.specs.Operands.{b_immediate as b_immediate_of, i_immediate as i_immediate_of};
+ghost use Rattle.isa_table.specs.Operands.{j_immediate as j_immediate_of, s_immediate as s_immediate_of};
+ghost use Rattle.isa_table.specs.Operands.{flag, set_bits};
 ghost use Rattle.std.specs.Prelude.{◌≡◌, ◌+◌, ◌^◌, ◌<◌, ◌≤◌};
 ghost use Rattle.word_bits.specs.Numbers.{field as field_of, signed as signed_of};
 
@@ -54,6 +56,24 @@ pub fn s_immediate(word: u32) -> i32
     signed(field(word, 7, 5) + (field(word, 25, 7) << 5), 12)
 }
 
+/// The distance of a B-type word.
+pub fn b_immediate(word: u32) -> i32
+    ensures { result ≡ b_immediate_of word }
+{
+    let low = field(word, 8, 4) * 2 + (field(word, 25, 6) << 5);
+    let high = (field(word, 7, 1) << 11) + (field(word, 31, 1) << 12);
+    signed(low + high, 13)
+}
+
+/// The distance of a J-type word.
+pub fn j_immediate(word: u32) -> i32
+    ensures { result ≡ j_immediate_of word }
+{
+    let low = field(word, 21, 10) * 2 + (field(word, 20, 1) << 11);
+    let high = (field(word, 12, 8) << 12) + (field(word, 31, 1) << 20);
+    signed(low + high, 21)
+}
+
 /// The two's complement value of `n` bits.
 #[tactic(auto, using(isa_table::proofs::Signs::signed_low, isa_table::proofs::Signs::signed_high))]
 fn signed(bits: u32, n: u32) -> i32
@@ -89,4 +109,18 @@ pub fn set(word: u32, lo: u32) -> AccessSet
         memory_reads: bits / 2 % 2 == 1,
         memory_writes: bits % 2 == 1,
     }
+}
+
+/// The bit aq of an atomic instruction.
+pub fn acquire(word: u32) -> bool
+    ensures { flag result ≡ field_of word 26 1 }
+{
+    field(word, 26, 1) == 1
+}
+
+/// The bit rl of an atomic instruction.
+pub fn release(word: u32) -> bool
+    ensures { flag result ≡ field_of word 25 1 }
+{
+    field(word, 25, 1) == 1
 }

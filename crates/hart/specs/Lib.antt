@@ -1,4 +1,6 @@
 pub mod Registers
+pub mod Arithmetic
+pub mod Memory
 pub mod Effect
 pub mod Needs
 pub mod Requests

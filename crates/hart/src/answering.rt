@@ -1,14 +1,20 @@
 //! What a reply does to the hart that asked.
 
-ghost use Rattle.std.specs.Prelude.{◌≡◌};
-ghost use Rattle.hart.specs.Effect.{answered, trap_of};
+ghost use Rattle.std.specs.Prelude.{◌≡◌, ◌*◌};
+ghost use Rattle.hart.specs.Arithmetic.{extended};
+ghost use Rattle.hart.specs.Effect.{answered, takes, trap_of};
+ghost use Rattle.hart.specs.Memory.{atomic_result, atomic_width, load_result};
 
+use crate::accessing::width_of_atomic;
+use crate::advancing::{go_on, write_to};
+use crate::arithmetic::low;
 use crate::need::{AccessFault, Reply};
 use crate::state::{HartState, Status, Trap};
-use crate::stepping::go_on;
-use isa_table::Instr;
+use isa_table::{AtomicOp, AtomicWidth, Instr, LoadOp};
+use word_bits::sign_extend;
 
-/// The hart after the reply to the request of its instruction: it goes on, or traps where its access met a fault.
+/// The hart after the reply to the request of its instruction: it goes on, with the value that it asked for in a
+/// register, or traps where its access met a fault.
 pub fn answer(state: &HartState, instr: Instr, reply: Reply) -> HartState
     ensures { result ≡ answered state.now instr reply }
 {
@@ -17,8 +23,49 @@ pub fn answer(state: &HartState, instr: Instr, reply: Reply) -> HartState
             status: Status::Trapped(trap_by(fault)),
             ..*state
         },
-        Reply::Value(_) | Reply::Done => go_on(state),
+        Reply::Value(value) => take(state, instr, value),
+        Reply::Done => go_on(state),
     }
+}
+
+fn take(state: &HartState, instr: Instr, value: u64) -> HartState
+    ensures { result ≡ takes state.now instr value }
+{
+    match instr {
+        Instr::Load { op, rd, .. } => write_to(state, rd, loaded(op, value)),
+        Instr::LoadReserved { width, rd, .. } => write_to(state, rd, extended_to(width, value)),
+        Instr::Atomic { op, width, rd, .. } => write_to(state, rd, replied(op, width, value)),
+        _ => go_on(state),
+    }
+}
+
+fn loaded(op: LoadOp, value: u64) -> u64
+    ensures { result ≡ load_result op value }
+{
+    match op {
+        LoadOp::Lb => sign_extend(value, 8),
+        LoadOp::Lh => sign_extend(value, 16),
+        LoadOp::Lw => sign_extend(value, 32),
+        LoadOp::Ld => value,
+        LoadOp::Lbu => low(value, 8),
+        LoadOp::Lhu => low(value, 16),
+        LoadOp::Lwu => low(value, 32),
+    }
+}
+
+fn replied(op: AtomicOp, width: AtomicWidth, value: u64) -> u64
+    ensures { result ≡ atomic_result op (atomic_width width) value }
+{
+    match op {
+        AtomicOp::Sc => value,
+        _ => extended_to(width, value),
+    }
+}
+
+fn extended_to(width: AtomicWidth, value: u64) -> u64
+    ensures { result ≡ extended (8 * atomic_width width) value }
+{
+    sign_extend(value, 8 * width_of_atomic(width))
 }
 
 fn trap_by(fault: AccessFault) -> Trap

@@ -1,15 +1,25 @@
 //! A hart: what its next instruction needs of the world, and what the reply does to it.
 #![tactic(auto)]
 
+mod accessing;
+mod advancing;
 mod answering;
+mod arithmetic;
+mod atomics;
+mod calling;
+mod computing;
+mod jumping;
 mod need;
 mod state;
 mod stepping;
 
 pub use answering::answer;
+pub use atomics::amo_result;
 pub use need::{AccessFault, Need, Reply, Request};
 pub use state::{HartState, Registers, Status, Trap};
 pub use stepping::next;
 
+#[cfg(test)]
+mod table_tests;
 #[cfg(test)]
 mod tests;

@@ -8,14 +8,14 @@ use isa_table::{CacheOp, Reg};
 
 const ECALL: u32 = 0x0000_0073;
 
-fn x(number: u8) -> Reg
+pub(crate) fn x(number: u8) -> Reg
     requires { number < 32 }
 {
     Reg { number }
 }
 
 /// What a hart needs at a word; None where it has stopped.
-fn need(state: &HartState, word: u32) -> Option<Need> {
+pub(crate) fn need(state: &HartState, word: u32) -> Option<Need> {
     match state.status {
         Status::Running => Some(next(state, Some(word))),
         _ => None,
@@ -23,7 +23,7 @@ fn need(state: &HartState, word: u32) -> Option<Need> {
 }
 
 /// The hart after one instruction, with what it asked, where every request is answered in this way.
-fn step(state: HartState, word: u32, reply: Reply) -> (HartState, Option<Request>) {
+pub(crate) fn step(state: HartState, word: u32, reply: Reply) -> (HartState, Option<Request>) {
     match (need(&state, word), decode(word)) {
         (Some(Need::Local(after)), _) => (after, None),
         (Some(Need::Ask(request)), Some(instr)) => (answer(&state, instr, reply), Some(request)),
@@ -36,6 +36,14 @@ fn step(state: HartState, word: u32, reply: Reply) -> (HartState, Option<Request
         ),
         _ => (state, None),
     }
+}
+
+/// Hart 0 at its start, with x6 and x7 set.
+pub(crate) fn with_operands(a: u64, b: u64) -> HartState {
+    let mut state = HartState::start(0);
+    state.registers.set(x(6), a);
+    state.registers.set(x(7), b);
+    state
 }
 
 #[test]
@@ -173,4 +181,12 @@ fn traps(rt: HostRuntime) {
         let (after, _) = step(state, 0x0053_3223, Reply::Fault(fault));
         assert_eq!(rt; after, trapped);
     }
+}
+
+#[test]
+fn a_fence_asks_by_its_predecessors(rt: HostRuntime) {
+    let state = HartState::start(0);
+    // fence w, r and fence r, w
+    assert!(rt; matches!(next(&state, Some(0x0120_000f)), Need::Ask(Request::Fence)));
+    assert!(rt; matches!(next(&state, Some(0x0210_000f)), Need::Local(_)));
 }

@@ -4,21 +4,12 @@ use mathlib.Core.HLevel.{Σ_prop_path}
 use native.Mathlib.Bridge.{le_prop}
 use Rattle.isa_table.specs.declared.access.AccessSet.{AccessSet}
 use Rattle.isa_table.specs.declared.instruction.Instr.{Instr}
-use Rattle.isa_table.specs.declared.instruction.Instr.TheVariants.{Upper, Store, Immediate, Fence, Cache, System}
-use Rattle.isa_table.specs.declared.instruction.UpperOp.{UpperOp}
-use Rattle.isa_table.specs.declared.instruction.UpperOp.TheVariants.{Lui}
-use Rattle.isa_table.specs.declared.instruction.StoreOp.{StoreOp}
-use Rattle.isa_table.specs.declared.instruction.StoreOp.TheVariants.{Sd}
-use Rattle.isa_table.specs.declared.instruction.ImmediateOp.{ImmediateOp}
-use Rattle.isa_table.specs.declared.instruction.ImmediateOp.TheVariants.{Addi}
-use Rattle.isa_table.specs.declared.instruction.CacheOp.{CacheOp}
-use Rattle.isa_table.specs.declared.instruction.CacheOp.TheVariants.{Clean}
-use Rattle.isa_table.specs.declared.instruction.SystemOp.{SystemOp}
-use Rattle.isa_table.specs.declared.instruction.SystemOp.TheVariants.{Ecall}
+use Rattle.isa_table.specs.declared.instruction.Instr.TheVariants.{Upper, Jump, JumpRegister, Branch, Load, Store, Immediate, Shift, Register, Fence, FenceI, Cache, LoadReserved, Atomic, System}
 use Rattle.isa_table.specs.declared.register.Reg.{Reg}
 use Rattle.isa_table.specs.Operands.{flag, set_bits}
-use Rattle.isa_table.specs.Table.{Spells, upper_opcode, store_funct3, immediate_opcode, immediate_funct3, cache_function, system_word}
-use Rattle.isa_table.proofs.Shapes.{HasParts, parts, upper_only, store_only, immediate_only, fence_only, cache_only, system_only, upper_opcodes, immediate_opcodes, system_opcode}
+use Rattle.isa_table.specs.Table.{Spells}
+use Rattle.isa_table.proofs.Mnemonics.{upper_op_same, branch_op_same, load_op_same, store_op_same, immediate_op_same, shift_op_same, register_op_same, cache_op_same, width_same, atomic_op_same, system_op_same, immediate_unshifted, atomic_stores, shift_funct3s, system_opcode}
+use Rattle.isa_table.proofs.Shapes.{HasParts, parts, opcode_is, upper_only, jump_only, jump_register_only, branch_only, load_only, store_only, immediate_only, shift_only, register_only, fence_only, fence_i_only, cache_only, load_reserved_only, atomic_only, system_only}
 
 abbrev made : (p : (n : ℕ) × (n < 32)) → Reg
 made p = record { number = p.0; in_range = p.1 }
@@ -64,56 +55,104 @@ set_same s t e =
     ≡ set_of t.device_input t.device_output t.memory_reads t.memory_writes = cc in
     f
 
-upper_same : (a b : UpperOp) → upper_opcode a ≡ upper_opcode b → a ≡ b
-upper_same Lui Lui e = refl
-
-store_same : (a b : StoreOp) → store_funct3 a ≡ store_funct3 b → a ≡ b
-store_same Sd Sd e = refl
-
-immediate_same : (a b : ImmediateOp) → immediate_opcode a ≡ immediate_opcode b → immediate_funct3 a ≡ immediate_funct3 b → a ≡ b
-immediate_same Addi Addi e f = refl
-
-cache_same : (a b : CacheOp) → cache_function a ≡ cache_function b → a ≡ b
-cache_same Clean Clean e = refl
-
-system_same : (a b : SystemOp) → system_word a ≡ system_word b → a ≡ b
-system_same Ecall Ecall e = refl
-
 pub unique : (w : ℕ) → w < 2 ^ 32 → (i j : Instr) → Spells w i → Spells w j → i ≡ j
 unique w h (Upper op rd immediate) j s t =
     let p : HasParts w (Upper op rd immediate) = parts w h (Upper op rd immediate) s in
-    let q = upper_only w h (p ∙ upper_opcodes op) j t in
-    let o : op ≡ q.0 = upper_same _ _ (sym p ∙ q.3) in
+    let q = upper_only w h (opcode_is w h (Upper op rd immediate) s) j t in
+    let o : op ≡ q.0 = upper_op_same _ _ (sym p ∙ q.3) in
     let d : rd ≡ q.1 = register_same _ _ (s.operands.0 ∙ sym q.4) in
     cc (s.operands.1, q.2)
+unique w h (Jump rd distance) j s t =
+    let p : HasParts w (Jump rd distance) = parts w h (Jump rd distance) s in
+    let q = jump_only w h p j t in
+    let d : rd ≡ q.0 = register_same _ _ (s.operands.0 ∙ sym q.2) in
+    cc (s.operands.1, q.1)
+unique w h (JumpRegister rd rs1 offset) j s t =
+    let p : HasParts w (JumpRegister rd rs1 offset) = parts w h (JumpRegister rd rs1 offset) s in
+    let q = jump_register_only w h p.0 j t in
+    let d : rd ≡ q.0 = register_same _ _ (s.operands.0 ∙ sym q.4) in
+    let r1 : rs1 ≡ q.1 = register_same _ _ (s.operands.1 ∙ sym q.5) in
+    cc (s.operands.2, q.2)
+unique w h (Branch op rs1 rs2 distance) j s t =
+    let p : HasParts w (Branch op rs1 rs2 distance) = parts w h (Branch op rs1 rs2 distance) s in
+    let q = branch_only w h p.0 j t in
+    let o : op ≡ q.0 = branch_op_same _ _ (sym p.1 ∙ q.4) in
+    let r1 : rs1 ≡ q.1 = register_same _ _ (s.operands.0 ∙ sym q.5) in
+    let r2 : rs2 ≡ q.2 = register_same _ _ (s.operands.1 ∙ sym q.6) in
+    cc (s.operands.2, q.3)
+unique w h (Load op rd rs1 offset) j s t =
+    let p : HasParts w (Load op rd rs1 offset) = parts w h (Load op rd rs1 offset) s in
+    let q = load_only w h p.0 j t in
+    let o : op ≡ q.0 = load_op_same _ _ (sym p.1 ∙ q.4) in
+    let d : rd ≡ q.1 = register_same _ _ (s.operands.0 ∙ sym q.5) in
+    let r1 : rs1 ≡ q.2 = register_same _ _ (s.operands.1 ∙ sym q.6) in
+    cc (s.operands.2, q.3)
 unique w h (Store op rs2 rs1 offset) j s t =
     let p : HasParts w (Store op rs2 rs1 offset) = parts w h (Store op rs2 rs1 offset) s in
     let q = store_only w h p.0 j t in
-    let o : op ≡ q.0 = store_same _ _ (sym p.1 ∙ q.4) in
-    let a : rs2 ≡ q.1 = register_same _ _ (s.operands.0 ∙ sym q.5) in
-    let b : rs1 ≡ q.2 = register_same _ _ (s.operands.1 ∙ sym q.6) in
+    let o : op ≡ q.0 = store_op_same _ _ (sym p.1 ∙ q.4) in
+    let r2 : rs2 ≡ q.1 = register_same _ _ (s.operands.0 ∙ sym q.5) in
+    let r1 : rs1 ≡ q.2 = register_same _ _ (s.operands.1 ∙ sym q.6) in
     cc (s.operands.2, q.3)
 unique w h (Immediate op rd rs1 immediate) j s t =
     let p : HasParts w (Immediate op rd rs1 immediate) = parts w h (Immediate op rd rs1 immediate) s in
-    let q = immediate_only w h (p.0 ∙ immediate_opcodes op) j t in
-    let o : op ≡ q.0 = immediate_same _ _ (sym p.0 ∙ q.4) (sym p.1 ∙ q.5) in
+    let q = immediate_only w h (opcode_is w h (Immediate op rd rs1 immediate) s) (λ f. immediate_unshifted op (rw p.1 at f)) j t in
+    let o : op ≡ q.0 = immediate_op_same _ _ (sym p.0 ∙ q.4) (sym p.1 ∙ q.5) in
     let d : rd ≡ q.1 = register_same _ _ (s.operands.0 ∙ sym q.6) in
-    let a : rs1 ≡ q.2 = register_same _ _ (s.operands.1 ∙ sym q.7) in
+    let r1 : rs1 ≡ q.2 = register_same _ _ (s.operands.1 ∙ sym q.7) in
     cc (s.operands.2, q.3)
+unique w h (Shift op rd rs1 amount) j s t =
+    let p : HasParts w (Shift op rd rs1 amount) = parts w h (Shift op rd rs1 amount) s in
+    let q = shift_only w h (opcode_is w h (Shift op rd rs1 amount) s) (rw p.1 (shift_funct3s op)) j t in
+    let o : op ≡ q.0 = shift_op_same _ _ (sym p.0 ∙ q.4) (sym p.1 ∙ q.5) (sym p.2 ∙ q.6) in
+    let d : rd ≡ q.1 = register_same _ _ (s.operands.0 ∙ sym q.8) in
+    let r1 : rs1 ≡ q.2 = register_same _ _ (s.operands.1 ∙ sym q.9) in
+    cc (s.operands.2, q.3)
+unique w h (Register op rd rs1 rs2) j s t =
+    let p : HasParts w (Register op rd rs1 rs2) = parts w h (Register op rd rs1 rs2) s in
+    let q = register_only w h (opcode_is w h (Register op rd rs1 rs2) s) j t in
+    let o : op ≡ q.0 = register_op_same _ _ (sym p.0 ∙ q.5) (sym p.1 ∙ q.6) (sym p.2 ∙ q.7) in
+    let d : rd ≡ q.1 = register_same _ _ (s.operands.0 ∙ sym q.8) in
+    let r1 : rs1 ≡ q.2 = register_same _ _ (s.operands.1 ∙ sym q.9) in
+    let r2 : rs2 ≡ q.3 = register_same _ _ (s.operands.2 ∙ sym q.10) in
+    cc (q.4)
 unique w h (Fence predecessor successor) j s t =
     let p : HasParts w (Fence predecessor successor) = parts w h (Fence predecessor successor) s in
     let q = fence_only w h p.0 p.1 j t in
     let a : predecessor ≡ q.0 = set_same _ _ (s.operands.0 ∙ sym q.3) in
     let b : successor ≡ q.1 = set_same _ _ (s.operands.1 ∙ sym q.4) in
     cc (q.2)
+unique w h FenceI j s t =
+    let p : HasParts w FenceI = parts w h FenceI s in
+    sym (fence_i_only w h p.0 p.1 j t)
 unique w h (Cache op rs1) j s t =
     let p : HasParts w (Cache op rs1) = parts w h (Cache op rs1) s in
-    let q = cache_only w h p.0 p.2 j t in
-    let o : op ≡ q.0 = cache_same _ _ (sym p.3 ∙ q.4) in
-    let a : rs1 ≡ q.1 = register_same _ _ (s.operands ∙ sym q.5) in
+    let q = cache_only w h p.0 p.1 j t in
+    let o : op ≡ q.0 = cache_op_same _ _ (sym p.3 ∙ q.4) in
+    let r1 : rs1 ≡ q.1 = register_same _ _ (s.operands ∙ sym q.5) in
     cc (q.2)
+unique w h (LoadReserved width rd rs1 acquire release) j s t =
+    let p : HasParts w (LoadReserved width rd rs1 acquire release) = parts w h (LoadReserved width rd rs1 acquire release) s in
+    let q = load_reserved_only w h p.0 p.2 j t in
+    let v : width ≡ q.0 = width_same _ _ (sym p.1 ∙ q.6) in
+    let d : rd ≡ q.1 = register_same _ _ (s.operands.0 ∙ sym q.8) in
+    let r1 : rs1 ≡ q.2 = register_same _ _ (s.operands.1 ∙ sym q.9) in
+    let af : acquire ≡ q.3 = flag_same _ _ (s.operands.2 ∙ sym q.10) in
+    let rf : release ≡ q.4 = flag_same _ _ (s.operands.3 ∙ sym q.11) in
+    cc (q.5)
+unique w h (Atomic op width rd rs1 rs2 acquire release) j s t =
+    let p : HasParts w (Atomic op width rd rs1 rs2 acquire release) = parts w h (Atomic op width rd rs1 rs2 acquire release) s in
+    let q = atomic_only w h p.0 (λ f. atomic_stores op (sym p.2 ∙ f)) j t in
+    let o : op ≡ q.0 = atomic_op_same _ _ (sym p.2 ∙ q.9) in
+    let v : width ≡ q.1 = width_same _ _ (sym p.1 ∙ q.8) in
+    let d : rd ≡ q.2 = register_same _ _ (s.operands.0 ∙ sym q.10) in
+    let r1 : rs1 ≡ q.3 = register_same _ _ (s.operands.1 ∙ sym q.11) in
+    let r2 : rs2 ≡ q.4 = register_same _ _ (s.operands.2 ∙ sym q.12) in
+    let af : acquire ≡ q.5 = flag_same _ _ (s.operands.3 ∙ sym q.13) in
+    let rf : release ≡ q.6 = flag_same _ _ (s.operands.4 ∙ sym q.14) in
+    cc (q.7)
 unique w h (System op) j s t =
     let p : HasParts w (System op) = parts w h (System op) s in
     let q = system_only w h (omega (arith, p, system_opcode op)) j t in
-    let o : op ≡ q.0 = system_same _ _ (sym p ∙ q.2) in
+    let o : op ≡ q.0 = system_op_same _ _ (sym p ∙ q.2) in
     cc (q.1)

@@ -1,66 +1,114 @@
 //! The canonical word of an instruction.
 //!
-//! Source: RISC-V Unprivileged ISA 20191213, chapters 2, 5 and 24; CMO 1.0.
+//! Source: RISC-V Unprivileged ISA 20191213, chapters 2, 3, 5, 8 and 24; CMO 1.0.
 
-ghost use Rattle.std.specs.Prelude.{◌≡◌, ◌+◌, ◌/◌, ◌%◌, ◌^◌, ◌<◌, ◌≤◌};
 ghost use Rattle.isa_table.specs.Columns.{HasColumns};
-ghost use Rattle.isa_table.specs.Operands.{set_bits};
-ghost use Rattle.isa_table.specs.Ranges.{FitsBits, IsChecked};
-ghost use Rattle.isa_table.specs.Table.{IsCanonical, store_funct3, immediate_opcode, immediate_funct3};
-ghost use Rattle.isa_table.specs.Table.{upper_opcode, cache_function, system_word};
+ghost use Rattle.isa_table.specs.Operands.{flag, set_bits};
+ghost use Rattle.isa_table.specs.Ranges.{FitsBits, HasShiftInRange, IsChecked, IsEven};
+ghost use Rattle.isa_table.specs.Table.{IsCanonical};
+ghost use Rattle.std.specs.Prelude.{◌≡◌, ◌+◌, ◌/◌, ◌%◌, ◌^◌, ◌<◌, ◌≤◌};
 ghost use Rattle.word_bits.specs.Numbers.{field as field_of, signed};
 
 use crate::access::AccessSet;
-use crate::instruction::{CacheOp, ImmediateOp, Instr, StoreOp, SystemOp, UpperOp};
+use crate::instruction::{
+    AtomicOp, AtomicWidth, BranchOp, CacheOp, ImmediateOp, Instr, LoadOp, RegisterOp, ShiftOp,
+    StoreOp, SystemOp, UpperOp,
+};
+use crate::keys;
 use crate::register::Reg;
 
 /// The canonical word of a checked instruction: the one that has zeros in the ignored fields.
+#[rattlefmt::skip]
 pub fn encode(instr: Instr) -> u32
     requires { IsChecked instr }
     ensures { IsCanonical result instr }
 {
     match instr {
-        Instr::Upper { op, rd, immediate } => encode_upper(op, rd, immediate),
-        Instr::Store {
-            op,
-            rs2,
-            rs1,
-            offset,
-        } => encode_store(op, rs2, rs1, offset),
-        Instr::Immediate {
-            op,
-            rd,
-            rs1,
-            immediate,
-        } => encode_immediate(op, rd, rs1, immediate),
-        Instr::Fence {
-            predecessor,
-            successor,
-        } => encode_fence(predecessor, successor),
-        Instr::Cache { op, rs1 } => encode_cache(op, rs1),
-        Instr::System { op } => encode_system(op),
+        Instr::Upper { op, rd, immediate } => upper(op, rd, immediate),
+        Instr::Jump { rd, distance } => jump(rd, distance),
+        Instr::JumpRegister { rd, rs1, offset } => jump_register(rd, rs1, offset),
+        Instr::Branch { op, rs1, rs2, distance } => branch(op, rs1, rs2, distance),
+        Instr::Load { op, rd, rs1, offset } => load(op, rd, rs1, offset),
+        Instr::Store { op, rs2, rs1, offset } => store(op, rs2, rs1, offset),
+        Instr::Immediate { op, rd, rs1, immediate: value } => immediate(op, rd, rs1, value),
+        Instr::Shift { op, rd, rs1, amount } => shift(op, rd, rs1, amount),
+        Instr::Register { op, rd, rs1, rs2 } => register(op, rd, rs1, rs2),
+        Instr::Fence { predecessor, successor } => fence(predecessor, successor),
+        Instr::FenceI => fence_i(),
+        Instr::Cache { op, rs1 } => cache(op, rs1),
+        Instr::LoadReserved { width, rd, rs1, acquire, release } =>
+            load_reserved(width, rd, rs1, acquire, release),
+        Instr::Atomic { op, width, rd, rs1, rs2, acquire, release } =>
+            atomic(op, width, rd, rs1, rs2, acquire, release),
+        Instr::System { op } => system(op),
     }
 }
 
 #[tactic(auto, using(crate::proofs::Masks::masked_7f))]
-fn encode_upper(op: UpperOp, rd: Reg, immediate: u32) -> u32
+fn upper(op: UpperOp, rd: Reg, immediate: u32) -> u32
     requires { immediate < 2 ^ 20 }
     ensures { IsCanonical result (Instr.Upper op rd immediate) }
 {
-    opcode_of_upper(op) + (u32::from(rd.number) << 7) + (immediate << 12)
+    keys::upper_opcode(op) + (u32::from(rd.number) << 7) + (immediate << 12)
 }
 
-fn opcode_of_upper(op: UpperOp) -> u32
-    ensures value { result ≡ upper_opcode op }
-    ensures below { result < 2 ^ 7 }
+#[tactic(auto, using(crate::proofs::Masks::masked_7f))]
+fn jump(rd: Reg, distance: i32) -> u32
+    requires fits { FitsBits 21 distance }
+    requires even { IsEven distance }
+    ensures { IsCanonical result (Instr.Jump rd distance) }
 {
-    match op {
-        UpperOp::Lui => 0x37,
-    }
+    let bits = low_bits(distance, 21);
+    let low = bits / 2 % 1024;
+    let middle = bits / 2048 % 2;
+    let high = bits / 4096 % 256;
+    let sign = bits / (1 << 20);
+    0x6f + (u32::from(rd.number) << 7) + (high << 12) + (middle << 20) + (low << 21) + (sign << 31)
 }
 
 #[tactic(auto, using(crate::proofs::Masks::masked_707f))]
-fn encode_store(op: StoreOp, rs2: Reg, rs1: Reg, offset: i32) -> u32
+fn jump_register(rd: Reg, rs1: Reg, offset: i32) -> u32
+    requires { FitsBits 12 offset }
+    ensures { IsCanonical result (Instr.JumpRegister rd rs1 offset) }
+{
+    join_upper(0x67, u32::from(rd.number), 0, rs1, low_bits(offset, 12))
+}
+
+#[tactic(auto, using(crate::proofs::Masks::masked_707f))]
+fn branch(op: BranchOp, rs1: Reg, rs2: Reg, distance: i32) -> u32
+    requires fits { FitsBits 13 distance }
+    requires even { IsEven distance }
+    ensures { IsCanonical result (Instr.Branch op rs1 rs2 distance) }
+{
+    let bits = low_bits(distance, 13);
+    let low = bits / 2 % 16 * 2 + bits / 2048 % 2;
+    let high = bits / 32 % 64 + bits / 4096 * 64;
+    join(
+        0x63,
+        low,
+        keys::branch_funct3(op),
+        rs1,
+        u32::from(rs2.number),
+        high,
+    )
+}
+
+#[tactic(auto, using(crate::proofs::Masks::masked_707f))]
+fn load(op: LoadOp, rd: Reg, rs1: Reg, offset: i32) -> u32
+    requires { FitsBits 12 offset }
+    ensures { IsCanonical result (Instr.Load op rd rs1 offset) }
+{
+    join_upper(
+        0x03,
+        u32::from(rd.number),
+        keys::load_funct3(op),
+        rs1,
+        low_bits(offset, 12),
+    )
+}
+
+#[tactic(auto, using(crate::proofs::Masks::masked_707f))]
+fn store(op: StoreOp, rs2: Reg, rs1: Reg, offset: i32) -> u32
     requires { FitsBits 12 offset }
     ensures { IsCanonical result (Instr.Store op rs2 rs1 offset) }
 {
@@ -68,57 +116,59 @@ fn encode_store(op: StoreOp, rs2: Reg, rs1: Reg, offset: i32) -> u32
     join(
         0x23,
         bits % 32,
-        funct3_of_store(op),
+        keys::store_funct3(op),
         rs1,
         u32::from(rs2.number),
         bits / 32,
     )
 }
 
-fn funct3_of_store(op: StoreOp) -> u32
-    ensures value { result ≡ store_funct3 op }
-    ensures below { result < 2 ^ 3 }
-{
-    match op {
-        StoreOp::Sd => 3,
-    }
-}
-
 #[tactic(auto, using(crate::proofs::Masks::masked_707f))]
-fn encode_immediate(op: ImmediateOp, rd: Reg, rs1: Reg, immediate: i32) -> u32
-    requires { FitsBits 12 immediate }
-    ensures { IsCanonical result (Instr.Immediate op rd rs1 immediate) }
+fn immediate(op: ImmediateOp, rd: Reg, rs1: Reg, value: i32) -> u32
+    requires { FitsBits 12 value }
+    ensures { IsCanonical result (Instr.Immediate op rd rs1 value) }
 {
-    let bits = low_bits(immediate, 12);
+    let bits = low_bits(value, 12);
     join_upper(
-        opcode_of_immediate(op),
+        keys::immediate_opcode(op),
         u32::from(rd.number),
-        funct3_of_immediate(op),
+        keys::immediate_funct3(op),
         rs1,
         bits,
     )
 }
 
-fn opcode_of_immediate(op: ImmediateOp) -> u32
-    ensures value { result ≡ immediate_opcode op }
-    ensures below { result < 2 ^ 7 }
+#[tactic(auto, using(crate::proofs::Shifts::shift_masked, crate::proofs::Shifts::shift_amount))]
+fn shift(op: ShiftOp, rd: Reg, rs1: Reg, amount: u32) -> u32
+    requires { HasShiftInRange (Instr.Shift op rd rs1 amount) }
+    ensures { IsCanonical result (Instr.Shift op rd rs1 amount) }
 {
-    match op {
-        ImmediateOp::Addi => 0x13,
-    }
+    let upper = keys::shift_funct6(op) * 64 + amount;
+    join_upper(
+        keys::shift_opcode(op),
+        u32::from(rd.number),
+        keys::shift_funct3(op),
+        rs1,
+        upper,
+    )
 }
 
-fn funct3_of_immediate(op: ImmediateOp) -> u32
-    ensures value { result ≡ immediate_funct3 op }
-    ensures below { result < 2 ^ 3 }
+#[tactic(auto, using(crate::proofs::Masks::masked_fe00707f))]
+fn register(op: RegisterOp, rd: Reg, rs1: Reg, rs2: Reg) -> u32
+    ensures { IsCanonical result (Instr.Register op rd rs1 rs2) }
 {
-    match op {
-        ImmediateOp::Addi => 0,
-    }
+    join(
+        keys::register_opcode(op),
+        u32::from(rd.number),
+        keys::register_funct3(op),
+        rs1,
+        u32::from(rs2.number),
+        keys::register_funct7(op),
+    )
 }
 
 #[tactic(auto, using(crate::proofs::Masks::masked_707f))]
-fn encode_fence(predecessor: AccessSet, successor: AccessSet) -> u32
+fn fence(predecessor: AccessSet, successor: AccessSet) -> u32
     ensures { IsCanonical result (Instr.Fence predecessor successor) }
 {
     let sets = bits_of_set(predecessor) * 16 + bits_of_set(successor);
@@ -135,29 +185,72 @@ fn bits_of_set(set: AccessSet) -> u32
         + u32::from(set.memory_writes)
 }
 
-#[tactic(auto, using(crate::proofs::Masks::masked_fff07fff))]
-fn encode_cache(op: CacheOp, rs1: Reg) -> u32
-    ensures { IsCanonical result (Instr.Cache op rs1) }
+#[tactic(auto, using(crate::proofs::Masks::masked_707f))]
+fn fence_i() -> u32
+    ensures { IsCanonical result Instr.FenceI }
 {
-    join_upper(0x0f, 0, 2, rs1, function_of_cache(op))
+    0x0000_100f
 }
 
-fn function_of_cache(op: CacheOp) -> u32
-    ensures value { result ≡ cache_function op }
-    ensures below { result < 2 ^ 12 }
+#[tactic(auto, using(crate::proofs::Masks::masked_fff07fff))]
+fn cache(op: CacheOp, rs1: Reg) -> u32
+    ensures { IsCanonical result (Instr.Cache op rs1) }
 {
-    match op {
-        CacheOp::Clean => 1,
-    }
+    join_upper(0x0f, 0, 2, rs1, keys::cache_function(op))
+}
+
+#[tactic(auto, using(crate::proofs::Masks::masked_f9f0707f))]
+fn load_reserved(width: AtomicWidth, rd: Reg, rs1: Reg, acquire: bool, release: bool) -> u32
+    ensures { IsCanonical result (Instr.LoadReserved width rd rs1 acquire release) }
+{
+    let funct7 = 0b00010 * 4 + order_bits(acquire, release);
+    join(
+        0x2f,
+        u32::from(rd.number),
+        keys::width_funct3(width),
+        rs1,
+        0,
+        funct7,
+    )
+}
+
+#[tactic(auto, using(crate::proofs::Masks::masked_f800707f))]
+fn atomic(
+    op: AtomicOp,
+    width: AtomicWidth,
+    rd: Reg,
+    rs1: Reg,
+    rs2: Reg,
+    acquire: bool,
+    release: bool,
+) -> u32
+    ensures { IsCanonical result (Instr.Atomic op width rd rs1 rs2 acquire release) }
+{
+    let funct7 = keys::atomic_funct5(op) * 4 + order_bits(acquire, release);
+    join(
+        0x2f,
+        u32::from(rd.number),
+        keys::width_funct3(width),
+        rs1,
+        u32::from(rs2.number),
+        funct7,
+    )
+}
+
+/// The bits aq and rl of an atomic instruction.
+fn order_bits(acquire: bool, release: bool) -> u32
+    ensures acquire { result / 2 ≡ flag acquire }
+    ensures release { result % 2 ≡ flag release }
+    ensures below { result < 4 }
+{
+    u32::from(acquire) * 2 + u32::from(release)
 }
 
 #[tactic(auto, using(crate::proofs::Masks::masked_ffffffff))]
-fn encode_system(op: SystemOp) -> u32
+fn system(op: SystemOp) -> u32
     ensures { IsCanonical result (Instr.System op) }
 {
-    match op {
-        SystemOp::Ecall => 0x0000_0073,
-    }
+    keys::system_word(op)
 }
 
 /// The low `n` bits of the two's complement form of `z`.

@@ -10,6 +10,7 @@ mod checking;
 mod encoding;
 mod fault;
 mod instruction;
+mod keys;
 mod register;
 #[cfg(test)]
 mod tests;
@@ -17,5 +18,8 @@ mod tests;
 pub use access::AccessSet;
 pub use encoding::encode;
 pub use fault::FieldFault;
-pub use instruction::{CacheOp, ImmediateOp, Instr, StoreOp, SystemOp, UpperOp};
+pub use instruction::{
+    AtomicOp, AtomicWidth, BranchOp, CacheOp, ImmediateOp, Instr, LoadOp, RegisterOp, ShiftOp,
+    StoreOp, SystemOp, UpperOp,
+};
 pub use register::Reg;

@@ -1,6 +1,8 @@
-//! Words from the manuals' encodings, and operands at and past the ends of their ranges.
+//! Operands at and past the ends of their ranges, and words of a stock assembler (GNU as 2.40).
 
-use crate::{CacheOp, FieldFault, ImmediateOp, Instr, Reg, StoreOp, UpperOp, encode};
+use crate::{
+    BranchOp, CacheOp, FieldFault, ImmediateOp, Instr, Reg, ShiftOp, StoreOp, UpperOp, encode,
+};
 use std::test::Fail;
 
 #[test]
@@ -44,4 +46,53 @@ fn immediates_out_of_range_are_refused(rt: HostRuntime) {
     assert_eq!(rt; addi(-2048).check(), Ok(addi(-2048)));
     assert_eq!(rt; addi(2048).check(), Err(FieldFault::ImmediateOutOfRange));
     assert_eq!(rt; addi(-2049).check(), Err(FieldFault::ImmediateOutOfRange));
+}
+
+#[test]
+fn distances_are_even_and_in_range(rt: HostRuntime) {
+    let zero = Reg { number: 0 };
+    let jal = |distance: i32| -> Instr { Instr::Jump { rd: zero, distance } };
+    let beq = |distance: i32| -> Instr {
+        Instr::Branch {
+            op: BranchOp::Beq,
+            rs1: zero,
+            rs2: zero,
+            distance,
+        }
+    };
+    assert_eq!(rt; jal(1048574).check(), Ok(jal(1048574)));
+    assert_eq!(rt; jal(1048575).check(), Err(FieldFault::OddOffset));
+    assert_eq!(rt; jal(1048577).check(), Err(FieldFault::ImmediateOutOfRange));
+    assert_eq!(rt; beq(-4096).check(), Ok(beq(-4096)));
+    assert_eq!(rt; beq(-4095).check(), Err(FieldFault::OddOffset));
+    assert_eq!(rt; beq(-4097).check(), Err(FieldFault::ImmediateOutOfRange));
+}
+
+#[test]
+fn shifts_are_in_range(rt: HostRuntime) {
+    let zero = Reg { number: 0 };
+    let shift = |op: ShiftOp, amount: u32| -> Instr {
+        Instr::Shift {
+            op,
+            rd: zero,
+            rs1: zero,
+            amount,
+        }
+    };
+    assert_eq!(rt;
+        shift(ShiftOp::Slli, 63).check(),
+        Ok(shift(ShiftOp::Slli, 63))
+    );
+    assert_eq!(rt;
+        shift(ShiftOp::Slli, 64).check(),
+        Err(FieldFault::ShiftOutOfRange)
+    );
+    assert_eq!(rt;
+        shift(ShiftOp::Slliw, 31).check(),
+        Ok(shift(ShiftOp::Slliw, 31))
+    );
+    assert_eq!(rt;
+        shift(ShiftOp::Slliw, 32).check(),
+        Err(FieldFault::ShiftOutOfRange)
+    );
 }

@@ -3,21 +3,24 @@ use Rattle.std.proofs.Common.{◌≡◌, ◌≢◌, ℕ, ◌+◌, ◌-◌, ◌*�
 use Rattle.std.proofs.lemmas.List.{append-nil, get_or_past}
 use Rattle.std.proofs.lemmas.Option.{slice_get-get_or}
 use Rattle.std.proofs.lemmas.Bool.{cases_eq, le-leb, lt-leb}
-use Rattle.hart.specs.declared.need.Request.TheVariants.{Store, Cbo}
-use Rattle.hart.specs.declared.need.Reply.TheVariants.{Done, Fault}
+use Rattle.hart.specs.declared.need.Request.{Request}
+use Rattle.hart.specs.declared.need.Request.TheVariants.{Load, Store, Cbo}
+use Rattle.hart.specs.declared.need.Reply.TheVariants.{Value, Done, Fault}
 use Rattle.hart.specs.declared.need.AccessFault.TheVariants.{Misaligned, Outside}
 use Rattle.isa_table.specs.declared.instruction.CacheOp.{CacheOp}
 use Rattle.line_memory.specs.Lines.{AreLines, line_at, line_bytes}
-use Rattle.line_memory.specs.Memory.{IsWidth, Memory, fault_of, stored_to}
+use Rattle.line_memory.specs.Memory.{IsWidth, Memory, fault_of, loaded_from, stored_to}
 use Rattle.line_memory.specs.Regions.{RamView, flat, ram_bytes}
 use Rattle.line_memory.specs.declared.TheConstants.{PERSISTENT_BASE}
 use Rattle.line_memory.specs.declared.MemFault.{MemFault}
 use Rattle.line_memory.specs.declared.MemFault.TheVariants as faults
 use Rattle.line_memory.proofs.Accesses.{fault_misaligned}
-use Rattle.line_memory.proofs.Flat.{fault_line, fault_past_lines, fault_persistent, fault_ram, flat_persistent, flat_ram, past_lines, store_persistent, store_ram}
+use Rattle.line_memory.proofs.Flat.{fault_line, fault_past_lines, fault_persistent, fault_ram, flat_persistent, flat_ram, load_persistent, load_ram, past_lines, store_persistent, store_ram}
 use Rattle.store_trace.specs.declared.event.Event.{Event}
 use Rattle.store_trace.specs.declared.event.Event.TheVariants as events
-use Rattle.machine.specs.Served.{access_fault, if_persistent}
+use Rattle.machine.specs.Refusals.{IsEventFault, RefusesRequest}
+use Rattle.machine.specs.Served.{IsUnserved, access_fault, if_persistent}
+use Rattle.machine.specs.declared.fault.StepFault.{StepFault}
 use Rattle.machine.specs.Stands.{Serves, SharedView, memory_of}
 
 -- an event of persistent memory
@@ -27,6 +30,13 @@ in_persistent address offset event e = rw (le-leb PERSISTENT_BASE address (omega
 below_persistent : (address : ℕ) (event : Event) → address < PERSISTENT_BASE → if_persistent address event ≡ []
 below_persistent address event low = rw (lt-leb PERSISTENT_BASE address low) refl
 
+-- a store that the medium can make
+can_store : (shared : SharedView) (address offset width : ℕ)
+    → AreLines shared.lines → IsWidth width → address ≡ PERSISTENT_BASE + offset → offset % width ≡ 0 → offset < 64 * length shared.lines
+    → fault_of (memory_of shared) address width ≡ None
+can_store shared address offset width whole w place aligned there =
+    rw place (fault_persistent (ram_bytes shared.ram) (line_bytes shared.lines) offset width w ∙ fault_line shared.lines whole offset width w aligned there)
+
 -- a store that the medium makes
 pub stored_in_lines : (old new : SharedView) (h address offset width value : ℕ)
     → AreLines old.lines → IsWidth width → address ≡ PERSISTENT_BASE + offset → offset % width ≡ 0 → offset < 64 * length old.lines
@@ -35,10 +45,7 @@ pub stored_in_lines : (old new : SharedView) (h address offset width value : ℕ
     → new.trace ≡ old.trace ++ events.Store h (offset / 64) (offset % 64) width value ∷ []
     → Serves old new h (Store address width value) Done
 stored_in_lines old new h address offset width value whole w place aligned there ram bytes lines trace = record {
-  reply =
-      let none : fault_of (memory_of old) address width ≡ None =
-      rw place (fault_persistent (ram_bytes old.ram) (line_bytes old.lines) offset width w ∙ fault_line old.lines whole offset width w aligned there) in
-      rw none refl;
+  reply = rw (can_store old address offset width whole w place aligned there) refl;
   memory = rw (ram, bytes, place) (sym (store_persistent (ram_bytes old.ram) (line_bytes old.lines) offset width value));
   trace =
       let line : (address - PERSISTENT_BASE) / 64 ≡ offset / 64 = rw place (omega arith) in
@@ -196,6 +203,23 @@ noted_store old noted new h address offset width value whole w place aligned the
     (lines ∙ ap (λ (s : SharedView). length s.lines) e)
     (trace ∙ ap (λ (s : SharedView). s.trace) e)
 
+-- a store or an operation of persistent memory whose event the trace doesn't take
+pub store_refused : (shared : SharedView) (h address offset width value : ℕ) (fault : StepFault)
+    → AreLines shared.lines → IsWidth width → address ≡ PERSISTENT_BASE + offset → offset % width ≡ 0 → offset < 64 * length shared.lines
+    → IsEventFault shared.trace fault → RefusesRequest shared h (Store address width value) fault
+store_refused shared h address offset width value fault whole w place aligned there reason = record {
+  event = rw (can_store shared address offset width whole w place aligned there) (ap (λ (l : List Event). length l) (in_persistent address offset _ place));
+  reason = reason;
+}
+
+pub clean_refused : (shared : SharedView) (op : CacheOp) (h address offset : ℕ) (fault : StepFault)
+    → AreLines shared.lines → address ≡ PERSISTENT_BASE + offset → offset < 64 * length shared.lines
+    → IsEventFault shared.trace fault → RefusesRequest shared h (Cbo op address) fault
+clean_refused shared op h address offset fault whole place there reason = record {
+  event = rw (byte_there shared address offset whole place there) (ap (λ (l : List Event). length l) (in_persistent address offset _ place));
+  reason = reason;
+}
+
 pub no_byte_past : (ram : RamView) (lines : List (List ℕ)) (address : ℕ) → PERSISTENT_BASE ≤ address
     → 64 * length lines ≤ address - PERSISTENT_BASE → flat (ram_bytes ram) (line_bytes lines) address ≡ None
 no_byte_past ram lines address above past =
@@ -205,3 +229,73 @@ no_byte_past ram lines address above past =
 pub byte_past : (ram : RamView) (lines : List (List ℕ)) (address offset : ℕ) → address ≡ PERSISTENT_BASE + offset
     → flat (ram_bytes ram) (line_bytes lines) address ≡ line_bytes lines offset
 byte_past ram lines address offset place = rw place (flat_persistent (ram_bytes ram) (line_bytes lines) offset)
+
+-- a load that is made, in text or data and in the lines of persistent memory
+pub loaded_in_ram : (shared : SharedView) (h address width value : ℕ)
+    → IsWidth width → address < PERSISTENT_BASE → fault_of (ram_bytes shared.ram) address width ≡ None
+    → loaded_from (ram_bytes shared.ram) address width ≡ Some value
+    → Serves shared shared h (Load address width) (Value value)
+loaded_in_ram shared h address width value w low none found =
+    let fits : address + width ≤ PERSISTENT_BASE = ends_below address width w (aligned_of (ram_bytes shared.ram) address width none) low in
+    record {
+      reply = rw (ram_fault shared address width w low ∙ none, load_ram (ram_bytes shared.ram) (line_bytes shared.lines) address width fits ∙ found) refl;
+      memory = refl;
+      trace = sym (append-nil shared.trace);
+      lines = refl
+    }
+
+pub loaded_in_lines : (shared : SharedView) (h address offset width value : ℕ)
+    → AreLines shared.lines → IsWidth width → address ≡ PERSISTENT_BASE + offset → offset % width ≡ 0 → offset < 64 * length shared.lines
+    → loaded_from (line_bytes shared.lines) offset width ≡ Some value
+    → Serves shared shared h (Load address width) (Value value)
+loaded_in_lines shared h address offset width value whole w place aligned there found =
+    let none : fault_of (memory_of shared) address width ≡ None =
+        lines_fault shared address offset width w place ∙ fault_line shared.lines whole offset width w aligned there in
+    let same : loaded_from (memory_of shared) address width ≡ Some value =
+        rw place (load_persistent (ram_bytes shared.ram) (line_bytes shared.lines) offset width ∙ found) in
+    record {
+      reply = rw (none, same) refl;
+      memory = refl;
+      trace = sym (append-nil shared.trace);
+      lines = refl
+    }
+
+-- a load that meets a fault
+refused_load : (shared : SharedView) (h address width : ℕ) (fault : MemFault)
+    → fault_of (memory_of shared) address width ≡ Some fault
+    → Serves shared shared h (Load address width) (Fault (access_fault fault))
+refused_load shared h address width fault e = record {
+    reply = rw e refl;
+    memory = refl;
+    trace = sym (append-nil shared.trace);
+    lines = refl
+  }
+
+pub load_refused_in_ram : (shared : SharedView) (h address width : ℕ) (fault : MemFault)
+    → IsWidth width → address < PERSISTENT_BASE → fault_of (ram_bytes shared.ram) address width ≡ Some fault
+    → Serves shared shared h (Load address width) (Fault (access_fault fault))
+load_refused_in_ram shared h address width fault w low e =
+    refused_load shared h address width fault (ram_fault shared address width w low ∙ e)
+
+pub load_misaligned : (shared : SharedView) (h address offset width : ℕ) → IsWidth width
+    → address ≡ PERSISTENT_BASE + offset → offset % width ≢ 0
+    → Serves shared shared h (Load address width) (Fault Misaligned)
+load_misaligned shared h address offset width w place odd =
+    refused_load shared h address width faults.Misaligned
+    (lines_fault shared address offset width w place ∙ fault_misaligned (line_bytes shared.lines) offset width odd)
+
+pub load_outside : (shared : SharedView) (h address offset width : ℕ) → IsWidth width
+    → address ≡ PERSISTENT_BASE + offset → offset % width ≡ 0 → 64 * length shared.lines ≤ offset
+    → Serves shared shared h (Load address width) (Fault Outside)
+load_outside shared h address offset width w place aligned past =
+    refused_load shared h address width faults.Outside
+    (lines_fault shared address offset width w place ∙ fault_past_lines shared.lines offset width w aligned past)
+
+pub refused_whole : (shared : SharedView) (h : ℕ) (request : Request) → IsUnserved h request
+    → Serves shared shared h request (Fault Outside)
+refused_whole shared h request unserved = record {
+    reply = sym (unserved.reply (memory_of shared));
+    memory = sym (unserved.memory (memory_of shared));
+    trace = rw unserved.events (sym (append-nil shared.trace));
+    lines = refl
+  }

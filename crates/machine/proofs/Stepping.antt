@@ -49,7 +49,7 @@ running_steps : (text : List ℕ) (c d : Config) (h : ℕ) (s : HartState) (stat
     → Executes c h s (fetched text s.pc) d → HartSteps text c h s status d
 running_steps text c d h s status e x = rw e x
 
-hart_steps : (text : List ℕ) (c d : Config) (h : ℕ) (s : HartState) → slice_get c.harts h ≡ Some s → s.status ≡ Running
+pub hart_steps : (text : List ℕ) (c d : Config) (h : ℕ) (s : HartState) → slice_get c.harts h ≡ Some s → s.status ≡ Running
     → Executes c h s (fetched text s.pc) d → StepsTo text c (Hart h) d
 hart_steps text c d h s there running x = rw there (running_steps text c d h s s.status running x)
 

@@ -1,6 +1,6 @@
 -- Runs of several steps.
-use Rattle.std.proofs.Common.{◌≡◌, ℕ, zero, suc, ◌+◌, ◌-◌, ◌<◌, ◌≤◌, List, [], ◌∷◌, ◌++◌, length, take, replicate, Option, Some, None, true, slice_get, get_or, refl, ap, ◌∙◌, arith}
-use Rattle.std.proofs.lemmas.List.{append-nil, length-replicate, replicate_more, replicate-append-replicate, take-replicate, take_more}
+use Rattle.std.proofs.Common.{◌≡◌, ℕ, zero, suc, ◌+◌, ◌-◌, ◌<◌, ◌≤◌, List, [], ◌∷◌, ◌++◌, length, take, replicate, Option, Some, None, true, slice_get, get_or, refl, ap, ◌∙◌, arith, lit<}
+use Rattle.std.proofs.lemmas.List.{append-nil, get_or-replicate, length-replicate, replicate_more, replicate-append-replicate, take-replicate, take_more}
 use Rattle.std.proofs.lemmas.Grind.{flat_map-append}
 use Rattle.std.proofs.lemmas.Option.{slice_get-get_or}
 use Rattle.hart.specs.declared.state.HartState.{HartState}
@@ -8,11 +8,13 @@ use Rattle.hart.specs.declared.state.Status.{Status}
 use Rattle.hart.specs.declared.state.Status.TheVariants.{Running, Exited, Trapped}
 use Rattle.machine.specs.declared.schedule.Item.{Item}
 use Rattle.machine.specs.declared.schedule.Step.{Step}
-use Rattle.machine.specs.declared.schedule.Step.TheVariants.{Hart}
+use Rattle.machine.specs.declared.schedule.Step.TheVariants.{Hart, Evict}
 use Rattle.machine.specs.Run.{Config, HartSteps, HartStepsIfThere, RunsTo, all_steps, steps_of}
 use Rattle.machine.specs.Stands.{MachineView, Runs}
 use Rattle.machine.specs.declared.fault.RunStop.{RunStop}
-use Rattle.machine.specs.Stops.{StopsAt, has_stopped, is_stopped}
+use Rattle.machine.specs.Stops.{StopsAfter, StopsAt, has_stopped, is_stopped}
+use Rattle.machine.specs.Refusals.{Refuses}
+use Rattle.machine.specs.declared.fault.StepFault.{StepFault}
 
 -- no step changes nothing
 pub runs_none : (m : MachineView) → Runs m m []
@@ -40,7 +42,7 @@ rests text c h s (Exited code) e = refl
 rests text c h s (Trapped trap) e = refl
 
 rests_if_there : (text : List ℕ) (c : Config) (h : ℕ) (o : Option HartState) → is_stopped o ≡ true → HartStepsIfThere text c h o c
-rests_if_there text c h None e = refl
+rests_if_there text c h None e = cc
 rests_if_there text c h (Some s) e = rests text c h s s.status e
 
 all_rest : (text : List ℕ) (c : Config) (h n : ℕ) → is_stopped (slice_get c.harts h) ≡ true → RunsTo text c (replicate n (Hart h)) c
@@ -68,10 +70,23 @@ hart_rests old new h done count fits a stopped =
     rw (← steps) (runs_more old new new (replicate done (Hart h)) (replicate (count - done) (Hart h)) a (stopped_runs new h (count - done) stopped))
 
 -- a hart whose next step is refused
-pub hart_stops : (old new : MachineView) (h done count : ℕ) → done < count → Runs old new (replicate done (Hart h))
-    → (done < length (replicate count (Hart h))) × Runs old new (take done (replicate count (Hart h)))
-hart_stops old new h done count fits runs =
-    (rw length-replicate fits, let less : done ≤ count = omega arith in rw take-replicate runs)
+pub hart_stops : (old middle new : MachineView) (h done count : ℕ) (fault : StepFault) → done < count
+    → Runs old middle (replicate done (Hart h)) → new ≡ middle → Refuses middle (Hart h) fault
+    → StopsAfter old new (replicate count (Hart h)) done fault
+hart_stops old middle new h done count fault fits runs e refused =
+    let less : done ≤ count = omega arith in
+    let next : slice_get (replicate count (Hart h)) done ≡ Some (Hart h) = slice_get-get_or (replicate count (Hart h)) done (Hart h) (rw length-replicate fits)
+    ∙ ap (λ (x : Step). Some x) (get_or-replicate count done (Hart h) (Hart h) fits) in
+    rw e (record {
+      there = rw length-replicate fits;
+      runs = rw take-replicate runs;
+      refused = rw next refused;
+    })
+
+-- an eviction that is refused
+pub eviction_stops : (old new : MachineView) (line : ℕ) (fault : StepFault) → new ≡ old → Refuses old (Evict line) fault
+    → StopsAfter old new (Evict line ∷ []) 0 fault
+eviction_stops old new line fault e refused = rw e (record { there = lit< tt; runs = runs_none old; refused = refused })
 
 -- a run of the items so far, and one item more
 pub items_run_more : (old middle new : MachineView) (items : List Item) (i : ℕ) (d : Item) → i < length items
@@ -87,12 +102,13 @@ items_run_more old middle new items i d fits a b =
 
 pub item_stops : (old middle new : MachineView) (items : List Item) (stop : RunStop) (d : Item) → stop.item < length items
     → Runs old middle (all_steps (take stop.item items))
-    → (stop.steps < length (steps_of (get_or items stop.item d))) × Runs middle new (take stop.steps (steps_of (get_or items stop.item d)))
+    → StopsAfter middle new (steps_of (get_or items stop.item d)) stop.steps stop.fault
     → StopsAt old new items stop
 item_stops old middle new items stop d fits a b =
     let there : slice_get items stop.item ≡ Some (get_or items stop.item d) = slice_get-get_or items stop.item d fits in
     record {
       item = fits;
-      steps = rw there b.0;
-      runs = rw there (runs_more old middle new (all_steps (take stop.item items)) _ a b.1);
+      steps = rw there b.there;
+      runs = rw there (runs_more old middle new (all_steps (take stop.item items)) _ a b.runs);
+      refused = rw there b.refused;
     }

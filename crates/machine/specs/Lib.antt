@@ -1,5 +1,6 @@
 pub mod Faults
 pub mod Outcomes
+pub mod Refusals
 pub mod Served
 pub mod Run
 pub mod Stands

@@ -73,14 +73,14 @@ Meets c h s word (Ask request) d = (i : Instr) × IsSpelledBy word i × (d ≡ a
 abbrev pub Executes : Config → ℕ → HartState → Option ℕ → Config → Type 0
 Executes c h s word d = (need : Need) × Needs s word need × Meets c h s word need d
 
--- a hart that runs executes; one that stopped changes nothing
+-- a hart that runs executes; one that stopped changes nothing; one that is not there makes no step
 abbrev pub HartSteps : List ℕ → Config → ℕ → HartState → Status → Config → Type 0
 HartSteps text c h s Running d = Executes c h s (fetched text s.pc) d
 HartSteps text c h s (Exited code) d = d ≡ c
 HartSteps text c h s (Trapped trap) d = d ≡ c
 
 abbrev pub HartStepsIfThere : List ℕ → Config → ℕ → Option HartState → Config → Type 0
-HartStepsIfThere text c h None d = d ≡ c
+HartStepsIfThere text c h None d = ⊥
 HartStepsIfThere text c h (Some s) d = HartSteps text c h s s.status d
 
 -- one step of a schedule from c to d: an eviction changes neither harts nor flat memory, and joins the history

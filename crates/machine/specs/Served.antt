@@ -2,16 +2,16 @@
 -- Source: RISC-V Unprivileged ISA 20191213, chapter 2 ("Load and Store Instructions"); RISC-V Cache Management
 -- Operations 1.0; which steps make events is this project's.
 use Rattle.std.specs.Prelude.{◌≡◌, ℕ, ◌-◌, ◌/◌, ◌%◌, List, [], ◌∷◌, ◌++◌, Option, Some, None, is_some, nat_le, if◌then◌else◌}
-use Rattle.line_memory.specs.Memory.{Memory, fault_of, stored_to}
+use Rattle.line_memory.specs.Memory.{Memory, fault_of, loaded_from, stored_to}
 use Rattle.line_memory.specs.declared.MemFault.{MemFault}
 use Rattle.line_memory.specs.declared.MemFault.TheVariants as faults
 use Rattle.line_memory.specs.declared.TheConstants.{PERSISTENT_BASE}
 use Rattle.store_trace.specs.declared.event.Event.{Event}
 use Rattle.store_trace.specs.declared.event.Event.TheVariants as events
 use Rattle.hart.specs.declared.need.Request.{Request}
-use Rattle.hart.specs.declared.need.Request.TheVariants.{Store, Cbo, Fence, Begin, End}
+use Rattle.hart.specs.declared.need.Request.TheVariants.{Load, Store, Lr, Sc, Amo, Cbo, Fence, FenceI, Begin, End}
 use Rattle.hart.specs.declared.need.Reply.{Reply}
-use Rattle.hart.specs.declared.need.Reply.TheVariants.{Done, Fault}
+use Rattle.hart.specs.declared.need.Reply.TheVariants.{Value, Done, Fault}
 use Rattle.hart.specs.declared.need.AccessFault.{AccessFault}
 use Rattle.hart.specs.declared.need.AccessFault.TheVariants.{Misaligned, Outside}
 use Rattle.machine.specs.declared.history.Entry.{Entry}
@@ -33,9 +33,20 @@ abbrev pub done_unless : Option MemFault → Reply
 done_unless None = Done
 done_unless (Some fault) = Fault (access_fault fault)
 
--- the reply to a request. A cache-block operation is never misaligned
+-- the value of an access that can be made
+abbrev pub value_unless : Option MemFault → Option ℕ → Reply
+value_unless (Some fault) value = Fault (access_fault fault)
+value_unless None (Some value) = Value value
+value_unless None None = Fault Outside
+
+-- the reply to a request. A cache-block operation is never misaligned; memory takes no atomic access and renews no text yet
 abbrev pub replied : Memory → Request → Reply
+replied memory (Load address width) = value_unless (fault_of memory address width) (loaded_from memory address width)
 replied memory (Store address width value) = done_unless (fault_of memory address width)
+replied memory (Lr address width) = Fault Outside
+replied memory (Sc address width value) = Fault Outside
+replied memory (Amo op address width operand) = Fault Outside
+replied memory FenceI = Fault Outside
 replied memory (Cbo op address) = if is_some (memory address) then Done else Fault Outside
 replied memory Fence = Done
 replied memory (Begin op) = Done
@@ -81,3 +92,9 @@ pub record IsMark (h : ℕ) (request : Request) (made : Event) : Type 0 where
   pub reply : (memory : Memory) → replied memory request ≡ Done
   pub memory : (memory : Memory) → memory_after memory request Done ≡ memory
   pub event : events_of h request Done ≡ made ∷ []
+
+-- the request is one that memory doesn't serve, and it changes nothing
+pub record IsUnserved (h : ℕ) (request : Request) : Type 0 where
+  pub reply : (memory : Memory) → replied memory request ≡ Fault Outside
+  pub memory : (memory : Memory) → memory_after memory request (Fault Outside) ≡ memory
+  pub events : events_of h request (Fault Outside) ≡ []

@@ -3,6 +3,7 @@
 
 mod fault;
 mod history;
+mod laws;
 mod machine;
 mod running;
 mod schedule;
@@ -10,6 +11,10 @@ mod shared;
 
 pub use fault::{RunStop, StepFault};
 pub use history::Entry;
+pub use laws::{refusal_is_determined, run_is_determined};
 pub use machine::{Machine, Outcome};
 pub use schedule::{Item, Schedule, Step};
 pub use shared::Shared;
+
+#[cfg(test)]
+mod tests;

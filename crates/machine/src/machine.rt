@@ -6,7 +6,8 @@ ghost use Rattle.hart.specs.Needs.{Needs};
 ghost use Rattle.hart.specs.Requests.{IsRequest};
 ghost use Rattle.std.specs.List.{range_with_len};
 ghost use Rattle.word_bits.specs.Bytes.{loaded};
-ghost use Rattle.machine.specs.Outcomes.{outcome_after, outcome_of};
+ghost use Rattle.machine.specs.Outcomes.{MakesEvent, outcome_after, outcome_of};
+ghost use Rattle.machine.specs.Refusals.{LacksHart, LacksLine, Refuses, RefusesRequest};
 ghost use Rattle.machine.specs.Run.{fetched as fetched_from, started};
 ghost use Rattle.machine.specs.Stands.{Answers, IsRunning, NeedsAt, Runs, Stands, memory_of};
 
@@ -44,13 +45,13 @@ pub struct Machine {
 
 impl Model for Machine {
     ghost use Rattle.machine.specs.Stands.{MachineView};
-    ghost use Rattle.std.specs.Prelude.{◌≤◌, ◌<◌, length};
+    ghost use Rattle.std.specs.Prelude.{◌≤◌, length};
 
     ghost Value = { MachineView };
 
     ghost view = { λ m. record { text = m.program.text; harts = m.harts.items; shared = m.shared } };
 
-    ghost invariant = { λ m. length m.harts.items ≤ 8 };
+    ghost invariant = { λ m. (length m.harts.items ≤ 8) × (length m.shared.trace ≤ 65536) };
 }
 
 impl Machine {
@@ -83,7 +84,13 @@ impl Machine {
     pub fn step(&mut self, step: Step) -> Result<Outcome, StepFault>
         ensures ok { IfOk result (λ outcome. outcome ≡ outcome_after self.old.harts self.new.harts step) }
         ensures runs { OnOk result (Runs self.old self.new (step ∷ [])) }
+        ensures limit { length self.new.shared.trace ≤ 65536 }
         ensures err { OnErr result (self.new ≡ self.old) }
+        ensures refused { IfErr result (Refuses self.old step) }
+        ensures no_hart { (result ≡ Err StepFault.NoSuchHart) ↔ LacksHart self.old step }
+        ensures no_line { (result ≡ Err StepFault.NoSuchLine) ↔ LacksLine self.old step }
+        ensures full { (result ≡ Err StepFault.TraceFull)
+            ↔ (MakesEvent self.old step × (length self.old.shared.trace ≡ 65536)) }
     {
         match step {
             Step::Hart(hart) => self.step_hart(hart),
@@ -125,7 +132,8 @@ impl Machine {
 
     /// The events so far, the oldest first.
     pub fn events(&self) -> &[Event]
-        ensures { result.now ≡ self.now.shared.trace }
+        ensures value { result.now ≡ self.now.shared.trace }
+        ensures limit { length self.now.shared.trace ≤ 65536 }
     {
         self.shared.events()
     }
@@ -140,9 +148,12 @@ impl Machine {
     }
 
     fn step_hart(&mut self, hart: u32) -> Result<Outcome, StepFault>
+        ensures there { OnOk result (hart < length self.old.harts) }
         ensures ok { IfOk result (λ outcome. outcome ≡ outcome_after self.old.harts self.new.harts (Step.Hart hart)) }
         ensures runs { OnOk result (Runs self.old self.new (Step.Hart hart ∷ [])) }
+        ensures limit { length self.new.shared.trace ≤ 65536 }
         ensures err { OnErr result (self.new ≡ self.old) }
+        ensures refused { IfErr result (Refuses self.old (Step.Hart hart)) }
     {
         let state = match self.harts.get(hart as usize) {
             Some(state) => *state,
@@ -156,8 +167,11 @@ impl Machine {
 
     fn evict(&mut self, line: u32) -> Result<Outcome, StepFault>
         ensures ok { IfOk result (λ outcome. outcome ≡ Outcome.Done) }
+        ensures there { OnOk result (line < length self.old.shared.lines) }
         ensures runs { OnOk result (Runs self.old self.new (Step.Evict line ∷ [])) }
+        ensures limit { length self.new.shared.trace ≤ 65536 }
         ensures err { OnErr result (self.new ≡ self.old) }
+        ensures refused { IfErr result (Refuses self.old (Step.Evict line)) }
     {
         if line >= self.shared.lines() {
             return Err(StepFault::NoSuchLine);
@@ -171,7 +185,9 @@ impl Machine {
         requires running { state.status ≡ Status.Running }
         ensures ok { IfOk result (λ outcome. outcome ≡ outcome_after self.old.harts self.new.harts (Step.Hart hart)) }
         ensures runs { OnOk result (Runs self.old self.new (Step.Hart hart ∷ [])) }
+        ensures limit { length self.new.shared.trace ≤ 65536 }
         ensures err { OnErr result (self.new ≡ self.old) }
+        ensures refused { IfErr result (Refuses self.old (Step.Hart hart)) }
     {
         let fetched = self.fetch(state.pc);
         match next(&state, fetched) {
@@ -189,6 +205,7 @@ impl Machine {
         requires { hart < length self.old.harts }
         ensures replaced { self.new ≡ record self.old { harts = slice_set self.old.harts hart after } }
         ensures outcome { result ≡ outcome_of after.status }
+        ensures limit { length self.new.shared.trace ≤ 65536 }
     {
         let outcome = outcome_of(after.status);
         let harts = &mut self.harts;
@@ -227,7 +244,9 @@ fn ask(
     requires width { IsRequest request }
     requires needs { Needs state.now fetched (Need.Ask request) }
     ensures ok { IfOk result (λ after. Answers shared.old shared.new hart state.now fetched request after) }
+    ensures limit { length shared.new.trace ≤ 65536 }
     ensures err { OnErr result (shared.new ≡ shared.old) }
+    ensures refused { IfErr result (RefusesRequest shared.old hart request) }
 {
     let Some(word) = fetched else { unreachable!() };
     let Some(instr) = decode(word) else {

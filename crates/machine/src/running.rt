@@ -1,9 +1,9 @@
 //! Runs of a schedule.
 
-ghost use Rattle.std.specs.Prelude.{◌≡◌, ◌<◌, ◌∷◌, [], replicate, slice_get, take, length, OnOk, IfErr};
+ghost use Rattle.std.specs.Prelude.{◌≡◌, replicate, slice_get, OnOk, IfErr};
 ghost use Rattle.machine.specs.Run.{all_steps, steps_of};
 ghost use Rattle.machine.specs.Stands.{Runs};
-ghost use Rattle.machine.specs.Stops.{StopsAt, is_stopped};
+ghost use Rattle.machine.specs.Stops.{StopsAfter, StopsAt, is_stopped};
 
 use crate::fault::{RunStop, StepFault};
 use crate::machine::Machine;
@@ -39,7 +39,7 @@ impl Machine {
     #[tactic(auto, using(crate::proofs::Steps::runs_none))]
     fn run_item(&mut self, item: Item) -> Result<(), ItemStop>
         ensures ok { OnOk result (Runs self.old self.new (steps_of item)) }
-        ensures err { IfErr result (λ stop. (stop.steps < length (steps_of item)) × Runs self.old self.new (take stop.steps (steps_of item))) }
+        ensures err { IfErr result (λ stop. StopsAfter self.old self.new (steps_of item) stop.steps stop.fault) }
     {
         match item {
             Item::Steps { hart, count } => self.run_hart(hart, count),
@@ -53,7 +53,7 @@ impl Machine {
     #[tactic(auto, using(crate::proofs::Steps::runs_none, crate::proofs::Steps::hart_stops))]
     fn run_hart(&mut self, hart: u32, count: u32) -> Result<(), ItemStop>
         ensures ok { OnOk result (Runs self.old self.new (replicate count (Step.Hart hart))) }
-        ensures err { IfErr result (λ stop. (stop.steps < length (replicate count (Step.Hart hart))) × Runs self.old self.new (take stop.steps (replicate count (Step.Hart hart)))) }
+        ensures err { IfErr result (λ stop. StopsAfter self.old self.new (replicate count (Step.Hart hart)) stop.steps stop.fault) }
     {
         for done in 0..count {
             if self.has_stopped(hart) {

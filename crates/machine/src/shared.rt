@@ -5,7 +5,8 @@ ghost use Rattle.store_trace.specs.TraceView.{IsEvent};
 ghost use Rattle.line_memory.specs.Memory.{IsWidth};
 ghost use Rattle.hart.specs.Requests.{IsRequest};
 ghost use Rattle.line_memory.specs.Lines.{AreLines};
-ghost use Rattle.machine.specs.Served.{IsMark, access_fault};
+ghost use Rattle.machine.specs.Refusals.{IsEventFault, RefusesRequest};
+ghost use Rattle.machine.specs.Served.{IsMark, IsUnserved, access_fault};
 ghost use Rattle.machine.specs.Stands.{Serves, memory_of};
 
 use crate::fault::StepFault;
@@ -27,10 +28,13 @@ pub struct Shared {
 
 impl Model for Shared {
     ghost use Rattle.machine.specs.Stands.{SharedView};
+    ghost use Rattle.std.specs.Prelude.{◌≤◌, length};
 
     ghost Value = { SharedView };
 
     ghost view = { λ s. record { ram = s.ram; lines = s.medium; trace = s.trace.events } };
+
+    ghost invariant = { λ s. length s.trace.events ≤ 65536 };
 }
 
 impl Shared {
@@ -42,6 +46,7 @@ impl Shared {
     pub fn new(alloc: Global, program: &Program, medium: Medium) -> Result<Shared, StepFault>
         ensures ok { IfOk result (λ shared. (harts : ℕ) → Shows shared (started program.now medium harts).common) }
         ensures lines { IfOk result (λ shared. shared.lines ≡ medium) }
+        ensures trace { IfOk result (λ shared. shared.trace ≡ []) }
         ensures err { IfErr result (λ fault. fault ≡ StepFault.Memory) }
     {
         let ram = match Ram::from_bytes(alloc, program.text_bytes(), program.data_bytes()) {
@@ -60,14 +65,21 @@ impl Shared {
         requires hart { hart < 8 }
         requires width { IsRequest request }
         ensures ok { IfOk result (λ reply. Serves self.old self.new hart request reply) }
+        ensures limit { length self.new.trace ≤ 65536 }
         ensures err { OnErr result (self.new ≡ self.old) }
+        ensures refused { IfErr result (RefusesRequest self.old hart request) }
     {
         match request {
+            Request::Load { address, width } => Ok(self.load(hart, address, width)),
             Request::Store {
                 address,
                 width,
                 value,
             } => self.store(hart, address, width, value),
+            Request::Lr { .. } => Ok(self.refuse(hart, request)),
+            Request::Sc { .. } => Ok(self.refuse(hart, request)),
+            Request::Amo { .. } => Ok(self.refuse(hart, request)),
+            Request::FenceI => Ok(self.refuse(hart, request)),
             Request::Cbo { op, address } => self.cache_operation(hart, op, address),
             Request::Fence => self.mark(hart, request, Event::Fence { hart }),
             Request::Begin { op } => self.mark(hart, request, Event::Begin { hart, op }),
@@ -75,20 +87,64 @@ impl Shared {
         }
     }
 
+    /// The reply to a request that memory doesn't serve.
+    fn refuse(&self, hart: u32, request: Request) -> Reply
+        requires { IsUnserved hart request }
+        ensures serves { Serves self.now self.now hart request result }
+        ensures limit { length self.now.trace ≤ 65536 }
+    {
+        let _ = &self.trace;
+        Reply::Fault(AccessFault::Outside)
+    }
+
+    fn load(&self, hart: u32, address: u64, width: u32) -> Reply
+        requires width { IsWidth width }
+        ensures serves { Serves self.now self.now hart (Request.Load address width) result }
+        ensures limit { length self.now.trace ≤ 65536 }
+    {
+        if address < PERSISTENT_BASE {
+            return self.load_from_ram(hart, address, width);
+        }
+        let offset = address - PERSISTENT_BASE;
+        let size = self.size();
+        if offset % u64::from(width) != 0 {
+            return Reply::Fault(AccessFault::Misaligned);
+        }
+        if offset >= size {
+            return Reply::Fault(AccessFault::Outside);
+        }
+        Reply::Value(self.medium.load(offset as u32, width))
+    }
+
+    fn load_from_ram(&self, hart: u32, address: u64, width: u32) -> Reply
+        requires width { IsWidth width }
+        requires low { address < PERSISTENT_BASE }
+        ensures serves { Serves self.now self.now hart (Request.Load address width) result }
+        ensures limit { length self.now.trace ≤ 65536 }
+    {
+        match self.ram.load(address, width) {
+            Ok(value) => Reply::Value(value),
+            Err(fault) => Reply::Fault(access_fault(fault)),
+        }
+    }
+
     fn store(&mut self, hart: u32, address: u64, width: u32, value: u64) -> Result<Reply, StepFault>
         requires hart { hart < 8 }
         requires width { IsWidth width }
         ensures ok { IfOk result (λ reply. Serves self.old self.new hart (Request.Store address width value) reply) }
+        ensures limit { length self.new.trace ≤ 65536 }
         ensures err { OnErr result (self.new ≡ self.old) }
+        ensures refused { IfErr result (RefusesRequest self.old hart (Request.Store address width value)) }
     {
         if address < PERSISTENT_BASE {
             return Ok(self.store_to_ram(hart, address, width, value));
         }
         let offset = address - PERSISTENT_BASE;
+        let size = self.size();
         if offset % u64::from(width) != 0 {
             return Ok(Reply::Fault(AccessFault::Misaligned));
         }
-        if offset >= self.size() {
+        if offset >= size {
             return Ok(Reply::Fault(AccessFault::Outside));
         }
         self.store_to_medium(hart, address, offset as u32, width, value)
@@ -99,7 +155,9 @@ impl Shared {
         requires event { IsEvent event }
         requires marks { IsMark hart request event }
         ensures ok { IfOk result (λ reply. Serves self.old self.new hart request reply) }
+        ensures limit { length self.new.trace ≤ 65536 }
         ensures err { OnErr result (self.new ≡ self.old) }
+        ensures refused { IfErr result (RefusesRequest self.old hart request) }
     {
         self.note(event)?;
         Ok(Reply::Done)
@@ -108,7 +166,8 @@ impl Shared {
     fn store_to_ram(&mut self, hart: u32, address: u64, width: u32, value: u64) -> Reply
         requires width { IsWidth width }
         requires low { address < PERSISTENT_BASE }
-        ensures { Serves self.old self.new hart (Request.Store address width value) result }
+        ensures reply { Serves self.old self.new hart (Request.Store address width value) result }
+        ensures limit { length self.new.trace ≤ 65536 }
     {
         if let Err(fault) = self.ram.store(address, width, value) {
             return Reply::Fault(access_fault(fault));
@@ -131,7 +190,9 @@ impl Shared {
         requires there { offset < 64 * length self.old.lines }
         requires whole { AreLines self.old.lines }
         ensures ok { IfOk result (λ reply. Serves self.old self.new hart (Request.Store address width value) reply) }
+        ensures limit { length self.new.trace ≤ 65536 }
         ensures err { OnErr result (self.new ≡ self.old) }
+        ensures refused { IfErr result (RefusesRequest self.old hart (Request.Store address width value)) }
     {
         let event = Event::Store {
             hart,
@@ -148,13 +209,16 @@ impl Shared {
     fn cache_operation(&mut self, hart: u32, op: CacheOp, address: u64) -> Result<Reply, StepFault>
         requires hart { hart < 8 }
         ensures ok { IfOk result (λ reply. Serves self.old self.new hart (Request.Cbo op address) reply) }
+        ensures limit { length self.new.trace ≤ 65536 }
         ensures err { OnErr result (self.new ≡ self.old) }
+        ensures refused { IfErr result (RefusesRequest self.old hart (Request.Cbo op address)) }
     {
+        let size = self.size();
         if address < PERSISTENT_BASE {
             return Ok(self.reply_below(hart, op, address));
         }
         let offset = address - PERSISTENT_BASE;
-        if offset >= self.size() {
+        if offset >= size {
             return Ok(Reply::Fault(AccessFault::Outside));
         }
         self.note_clean(hart, op, address, offset as u32)
@@ -177,7 +241,8 @@ impl Shared {
 
     /// The events so far, the oldest first.
     pub fn events(&self) -> &[Event]
-        ensures { result.now ≡ self.now.trace }
+        ensures value { result.now ≡ self.now.trace }
+        ensures limit { length self.now.trace ≤ 65536 }
     {
         self.trace.events()
     }
@@ -203,6 +268,7 @@ impl Shared {
         ensures size { result ≡ 64 * length self.now.lines }
         ensures limit { result ≤ 64 * 16384 }
         ensures whole { AreLines self.now.lines }
+        ensures trace { length self.now.trace ≤ 65536 }
     {
         64 * u64::from(self.medium.lines())
     }
@@ -219,7 +285,9 @@ impl Shared {
         requires there { offset < 64 * length self.old.lines }
         requires whole { AreLines self.old.lines }
         ensures ok { IfOk result (λ reply. Serves self.old self.new hart (Request.Cbo op address) reply) }
+        ensures limit { length self.new.trace ≤ 65536 }
         ensures err { OnErr result (self.new ≡ self.old) }
+        ensures refused { IfErr result (RefusesRequest self.old hart (Request.Cbo op address)) }
     {
         self.note(Event::Clean {
             hart,
@@ -232,7 +300,9 @@ impl Shared {
     fn note(&mut self, event: Event) -> Result<(), StepFault>
         requires { IsEvent event }
         ensures ok { OnOk result (self.new ≡ record self.old { trace = self.old.trace ++ event ∷ [] }) }
+        ensures limit { length self.new.trace ≤ 65536 }
         ensures err { OnErr result (self.new ≡ self.old) }
+        ensures refused { IfErr result (IsEventFault self.old.trace) }
     {
         self.trace.push(event)?;
         Ok(())

@@ -1,11 +1,12 @@
 -- A run of one hart's steps from the start of a source's program.
 use Rattle.std.proofs.Common.{◌≡◌, ℕ, ◌+◌, ◌<◌, ◌≤◌, List, [], ◌∷◌, ◌++◌, length, take, replicate, slice_get, Some, refl, sym, ap, ◌∙◌, arith}
-use Rattle.std.proofs.lemmas.List.{append-nil, length-replicate, take-replicate}
+use Rattle.std.proofs.lemmas.List.{append-nil, get_or-replicate, length-replicate, take-replicate}
+use Rattle.std.proofs.lemmas.Option.{slice_get-get_or}
 use Rattle.machine.specs.Run.{RunsTo, all_steps, steps_of}
 use Rattle.machine.specs.Stands.{MachineView, Runs}
 use Rattle.machine.specs.Stops.{StopsAt, steps_before, steps_of_item}
 use Rattle.machine.specs.declared.fault.RunStop.{RunStop}
-use Rattle.machine.specs.declared.fault.StepFault.{StepFault}
+use Rattle.machine.specs.declared.fault.StepFault.TheVariants.{Memory as NoMemory}
 use Rattle.machine.specs.declared.schedule.Item.{Item}
 use Rattle.machine.specs.declared.schedule.Item.TheVariants as items
 use Rattle.machine.specs.declared.schedule.Step.{Step}
@@ -30,19 +31,28 @@ has_run source steps old new schedule at is runs =
     let all : all_steps schedule ≡ replicate steps (Hart 0) = rw is (append-nil (replicate steps (Hart 0))) in
     runs_of_hart source steps old new at (rw all at runs)
 
+-- the step that stands at a place below their number is one of hart 0
+hart_step : (steps made : ℕ) → made < steps → slice_get (replicate steps (Hart 0)) made ≡ Some (Hart 0)
+hart_step steps made fewer =
+    let inside : made < length (replicate steps (Hart 0)) = rw length-replicate fewer in
+    slice_get-get_or (replicate steps (Hart 0)) made (Hart 0) inside ∙ ap (λ (s : Step). Some s) (get_or-replicate steps made (Hart 0) (Hart 0) fewer)
+
 pub stops_before : (source : List ℕ) (steps : ℕ) (old new : MachineView) (schedule : List Item) (stop : RunStop) → IsAtStart source old
-    → schedule ≡ items.Steps 0 steps ∷ [] → StopsAt old new schedule stop → StopsBefore source steps stop.fault
-stops_before source steps old new schedule stop at is stops =
+    → schedule ≡ items.Steps 0 steps ∷ [] → StopsAt old new schedule stop → (stop.fault ≡ NoMemory → ⊥) → StopsBefore source steps stop.fault
+stops_before source steps old new schedule stop at is stops no_want =
     let few : stop.item < length schedule = stops.item in
     let one : length schedule ≡ 1 = rw is refl in
     let first : stop.item ≡ 0 = omega arith in
     let fewer : stop.steps < steps = simp length-replicate at (rw (is, first) at stops.steps) in
     let less : stop.steps ≤ steps = omega arith in
     let front : steps_before schedule stop.item stop.steps ≡ replicate stop.steps (Hart 0) =
-    rw (is, first) (take-replicate stop.steps steps (Hart 0) less) in
+        rw (is, first) (take-replicate stop.steps steps (Hart 0) less) in
+    let next : slice_get (steps_of_item (slice_get schedule stop.item)) stop.steps ≡ Some (Hart 0) = rw (is, first) (hart_step steps stop.steps fewer) in
     record {
       machine = new;
       made = stop.steps;
       fewer = fewer;
       has_run = runs_of_hart source stop.steps old new at (rw front at stops.runs);
+      refused = rw next at stops.refused;
+      no_want = no_want
     }

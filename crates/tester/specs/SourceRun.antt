@@ -1,14 +1,15 @@
 -- Running a source: from its bytes to the machine that its instructions make of the start.
-use Rattle.std.specs.Prelude.{◌≡◌, ℕ, ◌<◌, List, replicate}
+use Rattle.std.specs.Prelude.{◌≡◌, ◌≢◌, ℕ, ◌<◌, List, replicate}
 use Rattle.assemble.specs.Assembly.{Assembles, IsFirstFault}
 use Rattle.line_memory.specs.Lines.{zero_lines}
+use Rattle.machine.specs.Refusals.{Refuses}
 use Rattle.machine.specs.Run.{Config, RunsTo, started}
 use Rattle.machine.specs.Stands.{MachineView, Stands}
 use Rattle.machine.specs.declared.fault.StepFault.{StepFault}
+use Rattle.machine.specs.declared.fault.StepFault.TheVariants.{Memory as NoMemory}
 use Rattle.machine.specs.declared.schedule.Step.TheVariants.{Hart}
 use Rattle.object.specs.Sections.{Sections}
 use Rattle.program.specs.Loading.{Loads}
-use Rattle.tester.specs.declared.TheConstants.{DEFAULT_LINES}
 use Rattle.tester.specs.declared.SourceFault.{SourceFault}
 use Rattle.tester.specs.declared.SourceFault.TheVariants.{Assembly, Step, Memory}
 
@@ -19,7 +20,7 @@ pub record IsStartOf (source : List ℕ) (text : List ℕ) (start : Config) : Ty
   pub assembled : Assembles source object
   pub loaded : Loads program object
   pub text_is : text ≡ program.text
-  pub start_is : start ≡ started program (zero_lines DEFAULT_LINES) 1
+  pub start_is : start ≡ started program (zero_lines 512) 1
 
 -- a machine at that start
 pub record IsAtStart (source : List ℕ) (machine : MachineView) : Type 0 where
@@ -41,12 +42,14 @@ pub record HasRun (source : List ℕ) (steps : ℕ) (machine : MachineView) : Ty
   pub run : RunsTo machine.text start (replicate steps (Hart 0)) end
   pub stands : Stands machine end
 
--- a machine that was refused one of these steps, after those before it
+-- fewer steps were made, and the machine as they left it refuses the next one for this reason, which isn't the want of memory
 pub record StopsBefore (source : List ℕ) (steps : ℕ) (fault : StepFault) : Type 0 where
   pub machine : MachineView
   pub made : ℕ
   pub fewer : made < steps
   pub has_run : HasRun source made machine
+  pub refused : Refuses machine (Hart 0) fault
+  pub no_want : fault ≢ NoMemory
 
 -- what a fault says of the source and of the run
 abbrev pub IsCauseOf : List ℕ → ℕ → SourceFault → Type 0

@@ -1,5 +1,5 @@
 use Rattle.std.proofs.Common.{take}
-use Rattle.assemble.specs.Reading.{instrs_of}
+use Rattle.assemble.specs.Steps.{instrs_of}
 use Rattle.assemble.specs.Text.{IsTextOf}
 use Rattle.assemble.proofs.emission.text_of.Given as goal
 

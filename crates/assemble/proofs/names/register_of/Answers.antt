@@ -1,4 +1,3 @@
-use Rattle.std.proofs.Common.{refl, sym}
 use Rattle.assemble.specs.Names.{register_of}
 use Rattle.assemble.proofs.Registers.{same_register}
 use Rattle.assemble.proofs.names.register_of.Goals as goal

@@ -1,7 +1,7 @@
-use Rattle.std.proofs.Common.{◌≡◌, [], ℕ, ◌+◌, ◌*◌, ◌≤◌, length, vec_len}
+use Rattle.std.proofs.Common.{◌≡◌, [], ◌+◌, ◌*◌, ◌≤◌, length, vec_len}
 use Rattle.object.specs.declared.TheConstants.{TEXT_LIMIT}
 use Rattle.asm_lex.specs.Lines.{lines_of}
-use Rattle.assemble.specs.Reading.{read_after, AreChecked}
+use Rattle.assemble.specs.Steps.{read_after, AreChecked}
 use Rattle.assemble.proofs.reading.read.Given as goal
 
 abbrev pub invariant-loop-line : goal.invariant-loop-line

@@ -11,4 +11,5 @@ loop-done-preserved c = hart_runs_more _ _ _ c.args.hart c.loop-done.done c.loop
 
 pub returns-in-Err-clause-err : goal.returns-in-Err-clause-err
 returns-in-Err-clause-err c =
-    rw c.in-Err.ensures.err (hart_stops _ _ c.args.hart c.loop-done.done c.args.count (omega arith) c.loop-done.invariant)
+    hart_stops _ _ _ c.args.hart c.loop-done.done c.args.count _ (omega arith) c.loop-done.invariant c.in-Err.ensures.err
+    c.in-Err.ensures.refused

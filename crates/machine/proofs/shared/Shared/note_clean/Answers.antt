@@ -1,7 +1,16 @@
-use Rattle.machine.proofs.Serving.{cleaned_line}
+use Rattle.std.proofs.Common.{rules}
+use Rattle.hart.specs.declared.need.Request.TheVariants.{Cbo}
+use Rattle.machine.specs.Refusals.{RefusesRequest}
+use Rattle.machine.proofs.Serving.{clean_refused, cleaned_line}
 use Rattle.machine.proofs.shared.Shared.note_clean.Goals as goal
 
 pub returns-clause-ok : goal.returns-clause-ok
 returns-clause-ok c =
     cleaned_line _ _ c.args.op c.args.hart c.args.address c.args.offset c.requires.whole c.requires.place c.requires.there
     c.in_ok-note.ensures.ok
+
+pub returns-in_err-note-clause-refused : goal.returns-in_err-note-clause-refused
+returns-in_err-note-clause-refused c =
+    let refused : RefusesRequest c.args.self.now c.args.hart (Cbo c.args.op c.args.address) c.in_err-note.field-0.0 =
+    clean_refused c.args.self.now c.args.op c.args.hart c.args.address c.args.offset _ c.requires.whole c.requires.place c.requires.there
+    c.in_err-note.ensures.refused in search rules

@@ -1,13 +1,31 @@
--- The instructions of a source's lines, one line after the other.
+-- What the steps of the passes find, from one token or line to the next.
 use Rattle.std.specs.Prelude.{◌≡◌, ◌≢◌, ℕ, ◌+◌, ◌*◌, List, [], ◌∷◌, ◌++◌, length, Option, Some, None, Result, Ok, Err, All, map, nat_le, if◌then◌else◌}
+use Rattle.asm_lex.specs.Tokens.{text_of}
+use Rattle.asm_lex.specs.declared.Token.{Token}
 use Rattle.isa_table.specs.declared.instruction.Instr.{Instr}
 use Rattle.isa_table.specs.Ranges.{IsChecked}
 use Rattle.object.specs.declared.TheConstants.{TEXT_LIMIT}
 use Rattle.assemble.specs.declared.fault.AsmCode.{AsmCode}
 use Rattle.assemble.specs.declared.fault.AsmCode.TheVariants.{TooLarge, Memory}
 use Rattle.assemble.specs.declared.fault.AsmFault.{AsmFault}
+use Rattle.assemble.specs.declared.lexeme.Lexeme.{Lexeme}
 use Rattle.assemble.specs.declared.reading.Line.{Line}
-use Rattle.assemble.specs.Statements.{line_of}
+use Rattle.assemble.specs.Grammar.{◌>>=◌}
+use Rattle.assemble.specs.Lexemes.{lexeme_of, word_of}
+use Rattle.assemble.specs.Statements.{started, line_of}
+
+-- tokens, as the grammar of operands sees them
+abbrev pub lexemes_of : List Token → List Lexeme
+lexemes_of ts = map (λ t. lexeme_of (word_of t)) ts
+
+-- the instruction of a line with these tokens, and None of no tokens
+abbrev pub tokens_statement : List Token → Result (Option Instr) AsmCode
+tokens_statement [] = Ok None
+tokens_statement (t ∷ ts) = started t.kind (text_of t) (lexemes_of ts) >>= λ instr. Ok (Some instr)
+
+-- the code is that of a step, unless memory was refused, which says nothing of the step
+abbrev pub Fails : {A : Type 0} → AsmCode → Result A AsmCode → Type 0
+Fails code r = code ≢ Memory → r ≡ Err code
 
 -- the instructions of the lines before, and that of the line of this number, where there is room for its word
 abbrev pub added : List Line → ℕ → Result (Option Instr) AsmCode → Result (List Line) AsmCode

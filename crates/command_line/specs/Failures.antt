@@ -1,0 +1,63 @@
+-- What standard error gets of a command that fails, and the status that the program then ends with.
+use Rattle.std.specs.Prelude.{ℕ, List, ◌++◌, codes, decimal, string_bytes}
+use Rattle.assemble.specs.declared.fault.AsmCode.{AsmCode}
+use Rattle.assemble.specs.declared.fault.AsmCode.TheVariants as asm
+use Rattle.machine.specs.declared.fault.StepFault.{StepFault}
+use Rattle.machine.specs.declared.fault.StepFault.TheVariants as steps
+use Rattle.command_line.specs.declared.failure.Failure.{Failure}
+use Rattle.command_line.specs.declared.failure.Failure.TheVariants.{Line, Refused, Memory, File}
+use Rattle.command_line.specs.declared.failure.Refusal.{Refusal}
+use Rattle.command_line.specs.declared.failure.Refusal.TheVariants.{Assembly, Step}
+use Rattle.tester.specs.declared.SourceFault.{SourceFault}
+use Rattle.tester.specs.declared.SourceFault.TheVariants as source_faults
+use Rattle.command_line.specs.declared.files.FileFault.{FileFault}
+use Rattle.command_line.specs.declared.files.FileFault.TheVariants as file_faults
+use Rattle.command_line.specs.Reports.{line_end}
+
+-- the name that a fault is known by
+abbrev pub assembly_code : AsmCode → List ℕ
+assembly_code asm.BadToken = codes "A1"
+assembly_code asm.Mnemonic = codes "A2"
+assembly_code asm.Operands = codes "A3"
+assembly_code asm.Register = codes "A4"
+assembly_code asm.Range = codes "A5"
+assembly_code asm.UnknownLabel = codes "A6"
+assembly_code asm.LabelTwice = codes "A7"
+assembly_code asm.WrongSection = codes "A8"
+assembly_code asm.TooLarge = codes "A9"
+assembly_code asm.Memory = codes "A10"
+
+abbrev pub step_code : StepFault → List ℕ
+step_code steps.NoSuchHart = codes "G1"
+step_code steps.NoSuchLine = codes "G2"
+step_code steps.TraceFull = codes "G4"
+step_code steps.Memory = codes "G5"
+
+-- `refused CODE`, and ` line N` of a fault that has a line
+abbrev pub refusal_text : Refusal → List ℕ
+refusal_text (Assembly fault) = codes "refused " ++ (assembly_code fault.code ++ (codes " line " ++ decimal fault.line))
+refusal_text (Step fault) = codes "refused " ++ step_code fault
+
+-- the lines of a failure; those of a fault of the command line are given
+abbrev pub failure_text : Failure → List ℕ
+failure_text (Line text) = string_bytes text
+failure_text (Refused refusal) = refusal_text refusal ++ line_end
+failure_text Memory = codes "memory" ++ line_end
+failure_text File = codes "file" ++ line_end
+
+abbrev pub failure_status : Failure → ℕ
+failure_status (Line text) = 2
+failure_status (Refused refusal) = 2
+failure_status Memory = 4
+failure_status File = 5
+
+-- the failure for a file that wasn't read or written
+abbrev pub failure_of_file : FileFault → Failure
+failure_of_file file_faults.Failed = File
+failure_of_file file_faults.Memory = Memory
+
+-- the failure for a source that wasn't run
+abbrev pub failure_of_source : SourceFault → Failure
+failure_of_source (source_faults.Assembly fault) = Refused (Assembly fault)
+failure_of_source (source_faults.Step fault) = Refused (Step fault)
+failure_of_source source_faults.Memory = Memory

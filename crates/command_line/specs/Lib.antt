@@ -1,0 +1,4 @@
+pub mod Failures
+pub mod HartLines
+pub mod Outcomes
+pub mod Reports

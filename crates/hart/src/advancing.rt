@@ -1,0 +1,48 @@
+//! A hart at its next instruction, and the addresses that an instruction names.
+
+ghost use Rattle.std.specs.Prelude.{◌≡◌, pos, ◌+ℤ◌};
+ghost use Rattle.word_bits.specs.Numbers.{wrap};
+ghost use Rattle.hart.specs.Effect.{address_of, goes_on, place_of, writes};
+
+use crate::state::HartState;
+use isa_table::Reg;
+
+/// The hart at the instruction after this one.
+pub(crate) fn go_on(state: &HartState) -> HartState
+    ensures { result ≡ goes_on state.now }
+{
+    HartState {
+        pc: state.pc.wrapping_add(4),
+        ..*state
+    }
+}
+
+/// The hart at the instruction after this one, with a register written.
+pub(crate) fn write_to(state: &HartState, reg: Reg, value: u64) -> HartState
+    ensures { result ≡ writes state.now reg.number value }
+{
+    let mut after = go_on(state);
+    after.registers.set(reg, value);
+    after
+}
+
+/// The address at an offset from the value of a register.
+pub(crate) fn address_at(state: &HartState, base: Reg, offset: i32) -> u64
+    ensures { result ≡ address_of state.now base offset }
+{
+    plus(state.registers.get(base), offset)
+}
+
+/// The place at a distance from the instruction.
+pub(crate) fn place_at(state: &HartState, distance: i32) -> u64
+    ensures { result ≡ place_of state.now distance }
+{
+    plus(state.pc, distance)
+}
+
+/// The sum as a register holds it.
+pub(crate) fn plus(value: u64, offset: i32) -> u64
+    ensures { result ≡ wrap (pos value +ℤ offset) }
+{
+    value.wrapping_add_signed(i64::from(offset))
+}
