@@ -241,7 +241,7 @@ loaded_in_ram shared h address width value w low none found =
       reply = rw (ram_fault shared address width w low ∙ none, load_ram (ram_bytes shared.ram) (line_bytes shared.lines) address width fits ∙ found) refl;
       memory = refl;
       trace = sym (append-nil shared.trace);
-      lines = refl
+      lines = refl;
     }
 
 pub loaded_in_lines : (shared : SharedView) (h address offset width value : ℕ)
@@ -250,14 +250,14 @@ pub loaded_in_lines : (shared : SharedView) (h address offset width value : ℕ)
     → Serves shared shared h (Load address width) (Value value)
 loaded_in_lines shared h address offset width value whole w place aligned there found =
     let none : fault_of (memory_of shared) address width ≡ None =
-        lines_fault shared address offset width w place ∙ fault_line shared.lines whole offset width w aligned there in
+    lines_fault shared address offset width w place ∙ fault_line shared.lines whole offset width w aligned there in
     let same : loaded_from (memory_of shared) address width ≡ Some value =
-        rw place (load_persistent (ram_bytes shared.ram) (line_bytes shared.lines) offset width ∙ found) in
+    rw place (load_persistent (ram_bytes shared.ram) (line_bytes shared.lines) offset width ∙ found) in
     record {
       reply = rw (none, same) refl;
       memory = refl;
       trace = sym (append-nil shared.trace);
-      lines = refl
+      lines = refl;
     }
 
 -- a load that meets a fault
@@ -265,11 +265,11 @@ refused_load : (shared : SharedView) (h address width : ℕ) (fault : MemFault)
     → fault_of (memory_of shared) address width ≡ Some fault
     → Serves shared shared h (Load address width) (Fault (access_fault fault))
 refused_load shared h address width fault e = record {
-    reply = rw e refl;
-    memory = refl;
-    trace = sym (append-nil shared.trace);
-    lines = refl
-  }
+  reply = rw e refl;
+  memory = refl;
+  trace = sym (append-nil shared.trace);
+  lines = refl;
+}
 
 pub load_refused_in_ram : (shared : SharedView) (h address width : ℕ) (fault : MemFault)
     → IsWidth width → address < PERSISTENT_BASE → fault_of (ram_bytes shared.ram) address width ≡ Some fault
@@ -294,8 +294,8 @@ load_outside shared h address offset width w place aligned past =
 pub refused_whole : (shared : SharedView) (h : ℕ) (request : Request) → IsUnserved h request
     → Serves shared shared h request (Fault Outside)
 refused_whole shared h request unserved = record {
-    reply = sym (unserved.reply (memory_of shared));
-    memory = sym (unserved.memory (memory_of shared));
-    trace = rw unserved.events (sym (append-nil shared.trace));
-    lines = refl
-  }
+  reply = sym (unserved.reply (memory_of shared));
+  memory = sym (unserved.memory (memory_of shared));
+  trace = rw unserved.events (sym (append-nil shared.trace));
+  lines = refl;
+}

@@ -46,7 +46,7 @@ stops_before source steps old new schedule stop at is stops no_want =
     let fewer : stop.steps < steps = simp length-replicate at (rw (is, first) at stops.steps) in
     let less : stop.steps ≤ steps = omega arith in
     let front : steps_before schedule stop.item stop.steps ≡ replicate stop.steps (Hart 0) =
-        rw (is, first) (take-replicate stop.steps steps (Hart 0) less) in
+    rw (is, first) (take-replicate stop.steps steps (Hart 0) less) in
     let next : slice_get (steps_of_item (slice_get schedule stop.item)) stop.steps ≡ Some (Hart 0) = rw (is, first) (hart_step steps stop.steps fewer) in
     record {
       machine = new;
@@ -54,5 +54,5 @@ stops_before source steps old new schedule stop at is stops no_want =
       fewer = fewer;
       has_run = runs_of_hart source stop.steps old new at (rw front at stops.runs);
       refused = rw next at stops.refused;
-      no_want = no_want
+      no_want = no_want;
     }
