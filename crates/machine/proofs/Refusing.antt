@@ -14,8 +14,8 @@ use Rattle.line_memory.specs.Memory.{Memory}
 use Rattle.machine.specs.declared.fault.StepFault.{StepFault}
 use Rattle.machine.specs.declared.fault.StepFault.TheVariants.{NoSuchHart, NoSuchLine, TraceFull, Memory as MemoryRefused}
 use Rattle.machine.specs.declared.machine.Outcome.{Outcome}
-use Rattle.machine.specs.declared.schedule.Step.{Step}
-use Rattle.machine.specs.declared.schedule.Step.TheVariants.{Hart, Evict}
+use Rattle.schedule.specs.declared.items.Step.{Step}
+use Rattle.schedule.specs.declared.items.Step.TheVariants.{Hart, Evict}
 use Rattle.machine.specs.Outcomes.{MakesEvent}
 use Rattle.machine.specs.Refusals.{IsEventFault, IsThere, LacksHart, LacksLine, Refuses, RefusesRequest}
 use Rattle.machine.specs.Run.{Config, IsSpelledBy, StepsTo, after_request, fetched}

@@ -13,8 +13,8 @@ use Rattle.hart.specs.declared.state.Trap.{Trap}
 use Rattle.hart.specs.declared.need.Need.TheVariants.{Local, Ask, Stop}
 use Rattle.hart.specs.declared.need.Reply.{Reply}
 use Rattle.hart.specs.declared.need.Request.{Request}
-use Rattle.machine.specs.declared.schedule.Step.{Step}
-use Rattle.machine.specs.declared.schedule.Step.TheVariants.{Hart, Evict}
+use Rattle.schedule.specs.declared.items.Step.{Step}
+use Rattle.schedule.specs.declared.items.Step.TheVariants.{Hart, Evict}
 use Rattle.machine.specs.declared.history.Entry.TheVariants.{Evicted}
 use Rattle.line_memory.specs.Memory.{Memory}
 use Rattle.machine.specs.Outcomes.{hart_outcome, outcome_of}

@@ -6,10 +6,11 @@ use Rattle.std.proofs.lemmas.Option.{slice_get-get_or}
 use Rattle.hart.specs.declared.state.HartState.{HartState}
 use Rattle.hart.specs.declared.state.Status.{Status}
 use Rattle.hart.specs.declared.state.Status.TheVariants.{Running, Exited, Trapped}
-use Rattle.machine.specs.declared.schedule.Item.{Item}
-use Rattle.machine.specs.declared.schedule.Step.{Step}
-use Rattle.machine.specs.declared.schedule.Step.TheVariants.{Hart, Evict}
-use Rattle.machine.specs.Run.{Config, HartSteps, HartStepsIfThere, RunsTo, all_steps, steps_of}
+use Rattle.schedule.specs.declared.items.Item.{Item}
+use Rattle.schedule.specs.declared.items.Step.{Step}
+use Rattle.schedule.specs.declared.items.Step.TheVariants.{Hart, Evict}
+use Rattle.schedule.specs.Steps.{all_steps, steps_of}
+use Rattle.machine.specs.Run.{Config, HartSteps, HartStepsIfThere, RunsTo}
 use Rattle.machine.specs.Stands.{MachineView, Runs}
 use Rattle.machine.specs.declared.fault.RunStop.{RunStop}
 use Rattle.machine.specs.Stops.{StopsAfter, StopsAt, has_stopped, is_stopped}

@@ -4,8 +4,8 @@ use Rattle.store_trace.specs.declared.event.Event.{Event}
 use Rattle.hart.specs.declared.need.Request.{Request}
 use Rattle.machine.specs.declared.fault.StepFault.{StepFault}
 use Rattle.machine.specs.declared.fault.StepFault.TheVariants.{NoSuchHart, NoSuchLine, TraceFull, Memory}
-use Rattle.machine.specs.declared.schedule.Step.{Step}
-use Rattle.machine.specs.declared.schedule.Step.TheVariants.{Hart, Evict}
+use Rattle.schedule.specs.declared.items.Step.{Step}
+use Rattle.schedule.specs.declared.items.Step.TheVariants.{Hart, Evict}
 use Rattle.machine.specs.Outcomes.{MakesEvent}
 use Rattle.machine.specs.Served.{events_of, replied}
 use Rattle.machine.specs.Stands.{MachineView, SharedView, memory_of}

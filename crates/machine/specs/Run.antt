@@ -1,8 +1,8 @@
 -- Run: a schedule's steps of harts and evictions, one after another, from a start.
 -- Source: RISC-V Unprivileged ISA 20191213, chapter 1 ("Exceptions, Traps, and Interrupts") and chapter 2; harts
 -- interleave one instruction at a time.
-use Rattle.std.specs.Prelude.{◌≡◌, ℕ, ◌+◌, ◌-◌, ◌&&◌, List, [], ◌∷◌, Option, Some, None, map, nat_le, if◌then◌else◌, slice_get, slice_set, replicate}
-use Rattle.std.specs.List.{range_with_len, flat_map}
+use Rattle.std.specs.Prelude.{◌≡◌, ℕ, ◌+◌, ◌-◌, ◌&&◌, List, [], ◌∷◌, Option, Some, None, map, nat_le, if◌then◌else◌, slice_get, slice_set}
+use Rattle.std.specs.List.{range_with_len}
 use Rattle.word_bits.specs.Bytes.{loaded}
 use Rattle.isa_table.specs.Table.{Spells}
 use Rattle.isa_table.specs.declared.instruction.Instr.{Instr}
@@ -19,10 +19,8 @@ use Rattle.hart.specs.declared.need.Request.{Request}
 use Rattle.hart.specs.Effect.{answered, start}
 use Rattle.hart.specs.Needs.{Needs}
 use Rattle.machine.specs.declared.history.Entry.TheVariants.{Evicted}
-use Rattle.machine.specs.declared.schedule.Step.{Step}
-use Rattle.machine.specs.declared.schedule.Step.TheVariants.{Hart, Evict}
-use Rattle.machine.specs.declared.schedule.Item.{Item}
-use Rattle.machine.specs.declared.schedule.Item.TheVariants as items
+use Rattle.schedule.specs.declared.items.Step.{Step}
+use Rattle.schedule.specs.declared.items.Step.TheVariants.{Hart, Evict}
 use Rattle.machine.specs.Served.{Common, asked, replied}
 
 -- all that a run changes: the harts, by their number, and what they share
@@ -92,11 +90,3 @@ StepsTo text c (Evict line) d = d ≡ record c { common = record c.common { hist
 abbrev pub RunsTo : List ℕ → Config → List Step → Config → Type 0
 RunsTo text c [] d = d ≡ c
 RunsTo text c (step ∷ steps) d = (middle : Config) × StepsTo text c step middle × RunsTo text middle steps d
-
--- the steps of an item of a schedule, and those of all of them
-abbrev pub steps_of : Item → List Step
-steps_of (items.Steps hart count) = replicate count (Hart hart)
-steps_of (items.Evict line) = Evict line ∷ []
-
-abbrev pub all_steps : List Item → List Step
-all_steps items = flat_map steps_of items

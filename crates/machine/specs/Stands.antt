@@ -12,7 +12,7 @@ use Rattle.hart.specs.declared.need.Need.{Need}
 use Rattle.hart.specs.declared.need.Request.{Request}
 use Rattle.hart.specs.declared.state.Status.TheVariants.{Running}
 use Rattle.hart.specs.declared.need.Reply.{Reply}
-use Rattle.machine.specs.declared.schedule.Step.{Step}
+use Rattle.schedule.specs.declared.items.Step.{Step}
 use Rattle.machine.specs.Served.{Common, replied, memory_after, events_of}
 use Rattle.machine.specs.Run.{Config, IsSpelledBy, RunsTo, fetched}
 

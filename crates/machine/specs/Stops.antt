@@ -5,10 +5,10 @@ use Rattle.hart.specs.declared.state.Status.{Status}
 use Rattle.hart.specs.declared.state.Status.TheVariants.{Running, Exited, Trapped}
 use Rattle.machine.specs.declared.fault.RunStop.{RunStop}
 use Rattle.machine.specs.declared.fault.StepFault.{StepFault}
-use Rattle.machine.specs.declared.schedule.Item.{Item}
-use Rattle.machine.specs.declared.schedule.Step.{Step}
+use Rattle.schedule.specs.declared.items.Item.{Item}
+use Rattle.schedule.specs.declared.items.Step.{Step}
 use Rattle.machine.specs.Refusals.{RefusesNext}
-use Rattle.machine.specs.Run.{all_steps, steps_of}
+use Rattle.schedule.specs.Steps.{all_steps, steps_of}
 use Rattle.machine.specs.Stands.{MachineView, Runs}
 
 -- the steps before a place in a schedule: those of the items before one, and the first ones of that item

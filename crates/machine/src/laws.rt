@@ -5,7 +5,7 @@ ghost use Rattle.machine.specs.Refusals.{Refuses};
 ghost use Rattle.machine.specs.Run.{Config, RunsTo, StepsTo};
 ghost use Rattle.machine.specs.Stands.{MachineView};
 ghost use Rattle.machine.specs.declared.fault.StepFault.{StepFault};
-ghost use Rattle.machine.specs.declared.schedule.Step.{Step};
+ghost use Rattle.schedule.specs.declared.items.Step.{Step};
 ghost use Rattle.std.specs.Prelude.{◌≡◌, ℕ, List};
 
 /// From one configuration a step, and a list of steps, comes to one configuration.

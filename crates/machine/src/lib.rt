@@ -6,7 +6,6 @@ mod history;
 mod laws;
 mod machine;
 mod running;
-mod schedule;
 mod shared;
 
 pub use fault::{RunStop, StepFault};

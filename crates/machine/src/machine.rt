@@ -12,13 +12,13 @@ ghost use Rattle.machine.specs.Run.{fetched as fetched_from, started};
 ghost use Rattle.machine.specs.Stands.{Answers, IsRunning, NeedsAt, Runs, Stands, memory_of};
 
 use crate::fault::StepFault;
-use crate::schedule::Step;
 use crate::shared::Shared;
 use byteorder::{ByteOrder, LittleEndian};
 use decode::decode;
 use hart::{HartState, Need, Request, Status, Trap, answer, next};
 use line_memory::{Medium, TEXT_BASE, TEXT_SIZE};
 use program::Program;
+use schedule::Step;
 use std::alloc::Global;
 use std::marker::Model;
 use store_trace::{Event, Trace};

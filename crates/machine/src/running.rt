@@ -1,14 +1,14 @@
 //! Runs of a schedule.
 
 ghost use Rattle.std.specs.Prelude.{◌≡◌, replicate, slice_get, OnOk, IfErr};
-ghost use Rattle.machine.specs.Run.{all_steps, steps_of};
+ghost use Rattle.schedule.specs.Steps.{all_steps, steps_of};
 ghost use Rattle.machine.specs.Stands.{Runs};
 ghost use Rattle.machine.specs.Stops.{StopsAfter, StopsAt, is_stopped};
 
 use crate::fault::{RunStop, StepFault};
 use crate::machine::Machine;
-use crate::schedule::{Item, Schedule, Step};
 use hart::Status;
+use schedule::{Item, Schedule, Step};
 
 /// A step of an item that was refused, after as many as `steps` says.
 #[derive(Clone, Copy)]

@@ -2,15 +2,16 @@
 use Rattle.std.proofs.Common.{◌≡◌, ℕ, ◌+◌, ◌<◌, ◌≤◌, List, [], ◌∷◌, ◌++◌, length, take, replicate, slice_get, Some, refl, sym, ap, ◌∙◌, arith}
 use Rattle.std.proofs.lemmas.List.{append-nil, get_or-replicate, length-replicate, take-replicate}
 use Rattle.std.proofs.lemmas.Option.{slice_get-get_or}
-use Rattle.machine.specs.Run.{RunsTo, all_steps, steps_of}
+use Rattle.schedule.specs.Steps.{all_steps, steps_of}
+use Rattle.machine.specs.Run.{RunsTo}
 use Rattle.machine.specs.Stands.{MachineView, Runs}
 use Rattle.machine.specs.Stops.{StopsAt, steps_before, steps_of_item}
 use Rattle.machine.specs.declared.fault.RunStop.{RunStop}
 use Rattle.machine.specs.declared.fault.StepFault.TheVariants.{Memory as NoMemory}
-use Rattle.machine.specs.declared.schedule.Item.{Item}
-use Rattle.machine.specs.declared.schedule.Item.TheVariants as items
-use Rattle.machine.specs.declared.schedule.Step.{Step}
-use Rattle.machine.specs.declared.schedule.Step.TheVariants.{Hart}
+use Rattle.schedule.specs.declared.items.Item.{Item}
+use Rattle.schedule.specs.declared.items.Item.TheVariants as items
+use Rattle.schedule.specs.declared.items.Step.{Step}
+use Rattle.schedule.specs.declared.items.Step.TheVariants.{Hart}
 use Rattle.tester.specs.SourceRun.{HasRun, IsAtStart, StopsBefore}
 
 runs_of_hart : (source : List ℕ) (steps : ℕ) (old new : MachineView) → IsAtStart source old → Runs old new (replicate steps (Hart 0))

@@ -7,7 +7,7 @@ use Rattle.machine.specs.Run.{Config, RunsTo, started}
 use Rattle.machine.specs.Stands.{MachineView, Stands}
 use Rattle.machine.specs.declared.fault.StepFault.{StepFault}
 use Rattle.machine.specs.declared.fault.StepFault.TheVariants.{Memory as NoMemory}
-use Rattle.machine.specs.declared.schedule.Step.TheVariants.{Hart}
+use Rattle.schedule.specs.declared.items.Step.TheVariants.{Hart}
 use Rattle.object.specs.Sections.{Sections}
 use Rattle.program.specs.Loading.{Loads}
 use Rattle.tester.specs.declared.SourceFault.{SourceFault}

@@ -1,6 +1,6 @@
 use Rattle.std.proofs.Common.{ap, refl, rules}
 use Rattle.std.proofs.lemmas.Option.{slice_get_within}
-use Rattle.machine.specs.declared.schedule.Step.TheVariants.{Hart}
+use Rattle.schedule.specs.declared.items.Step.TheVariants.{Hart}
 use Rattle.machine.specs.Refusals.{Refuses}
 use Rattle.machine.specs.Stands.{MachineView}
 use Rattle.machine.proofs.Refusing.{refused_with_request}

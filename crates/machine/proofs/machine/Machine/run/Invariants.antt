@@ -1,5 +1,5 @@
 use Rattle.std.proofs.Common.{◌≡◌, take}
-use Rattle.machine.specs.Run.{all_steps}
+use Rattle.schedule.specs.Steps.{all_steps}
 use Rattle.machine.specs.Stands.{Runs}
 use Rattle.machine.proofs.machine.Machine.run.Given as goal
 

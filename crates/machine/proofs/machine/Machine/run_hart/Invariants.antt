@@ -1,5 +1,5 @@
 use Rattle.std.proofs.Common.{replicate}
-use Rattle.machine.specs.declared.schedule.Step.TheVariants.{Hart}
+use Rattle.schedule.specs.declared.items.Step.TheVariants.{Hart}
 use Rattle.machine.specs.Stands.{Runs}
 use Rattle.machine.proofs.machine.Machine.run_hart.Given as goal
 

@@ -1,4 +1,4 @@
-use Rattle.machine.specs.declared.schedule.Step.TheVariants.{Hart, Evict}
+use Rattle.schedule.specs.declared.items.Step.TheVariants.{Hart, Evict}
 use Rattle.machine.proofs.Refusing.{full_exactly, no_hart_exactly, no_line_exactly}
 use Rattle.machine.proofs.machine.Machine.step.Goals as goal
 

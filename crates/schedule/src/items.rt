@@ -1,4 +1,4 @@
-//! Schedules: which hart makes the next step, and which line is evicted in between.
+//! The items of a schedule.
 
 ghost use Rattle.std.specs.Prelude.{◌≡◌, [], ◌∷◌, ◌++◌, OnOk, OnErr};
 
@@ -31,7 +31,7 @@ pub struct Schedule {
 
 impl Model for Schedule {
     ghost use Rattle.std.specs.Prelude.{List};
-    ghost use Rattle.machine.specs.declared.schedule.Item.{Item};
+    ghost use Rattle.schedule.specs.declared.items.Item.{Item};
 
     ghost Value = { List Item };
 

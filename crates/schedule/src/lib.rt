@@ -1,0 +1,6 @@
+//! Schedules: which hart makes the next step, and which cache line is evicted in between.
+#![tactic(auto)]
+
+mod items;
+
+pub use items::{Item, Schedule, Step};
