@@ -4,11 +4,9 @@
 mod asked;
 mod grammar;
 mod line;
-mod number;
 #[cfg(test)]
 mod tests;
 mod values;
 
 pub use asked::{Command, LineFault};
 pub use line::command;
-pub use number::{decimal, decimal_within};

@@ -1,6 +1,6 @@
 //! Lines that are read, and lines that are refused, one for each rule of the command line.
 
-use crate::{Command, LineFault, command, decimal, decimal_within};
+use crate::{Command, LineFault, command};
 use std::alloc::{AllocError, Global};
 use std::test::Fail;
 
@@ -113,17 +113,4 @@ fn texts_are_shown(rt: HostRuntime) -> Result<(), Fail> {
         assert_eq!(rt; shown.as_str(), expected, "{line}");
     }
     Ok(())
-}
-
-#[test]
-fn numbers_are_digits(rt: HostRuntime) {
-    assert_eq!(rt; decimal(b"4294967295"), Some(4_294_967_295));
-    assert_eq!(rt; decimal(b"0000000000000000000000042"), Some(42));
-    assert_eq!(rt; decimal(b"4294967296"), None);
-    assert_eq!(rt; decimal(b""), None);
-    assert_eq!(rt; decimal(b"+1"), None);
-    assert_eq!(rt; decimal(b"1 "), None);
-    assert_eq!(rt; decimal(b"\xd9\xa1"), None);
-    assert_eq!(rt; decimal_within(b"8", 1, 8), Some(8));
-    assert_eq!(rt; decimal_within(b"9", 1, 8), None);
 }

@@ -5,8 +5,8 @@ ghost use Rattle.clap.specs.Words.{first_of, found_of, rows_of};
 ghost use Rattle.arguments.specs.Line.{IsNumber, OnFault};
 
 use crate::asked::LineFault;
-use crate::number::decimal_within;
 use clap::ArgMatches;
+use decimal::decimal_within;
 use std::alloc::Global;
 
 /// The value of an option or a word, where the line has it.

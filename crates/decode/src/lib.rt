@@ -15,10 +15,12 @@ mod operands;
 mod shapes;
 #[cfg(test)]
 mod tests;
+mod text;
 #[cfg(test)]
 mod words;
 
 use isa_table::Instr;
+pub use text::show;
 
 /// The instruction that `word` spells, or None where it spells none. Its operands fit a word.
 #[tactic(auto, using(crate::proofs::Decoding::decodes, isa_table::proofs::Checked::checked))]

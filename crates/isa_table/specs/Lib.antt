@@ -2,3 +2,4 @@ pub mod Columns
 pub mod Operands
 pub mod Ranges
 pub mod Table
+pub mod Names

@@ -11,6 +11,7 @@ mod encoding;
 mod fault;
 mod instruction;
 mod keys;
+mod names;
 mod register;
 #[cfg(test)]
 mod tests;
@@ -22,4 +23,5 @@ pub use instruction::{
     AtomicOp, AtomicWidth, BranchOp, CacheOp, ImmediateOp, Instr, LoadOp, RegisterOp, ShiftOp,
     StoreOp, SystemOp, UpperOp,
 };
+pub use names::ordering_suffix;
 pub use register::Reg;

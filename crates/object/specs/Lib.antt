@@ -1,1 +1,2 @@
+pub mod ObjectFile
 pub mod Sections

@@ -1,10 +1,18 @@
-//! An object: what an assembler makes of a source, the bytes of a text and of a data section.
+//! An object: what an assembler makes of a source, the bytes of a text and of a data section, and its file.
 #![tactic(auto)]
 
-ghost use Rattle.std.specs.Prelude.{◌≡◌, length, vec_len};
+ghost use Rattle.std.specs.Prelude.{◌≡◌, ◌≢◌, ℕ, List, length, vec_len, IfErr, IfOk, IsErrOf, IsOkUnless};
+ghost use Rattle.object.specs.ObjectFile.{IsFirstFault, IsObjectFile, magic};
 ghost use Rattle.object.specs.Sections.{AreWithinLimits, Sections};
 
+pub use fault::LoadFault;
+use std::alloc::Global;
 use std::marker::Model;
+
+mod fault;
+mod file;
+#[cfg(test)]
+mod tests;
 
 /// The most bytes that a text section has: the size of the text region.
 pub const TEXT_LIMIT: usize = 65_536;
@@ -12,10 +20,23 @@ pub const TEXT_LIMIT: usize = 65_536;
 /// The most bytes that a data section has: the size of the data region.
 pub const DATA_LIMIT: usize = 1_048_576;
 
-/// The limits in numbers: a law, with nothing to run.
+/// The bytes that the file of an object begins with.
+pub const MAGIC: [u8; 8] = *b"RVXPROG1";
+
+/// The limits and the magic in numbers: a law, with nothing to run.
 pub fn limits()
     ensures text { TEXT_LIMIT ≡ 65536 }
     ensures static_data { DATA_LIMIT ≡ 1048576 }
+    ensures magic { MAGIC ≡ magic }
+{}
+
+/// What the bytes of a file say, they say alone: a law, with nothing to run.
+///
+/// No two objects have one file, no file has a fault, and no bytes have two faults that are found first.
+pub fn one_reading()
+    ensures object { (bytes : List ℕ) (object other : Sections) → IsObjectFile bytes object → IsObjectFile bytes other → object ≡ other }
+    ensures no_fault { (bytes : List ℕ) (object : Sections) (fault : LoadFault) → IsObjectFile bytes object → ¬ IsFirstFault bytes fault }
+    ensures fault { (bytes : List ℕ) (fault other : LoadFault) → IsFirstFault bytes fault → IsFirstFault bytes other → fault ≡ other }
 {}
 
 /// The bytes of a text of whole words and of a data section, each within its limit.
@@ -41,6 +62,41 @@ impl Object {
         ensures static_data { result.static_data ≡ static_data.items }
     {
         Object { text, static_data }
+    }
+
+    /// Reads the file of an object: `RVXPROG1`, the lengths of text and data as little-endian `u32`, text and data.
+    ///
+    /// Bytes that are no such file are refused by the first of these faults: `Magic`, of which a short input shows as
+    /// much as it has; `Truncated` for the header; `TooLarge`; `TextLength`; `Truncated` for the sections; `Trailing`.
+    /// Only a file is refused by `Memory`.
+    #[tactic(auto, using(crate::proofs::Files::no_fault))]
+    pub fn read(alloc: Global, bytes: &[u8]) -> Result<Object, LoadFault>
+        ensures ok { IfOk result (λ object. IsObjectFile bytes.now object) }
+        ensures err { IfErr result (λ fault. fault ≢ LoadFault.Memory → IsFirstFault bytes.now fault) }
+        ensures memory { IsErrOf result LoadFault.Memory → (object : Sections) × IsObjectFile bytes.now object }
+
+        // The same from the bytes: what is a file is read, and each fault is answered where it is the first.
+        ensures file { (object : Sections) → IsObjectFile bytes.now object → IfOk result (λ found. found ≡ object) × IsOkUnless result LoadFault.Memory }
+        ensures fault { (fault : LoadFault) → IsFirstFault bytes.now fault → IsErrOf result fault }
+    {
+        let (text, static_data) = file::sections(bytes)?;
+        let text = Vec::from_slice(alloc, text)?;
+        let static_data = Vec::from_slice(alloc, static_data)?;
+        Ok(Object::new(text, static_data))
+    }
+
+    /// The object's file, which `read` reads as this object again.
+    pub fn to_bytes(&self, alloc: Global) -> Result<Vec<u8>, LoadFault>
+        ensures file { IfOk result (λ bytes. IsObjectFile bytes.items self.now) }
+        ensures memory { IsOkUnless result LoadFault.Memory }
+    {
+        let header = file::header_bytes(self.text.len() as u32, self.static_data.len() as u32);
+        let size = header.len() + self.text.len() + self.static_data.len();
+        let mut bytes = Vec::with_capacity(alloc, size)?;
+        bytes.extend_from_slice(&header)?;
+        bytes.extend_from_slice(&self.text)?;
+        bytes.extend_from_slice(&self.static_data)?;
+        Ok(bytes)
     }
 
     /// The bytes of the text section.
@@ -69,6 +125,3 @@ impl Object {
         (text, static_data)
     }
 }
-
-#[cfg(test)]
-mod tests;

@@ -1,28 +1,13 @@
 //! Loading: which byte of a program stands where, and the object that it comes from.
 #![tactic(auto)]
 
-ghost use Rattle.std.specs.Prelude.{◌≡◌, ◌≤◌, IfOk, length, vec_len};
+ghost use Rattle.std.specs.Prelude.{◌≡◌, ◌≤◌, IfOk, MatchResult, length, vec_len};
 ghost use Rattle.object.specs.Sections.{Sections};
-ghost use Rattle.program.specs.Loading.{Loads, zero_filled};
+ghost use Rattle.program.specs.Loading.{IsPlaced, Loads, zero_filled};
 
-pub use object::{DATA_LIMIT, Object, TEXT_LIMIT};
+pub use object::{DATA_LIMIT, LoadFault, Object, TEXT_LIMIT};
 use std::alloc::AllocError;
 use std::marker::Model;
-use thiserror::Error;
-
-/// Why an object was not loaded.
-#[derive(Debug, Drop, Error)]
-pub enum LoadFault {
-    /// Memory was refused.
-    #[error("out of memory")]
-    Memory,
-}
-
-impl From<AllocError> for LoadFault {
-    fn from(_error: AllocError) -> LoadFault {
-        LoadFault::Memory
-    }
-}
 
 /// A program that is ready to run: all of the text region, and the bytes of the data section.
 #[derive(Drop)]
@@ -61,9 +46,20 @@ impl Program {
     }
 }
 
+/// Where each byte of a loaded program stands: a law, with nothing to run.
+///
+/// A byte of text stands as far from the base of the text region as from the start of the object's text, and a byte of
+/// data likewise. Zeros stand in the rest of both regions.
+pub fn places()
+    ensures text { (program object : Sections) → Loads program object → IsPlaced object.text program.text }
+    ensures static_data { (program object : Sections) → Loads program object → IsPlaced object.static_data program.static_data }
+{}
+
 /// Loads an object: its text from the base of the text region on, with zeros in the rest of the region, and its data.
+///
+/// Only `LoadFault::Memory` is answered, where a growth was refused.
 pub fn load(object: Object) -> Result<Program, LoadFault>
-    ensures { IfOk result (λ program. Loads program object) }
+    ensures { MatchResult result (λ program. Loads program object) (λ fault. fault ≡ LoadFault.Memory) }
 {
     let (text, static_data) = object.into_sections();
     let text = fill_with_zeros(text, TEXT_LIMIT)?;

@@ -1,6 +1,6 @@
 //! A small object, loaded.
 
-use crate::{LoadFault, Object, load};
+use crate::{Object, load};
 use std::test::Fail;
 
 #[test]
@@ -8,10 +8,7 @@ fn loads_text_and_data(rt: HostRuntime) -> Result<(), Fail> {
     // addi x1, x0, 5
     let text = vec![in rt.alloc(); 0x93u8, 0x00, 0x50, 0x00]?;
     let static_data = vec![in rt.alloc(); 7u8, 8, 9]?;
-    let program = match load(Object::new(text, static_data)) {
-        Ok(program) => program,
-        Err(LoadFault::Memory) => return Err(Fail::from("memory was refused")),
-    };
+    let program = load(Object::new(text, static_data))?;
     let text = program.text_bytes();
     assert_eq!(rt; text.len(), 65_536);
     assert_eq!(rt; &text[..8], [0x93, 0x00, 0x50, 0x00, 0, 0, 0, 0].as_slice());

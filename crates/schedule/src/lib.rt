@@ -1,6 +1,15 @@
 //! Schedules: which hart makes the next step, and which cache line is evicted in between.
 #![tactic(auto)]
 
+mod fault;
 mod items;
+mod joining;
+mod limit;
+mod reader;
+#[cfg(test)]
+mod tests;
+mod words;
+mod writer;
 
+pub use fault::ScheduleFault;
 pub use items::{Item, Schedule, Step};

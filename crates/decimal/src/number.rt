@@ -1,4 +1,4 @@
-//! Decimal numbers, as text writes them.
+//! Numbers in decimal digits.
 
 ghost use Rattle.std.specs.Prelude.{◌^◌, ◌<◌, ◌≤◌, SomeIff};
 ghost use Rattle.std.specs.Str.Parse.{IsNumeral, digits_value};

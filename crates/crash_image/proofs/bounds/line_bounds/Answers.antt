@@ -1,0 +1,25 @@
+use Rattle.std.proofs.Common.{◌≡◌, ◌-◌, ◌++◌, length, take, drop, arith}
+use Rattle.std.proofs.lemmas.Grind.{common_steps}
+use Rattle.store_trace.specs.History.{history}
+use Rattle.crash_image.specs.Bounds.{stored_bounds}
+use Rattle.crash_image.specs.Tallies.{bounds_from}
+use Rattle.crash_image.proofs.Stored.{below_history}
+use Rattle.crash_image.proofs.Tallying.{one_back, last_tallies}
+use Rattle.crash_image.proofs.bounds.line_bounds.Goals as goal
+
+pub loop-at-preserved : goal.loop-at-preserved
+loop-at-preserved c =
+    let same : take c.loop-at.tallies.len (c.read.new.tallies ++ drop (length c.read.new.tallies) c.loop-at.tallies.items) ≡ c.read.new.tallies =
+    grind (arith, common_steps, c.loop-at.tallies.ok, c.deref_mut.ensures.len, c.deref_mut.ensures.value, c.read.auto.tallies) in
+    rw same (
+      c.read.ensures (history c.args.events.now) (history (take (c.loop-at.at - 1) c.args.events.now)) (c.loop-at.at - 1)
+          (rw c.deref_mut.ensures.value (one_back _ _ _ _ _ _ c.loop-at-test.true c.loop-at.auto.at c.loop-at.invariant.0)),
+      omega (arith, c.loop-at.invariant.1, c.deref_mut.ensures.value, c.read.auto.tallies),
+    )
+
+pub returns : goal.returns
+returns c =
+    let none : c.loop-at.at ≡ 0 = omega arith in
+    let all : bounds_from 0 c.loop-at.tallies.items ≡ stored_bounds (history c.args.events.now) =
+    last_tallies _ _ _ _ c.args.lines c.loop-at.invariant.1 (below_history c.args.lines c.args.events.now c.requires.named) (rw none at c.loop-at.invariant.0) in
+    rw (c.deref.ensures.value, all) at c.stored_lines.ensures

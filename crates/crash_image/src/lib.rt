@@ -1,0 +1,41 @@
+//! Crash images: what a power cut may leave in persistent memory at a moment of a trace.
+//!
+//! Source: Vinter, USENIX ATC 2022 (crash images), with each line free to stand after any number of its
+//! stores from its floor on.
+#![tactic(auto)]
+
+pub use cuts::Cuts;
+pub use names::has_lines;
+use std::alloc::AllocError;
+use thiserror::Error;
+
+mod bounds;
+mod cuts;
+mod names;
+#[cfg(test)]
+mod tests;
+
+/// Why crash images aren't given.
+#[derive(Debug, Drop, Error)]
+pub enum ImageFault {
+    /// The trace has fewer events than the moment.
+    #[error("no such moment")]
+    NoSuchMoment,
+    /// The list isn't of just the stored lines, or a number lies outside its line's bounds.
+    #[error("not a cut")]
+    NotACut,
+    /// A growth was refused.
+    #[error("out of memory")]
+    Memory,
+}
+
+impl From<AllocError> for ImageFault {
+    ghost use Rattle.std.specs.Prelude.{◌≡◌};
+    ghost use Rattle.crash_image.specs.declared.ImageFault.TheVariants.{Memory};
+
+    ghost from_gives = { λ _ fault. fault ≡ Memory };
+
+    fn from(_refused: AllocError) -> ImageFault {
+        ImageFault::Memory
+    }
+}

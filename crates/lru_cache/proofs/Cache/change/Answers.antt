@@ -1,0 +1,10 @@
+use Rattle.std.proofs.Common.{ap, ◌∙◌, ◌+◌, ◌≤◌, arith}
+use Rattle.lru_cache.specs.Cache.{CacheView, is_dirty, is_resident}
+use Rattle.lru_cache.proofs.Keeps.{held_change}
+use Rattle.lru_cache.proofs.Cache.change.Goals as goal
+
+pub invariant_of-self : goal.invariant_of-self
+invariant_of-self c = held_change _ _ c.self.invariant c.args.line _ c.note_store.ensures.sound c.args.bytes c.note_store.ensures.changed (ap (λ (w : CacheView). is_resident w c.args.line) c.self.view_is ∙ c.requires.resident) c.requires.whole
+
+pub returns-clause-sound : goal.returns-clause-sound
+returns-clause-sound c = (invariant_of-self c).sound

@@ -1,0 +1,5 @@
+use Rattle.lru_cache.proofs.Splits.{ordered_in}
+use Rattle.lru_cache.proofs.orders.Orders.note_write_back.Goals as goal
+
+pub returns-clause-sound : goal.returns-clause-sound
+returns-clause-sound c = ordered_in _ c.take_out_from.ensures.sound

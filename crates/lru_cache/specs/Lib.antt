@@ -1,0 +1,3 @@
+pub mod Order
+pub mod Cache
+pub mod Split

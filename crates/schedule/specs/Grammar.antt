@@ -1,0 +1,71 @@
+-- The text of a schedule.
+use Rattle.std.specs.Prelude.{◌≡◌, ◌≤◌, ◌<◌, ◌^◌, ◌==◌, ◌||◌, ◌⊎◌, ◌++◌, ℕ, Bool, List, codes, filter, length, nat_lt, ⊤}
+use Rattle.std.specs.List.{AllZip, slice_split, sum_by}
+use Rattle.std.specs.Str.Parse.{IsNumeral, digits_value}
+use Rattle.schedule.specs.declared.fault.ScheduleFault.{ScheduleFault}
+use Rattle.schedule.specs.declared.fault.ScheduleFault.TheVariants.{Text, Memory}
+use Rattle.schedule.specs.declared.items.Item.{Item}
+use Rattle.schedule.specs.declared.items.Item.TheVariants.{Steps, Evict}
+
+-- a space or a line end
+unfoldable pub is_blank : ℕ → Bool
+is_blank byte = (byte == 32) || (byte == 10)
+
+abbrev pub is_written : List ℕ → Bool
+is_written part = nat_lt 0 (length part)
+
+-- the words of a text are what stands between its blanks
+abbrev pub words : List ℕ → List (List ℕ)
+words text = filter is_written (slice_split is_blank text)
+
+-- decimal digits, leading zeros among them, of a number of 32 bits
+pub record IsNumber (digits : List ℕ) (number : ℕ) : Type 0 where
+  pub numeral : IsNumeral 10 digits
+  pub value : number ≡ digits_value 10 digits
+  pub small : number < 2 ^ 32
+
+-- `hN`: one step of a hart
+pub record IsStep (word : List ℕ) (hart count : ℕ) : Type 0 where
+  pub hart_digits : List ℕ
+  pub spelled : word ≡ codes "h" ++ hart_digits
+  pub hart_number : IsNumber hart_digits hart
+  pub one : count ≡ 1
+
+-- `hN*K`: K steps of a hart, at least one
+pub record IsSteps (word : List ℕ) (hart count : ℕ) : Type 0 where
+  pub hart_digits : List ℕ
+  pub count_digits : List ℕ
+  pub spelled : word ≡ codes "h" ++ (hart_digits ++ (codes "*" ++ count_digits))
+  pub hart_number : IsNumber hart_digits hart
+  pub count_number : IsNumber count_digits count
+  pub some : 1 ≤ count
+
+-- `eL`: the eviction of a line
+pub record IsEviction (word : List ℕ) (line : ℕ) : Type 0 where
+  pub line_digits : List ℕ
+  pub spelled : word ≡ codes "e" ++ line_digits
+  pub line_number : IsNumber line_digits line
+
+-- the word says the item
+abbrev pub Says : List ℕ → Item → Type 0
+Says word (Steps hart count) = IsStep word hart count ⊎ IsSteps word hart count
+Says word (Evict line) = IsEviction word line
+
+-- how many steps of harts an item and a list of items have
+abbrev pub steps_in : Item → ℕ
+steps_in (Steps hart count) = count
+steps_in (Evict line) = 0
+
+abbrev pub hart_steps : List Item → ℕ
+hart_steps items = sum_by steps_in items
+
+-- the words of the text say the items, one by one, and the steps of all harts together are fewer
+-- than 2^32
+pub record IsSchedule (text : List ℕ) (items : List Item) : Type 0 where
+  pub says : AllZip Says (words text) items
+  pub within : hart_steps items < 2 ^ 32
+
+-- what holds of a refusal that isn't want of memory
+abbrev pub OnText : Type 0 → ScheduleFault → Type 0
+OnText P Text = P
+OnText P Memory = ⊤
