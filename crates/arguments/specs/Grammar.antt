@@ -1,5 +1,5 @@
 -- The grammar of the command line, as clap's specification takes a command.
-use Rattle.std.specs.Prelude.{◌≡◌, [], ◌∷◌, Some, codes, true, false}
+use Rattle.std.specs.Prelude.{◌≡◌, List, [], ◌∷◌, Some, codes, true, false}
 use Rattle.clap.specs.Words.{App, Rule, Shape, Text, app_of, new_rule}
 use Rattle.clap.specs.Simple.{new_shape}
 use Rattle.clap.specs.declared.builder.action.ArgAction.TheVariants.{Help}
@@ -18,19 +18,31 @@ needed_word name = record (new_rule name) { required = true }
 abbrev pub number_option : Text → Rule
 number_option name = record (new_rule name) { long = Some name; value_names = 1 }
 
--- `run SOURCE [--steps N]`
+-- `asm SOURCE OBJECT`
+abbrev pub assemble_shape : Shape
+assemble_shape = record (new_shape (codes "asm")) {
+  rules = needed_word (codes "SOURCE") ∷ needed_word (codes "OBJECT") ∷ help_option ∷ [];
+}
+
+-- `run PROGRAM [--steps N]`
 abbrev pub run_shape : Shape
 run_shape = record (new_shape (codes "run")) {
-  rules = needed_word (codes "SOURCE") ∷ number_option (codes "steps") ∷ help_option ∷ [];
+  rules = needed_word (codes "PROGRAM") ∷ number_option (codes "steps") ∷ help_option ∷ [];
+}
+
+-- `images PROGRAM SCHEDULE MOMENT`
+abbrev pub images_shape : Shape
+images_shape = record (new_shape (codes "images")) {
+  rules = needed_word (codes "PROGRAM") ∷ needed_word (codes "SCHEDULE") ∷ needed_word (codes "MOMENT") ∷ help_option ∷ [];
 }
 
 -- a command with no subcommand
 abbrev pub leaf : Shape → App
 leaf shape = record { top = shape; subs = [] }
 
--- the whole line: no `help` subcommand, no `-h`, and a subcommand has to be given
-abbrev pub novacrash : App
-novacrash = record {
+-- a line with these subcommands: no `help` subcommand, no `-h`, and a subcommand has to be given
+abbrev pub line : List Shape → App
+line shapes = record {
   top = record (new_shape (codes "novacrash")) {
     rules = help_option ∷ [];
     is_leaf = false;
@@ -38,8 +50,12 @@ novacrash = record {
     disable_help_subcommand = true;
     subcommand_required = true;
   };
-  subs = run_shape ∷ [];
+  subs = shapes;
 }
+
+-- the whole line
+abbrev pub novacrash : App
+novacrash = line (assemble_shape ∷ run_shape ∷ images_shape ∷ [])
 
 -- a command of clap that parses by this grammar, in which no option holds at every level
 pub record IsGrammar (app : App) (c : Command) : Type 0 where

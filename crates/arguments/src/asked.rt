@@ -6,13 +6,29 @@ use thiserror::Error;
 /// The command of a line.
 #[derive(Drop)]
 pub enum Command {
-    /// `run SOURCE [--steps N]`.
+    /// `asm SOURCE OBJECT`.
+    Assemble {
+        /// The name of the source's file.
+        source: String,
+        /// The name of the file that gets the object.
+        object: String,
+    },
+    /// `run PROGRAM [--steps N]`.
     Run {
         /// The name of the program's file.
-        source: String,
+        program: String,
         /// The most steps that a hart may make, from 1 to 500,000,000; 1,000,000 where the line
         /// doesn't say.
         steps: u32,
+    },
+    /// `images PROGRAM SCHEDULE MOMENT`.
+    Images {
+        /// The name of the program's file.
+        program: String,
+        /// The name of the schedule's file.
+        schedule: String,
+        /// The number of events before the power cut.
+        moment: u32,
     },
 }
 

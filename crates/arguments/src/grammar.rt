@@ -1,8 +1,8 @@
 //! The grammar of the command line, as clap takes it.
 
-ghost use Rattle.std.specs.Prelude.{◌≡◌, IfOk, codes, false};
+ghost use Rattle.std.specs.Prelude.{◌≡◌, [], ◌∷◌, IfOk, codes, false};
 ghost use Rattle.clap.specs.Words.{rule_of};
-ghost use Rattle.arguments.specs.Grammar.{IsGrammar, leaf, novacrash, run_shape};
+ghost use Rattle.arguments.specs.Grammar.{IsGrammar, assemble_shape, images_shape, leaf, line, novacrash, run_shape};
 ghost use Rattle.arguments.specs.Grammar.{help_option, needed_word, number_option};
 
 use clap::{Arg, ArgAction};
@@ -35,12 +35,26 @@ fn help_flag<'a>(alloc: Global) -> Arg<'a>
         .help("Print help")
 }
 
+fn assemble<'a>(alloc: Global) -> Result<clap::Command<'a>, AllocError>
+    ensures { IfOk result (IsGrammar (leaf assemble_shape)) }
+{
+    clap::Command::new(alloc, "asm")
+        .about("Assemble a source and write its object")
+        .arg(word(alloc, "SOURCE", "The source's file"))?
+        .arg(word(alloc, "OBJECT", "The file that gets the object"))?
+        .arg(help_flag(alloc))
+}
+
 fn run<'a>(alloc: Global) -> Result<clap::Command<'a>, AllocError>
     ensures { IfOk result (IsGrammar (leaf run_shape)) }
 {
     clap::Command::new(alloc, "run")
-        .about("Assemble a program and run it on one hart")
-        .arg(word(alloc, "SOURCE", "The program's file"))?
+        .about("Run a program on one hart")
+        .arg(word(
+            alloc,
+            "PROGRAM",
+            "The program's file: an object or a source",
+        ))?
         .arg(number(
             alloc,
             "steps",
@@ -49,9 +63,24 @@ fn run<'a>(alloc: Global) -> Result<clap::Command<'a>, AllocError>
         .arg(help_flag(alloc))
 }
 
-/// The whole line: a subcommand with its words and options, and `--help` anywhere.
-pub(crate) fn grammar<'a>(alloc: Global) -> Result<clap::Command<'a>, AllocError>
-    ensures { IfOk result (IsGrammar novacrash) }
+fn images<'a>(alloc: Global) -> Result<clap::Command<'a>, AllocError>
+    ensures { IfOk result (IsGrammar (leaf images_shape)) }
+{
+    clap::Command::new(alloc, "images")
+        .about("Count the crash images of a moment of a run by a schedule")
+        .arg(word(
+            alloc,
+            "PROGRAM",
+            "The program's file: an object or a source",
+        ))?
+        .arg(word(alloc, "SCHEDULE", "The schedule's file"))?
+        .arg(word(alloc, "MOMENT", "How many events come before the power cut"))?
+        .arg(help_flag(alloc))
+}
+
+/// The line with `asm` as its one subcommand.
+fn with_assemble<'a>(alloc: Global) -> Result<clap::Command<'a>, AllocError>
+    ensures { IfOk result (IsGrammar (line (assemble_shape ∷ []))) }
 {
     clap::Command::new(alloc, "novacrash")
         .about("A crash tester for persistent-memory routines")
@@ -59,5 +88,19 @@ pub(crate) fn grammar<'a>(alloc: Global) -> Result<clap::Command<'a>, AllocError
         .disable_help_subcommand(true)
         .subcommand_required(true)
         .arg(help_flag(alloc))?
-        .subcommand(run(alloc)?)
+        .subcommand(assemble(alloc)?)
+}
+
+/// The line with `run` beside it.
+fn with_run<'a>(alloc: Global) -> Result<clap::Command<'a>, AllocError>
+    ensures { IfOk result (IsGrammar (line (assemble_shape ∷ run_shape ∷ []))) }
+{
+    with_assemble(alloc)?.subcommand(run(alloc)?)
+}
+
+/// The whole line: a subcommand with its words and options, and `--help` anywhere.
+pub(crate) fn grammar<'a>(alloc: Global) -> Result<clap::Command<'a>, AllocError>
+    ensures { IfOk result (IsGrammar novacrash) }
+{
+    with_run(alloc)?.subcommand(images(alloc)?)
 }

@@ -15,7 +15,15 @@ fn words_of(alloc: Global, line: &str) -> Result<Vec<String>, AllocError> {
 fn read(alloc: Global, line: &str) -> Result<String, AllocError> {
     let words = words_of(alloc, line)?;
     match command(alloc, words.as_slice()) {
-        Ok(Command::Run { source, steps }) => format!(in alloc; "{source} {steps}"),
+        Ok(Command::Assemble { source, object }) => format!(in alloc; "{source} {object}"),
+        Ok(Command::Run { program, steps }) => format!(in alloc; "{program} {steps}"),
+        Ok(
+            Command::Images {
+                program,
+                schedule,
+                moment,
+            },
+        ) => format!(in alloc; "{program} {schedule} {moment}"),
         Err(LineFault::Help(_)) => String::from_str(alloc, "help"),
         Err(LineFault::Fault(_)) => String::from_str(alloc, "fault"),
         Err(LineFault::Memory) => String::from_str(alloc, "memory"),
@@ -33,6 +41,13 @@ fn lines_are_read(rt: HostRuntime) -> Result<(), Fail> {
         ("novacrash run --steps=20 -- a.s", "a.s 20"),
         ("novacrash run -- -a.s", "-a.s 1000000"),
         ("novacrash run -- --steps", "--steps 1000000"),
+        ("novacrash asm a.s a.o", "a.s a.o"),
+        ("novacrash asm -- -a.s -a.o", "-a.s -a.o"),
+        ("novacrash asm --help", "help"),
+        ("novacrash images a.s s 0", "a.s s 0"),
+        ("novacrash images a.s s 0004294967295", "a.s s 4294967295"),
+        ("novacrash images -- a.s -s 7", "a.s -s 7"),
+        ("novacrash images --help", "help"),
         ("novacrash --help", "help"),
         ("novacrash run --help", "help"),
     ];
@@ -73,7 +88,15 @@ fn lines_are_refused(rt: HostRuntime) -> Result<(), Fail> {
         "novacrash help run",
         "novacrash ru a.s",
         "novacrash --steps 5 run a.s",
-        "novacrash asm a.s a.o",
+        "novacrash images",
+        "novacrash images a.s s",
+        "novacrash images a.s s 0 1",
+        "novacrash images a.s s +1",
+        "novacrash images a.s s 0x1",
+        "novacrash images a.s s 4294967296",
+        "novacrash images a.s s 1 --steps 2",
+        "novacrash asm a.s",
+        "novacrash asm a.s a.o b.o",
     ];
     for line in lines {
         let outcome = read(rt.alloc(), line)?;

@@ -1,12 +1,12 @@
 //! The values that clap found for a subcommand's words and options.
 
-ghost use Rattle.std.specs.Prelude.{◌≡◌, ◌≤◌, ℕ, IfOk, IfErr, MatchOption, string_bytes};
+ghost use Rattle.std.specs.Prelude.{◌≡◌, ◌≤◌, ◌<◌, ◌^◌, ℕ, IfOk, IfErr, MatchOption, string_bytes};
 ghost use Rattle.clap.specs.Words.{first_of, found_of, rows_of};
-ghost use Rattle.arguments.specs.Line.{IsNumber, OnFault};
+ghost use Rattle.arguments.specs.Line.{IsNumber, IsNumberWord, OnFault};
 
 use crate::asked::LineFault;
 use clap::ArgMatches;
-use decimal::decimal_within;
+use decimal::{decimal, decimal_within};
 use std::alloc::Global;
 
 /// The value of an option or a word, where the line has it.
@@ -27,6 +27,26 @@ pub(crate) fn word(alloc: Global, found: &ArgMatches<'_>, name: &str) -> Result<
     match value(found, name) {
         Some(word) => Ok(String::from_str(alloc, word)?),
         None => Err(LineFault::Fault(format!(in alloc; "error: {name} is missing\n")?)),
+    }
+}
+
+/// The number, below 2^32, that a word which a command needs writes.
+pub(crate) fn number_word(
+    alloc: Global,
+    found: &ArgMatches<'_>,
+    name: &str,
+) -> Result<u32, LineFault>
+    ensures ok { IfOk result (IsNumberWord (first_of name.now (rows_of (found_of found.now)))) }
+    ensures err { IfErr result (OnFault ((n : ℕ) → ¬ (IsNumberWord (first_of name.now (rows_of (found_of found.now))) n))) }
+{
+    let Some(text) = value(found, name) else {
+        return Err(LineFault::Fault(format!(in alloc; "error: {name} is missing\n")?));
+    };
+    match decimal(text.as_bytes()) {
+        Some(number) => Ok(number),
+        None => Err(LineFault::Fault(format!(in alloc;
+            "error: {name} is a decimal number below 4294967296\n"
+        )?)),
     }
 }
 

@@ -1,5 +1,6 @@
-pub mod Registers
-pub mod Lines
-pub mod Passes
-pub mod TextSteps
-pub mod Whole
+pub mod Placed
+pub mod First
+pub mod FirstPass
+pub mod ByteSteps
+pub mod SecondPass
+pub mod OneAnswer

@@ -1,72 +1,56 @@
 -- What a source is assembled to, and which fault it is refused with.
-use Rattle.std.specs.Prelude.{◌≡◌, ℕ, ◌+◌, ◌-◌, ◌*◌, ◌^◌, ◌<◌, ◌≤◌, Bool, true, false, ◌&&◌, ◌||◌, ◌==◌, nat_lt, List, [], ◌∷◌, ◌++◌, length, take, slice_index_or, Option, Some, None, Result, Ok, Err}
-use Rattle.std.specs.Int.{w32, to_le_bytes}
-use Rattle.std.specs.List.{flat_map}
-use Rattle.std.specs.Result.{result_err}
+use Rattle.std.specs.Prelude.{◌≡◌, ℕ, ◌+◌, ◌≤◌, ◌⊎◌, false, List, [], ◌∷◌, ◌++◌, length, reverse, Option, None}
 use Rattle.asm_lex.specs.Lines.{lines_of}
-use Rattle.isa_table.specs.declared.instruction.Instr.{Instr}
-use Rattle.isa_table.specs.Table.{IsCanonical}
+use Rattle.asm_line.specs.declared.line.Section.{Section}
+use Rattle.asm_line.specs.declared.line.Section.TheVariants.{Text, Data}
 use Rattle.object.specs.Sections.{Sections}
-use Rattle.object.specs.declared.TheConstants.{TEXT_LIMIT}
+use Rattle.object.specs.declared.TheConstants.{TEXT_LIMIT, DATA_LIMIT}
 use Rattle.assemble.specs.declared.TheConstants.{SOURCE_LIMIT}
-use Rattle.assemble.specs.declared.fault.AsmCode.{AsmCode}
-use Rattle.assemble.specs.declared.fault.AsmCode.TheVariants.{TooLarge}
 use Rattle.assemble.specs.declared.fault.AsmFault.{AsmFault}
-use Rattle.assemble.specs.Statements.{line_of}
+use Rattle.assemble.specs.Places.{base_of, label_of, section_after, place_after, value_in}
+use Rattle.assemble.specs.SourceLines.{Values, IsSourceLine}
+use Rattle.assemble.specs.Faults.{IsFirst, NoneHas, early_code, late_code, is_defined}
 
--- the instruction of a line, if it has one
-abbrev pub instr_in : Result (Option Instr) AsmCode → List Instr
-instr_in (Ok (Some instr)) = instr ∷ []
-instr_in (Ok None) = []
-instr_in (Err code) = []
+-- the lines of a source, the last one first
+abbrev pub lines_back : List ℕ → List (List ℕ)
+lines_back source = reverse (lines_of source)
 
--- the instructions of lines, in order
-abbrev pub instructions : List (List ℕ) → List Instr
-instructions lines = flat_map (λ line. instr_in (line_of line)) lines
+-- the values of a source's labels
+abbrev pub values_of : List ℕ → Values
+values_of source = value_in (lines_back source)
 
--- how many bytes lines take, four for each instruction: the place of a line is the base of text plus the size of the
--- lines before it
-abbrev pub size_of : List (List ℕ) → ℕ
-size_of lines = 4 * length (instructions lines)
+-- the bytes of a section, and the sections with bytes added at the end of one
+abbrev pub bytes_in : Section → Sections → List ℕ
+bytes_in Text sections = sections.text
+bytes_in Data sections = sections.static_data
 
--- the lowest code of a line: its own, if it has one, and else that of a limit, where the line passes one
-abbrev pub lowest : Option AsmCode → Bool → Option AsmCode
-lowest (Some code) passes = Some code
-lowest None true = Some TooLarge
-lowest None false = None
+abbrev pub added : Section → List ℕ → Sections → Sections
+added Text bytes sections = record { text = sections.text ++ bytes; static_data = sections.static_data }
+added Data bytes sections = record { text = sections.text; static_data = sections.static_data ++ bytes }
 
--- the lowest code of the line at an index from 0: a source that passes its limit does so in its first line
-abbrev pub code_at : List ℕ → ℕ → Option AsmCode
-code_at source k =
-    let lines = lines_of source in
-    lowest (result_err (line_of (slice_index_or lines k [])))
-    ((k == 0 && nat_lt SOURCE_LIMIT (length source)) || nat_lt TEXT_LIMIT (size_of (take (k + 1) lines)))
+-- the sections after one line more: the line stands in its section where the section's bytes end, which is its place, and
+-- its bytes come there
+pub record Adds (values : Values) (earlier : List (List ℕ)) (line : List ℕ) (before after : Sections) : Type 0 where
+  pub bytes : List ℕ
+  pub place : place_after earlier ≡ base_of (section_after earlier) + length (bytes_in (section_after earlier) before)
+  pub is_line : IsSourceLine (section_after earlier) (place_after earlier) values line bytes
+  pub once : is_defined (value_in earlier) (label_of line) ≡ false
+  pub after_is : after ≡ added (section_after earlier) bytes before
 
--- the first line that has a fault, by its number from 1, with the lowest code of its faults
-pub record IsFirstFault (source : List ℕ) (fault : AsmFault) : Type 0 where
-  pub from_one : 1 ≤ fault.line
-  pub in_range : fault.line ≤ length (lines_of source)
-  pub code : code_at source (fault.line - 1) ≡ Some fault.code
-  pub first : (k : ℕ) → k + 1 < fault.line → code_at source k ≡ None
+-- the sections are the bytes of these lines, each of which is a source line at its place
+abbrev pub AreBytesOf : Values → List (List ℕ) → Sections → Type 0
+AreBytesOf values [] sections = sections ≡ record { text = []; static_data = [] }
+AreBytesOf values (line ∷ earlier) sections = (before : Sections) × AreBytesOf values earlier before × Adds values earlier line before sections
 
--- a line without a statement has no bytes, and a line with one has the canonical word of its instruction, the least
--- significant byte first
-abbrev pub HasBytes : Result (Option Instr) AsmCode → List ℕ → Type 0
-HasBytes (Ok None) bytes = bytes ≡ []
-HasBytes (Ok (Some instr)) bytes = (word : ℕ) × (word < 2 ^ 32) × IsCanonical word instr × (bytes ≡ to_le_bytes w32 word)
-HasBytes (Err code) bytes = ⊥
-
-abbrev pub IsSourceLine : List ℕ → List ℕ → Type 0
-IsSourceLine line bytes = HasBytes (line_of line) bytes
-
--- the bytes of lines, one line after the other
-abbrev pub AreBytesOf : List (List ℕ) → List ℕ → Type 0
-AreBytesOf [] bytes = bytes ≡ []
-AreBytesOf (line ∷ lines) bytes = (here rest : List ℕ) × IsSourceLine line here × AreBytesOf lines rest × (bytes ≡ here ++ rest)
-
--- each line is a source line, nothing passes its limit, and the object is the bytes of the lines, without data
+-- each line of the source is a source line at its place, nothing passes its limit, and the object is the lines' bytes
 pub record Assembles (source : List ℕ) (object : Sections) : Type 0 where
   pub source_fits : length source ≤ SOURCE_LIMIT
   pub text_fits : length object.text ≤ TEXT_LIMIT
-  pub lines : AreBytesOf (lines_of source) object.text
-  pub static_data : object.static_data ≡ []
+  pub data_fits : length object.static_data ≤ DATA_LIMIT
+  pub lines : AreBytesOf (values_of source) (lines_back source) object
+
+-- the first fault: of those that need no label's place, or, where no line has one, of the others
+abbrev pub IsFirstFault : List ℕ → AsmFault → Type 0
+IsFirstFault source fault =
+    IsFirst (early_code (length source)) (lines_of source) fault
+    ⊎ (NoneHas (early_code (length source)) (lines_back source) × IsFirst (late_code (values_of source)) (lines_of source) fault)

@@ -1,8 +1,9 @@
-pub mod Names
-pub mod Lexemes
-pub mod Numbers
-pub mod Grammar
-pub mod Statements
-pub mod Steps
-pub mod Text
+pub mod Places
+pub mod SourceLines
+pub mod Faults
 pub mod Assembly
+pub mod Labels
+pub mod Positions
+pub mod Passes
+pub mod Appending
+pub mod Emission

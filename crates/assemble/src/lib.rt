@@ -1,63 +1,70 @@
 //! The assembler: from the bytes of a source to an object, or to the first line at fault.
 //!
-//! A source is lines of statements. A statement is a mnemonic and its operands, and gives one
-//! instruction; empty lines and comments give none. The mnemonics are `addi`, `lui`, `sd`,
-//! `cbo.clean`, `fence` and `ecall`.
+//! A source is lines, each of which may define a label and have a statement: an instruction, a
+//! pseudo-instruction or a directive. The statements of text and of data go one after the other into
+//! the two sections of the object, in two passes: the first finds the place of each label, and the
+//! second the bytes.
 //!
 //! Source: RISC-V Unprivileged ISA 20191213, chapters 24 and 25; RISC-V Cache Management Operations
 //! (CMO) 1.0.
 #![tactic(auto)]
 
-ghost use Rattle.assemble.specs.Assembly.{Assembles, IsFirstFault, instructions, lowest};
-ghost use Rattle.assemble.specs.Statements.{line_of};
-ghost use Rattle.assemble.specs.Text.{IsTextOf};
-ghost use Rattle.asm_lex.specs.Lines.{lines_of};
-ghost use Rattle.std.specs.Prelude.{◌≡◌, ◌≢◌, ◌<◌, true, Some, length, IfOk, IfErr};
-ghost use Rattle.std.specs.Result.{result_err};
+ghost use Rattle.assemble.specs.Assembly.{Assembles, IsFirstFault};
+ghost use Rattle.assemble.specs.Faults.{early_code};
+ghost use Rattle.object.specs.Sections.{Sections};
+ghost use Rattle.std.specs.Prelude.{◌≡◌, ◌≢◌, ◌<◌, ℕ, List, [], Some, length, IfOk, IfErr};
 
+mod bytes;
 mod emission;
 mod fault;
-mod lexeme;
-mod names;
-mod operands;
-mod reading;
-mod shapes;
-mod statement;
+mod labels;
+mod placing;
+mod position;
 
 use asm_lex::next_line;
-use emission::text_of;
-pub use fault::{AsmCode, AsmFault};
+pub use asm_line::AsmCode;
+use emission::sections_of;
+pub use fault::AsmFault;
+use labels::Labels;
 use object::Object;
-use reading::read;
-use statement::statement;
+use placing::{labels_of, place_line};
+use position::Position;
 use std::alloc::Global;
 
 /// The most bytes that a source has.
 pub const SOURCE_LIMIT: usize = 4_194_304;
 
+/// What the bytes of a source say, they say alone: a law, with nothing to run.
+///
+/// No source that is assembled has a fault, and no source has two first faults.
+pub fn one_answer()
+    ensures no_fault { (source : List ℕ) (object : Sections) (fault : AsmFault) → Assembles source object → ¬ IsFirstFault source fault }
+    ensures fault { (source : List ℕ) (fault other : AsmFault) → IsFirstFault source fault → IsFirstFault source other → fault ≡ other }
+{}
+
 /// The object of a source, or its first line at fault.
 ///
-/// A source is accepted exactly where each of its lines has no statement or a correct one, it has at
-/// most `SOURCE_LIMIT` bytes, and its text has at most `object::TEXT_LIMIT` bytes, four for each
-/// instruction. The object's text is then the canonical words of the instructions in order, the least
-/// significant byte first, and its data is empty.
+/// A source is accepted exactly where each of its lines is a source line at its place, no label is
+/// defined twice, and nothing passes its limit: the source `SOURCE_LIMIT` bytes, its text
+/// `object::TEXT_LIMIT` and its data `object::DATA_LIMIT` bytes. Text begins at the place 0x10000
+/// and data at 0x100000. The object is then the bytes of the lines, each at its place.
 ///
-/// Else the first line at fault is answered, by its number from 1, with the lowest code of its
-/// faults. The line whose word passes the limit of text is too large, and so is the first line of a
-/// source that passes its own limit. `AsmCode::Memory` is answered only where a growth was refused,
-/// and says nothing of the source.
-#[tactic(auto, using(crate::proofs::Whole::first_fault, crate::proofs::Whole::within_limits))]
+/// Else a line is refused by its number from 1. Faults that need no label's place come first: the
+/// first line that has one is answered, with the lowest code of such faults of it. The line whose
+/// bytes pass the limit of their section is too large, and so is the first line of a source that
+/// passes its own limit. Where no line has such a fault, the first line with a label that is
+/// unknown or out of reach is answered. `AsmCode::Memory` is answered only where a growth was
+/// refused, and says nothing of the source.
 pub fn assemble(alloc: Global, source: &[u8]) -> Result<Object, AsmFault>
     ensures ok { IfOk result (λ object. Assembles source.now object) }
-    ensures words { IfOk result (λ object. IsTextOf (instructions (lines_of source.now)) object.text) }
     ensures err { IfErr result (λ fault. fault.code ≢ AsmCode.Memory → IsFirstFault source.now fault) }
 {
     if source.len() > SOURCE_LIMIT {
         return Err(too_long(alloc, source));
     }
-    let lines = read(alloc, source)?;
-    let text = text_of(alloc, &lines)?;
-    Ok(Object::new(text, Vec::new(alloc)))
+    let labels = labels_of(alloc, source)?;
+    let (text, static_data) = sections_of(alloc, source, &labels)?;
+    Ok(Object::new(text, static_data))
 }
 
 /// The fault of a source that passes its limit, which its first line does.
@@ -74,10 +81,12 @@ fn too_long(alloc: Global, source: &[u8]) -> AsmFault
 
 /// The lowest code of a first line which passes the limit.
 fn code_of_first(alloc: Global, line: &[u8]) -> AsmCode
-    ensures { result ≢ AsmCode.Memory → lowest (result_err (line_of line.now)) true ≡ Some result }
+    ensures { (size : ℕ) → SOURCE_LIMIT < size → result ≢ AsmCode.Memory → early_code size [] line.now ≡ Some result }
 {
-    match statement(alloc, line, 1) {
-        Ok(_) => AsmCode::TooLarge,
+    let mut labels = Labels::new(alloc);
+    let mut position = Position::start();
+    match place_line(alloc, &mut labels, &mut position, line, 1) {
+        Ok(()) => AsmCode::TooLarge,
         Err(code) => code,
     }
 }

@@ -1,15 +1,22 @@
 -- What standard error gets of a command that fails, and the status that the program then ends with.
 use Rattle.std.specs.Prelude.{ℕ, List, ◌++◌, codes, decimal, string_bytes}
-use Rattle.assemble.specs.declared.fault.AsmCode.{AsmCode}
-use Rattle.assemble.specs.declared.fault.AsmCode.TheVariants as asm
+use Rattle.asm_line.specs.declared.fault.AsmCode.{AsmCode}
+use Rattle.asm_line.specs.declared.fault.AsmCode.TheVariants as asm
+use Rattle.assemble.specs.declared.fault.AsmFault.{AsmFault}
+use Rattle.object.specs.declared.fault.LoadFault.{LoadFault}
+use Rattle.object.specs.declared.fault.LoadFault.TheVariants as loads
 use Rattle.machine.specs.declared.fault.StepFault.{StepFault}
 use Rattle.machine.specs.declared.fault.StepFault.TheVariants as steps
 use Rattle.command_line.specs.declared.failure.Failure.{Failure}
 use Rattle.command_line.specs.declared.failure.Failure.TheVariants.{Line, Refused, Memory, File}
 use Rattle.command_line.specs.declared.failure.Refusal.{Refusal}
-use Rattle.command_line.specs.declared.failure.Refusal.TheVariants.{Assembly, Step}
-use Rattle.tester.specs.declared.SourceFault.{SourceFault}
-use Rattle.tester.specs.declared.SourceFault.TheVariants as source_faults
+use Rattle.command_line.specs.declared.failure.Refusal.TheVariants.{Assembly, Object, Step, ScheduleText, Moment}
+use Rattle.schedule.specs.declared.fault.ScheduleFault.{ScheduleFault}
+use Rattle.schedule.specs.declared.fault.ScheduleFault.TheVariants as schedule_faults
+use Rattle.tester.specs.declared.CountFault.{CountFault}
+use Rattle.tester.specs.declared.CountFault.TheVariants as count_faults
+use Rattle.tester.specs.declared.ProgramFault.{ProgramFault}
+use Rattle.tester.specs.declared.ProgramFault.TheVariants as program_faults
 use Rattle.command_line.specs.declared.files.FileFault.{FileFault}
 use Rattle.command_line.specs.declared.files.FileFault.TheVariants as file_faults
 use Rattle.command_line.specs.Reports.{line_end}
@@ -33,10 +40,21 @@ step_code steps.NoSuchLine = codes "G2"
 step_code steps.TraceFull = codes "G4"
 step_code steps.Memory = codes "G5"
 
+abbrev pub load_code : LoadFault → List ℕ
+load_code loads.Magic = codes "P1"
+load_code loads.Truncated = codes "P2"
+load_code loads.TooLarge = codes "P3"
+load_code loads.Trailing = codes "P4"
+load_code loads.TextLength = codes "P5"
+load_code loads.Memory = codes "P6"
+
 -- `refused CODE`, and ` line N` of a fault that has a line
 abbrev pub refusal_text : Refusal → List ℕ
 refusal_text (Assembly fault) = codes "refused " ++ (assembly_code fault.code ++ (codes " line " ++ decimal fault.line))
+refusal_text (Object fault) = codes "refused " ++ load_code fault
 refusal_text (Step fault) = codes "refused " ++ step_code fault
+refusal_text ScheduleText = codes "refused G3"
+refusal_text Moment = codes "refused C1"
 
 -- the lines of a failure; those of a fault of the command line are given
 abbrev pub failure_text : Failure → List ℕ
@@ -56,8 +74,28 @@ abbrev pub failure_of_file : FileFault → Failure
 failure_of_file file_faults.Failed = File
 failure_of_file file_faults.Memory = Memory
 
--- the failure for a source that wasn't run
-abbrev pub failure_of_source : SourceFault → Failure
-failure_of_source (source_faults.Assembly fault) = Refused (Assembly fault)
-failure_of_source (source_faults.Step fault) = Refused (Step fault)
-failure_of_source source_faults.Memory = Memory
+-- the failure for a source that wasn't assembled
+abbrev pub failure_by_code : AsmFault → AsmCode → Failure
+failure_by_code fault asm.Memory = Memory
+failure_by_code fault code = Refused (Assembly fault)
+
+abbrev pub failure_of_assembly : AsmFault → Failure
+failure_of_assembly fault = failure_by_code fault fault.code
+
+-- the failure for a program that wasn't run
+abbrev pub failure_of_program : ProgramFault → Failure
+failure_of_program (program_faults.Assembly fault) = Refused (Assembly fault)
+failure_of_program (program_faults.Object fault) = Refused (Object fault)
+failure_of_program (program_faults.Step fault) = Refused (Step fault)
+failure_of_program program_faults.Memory = Memory
+
+-- the failure for a schedule that wasn't read
+abbrev pub failure_of_schedule : ScheduleFault → Failure
+failure_of_schedule schedule_faults.Text = Refused ScheduleText
+failure_of_schedule schedule_faults.Memory = Memory
+
+-- the failure for images that weren't counted
+abbrev pub failure_of_count : CountFault → Failure
+failure_of_count (count_faults.Step fault) = Refused (Step fault)
+failure_of_count count_faults.NoSuchMoment = Refused Moment
+failure_of_count count_faults.Memory = Memory

@@ -1,4 +1,6 @@
+pub mod Assembling
 pub mod Failures
 pub mod HartLines
+pub mod Images
 pub mod Outcomes
 pub mod Reports

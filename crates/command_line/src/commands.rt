@@ -1,19 +1,21 @@
 //! The commands.
 
 ghost use Rattle.std.specs.Prelude.{◌≡◌, map, string_bytes};
-ghost use Rattle.command_line.specs.Outcomes.{AnswersFault, CarriesOut, ComesTo, RunsFile, RunsSource};
+ghost use Rattle.command_line.specs.Outcomes.{AnswersFault, CarriesOut, ComesTo, RunsFile, RunsProgram};
 
 use crate::answer::Answer;
+use crate::assembling::assemble_file;
 use crate::failure::Failure;
 use crate::files::Files;
+use crate::images::images;
 use crate::reporting::report;
 use arguments::{Command, LineFault, command};
 use std::alloc::Global;
-use tester::run_source;
+use tester::run_program;
 
 /// What a line comes to, its words beginning with the program's name.
 pub fn outcome<F: Files>(alloc: Global, words: &[String], files: &mut F) -> Result<Answer, Failure>
-    ensures { ComesTo F.read_gives (map string_bytes words.now) files.old files.new result }
+    ensures { ComesTo F.read_gives F.write_gives (map string_bytes words.now) files.old files.new result }
 {
     match command(alloc, words) {
         Ok(command) => carry_out(alloc, command, files),
@@ -23,10 +25,18 @@ pub fn outcome<F: Files>(alloc: Global, words: &[String], files: &mut F) -> Resu
 
 /// What a command comes to.
 fn carry_out<F: Files>(alloc: Global, command: Command, files: &mut F) -> Result<Answer, Failure>
-    ensures { CarriesOut F.read_gives command files.old files.new result }
+    ensures { CarriesOut F.read_gives F.write_gives command files.old files.new result }
 {
     match command {
-        Command::Run { source, steps } => run(alloc, source.as_str(), steps, files),
+        Command::Assemble { source, object } => {
+            assemble_file(alloc, source.as_str(), object.as_str(), files)
+        }
+        Command::Run { program, steps } => run(alloc, program.as_str(), steps, files),
+        Command::Images {
+            program,
+            schedule,
+            moment,
+        } => images(alloc, program.as_str(), schedule.as_str(), moment, files),
     }
 }
 
@@ -41,7 +51,7 @@ fn answer_to(fault: LineFault) -> Result<Answer, Failure>
     }
 }
 
-/// `run`: reads the file of a source, and runs it.
+/// `run`: reads the file of a program, and runs it.
 fn run<F: Files>(alloc: Global, name: &str, steps: u32, files: &mut F) -> Result<Answer, Failure>
     ensures { RunsFile F.read_gives name.now steps files.old files.new result }
 {
@@ -49,11 +59,11 @@ fn run<F: Files>(alloc: Global, name: &str, steps: u32, files: &mut F) -> Result
     run_of(alloc, &source, steps)
 }
 
-/// A run of a source, by the report of its machine.
+/// A run of a program, by the report of its machine.
 fn run_of(alloc: Global, source: &[u8], steps: u32) -> Result<Answer, Failure>
-    ensures { RunsSource source.now steps result }
+    ensures { RunsProgram source.now steps result }
 {
-    let machine = run_source(alloc, source, steps)?;
+    let machine = run_program(alloc, source, steps)?;
     let text = report(alloc, &machine)?;
     Ok(Answer { text, status: 0 })
 }

@@ -28,7 +28,7 @@ pub fn execute<F: Files, R: Read, W: Write, E: Write>(
     output: &mut W,
     errors: &mut E,
 ) -> u8
-    ensures { EndsWith F.read_gives W.contents (map string_bytes words.now) files.old files.new output.old output.new result }
+    ensures { EndsWith F.read_gives F.write_gives W.contents (map string_bytes words.now) files.old files.new output.old output.new result }
 {
     match answer_line(alloc, words, files, output) {
         Ok(status) => status,
@@ -46,7 +46,7 @@ pub fn answer_line<F: Files, W: Write>(
     files: &mut F,
     output: &mut W,
 ) -> Result<u8, Failure>
-    ensures { Ends F.read_gives W.contents (map string_bytes words.now) files.old files.new output.old output.new result }
+    ensures { Ends F.read_gives F.write_gives W.contents (map string_bytes words.now) files.old files.new output.old output.new result }
 {
     deliver(outcome(alloc, words, files), output)
 }

@@ -1,22 +1,30 @@
 //! Why a command gives no answer: what is printed of it, and its status.
 
 ghost use Rattle.std.specs.Prelude.{◌≡◌};
-ghost use Rattle.command_line.specs.Failures.{assembly_code, step_code};
+ghost use Rattle.command_line.specs.Failures.{assembly_code, load_code, step_code};
 
 use crate::files::FileFault;
 use assemble::{AsmCode, AsmFault};
 use machine::StepFault;
+use object::LoadFault;
+use schedule::ScheduleFault;
 use std::alloc::AllocError;
 use std::fmt;
-use tester::SourceFault;
+use tester::{CountFault, ProgramFault};
 
 /// Input that is refused, by the fault that was found in it.
 #[derive(Clone, Copy, Debug, PartialEq, Eq)]
 pub enum Refusal {
     /// A source, by its first line at fault.
     Assembly(AsmFault),
+    /// A file that begins as an object.
+    Object(LoadFault),
     /// A step of a run.
     Step(StepFault),
+    /// The text of a schedule.
+    ScheduleText,
+    /// A moment past the events of a run.
+    Moment,
 }
 
 impl fmt::Display for Refusal {
@@ -35,7 +43,10 @@ impl fmt::Display for Refusal {
                     fault.line
                 )
             }
+            Refusal::Object(fault) => write!(f, "refused {}", load_code(fault)),
             Refusal::Step(fault) => write!(f, "refused {}", step_code(fault)),
+            Refusal::ScheduleText => write!(f, "refused G3"),
+            Refusal::Moment => write!(f, "refused C1"),
         }
     }
 }
@@ -69,17 +80,61 @@ impl Failure {
     }
 }
 
-impl From<SourceFault> for Failure {
+impl From<AsmFault> for Failure {
     ghost use Rattle.std.specs.Prelude.{◌≡◌};
-    ghost use Rattle.command_line.specs.Failures.{failure_of_source};
+    ghost use Rattle.command_line.specs.Failures.{failure_of_assembly};
 
-    ghost from_gives = { λ fault failure. failure ≡ failure_of_source fault };
+    ghost from_gives = { λ fault failure. failure ≡ failure_of_assembly fault };
 
-    fn from(fault: SourceFault) -> Failure {
+    fn from(fault: AsmFault) -> Failure {
+        match fault.code {
+            AsmCode::Memory => Failure::Memory,
+            _ => Failure::Refused(Refusal::Assembly(fault)),
+        }
+    }
+}
+
+impl From<ProgramFault> for Failure {
+    ghost use Rattle.std.specs.Prelude.{◌≡◌};
+    ghost use Rattle.command_line.specs.Failures.{failure_of_program};
+
+    ghost from_gives = { λ fault failure. failure ≡ failure_of_program fault };
+
+    fn from(fault: ProgramFault) -> Failure {
         match fault {
-            SourceFault::Assembly(fault) => Failure::Refused(Refusal::Assembly(fault)),
-            SourceFault::Step(fault) => Failure::Refused(Refusal::Step(fault)),
-            SourceFault::Memory => Failure::Memory,
+            ProgramFault::Assembly(fault) => Failure::Refused(Refusal::Assembly(fault)),
+            ProgramFault::Object(fault) => Failure::Refused(Refusal::Object(fault)),
+            ProgramFault::Step(fault) => Failure::Refused(Refusal::Step(fault)),
+            ProgramFault::Memory => Failure::Memory,
+        }
+    }
+}
+
+impl From<ScheduleFault> for Failure {
+    ghost use Rattle.std.specs.Prelude.{◌≡◌};
+    ghost use Rattle.command_line.specs.Failures.{failure_of_schedule};
+
+    ghost from_gives = { λ fault failure. failure ≡ failure_of_schedule fault };
+
+    fn from(fault: ScheduleFault) -> Failure {
+        match fault {
+            ScheduleFault::Text => Failure::Refused(Refusal::ScheduleText),
+            ScheduleFault::Memory => Failure::Memory,
+        }
+    }
+}
+
+impl From<CountFault> for Failure {
+    ghost use Rattle.std.specs.Prelude.{◌≡◌};
+    ghost use Rattle.command_line.specs.Failures.{failure_of_count};
+
+    ghost from_gives = { λ fault failure. failure ≡ failure_of_count fault };
+
+    fn from(fault: CountFault) -> Failure {
+        match fault {
+            CountFault::Step(fault) => Failure::Refused(Refusal::Step(fault)),
+            CountFault::NoSuchMoment => Failure::Refused(Refusal::Moment),
+            CountFault::Memory => Failure::Memory,
         }
     }
 }
@@ -141,6 +196,20 @@ fn assembly_code(code: AsmCode) -> &'static str
         AsmCode::WrongSection => "A8",
         AsmCode::TooLarge => "A9",
         AsmCode::Memory => "A10",
+    }
+}
+
+/// The name of an object's fault.
+fn load_code(fault: LoadFault) -> &'static str
+    ensures { result.now ≡ load_code fault }
+{
+    match fault {
+        LoadFault::Magic => "P1",
+        LoadFault::Truncated => "P2",
+        LoadFault::TooLarge => "P3",
+        LoadFault::Trailing => "P4",
+        LoadFault::TextLength => "P5",
+        LoadFault::Memory => "P6",
     }
 }
 

@@ -2,11 +2,13 @@
 #![tactic(auto)]
 
 mod answer;
+mod assembling;
 mod commands;
 mod executing;
 mod failure;
 mod files;
 mod hart_line;
+mod images;
 mod reporting;
 #[cfg(test)]
 mod tests;

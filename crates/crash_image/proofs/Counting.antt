@@ -10,7 +10,7 @@ use Rattle.crash_model.specs.declared.step.PersistenceStep.{PersistenceStep}
 use Rattle.crash_image.specs.Bounds.{IsOrdered, bounds_at, stored_bounds, numbers_of, product_of}
 use Rattle.crash_image.specs.declared.bounds.LineBounds.{LineBounds}
 
-product_lines : (p : List PersistenceStep) (ls : List ℕ) → product_of (map (λ l. bounds_at p l) ls) ≡ count_of p ls
+pub product_lines : (p : List PersistenceStep) (ls : List ℕ) → product_of (map (λ l. bounds_at p l) ls) ≡ count_of p ls
 product_lines p [] = refl
 product_lines p (l ∷ ls) = ap (λ (n : ℕ). numbers_of (bounds_at p l) * n) (product_lines p ls)
 
@@ -20,7 +20,7 @@ product_stored p = product_lines p (stored_lines p)
 pub stored_ordered : (p : List PersistenceStep) → All IsOrdered (stored_bounds p)
 stored_ordered p = All-map IsOrdered (λ l. bounds_at p l) (stored_lines p) (λ i d h. floor_le_stores (get_or (stored_lines p) i d) p)
 
-zero_lt_product : (bs : List LineBounds) → 0 < product_of bs
+pub zero_lt_product : (bs : List LineBounds) → 0 < product_of bs
 zero_lt_product [] = omega arith
 zero_lt_product (b ∷ bs) = let some : 0 < numbers_of b = omega arith in mul-pos some (zero_lt_product bs)
 

@@ -1,3 +1,7 @@
 pub mod Counting
+pub mod Imaged
+pub mod Least
+pub mod Numbering
+pub mod Searching
 pub mod Stored
 pub mod Tallying

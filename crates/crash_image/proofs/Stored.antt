@@ -1,12 +1,13 @@
 -- The stored lines as those of a row of lines that have a store, and the steps of a trace read back.
 use Rattle.std.proofs.Common.{◌≡◌, ℕ, zero, suc, ◌+◌, ◌<◌, ◌≤◌, ◌==◌, nat_lt, true, List, [], ◌∷◌, ◌++◌, length, get_or, take, inl, inr, refl, ap, ◌∙◌, sym, subst, arith}
-use Rattle.std.specs.Prelude.{if◌then◌else◌, All}
+use Rattle.std.specs.Prelude.{if◌then◌else◌, All, map}
 use Rattle.std.specs.List.{flat_map}
 use Rattle.std.proofs.lemmas.Bool.{cases_Bool}
 use Rattle.std.proofs.lemmas.Bool.Decides.{nat_tests}
-use Rattle.std.proofs.lemmas.List.{reverse-append, take_more}
+use Rattle.std.proofs.lemmas.List.{reverse-append, take_more, get_or-map, length-map}
+use Rattle.std.proofs.lemmas.List.Elements.{All-cons, All-nil}
 use Rattle.std.proofs.lemmas.Grind.{common_steps}
-use Rattle.crash_model.specs.Cut.{with_line, stored_lines}
+use Rattle.crash_model.specs.Cut.{IsCut, with_line, stored_lines}
 use Rattle.crash_model.specs.Stores.{stores}
 use Rattle.crash_model.specs.declared.step.PersistenceStep.{PersistenceStep}
 use Rattle.crash_model.specs.declared.step.PersistenceStep.TheVariants as step
@@ -102,3 +103,22 @@ pub below_history : (count : ℕ) (events : List Event) → All (NamesLine count
 below_history count events named =
     let all : take (length events) events ≡ events = grind (arith, common_steps) in
     subst (λ (es : List Event). AreBelow count (history es)) all (below_taken count events (length events) (omega arith) named)
+
+-- the stored lines are among the first `count` lines, and so are those of a cut
+among_below : (p : List PersistenceStep) (i many count : ℕ) → i + many ≤ count → All (λ l. l < count) (stored_among p i many)
+among_below p i zero count h = All-nil _
+among_below p i (suc many) count h =
+    let rest : All (λ l. l < count) (stored_among p (suc i) many) = among_below p (suc i) many count (omega (arith, h)) in
+    elim (cases_Bool (nat_lt 0 (stores i p))) [
+      | inl some ↦ rw some (All-cons (λ (l : ℕ). l < count) i (stored_among p (suc i) many) (omega (arith, h)) rest)
+      | inr none ↦ rw none rest
+    ]
+
+pub cut_below : (count : ℕ) (events : List Event) (cut : List (ℕ × ℕ)) → All (NamesLine count) events → IsCut (history events) cut →
+    All (λ entry. entry.0 < count) cut
+cut_below count events cut named c i d h =
+    let below : All (λ l. l < count) (stored_lines (history events)) =
+    subst (λ (ls : List ℕ). All (λ l. l < count) ls) (stored_lines_among count (history events) (below_history count events named))
+    (among_below (history events) 0 count count (omega arith)) in
+    let all : All (λ l. l < count) (map (λ entry. entry.0) cut) = subst (λ (ls : List ℕ). All (λ l. l < count) ls) (sym c.lines) below in
+    rw (get_or-map (λ entry. entry.0) cut i d d.0 h) at (all i d.0 (omega (arith, h, length-map cut (λ (entry : ℕ × ℕ). entry.0))))

@@ -1,3 +1,5 @@
 pub mod Bounds
+pub mod Imaging
+pub mod Sought
 pub mod Tallies
 pub mod View

@@ -3,14 +3,15 @@
 //! The events are read from the newest back. The floor of a line is then the number of stores before the first
 //! clean that is met of a hart whose fence was met before, so no list of pending cleans is kept.
 
-ghost use Rattle.crash_image.specs.Bounds.{IsOrdered, numbers_of, product_of, stored_bounds};
+ghost use Rattle.crash_image.specs.Bounds.{Allows, IsOrdered, numbers_of, product_of, stored_bounds};
 ghost use Rattle.crash_image.specs.Tallies.{AreTallies, IsFree, bounds_from, cleaned_by, stored};
 ghost use Rattle.crash_image.specs.View.{NamesLine};
 ghost use Rattle.crash_model.specs.declared.step.PersistenceStep.{PersistenceStep};
 ghost use Rattle.store_trace.specs.History.{history, steps_of};
 ghost use Rattle.store_trace.specs.TraceView.{IsEvent};
-ghost use Rattle.std.specs.Prelude.{◌≡◌, ℕ, ◌<◌, ◌≤◌, ◌+◌, ◌^◌, ◌++◌, List, length, replicate, unwrap_or, slice_index_or, slice_set, ◌↔◌, All, IfOk, IfSome, IsNone};
+ghost use Rattle.std.specs.Prelude.{◌≡◌, ℕ, ◌<◌, ◌≤◌, ◌+◌, ◌%◌, ◌^◌, ◌++◌, List, length, map, replicate, unwrap_or, slice_index_or, slice_set, ◌↔◌, All, IfOk, IfSome, IsNone, IsTrue};
 ghost use Rattle.crash_image.specs.declared.bounds.Tally.{Tally as ATally};
+ghost use Rattle.crash_image.specs.declared.bounds.LineBounds.{LineBounds as OneLine};
 
 use std::alloc::{AllocError, Global};
 use store_trace::Event;
@@ -30,12 +31,27 @@ pub struct LineBounds {
 }
 
 impl LineBounds {
+    /// Whether the entry is of this line, with a number within its bounds.
+    pub fn allows(&self, entry: (u32, u32)) -> bool
+        ensures { IsTrue result ↔ Allows self.now entry }
+    {
+        entry.0 == self.line && self.floor <= entry.1 && entry.1 <= self.stores
+    }
+
+    /// The line with one of its numbers: the one at `place`, counted round from the floor.
+    pub fn entry(&self, place: u64) -> (u32, u32)
+        requires { IsOrdered self.now }
+        ensures { result ≡ (self.now.line, self.now.floor + place % numbers_of self.now) }
+    {
+        (self.line, self.floor + (place % self.numbers()) as u32)
+    }
+
     /// At how many numbers of its stores the line can stand.
-    fn numbers(&self) -> u64
+    pub fn numbers(&self) -> u64
         requires { IsOrdered self.now }
         ensures value { result ≡ numbers_of self.now }
         ensures some { 0 < result }
-        ensures fits { result ≤ 2 ^ 32 }
+        ensures small { result ≤ 2 ^ 32 }
     {
         u64::from(self.stores - self.floor) + 1
     }
@@ -103,7 +119,8 @@ fn no_tallies(alloc: Global, lines: u32) -> Result<Vec<Tally>, AllocError>
 fn read(tallies: &mut [Tally], fenced: &mut [bool; HARTS], event: Event)
     requires event { IsEvent event }
     requires named { NamesLine (length tallies.old) event }
-    requires few { (l : ℕ) (d : ATally) → l < length tallies.old → (slice_index_or tallies.old l d).stores < 65536 }
+    requires few { (l : ℕ) (d : ATally) → l < length tallies.old →
+        (slice_index_or tallies.old l d).stores < 65536 }
     ensures { (whole rest : List PersistenceStep) (left : ℕ) →
         AreTallies whole (steps_of event ++ rest) (left + 1) fenced.old tallies.old →
         AreTallies whole rest left fenced.new tallies.new }
@@ -152,4 +169,15 @@ pub fn product(bounds: &[LineBounds]) -> Option<u32>
         }
     }
     Some(count as u32)
+}
+
+/// Each line with its floor.
+pub fn floors(alloc: Global, bounds: &[LineBounds]) -> Result<Vec<(u32, u32)>, AllocError>
+    ensures { IfOk result (λ found. found.items ≡ map (λ (b : OneLine). (b.line, b.floor)) bounds.now) }
+{
+    let mut found = Vec::with_capacity(alloc, bounds.len())?;
+    for line in bounds {
+        found.push((line.line, line.floor))?;
+    }
+    Ok(found)
 }

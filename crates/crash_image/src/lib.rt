@@ -4,14 +4,18 @@
 //! stores from its floor on.
 #![tactic(auto)]
 
+pub use cut::Cut;
 pub use cuts::Cuts;
 pub use names::has_lines;
 use std::alloc::AllocError;
 use thiserror::Error;
 
 mod bounds;
+mod cut;
 mod cuts;
+mod images;
 mod names;
+mod search;
 #[cfg(test)]
 mod tests;
 

@@ -1,7 +1,8 @@
 //! Operands at and past the ends of their ranges, and words of a stock assembler (GNU as 2.40).
 
 use crate::{
-    BranchOp, CacheOp, FieldFault, ImmediateOp, Instr, Reg, ShiftOp, StoreOp, UpperOp, encode,
+    AtomicOp, AtomicWidth, BranchOp, CacheOp, FieldFault, ImmediateOp, Instr, LoadOp, Reg,
+    RegisterOp, ShiftOp, StoreOp, SystemOp, UpperOp, encode, ordering_suffix,
 };
 use std::test::Fail;
 
@@ -95,4 +96,20 @@ fn shifts_are_in_range(rt: HostRuntime) {
         shift(ShiftOp::Slliw, 32).check(),
         Err(FieldFault::ShiftOutOfRange)
     );
+}
+
+#[test]
+fn mnemonics_have_their_names(rt: HostRuntime) {
+    assert_eq!(rt; UpperOp::Auipc.name(), "auipc");
+    assert_eq!(rt; BranchOp::Bgeu.name(), "bgeu");
+    assert_eq!(rt; LoadOp::Lwu.name(), "lwu");
+    assert_eq!(rt; StoreOp::Sh.name(), "sh");
+    assert_eq!(rt; ImmediateOp::Addiw.name(), "addiw");
+    assert_eq!(rt; ShiftOp::Sraiw.name(), "sraiw");
+    assert_eq!(rt; RegisterOp::Sltu.name(), "sltu");
+    assert_eq!(rt; CacheOp::Flush.name(), "cbo.flush");
+    assert_eq!(rt; SystemOp::Ebreak.name(), "ebreak");
+    assert_eq!(rt; AtomicOp::Amomaxu.name(), "amomaxu");
+    assert_eq!(rt; AtomicWidth::Doubleword.suffix(), ".d");
+    assert_eq!(rt; ordering_suffix(true, true), ".aqrl");
 }

@@ -1,11 +1,11 @@
 -- How many lines can be resident: no more than a list has that names each of them.
-use Rattle.std.proofs.Common.{◌≡◌, ℕ, zero, suc, ◌+◌, ◌<◌, ◌≤◌, Bool, true, false, ◌||◌, cond, eqb, nat_lt, Option, Some, None, List, [], ◌∷◌, length, refl, inl, inr, sym, ap, ◌∙◌, arith, slice_index_or, sum_by}
+use Rattle.std.proofs.Common.{◌≡◌, ℕ, suc, ◌+◌, ◌<◌, ◌≤◌, true, false, eqb, None, List, [], ◌∷◌, length, refl, inl, inr, ◌∙◌, arith, slice_index_or, sum_by}
 use Rattle.std.proofs.lemmas.Bool.{lt-ltb, cases_Bool}
 use Rattle.std.proofs.lemmas.Bool.Decides.{nat_tests}
 use Rattle.std.proofs.lemmas.List.Sums.{sum_by-cons}
 use Rattle.index_list.specs.Lists.{has, without, IsDistinct}
 use Rattle.index_list.proofs.Members.{length-without}
-use Rattle.lru_cache.specs.Order.{recent_in, resident_count}
+use Rattle.lru_cache.specs.Order.{resident_count}
 use Rattle.lru_cache.specs.Cache.{CacheView, IsCache, is_resident, victim}
 
 -- a list without each number of another

@@ -1,14 +1,13 @@
 -- What holds of every cache holds after each change.
-use Rattle.std.proofs.Common.{◌≡◌, ℕ, zero, suc, ◌+◌, ◌-◌, ◌%◌, ◌<◌, ◌≤◌, Bool, true, false, ◌||◌, ◌&&◌, cond, eqb, Option, Some, None, is_some, List, [], ◌∷◌, ◌++◌, length, map, replicate, refl, sym, ap, inl, inr, ◌∙◌, arith, slice_index_or, slice_set, sum_by}
+use Rattle.std.proofs.Common.{◌≡◌, ℕ, zero, suc, ◌+◌, ◌-◌, ◌<◌, ◌≤◌, true, false, cond, eqb, Option, Some, None, is_some, List, [], ◌∷◌, length, map, replicate, refl, sym, ap, inl, inr, ◌∙◌, arith, slice_index_or, slice_set}
 use Rattle.std.proofs.lemmas.Bool.Decides.{nat_tests}
-use Rattle.std.proofs.lemmas.Grind.{common_steps}
 use Rattle.std.proofs.lemmas.Bool.{cases_lt}
 use Rattle.std.proofs.lemmas.List.{length-set, length-replicate, get_or_past}
 use Rattle.std.proofs.lemmas.List.Sums.{sum_by-set}
-use Rattle.index_list.specs.Lists.{has, without, IsDistinct}
+use Rattle.index_list.specs.Lists.{has, without}
 use Rattle.index_list.proofs.Members.{has-without, without_absent, length-without}
 use Rattle.lru_cache.specs.Order.{LineOrders, IsOrdered, set_of, recent_in, marked_in, resident_count, list_with, order_after_use, order_after_drop, order_after_store, order_after_write_back, order_after_mark, empty_orders}
-use Rattle.lru_cache.specs.Cache.{CacheView, IsCache, HasResident, is_resident, is_dirty, is_marked, is_leaving, after_write_back, after_drop, after_use, after_change, after_mark, after_mark_leaving}
+use Rattle.lru_cache.specs.Cache.{CacheView, IsCache, HasResident, is_resident, is_dirty, after_write_back, after_drop, after_use, after_change, after_mark, after_mark_leaving}
 use Rattle.lru_cache.proofs.Places.{at_put, at_cleared, put_same, at_map_without, map_without_absent, has-list_with}
 
 -- how many lines are resident after a use, and after a drop

@@ -1,10 +1,7 @@
 -- What loads show after each change, and that a cache still stands over its medium.
-use Rattle.std.proofs.Common.{◌≡◌, ℕ, zero, suc, ◌+◌, ◌<◌, ◌≤◌, Bool, true, false, cond, eqb, Option, Some, None, is_some, unwrap_or, List, [], ◌∷◌, length, replicate, refl, sym, ap, ◌∙◌, arith, slice_index_or, slice_set}
+use Rattle.std.proofs.Common.{◌≡◌, ℕ, zero, suc, ◌<◌, Bool, true, false, cond, eqb, Option, Some, None, is_some, unwrap_or, List, [], ◌∷◌, length, replicate, refl, sym, ap, ◌∙◌, arith, slice_index_or, slice_set}
 use Rattle.std.proofs.lemmas.Bool.Decides.{nat_tests}
-use Rattle.std.proofs.lemmas.Bool.{cases_lt}
-use Rattle.std.proofs.lemmas.Grind.{common_steps}
 use Rattle.std.proofs.lemmas.List.{length-set, get_or-set_same}
-use Rattle.index_list.specs.Lists.{has, without}
 use Rattle.index_list.proofs.Members.{has-without}
 use Rattle.line_memory.specs.Lines.{line_at, AreLines, IsMedium}
 use Rattle.lru_cache.specs.Cache.{CacheView, IsCache, IsOver, copied_over, shown, is_resident, is_dirty, after_write_back, after_drop, after_use, after_change, written_back, empty_cache}

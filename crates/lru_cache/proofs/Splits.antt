@@ -1,11 +1,11 @@
 -- The orders of lines, by the lists of the arena that holds them.
-use Rattle.std.proofs.Common.{◌≡◌, ℕ, zero, suc, ◌+◌, ◌-◌, ◌<◌, ◌≤◌, true, false, List, [], ◌∷◌, ◌++◌, length, map, refl, sym, ap, ◌∙◌, arith, slice_index_or, slice_set, take, drop, nat_le, replicate, if◌then◌else◌}
+use Rattle.std.proofs.Common.{◌≡◌, ℕ, zero, suc, ◌+◌, ◌<◌, ◌≤◌, List, [], ◌∷◌, length, map, refl, sym, ap, ◌∙◌, arith, slice_index_or, slice_set, take, drop, nat_le, replicate, if◌then◌else◌}
 use Rattle.std.proofs.lemmas.Bool.{le-leb, lt-leb}
 use Rattle.std.proofs.lemmas.List.{get_or-take, get_or-drop, get_or-map, get_or-set_same, get_or-set_other, set-get_or, take-set-le, drop-set-lt, drop-set-add, ext_get_or, length-take, length-drop, length-map}
 use Rattle.std.proofs.Math.Seq.{take-set-lt}
-use Rattle.index_list.specs.Lists.{Lists, has, without, list_of, with_list, IsDistinct, IsSound}
+use Rattle.index_list.specs.Lists.{Lists, without, with_list, IsDistinct, IsSound}
 use Rattle.index_list.proofs.Members.{list_steps}
-use Rattle.lru_cache.specs.Order.{LineOrders, IsOrdered, recent_in, marked_in, empty_orders, order_after_write_back}
+use Rattle.lru_cache.specs.Order.{LineOrders, IsOrdered, empty_orders, order_after_write_back}
 use Rattle.lru_cache.specs.Split.{orders_in}
 
 same_orders : (n : ℕ) (r s : List (List ℕ)) (d e : List ℕ) (m o : List (List ℕ)) → r ≡ s → d ≡ e → m ≡ o →

@@ -1,14 +1,12 @@
 -- The line that a use evicts: it is resident, and where there is none there is room.
-use Rattle.std.proofs.Common.{◌≡◌, ℕ, zero, suc, ◌+◌, ◌%◌, ◌<◌, ◌≤◌, Bool, true, false, ◌||◌, ◌&&◌, cond, eqb, nat_lt, Option, Some, None, is_some, IfSome, IfNone, List, [], ◌∷◌, length, refl, add-one, sym, ap, ◌∙◌, arith, slice_index_or, drop, sum_by}
+use Rattle.std.proofs.Common.{◌≡◌, ℕ, zero, suc, ◌+◌, ◌<◌, ◌≤◌, Bool, true, Option, Some, None, IfSome, IfNone, List, [], ◌∷◌, length, refl, add-one, sym, ◌∙◌, arith, slice_index_or, drop, sum_by}
 use Rattle.std.specs.Option.{option_or}
 use Rattle.std.proofs.lemmas.Bool.Decides.{nat_tests}
-use Rattle.std.proofs.lemmas.List.{length-drop}
 use Rattle.std.proofs.lemmas.List.Sums.{sum_by-cons}
-use Rattle.std.proofs.Math.Seq.{drop-cons}
 use Rattle.index_list.specs.Lists.{has, last, end_of}
 use Rattle.index_list.proofs.Members.{has-end_of}
-use Rattle.lru_cache.specs.Order.{LineOrders, IsOrdered, set_of, recent_in, resident_count, oldest_of_first, order_after_drop}
-use Rattle.lru_cache.specs.Cache.{CacheView, IsCache, is_resident, victim}
+use Rattle.lru_cache.specs.Order.{recent_in, resident_count, oldest_of_first, order_after_drop}
+use Rattle.lru_cache.specs.Cache.{CacheView, IsCache, is_resident}
 use Rattle.lru_cache.proofs.Keeps.{count_dropped, in_set, resident_below}
 
 -- one more set was looked at

@@ -1,5 +1,5 @@
 -- A write-back cache over a medium of lines that is lent to it call by call.
-use Rattle.std.specs.Prelude.{◌≡◌, ℕ, ◌+◌, ◌≤◌, ◌<◌, ◌/◌, ◌%◌, ◌&&◌, ◌||◌, ◌==◌, Bool, true, false, nat_lt, if◌then◌else◌, Option, Some, None, is_some, unwrap_or, List, [], ◌∷◌, length, replicate, slice_index_or, slice_set}
+use Rattle.std.specs.Prelude.{◌≡◌, ℕ, ◌≤◌, ◌&&◌, ◌||◌, ◌==◌, Bool, true, false, nat_lt, if◌then◌else◌, Option, Some, None, is_some, unwrap_or, List, [], ◌∷◌, length, replicate, slice_index_or, slice_set}
 use Rattle.std.specs.Option.{option_or}
 use Rattle.index_list.specs.Lists.{has, last}
 use Rattle.line_memory.specs.Lines.{line_at, AreLines}

@@ -1,6 +1,6 @@
 -- Which list of an arena is which order: eight by recency, then the dirty lines, then eight of marks.
-use Rattle.std.specs.Prelude.{ℕ, ◌≡◌, take, drop}
-use Rattle.index_list.specs.Lists.{Lists, list_of, IsSound}
+use Rattle.std.specs.Prelude.{take, drop}
+use Rattle.index_list.specs.Lists.{Lists, list_of}
 use Rattle.lru_cache.specs.Order.{LineOrders}
 
 unfoldable pub orders_in : Lists → LineOrders

@@ -11,7 +11,7 @@ use Rattle.hart.specs.declared.need.Need.{Need}
 use Rattle.hart.specs.declared.need.Need.TheVariants.{Local, Ask, Stop}
 use Rattle.schedule.specs.declared.items.Step.{Step}
 use Rattle.schedule.specs.declared.items.Step.TheVariants.{Hart, Evict}
-use Rattle.machine.specs.Run.{Config, Executes, HartSteps, HartStepsIfThere, IsSpelledBy, Meets, RunsTo, StepsTo, after_request, fetched}
+use Rattle.machine.specs.Run.{Config, Executes, HartSteps, HartStepsIfThere, IsSpelledBy, Meets, RunsTo, StepsTo, after_request, fetched_by}
 
 -- no word spells two instructions
 spells_one : (w : ℕ) (o : Option Instr) (i j : Instr) → Decodes w o → Spells w i → Spells w j → i ≡ j
@@ -24,7 +24,7 @@ decoded_once w None None a b = refl
 decoded_once w None (Some j) a b = a.all j (b.some j refl)
 decoded_once w (Some i) p a b = sym (b.all i (a.some i refl))
 
-needs_once : (s : HartState) (word : Option ℕ) (m n : Need) → Needs s word m → Needs s word n → m ≡ n
+pub needs_once : (s : HartState) (word : Option ℕ) (m n : Need) → Needs s word m → Needs s word n → m ≡ n
 needs_once s None m n a b = a ∙ sym b
 needs_once s (Some w) m n a b = a.2 ∙ ap (λ (o : Option Instr). need_of s o) (decoded_once w a.0 b.0 a.1 b.1) ∙ sym b.2
 
@@ -45,23 +45,23 @@ executes_once c d e h s word a b =
     let same : b.0 ≡ a.0 = needs_once s word b.0 a.0 b.1 a.1 in
     meets_once c d e h s word a.0 a.1 a.2 (rw same at b.2)
 
-hart_steps_once : (text : List ℕ) (c d e : Config) (h : ℕ) (s : HartState) (status : Status)
-    → HartSteps text c h s status d → HartSteps text c h s status e → d ≡ e
-hart_steps_once text c d e h s Running a b = executes_once c d e h s (fetched text s.pc) a b
-hart_steps_once text c d e h s (Exited code) a b = a ∙ sym b
-hart_steps_once text c d e h s (Trapped trap) a b = a ∙ sym b
+hart_steps_once : (c d e : Config) (h : ℕ) (s : HartState) (status : Status)
+    → HartSteps c h s status d → HartSteps c h s status e → d ≡ e
+hart_steps_once c d e h s Running a b = executes_once c d e h s (fetched_by c h s.pc) a b
+hart_steps_once c d e h s (Exited code) a b = a ∙ sym b
+hart_steps_once c d e h s (Trapped trap) a b = a ∙ sym b
 
-there_steps_once : (text : List ℕ) (c d e : Config) (h : ℕ) (o : Option HartState)
-    → HartStepsIfThere text c h o d → HartStepsIfThere text c h o e → d ≡ e
-there_steps_once text c d e h None a b = absurd a
-there_steps_once text c d e h (Some s) a b = hart_steps_once text c d e h s s.status a b
+there_steps_once : (c d e : Config) (h : ℕ) (o : Option HartState)
+    → HartStepsIfThere c h o d → HartStepsIfThere c h o e → d ≡ e
+there_steps_once c d e h None a b = absurd a
+there_steps_once c d e h (Some s) a b = hart_steps_once c d e h s s.status a b
 
-pub steps_once : (text : List ℕ) (c : Config) (step : Step) (d e : Config) → StepsTo text c step d → StepsTo text c step e → d ≡ e
-steps_once text c (Hart h) d e a b = there_steps_once text c d e h (slice_get c.harts h) a b
-steps_once text c (Evict line) d e a b = a ∙ sym b
+pub steps_once : (c : Config) (step : Step) (d e : Config) → StepsTo c step d → StepsTo c step e → d ≡ e
+steps_once c (Hart h) d e a b = there_steps_once c d e h (slice_get c.harts h) a b
+steps_once c (Evict line) d e a b = a ∙ sym b
 
-pub runs_once : (text : List ℕ) (c : Config) (steps : List Step) (d e : Config) → RunsTo text c steps d → RunsTo text c steps e → d ≡ e
-runs_once text c [] d e a b = a ∙ sym b
-runs_once text c (step ∷ steps) d e a b =
-    let same : b.0 ≡ a.0 = steps_once text c step b.0 a.0 b.1 a.1 in
-    runs_once text a.0 steps d e a.2 (rw same at b.2)
+pub runs_once : (c : Config) (steps : List Step) (d e : Config) → RunsTo c steps d → RunsTo c steps e → d ≡ e
+runs_once c [] d e a b = a ∙ sym b
+runs_once c (step ∷ steps) d e a b =
+    let same : b.0 ≡ a.0 = steps_once c step b.0 a.0 b.1 a.1 in
+    runs_once a.0 steps d e a.2 (rw same at b.2)

@@ -1,8 +1,10 @@
 -- Runs of several steps.
-use Rattle.std.proofs.Common.{◌≡◌, ℕ, zero, suc, ◌+◌, ◌-◌, ◌<◌, ◌≤◌, List, [], ◌∷◌, ◌++◌, length, take, replicate, Option, Some, None, true, slice_get, get_or, refl, ap, ◌∙◌, arith, lit<}
+use Rattle.std.proofs.Common.{◌≡◌, ℕ, zero, suc, ◌+◌, ◌-◌, ◌<◌, ◌≤◌, List, [], ◌∷◌, ◌++◌, length, take, replicate, Option, Some, None, true, All, slice_get, get_or, refl, ap, ◌∙◌, inl, inr, arith, lit<}
+use Rattle.std.proofs.lemmas.Bool.{cases_lt}
+use Rattle.std.proofs.lemmas.List.Elements.{All-append, All-nil, All-replicate}
 use Rattle.std.proofs.lemmas.List.{append-nil, get_or-replicate, length-replicate, replicate_more, replicate-append-replicate, take-replicate, take_more}
 use Rattle.std.proofs.lemmas.Grind.{flat_map-append}
-use Rattle.std.proofs.lemmas.Option.{slice_get-get_or}
+use Rattle.std.proofs.lemmas.Option.{slice_get-get_or, slice_get_past}
 use Rattle.hart.specs.declared.state.HartState.{HartState}
 use Rattle.hart.specs.declared.state.Status.{Status}
 use Rattle.hart.specs.declared.state.Status.TheVariants.{Running, Exited, Trapped}
@@ -11,7 +13,7 @@ use Rattle.schedule.specs.declared.items.Step.{Step}
 use Rattle.schedule.specs.declared.items.Step.TheVariants.{Hart, Evict}
 use Rattle.schedule.specs.Steps.{all_steps, steps_of}
 use Rattle.machine.specs.Run.{Config, HartSteps, HartStepsIfThere, RunsTo}
-use Rattle.machine.specs.Stands.{MachineView, Runs}
+use Rattle.machine.specs.Stands.{IsThere, MachineView, Runs}
 use Rattle.machine.specs.declared.fault.RunStop.{RunStop}
 use Rattle.machine.specs.Stops.{StopsAfter, StopsAt, has_stopped, is_stopped}
 use Rattle.machine.specs.Refusals.{Refuses}
@@ -19,42 +21,60 @@ use Rattle.machine.specs.declared.fault.StepFault.{StepFault}
 
 -- no step changes nothing
 pub runs_none : (m : MachineView) → Runs m m []
-runs_none m = record { text = refl; lines = refl; stands = λ c s. (c, refl, s) }
+runs_none m = record { there = All-nil (IsThere m); harts = refl; lines = refl; stands = λ c s. (c, refl, s) }
 
-joined : (text : List ℕ) (xs ys : List Step) (c d e : Config) → RunsTo text c xs d → RunsTo text d ys e → RunsTo text c (xs ++ ys) e
-joined text [] ys c d e a b = rw (← a) b
-joined text (x ∷ xs) ys c d e a b = (a.0, a.1, joined text xs ys a.0 d e a.2 b)
+joined : (xs ys : List Step) (c d e : Config) → RunsTo c xs d → RunsTo d ys e → RunsTo c (xs ++ ys) e
+joined [] ys c d e a b = rw (← a) b
+joined (x ∷ xs) ys c d e a b = (a.0, a.1, joined xs ys a.0 d e a.2 b)
+
+-- what is there later was there before
+there_before : (old middle : MachineView) (step : Step) → length middle.harts ≡ length old.harts
+    → length middle.shared.lines ≡ length old.shared.lines → IsThere middle step → IsThere old step
+there_before old middle (Hart h) harts lines there = rw harts at there
+there_before old middle (Evict line) harts lines there = rw lines at there
+
+all_before : (old middle : MachineView) (steps : List Step) → length middle.harts ≡ length old.harts
+    → length middle.shared.lines ≡ length old.shared.lines → All (IsThere middle) steps → All (IsThere old) steps
+all_before old middle steps harts lines there k d inside = there_before old middle _ harts lines (there k d inside)
 
 -- steps after steps
 pub runs_more : (old middle new : MachineView) (xs ys : List Step) → Runs old middle xs → Runs middle new ys → Runs old new (xs ++ ys)
 runs_more old middle new xs ys a b = record {
-  text = b.text ∙ a.text;
+  there = All-append (IsThere old) xs ys a.there (all_before old middle ys a.harts a.lines b.there);
+  harts = b.harts ∙ a.harts;
   lines = b.lines ∙ a.lines;
   stands = λ c s.
       let first = a.stands c s in
       let then = b.stands first.0 first.2 in
-      (then.0, joined old.text xs ys c first.0 then.0 first.1 (rw (← a.text) then.1), then.2);
+      (then.0, joined xs ys c first.0 then.0 first.1 then.1, then.2);
 }
 
 -- a hart that stopped makes no step
-rests : (text : List ℕ) (c : Config) (h : ℕ) (s : HartState) (status : Status) → has_stopped status ≡ true → HartSteps text c h s status c
-rests text c h s Running e = cc
-rests text c h s (Exited code) e = refl
-rests text c h s (Trapped trap) e = refl
+rests : (c : Config) (h : ℕ) (s : HartState) (status : Status) → has_stopped status ≡ true → HartSteps c h s status c
+rests c h s Running e = cc
+rests c h s (Exited code) e = refl
+rests c h s (Trapped trap) e = refl
 
-rests_if_there : (text : List ℕ) (c : Config) (h : ℕ) (o : Option HartState) → is_stopped o ≡ true → HartStepsIfThere text c h o c
-rests_if_there text c h None e = cc
-rests_if_there text c h (Some s) e = rests text c h s s.status e
+rests_if_there : (c : Config) (h : ℕ) (o : Option HartState) → is_stopped o ≡ true → HartStepsIfThere c h o c
+rests_if_there c h None e = cc
+rests_if_there c h (Some s) e = rests c h s s.status e
 
-all_rest : (text : List ℕ) (c : Config) (h n : ℕ) → is_stopped (slice_get c.harts h) ≡ true → RunsTo text c (replicate n (Hart h)) c
-all_rest text c h zero e = refl
-all_rest text c h (suc n) e = (c, rests_if_there text c h (slice_get c.harts h) e, all_rest text c h n e)
+all_rest : (c : Config) (h n : ℕ) → is_stopped (slice_get c.harts h) ≡ true → RunsTo c (replicate n (Hart h)) c
+all_rest c h zero e = refl
+all_rest c h (suc n) e = (c, rests_if_there c h (slice_get c.harts h) e, all_rest c h n e)
+
+stopped_is_there : (harts : List HartState) (h : ℕ) → is_stopped (slice_get harts h) ≡ true → h < length harts
+stopped_is_there harts h e = elim (cases_lt h (length harts)) [
+  | inl inside ↦ inside
+  | inr past ↦ let none = rw (slice_get_past harts h past) at e in absurd (cc)
+]
 
 pub stopped_runs : (m : MachineView) (h n : ℕ) → is_stopped (slice_get m.harts h) ≡ true → Runs m m (replicate n (Hart h))
 stopped_runs m h n e = record {
-  text = refl;
+  there = All-replicate (IsThere m) n (Hart h) (stopped_is_there m.harts h e);
+  harts = refl;
   lines = refl;
-  stands = λ c s. (c, all_rest m.text c h n (rw (← s.harts) e), s);
+  stands = λ c s. (c, all_rest c h n (rw (← s.harts) e), s);
 }
 
 -- one more step of a hart, and none of one that stopped

@@ -1,4 +1,5 @@
 pub mod Faults
+pub mod Histories
 pub mod Outcomes
 pub mod Refusals
 pub mod Served

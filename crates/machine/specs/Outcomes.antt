@@ -1,14 +1,16 @@
 -- What a step answers, and which steps make an event.
-use Rattle.std.specs.Prelude.{◌≡◌, ◌+◌, List, Option, Some, length, slice_get}
+use Rattle.std.specs.Prelude.{◌≡◌, ℕ, List, Option, Some, length, slice_get}
 use Rattle.hart.specs.declared.state.HartState.{HartState}
 use Rattle.hart.specs.declared.state.Status.{Status}
 use Rattle.hart.specs.declared.state.Status.TheVariants as statuses
+use Rattle.hart.specs.declared.need.Need.TheVariants.{Ask}
+use Rattle.hart.specs.declared.need.Request.{Request}
 use Rattle.machine.specs.declared.machine.Outcome.{Outcome}
 use Rattle.machine.specs.declared.machine.Outcome.TheVariants.{Done, Exited, Trapped, Stopped}
 use Rattle.schedule.specs.declared.items.Step.{Step}
 use Rattle.schedule.specs.declared.items.Step.TheVariants.{Hart, Evict}
-use Rattle.machine.specs.Run.{Config, StepsTo}
-use Rattle.machine.specs.Stands.{MachineView, Stands}
+use Rattle.machine.specs.Served.{events_of}
+use Rattle.machine.specs.Stands.{IsRunning, MachineView, NeedsAt, reply_to}
 
 -- by a hart's status after a step that it made
 abbrev pub outcome_of : Status → Outcome
@@ -31,7 +33,14 @@ abbrev pub outcome_after : List HartState → List HartState → Step → Outcom
 outcome_after old new (Hart h) = hart_outcome (slice_get old h) (slice_get new h)
 outcome_after old new (Evict line) = Done
 
+-- hart h runs, and its next instruction asks for what is answered with an event
+pub record HartMakesEvent (machine : MachineView) (h : ℕ) : Type 0 where
+  pub request : Request
+  pub running : IsRunning (slice_get machine.harts h)
+  pub asks : NeedsAt machine h (slice_get machine.harts h) (Ask request)
+  pub event : length (events_of h request (reply_to machine.shared h request)) ≡ 1
+
 -- the step would make an event
-pub record MakesEvent (machine : MachineView) (step : Step) : Type 0 where
-  pub longer : (c : Config) → Stands machine c
-      → (d : Config) × StepsTo machine.text c step d × (length d.common.trace ≡ length c.common.trace + 1)
+abbrev pub MakesEvent : MachineView → Step → Type 0
+MakesEvent machine (Hart h) = HartMakesEvent machine h
+MakesEvent machine (Evict line) = ⊥

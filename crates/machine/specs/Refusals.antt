@@ -1,14 +1,15 @@
 -- Why a request, or a step, is refused. A trace holds at most 65,536 events.
 use Rattle.std.specs.Prelude.{◌≡◌, ℕ, ◌<◌, ◌≤◌, List, Option, Some, None, length}
 use Rattle.store_trace.specs.declared.event.Event.{Event}
+use Rattle.line_memory.specs.declared.TheConstants.{PERSISTENT_BASE}
 use Rattle.hart.specs.declared.need.Request.{Request}
 use Rattle.machine.specs.declared.fault.StepFault.{StepFault}
 use Rattle.machine.specs.declared.fault.StepFault.TheVariants.{NoSuchHart, NoSuchLine, TraceFull, Memory}
 use Rattle.schedule.specs.declared.items.Step.{Step}
 use Rattle.schedule.specs.declared.items.Step.TheVariants.{Hart, Evict}
 use Rattle.machine.specs.Outcomes.{MakesEvent}
-use Rattle.machine.specs.Served.{events_of, replied}
-use Rattle.machine.specs.Stands.{MachineView, SharedView, memory_of}
+use Rattle.machine.specs.Served.{events_of}
+use Rattle.machine.specs.Stands.{MachineView, SharedView, reply_to}
 
 -- why a trace doesn't take one more event: it is full, or else memory was refused
 abbrev pub IsEventFault : List Event → StepFault → Type 0
@@ -19,13 +20,13 @@ IsEventFault trace NoSuchLine = ⊥
 
 -- a request of hart h is refused only for the event that it would make
 pub record RefusesRequest (shared : SharedView) (h : ℕ) (request : Request) (fault : StepFault) : Type 0 where
-  pub event : length (events_of h request (replied (memory_of shared) request)) ≡ 1
+  pub event : length (events_of h request (reply_to shared h request)) ≡ 1
   pub reason : IsEventFault shared.trace fault
 
--- the hart, or the line, of a step is there
-abbrev pub IsThere : MachineView → Step → Type 0
-IsThere machine (Hart h) = h < length machine.harts
-IsThere machine (Evict line) = line < length machine.shared.lines
+-- why a write to an address is refused: its event isn't taken
+pub record RefusesWrite (shared : SharedView) (address : ℕ) (fault : StepFault) : Type 0 where
+  pub persistent : PERSISTENT_BASE ≤ address
+  pub reason : IsEventFault shared.trace fault
 
 -- it is a step of a hart that isn't there
 abbrev pub LacksHart : MachineView → Step → Type 0

@@ -1,12 +1,12 @@
 -- Run: a schedule's steps of harts and evictions, one after another, from a start.
--- Source: RISC-V Unprivileged ISA 20191213, chapter 1 ("Exceptions, Traps, and Interrupts") and chapter 2; harts
--- interleave one instruction at a time.
-use Rattle.std.specs.Prelude.{◌≡◌, ℕ, ◌+◌, ◌-◌, ◌&&◌, List, [], ◌∷◌, Option, Some, None, map, nat_le, if◌then◌else◌, slice_get, slice_set}
+-- Source: RISC-V Unprivileged ISA 20191213, chapter 1 ("Exceptions, Traps, and Interrupts"), chapter 2 and chapter 3
+-- ("Zifencei"); harts interleave one instruction at a time.
+use Rattle.std.specs.Prelude.{◌≡◌, ℕ, ◌+◌, ◌&&◌, List, [], ◌∷◌, Option, Some, None, map, nat_le, if◌then◌else◌, slice_get, slice_set}
 use Rattle.std.specs.List.{range_with_len}
-use Rattle.word_bits.specs.Bytes.{loaded}
 use Rattle.isa_table.specs.Table.{Spells}
 use Rattle.isa_table.specs.declared.instruction.Instr.{Instr}
 use Rattle.line_memory.specs.Lines.{line_bytes}
+use Rattle.line_memory.specs.Memory.{Memory, loaded_from}
 use Rattle.line_memory.specs.Regions.{ram_bytes, flat, padded}
 use Rattle.line_memory.specs.declared.TheConstants.{TEXT_BASE, TEXT_SIZE, DATA_SIZE}
 use Rattle.object.specs.Sections.{Sections}
@@ -21,29 +21,38 @@ use Rattle.hart.specs.Needs.{Needs}
 use Rattle.machine.specs.declared.history.Entry.TheVariants.{Evicted}
 use Rattle.schedule.specs.declared.items.Step.{Step}
 use Rattle.schedule.specs.declared.items.Step.TheVariants.{Hart, Evict}
-use Rattle.machine.specs.Served.{Common, asked, replied}
+use Rattle.machine.specs.Histories.{copied}
+use Rattle.machine.specs.Served.{Common, asked, reply_after}
 
 -- all that a run changes: the harts, by their number, and what they share
 pub record Config : Type 0 where
   pub harts : List HartState
   pub common : Common
 
+-- the flat memory of a program's sections and the lines of a medium
+abbrev pub starting_memory : Sections → List (List ℕ) → Memory
+starting_memory program lines =
+    flat (ram_bytes (record { text = padded program.text TEXT_SIZE; bytes = padded program.static_data DATA_SIZE })) (line_bytes lines)
+
 -- the start of a number of harts over a program's sections and the lines of a medium
 abbrev pub started : Sections → List (List ℕ) → ℕ → Config
 started program lines harts = record {
   harts = map start (range_with_len 0 harts);
   common = record {
-    memory = flat (ram_bytes (record { text = padded program.text TEXT_SIZE; bytes = padded program.static_data DATA_SIZE })) (line_bytes lines);
+    initial = starting_memory program lines;
+    memory = starting_memory program lines;
     history = [];
     trace = [];
   };
 }
 
--- the word of a text region at an address, None where it doesn't lie in the region. Each hart fetches from the text
--- as it was loaded
-abbrev pub fetched : List ℕ → ℕ → Option ℕ
-fetched text pc =
-    if nat_le TEXT_BASE pc && nat_le (pc + 4) (TEXT_BASE + TEXT_SIZE) then Some (loaded text (pc - TEXT_BASE) 4) else None
+-- the word of a text at an address, None where it doesn't lie in the text region
+abbrev pub fetched : Memory → ℕ → Option ℕ
+fetched text pc = if nat_le TEXT_BASE pc && nat_le (pc + 4) (TEXT_BASE + TEXT_SIZE) then loaded_from text pc 4 else None
+
+-- the word that hart h fetches: each hart has a copy of the text, which its own FENCE.I alone renews
+abbrev pub fetched_by : Config → ℕ → ℕ → Option ℕ
+fetched_by c h pc = fetched (copied c.common.initial h c.common.history) pc
 
 -- hart h as it is after a step of its own
 abbrev pub with_hart : Config → ℕ → HartState → Config
@@ -57,7 +66,7 @@ IsSpelledBy (Some word) i = Spells word i
 -- hart h, whose instruction is i, after the reply of memory to its request
 abbrev pub after_request : Config → ℕ → HartState → Instr → Request → Config
 after_request c h s i request = record {
-  harts = slice_set c.harts h (answered s i (replied c.common.memory request));
+  harts = slice_set c.harts h (answered s i (reply_after c.common h request));
   common = asked c.common h request;
 }
 
@@ -72,21 +81,21 @@ abbrev pub Executes : Config → ℕ → HartState → Option ℕ → Config →
 Executes c h s word d = (need : Need) × Needs s word need × Meets c h s word need d
 
 -- a hart that runs executes; one that stopped changes nothing; one that is not there makes no step
-abbrev pub HartSteps : List ℕ → Config → ℕ → HartState → Status → Config → Type 0
-HartSteps text c h s Running d = Executes c h s (fetched text s.pc) d
-HartSteps text c h s (Exited code) d = d ≡ c
-HartSteps text c h s (Trapped trap) d = d ≡ c
+abbrev pub HartSteps : Config → ℕ → HartState → Status → Config → Type 0
+HartSteps c h s Running d = Executes c h s (fetched_by c h s.pc) d
+HartSteps c h s (Exited code) d = d ≡ c
+HartSteps c h s (Trapped trap) d = d ≡ c
 
-abbrev pub HartStepsIfThere : List ℕ → Config → ℕ → Option HartState → Config → Type 0
-HartStepsIfThere text c h None d = ⊥
-HartStepsIfThere text c h (Some s) d = HartSteps text c h s s.status d
+abbrev pub HartStepsIfThere : Config → ℕ → Option HartState → Config → Type 0
+HartStepsIfThere c h None d = ⊥
+HartStepsIfThere c h (Some s) d = HartSteps c h s s.status d
 
 -- one step of a schedule from c to d: an eviction changes neither harts nor flat memory, and joins the history
-abbrev pub StepsTo : List ℕ → Config → Step → Config → Type 0
-StepsTo text c (Hart h) d = HartStepsIfThere text c h (slice_get c.harts h) d
-StepsTo text c (Evict line) d = d ≡ record c { common = record c.common { history = Evicted line ∷ c.common.history } }
+abbrev pub StepsTo : Config → Step → Config → Type 0
+StepsTo c (Hart h) d = HartStepsIfThere c h (slice_get c.harts h) d
+StepsTo c (Evict line) d = d ≡ record c { common = record c.common { history = Evicted line ∷ c.common.history } }
 
 -- the steps of a list, in order, from c to d
-abbrev pub RunsTo : List ℕ → Config → List Step → Config → Type 0
-RunsTo text c [] d = d ≡ c
-RunsTo text c (step ∷ steps) d = (middle : Config) × StepsTo text c step middle × RunsTo text middle steps d
+abbrev pub RunsTo : Config → List Step → Config → Type 0
+RunsTo c [] d = d ≡ c
+RunsTo c (step ∷ steps) d = (middle : Config) × StepsTo c step middle × RunsTo middle steps d

@@ -1,8 +1,8 @@
 -- What memory answers to a hart's request, and what the request leaves: in the flat memory, in the history and in the trace.
--- Source: RISC-V Unprivileged ISA 20191213, chapter 2 ("Load and Store Instructions"); RISC-V Cache Management
--- Operations 1.0; which steps make events is this project's.
-use Rattle.std.specs.Prelude.{◌≡◌, ℕ, ◌-◌, ◌/◌, ◌%◌, List, [], ◌∷◌, ◌++◌, Option, Some, None, is_some, nat_le, if◌then◌else◌}
-use Rattle.line_memory.specs.Memory.{Memory, fault_of, loaded_from, stored_to}
+-- Source: RISC-V Unprivileged ISA 20191213, chapter 2 ("Load and Store Instructions"), chapter 3 ("Zifencei") and
+-- chapter 8 ("A" extension); RISC-V Cache Management Operations 1.0; which steps make events is this project's.
+use Rattle.std.specs.Prelude.{◌≡◌, ℕ, ◌-◌, ◌/◌, ◌%◌, List, [], ◌∷◌, ◌++◌, Option, Some, None, Bool, true, false, is_some, nat_le, if◌then◌else◌}
+use Rattle.line_memory.specs.Memory.{Memory, fault_of, loaded_from}
 use Rattle.line_memory.specs.declared.MemFault.{MemFault}
 use Rattle.line_memory.specs.declared.MemFault.TheVariants as faults
 use Rattle.line_memory.specs.declared.TheConstants.{PERSISTENT_BASE}
@@ -16,10 +16,12 @@ use Rattle.hart.specs.declared.need.AccessFault.{AccessFault}
 use Rattle.hart.specs.declared.need.AccessFault.TheVariants.{Misaligned, Outside}
 use Rattle.machine.specs.declared.history.Entry.{Entry}
 use Rattle.machine.specs.declared.history.Entry.TheVariants.{Asked}
+use Rattle.machine.specs.Histories.{Write, calls_of, has_reserved, memory_after, written}
 
--- what the harts share: the flat memory; the history of requests with their replies and of evictions, the newest
--- first; and the trace of events, the oldest first
+-- what the harts share: the flat memory as it was at the start of the run, and as it is; the history of requests with
+-- their replies and of evictions, the newest first; and the trace of events, the oldest first
 pub record Common : Type 0 where
+  pub initial : Memory
   pub memory : Memory
   pub history : List Entry
   pub trace : List Event
@@ -39,23 +41,26 @@ value_unless (Some fault) value = Fault (access_fault fault)
 value_unless None (Some value) = Value value
 value_unless None None = Fault Outside
 
--- the reply to a request. A cache-block operation is never misaligned; memory takes no atomic access and renews no text yet
-abbrev pub replied : Memory → Request → Reply
-replied memory (Load address width) = value_unless (fault_of memory address width) (loaded_from memory address width)
-replied memory (Store address width value) = done_unless (fault_of memory address width)
-replied memory (Lr address width) = Fault Outside
-replied memory (Sc address width value) = Fault Outside
-replied memory (Amo op address width operand) = Fault Outside
-replied memory FenceI = Fault Outside
-replied memory (Cbo op address) = if is_some (memory address) then Done else Fault Outside
-replied memory Fence = Done
-replied memory (Begin op) = Done
-replied memory (End op) = Done
+-- an SC that can be made is answered 0 where its hart has reserved the line, else 1
+abbrev pub outcome_unless : Option MemFault → Bool → Reply
+outcome_unless (Some fault) reserved = Fault (access_fault fault)
+outcome_unless None true = Value 0
+outcome_unless None false = Value 1
 
--- the flat memory after a request with its reply: a store that is done writes
-abbrev pub memory_after : Memory → Request → Reply → Memory
-memory_after memory (Store address width value) Done = stored_to memory address width value
-memory_after memory request reply = memory
+-- the reply to a request of a hart that has reserved these lines of the address space. A cache-block operation is never
+-- misaligned
+abbrev pub replied : Memory → (ℕ → Bool) → Request → Reply
+replied memory reserved (Load address width) = value_unless (fault_of memory address width) (loaded_from memory address width)
+replied memory reserved (Store address width value) = done_unless (fault_of memory address width)
+replied memory reserved (Lr address width) = value_unless (fault_of memory address width) (loaded_from memory address width)
+replied memory reserved (Sc address width value) = outcome_unless (fault_of memory address width) (reserved (address / 64))
+replied memory reserved (Amo op address width operand) =
+    value_unless (fault_of memory address width) (loaded_from memory address width)
+replied memory reserved (Cbo op address) = if is_some (memory address) then Done else Fault Outside
+replied memory reserved Fence = Done
+replied memory reserved FenceI = Done
+replied memory reserved (Begin op) = Done
+replied memory reserved (End op) = Done
 
 -- the events of one that touches persistent memory
 abbrev pub if_persistent : ℕ → Event → List Event
@@ -68,20 +73,29 @@ line_of address = (address - PERSISTENT_BASE) / 64
 abbrev pub offset_of : ℕ → ℕ
 offset_of address = (address - PERSISTENT_BASE) % 64
 
+-- a write of hart h to persistent memory is an event
+abbrev pub events_of_write : ℕ → Option Write → List Event
+events_of_write h None = []
+events_of_write h (Some write) =
+    if_persistent write.address (events.Store h (line_of write.address) (offset_of write.address) write.width write.value)
+
 -- the event that hart h makes by a request, if it makes one: one that met a fault makes none
 abbrev pub events_of : ℕ → Request → Reply → List Event
-events_of h (Store address width value) Done =
-    if_persistent address (events.Store h (line_of address) (offset_of address) width value)
 events_of h (Cbo op address) Done = if_persistent address (events.Clean h (line_of address))
 events_of h Fence Done = events.Fence h ∷ []
 events_of h (Begin op) Done = events.Begin h op ∷ []
 events_of h (End op) Done = events.End h op ∷ []
-events_of h request reply = []
+events_of h request reply = events_of_write h (written request reply)
+
+-- the reply to a request of hart h
+abbrev pub reply_after : Common → ℕ → Request → Reply
+reply_after c h request = replied c.memory (has_reserved c.history h) request
 
 -- what the harts share after a request of hart h
 abbrev pub asked : Common → ℕ → Request → Common
 asked c h request =
-    let reply : Reply = replied c.memory request in record {
+    let reply : Reply = reply_after c h request in record {
+      initial = c.initial;
       memory = memory_after c.memory request reply;
       history = Asked h request reply ∷ c.history;
       trace = c.trace ++ events_of h request reply;
@@ -89,12 +103,7 @@ asked c h request =
 
 -- the request does nothing but make this event
 pub record IsMark (h : ℕ) (request : Request) (made : Event) : Type 0 where
-  pub reply : (memory : Memory) → replied memory request ≡ Done
-  pub memory : (memory : Memory) → memory_after memory request Done ≡ memory
+  pub reply : (memory : Memory) (reserved : ℕ → Bool) → replied memory reserved request ≡ Done
+  pub written : written request Done ≡ None
+  pub calls : calls_of (Asked h request Done) ≡ []
   pub event : events_of h request Done ≡ made ∷ []
-
--- the request is one that memory doesn't serve, and it changes nothing
-pub record IsUnserved (h : ℕ) (request : Request) : Type 0 where
-  pub reply : (memory : Memory) → replied memory request ≡ Fault Outside
-  pub memory : (memory : Memory) → memory_after memory request (Fault Outside) ≡ memory
-  pub events : events_of h request (Fault Outside) ≡ []

@@ -7,10 +7,11 @@ mod laws;
 mod machine;
 mod running;
 mod shared;
+mod text_copy;
 
 pub use fault::{RunStop, StepFault};
 pub use history::Entry;
-pub use laws::{refusal_is_determined, run_is_determined};
+pub use laws::{event_is_longer, refusal_is_determined, run_is_determined};
 pub use machine::{Machine, Outcome};
 pub use schedule::{Item, Schedule, Step};
 pub use shared::Shared;

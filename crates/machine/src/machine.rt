@@ -1,22 +1,22 @@
 //! A machine of one to eight harts, and one step of it.
 
-ghost use Rattle.std.specs.Prelude.{◌≡◌, ℕ, ◌+◌, ◌<◌, ◌≤◌, ◌↔◌, ◌⊎◌, List, [], ◌∷◌, Some, length, slice_get, slice_set, map, vec_len, IfOk, IfErr, OnOk, OnErr, IsErrOf};
+ghost use Rattle.std.specs.Prelude.{◌≡◌, ◌+◌, ◌<◌, ◌≤◌, ◌↔◌, ◌⊎◌, [], ◌∷◌, Some, length, slice_get, slice_set, map, IfOk, IfErr, OnOk, OnErr, All};
 ghost use Rattle.hart.specs.Effect.{start};
 ghost use Rattle.hart.specs.Needs.{Needs};
 ghost use Rattle.hart.specs.Requests.{IsRequest};
 ghost use Rattle.std.specs.List.{range_with_len};
-ghost use Rattle.word_bits.specs.Bytes.{loaded};
+ghost use Rattle.store_trace.specs.TraceView.{NamesLine};
 ghost use Rattle.machine.specs.Outcomes.{MakesEvent, outcome_after, outcome_of};
 ghost use Rattle.machine.specs.Refusals.{LacksHart, LacksLine, Refuses, RefusesRequest};
 ghost use Rattle.machine.specs.Run.{fetched as fetched_from, started};
-ghost use Rattle.machine.specs.Stands.{Answers, IsRunning, NeedsAt, Runs, Stands, memory_of};
+ghost use Rattle.machine.specs.Stands.{Answers, IsRunning, NeedsAt, Runs, Stands, copy_of, memory_of};
 
 use crate::fault::StepFault;
 use crate::shared::Shared;
-use byteorder::{ByteOrder, LittleEndian};
+use crate::text_copy::{TextCopy, renew_after, starting_copies};
 use decode::decode;
 use hart::{HartState, Need, Request, Status, Trap, answer, next};
-use line_memory::{Medium, TEXT_BASE, TEXT_SIZE};
+use line_memory::Medium;
 use program::Program;
 use schedule::Step;
 use std::alloc::Global;
@@ -35,23 +35,25 @@ pub enum Outcome {
     Stopped,
 }
 
-/// Harts over the memory and the trace that they share.
+/// Harts, each with a copy of the text that it fetches, over the memory and the trace that they share.
 #[derive(Drop)]
 pub struct Machine {
-    program: Program,
     harts: Vec<HartState>,
+    copies: Vec<TextCopy>,
     shared: Shared,
 }
 
 impl Model for Machine {
     ghost use Rattle.machine.specs.Stands.{MachineView};
-    ghost use Rattle.std.specs.Prelude.{◌≤◌, length};
+    ghost use Rattle.std.specs.Prelude.{◌≡◌, ◌≤◌, All, length};
+    ghost use Rattle.store_trace.specs.TraceView.{NamesLine};
 
     ghost Value = { MachineView };
 
-    ghost view = { λ m. record { text = m.program.text; harts = m.harts.items; shared = m.shared } };
+    ghost view = { λ m. record { harts = m.harts.items; copies = m.copies.items; shared = m.shared } };
 
-    ghost invariant = { λ m. (length m.harts.items ≤ 8) × (length m.shared.trace ≤ 65536) };
+    ghost invariant = { λ m. (length m.harts.items ≤ 8) × (length m.copies.items ≡ length m.harts.items)
+        × (length m.shared.trace ≤ 65536) × All (NamesLine (length m.shared.lines)) m.shared.trace };
 }
 
 impl Machine {
@@ -63,7 +65,6 @@ impl Machine {
         harts: u32,
     ) -> Result<Machine, StepFault>
         ensures ok { IfOk result (λ machine. Stands machine (started program medium harts)) }
-        ensures text { IfOk result (λ machine. machine.text ≡ program.text) }
         ensures lines { IfOk result (λ machine. machine.shared.lines ≡ medium) }
         ensures count { (result ≡ Err StepFault.NoSuchHart) ↔ ((harts < 1) ⊎ (8 < harts)) }
         ensures err { IfErr result (λ fault. (fault ≡ StepFault.NoSuchHart) ⊎ (fault ≡ StepFault.Memory)) }
@@ -73,9 +74,10 @@ impl Machine {
         }
         let states = starting_harts(alloc, harts)?;
         let shared = Shared::new(alloc, &program, medium)?;
+        let copies = starting_copies(alloc, harts, shared.text())?;
         Ok(Machine {
-            program,
             harts: states,
+            copies,
             shared,
         })
     }
@@ -84,7 +86,9 @@ impl Machine {
     pub fn step(&mut self, step: Step) -> Result<Outcome, StepFault>
         ensures ok { IfOk result (λ outcome. outcome ≡ outcome_after self.old.harts self.new.harts step) }
         ensures runs { OnOk result (Runs self.old self.new (step ∷ [])) }
+        ensures event { OnOk result (MakesEvent self.old step → length self.new.shared.trace ≡ length self.old.shared.trace + 1) }
         ensures limit { length self.new.shared.trace ≤ 65536 }
+        ensures named { All (NamesLine (length self.new.shared.lines)) self.new.shared.trace }
         ensures err { OnErr result (self.new ≡ self.old) }
         ensures refused { IfErr result (Refuses self.old step) }
         ensures no_hart { (result ≡ Err StepFault.NoSuchHart) ↔ LacksHart self.old step }
@@ -117,10 +121,10 @@ impl Machine {
     /// What the next instruction of a running hart needs.
     pub fn need(&self, hart: u32) -> Need
         requires { IsRunning (slice_get self.now.harts hart) }
-        ensures { NeedsAt self.now (slice_get self.now.harts hart) result }
+        ensures { NeedsAt self.now hart (slice_get self.now.harts hart) result }
     {
         let state = self.hart(hart);
-        next(state, self.fetch(state.pc))
+        next(state, self.fetch(hart, state.pc))
     }
 
     /// The byte of flat memory at an address; None outside the regions. Nothing changes.
@@ -134,6 +138,7 @@ impl Machine {
     pub fn events(&self) -> &[Event]
         ensures value { result.now ≡ self.now.shared.trace }
         ensures limit { length self.now.shared.trace ≤ 65536 }
+        ensures named { All (NamesLine (length self.now.shared.lines)) self.now.shared.trace }
     {
         self.shared.events()
     }
@@ -142,6 +147,7 @@ impl Machine {
     pub fn power_cut(self) -> (Medium, Trace)
         ensures lines { result.0 ≡ self.shared.lines }
         ensures trace { result.1.events ≡ self.shared.trace }
+        ensures named { All (NamesLine (length result.0)) result.1.events }
     {
         let Machine { shared, .. } = self;
         shared.power_cut()
@@ -151,7 +157,9 @@ impl Machine {
         ensures there { OnOk result (hart < length self.old.harts) }
         ensures ok { IfOk result (λ outcome. outcome ≡ outcome_after self.old.harts self.new.harts (Step.Hart hart)) }
         ensures runs { OnOk result (Runs self.old self.new (Step.Hart hart ∷ [])) }
+        ensures event { OnOk result (MakesEvent self.old (Step.Hart hart) → length self.new.shared.trace ≡ length self.old.shared.trace + 1) }
         ensures limit { length self.new.shared.trace ≤ 65536 }
+        ensures named { All (NamesLine (length self.new.shared.lines)) self.new.shared.trace }
         ensures err { OnErr result (self.new ≡ self.old) }
         ensures refused { IfErr result (Refuses self.old (Step.Hart hart)) }
     {
@@ -169,7 +177,9 @@ impl Machine {
         ensures ok { IfOk result (λ outcome. outcome ≡ Outcome.Done) }
         ensures there { OnOk result (line < length self.old.shared.lines) }
         ensures runs { OnOk result (Runs self.old self.new (Step.Evict line ∷ [])) }
+        ensures event { OnOk result (MakesEvent self.old (Step.Evict line) → length self.new.shared.trace ≡ length self.old.shared.trace + 1) }
         ensures limit { length self.new.shared.trace ≤ 65536 }
+        ensures named { All (NamesLine (length self.new.shared.lines)) self.new.shared.trace }
         ensures err { OnErr result (self.new ≡ self.old) }
         ensures refused { IfErr result (Refuses self.old (Step.Evict line)) }
     {
@@ -185,16 +195,19 @@ impl Machine {
         requires running { state.status ≡ Status.Running }
         ensures ok { IfOk result (λ outcome. outcome ≡ outcome_after self.old.harts self.new.harts (Step.Hart hart)) }
         ensures runs { OnOk result (Runs self.old self.new (Step.Hart hart ∷ [])) }
+        ensures event { OnOk result (MakesEvent self.old (Step.Hart hart) → length self.new.shared.trace ≡ length self.old.shared.trace + 1) }
         ensures limit { length self.new.shared.trace ≤ 65536 }
+        ensures named { All (NamesLine (length self.new.shared.lines)) self.new.shared.trace }
         ensures err { OnErr result (self.new ≡ self.old) }
         ensures refused { IfErr result (Refuses self.old (Step.Hart hart)) }
     {
-        let fetched = self.fetch(state.pc);
+        let fetched = self.fetch(hart, state.pc);
         match next(&state, fetched) {
             Need::Local(after) => Ok(self.replace(hart, after)),
             Need::Stop(trap) => Ok(self.replace(hart, trapped(state, trap))),
             Need::Ask(request) => {
                 let after = ask(&mut self.shared, hart, &state, fetched, request)?;
+                renew_after(&mut self.copies, hart, request, self.shared.text());
                 Ok(self.replace(hart, after))
             }
         }
@@ -206,6 +219,7 @@ impl Machine {
         ensures replaced { self.new ≡ record self.old { harts = slice_set self.old.harts hart after } }
         ensures outcome { result ≡ outcome_of after.status }
         ensures limit { length self.new.shared.trace ≤ 65536 }
+        ensures named { All (NamesLine (length self.new.shared.lines)) self.new.shared.trace }
     {
         let outcome = outcome_of(after.status);
         let harts = &mut self.harts;
@@ -213,26 +227,18 @@ impl Machine {
         outcome
     }
 
-    /// The word of the text at `pc`; None where it doesn't lie in the text region.
-    fn fetch(&self, pc: u64) -> Option<u32>
-        ensures { result ≡ fetched_from self.now.text pc }
+    /// The word of a hart's copy of the text at `pc`; None where it doesn't lie in the text region.
+    fn fetch(&self, hart: u32, pc: u64) -> Option<u32>
+        requires { hart < length self.now.harts }
+        ensures { result ≡ fetched_from (copy_of self.now hart) pc }
     {
-        if pc < TEXT_BASE || pc > TEXT_BASE + TEXT_SIZE - 4 {
-            return None;
-        }
-        Some(word_at(self.program.text_bytes(), (pc - TEXT_BASE) as usize))
+        let copy = &self.copies[hart as usize];
+        copy.fetch(pc)
     }
 }
 
-#[tactic(auto, using(line_memory::proofs::Numbers::loaded_is))]
-fn word_at(text: &[u8], at: usize) -> u32
-    requires { at + 4 ≤ length text.now }
-    ensures { result ≡ loaded text.now at 4 }
-{
-    LittleEndian::read_u32(&text[at..])
-}
-
 /// Has a request served, and gives the hart that is told the reply.
+#[tactic(auto, using(crate::proofs::Naming::served_named))]
 fn ask(
     shared: &mut Shared,
     hart: u32,
@@ -243,8 +249,10 @@ fn ask(
     requires hart { hart < 8 }
     requires width { IsRequest request }
     requires needs { Needs state.now fetched (Need.Ask request) }
+    requires named { All (NamesLine (length shared.old.lines)) shared.old.trace }
     ensures ok { IfOk result (λ after. Answers shared.old shared.new hart state.now fetched request after) }
     ensures limit { length shared.new.trace ≤ 65536 }
+    ensures named { All (NamesLine (length shared.new.lines)) shared.new.trace }
     ensures err { OnErr result (shared.new ≡ shared.old) }
     ensures refused { IfErr result (RefusesRequest shared.old hart request) }
 {
@@ -259,7 +267,7 @@ fn ask(
 fn starting_harts(alloc: Global, harts: u32) -> Result<Vec<HartState>, StepFault>
     requires { harts ≤ 8 }
     ensures ok { IfOk result (λ made. made.items ≡ map start (range_with_len 0 harts)) }
-    ensures len { IfOk result (λ made. vec_len made ≡ harts) }
+    ensures count { IfOk result (λ made. length made.items ≡ harts) }
     ensures err { IfErr result (λ fault. fault ≡ StepFault.Memory) }
 {
     match (0..harts).map(HartState::start).collect(alloc) {

@@ -1,38 +1,46 @@
 //! What the harts of a machine share: its memory and its trace. It serves their requests.
 
-ghost use Rattle.std.specs.Prelude.{◌≡◌, ◌+◌, ◌*◌, ◌%◌, ◌<◌, ◌≤◌, ℕ, [], ◌∷◌, ◌++◌, IfOk, IfErr, OnOk, OnErr, length};
+ghost use Rattle.std.specs.Prelude.{◌≡◌, ◌+◌, ◌*◌, ◌/◌, ◌%◌, ◌^◌, ◌<◌, ◌≤◌, ℕ, None, Some, [], ◌∷◌, ◌++◌, IfOk, IfErr, OnOk, OnErr, length};
 ghost use Rattle.store_trace.specs.TraceView.{IsEvent};
-ghost use Rattle.line_memory.specs.Memory.{IsWidth};
-ghost use Rattle.hart.specs.Requests.{IsRequest};
+ghost use Rattle.line_memory.specs.Memory.{IsWidth, fault_of};
+ghost use Rattle.line_memory.specs.declared.TheConstants.{TEXT_SIZE};
+ghost use Rattle.hart.specs.Requests.{IsAtomicWidth, IsRequest};
 ghost use Rattle.line_memory.specs.Lines.{AreLines};
-ghost use Rattle.machine.specs.Refusals.{IsEventFault, RefusesRequest};
-ghost use Rattle.machine.specs.Served.{IsMark, IsUnserved, access_fault};
-ghost use Rattle.machine.specs.Stands.{Serves, memory_of};
+ghost use Rattle.machine.specs.Refusals.{IsEventFault, RefusesRequest, RefusesWrite};
+ghost use Rattle.machine.specs.Served.{IsMark, access_fault};
+ghost use Rattle.machine.specs.Stands.{Finds, IsPlaceIn, Serves, Writes, memory_of};
 
 use crate::fault::StepFault;
-use hart::{AccessFault, Reply, Request};
-use isa_table::CacheOp;
+use hart::{AccessFault, Reply, Request, amo_result};
+use isa_table::{AtomicOp, CacheOp};
 use line_memory::{Medium, MemFault, PERSISTENT_BASE, Ram};
 use program::Program;
+use reservation::Reservations;
 use std::alloc::Global;
 use std::marker::Model;
 use store_trace::{Event, Trace};
 
-/// Text, data, persistent memory and the trace of what is done to it.
+/// Text, data, persistent memory, the harts' reservations, and the trace of what is done to persistent memory.
 #[derive(Drop)]
 pub struct Shared {
     ram: Ram,
     medium: Medium,
+    reservations: Reservations,
     trace: Trace,
 }
 
 impl Model for Shared {
-    ghost use Rattle.machine.specs.Stands.{SharedView};
+    ghost use Rattle.machine.specs.Stands.{SharedView, reserved_lines};
     ghost use Rattle.std.specs.Prelude.{◌≤◌, length};
 
     ghost Value = { SharedView };
 
-    ghost view = { λ s. record { ram = s.ram; lines = s.medium; trace = s.trace.events } };
+    ghost view = { λ s. record {
+      ram = s.ram;
+      lines = s.medium;
+      reserved = reserved_lines s.reservations 0 8;
+      trace = s.trace.events;
+    } };
 
     ghost invariant = { λ s. length s.trace.events ≤ 65536 };
 }
@@ -56,6 +64,7 @@ impl Shared {
         Ok(Shared {
             ram,
             medium,
+            reservations: Reservations::new(),
             trace: Trace::new(alloc),
         })
     }
@@ -76,10 +85,19 @@ impl Shared {
                 width,
                 value,
             } => self.store(hart, address, width, value),
-            Request::Lr { .. } => Ok(self.refuse(hart, request)),
-            Request::Sc { .. } => Ok(self.refuse(hart, request)),
-            Request::Amo { .. } => Ok(self.refuse(hart, request)),
-            Request::FenceI => Ok(self.refuse(hart, request)),
+            Request::Lr { address, width } => Ok(self.load_reserved(hart, address, width)),
+            Request::Sc {
+                address,
+                width,
+                value,
+            } => self.store_conditional(hart, address, width, value),
+            Request::Amo {
+                op,
+                address,
+                width,
+                operand,
+            } => self.combine(hart, op, address, width, operand),
+            Request::FenceI => Ok(self.renew(hart)),
             Request::Cbo { op, address } => self.cache_operation(hart, op, address),
             Request::Fence => self.mark(hart, request, Event::Fence { hart }),
             Request::Begin { op } => self.mark(hart, request, Event::Begin { hart, op }),
@@ -87,14 +105,13 @@ impl Shared {
         }
     }
 
-    /// The reply to a request that memory doesn't serve.
-    fn refuse(&self, hart: u32, request: Request) -> Reply
-        requires { IsUnserved hart request }
-        ensures serves { Serves self.now self.now hart request result }
+    /// A FENCE.I changes nothing here: who keeps the hart's copy of the text renews it.
+    fn renew(&self, hart: u32) -> Reply
+        ensures serves { Serves self.now self.now hart Request.FenceI result }
         ensures limit { length self.now.trace ≤ 65536 }
     {
         let _ = &self.trace;
-        Reply::Fault(AccessFault::Outside)
+        Reply::Done
     }
 
     fn load(&self, hart: u32, address: u64, width: u32) -> Reply
@@ -102,27 +119,7 @@ impl Shared {
         ensures serves { Serves self.now self.now hart (Request.Load address width) result }
         ensures limit { length self.now.trace ≤ 65536 }
     {
-        if address < PERSISTENT_BASE {
-            return self.load_from_ram(hart, address, width);
-        }
-        let offset = address - PERSISTENT_BASE;
-        let size = self.size();
-        if offset % u64::from(width) != 0 {
-            return Reply::Fault(AccessFault::Misaligned);
-        }
-        if offset >= size {
-            return Reply::Fault(AccessFault::Outside);
-        }
-        Reply::Value(self.medium.load(offset as u32, width))
-    }
-
-    fn load_from_ram(&self, hart: u32, address: u64, width: u32) -> Reply
-        requires width { IsWidth width }
-        requires low { address < PERSISTENT_BASE }
-        ensures serves { Serves self.now self.now hart (Request.Load address width) result }
-        ensures limit { length self.now.trace ≤ 65536 }
-    {
-        match self.ram.load(address, width) {
+        match self.read(address, width) {
             Ok(value) => Reply::Value(value),
             Err(fault) => Reply::Fault(access_fault(fault)),
         }
@@ -136,18 +133,80 @@ impl Shared {
         ensures err { OnErr result (self.new ≡ self.old) }
         ensures refused { IfErr result (RefusesRequest self.old hart (Request.Store address width value)) }
     {
-        if address < PERSISTENT_BASE {
-            return Ok(self.store_to_ram(hart, address, width, value));
+        if let Err(fault) = self.check(address, width) {
+            return Ok(Reply::Fault(access_fault(fault)));
         }
-        let offset = address - PERSISTENT_BASE;
-        let size = self.size();
-        if offset % u64::from(width) != 0 {
-            return Ok(Reply::Fault(AccessFault::Misaligned));
+        self.write(hart, address, width, value)?;
+        Ok(Reply::Done)
+    }
+
+    fn load_reserved(&mut self, hart: u32, address: u64, width: u32) -> Reply
+        requires hart { hart < 8 }
+        requires width { IsAtomicWidth width }
+        ensures serves { Serves self.old self.new hart (Request.Lr address width) result }
+        ensures limit { length self.new.trace ≤ 65536 }
+    {
+        match self.read(address, width) {
+            Ok(value) => {
+                self.reservations.reserve(hart, reserved_line(address));
+                Reply::Value(value)
+            }
+            Err(fault) => Reply::Fault(access_fault(fault)),
         }
-        if offset >= size {
-            return Ok(Reply::Fault(AccessFault::Outside));
+    }
+
+    fn store_conditional(
+        &mut self,
+        hart: u32,
+        address: u64,
+        width: u32,
+        value: u64,
+    ) -> Result<Reply, StepFault>
+        requires hart { hart < 8 }
+        requires width { IsAtomicWidth width }
+        ensures ok { IfOk result (λ reply. Serves self.old self.new hart (Request.Sc address width value) reply) }
+        ensures limit { length self.new.trace ≤ 65536 }
+        ensures err { OnErr result (self.new ≡ self.old) }
+        ensures refused { IfErr result (RefusesRequest self.old hart (Request.Sc address width value)) }
+    {
+        if let Err(fault) = self.check(address, width) {
+            return Ok(Reply::Fault(access_fault(fault)));
         }
-        self.store_to_medium(hart, address, offset as u32, width, value)
+        let line = reserved_line(address);
+        if !self.reservations.take(hart, line) {
+            return Ok(Reply::Value(1));
+        }
+        if let Err(fault) = self.write(hart, address, width, value) {
+            // A refused step changes nothing: the reservation stands again.
+            self.reservations.reserve(hart, line);
+            return Err(fault);
+        }
+        Ok(Reply::Value(0))
+    }
+
+    /// An atomic operation: what it stores is made of the value that it finds, which is the reply.
+    fn combine(
+        &mut self,
+        hart: u32,
+        op: AtomicOp,
+        address: u64,
+        width: u32,
+        operand: u64,
+    ) -> Result<Reply, StepFault>
+        requires hart { hart < 8 }
+        requires width { IsAtomicWidth width }
+        ensures ok { IfOk result (λ reply. Serves self.old self.new hart (Request.Amo op address width operand) reply) }
+        ensures limit { length self.new.trace ≤ 65536 }
+        ensures err { OnErr result (self.new ≡ self.old) }
+        ensures refused { IfErr result (RefusesRequest self.old hart (Request.Amo op address width operand)) }
+    {
+        match self.read(address, width) {
+            Ok(old) => {
+                self.write(hart, address, width, amo_result(op, width, old, operand))?;
+                Ok(Reply::Value(old))
+            }
+            Err(fault) => Ok(Reply::Fault(access_fault(fault))),
+        }
     }
 
     /// Serves a request whose event this is.
@@ -163,36 +222,114 @@ impl Shared {
         Ok(Reply::Done)
     }
 
-    fn store_to_ram(&mut self, hart: u32, address: u64, width: u32, value: u64) -> Reply
-        requires width { IsWidth width }
-        requires low { address < PERSISTENT_BASE }
-        ensures reply { Serves self.old self.new hart (Request.Store address width value) result }
-        ensures limit { length self.new.trace ≤ 65536 }
+    /// The number that the bytes of an access spell.
+    fn read(&self, address: u64, width: u32) -> Result<u64, MemFault>
+        requires { IsWidth width }
+        ensures ok { IfOk result (λ value. Finds (memory_of self.now) address width value) }
+        ensures low { OnOk result (address < 2 ^ 38) }
+        ensures err { IfErr result (λ fault. fault_of (memory_of self.now) address width ≡ Some fault) }
+        ensures limit { length self.now.trace ≤ 65536 }
     {
-        if let Err(fault) = self.ram.store(address, width, value) {
-            return Reply::Fault(access_fault(fault));
+        if address < PERSISTENT_BASE {
+            return match self.ram.load(address, width) {
+                Ok(value) => Ok(value),
+                Err(fault) => Err(fault),
+            };
         }
-        Reply::Done
+        match self.place(address, width) {
+            Ok(offset) => Ok(self.medium.load(offset, width)),
+            Err(fault) => Err(fault),
+        }
     }
 
-    fn store_to_medium(
+    /// Whether an access can be made.
+    fn check(&self, address: u64, width: u32) -> Result<(), MemFault>
+        requires { IsWidth width }
+        ensures ok { OnOk result (fault_of (memory_of self.now) address width ≡ None) }
+        ensures low { OnOk result (address < 2 ^ 38) }
+        ensures err { IfErr result (λ fault. fault_of (memory_of self.now) address width ≡ Some fault) }
+        ensures limit { length self.now.trace ≤ 65536 }
+    {
+        if address < PERSISTENT_BASE {
+            return match self.ram.load(address, width) {
+                Ok(_) => Ok(()),
+                Err(fault) => Err(fault),
+            };
+        }
+        match self.place(address, width) {
+            Ok(_) => Ok(()),
+            Err(fault) => Err(fault),
+        }
+    }
+
+    /// Where an access to persistent memory begins, counted from its base.
+    fn place(&self, address: u64, width: u32) -> Result<u32, MemFault>
+        requires width { IsWidth width }
+        requires above { PERSISTENT_BASE ≤ address }
+        ensures ok { IfOk result (λ offset. IsPlaceIn self.now address width offset) }
+        ensures err { IfErr result (λ fault. fault_of (memory_of self.now) address width ≡ Some fault) }
+    {
+        let offset = address - PERSISTENT_BASE;
+        let size = self.size();
+        if offset % u64::from(width) != 0 {
+            return Err(MemFault::Misaligned);
+        }
+        if offset >= size {
+            return Err(MemFault::Outside);
+        }
+        Ok(offset as u32)
+    }
+
+    /// Makes a write that can be made, and the event of one to persistent memory. A refused write changes nothing.
+    fn write(&mut self, hart: u32, address: u64, width: u32, value: u64) -> Result<(), StepFault>
+        requires hart { hart < 8 }
+        requires width { IsWidth width }
+        requires low { address < 2 ^ 38 }
+        requires no_fault { fault_of (memory_of self.old) address width ≡ None }
+        ensures ok { OnOk result (Writes self.old self.new hart address width value) }
+        ensures limit { length self.new.trace ≤ 65536 }
+        ensures err { OnErr result (self.new ≡ self.old) }
+        ensures refused { IfErr result (RefusesWrite self.old address) }
+    {
+        if address < PERSISTENT_BASE {
+            self.write_to_ram(hart, address, width, value);
+            return Ok(());
+        }
+        match self.place(address, width) {
+            Ok(offset) => self.write_to_medium(hart, address, offset, width, value),
+            Err(_) => unreachable!(),
+        }
+    }
+
+    fn write_to_ram(&mut self, hart: u32, address: u64, width: u32, value: u64)
+        requires hart { hart < 8 }
+        requires width { IsWidth width }
+        requires below { address < PERSISTENT_BASE }
+        requires no_fault { fault_of (memory_of self.old) address width ≡ None }
+        ensures writes { Writes self.old self.new hart address width value }
+        ensures limit { length self.new.trace ≤ 65536 }
+    {
+        match self.ram.store(address, width, value) {
+            Ok(()) => self.reservations.stored(hart, reserved_line(address)),
+            Err(_) => unreachable!(),
+        }
+    }
+
+    fn write_to_medium(
         &mut self,
         hart: u32,
         address: u64,
         offset: u32,
         width: u32,
         value: u64,
-    ) -> Result<Reply, StepFault>
+    ) -> Result<(), StepFault>
         requires hart { hart < 8 }
         requires width { IsWidth width }
-        requires place { address ≡ PERSISTENT_BASE + offset }
-        requires aligned { offset % width ≡ 0 }
-        requires there { offset < 64 * length self.old.lines }
-        requires whole { AreLines self.old.lines }
-        ensures ok { IfOk result (λ reply. Serves self.old self.new hart (Request.Store address width value) reply) }
+        requires place { IsPlaceIn self.old address width offset }
+        ensures ok { OnOk result (Writes self.old self.new hart address width value) }
         ensures limit { length self.new.trace ≤ 65536 }
         ensures err { OnErr result (self.new ≡ self.old) }
-        ensures refused { IfErr result (RefusesRequest self.old hart (Request.Store address width value)) }
+        ensures refused { IfErr result (RefusesWrite self.old address) }
     {
         let event = Event::Store {
             hart,
@@ -203,7 +340,8 @@ impl Shared {
         };
         self.note(event)?;
         self.medium.store(offset, width, value);
-        Ok(Reply::Done)
+        self.reservations.stored(hart, reserved_line(address));
+        Ok(())
     }
 
     fn cache_operation(&mut self, hart: u32, op: CacheOp, address: u64) -> Result<Reply, StepFault>
@@ -254,6 +392,14 @@ impl Shared {
     {
         let Shared { medium, trace, .. } = self;
         (medium, trace)
+    }
+
+    /// The bytes of the text region, as they stand.
+    pub fn text(&self) -> &[u8]
+        ensures value { result.now ≡ self.now.ram.text }
+        ensures whole { length result.now ≡ TEXT_SIZE }
+    {
+        self.ram.text()
     }
 
     /// The number of lines of persistent memory.
@@ -318,6 +464,14 @@ impl Shared {
             None => Reply::Fault(AccessFault::Outside),
         }
     }
+}
+
+/// The line of the address space that holds an address of memory.
+fn reserved_line(address: u64) -> u32
+    requires { address < 2 ^ 38 }
+    ensures { result ≡ address / 64 }
+{
+    (address / 64) as u32
 }
 
 fn access_fault(fault: MemFault) -> AccessFault

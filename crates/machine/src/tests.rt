@@ -4,7 +4,7 @@ ghost use Rattle.std.specs.Prelude.{◌<◌, length};
 
 use crate::{Item, Machine, Outcome, RunStop, Schedule, Shared, Step, StepFault};
 use hart::{HartState, Need, Registers, Reply, Request, Status, Trap};
-use isa_table::Reg;
+use isa_table::{AtomicOp, Reg};
 use line_memory::Medium;
 use object::Object;
 use program::{Program, load};
@@ -67,6 +67,24 @@ fn state(pc: u64, writes: &[(u8, u64)], status: Status) -> HartState {
         registers,
         status,
     }
+}
+
+fn register_of(rt: &impl Abort, machine: &Machine, hart: u32, number: u8) -> u64 {
+    let state = state_of(rt, machine, hart);
+    match Reg::new(number) {
+        Some(reg) => state.registers.get(reg),
+        None => 0,
+    }
+}
+
+/// The number of the eight bytes at an address.
+fn doubleword_at(machine: &Machine, address: u64) -> Option<u64> {
+    let mut number = 0;
+    for place in (0..8).rev() {
+        let byte = machine.peek(address.wrapping_add(place))?;
+        number = number << 8 | u64::from(byte);
+    }
+    Some(number)
 }
 
 #[test]
@@ -213,6 +231,219 @@ fn a_full_trace(rt: HostRuntime) -> Result<(), Fail> {
     Ok(())
 }
 
+/// `lui x5, 0x80000`; `addiw x5, x5, -1`; `sw x5, 0(x11)`; `addi x6, x0, 1`; `amoadd.w x7, x6, (x11)`;
+/// `amoswap.w x8, x0, (x11)`.
+#[test]
+fn amo_wraps(rt: HostRuntime) -> Result<(), Fail> {
+    let words = [
+        0x8000_02b7,
+        0xfff2_829b,
+        0x0055_a023,
+        0x0010_0313,
+        0x0065_a3af,
+        0x0805_a42f,
+    ];
+    let mut machine = machine_of(&rt, &words, 1)?;
+    machine.run(&schedule_of(&rt, &[Item::Steps { hart: 0, count: 5 }])?)?;
+    assert_eq!(rt; register_of(&rt, &machine, 0, 7), 0x7fff_ffff);
+    assert_eq!(rt; doubleword_at(&machine, 0x4000_0000), Some(0x8000_0000));
+    assert_eq!(rt; machine.step(Step::Hart(0))?, Outcome::Done);
+    assert_eq!(rt; register_of(&rt, &machine, 0, 8), 0xffff_ffff_8000_0000);
+    assert_eq!(rt; doubleword_at(&machine, 0x4000_0000), Some(0));
+    let stored = |value| Event::Store {
+        hart: 0,
+        line: 0,
+        offset: 0,
+        width: 4,
+        value,
+    };
+    assert_eq!(rt;
+        machine.events(),
+        [stored(0x7fff_ffff), stored(0x8000_0000), stored(0)].as_slice()
+    );
+    Ok(())
+}
+
+/// Hart 0: `bne x10, x0, .+44`; `addi x6, x0, 5`; `lr.d x5, (x11)`; `sc.d x7, x6, (x11)`; `sc.d x28, x6, (x11)`;
+/// `addi x29, x11, 64`; `lr.d x5, (x11)`; `sc.d x30, x6, (x29)`; `sc.d x31, x6, (x11)`; `lr.d x5, (x11)`;
+/// `sc.d x18, x6, (x11)`. Hart 1: `addi x6, x0, 9`; `sd x6, 8(x11)`; `sd x6, 64(x11)`.
+#[test]
+fn reservations(rt: HostRuntime) -> Result<(), Fail> {
+    let words = [
+        0x0205_1663,
+        0x0050_0313,
+        0x1005_b2af,
+        0x1865_b3af,
+        0x1865_be2f,
+        0x0405_8e93,
+        0x1005_b2af,
+        0x186e_bf2f,
+        0x1865_bfaf,
+        0x1005_b2af,
+        0x1865_b92f,
+        0x0090_0313,
+        0x0065_b423,
+        0x0465_b023,
+    ];
+    let mut machine = machine_of(&rt, &words, 2)?;
+    let items = [
+        Item::Steps { hart: 0, count: 3 },
+        Item::Steps { hart: 1, count: 3 },
+        Item::Steps { hart: 0, count: 7 },
+    ];
+    machine.run(&schedule_of(&rt, &items)?)?;
+    for number in [7, 28, 30, 31] {
+        assert_eq!(rt; register_of(&rt, &machine, 0, number), 1);
+    }
+    assert_eq!(rt; doubleword_at(&machine, 0x4000_0000), Some(0));
+    // a store to the next line leaves the reservation
+    assert_eq!(rt; machine.step(Step::Hart(1))?, Outcome::Done);
+    assert_eq!(rt; machine.step(Step::Evict(0))?, Outcome::Done);
+    assert_eq!(rt; machine.step(Step::Hart(0))?, Outcome::Done);
+    assert_eq!(rt; register_of(&rt, &machine, 0, 18), 0);
+    assert_eq!(rt; doubleword_at(&machine, 0x4000_0000), Some(5));
+    let stored = |hart, line, offset, value| Event::Store {
+        hart,
+        line,
+        offset,
+        width: 8,
+        value,
+    };
+    let events = [stored(1, 0, 8, 9), stored(1, 1, 0, 9), stored(0, 0, 0, 5)];
+    assert_eq!(rt; machine.events(), events.as_slice());
+    Ok(())
+}
+
+/// `addi x5, x11, 4` or `lui x5, 0x20`, and then `sc.d x6, x0, (x5)` or `sc.w x6, x0, (x5)`, with no reservation.
+#[test]
+fn sc_finds_its_address_first(rt: HostRuntime) -> Result<(), Fail> {
+    let cases = [
+        ([0x0045_8293, 0x1802_b32f], Trap::MisalignedAccess),
+        ([0x0002_02b7, 0x1802_a32f], Trap::OutsideMemory),
+    ];
+    for (words, trap) in cases {
+        let mut machine = machine_of(&rt, &words, 1)?;
+        assert_eq!(rt; machine.step(Step::Hart(0))?, Outcome::Done);
+        assert_eq!(rt; machine.step(Step::Hart(0))?, Outcome::Trapped(trap));
+        assert_eq!(rt; register_of(&rt, &machine, 0, 6), 0);
+    }
+    Ok(())
+}
+
+/// `auipc x5, 0`; `addi x5, x5, 24`; `auipc x6, 0`; `addi x6, x6, 28`; `lw x7, 0(x6)`; `sw x7, 0(x5)`;
+/// `addi x10, x0, 1`; `addi x17, x0, 93`; `ecall`; and the word of `addi x10, x0, 2`.
+#[test]
+fn rewritten_text_without_fence_i(rt: HostRuntime) -> Result<(), Fail> {
+    let words = [
+        0x0000_0297,
+        0x0182_8293,
+        0x0000_0317,
+        0x01c3_0313,
+        0x0003_2383,
+        0x0072_a023,
+        0x0010_0513,
+        0x05d0_0893,
+        0x0000_0073,
+        0x0020_0513,
+    ];
+    let mut machine = machine_of(&rt, &words, 1)?;
+    machine.run(&schedule_of(&rt, &[Item::Steps { hart: 0, count: 9 }])?)?;
+    let ended = [
+        (5, 0x1_0018),
+        (6, 0x1_0024),
+        (7, 0x20_0513),
+        (10, 1),
+        (17, 93),
+    ];
+    assert_eq!(rt;
+        *state_of(&rt, &machine, 0),
+        state(0x1_0024, &ended, Status::Exited(1))
+    );
+    assert_eq!(rt; machine.events().len(), 0);
+    Ok(())
+}
+
+/// The same with `fence.i` before `addi x10, x0, 1`, and with `bne x10, x0, .+32` first, by which hart 1 comes right there.
+#[test]
+fn rewritten_text_with_fence_i(rt: HostRuntime) -> Result<(), Fail> {
+    let words = [
+        0x0205_1063,
+        0x0000_0297,
+        0x01c2_8293,
+        0x0000_0317,
+        0x0203_0313,
+        0x0003_2383,
+        0x0072_a023,
+        0x0000_100f,
+        0x0010_0513,
+        0x05d0_0893,
+        0x0000_0073,
+        0x0020_0513,
+    ];
+    let mut machine = machine_of(&rt, &words[1..], 1)?;
+    machine.run(&schedule_of(&rt, &[Item::Steps { hart: 0, count: 10 }])?)?;
+    let ended = [
+        (5, 0x1_001c),
+        (6, 0x1_0028),
+        (7, 0x20_0513),
+        (10, 2),
+        (17, 93),
+    ];
+    assert_eq!(rt;
+        *state_of(&rt, &machine, 0),
+        state(0x1_0028, &ended, Status::Exited(2))
+    );
+    assert_eq!(rt; machine.events().len(), 0);
+
+    // hart 1 without a FENCE.I of its own runs the old word, which stands in memory no more
+    let mut both = machine_of(&rt, &words, 2)?;
+    let items = [
+        Item::Steps { hart: 0, count: 11 },
+        Item::Steps { hart: 1, count: 4 },
+    ];
+    both.run(&schedule_of(&rt, &items)?)?;
+    assert!(rt; state_of(&rt, &both, 0).status == Status::Exited(2));
+    assert!(rt; state_of(&rt, &both, 1).status == Status::Exited(1));
+    assert_eq!(rt; both.peek(0x1_0022), Some(0x20));
+    Ok(())
+}
+
+/// `beq x10, x0, .+20`; `addi x6, x10, -1`; `lr.d x5, (x11)`; `beq x6, x0, .+16`; `sc.d x28, x6, (x11)`;
+/// `fence w, w`; `jal x0, .-4`; `amoadd.d x7, x10, (x11)`: hart 0 fills the trace.
+#[test]
+fn a_full_trace_refuses_atomics(rt: HostRuntime) -> Result<(), Fail> {
+    let words = [
+        0x0005_0a63,
+        0xfff5_0313,
+        0x1005_b2af,
+        0x0003_0863,
+        0x1865_be2f,
+        FENCE,
+        0xffdf_f06f,
+        0x00a5_b3af,
+    ];
+    let mut machine = machine_of(&rt, &words, 3)?;
+    let items = [
+        Item::Steps {
+            hart: 0,
+            count: 131_072,
+        },
+        Item::Steps { hart: 1, count: 4 },
+        Item::Steps { hart: 2, count: 4 },
+    ];
+    machine.run(&schedule_of(&rt, &items)?)?;
+    assert_eq!(rt; machine.events().len(), 65_536);
+    for hart in [1, 2, 2] {
+        let before = *state_of(&rt, &machine, hart);
+        let refused = machine.step(Step::Hart(hart));
+        assert_eq!(rt; refused, Err(StepFault::TraceFull));
+        assert_eq!(rt; *state_of(&rt, &machine, hart), before);
+        assert_eq!(rt; doubleword_at(&machine, 0x4000_0000), Some(0));
+    }
+    assert_eq!(rt; machine.events().len(), 65_536);
+    Ok(())
+}
+
 #[test]
 fn two_harts(rt: HostRuntime) -> Result<(), Fail> {
     let mut machine = machine_of(&rt, &FIRST_RUN, 2)?;
@@ -244,6 +475,31 @@ fn requests(rt: HostRuntime) -> Result<(), Fail> {
     ];
     assert_eq!(rt; shared.events(), events.as_slice());
     assert_eq!(rt; shared.peek(0x1_0004), Some(0x37));
+    assert_eq!(rt; shared.request(3, Request::FenceI)?, Reply::Done);
+    // an atomic operation and an SC write text, and make no event
+    let swap = Request::Amo {
+        op: AtomicOp::Amoswap,
+        address: 0x1_0004,
+        width: 4,
+        operand: 0x1_2345_6789,
+    };
+    assert_eq!(rt; shared.request(3, swap)?, Reply::Value(0x4000_0337));
+    assert_eq!(rt; &shared.text()[4..8], [0x89, 0x67, 0x45, 0x23].as_slice());
+    let (address, width) = (0x1_0004, 4);
+    let reserved = shared.request(3, Request::Lr { address, width })?;
+    assert_eq!(rt; reserved, Reply::Value(0x2345_6789));
+    let value = 1;
+    let stored = shared.request(
+        3,
+        Request::Sc {
+            address,
+            width,
+            value,
+        },
+    )?;
+    assert_eq!(rt; stored, Reply::Value(0));
+    assert_eq!(rt; shared.peek(0x1_0004), Some(1));
+    assert_eq!(rt; shared.events().len(), 2);
     let (medium, trace) = shared.power_cut();
     assert_eq!(rt; medium.lines(), 600);
     assert_eq!(rt; trace.events().len(), 2);

@@ -112,4 +112,4 @@ joined_stay (first ∷ next ∷ rest) all =
     ap (λ after. item_before first after) (joined_stay (next ∷ rest) all.2) ∙ stays first next rest all.0 all.1
 
 pub joining : (items : List Item) → Joins items (joined items)
-joining items = record { steps = all_steps-joined items; joined = are_joined items; kept = λ all. joined_stay items all }
+joining items = record { steps = all_steps-joined items; parted = are_joined items; kept = λ all. joined_stay items all }

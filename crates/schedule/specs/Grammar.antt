@@ -11,6 +11,7 @@ use Rattle.schedule.specs.declared.items.Item.TheVariants.{Steps, Evict}
 unfoldable pub is_blank : ℕ → Bool
 is_blank byte = (byte == 32) || (byte == 10)
 
+-- whether a part of a text isn't empty
 abbrev pub is_written : List ℕ → Bool
 is_written part = nat_lt 0 (length part)
 

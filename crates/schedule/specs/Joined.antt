@@ -42,7 +42,7 @@ AreJoined (item ∷ next ∷ rest) = HasSteps item × AreApart item next × AreJ
 -- joining keeps the steps, leaves nothing to join, and changes nothing where that is so already
 pub record Joins (items all : List Item) : Type 0 where
   pub steps : all_steps all ≡ all_steps items
-  pub joined : AreJoined all
+  pub parted : AreJoined all
   pub kept : AreJoined items → all ≡ items
 
 -- how an item is written, and how items are: one space between each two

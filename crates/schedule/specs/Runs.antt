@@ -16,7 +16,7 @@ abbrev pub continues : ℕ → Item → Bool
 continues hart (Steps other count) = (other == hart) || (count == 0)
 continues hart (Evict line) = false
 
--- the item's numbers are of 32 bits, and its steps, where it has some, are one at least
+-- the item's numbers are of 32 bits, and steps are one at least
 abbrev pub IsWritable : Item → Type 0
 IsWritable (Steps hart count) = (hart < 2 ^ 32) × (count < 2 ^ 32) × (1 ≤ count)
 IsWritable (Evict line) = line < 2 ^ 32

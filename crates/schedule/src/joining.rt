@@ -1,9 +1,9 @@
 //! The items of a schedule, with neighbouring steps of one hart as one item.
 
-ghost use Rattle.std.specs.Prelude.{◌≡◌, ◌<◌, ◌≤◌, ◌^◌, ◌∷◌, [], IfSome, MatchOption, length, not, position};
+ghost use Rattle.std.specs.Prelude.{◌≡◌, ◌<◌, ◌^◌, [], MatchOption, not, position};
 ghost use Rattle.schedule.specs.Grammar.{hart_steps, steps_in};
 ghost use Rattle.schedule.specs.Joined.{joined};
-ghost use Rattle.schedule.specs.Runs.{IsFirstJoined, IsFirstBusy, IsRun, continues, is_idle};
+ghost use Rattle.schedule.specs.Runs.{IsFirstBusy, IsFirstJoined, IsRun, continues, is_idle};
 
 use crate::items::Item;
 use crate::limit::steps_in;

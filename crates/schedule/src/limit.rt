@@ -1,6 +1,6 @@
 //! How many steps of harts a schedule may have.
 
-ghost use Rattle.std.specs.Prelude.{◌≡◌, ◌+◌, ◌^◌, ◌<◌, ◌↔◌, IsTrue};
+ghost use Rattle.std.specs.Prelude.{◌≡◌, ◌<◌, ◌^◌, ◌↔◌, IsTrue};
 ghost use Rattle.schedule.specs.Grammar.{hart_steps, steps_in};
 
 use crate::items::Item;

@@ -1,6 +1,6 @@
 //! Reading the text of a schedule.
 
-ghost use Rattle.std.specs.Prelude.{List, ◌+◌, ◌^◌, ◌↔◌, IfOk, IfErr, IsTrue, ◌≡◌, ◌<◌, ◌==◌, ◌∷◌, IfSome, IfNone, length, position};
+ghost use Rattle.std.specs.Prelude.{◌≡◌, ◌<◌, ◌==◌, ◌∷◌, List, IfErr, IfNone, IfOk, IfSome, length, position};
 ghost use Rattle.std.specs.List.{AllZip};
 ghost use Rattle.schedule.specs.Grammar.{IsSchedule, OnText, Says, words};
 ghost use Rattle.schedule.specs.Places.{StepsAt};

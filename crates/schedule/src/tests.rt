@@ -154,3 +154,23 @@ fn too_many_steps_have_no_text(rt: HostRuntime) -> Result<(), Fail> {
     assert_eq!(rt; refused, Some(ScheduleFault::Text));
     Ok(())
 }
+
+/// A call that is refused memory says so, and gives its answer when it is tried again.
+#[test]
+fn refused_growth(rt: HostRuntime) -> Result<(), Fail> {
+    let text = b"h0 e1 h1 e2 h2 e3 h3 e4 h4 e5 h5 e6 h6 e7 h7 e8 h0*20 h0*3";
+    let schedule = match Schedule::read(rt.alloc(), text) {
+        Err(ScheduleFault::Memory) => Schedule::read(rt.alloc(), text)?,
+        outcome => outcome?,
+    };
+    let written = match schedule.write(rt.alloc()) {
+        Err(ScheduleFault::Memory) => schedule.write(rt.alloc())?,
+        outcome => outcome?,
+    };
+    assert_eq!(rt; schedule.items().len(), 18);
+    assert_eq!(rt;
+        written.as_str(),
+        "h0*1 e1 h1*1 e2 h2*1 e3 h3*1 e4 h4*1 e5 h5*1 e6 h6*1 e7 h7*1 e8 h0*23"
+    );
+    Ok(())
+}

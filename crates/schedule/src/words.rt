@@ -1,6 +1,6 @@
 //! The words of a schedule's text.
 
-ghost use Rattle.std.specs.Prelude.{◌≡◌, ◌<◌, ◌==◌, ◌||◌, [], ◌∷◌, length, MatchOption, IfSome, not, position};
+ghost use Rattle.std.specs.Prelude.{◌≡◌, ◌<◌, [], ◌∷◌, IfSome, MatchOption, length, not, position};
 ghost use Rattle.schedule.specs.Grammar.{is_blank, words};
 
 /// What parts the words: a space or a line end.

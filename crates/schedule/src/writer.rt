@@ -1,6 +1,6 @@
 //! Writing a schedule.
 
-ghost use Rattle.std.specs.Prelude.{◌≡◌, ◌<◌, ◌≤◌, ◌^◌, ◌++◌, IfOk, IfErr, OnOk, string_bytes};
+ghost use Rattle.std.specs.Prelude.{◌≡◌, ◌<◌, ◌≤◌, ◌^◌, ◌++◌, IfErr, IfOk, OnOk, string_bytes};
 ghost use Rattle.schedule.specs.Grammar.{IsSchedule, OnText, hart_steps};
 ghost use Rattle.schedule.specs.Joined.{Joins, item_text, joined, text_of};
 ghost use Rattle.schedule.specs.Runs.{Writes, separator};

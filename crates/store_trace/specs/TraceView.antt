@@ -20,3 +20,11 @@ IsEvent (Clean hart line) = hart < 8
 IsEvent (Fence hart) = hart < 8
 IsEvent (Begin hart op) = hart < 8
 IsEvent (End hart op) = hart < 8
+
+-- the line that an event names, if it names one, is among the first `count`
+abbrev pub NamesLine : ℕ → Event → Type 0
+NamesLine count (Store hart line offset width value) = line < count
+NamesLine count (Clean hart line) = line < count
+NamesLine count (Fence hart) = Unit {0}
+NamesLine count (Begin hart op) = Unit {0}
+NamesLine count (End hart op) = Unit {0}

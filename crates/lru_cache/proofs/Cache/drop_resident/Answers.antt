@@ -1,4 +1,4 @@
-use Rattle.std.proofs.Common.{ap, ◌∙◌, ◌+◌, ◌≤◌, arith}
+use Rattle.std.proofs.Common.{ap, ◌∙◌}
 use Rattle.lru_cache.specs.Cache.{CacheView, is_dirty, is_resident}
 use Rattle.lru_cache.proofs.Keeps.{held_drop, some_resident}
 use Rattle.lru_cache.proofs.Cache.drop_resident.Goals as goal

@@ -1,5 +1,5 @@
-use Rattle.std.proofs.Common.{ap, ◌∙◌, ◌+◌, ◌≤◌, arith}
-use Rattle.lru_cache.specs.Cache.{CacheView, is_dirty, is_resident}
+use Rattle.std.proofs.Common.{ap, ◌∙◌, arith}
+use Rattle.lru_cache.specs.Cache.{CacheView, is_resident}
 use Rattle.lru_cache.proofs.Keeps.{held_fill}
 use Rattle.lru_cache.specs.Order.{resident_count}
 use Rattle.lru_cache.proofs.Cache.fill.Goals as goal

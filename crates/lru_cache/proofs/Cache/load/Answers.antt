@@ -1,4 +1,4 @@
-use Rattle.std.proofs.Common.{arith, length}
+use Rattle.std.proofs.Common.{arith}
 use Rattle.line_memory.proofs.Accesses.{line_loaded}
 use Rattle.lru_cache.proofs.Shows.{whole_shown, length_shown}
 use Rattle.lru_cache.proofs.Cache.load.Goals as goal

@@ -1,5 +1,3 @@
-use Rattle.std.proofs.Common.{ap, ◌∙◌, ◌+◌, ◌≤◌, arith}
-use Rattle.lru_cache.specs.Cache.{CacheView, is_dirty, is_resident}
 use Rattle.lru_cache.proofs.Keeps.{held_write_back}
 use Rattle.lru_cache.proofs.Cache.note_write_back.Goals as goal
 

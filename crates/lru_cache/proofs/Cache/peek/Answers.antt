@@ -1,7 +1,5 @@
-use Rattle.std.proofs.Common.{arith, ◌∙◌, ◌/◌, ap, length}
-use Rattle.std.proofs.lemmas.Grind.{common_steps}
+use Rattle.std.proofs.Common.{arith}
 use Rattle.line_memory.proofs.Accesses.{line_peeked}
-use Rattle.lru_cache.specs.Cache.{shown}
 use Rattle.lru_cache.proofs.Shows.{whole_shown, length_shown}
 use Rattle.lru_cache.proofs.Cache.peek.Goals as goal
 

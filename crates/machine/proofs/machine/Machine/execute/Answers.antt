@@ -1,9 +1,9 @@
-use Rattle.std.proofs.Common.{ap, refl, rules}
+use Rattle.std.proofs.Common.{◌<◌, ap, refl, arith, rules}
 use Rattle.std.proofs.lemmas.Option.{slice_get_within}
 use Rattle.schedule.specs.declared.items.Step.TheVariants.{Hart}
 use Rattle.machine.specs.Refusals.{Refuses}
 use Rattle.machine.specs.Stands.{MachineView}
-use Rattle.machine.proofs.Refusing.{refused_with_request}
+use Rattle.machine.proofs.Refusing.{longer, refused_with_request, silent_alone, silent_trap}
 use Rattle.machine.proofs.Stepping.{goes_on_alone, goes_on_answered, outcome_made, traps}
 use Rattle.machine.proofs.machine.Machine.execute.Goals as goal
 
@@ -29,13 +29,35 @@ returns-in_ok-after-in-Ask-clause-ok c =
 pub returns-in_ok-after-in-Ask-clause-runs : goal.returns-in_ok-after-in-Ask-clause-runs
 returns-in_ok-after-in-Ask-clause-runs c =
     let opened = c.self.view_is in
-    let text = ap (λ (m : MachineView). m.text) opened in
     let harts = ap (λ (m : MachineView). m.harts) opened in
+    let copies = ap (λ (m : MachineView). m.copies) opened in
     let shared = ap (λ (m : MachineView). m.shared) opened in
-    goes_on_answered c.args.self.now _ c.ask.new.shared c.args.hart c.args.state c.in_ok-after-in-Ask.after c.in-Ask.request
+    let each = rw (copies, harts) at c.self.invariant.1 in
+    let most = rw harts at c.self.invariant.0 in
+    let inside = slice_get_within c.args.self.now.harts c.args.hart c.args.state c.requires.there in
+    let few : c.args.hart < 8 = omega arith in
+    goes_on_answered c.args.self.now _ c.ask.new.shared c.args.hart c.args.state c.in_ok-after-in-Ask.after c.in-Ask.request few each
     c.requires.there c.requires.running (rw (← c.fetch-fetched.ensures) c.in-Ask.ensures.needs)
     (rw (← c.fetch-fetched.ensures, ← shared) c.in_ok-after-in-Ask.ensures.ok)
-    (rw (← text, ← harts) c.replace-in-Ask.ensures.replaced)
+    (rw (c.renew_after.ensures.copies, c.text.ensures.value, copies, harts) at c.replace-in-Ask.ensures.replaced)
+
+pub returns-in-Local-clause-event : goal.returns-in-Local-clause-event
+returns-in-Local-clause-event c = λ makes.
+    absurd (silent_alone c.args.self.now c.args.hart c.args.state c.in-Local.after c.requires.there
+    (rw (← c.fetch-fetched.ensures) c.in-Local.ensures.needs) makes)
+
+pub returns-in-Stop-clause-event : goal.returns-in-Stop-clause-event
+returns-in-Stop-clause-event c = λ makes.
+    absurd (silent_trap c.args.self.now c.args.hart c.args.state c.in-Stop.trap c.requires.there
+    (rw (← c.fetch-fetched.ensures) c.in-Stop.ensures.needs) makes)
+
+pub returns-in_ok-after-in-Ask-clause-event : goal.returns-in_ok-after-in-Ask-clause-event
+returns-in_ok-after-in-Ask-clause-event c = λ makes.
+    let shared = ap (λ (m : MachineView). m.shared) c.self.view_is in
+    let serves = rw shared at c.in_ok-after-in-Ask.ensures.ok.serves in
+    rw c.replace-in-Ask.ensures.replaced
+    (longer c.args.self.now c.ask.new.shared c.args.hart c.args.state c.in-Ask.request c.in_ok-after-in-Ask.ensures.ok.reply c.requires.there
+    (rw (← c.fetch-fetched.ensures) c.in-Ask.ensures.needs) serves makes)
 
 pub returns-in_err-after-in-Ask-clause-refused : goal.returns-in_err-after-in-Ask-clause-refused
 returns-in_err-after-in-Ask-clause-refused c =

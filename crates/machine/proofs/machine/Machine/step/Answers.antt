@@ -8,7 +8,7 @@ returns-in-Hart-clause-no_hart c =
 
 pub returns-in-Hart-clause-full : goal.returns-in-Hart-clause-full
 returns-in-Hart-clause-full c =
-    rw c.in-Hart.is (full_exactly c.args.self.now _ (Hart c.in-Hart.hart) _ c.step_hart.ensures.runs c.step_hart.ensures.limit c.step_hart.ensures.refused)
+    rw c.in-Hart.is (full_exactly c.args.self.now c.step_hart.new.self (Hart c.in-Hart.hart) _ c.step_hart.ensures.event c.step_hart.ensures.limit c.step_hart.ensures.refused)
 
 pub returns-in-Evict-clause-no_line : goal.returns-in-Evict-clause-no_line
 returns-in-Evict-clause-no_line c =
@@ -16,4 +16,4 @@ returns-in-Evict-clause-no_line c =
 
 pub returns-in-Evict-clause-full : goal.returns-in-Evict-clause-full
 returns-in-Evict-clause-full c =
-    rw c.in-Evict.is (full_exactly c.args.self.now _ (Evict c.in-Evict.line) _ c.evict.ensures.runs c.evict.ensures.limit c.evict.ensures.refused)
+    rw c.in-Evict.is (full_exactly c.args.self.now c.evict.new.self (Evict c.in-Evict.line) _ c.evict.ensures.event c.evict.ensures.limit c.evict.ensures.refused)

@@ -1,0 +1,4 @@
+pub mod RegisterLemmas
+pub mod ShapeLemmas
+pub mod NumberLists
+pub mod LineWords

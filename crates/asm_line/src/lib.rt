@@ -1,0 +1,58 @@
+//! The grammar of one line of assembler source: what a line says, or its lowest fault.
+//!
+//! A line has a label, a statement, both or nothing. A statement is a mnemonic, a pseudo-instruction
+//! or a directive, and its operands. Labels that a statement names are left to be found.
+//!
+//! Source: RISC-V Unprivileged ISA 20191213, chapters 2, 5, 8, 24 and 25; RISC-V Cache Management
+//! Operations (CMO) 1.0.
+#![tactic(auto)]
+
+ghost use Rattle.asm_line.specs.Faults.{Fails};
+ghost use Rattle.asm_line.specs.Lines.{line_of};
+ghost use Rattle.asm_line.specs.Meanings.{line_meaning, meaning_of, IsInRange};
+ghost use Rattle.asm_line.specs.Steps.{taken};
+ghost use Rattle.std.specs.Prelude.{◌≡◌, Ok, IfOk, IfErr, map};
+
+mod directives;
+mod fault;
+mod instructions;
+mod lexeme;
+mod line;
+mod lookup;
+mod mnemonic;
+mod operands;
+mod pseudo;
+mod registers;
+mod shapes;
+mod statement;
+#[cfg(test)]
+mod tests;
+
+use asm_lex::{Token, tokens};
+pub use fault::AsmCode;
+use lexeme::{Lexeme, lexeme_of};
+pub use line::{Line, NumberWidth, Section, Statement};
+pub use pseudo::halves;
+use statement::line_at;
+use std::alloc::{AllocError, Global};
+
+/// What a source line says. `line` is the line's bytes without its end, and `number` its number.
+///
+/// A line is refused with the lowest code, A1 to A5, of its label and its statement together.
+/// `AsmCode::Memory` is answered only where a growth was refused, and says nothing of the line.
+#[tactic(auto, using(crate::proofs::LineWords::line_bad))]
+pub fn read_line<'a>(alloc: Global, line: &'a [u8], number: u32) -> Result<Line<'a>, AsmCode>
+    ensures ok { IfOk result (λ read. line_of line.now ≡ Ok (line_meaning read)) }
+    ensures err { IfErr result (λ code. Fails code (line_of line.now)) }
+    ensures in_range { IfOk result (λ read. IsInRange (meaning_of read.statement)) }
+{
+    let tokens = tokens(alloc, line, number)?;
+    let lexemes = lexemes(alloc, &tokens)?;
+    line_at(alloc, &lexemes)
+}
+
+fn lexemes<'a>(alloc: Global, tokens: &[Token<'a>]) -> Result<Vec<Lexeme<'a>>, AllocError>
+    ensures { IfOk result (λ found. found.items ≡ map taken tokens.now) }
+{
+    tokens.iter().map(|token| lexeme_of(token)).collect(alloc)
+}

@@ -1,0 +1,184 @@
+//! The statement and the label of a line.
+
+ghost use Rattle.asm_line.specs.Faults.{both, code_number, lower, Fails};
+ghost use Rattle.asm_line.specs.Grammar.{statement_of};
+ghost use Rattle.asm_line.specs.Lines.{body_of, label_of, labelled, label_first, lexemes_line};
+ghost use Rattle.asm_line.specs.Meanings.{instruction, line_meaning, meaning_of, IsInRange};
+ghost use Rattle.asm_line.specs.Steps.{all_seen, Gives};
+ghost use Rattle.isa_table.specs.Ranges.{IsChecked};
+ghost use Rattle.std.specs.Prelude.{◌≡◌, ◌≢◌, Ok, IfOk, IfErr, MatchResult, option_map};
+
+use crate::directives::{align, numbers, section, zeros};
+use crate::fault::AsmCode;
+use crate::instructions::{
+    atomic, branch, cache, fence, fence_i, immediate, jump, jump_register, load, load_reserved,
+    register, shift, store, system, upper,
+};
+use crate::lexeme::Lexeme;
+use crate::line::{Line, Statement};
+use crate::lookup::mnemonic_of;
+use crate::mnemonic::Mnemonic;
+use crate::operands::is_dot;
+use crate::pseudo::{
+    exchanged_branch, load_address, load_number, no_operation, plain_jump, plain_jump_register,
+    return_jump, unary, zero_branch,
+};
+use crate::registers::register_of;
+use std::alloc::Global;
+
+/// A line of lexemes: `name:`, a statement, or both.
+pub(crate) fn line_at<'a>(alloc: Global, lexemes: &[Lexeme<'a>]) -> Result<Line<'a>, AsmCode>
+    ensures ok { IfOk result (λ line. lexemes_line (all_seen lexemes.now) ≡ Ok (line_meaning line)) }
+    ensures err { IfErr result (λ code. Fails code (lexemes_line (all_seen lexemes.now))) }
+    ensures in_range { IfOk result (λ line. IsInRange (meaning_of line.statement)) }
+{
+    match label_part(lexemes) {
+        Some((name, rest)) => labelled_line(alloc, name, rest),
+        None => Ok(Line {
+            label: None,
+            statement: body(alloc, lexemes)?,
+        }),
+    }
+}
+
+/// The name before a colon, and what follows the colon, where a line begins with them.
+fn label_part<'s, 'a>(lexemes: &'s [Lexeme<'a>]) -> Option<(&'a [u8], &'s [Lexeme<'a>])>
+    ensures { label_first (all_seen lexemes.now) ≡ option_map (λ (name, rest). (name.now, all_seen rest.now)) result }
+{
+    match lexemes {
+        [Lexeme::Name(name), Lexeme::Colon, rest @ ..] => Some((*name, rest)),
+        _ => None,
+    }
+}
+
+/// A line with a label. Its lowest code is that of the label or that of what follows.
+fn labelled_line<'a>(
+    alloc: Global,
+    name: &'a [u8],
+    rest: &[Lexeme<'a>],
+) -> Result<Line<'a>, AsmCode>
+    ensures ok { IfOk result (λ line.
+        labelled (both (label_of name.now) (body_of (all_seen rest.now))) ≡ Ok (line_meaning line)) }
+    ensures err { IfErr result (λ code.
+        Fails code (labelled (both (label_of name.now) (body_of (all_seen rest.now))))) }
+    ensures in_range { IfOk result (λ line. IsInRange (meaning_of line.statement)) }
+{
+    match body(alloc, rest) {
+        Ok(statement) => Ok(Line {
+            label: Some(label_of(name)?),
+            statement,
+        }),
+        Err(AsmCode::Memory) => Err(AsmCode::Memory),
+        Err(code) => Err(lowest(label_of(name), code)),
+    }
+}
+
+/// The lowest code of a label and of what follows it.
+fn lowest(label: Result<&[u8], AsmCode>, code: AsmCode) -> AsmCode
+    ensures { MatchResult label.entry (λ _. result ≡ code) (λ first. result ≡ lower first code) }
+{
+    match label {
+        Ok(_) => code,
+        Err(first) => lower(first, code),
+    }
+}
+
+/// The code with the lower number.
+fn lower(first: AsmCode, second: AsmCode) -> AsmCode
+    ensures { result ≡ lower first second }
+{
+    if code_number(first) <= code_number(second) {
+        first
+    } else {
+        second
+    }
+}
+
+/// The number in a code's name.
+fn code_number(code: AsmCode) -> u32
+    ensures { result ≡ code_number code }
+{
+    match code {
+        AsmCode::BadToken => 1,
+        AsmCode::Mnemonic => 2,
+        AsmCode::Operands => 3,
+        AsmCode::Register => 4,
+        AsmCode::Range => 5,
+        AsmCode::UnknownLabel => 6,
+        AsmCode::LabelTwice => 7,
+        AsmCode::WrongSection => 8,
+        AsmCode::TooLarge => 9,
+        AsmCode::Memory => 10,
+    }
+}
+
+/// The label that a line defines: neither `.` nor the name of a register.
+fn label_of<'a>(name: &'a [u8]) -> Result<&'a [u8], AsmCode>
+    ensures { Gives (λ text. text.now) result (label_of name.now) }
+{
+    if is_dot(name) {
+        return Err(AsmCode::BadToken);
+    }
+    match register_of(name) {
+        Some(_) => Err(AsmCode::Register),
+        None => Ok(name),
+    }
+}
+
+/// The statement of lexemes, which begins with its name.
+fn body<'a>(alloc: Global, lexemes: &[Lexeme<'a>]) -> Result<Statement<'a>, AsmCode>
+    ensures ok { IfOk result (λ s. body_of (all_seen lexemes.now) ≡ Ok (meaning_of s)) }
+    ensures err { IfErr result (λ code. Fails code (body_of (all_seen lexemes.now))) }
+    ensures in_range { IfOk result (λ s. IsInRange (meaning_of s)) }
+{
+    match lexemes {
+        [] => Ok(Statement::Nothing),
+        [Lexeme::Name(name), operands @ ..] => {
+            let mnemonic = mnemonic_of(name).ok_or(AsmCode::Mnemonic)?;
+            statement(alloc, mnemonic, operands)
+        }
+        _ => Err(AsmCode::Operands),
+    }
+}
+
+/// The statement of a mnemonic, pseudo-instruction or directive with these operands.
+fn statement<'a>(
+    alloc: Global,
+    mnemonic: Mnemonic,
+    operands: &[Lexeme<'a>],
+) -> Result<Statement<'a>, AsmCode>
+    ensures ok { IfOk result (λ s. statement_of mnemonic (all_seen operands.now) ≡ Ok (meaning_of s)) }
+    ensures err { IfErr result (λ code. Fails code (statement_of mnemonic (all_seen operands.now))) }
+    ensures in_range { IfOk result (λ s. IsInRange (meaning_of s)) }
+{
+    match mnemonic {
+        Mnemonic::Upper(op) => Ok(Statement::Instruction(upper(op, operands)?)),
+        Mnemonic::Jump => jump(operands),
+        Mnemonic::JumpRegister => Ok(Statement::Instruction(jump_register(operands)?)),
+        Mnemonic::Branch(op) => branch(op, operands),
+        Mnemonic::Load(op) => Ok(Statement::Instruction(load(op, operands)?)),
+        Mnemonic::Store(op) => Ok(Statement::Instruction(store(op, operands)?)),
+        Mnemonic::Immediate(op) => Ok(Statement::Instruction(immediate(op, operands)?)),
+        Mnemonic::Shift(op) => Ok(Statement::Instruction(shift(op, operands)?)),
+        Mnemonic::Register(op) => Ok(Statement::Instruction(register(op, operands)?)),
+        Mnemonic::Fence => Ok(Statement::Instruction(fence(operands)?)),
+        Mnemonic::FenceI => Ok(Statement::Instruction(fence_i(operands)?)),
+        Mnemonic::Cache(op) => Ok(Statement::Instruction(cache(op, operands)?)),
+        Mnemonic::LoadReserved(form) => Ok(Statement::Instruction(load_reserved(form, operands)?)),
+        Mnemonic::Atomic(op, form) => Ok(Statement::Instruction(atomic(op, form, operands)?)),
+        Mnemonic::System(op) => Ok(Statement::Instruction(system(op, operands)?)),
+        Mnemonic::Nop => Ok(Statement::Instruction(no_operation(operands)?)),
+        Mnemonic::Return => Ok(Statement::Instruction(return_jump(operands)?)),
+        Mnemonic::Unary(op) => Ok(Statement::Instruction(unary(op, operands)?)),
+        Mnemonic::ZeroBranch(op) => zero_branch(op, operands),
+        Mnemonic::ExchangedBranch(op) => exchanged_branch(op, operands),
+        Mnemonic::PlainJump => plain_jump(operands),
+        Mnemonic::PlainJumpRegister => Ok(Statement::Instruction(plain_jump_register(operands)?)),
+        Mnemonic::LoadNumber => load_number(operands),
+        Mnemonic::LoadAddress => load_address(operands),
+        Mnemonic::Section(which) => section(which, operands),
+        Mnemonic::Numbers(width) => numbers(alloc, width, operands),
+        Mnemonic::Zeros => zeros(operands),
+        Mnemonic::Align => align(operands),
+    }
+}

@@ -1,0 +1,31 @@
+-- What the passes over the lines know on the way.
+use Rattle.std.specs.Prelude.{◌≡◌, ℕ, ◌+◌, ◌≤◌, List, length}
+use mathlib.Core.List.{reverse_aux}
+use Rattle.asm_lex.specs.Lines.{lines_of}
+use Rattle.object.specs.declared.TheConstants.{TEXT_LIMIT, DATA_LIMIT}
+use Rattle.asm_line.specs.declared.line.Section.TheVariants.{Text, Data}
+use Rattle.assemble.specs.declared.labels.Labels.{Labels}
+use Rattle.assemble.specs.declared.position.Position.{Position}
+use Rattle.assemble.specs.Places.{size_of, section_after, value_in}
+use Rattle.assemble.specs.Faults.{NoneHas, early_code}
+use Rattle.assemble.specs.Assembly.{lines_back}
+use Rattle.assemble.specs.Labels.{place_at}
+use Rattle.assemble.specs.Positions.{IsAfter}
+
+-- the position and the labels after these lines
+pub record IsPlaced (earlier : List (List ℕ)) (position : Position) (labels : Labels) : Type 0 where
+  pub position_is : IsAfter earlier position
+  pub labels_are : place_at labels ≡ value_in earlier
+
+-- the line of this number stands next in a source, after these lines
+pub record IsNext (source rest : List ℕ) (number : ℕ) (earlier : List (List ℕ)) : Type 0 where
+  pub split : reverse_aux (lines_of rest) earlier ≡ lines_back source
+  pub number_is : number ≡ length earlier + 1
+  pub counted : number + length rest ≤ 1 + length source
+
+-- the first pass: no line before has a fault
+pub record Placing (source rest : List ℕ) (number : ℕ) (position : Position) (labels : Labels) : Type 0 where
+  pub earlier : List (List ℕ)
+  pub next : IsNext source rest number earlier
+  pub placed : IsPlaced earlier position labels
+  pub none : NoneHas (early_code (length source)) earlier

@@ -1,0 +1,13 @@
+-- The image of a cut while its stores are made, the oldest first.
+use Rattle.std.specs.Prelude.{◌≡◌, ℕ, ◌-◌, ◌<◌, List, length, slice_index_or}
+use Rattle.crash_model.specs.Image.{line_after}
+use Rattle.crash_model.specs.Stores.{stores}
+use Rattle.crash_model.specs.declared.step.PersistenceStep.{PersistenceStep}
+use Rattle.line_memory.specs.Lines.{line_at}
+
+-- after these steps each line l has had its first `k l` stores, as far as they were made, and `left` counts those that are due
+pub record IsImaged (start : List (List ℕ)) (k : ℕ → ℕ) (p : List PersistenceStep) (left : List ℕ) (medium : List (List ℕ)) : Type 0 where
+  pub size : length medium ≡ length start
+  pub counts : length left ≡ length start
+  pub lines : (l : ℕ) → l < length start → line_at medium l ≡ line_after (line_at start l) l (k l) p
+  pub due : (l d : ℕ) → l < length start → slice_index_or left l d ≡ k l - stores l p

@@ -1,0 +1,79 @@
+//! A cut: the stored lines, each with a number of its stores.
+
+ghost use Rattle.crash_image.specs.Bounds.{Allows, Fits, IsOrdered, cut_from, numbers_of, product_of};
+ghost use Rattle.std.specs.Prelude.{◌≡◌, ◌↔◌, ◌<◌, All, IfOk, IsTrue};
+
+use crate::bounds::LineBounds;
+use std::alloc::{AllocError, Global};
+use std::marker::Model;
+
+/// The stored lines of a moment, upwards, each with how many of its first stores are in the medium.
+///
+/// A contract sees the pairs of line and number.
+#[derive(Drop)]
+pub struct Cut {
+    entries: Vec<(u32, u32)>,
+}
+
+impl Model for Cut {
+    ghost use Rattle.std.specs.Prelude.{ℕ, List};
+
+    ghost Value = { List (ℕ × ℕ) };
+
+    ghost view = { λ c. c.entries.items };
+}
+
+impl Cut {
+    /// The cut of these pairs of line and number.
+    pub fn from_entries(entries: Vec<(u32, u32)>) -> Cut
+        ensures { result ≡ entries.items }
+    {
+        Cut { entries }
+    }
+
+    /// The pairs of line and number.
+    pub fn entries(&self) -> &[(u32, u32)]
+        ensures { result.now ≡ self.now }
+    {
+        self.entries.as_slice()
+    }
+
+    /// The pairs of line and number, given back.
+    pub fn into_entries(self) -> Vec<(u32, u32)>
+        ensures { result.items ≡ self }
+    {
+        self.entries
+    }
+}
+
+/// The entries of the cut of number `n` of lines with these bounds, the highest line varying fastest.
+pub fn numbered(alloc: Global, bounds: &[LineBounds], n: u32) -> Result<Vec<(u32, u32)>, AllocError>
+    requires ordered { All IsOrdered bounds.now }
+    requires below { n < product_of bounds.now }
+    ensures { IfOk result (λ entries. entries.items ≡ cut_from bounds.now n) }
+{
+    let mut entries = Vec::with_capacity(alloc, bounds.len())?;
+    let mut rest = u64::from(n);
+    for at in (0..bounds.len()).rev() {
+        let line = &bounds[at];
+        entries.push(line.entry(rest))?;
+        rest /= line.numbers();
+    }
+    entries.reverse();
+    Ok(entries)
+}
+
+/// Whether the entries are of just these lines, with numbers within their bounds.
+pub fn fits(bounds: &[LineBounds], entries: &[(u32, u32)]) -> bool
+    ensures { IsTrue result ↔ Fits bounds.now entries.now }
+{
+    if bounds.len() != entries.len() {
+        return false;
+    }
+    for (at, entry) in entries.iter().enumerate() {
+        if !bounds[at].allows(*entry) {
+            return false;
+        }
+    }
+    true
+}

@@ -1,0 +1,10 @@
+use Rattle.std.proofs.Common.{ap, refl, sym}
+use Rattle.machine.specs.Stands.{SharedView}
+use Rattle.machine.proofs.Serving.{reserves}
+use Rattle.machine.proofs.shared.Shared.load_reserved.Goals as goal
+
+pub returns-in-Ok-clause-serves : goal.returns-in-Ok-clause-serves
+returns-in-Ok-clause-serves c =
+    reserves c.args.self.now _ c.self.inside.reservations c.reserve.new.self c.args.hart c.args.address c.reserved_line.result c.args.width
+    c.in-Ok.value c.in-Ok.ensures.ok (sym (ap (λ (s : SharedView). s.reserved) c.self.view_is)) (rw (← c.self.view_is) refl)
+    c.reserved_line.ensures c.reserve.ensures

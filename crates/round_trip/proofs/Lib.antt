@@ -1,0 +1,4 @@
+pub mod Tokens
+pub mod Operands
+pub mod Names
+pub mod Shapes

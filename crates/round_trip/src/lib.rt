@@ -1,0 +1,23 @@
+//! The assembler reads what the decoder shows: the text of each instruction is a source line that
+//! says that instruction.
+//!
+//! Source: RISC-V Unprivileged ISA 20191213, chapters 24 and 25; RISC-V Cache Management Operations
+//! (CMO) 1.0.
+#![tactic(auto)]
+
+ghost use Rattle.asm_line.specs.Lines.{line_of};
+ghost use Rattle.asm_line.specs.Meanings.{instruction};
+ghost use Rattle.decode.specs.Text.{text_of};
+ghost use Rattle.isa_table.specs.Ranges.{IsChecked};
+ghost use Rattle.isa_table.specs.declared.instruction.Instr.{Instr};
+ghost use Rattle.std.specs.Prelude.{◌≡◌, None, Ok};
+
+#[cfg(test)]
+mod tests;
+
+/// The text of each instruction whose word can hold its operands is a line that says that
+/// instruction and defines no label: a law, with nothing to run.
+#[tactic(auto, using(crate::proofs::Shapes::reads_back))]
+pub fn shown_reads_back()
+    ensures { (i : Instr) → IsChecked i → line_of (text_of i) ≡ Ok (record { label = None; meaning = instruction i }) }
+{}
