@@ -1,4 +1,3 @@
-pub mod RegisterLemmas
 pub mod ShapeLemmas
 pub mod NumberLists
 pub mod LineWords

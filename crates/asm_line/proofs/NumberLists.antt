@@ -1,18 +1,18 @@
 -- Numbers between commas, and their values.
-use Rattle.std.proofs.Common.{◌≡◌, ℕ, zero, suc, ◌+◌, ◌*◌, ◌^◌, ◌<◌, Bool, true, false, List, [], ◌∷◌, ◌++◌, length, map, drop, get_or, refl, sym, ap, ◌∙◌, append_assoc, arith, drop-cons, add-one}
+use Rattle.std.proofs.Common.{◌≡◌, ℕ, suc, ◌+◌, ◌<◌, true, List, [], ◌∷◌, ◌++◌, length, map, drop, get_or, refl, sym, ap, ◌∙◌, append_assoc, arith, drop-cons, add-one}
 use Rattle.std.proofs.lemmas.Bool.Decides.{nat_tests}
-use Rattle.std.specs.Prelude.{Option, Some, None, Result, Ok, Err, option_map, All, IsTrue, ◌≤◌, ◌≢◌, ℤ}
+use Rattle.std.specs.Prelude.{Option, Some, None, Result, Ok, Err, option_map, ◌≤◌, ℤ}
 use Rattle.std.specs.Int.{cast_unsigned, is_power_of_two}
-use Rattle.asm_line.specs.Faults.{◌>>=◌, Fails}
-use Rattle.asm_line.specs.Grammar.{integers_of, number_range, Interval}
+use Rattle.asm_line.specs.Faults.{◌>>=◌}
+use Rattle.asm_line.specs.Grammar.{integers_of, number_range}
 use Rattle.asm_line.specs.Lexemes.{Lexeme, name, number, comma, opening, closing, colon, plus, minus}
-use Rattle.asm_line.specs.Meanings.{width_of, width_bytes}
+use Rattle.asm_line.specs.Meanings.{width_of}
 use Rattle.asm_line.specs.Numbers.{number_then, numbers_of, with_first, unsigned, negated, within}
 use Rattle.asm_line.specs.Steps.{numbers_after, numbers_from, stored, stored_all}
 use Rattle.std.proofs.lemmas.Nat.{ones_le_self}
 use Rattle.std.proofs.lemmas.List.{append-nil}
 use Rattle.asm_line.specs.declared.fault.AsmCode.{AsmCode}
-use Rattle.asm_line.specs.declared.line.NumberWidth.{NumberWidth}
+use Rattle.asm_names.specs.declared.kinds.NumberWidth.{NumberWidth}
 use Rattle.asm_line.specs.declared.operands.SignedNumber.{SignedNumber}
 
 step_bare : (size : Option ℕ) (text : List ℕ) (rest : List Lexeme) → numbers_of (number size text ∷ rest) ≡ numbers_after (unsigned size) rest

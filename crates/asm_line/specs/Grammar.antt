@@ -2,7 +2,7 @@
 -- shape say, or the lowest code of their faults: no shape fits, then a name that is no register, then a number out of range.
 -- Source: RISC-V Unprivileged ISA 20191213, chapter 25 ("RISC-V Assembly Programmer's Handbook"); RISC-V Cache Management
 -- Operations 1.0.
-use Rattle.std.specs.Prelude.{ℕ, ◌*◌, ◌^◌, ◌-◌, List, [], ◌∷◌, Option, Some, None, Result, Ok, Err, ℤ, pos, negsuc, true, false, Bool, unsigned_abs, ok_or, option_map, codes, nat_eq, map, slice_index_or, int_le, ◌&&◌, if◌then◌else◌}
+use Rattle.std.specs.Prelude.{ℕ, ◌*◌, ◌^◌, ◌-◌, List, [], ◌∷◌, Option, Some, None, Result, Ok, Err, ℤ, pos, negsuc, Bool, unsigned_abs, ok_or, option_map, codes, nat_eq, map, slice_index_or, int_le, ◌&&◌, if◌then◌else◌}
 use Rattle.std.specs.Option.{option_or}
 use Rattle.std.specs.Int.{cast_unsigned, is_power_of_two}
 use Rattle.std.specs.Cmp.Lexicographic.{pointwise}
@@ -17,23 +17,22 @@ use Rattle.isa_table.specs.declared.instruction.BranchOp.TheVariants.{Beq, Bne, 
 use Rattle.isa_table.specs.declared.instruction.ImmediateOp.TheVariants.{Addi, Sltiu, Xori, Addiw}
 use Rattle.isa_table.specs.declared.instruction.RegisterOp.TheVariants.{Sub, Subw, Slt, Sltu}
 use Rattle.asm_line.specs.declared.fault.AsmCode.{AsmCode}
-use Rattle.asm_line.specs.declared.line.NumberWidth.{NumberWidth}
+use Rattle.asm_names.specs.declared.kinds.NumberWidth.{NumberWidth}
 use Rattle.asm_line.specs.declared.fault.AsmCode.TheVariants as code
-use Rattle.asm_line.specs.declared.mnemonic.AtomicForm.{AtomicForm}
-use Rattle.asm_line.specs.declared.mnemonic.UnaryOp.{UnaryOp}
-use Rattle.asm_line.specs.declared.mnemonic.UnaryOp.TheVariants.{Mv, Not, Neg, Negw, SextW, Seqz, Snez, Sltz, Sgtz}
-use Rattle.asm_line.specs.declared.mnemonic.ZeroBranchOp.{ZeroBranchOp}
-use Rattle.asm_line.specs.declared.mnemonic.ZeroBranchOp.TheVariants.{Beqz, Bnez, Blez, Bgez, Bltz, Bgtz}
-use Rattle.asm_line.specs.declared.mnemonic.ExchangedBranchOp.{ExchangedBranchOp}
-use Rattle.asm_line.specs.declared.mnemonic.ExchangedBranchOp.TheVariants.{Bgt, Ble, Bgtu, Bleu}
-use Rattle.asm_line.specs.declared.mnemonic.Mnemonic.{Mnemonic}
-use Rattle.asm_line.specs.declared.mnemonic.Mnemonic.TheVariants as mnemonics
+use Rattle.asm_names.specs.declared.mnemonic.UnaryOp.{UnaryOp}
+use Rattle.asm_names.specs.declared.mnemonic.UnaryOp.TheVariants.{Mv, Not, Neg, Negw, SextW, Seqz, Snez, Sltz, Sgtz}
+use Rattle.asm_names.specs.declared.mnemonic.ZeroBranchOp.{ZeroBranchOp}
+use Rattle.asm_names.specs.declared.mnemonic.ZeroBranchOp.TheVariants.{Beqz, Bnez, Blez, Bgez, Bltz, Bgtz}
+use Rattle.asm_names.specs.declared.mnemonic.ExchangedBranchOp.{ExchangedBranchOp}
+use Rattle.asm_names.specs.declared.mnemonic.ExchangedBranchOp.TheVariants.{Bgt, Ble, Bgtu, Bleu}
+use Rattle.asm_names.specs.declared.mnemonic.Mnemonic.{Mnemonic}
+use Rattle.asm_names.specs.declared.mnemonic.Mnemonic.TheVariants as mnemonics
 use Rattle.asm_line.specs.declared.operands.SignedNumber.{SignedNumber}
 use Rattle.asm_line.specs.Faults.{◌>>=◌}
-use Rattle.asm_line.specs.Lexemes.{Lexeme, name, number, comma, opening, closing, colon, plus, minus}
+use Rattle.asm_line.specs.Lexemes.{Lexeme, name, number, comma, opening, closing, plus, minus}
 use Rattle.asm_line.specs.Meanings.{Meaning, instruction, pair, branch, jump, address, section, numbers, zeros, align, width_bytes, width_of}
 use Rattle.asm_line.specs.Numbers.{unsigned, negated, number_then, numbers_of, within, even, upper_half, lower_half}
-use Rattle.asm_line.specs.Registers.{register_of, set_of, zero_register, return_register, all_accesses}
+use Rattle.asm_names.specs.Registers.{register_of, set_of, zero_register, return_register, all_accesses}
 
 -- a place in a shape: for a register's name, a number with at most one sign, a number that may be missing, numbers between
 -- commas, a set of accesses, a label, a label or a distance, or a mark

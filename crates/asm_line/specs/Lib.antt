@@ -1,8 +1,6 @@
 pub mod Faults
 pub mod Meanings
 pub mod Lexemes
-pub mod Registers
-pub mod Mnemonics
 pub mod Numbers
 pub mod Grammar
 pub mod Lines

@@ -7,8 +7,8 @@ use Rattle.asm_line.specs.Faults.{◌>>=◌, both}
 use Rattle.asm_line.specs.Grammar.{statement_of, is_dot}
 use Rattle.asm_line.specs.Lexemes.{Lexeme, name, colon, lexemes_of}
 use Rattle.asm_line.specs.Meanings.{Meaning, LineMeaning, nothing}
-use Rattle.asm_line.specs.Mnemonics.{mnemonic_of}
-use Rattle.asm_line.specs.Registers.{register_of}
+use Rattle.asm_names.specs.Mnemonics.{mnemonic_of}
+use Rattle.asm_names.specs.Registers.{register_of}
 
 -- a statement begins with its name
 abbrev pub body_of : List Lexeme → Result Meaning AsmCode

@@ -5,9 +5,10 @@ use Rattle.isa_table.specs.declared.instruction.Instr.{Instr}
 use Rattle.isa_table.specs.declared.instruction.BranchOp.{BranchOp}
 use Rattle.isa_table.specs.declared.register.Reg.{Reg}
 use Rattle.isa_table.specs.Ranges.{IsChecked}
-use Rattle.asm_line.specs.declared.line.Section.{Section}
-use Rattle.asm_line.specs.declared.line.NumberWidth.{NumberWidth}
-use Rattle.asm_line.specs.declared.line.NumberWidth.TheVariants.{Byte, Half, Word, Doubleword}
+use Rattle.asm_names.specs.declared.kinds.Section.{Section}
+use Rattle.asm_names.specs.declared.kinds.NumberWidth.{NumberWidth}
+use Rattle.asm_names.specs.declared.kinds.NumberWidth.TheVariants.{Byte, Half, Word, Doubleword}
+pub use Rattle.asm_names.specs.Widths.{width_bytes}
 use Rattle.asm_line.specs.declared.line.Statement.{Statement}
 use Rattle.asm_line.specs.declared.line.Statement.TheVariants as statements
 use Rattle.asm_line.specs.declared.line.Line.{Line}
@@ -44,13 +45,6 @@ meaning_of (statements.Align boundary) = align boundary
 
 abbrev pub line_meaning : Line → LineMeaning
 line_meaning line = record { label = option_map (λ text. text.now) line.label; meaning = meaning_of line.statement }
-
--- how many bytes a number takes
-abbrev pub width_bytes : NumberWidth → ℕ
-width_bytes Byte = 1
-width_bytes Half = 2
-width_bytes Word = 4
-width_bytes Doubleword = 8
 
 -- the same in bits
 abbrev pub width_of : NumberWidth → Width

@@ -1,23 +1,20 @@
 -- What the steps of reading a line find.
-use Rattle.std.specs.Prelude.{◌≡◌, ◌≢◌, ℕ, ◌+◌, length, List, [], ◌∷◌, ◌++◌, Option, Some, None, Result, Ok, Err, map, ok_or, MatchResult, option_map}
-use Rattle.asm_lex.specs.Tokens.{text_of}
+use Rattle.std.specs.Prelude.{◌≡◌, ℕ, ◌+◌, length, List, [], ◌∷◌, Option, Some, None, Result, Ok, Err, map}
 use Rattle.asm_lex.specs.declared.Token.{Token}
 use Rattle.asm_lex.specs.declared.Kind.{Kind}
 use Rattle.asm_lex.specs.declared.Kind.TheVariants as kinds
 use Rattle.asm_line.specs.declared.fault.AsmCode.{AsmCode}
-use Rattle.asm_line.specs.declared.fault.AsmCode.TheVariants.{Memory}
 use Rattle.asm_line.specs.declared.lexeme.Lexeme.{Lexeme as Found}
 use Rattle.asm_line.specs.declared.lexeme.Lexeme.TheVariants as found
-use Rattle.asm_line.specs.declared.line.Statement.{Statement}
 use Rattle.asm_line.specs.declared.operands.SignedNumber.{SignedNumber}
 use Rattle.asm_line.specs.declared.operands.Target.{Target as FoundTarget}
 use Rattle.asm_line.specs.declared.operands.Target.TheVariants as targets
 use Rattle.asm_line.specs.Grammar.{Slot, Operands, Target, to_label, by_distance, Interval, Parts, fit, checked, number_range}
-use Rattle.asm_line.specs.Lexemes.{Lexeme, name, number, comma, opening, closing, colon, plus, minus, lexeme_of}
+use Rattle.asm_line.specs.Lexemes.{Lexeme, name, number, comma, opening, closing, colon, plus, minus}
 use Rattle.asm_line.specs.Faults.{◌>>=◌}
-use Rattle.asm_line.specs.Meanings.{Meaning, meaning_of, width_of}
+use Rattle.asm_line.specs.Meanings.{width_of}
 use Rattle.asm_line.specs.Numbers.{numbers_of, with_first, within}
-use Rattle.asm_line.specs.declared.line.NumberWidth.{NumberWidth}
+use Rattle.asm_names.specs.declared.kinds.NumberWidth.{NumberWidth}
 use Rattle.std.specs.Borrow.{Bor}
 use Rattle.std.specs.Int.{cast_unsigned}
 

@@ -1,18 +1,21 @@
 //! The directives, each with its numbers.
 
-ghost use Rattle.asm_line.specs.declared.mnemonic.Mnemonic.{Mnemonic};
+ghost use Rattle.asm_names.specs.declared.mnemonic.Mnemonic.{Mnemonic};
 ghost use Rattle.asm_line.specs.Grammar.{statement_of};
 ghost use Rattle.asm_line.specs.Faults.{Fails};
 ghost use Rattle.asm_line.specs.Meanings.{meaning_of, width_bytes, IsInRange};
 ghost use Rattle.asm_line.specs.Numbers.{numbers_of, with_first};
-ghost use Rattle.asm_line.specs.Steps.{all_seen, numbers_left, left_len, numbers_after, stored, stored_all, Gives};
-ghost use Rattle.std.specs.Prelude.{◌≡◌, ◌≢◌, ◌+◌, ◌*◌, ◌-◌, ◌^◌, ◌<◌, length, All, Some, None, Ok, IfOk, IfErr, IfSome, MatchOption, option_and_then};
+ghost use Rattle.asm_line.specs.Steps.{all_seen, numbers_left, left_len, numbers_after, stored};
+ghost use Rattle.asm_line.specs.Steps.{stored_all, Gives};
+ghost use Rattle.std.specs.Prelude.{◌≡◌, ◌≢◌, ◌+◌, ◌*◌, ◌-◌, ◌^◌, ◌<◌, length, All, Some, None, Ok};
+ghost use Rattle.std.specs.Prelude.{IfOk, IfErr, IfSome, MatchOption, option_and_then};
 
 use crate::fault::AsmCode;
 use crate::lexeme::Lexeme;
-use crate::line::{NumberWidth, Section, Statement};
+use crate::line::Statement;
 use crate::operands::{SignedNumber, number_then};
 use crate::shapes::{nothing, one_number};
+use asm_names::{NumberWidth, Section};
 use std::alloc::Global;
 
 /// `.text` and `.data` have no operands.
@@ -21,7 +24,8 @@ pub(crate) fn section<'a>(
     section: Section,
     operands: &[Lexeme<'a>],
 ) -> Result<Statement<'a>, AsmCode>
-    ensures value { Gives meaning_of result (statement_of (Mnemonic.Section section) (all_seen operands.now)) }
+    ensures value { Gives meaning_of result
+        (statement_of (Mnemonic.Section section) (all_seen operands.now)) }
     ensures in_range { IfOk result (λ s. IsInRange (meaning_of s)) }
 {
     nothing(operands)?;
@@ -59,8 +63,10 @@ pub(crate) fn numbers<'a>(
     width: NumberWidth,
     operands: &[Lexeme<'a>],
 ) -> Result<Statement<'a>, AsmCode>
-    ensures ok { IfOk result (λ s. statement_of (Mnemonic.Numbers width) (all_seen operands.now) ≡ Ok (meaning_of s)) }
-    ensures err { IfErr result (λ code. Fails code (statement_of (Mnemonic.Numbers width) (all_seen operands.now))) }
+    ensures ok { IfOk result (λ s. statement_of (Mnemonic.Numbers width) (all_seen operands.now)
+        ≡ Ok (meaning_of s)) }
+    ensures err { IfErr result (λ code. Fails code
+        (statement_of (Mnemonic.Numbers width) (all_seen operands.now))) }
     ensures in_range { IfOk result (λ s. IsInRange (meaning_of s)) }
 {
     let numbers = number_list(alloc, operands)?;
@@ -89,7 +95,8 @@ fn number_list(alloc: Global, lexemes: &[Lexeme]) -> Result<Vec<SignedNumber>, A
 #[tactic(auto, using(crate::proofs::NumberLists::list_step))]
 fn front<'s, 'a>(lexemes: &'s [Lexeme<'a>]) -> Option<(SignedNumber, Option<&'s [Lexeme<'a>]>)>
     ensures value { MatchOption result (numbers_of (all_seen lexemes.now) ≡ None)
-        (λ (number, rest). numbers_of (all_seen lexemes.now) ≡ with_first number (numbers_left rest)) }
+        (λ (number, rest). numbers_of (all_seen lexemes.now) ≡ with_first number
+        (numbers_left rest)) }
     ensures shorter { IfSome result (λ (number, rest). left_len rest < 1 + length lexemes.now) }
 {
     let (number, rest) = number_then(lexemes)?;
@@ -114,7 +121,8 @@ fn after_comma<'s, 'a>(lexemes: &'s [Lexeme<'a>]) -> Option<Option<&'s [Lexeme<'
 fn values(alloc: Global, width: NumberWidth, numbers: &[SignedNumber]) -> Result<Vec<u64>, AsmCode>
     ensures ok { IfOk result (λ found. stored_all width numbers.now ≡ Ok found.items) }
     ensures err { IfErr result (λ code. Fails code (stored_all width numbers.now)) }
-    ensures in_range { IfOk result (λ found. All (λ v. v < 2 ^ (8 * width_bytes width)) found.items) }
+    ensures in_range { IfOk result (λ found. All
+        (λ v. v < 2 ^ (8 * width_bytes width)) found.items) }
 {
     let mut found = Vec::new(alloc);
     for number in numbers {

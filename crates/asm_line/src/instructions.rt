@@ -2,7 +2,7 @@
 //!
 //! Source: RISC-V Unprivileged ISA 20191213, chapters 2, 5, 8 and 25; CMO 1.0.
 
-ghost use Rattle.asm_line.specs.declared.mnemonic.Mnemonic.{Mnemonic};
+ghost use Rattle.asm_names.specs.declared.mnemonic.Mnemonic.{Mnemonic};
 ghost use Rattle.asm_line.specs.Grammar.{statement_of, branched, jumped};
 ghost use Rattle.asm_line.specs.Meanings.{instruction, meaning_of, IsInRange};
 ghost use Rattle.asm_line.specs.Numbers.{even};
@@ -13,14 +13,13 @@ ghost use Rattle.std.specs.Prelude.{◌≡◌, ◌^◌, ◌≤ℤ◌, [], ◌∷
 use crate::fault::AsmCode;
 use crate::lexeme::Lexeme;
 use crate::line::Statement;
-use crate::mnemonic::AtomicForm;
 use crate::operands::{Target, set, within};
-use crate::registers::{ALL_ACCESSES, return_register};
 use crate::shapes::{
     memory, nothing, one_register, one_target, register_and_memory, register_and_number,
     register_and_target, three_registers, two_registers_and_memory, two_registers_and_number,
     two_registers_and_target,
 };
+use asm_names::{ALL_ACCESSES, AtomicForm, return_register};
 use isa_table::{
     AtomicOp, BranchOp, CacheOp, ImmediateOp, Instr, LoadOp, Reg, RegisterOp, ShiftOp, StoreOp,
     SystemOp, UpperOp,
@@ -29,7 +28,8 @@ use isa_table::{
 /// `rd, immediate`
 #[tactic(auto, unfolding(crate::specs::Grammar::statement_of))]
 pub(crate) fn upper(op: UpperOp, operands: &[Lexeme]) -> Result<Instr, AsmCode>
-    ensures value { Gives instruction result (statement_of (Mnemonic.Upper op) (all_seen operands.now)) }
+    ensures value { Gives instruction result
+        (statement_of (Mnemonic.Upper op) (all_seen operands.now)) }
     ensures checked { IfOk result IsChecked }
 {
     let (rd, immediate) = register_and_number(operands, 0, 1_048_575)?;
@@ -43,7 +43,8 @@ pub(crate) fn upper(op: UpperOp, operands: &[Lexeme]) -> Result<Instr, AsmCode>
 /// `rd, rs1, immediate`
 #[tactic(auto, unfolding(crate::specs::Grammar::statement_of))]
 pub(crate) fn immediate(op: ImmediateOp, operands: &[Lexeme]) -> Result<Instr, AsmCode>
-    ensures value { Gives instruction result (statement_of (Mnemonic.Immediate op) (all_seen operands.now)) }
+    ensures value { Gives instruction result
+        (statement_of (Mnemonic.Immediate op) (all_seen operands.now)) }
     ensures checked { IfOk result IsChecked }
 {
     let (rd, rs1, immediate) = two_registers_and_number(operands, -2048, 2047)?;
@@ -58,7 +59,8 @@ pub(crate) fn immediate(op: ImmediateOp, operands: &[Lexeme]) -> Result<Instr, A
 /// `rd, rs1, amount`
 #[tactic(auto, unfolding(crate::specs::Grammar::statement_of))]
 pub(crate) fn shift(op: ShiftOp, operands: &[Lexeme]) -> Result<Instr, AsmCode>
-    ensures value { Gives instruction result (statement_of (Mnemonic.Shift op) (all_seen operands.now)) }
+    ensures value { Gives instruction result
+        (statement_of (Mnemonic.Shift op) (all_seen operands.now)) }
     ensures checked { IfOk result IsChecked }
 {
     let greatest = i64::from(op.bits_shifted()) - 1;
@@ -74,7 +76,8 @@ pub(crate) fn shift(op: ShiftOp, operands: &[Lexeme]) -> Result<Instr, AsmCode>
 /// `rd, rs1, rs2`
 #[tactic(auto, unfolding(crate::specs::Grammar::statement_of))]
 pub(crate) fn register(op: RegisterOp, operands: &[Lexeme]) -> Result<Instr, AsmCode>
-    ensures value { Gives instruction result (statement_of (Mnemonic.Register op) (all_seen operands.now)) }
+    ensures value { Gives instruction result
+        (statement_of (Mnemonic.Register op) (all_seen operands.now)) }
     ensures checked { IfOk result IsChecked }
 {
     let (rd, rs1, rs2) = three_registers(operands)?;
@@ -84,7 +87,8 @@ pub(crate) fn register(op: RegisterOp, operands: &[Lexeme]) -> Result<Instr, Asm
 /// `rd, offset(rs1)`
 #[tactic(auto, unfolding(crate::specs::Grammar::statement_of))]
 pub(crate) fn load(op: LoadOp, operands: &[Lexeme]) -> Result<Instr, AsmCode>
-    ensures value { Gives instruction result (statement_of (Mnemonic.Load op) (all_seen operands.now)) }
+    ensures value { Gives instruction result
+        (statement_of (Mnemonic.Load op) (all_seen operands.now)) }
     ensures checked { IfOk result IsChecked }
 {
     let (rd, rs1, offset) = register_and_memory(operands, -2048, 2047)?;
@@ -99,7 +103,8 @@ pub(crate) fn load(op: LoadOp, operands: &[Lexeme]) -> Result<Instr, AsmCode>
 /// `rs2, offset(rs1)`
 #[tactic(auto, unfolding(crate::specs::Grammar::statement_of))]
 pub(crate) fn store(op: StoreOp, operands: &[Lexeme]) -> Result<Instr, AsmCode>
-    ensures value { Gives instruction result (statement_of (Mnemonic.Store op) (all_seen operands.now)) }
+    ensures value { Gives instruction result
+        (statement_of (Mnemonic.Store op) (all_seen operands.now)) }
     ensures checked { IfOk result IsChecked }
 {
     let (rs2, rs1, offset) = register_and_memory(operands, -2048, 2047)?;
@@ -114,7 +119,8 @@ pub(crate) fn store(op: StoreOp, operands: &[Lexeme]) -> Result<Instr, AsmCode>
 /// `rd, offset(rs1)`, or `rs1`, where rd is ra and the offset 0.
 #[tactic(auto, unfolding(crate::specs::Grammar::statement_of), using(crate::proofs::ShapeLemmas::or_nothing))]
 pub(crate) fn jump_register(operands: &[Lexeme]) -> Result<Instr, AsmCode>
-    ensures value { Gives instruction result (statement_of Mnemonic.JumpRegister (all_seen operands.now)) }
+    ensures value { Gives instruction result
+        (statement_of Mnemonic.JumpRegister (all_seen operands.now)) }
     ensures checked { IfOk result IsChecked }
 {
     if let [Lexeme::Name(_)] = operands {
@@ -136,7 +142,8 @@ pub(crate) fn jump_register(operands: &[Lexeme]) -> Result<Instr, AsmCode>
 /// `(rs1)`
 #[tactic(auto, unfolding(crate::specs::Grammar::statement_of))]
 pub(crate) fn cache(op: CacheOp, operands: &[Lexeme]) -> Result<Instr, AsmCode>
-    ensures value { Gives instruction result (statement_of (Mnemonic.Cache op) (all_seen operands.now)) }
+    ensures value { Gives instruction result
+        (statement_of (Mnemonic.Cache op) (all_seen operands.now)) }
     ensures checked { IfOk result IsChecked }
 {
     let (rs1, _) = memory(operands, 0, 0)?;
@@ -146,7 +153,8 @@ pub(crate) fn cache(op: CacheOp, operands: &[Lexeme]) -> Result<Instr, AsmCode>
 /// `rd, (rs1)`
 #[tactic(auto, unfolding(crate::specs::Grammar::statement_of))]
 pub(crate) fn load_reserved(form: AtomicForm, operands: &[Lexeme]) -> Result<Instr, AsmCode>
-    ensures value { Gives instruction result (statement_of (Mnemonic.LoadReserved form) (all_seen operands.now)) }
+    ensures value { Gives instruction result
+        (statement_of (Mnemonic.LoadReserved form) (all_seen operands.now)) }
     ensures checked { IfOk result IsChecked }
 {
     let (rd, rs1, _) = register_and_memory(operands, 0, 0)?;
@@ -162,7 +170,8 @@ pub(crate) fn load_reserved(form: AtomicForm, operands: &[Lexeme]) -> Result<Ins
 /// `rd, rs2, (rs1)`
 #[tactic(auto, unfolding(crate::specs::Grammar::statement_of))]
 pub(crate) fn atomic(op: AtomicOp, form: AtomicForm, operands: &[Lexeme]) -> Result<Instr, AsmCode>
-    ensures value { Gives instruction result (statement_of (Mnemonic.Atomic op form) (all_seen operands.now)) }
+    ensures value { Gives instruction result
+        (statement_of (Mnemonic.Atomic op form) (all_seen operands.now)) }
     ensures checked { IfOk result IsChecked }
 {
     let (rd, rs2, rs1) = two_registers_and_memory(operands)?;
@@ -199,7 +208,8 @@ pub(crate) fn fence(operands: &[Lexeme]) -> Result<Instr, AsmCode>
 /// FENCE.I has no operands.
 #[tactic(auto, unfolding(crate::specs::Grammar::statement_of))]
 pub(crate) fn fence_i(operands: &[Lexeme]) -> Result<Instr, AsmCode>
-    ensures value { Gives instruction result (statement_of Mnemonic.FenceI (all_seen operands.now)) }
+    ensures value { Gives instruction result
+        (statement_of Mnemonic.FenceI (all_seen operands.now)) }
     ensures checked { IfOk result IsChecked }
 {
     nothing(operands)?;
@@ -209,7 +219,8 @@ pub(crate) fn fence_i(operands: &[Lexeme]) -> Result<Instr, AsmCode>
 /// The system instructions have no operands.
 #[tactic(auto, unfolding(crate::specs::Grammar::statement_of))]
 pub(crate) fn system(op: SystemOp, operands: &[Lexeme]) -> Result<Instr, AsmCode>
-    ensures value { Gives instruction result (statement_of (Mnemonic.System op) (all_seen operands.now)) }
+    ensures value { Gives instruction result
+        (statement_of (Mnemonic.System op) (all_seen operands.now)) }
     ensures checked { IfOk result IsChecked }
 {
     nothing(operands)?;
@@ -219,7 +230,8 @@ pub(crate) fn system(op: SystemOp, operands: &[Lexeme]) -> Result<Instr, AsmCode
 /// `rs1, rs2, target`
 #[tactic(auto, unfolding(crate::specs::Grammar::statement_of))]
 pub(crate) fn branch<'a>(op: BranchOp, operands: &[Lexeme<'a>]) -> Result<Statement<'a>, AsmCode>
-    ensures value { Gives meaning_of result (statement_of (Mnemonic.Branch op) (all_seen operands.now)) }
+    ensures value { Gives meaning_of result
+        (statement_of (Mnemonic.Branch op) (all_seen operands.now)) }
     ensures in_range { IfOk result (λ s. IsInRange (meaning_of s)) }
 {
     let (rs1, rs2, target) = two_registers_and_target(operands)?;

@@ -1,7 +1,8 @@
 //! The grammar of one line of assembler source: what a line says, or its lowest fault.
 //!
-//! A line has a label, a statement, both or nothing. A statement is a mnemonic, a pseudo-instruction
-//! or a directive, and its operands. Labels that a statement names are left to be found.
+//! A line has a label, a statement, both or nothing. A statement is a mnemonic, a pseudo-
+//! instruction or a directive, and its operands. Labels that a statement names are left to be
+//! found.
 //!
 //! Source: RISC-V Unprivileged ISA 20191213, chapters 2, 5, 8, 24 and 25; RISC-V Cache Management
 //! Operations (CMO) 1.0.
@@ -18,20 +19,18 @@ mod fault;
 mod instructions;
 mod lexeme;
 mod line;
-mod lookup;
-mod mnemonic;
 mod operands;
 mod pseudo;
-mod registers;
 mod shapes;
 mod statement;
 #[cfg(test)]
 mod tests;
 
 use asm_lex::{Token, tokens};
+pub use asm_names::{NumberWidth, Section};
 pub use fault::AsmCode;
 use lexeme::{Lexeme, lexeme_of};
-pub use line::{Line, NumberWidth, Section, Statement};
+pub use line::{Line, Statement};
 pub use pseudo::halves;
 use statement::line_at;
 use std::alloc::{AllocError, Global};

@@ -1,39 +1,7 @@
 //! What a source line says.
 
-ghost use Rattle.asm_line.specs.Meanings.{width_bytes};
-ghost use Rattle.std.specs.Prelude.{◌≡◌};
-
+use asm_names::{NumberWidth, Section};
 use isa_table::{BranchOp, Instr, Reg};
-
-/// A section of the object.
-#[derive(Clone, Copy, Debug, PartialEq, Eq)]
-pub enum Section {
-    Text,
-    Data,
-}
-
-/// How many bytes each number of a directive takes: `.byte`, `.half`, `.word` or `.dword`.
-#[derive(Clone, Copy, Debug, PartialEq, Eq)]
-pub enum NumberWidth {
-    Byte,
-    Half,
-    Word,
-    Doubleword,
-}
-
-impl NumberWidth {
-    /// The width in bytes: 1, 2, 4 or 8.
-    pub fn bytes(self) -> u32
-        ensures { result ≡ width_bytes self }
-    {
-        match self {
-            NumberWidth::Byte => 1,
-            NumberWidth::Half => 2,
-            NumberWidth::Word => 4,
-            NumberWidth::Doubleword => 8,
-        }
-    }
-}
 
 /// What stands on a line after its label. A label that is named here is defined elsewhere.
 #[derive(Drop)]

@@ -1,15 +1,19 @@
 //! The operands of statements: numbers with a sign, places of memory, sets, labels and targets.
 
-ghost use Rattle.asm_line.specs.Grammar.{fit, memory_place, base_place, is_dot, set_at, register_then, signed_number, target, and_then, with_target, distance_then};
+ghost use Rattle.asm_line.specs.Grammar.{fit, memory_place, base_place, is_dot, set_at};
+ghost use Rattle.asm_line.specs.Grammar.{register_then, signed_number, target, and_then};
+ghost use Rattle.asm_line.specs.Grammar.{with_target, distance_then};
 ghost use Rattle.asm_line.specs.Numbers.{number_then, within, even};
-ghost use Rattle.asm_line.specs.Registers.{register_of};
-ghost use Rattle.asm_line.specs.Steps.{all_seen, seen, target_seen, of_number, of_names, of_place, of_name, of_target};
+ghost use Rattle.asm_names.specs.Registers.{register_of};
+ghost use Rattle.asm_line.specs.Steps.{all_seen, seen, target_seen, of_number, of_names, of_place};
+ghost use Rattle.asm_line.specs.Steps.{of_name, of_target};
 ghost use Rattle.std.specs.Prelude.{◌≡◌, ◌^◌, ◌≤ℤ◌, pos, negsuc, neg_ℤ, int_le, if◌then◌else◌};
-ghost use Rattle.std.specs.Prelude.{◌∷◌, [], Some, None, Ok, Err, MatchOption, IfOk, IfSome, ok_or, option_map, length, ◌<◌};
+ghost use Rattle.std.specs.Prelude.{◌∷◌, [], Some, None, Ok, Err, MatchOption, IfOk, IfSome, ok_or};
+ghost use Rattle.std.specs.Prelude.{option_map, length, ◌<◌};
 
 use crate::fault::AsmCode;
 use crate::lexeme::Lexeme;
-use crate::registers::{register_of, set_of};
+use asm_names::{register_of, set_of};
 use isa_table::{AccessSet, Reg};
 
 /// A number with its sign. The size is None from 2^64 on.
@@ -82,7 +86,8 @@ pub(crate) fn names_and_number<'a>(
 
 /// An offset, which may be missing, and a name in parentheses.
 pub(crate) fn place<'a>(lexemes: &[Lexeme<'a>]) -> Option<(SignedNumber, &'a [u8])>
-    ensures { fit memory_place (all_seen lexemes.now) ≡ option_map (λ (n, name). of_place n name.now) result }
+    ensures { fit memory_place (all_seen lexemes.now) ≡ option_map
+        (λ (n, name). of_place n name.now) result }
 {
     match number_then(lexemes) {
         Some((offset, rest)) => Some((offset, base(rest)?)),
@@ -107,7 +112,8 @@ fn base<'a>(lexemes: &[Lexeme<'a>]) -> Option<&'a [u8]>
 
 /// A label, or `.` with a sign and a number, alone.
 pub(crate) fn target_of<'a>(lexemes: &[Lexeme<'a>]) -> Option<Target<'a>>
-    ensures { fit (target ∷ []) (all_seen lexemes.now) ≡ option_map (λ t. of_target (target_seen t)) result }
+    ensures { fit (target ∷ []) (all_seen lexemes.now) ≡ option_map
+        (λ t. of_target (target_seen t)) result }
 {
     match lexemes {
         [Lexeme::Name(name), rest @ ..] if is_dot(*name) => distance(rest),

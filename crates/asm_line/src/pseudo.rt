@@ -2,8 +2,9 @@
 //!
 //! Source: RISC-V Unprivileged ISA 20191213, chapter 25. A long `li` is always LUI and ADDIW.
 
-ghost use Rattle.asm_line.specs.declared.mnemonic.Mnemonic.{Mnemonic};
-ghost use Rattle.asm_line.specs.Grammar.{statement_of, unary, zero_branch, exchanged, loaded_number};
+ghost use Rattle.asm_names.specs.declared.mnemonic.Mnemonic.{Mnemonic};
+ghost use Rattle.asm_line.specs.Grammar.{statement_of, unary, zero_branch, exchanged};
+ghost use Rattle.asm_line.specs.Grammar.{loaded_number};
 ghost use Rattle.asm_line.specs.Meanings.{instruction, meaning_of, IsInRange};
 ghost use Rattle.asm_line.specs.Numbers.{upper_half, lower_half};
 ghost use Rattle.asm_line.specs.Steps.{all_seen, target_seen, Gives};
@@ -15,13 +16,12 @@ use crate::fault::AsmCode;
 use crate::instructions::{branch_to, jump_to};
 use crate::lexeme::Lexeme;
 use crate::line::Statement;
-use crate::mnemonic::{ExchangedBranchOp, UnaryOp, ZeroBranchOp};
 use crate::operands::{Target, is_dot};
-use crate::registers::{return_register, zero_register};
 use crate::shapes::{
     nothing, one_register, one_target, register_and_number, register_and_target, two_registers,
     two_registers_and_target,
 };
+use asm_names::{ExchangedBranchOp, UnaryOp, ZeroBranchOp, return_register, zero_register};
 use isa_table::{BranchOp, ImmediateOp, Instr, Reg, RegisterOp, UpperOp};
 
 /// `nop` is `addi x0, x0, 0`.
@@ -38,7 +38,8 @@ pub(crate) fn no_operation(operands: &[Lexeme]) -> Result<Instr, AsmCode>
 /// `ret` is `jalr x0, 0(x1)`.
 #[tactic(auto, unfolding(crate::specs::Grammar::statement_of))]
 pub(crate) fn return_jump(operands: &[Lexeme]) -> Result<Instr, AsmCode>
-    ensures value { Gives instruction result (statement_of Mnemonic.Return (all_seen operands.now)) }
+    ensures value { Gives instruction result
+        (statement_of Mnemonic.Return (all_seen operands.now)) }
     ensures checked { IfOk result IsChecked }
 {
     nothing(operands)?;
@@ -52,7 +53,8 @@ pub(crate) fn return_jump(operands: &[Lexeme]) -> Result<Instr, AsmCode>
 /// `rd, rs`
 #[tactic(auto, unfolding(crate::specs::Grammar::statement_of))]
 pub(crate) fn unary(op: UnaryOp, operands: &[Lexeme]) -> Result<Instr, AsmCode>
-    ensures value { Gives instruction result (statement_of (Mnemonic.Unary op) (all_seen operands.now)) }
+    ensures value { Gives instruction result
+        (statement_of (Mnemonic.Unary op) (all_seen operands.now)) }
     ensures checked { IfOk result IsChecked }
 {
     let (rd, rs) = two_registers(operands)?;
@@ -100,7 +102,8 @@ pub(crate) fn zero_branch<'a>(
     op: ZeroBranchOp,
     operands: &[Lexeme<'a>],
 ) -> Result<Statement<'a>, AsmCode>
-    ensures value { Gives meaning_of result (statement_of (Mnemonic.ZeroBranch op) (all_seen operands.now)) }
+    ensures value { Gives meaning_of result
+        (statement_of (Mnemonic.ZeroBranch op) (all_seen operands.now)) }
     ensures in_range { IfOk result (λ s. IsInRange (meaning_of s)) }
 {
     let (rs, target) = register_and_target(operands)?;
@@ -132,7 +135,8 @@ pub(crate) fn exchanged_branch<'a>(
     op: ExchangedBranchOp,
     operands: &[Lexeme<'a>],
 ) -> Result<Statement<'a>, AsmCode>
-    ensures value { Gives meaning_of result (statement_of (Mnemonic.ExchangedBranch op) (all_seen operands.now)) }
+    ensures value { Gives meaning_of result
+        (statement_of (Mnemonic.ExchangedBranch op) (all_seen operands.now)) }
     ensures in_range { IfOk result (λ s. IsInRange (meaning_of s)) }
 {
     let (rs1, rs2, target) = two_registers_and_target(operands)?;
@@ -154,7 +158,8 @@ fn exchanged(op: ExchangedBranchOp) -> BranchOp
 /// `j` jumps to a target and keeps no return address.
 #[tactic(auto, unfolding(crate::specs::Grammar::statement_of))]
 pub(crate) fn plain_jump<'a>(operands: &[Lexeme<'a>]) -> Result<Statement<'a>, AsmCode>
-    ensures value { Gives meaning_of result (statement_of Mnemonic.PlainJump (all_seen operands.now)) }
+    ensures value { Gives meaning_of result
+        (statement_of Mnemonic.PlainJump (all_seen operands.now)) }
     ensures in_range { IfOk result (λ s. IsInRange (meaning_of s)) }
 {
     jump_to(zero_register(), one_target(operands)?)
@@ -163,7 +168,8 @@ pub(crate) fn plain_jump<'a>(operands: &[Lexeme<'a>]) -> Result<Statement<'a>, A
 /// `jr` jumps to the address in a register and keeps no return address.
 #[tactic(auto, unfolding(crate::specs::Grammar::statement_of))]
 pub(crate) fn plain_jump_register(operands: &[Lexeme]) -> Result<Instr, AsmCode>
-    ensures value { Gives instruction result (statement_of Mnemonic.PlainJumpRegister (all_seen operands.now)) }
+    ensures value { Gives instruction result
+        (statement_of Mnemonic.PlainJumpRegister (all_seen operands.now)) }
     ensures checked { IfOk result IsChecked }
 {
     let rs1 = one_register(operands)?;
@@ -177,7 +183,8 @@ pub(crate) fn plain_jump_register(operands: &[Lexeme]) -> Result<Instr, AsmCode>
 /// `li rd, number`, where the number has 32 bits with its sign.
 #[tactic(auto, unfolding(crate::specs::Grammar::statement_of))]
 pub(crate) fn load_number<'a>(operands: &[Lexeme<'a>]) -> Result<Statement<'a>, AsmCode>
-    ensures value { Gives meaning_of result (statement_of Mnemonic.LoadNumber (all_seen operands.now)) }
+    ensures value { Gives meaning_of result
+        (statement_of Mnemonic.LoadNumber (all_seen operands.now)) }
     ensures in_range { IfOk result (λ s. IsInRange (meaning_of s)) }
 {
     let (rd, number) = register_and_number(operands, -2_147_483_648, 2_147_483_647)?;
@@ -233,7 +240,8 @@ fn low_part(bits: u32) -> i32
 /// `la rd, label`
 #[tactic(auto, unfolding(crate::specs::Grammar::statement_of))]
 pub(crate) fn load_address<'a>(operands: &[Lexeme<'a>]) -> Result<Statement<'a>, AsmCode>
-    ensures value { Gives meaning_of result (statement_of Mnemonic.LoadAddress (all_seen operands.now)) }
+    ensures value { Gives meaning_of result
+        (statement_of Mnemonic.LoadAddress (all_seen operands.now)) }
     ensures in_range { IfOk result (λ s. IsInRange (meaning_of s)) }
 {
     match operands {

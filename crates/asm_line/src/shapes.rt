@@ -3,7 +3,8 @@
 //! Of a shape's faults the lowest is answered: the operands don't fit it, a name is no register, a
 //! number is out of range.
 
-ghost use Rattle.asm_line.specs.Grammar.{from_to, parts, signed_12, up_to, register_then, register_name, signed_number, memory_place};
+ghost use Rattle.asm_line.specs.Grammar.{from_to, parts, signed_12, up_to, register_then};
+ghost use Rattle.asm_line.specs.Grammar.{register_name, signed_number, memory_place};
 ghost use Rattle.asm_line.specs.Grammar.{target};
 ghost use Rattle.asm_line.specs.Steps.{all_seen, target_seen, Gives, shaped};
 ghost use Rattle.std.specs.Prelude.{◌≡◌, ◌^◌, ◌≤ℤ◌, [], ◌∷◌, pos, negsuc, IfOk};

@@ -16,19 +16,18 @@ use crate::instructions::{
 };
 use crate::lexeme::Lexeme;
 use crate::line::{Line, Statement};
-use crate::lookup::mnemonic_of;
-use crate::mnemonic::Mnemonic;
 use crate::operands::is_dot;
 use crate::pseudo::{
     exchanged_branch, load_address, load_number, no_operation, plain_jump, plain_jump_register,
     return_jump, unary, zero_branch,
 };
-use crate::registers::register_of;
+use asm_names::{Mnemonic, mnemonic_of, register_of};
 use std::alloc::Global;
 
 /// A line of lexemes: `name:`, a statement, or both.
 pub(crate) fn line_at<'a>(alloc: Global, lexemes: &[Lexeme<'a>]) -> Result<Line<'a>, AsmCode>
-    ensures ok { IfOk result (λ line. lexemes_line (all_seen lexemes.now) ≡ Ok (line_meaning line)) }
+    ensures ok { IfOk result (λ line. lexemes_line (all_seen lexemes.now) ≡ Ok
+        (line_meaning line)) }
     ensures err { IfErr result (λ code. Fails code (lexemes_line (all_seen lexemes.now))) }
     ensures in_range { IfOk result (λ line. IsInRange (meaning_of line.statement)) }
 {
@@ -43,7 +42,8 @@ pub(crate) fn line_at<'a>(alloc: Global, lexemes: &[Lexeme<'a>]) -> Result<Line<
 
 /// The name before a colon, and what follows the colon, where a line begins with them.
 fn label_part<'s, 'a>(lexemes: &'s [Lexeme<'a>]) -> Option<(&'a [u8], &'s [Lexeme<'a>])>
-    ensures { label_first (all_seen lexemes.now) ≡ option_map (λ (name, rest). (name.now, all_seen rest.now)) result }
+    ensures { label_first (all_seen lexemes.now) ≡ option_map
+        (λ (name, rest). (name.now, all_seen rest.now)) result }
 {
     match lexemes {
         [Lexeme::Name(name), Lexeme::Colon, rest @ ..] => Some((*name, rest)),
@@ -147,8 +147,10 @@ fn statement<'a>(
     mnemonic: Mnemonic,
     operands: &[Lexeme<'a>],
 ) -> Result<Statement<'a>, AsmCode>
-    ensures ok { IfOk result (λ s. statement_of mnemonic (all_seen operands.now) ≡ Ok (meaning_of s)) }
-    ensures err { IfErr result (λ code. Fails code (statement_of mnemonic (all_seen operands.now))) }
+    ensures ok { IfOk result (λ s. statement_of mnemonic (all_seen operands.now) ≡ Ok
+        (meaning_of s)) }
+    ensures err { IfErr result (λ code. Fails code
+        (statement_of mnemonic (all_seen operands.now))) }
     ensures in_range { IfOk result (λ s. IsInRange (meaning_of s)) }
 {
     match mnemonic {

@@ -8,7 +8,7 @@ use std::alloc::Global;
 use std::process::Abort;
 use std::test::Fail;
 
-/// The words of a line's instructions, the second of which may be missing; None where they aren't known yet.
+/// The words of a line's instructions; None where they aren't known yet.
 fn words(alloc: Global, line: &[u8]) -> Result<Option<(u32, Option<u32>)>, AsmCode> {
     let Line {
         label: _,

@@ -1,28 +1,22 @@
 -- Bytes of statements: their sizes, and the instructions of labels.
-use Rattle.std.proofs.Common.{◌≡◌, ℕ, zero, suc, ◌+◌, ◌*◌, ◌^◌, ◌<◌, ◌≤◌, Bool, true, false, List, [], ◌∷◌, ◌++◌, length, take, get_or, refl, sym, ap, subst, ◌∙◌, arith, append_assoc, length-append}
-use Rattle.std.specs.Prelude.{Option, Some, None, Result, Ok, Err, ℤ, pos, negsuc, ◌&&◌, ◌==◌, int_le, unsigned_abs, replicate, if◌then◌else◌, ◌≤ℤ◌, ◌<ℤ◌}
+use Rattle.std.proofs.Common.{◌≡◌, ℕ, suc, ◌+◌, ◌*◌, ◌<◌, List, [], ◌∷◌, ◌++◌, length, take, get_or, refl, sym, ap, subst, ◌∙◌, arith, append_assoc, length-append}
+use Rattle.std.specs.Prelude.{None, Ok, ℤ}
 use Rattle.std.specs.List.{flat_map}
-use Rattle.std.specs.Int.{w64, to_le_bytes}
 use Rattle.std.specs.Result.{result_err}
-use Rattle.std.proofs.lemmas.List.{take_more, append-nil, length-replicate, length-take-le}
-use Rattle.std.proofs.lemmas.Int.{ints}
+use Rattle.std.proofs.lemmas.List.{take_more, append-nil, length-replicate}
 use Rattle.isa_table.specs.declared.instruction.Instr.{Instr}
 use Rattle.isa_table.specs.declared.instruction.Instr.TheVariants as instrs
 use Rattle.isa_table.specs.declared.instruction.UpperOp.TheVariants.{Auipc}
 use Rattle.isa_table.specs.declared.instruction.ImmediateOp.TheVariants.{Addi}
 use Rattle.isa_table.specs.declared.register.Reg.{Reg}
-use Rattle.isa_table.specs.Ranges.{FitsBits, IsEven, IsChecked}
-use Rattle.asm_line.specs.declared.fault.AsmCode.{AsmCode}
-use Rattle.asm_line.specs.declared.fault.AsmCode.TheVariants.{Range}
-use Rattle.asm_line.specs.declared.line.NumberWidth.{NumberWidth}
-use Rattle.asm_line.specs.declared.line.NumberWidth.TheVariants.{Byte, Half, Word, Doubleword}
-use Rattle.asm_line.specs.Faults.{◌>>=◌}
+use Rattle.asm_names.specs.declared.kinds.NumberWidth.{NumberWidth}
+use Rattle.asm_names.specs.declared.kinds.NumberWidth.TheVariants.{Byte, Half, Word, Doubleword}
 use Rattle.asm_line.specs.Meanings.{Meaning, nothing, instruction, pair, branch, jump, address, section, numbers, zeros, align, width_bytes}
 use Rattle.asm_line.specs.Numbers.{upper_half, lower_half}
 use Rattle.assemble.specs.Appending.{Appends}
 use Rattle.assemble.specs.Faults.{code_of_label}
 use Rattle.assemble.specs.Places.{padding, size_at}
-use Rattle.assemble.specs.SourceLines.{Values, distance, reached, branch_distance, jump_distance, HasWord, HaveWords, HasAddress, HasBytes, number_bytes}
+use Rattle.assemble.specs.SourceLines.{Values, distance, HasWord, HaveWords, HasAddress, HasBytes, number_bytes}
 
 -- two words one after the other
 pub both_words : (first second : Instr) (old middle new : List ℕ) → Appends old middle (HasWord first) → Appends middle new (HasWord second) → Appends old new (HaveWords first second)

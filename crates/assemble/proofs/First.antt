@@ -1,15 +1,13 @@
 -- The first line that has a code, as a pass over the lines finds it.
-use Rattle.std.proofs.Common.{◌≡◌, ℕ, ◌+◌, ◌<◌, ◌≤◌, Bool, true, false, List, [], ◌∷◌, ◌++◌, length, refl, sym, ap, subst, ◌∙◌, arith, append_assoc, le-ltb, lt-ltb}
-use Rattle.std.specs.Prelude.{Option, Some, None, nat_lt, reverse, if◌then◌else◌}
+use Rattle.std.proofs.Common.{◌≡◌, ℕ, ◌+◌, ◌<◌, ◌≤◌, List, [], ◌∷◌, ◌++◌, length, refl, sym, ap, ◌∙◌, arith, append_assoc, le-ltb, lt-ltb}
+use Rattle.std.specs.Prelude.{Some, None, reverse}
 use mathlib.Core.List.{reverse_aux}
-use Rattle.std.specs.Option.{option_or}
-use Rattle.std.proofs.lemmas.List.{reverse-reverse, reverse-append, append-nil}
+use Rattle.std.proofs.lemmas.List.{reverse-reverse, reverse-append}
 use Rattle.asm_lex.specs.Lines.{lines_of, cut_at_feeds, without_returns}
 use Rattle.asm_line.specs.declared.fault.AsmCode.{AsmCode}
 use Rattle.asm_line.specs.declared.fault.AsmCode.TheVariants.{TooLarge}
 use Rattle.asm_line.specs.Lines.{line_of}
 use Rattle.assemble.specs.declared.TheConstants.{SOURCE_LIMIT}
-use Rattle.assemble.specs.declared.fault.AsmFault.{AsmFault}
 use Rattle.assemble.specs.Faults.{Codes, NoneHas, IsFirst, code_of_said, code_of_length, early_code}
 use Rattle.assemble.specs.Assembly.{lines_back}
 use Rattle.assemble.specs.Passes.{IsNext}

@@ -1,12 +1,10 @@
 -- The first pass, from one line to the next.
-use Rattle.std.proofs.Common.{◌≡◌, ℕ, ◌+◌, ◌<◌, ◌≤◌, List, [], ◌∷◌, length, refl, sym, ap, subst, ◌∙◌, arith}
+use Rattle.std.proofs.Common.{◌≡◌, ℕ, ◌+◌, ◌<◌, ◌≤◌, List, [], ◌∷◌, length, refl, sym, ap, subst, ◌∙◌}
 use Rattle.std.specs.Prelude.{Some, None}
 use Rattle.asm_lex.specs.Lines.{lines_of}
 use Rattle.asm_line.specs.declared.fault.AsmCode.{AsmCode}
-use Rattle.asm_line.specs.declared.line.Section.TheVariants.{Text, Data}
 use Rattle.asm_line.specs.Lines.{line_of}
 use Rattle.assemble.specs.declared.TheConstants.{SOURCE_LIMIT}
-use Rattle.assemble.specs.declared.fault.AsmFault.{AsmFault}
 use Rattle.assemble.specs.declared.labels.Labels.{Labels}
 use Rattle.assemble.specs.declared.position.Position.{Position}
 use Rattle.assemble.specs.Places.{section_after, size_of, value_in}
@@ -14,7 +12,7 @@ use Rattle.assemble.specs.Faults.{NoneHas, IsFirst, code_of_said, early_code}
 use Rattle.assemble.specs.Assembly.{lines_back}
 use Rattle.assemble.specs.Labels.{place_at}
 use Rattle.assemble.specs.Positions.{start, IsAfter}
-use Rattle.assemble.specs.Passes.{IsPlaced, IsNext, Placing}
+use Rattle.assemble.specs.Passes.{IsPlaced, Placing}
 use Rattle.assemble.proofs.First.{next_start, next_step, next_end, next_first, early_none, early_some}
 
 after_none : IsAfter [] start

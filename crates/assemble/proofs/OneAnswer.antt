@@ -1,22 +1,19 @@
 -- A source that is assembled has no fault, and no source has two first faults.
-use Rattle.std.proofs.Common.{◌≡◌, ℕ, suc, ◌+◌, ◌<◌, ◌≤◌, Bool, true, false, ◌⊎◌, inl, inr, List, [], ◌∷◌, ◌++◌, length, refl, sym, ap, subst, ◌∙◌, arith, append_assoc, length-append, le-ltb}
-use Rattle.std.specs.Prelude.{Option, Some, None, Result, Ok, nat_lt, reverse}
-use mathlib.Core.List.{reverse_aux}
-use Rattle.std.specs.Option.{option_or}
+use Rattle.std.proofs.Common.{◌≡◌, ℕ, ◌+◌, ◌≤◌, false, inl, inr, List, [], ◌∷◌, ◌++◌, length, refl, sym, ap, subst, ◌∙◌, arith, length-append, le-ltb}
+use Rattle.std.specs.Prelude.{Some, None, reverse}
 use Rattle.std.proofs.lemmas.List.{reverse-reverse, reverse-append}
 use Rattle.asm_lex.specs.Lines.{lines_of}
 use Rattle.object.specs.Sections.{Sections}
 use Rattle.object.specs.declared.TheConstants.{TEXT_LIMIT, DATA_LIMIT}
 use Rattle.asm_line.specs.declared.fault.AsmCode.{AsmCode}
-use Rattle.asm_line.specs.declared.line.Section.{Section}
-use Rattle.asm_line.specs.declared.line.Section.TheVariants.{Text, Data}
-use Rattle.asm_line.specs.Lines.{line_of}
+use Rattle.asm_names.specs.declared.kinds.Section.{Section}
+use Rattle.asm_names.specs.declared.kinds.Section.TheVariants.{Text, Data}
 use Rattle.asm_line.specs.Meanings.{LineMeaning}
 use Rattle.assemble.specs.declared.TheConstants.{SOURCE_LIMIT}
 use Rattle.assemble.specs.declared.fault.AsmFault.{AsmFault}
-use Rattle.assemble.specs.Places.{said, label_of, meaning_in, base_of, limit_of, size_at, section_after, size_of, place_after, value_in}
-use Rattle.assemble.specs.SourceLines.{Values, IsSourceLine, stands_in}
-use Rattle.assemble.specs.Faults.{Codes, is_defined, passes_limit, code_of_said, code_of_label, early_code, late_code, NoneHas, IsFirst}
+use Rattle.assemble.specs.Places.{base_of, limit_of, size_at, section_after, size_of, place_after, value_in}
+use Rattle.assemble.specs.SourceLines.{Values}
+use Rattle.assemble.specs.Faults.{Codes, is_defined, passes_limit, code_of_label, early_code, late_code, NoneHas, IsFirst}
 use Rattle.assemble.specs.Assembly.{bytes_in, added, Adds, AreBytesOf, Assembles, IsFirstFault, lines_back, values_of}
 use Rattle.assemble.proofs.ByteSteps.{has_size, no_late}
 use Rattle.assemble.proofs.First.{aux_is, early_none}

@@ -1,28 +1,20 @@
 -- One line of the first pass, and the first fault.
-use Rattle.std.proofs.Common.{◌≡◌, ℕ, ◌+◌, ◌≤◌, Bool, true, false, List, [], ◌∷◌, ◌++◌, length, refl, sym, ap, subst, ◌∙◌, arith, append_assoc}
-use Rattle.std.specs.Prelude.{Option, Some, None, Result, Ok, Err, nat_lt, reverse, if◌then◌else◌}
-use mathlib.Core.List.{reverse_aux}
-use Rattle.std.specs.Option.{option_or}
-use Rattle.std.proofs.lemmas.List.{reverse-reverse, reverse-append, append-nil}
-use Rattle.std.proofs.lemmas.Grind.{reverse_onto}
-use Rattle.asm_lex.specs.Lines.{lines_of, cut_at_feeds, without_returns}
+use Rattle.std.proofs.Common.{◌≡◌, ℕ, ◌+◌, Bool, true, false, List, ◌∷◌, refl, sym, ap, subst, ◌∙◌}
+use Rattle.std.specs.Prelude.{Some, None, Ok, Err, nat_lt, if◌then◌else◌}
 use Rattle.asm_line.specs.declared.fault.AsmCode.{AsmCode}
 use Rattle.asm_line.specs.declared.fault.AsmCode.TheVariants.{LabelTwice, WrongSection, TooLarge}
-use Rattle.asm_line.specs.declared.line.Section.{Section}
-use Rattle.asm_line.specs.declared.line.Section.TheVariants.{Text, Data}
+use Rattle.asm_names.specs.declared.kinds.Section.{Section}
+use Rattle.asm_names.specs.declared.kinds.Section.TheVariants.{Text, Data}
 use Rattle.asm_line.specs.Lines.{line_of}
 use Rattle.asm_line.specs.Meanings.{Meaning, LineMeaning}
-use Rattle.assemble.specs.declared.TheConstants.{SOURCE_LIMIT}
-use Rattle.assemble.specs.declared.fault.AsmFault.{AsmFault}
 use Rattle.assemble.specs.declared.labels.Labels.{Labels}
 use Rattle.assemble.specs.declared.position.Position.{Position}
 use Rattle.assemble.specs.Places.{said, label_of, meaning_in, base_of, limit_of, share, size_at, section_from, section_after, size_of, place_after, value_in}
 use Rattle.assemble.specs.SourceLines.{Values, stands_in}
-use Rattle.assemble.specs.Faults.{Codes, is_defined, passes_limit, code_of_meaning, code_of_said, early_code, NoneHas, IsFirst}
-use Rattle.assemble.specs.Assembly.{lines_back}
+use Rattle.assemble.specs.Faults.{is_defined, passes_limit, code_of_meaning, code_of_said}
 use Rattle.assemble.specs.Labels.{place_at, noted}
 use Rattle.assemble.specs.Positions.{size_by, size_in, moved, stepped, IsAfter}
-use Rattle.assemble.specs.Passes.{IsPlaced, IsNext, Placing}
+use Rattle.assemble.specs.Passes.{IsPlaced}
 
 -- one step of each definition
 pub section_next : (line : List ℕ) (earlier : List (List ℕ)) → section_after (line ∷ earlier) ≡ section_from (section_after earlier) (meaning_in line)

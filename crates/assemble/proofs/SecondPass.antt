@@ -1,5 +1,5 @@
 -- The second pass, from one line to the next.
-use Rattle.std.proofs.Common.{◌≡◌, ℕ, ◌+◌, ◌*◌, ◌%◌, ◌^◌, ◌<◌, ◌≤◌, Bool, true, false, List, [], ◌∷◌, ◌++◌, length, refl, sym, ap, subst, ◌∙◌, arith, length-append, append_assoc, ltb-false}
+use Rattle.std.proofs.Common.{◌≡◌, ℕ, ◌+◌, ◌%◌, ◌^◌, ◌<◌, ◌≤◌, Bool, true, false, List, [], ◌∷◌, length, refl, sym, ap, subst, ◌∙◌, arith, length-append, ltb-false}
 use Rattle.std.specs.Prelude.{Option, Some, None, Result, Ok, Err, nat_lt, IfSome, if◌then◌else◌}
 use mathlib.Core.List.{reverse_aux}
 use Rattle.std.specs.Option.{option_or}
@@ -8,22 +8,21 @@ use Rattle.object.specs.Sections.{Sections, AreWithinLimits}
 use Rattle.object.specs.declared.TheConstants.{TEXT_LIMIT, DATA_LIMIT}
 use Rattle.asm_line.specs.declared.fault.AsmCode.{AsmCode}
 use Rattle.asm_line.specs.declared.fault.AsmCode.TheVariants.{LabelTwice, WrongSection, TooLarge}
-use Rattle.asm_line.specs.declared.line.NumberWidth.TheVariants.{Byte, Half, Word, Doubleword}
-use Rattle.asm_line.specs.declared.line.Section.{Section}
-use Rattle.asm_line.specs.declared.line.Section.TheVariants.{Text, Data}
+use Rattle.asm_names.specs.declared.kinds.NumberWidth.TheVariants.{Byte, Half, Word, Doubleword}
+use Rattle.asm_names.specs.declared.kinds.Section.{Section}
+use Rattle.asm_names.specs.declared.kinds.Section.TheVariants.{Text, Data}
 use Rattle.asm_line.specs.Lines.{line_of}
-use Rattle.asm_line.specs.Meanings.{Meaning, LineMeaning, nothing, instruction, pair, branch, jump, address, section, numbers, zeros, align, width_bytes}
+use Rattle.asm_line.specs.Meanings.{Meaning, LineMeaning, nothing, instruction, pair, branch, jump, address, section, numbers, zeros, align}
 use Rattle.assemble.specs.declared.emission.Emission.{Emission}
-use Rattle.assemble.specs.declared.fault.AsmFault.{AsmFault}
-use Rattle.assemble.specs.Places.{said, label_of, meaning_in, base_of, limit_of, padding, size_at, share, defines, section_from, section_after, size_of, place_after, value_in}
-use Rattle.assemble.specs.SourceLines.{Values, HasBytes, IsSourceLine, stands_in}
+use Rattle.assemble.specs.Places.{said, label_of, meaning_in, base_of, limit_of, size_at, share, defines, section_from, section_after, size_of, place_after, value_in}
+use Rattle.assemble.specs.SourceLines.{Values, HasBytes, stands_in}
 use Rattle.assemble.specs.Faults.{Codes, is_defined, passes_limit, code_of_said, code_of_length, code_of_label, early_code, late_code, NoneHas, IsFirst}
 use Rattle.assemble.specs.Assembly.{bytes_in, added, Adds, AreBytesOf, lines_back}
 use Rattle.assemble.specs.Appending.{AreNear}
 use Rattle.assemble.specs.Passes.{IsNext}
 use Rattle.assemble.specs.Emission.{sections_in, HasRoom, Emits, IsEmitted, Emitting}
 use Rattle.assemble.proofs.First.{next_start, next_step, next_end, next_first}
-use Rattle.assemble.proofs.Placed.{says, section_next, size_next, value_next}
+use Rattle.assemble.proofs.Placed.{says, section_next, size_next}
 use Rattle.assemble.proofs.ByteSteps.{has_size, no_late}
 
 -- a line without an early code

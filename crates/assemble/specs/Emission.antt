@@ -1,9 +1,8 @@
 -- What the second pass has made, from one line to the next.
-use Rattle.std.specs.Prelude.{◌≡◌, ℕ, ◌+◌, ◌≤◌, ◌^◌, List, ◌++◌, length, IfSome}
+use Rattle.std.specs.Prelude.{◌≡◌, ℕ, ◌+◌, ◌≤◌, List, length}
 use Rattle.object.specs.Sections.{Sections}
 use Rattle.object.specs.declared.TheConstants.{TEXT_LIMIT, DATA_LIMIT}
-use Rattle.asm_line.specs.declared.line.Section.{Section}
-use Rattle.asm_line.specs.declared.line.Section.TheVariants.{Text, Data}
+use Rattle.asm_names.specs.declared.kinds.Section.TheVariants.{Text, Data}
 use Rattle.asm_line.specs.Meanings.{Meaning}
 use Rattle.assemble.specs.declared.emission.Emission.{Emission}
 use Rattle.assemble.specs.Places.{base_of, size_of, section_from, section_after}

@@ -2,11 +2,9 @@
 use Rattle.std.specs.Prelude.{◌≡◌, ℕ, ◌+◌, ◌≤◌, List, length}
 use mathlib.Core.List.{reverse_aux}
 use Rattle.asm_lex.specs.Lines.{lines_of}
-use Rattle.object.specs.declared.TheConstants.{TEXT_LIMIT, DATA_LIMIT}
-use Rattle.asm_line.specs.declared.line.Section.TheVariants.{Text, Data}
 use Rattle.assemble.specs.declared.labels.Labels.{Labels}
 use Rattle.assemble.specs.declared.position.Position.{Position}
-use Rattle.assemble.specs.Places.{size_of, section_after, value_in}
+use Rattle.assemble.specs.Places.{value_in}
 use Rattle.assemble.specs.Faults.{NoneHas, early_code}
 use Rattle.assemble.specs.Assembly.{lines_back}
 use Rattle.assemble.specs.Labels.{place_at}

@@ -12,10 +12,10 @@ use Rattle.isa_table.specs.Ranges.{IsChecked}
 use Rattle.isa_table.specs.Table.{IsCanonical}
 use Rattle.asm_line.specs.declared.fault.AsmCode.{AsmCode}
 use Rattle.asm_line.specs.declared.fault.AsmCode.TheVariants.{UnknownLabel}
-use Rattle.asm_line.specs.declared.line.NumberWidth.{NumberWidth}
-use Rattle.asm_line.specs.declared.line.NumberWidth.TheVariants.{Word}
-use Rattle.asm_line.specs.declared.line.Section.{Section}
-use Rattle.asm_line.specs.declared.line.Section.TheVariants.{Text, Data}
+use Rattle.asm_names.specs.declared.kinds.NumberWidth.{NumberWidth}
+use Rattle.asm_names.specs.declared.kinds.NumberWidth.TheVariants.{Word}
+use Rattle.asm_names.specs.declared.kinds.Section.{Section}
+use Rattle.asm_names.specs.declared.kinds.Section.TheVariants.{Text, Data}
 use Rattle.asm_line.specs.Faults.{◌>>=◌}
 use Rattle.asm_line.specs.Lines.{line_of}
 use Rattle.asm_line.specs.Meanings.{Meaning, LineMeaning, nothing, instruction, pair, branch, jump, address, section, numbers, zeros, align, width_bytes}

@@ -28,7 +28,7 @@ pub(crate) struct Emission {
 
 impl Emission {
     ghost use Rattle.asm_line.specs.Meanings.{meaning_of, IsInRange};
-    ghost use Rattle.asm_line.specs.declared.line.Section.TheVariants.{Text};
+    ghost use Rattle.asm_names.specs.declared.kinds.Section.TheVariants.{Text};
     ghost use Rattle.assemble.specs.Emission.{Emits, HasRoom, IsEmitted};
     ghost use Rattle.assemble.specs.Faults.{code_of_label};
     ghost use Rattle.assemble.specs.Places.{base_of};

@@ -15,14 +15,7 @@ use store_trace::Event;
 /// `addi x5, x0, 7`; `lui x6, 0x40000`; `sd x5, 0(x6)`; `cbo.clean (x6)`; `fence w, w`; `addi x17, x0, 93`;
 /// `addi x10, x0, 0`; `ecall`.
 const FIRST_RUN: [u32; 8] = [
-    0x0070_0293,
-    0x4000_0337,
-    0x0053_3023,
-    0x0013_200f,
-    0x0110_000f,
-    0x05d0_0893,
-    0x0000_0513,
-    0x0000_0073,
+    0x00700293, 0x40000337, 0x00533023, 0x0013200f, 0x0110000f, 0x05d00893, 0x00000513, 0x00000073,
 ];
 
 const FENCE: u32 = 0x0110_000f;
@@ -48,6 +41,20 @@ fn schedule_of(rt: &impl AllocGlobal, items: &[Item]) -> Result<Schedule, Fail> 
         schedule.push(*item)?;
     }
     Ok(schedule)
+}
+
+fn steps(hart: u32, count: u32) -> Item {
+    Item::Steps { hart, count }
+}
+
+fn stored(hart: u32, line: u32, offset: u32, width: u32, value: u64) -> Event {
+    Event::Store {
+        hart,
+        line,
+        offset,
+        width,
+        value,
+    }
 }
 
 fn state_of<'a>(rt: &impl Abort, machine: &'a Machine, hart: u32) -> &'a HartState {
@@ -88,98 +95,6 @@ fn doubleword_at(machine: &Machine, address: u64) -> Option<u64> {
 }
 
 #[test]
-fn first_run(rt: HostRuntime) -> Result<(), Fail> {
-    let mut machine = machine_of(&rt, &FIRST_RUN, 1)?;
-    let schedule = schedule_of(&rt, &[Item::Steps { hart: 0, count: 8 }])?;
-    assert_eq!(rt; schedule.items().len(), 1);
-    machine.run(&schedule)?;
-    let ended = [(5, 7), (6, 0x4000_0000), (17, 93)];
-    assert_eq!(rt;
-        *state_of(&rt, &machine, 0),
-        state(0x1_0020, &ended, Status::Exited(0))
-    );
-    let store = Event::Store {
-        hart: 0,
-        line: 0,
-        offset: 0,
-        width: 8,
-        value: 7,
-    };
-    let events = [
-        store,
-        Event::Clean { hart: 0, line: 0 },
-        Event::Fence { hart: 0 },
-    ];
-    assert_eq!(rt; machine.events(), events.as_slice());
-    assert_eq!(rt; machine.peek(0x4000_0000), Some(7));
-    assert_eq!(rt; machine.peek(0x1_0000), Some(0x93));
-    assert_eq!(rt; machine.peek(0x4000_8000), None);
-    let (medium, trace) = machine.power_cut();
-    assert_eq!(rt; trace.events(), events.as_slice());
-    assert!(rt; medium.lines() == 512);
-    assert_eq!(rt;
-        &medium.read_line(0)[..8],
-        [7, 0, 0, 0, 0, 0, 0, 0].as_slice()
-    );
-    Ok(())
-}
-
-#[test]
-fn traps_change_nothing_else(rt: HostRuntime) -> Result<(), Fail> {
-    let mut words = FIRST_RUN;
-    // sd x5, 4(x6)
-    words[2] = 0x0053_3223;
-    let mut machine = machine_of(&rt, &words, 1)?;
-    let step = Step::Hart(0);
-    let trapped = Outcome::Trapped(Trap::MisalignedAccess);
-    for outcome in [Outcome::Done, Outcome::Done, trapped, Outcome::Stopped] {
-        assert_eq!(rt; machine.step(step)?, outcome);
-    }
-    let before = [(5, 7), (6, 0x4000_0000)];
-    let status = Status::Trapped(Trap::MisalignedAccess);
-    assert_eq!(rt;
-        *state_of(&rt, &machine, 0),
-        state(0x1_0008, &before, status)
-    );
-    assert_eq!(rt; machine.events().len(), 0);
-    assert_eq!(rt; machine.peek(0x4000_0004), Some(0));
-
-    let mut empty = machine_of(&rt, &[], 1)?;
-    assert_eq!(rt; empty.step(step)?, Outcome::Trapped(Trap::NoInstruction));
-    let status = Status::Trapped(Trap::NoInstruction);
-    assert_eq!(rt; *state_of(&rt, &empty, 0), state(0x1_0000, &[], status));
-    assert_eq!(rt; empty.events().len(), 0);
-    Ok(())
-}
-
-#[test]
-fn text_and_data_make_no_event(rt: HostRuntime) -> Result<(), Fail> {
-    // addi x5, x0, 7; lui x6, 0x100; sd x5, 0(x6); cbo.clean (x6); lui x6, 0x10; sd x5, 0(x6); cbo.clean (x6)
-    let words = [
-        0x0070_0293,
-        0x0010_0337,
-        0x0053_3023,
-        0x0013_200f,
-        0x0001_0337,
-        0x0053_3023,
-        0x0013_200f,
-    ];
-    let mut machine = machine_of(&rt, &words, 1)?;
-    machine.run(&schedule_of(&rt, &[Item::Steps { hart: 0, count: 7 }])?)?;
-    assert_eq!(rt; machine.peek(0x10_0000), Some(7));
-    assert_eq!(rt; machine.peek(0x1_0000), Some(7));
-    assert_eq!(rt; machine.events().len(), 0);
-    // lui x6, 0x20; sd x5, 0(x6)
-    let mut outside = machine_of(&rt, &[0x0002_0337, 0x0053_3023], 1)?;
-    assert_eq!(rt; outside.step(Step::Hart(0))?, Outcome::Done);
-    assert_eq!(rt;
-        outside.step(Step::Hart(0))?,
-        Outcome::Trapped(Trap::OutsideMemory)
-    );
-    Ok(())
-}
-
-#[test]
 fn missing_harts_and_lines(rt: HostRuntime) -> Result<(), Fail> {
     for harts in [0, 9] {
         let program = program_of(&rt, &FIRST_RUN)?;
@@ -191,7 +106,7 @@ fn missing_harts_and_lines(rt: HostRuntime) -> Result<(), Fail> {
     assert_eq!(rt; machine.step(Step::Hart(1)), Err(StepFault::NoSuchHart));
     assert_eq!(rt; machine.step(Step::Evict(511)), Ok(Outcome::Done));
     assert_eq!(rt; machine.step(Step::Evict(512)), Err(StepFault::NoSuchLine));
-    let items = [Item::Steps { hart: 0, count: 3 }, Item::Evict { line: 512 }];
+    let items = [steps(0, 3), Item::Evict { line: 512 }];
     let stop = RunStop {
         item: 1,
         steps: 0,
@@ -204,63 +119,26 @@ fn missing_harts_and_lines(rt: HostRuntime) -> Result<(), Fail> {
 }
 
 /// Four harts fill the trace with the 16,384 fences of a whole text.
-#[test]
-fn a_full_trace(rt: HostRuntime) -> Result<(), Fail> {
-    let mut machine = machine_of(&rt, &[FENCE; 16_384], 5)?;
-    let mut schedule = Schedule::new(rt.alloc());
-    for hart in 0..5 {
-        schedule.push(Item::Steps {
-            hart,
-            count: 16_384,
-        })?;
-    }
-    let stop = RunStop {
-        item: 4,
-        steps: 0,
-        fault: StepFault::TraceFull,
-    };
-    assert_eq!(rt; machine.run(&schedule), Err(stop));
-    assert_eq!(rt; machine.events().len(), 65_536);
-    assert_eq!(rt; state_of(&rt, &machine, 4).pc, 0x1_0000);
-    assert!(rt; state_of(&rt, &machine, 4).status == Status::Running);
-    // past the text hart 0 traps, as that makes no event
-    assert_eq!(rt;
-        machine.step(Step::Hart(0))?,
-        Outcome::Trapped(Trap::OutsideText)
-    );
-    Ok(())
-}
-
 /// `lui x5, 0x80000`; `addiw x5, x5, -1`; `sw x5, 0(x11)`; `addi x6, x0, 1`; `amoadd.w x7, x6, (x11)`;
 /// `amoswap.w x8, x0, (x11)`.
 #[test]
 fn amo_wraps(rt: HostRuntime) -> Result<(), Fail> {
     let words = [
-        0x8000_02b7,
-        0xfff2_829b,
-        0x0055_a023,
-        0x0010_0313,
-        0x0065_a3af,
-        0x0805_a42f,
+        0x800002b7, 0xfff2829b, 0x0055a023, 0x00100313, 0x0065a3af, 0x0805a42f,
     ];
     let mut machine = machine_of(&rt, &words, 1)?;
-    machine.run(&schedule_of(&rt, &[Item::Steps { hart: 0, count: 5 }])?)?;
+    machine.run(&schedule_of(&rt, &[steps(0, 5)])?)?;
     assert_eq!(rt; register_of(&rt, &machine, 0, 7), 0x7fff_ffff);
     assert_eq!(rt; doubleword_at(&machine, 0x4000_0000), Some(0x8000_0000));
     assert_eq!(rt; machine.step(Step::Hart(0))?, Outcome::Done);
     assert_eq!(rt; register_of(&rt, &machine, 0, 8), 0xffff_ffff_8000_0000);
     assert_eq!(rt; doubleword_at(&machine, 0x4000_0000), Some(0));
-    let stored = |value| Event::Store {
-        hart: 0,
-        line: 0,
-        offset: 0,
-        width: 4,
-        value,
-    };
-    assert_eq!(rt;
-        machine.events(),
-        [stored(0x7fff_ffff), stored(0x8000_0000), stored(0)].as_slice()
-    );
+    let events = [
+        stored(0, 0, 0, 4, 0x7fff_ffff),
+        stored(0, 0, 0, 4, 0x8000_0000),
+        stored(0, 0, 0, 4, 0),
+    ];
+    assert_eq!(rt; machine.events(), events.as_slice());
     Ok(())
 }
 
@@ -270,27 +148,11 @@ fn amo_wraps(rt: HostRuntime) -> Result<(), Fail> {
 #[test]
 fn reservations(rt: HostRuntime) -> Result<(), Fail> {
     let words = [
-        0x0205_1663,
-        0x0050_0313,
-        0x1005_b2af,
-        0x1865_b3af,
-        0x1865_be2f,
-        0x0405_8e93,
-        0x1005_b2af,
-        0x186e_bf2f,
-        0x1865_bfaf,
-        0x1005_b2af,
-        0x1865_b92f,
-        0x0090_0313,
-        0x0065_b423,
-        0x0465_b023,
+        0x02051663, 0x00500313, 0x1005b2af, 0x1865b3af, 0x1865be2f, 0x04058e93, 0x1005b2af,
+        0x186ebf2f, 0x1865bfaf, 0x1005b2af, 0x1865b92f, 0x00900313, 0x0065b423, 0x0465b023,
     ];
     let mut machine = machine_of(&rt, &words, 2)?;
-    let items = [
-        Item::Steps { hart: 0, count: 3 },
-        Item::Steps { hart: 1, count: 3 },
-        Item::Steps { hart: 0, count: 7 },
-    ];
+    let items = [steps(0, 3), steps(1, 3), steps(0, 7)];
     machine.run(&schedule_of(&rt, &items)?)?;
     for number in [7, 28, 30, 31] {
         assert_eq!(rt; register_of(&rt, &machine, 0, number), 1);
@@ -302,86 +164,27 @@ fn reservations(rt: HostRuntime) -> Result<(), Fail> {
     assert_eq!(rt; machine.step(Step::Hart(0))?, Outcome::Done);
     assert_eq!(rt; register_of(&rt, &machine, 0, 18), 0);
     assert_eq!(rt; doubleword_at(&machine, 0x4000_0000), Some(5));
-    let stored = |hart, line, offset, value| Event::Store {
-        hart,
-        line,
-        offset,
-        width: 8,
-        value,
-    };
-    let events = [stored(1, 0, 8, 9), stored(1, 1, 0, 9), stored(0, 0, 0, 5)];
+    let events = [
+        stored(1, 0, 8, 8, 9),
+        stored(1, 1, 0, 8, 9),
+        stored(0, 0, 0, 8, 5),
+    ];
     assert_eq!(rt; machine.events(), events.as_slice());
     Ok(())
 }
 
 /// `addi x5, x11, 4` or `lui x5, 0x20`, and then `sc.d x6, x0, (x5)` or `sc.w x6, x0, (x5)`, with no reservation.
-#[test]
-fn sc_finds_its_address_first(rt: HostRuntime) -> Result<(), Fail> {
-    let cases = [
-        ([0x0045_8293, 0x1802_b32f], Trap::MisalignedAccess),
-        ([0x0002_02b7, 0x1802_a32f], Trap::OutsideMemory),
-    ];
-    for (words, trap) in cases {
-        let mut machine = machine_of(&rt, &words, 1)?;
-        assert_eq!(rt; machine.step(Step::Hart(0))?, Outcome::Done);
-        assert_eq!(rt; machine.step(Step::Hart(0))?, Outcome::Trapped(trap));
-        assert_eq!(rt; register_of(&rt, &machine, 0, 6), 0);
-    }
-    Ok(())
-}
-
 /// `auipc x5, 0`; `addi x5, x5, 24`; `auipc x6, 0`; `addi x6, x6, 28`; `lw x7, 0(x6)`; `sw x7, 0(x5)`;
 /// `addi x10, x0, 1`; `addi x17, x0, 93`; `ecall`; and the word of `addi x10, x0, 2`.
-#[test]
-fn rewritten_text_without_fence_i(rt: HostRuntime) -> Result<(), Fail> {
-    let words = [
-        0x0000_0297,
-        0x0182_8293,
-        0x0000_0317,
-        0x01c3_0313,
-        0x0003_2383,
-        0x0072_a023,
-        0x0010_0513,
-        0x05d0_0893,
-        0x0000_0073,
-        0x0020_0513,
-    ];
-    let mut machine = machine_of(&rt, &words, 1)?;
-    machine.run(&schedule_of(&rt, &[Item::Steps { hart: 0, count: 9 }])?)?;
-    let ended = [
-        (5, 0x1_0018),
-        (6, 0x1_0024),
-        (7, 0x20_0513),
-        (10, 1),
-        (17, 93),
-    ];
-    assert_eq!(rt;
-        *state_of(&rt, &machine, 0),
-        state(0x1_0024, &ended, Status::Exited(1))
-    );
-    assert_eq!(rt; machine.events().len(), 0);
-    Ok(())
-}
-
 /// The same with `fence.i` before `addi x10, x0, 1`, and with `bne x10, x0, .+32` first, by which hart 1 comes right there.
 #[test]
 fn rewritten_text_with_fence_i(rt: HostRuntime) -> Result<(), Fail> {
     let words = [
-        0x0205_1063,
-        0x0000_0297,
-        0x01c2_8293,
-        0x0000_0317,
-        0x0203_0313,
-        0x0003_2383,
-        0x0072_a023,
-        0x0000_100f,
-        0x0010_0513,
-        0x05d0_0893,
-        0x0000_0073,
-        0x0020_0513,
+        0x02051063, 0x00000297, 0x01c28293, 0x00000317, 0x02030313, 0x00032383, 0x0072a023,
+        0x0000100f, 0x00100513, 0x05d00893, 0x00000073, 0x00200513,
     ];
     let mut machine = machine_of(&rt, &words[1..], 1)?;
-    machine.run(&schedule_of(&rt, &[Item::Steps { hart: 0, count: 10 }])?)?;
+    machine.run(&schedule_of(&rt, &[steps(0, 10)])?)?;
     let ended = [
         (5, 0x1_001c),
         (6, 0x1_0028),
@@ -397,10 +200,7 @@ fn rewritten_text_with_fence_i(rt: HostRuntime) -> Result<(), Fail> {
 
     // hart 1 without a FENCE.I of its own runs the old word, which stands in memory no more
     let mut both = machine_of(&rt, &words, 2)?;
-    let items = [
-        Item::Steps { hart: 0, count: 11 },
-        Item::Steps { hart: 1, count: 4 },
-    ];
+    let items = [steps(0, 11), steps(1, 4)];
     both.run(&schedule_of(&rt, &items)?)?;
     assert!(rt; state_of(&rt, &both, 0).status == Status::Exited(2));
     assert!(rt; state_of(&rt, &both, 1).status == Status::Exited(1));
@@ -413,24 +213,10 @@ fn rewritten_text_with_fence_i(rt: HostRuntime) -> Result<(), Fail> {
 #[test]
 fn a_full_trace_refuses_atomics(rt: HostRuntime) -> Result<(), Fail> {
     let words = [
-        0x0005_0a63,
-        0xfff5_0313,
-        0x1005_b2af,
-        0x0003_0863,
-        0x1865_be2f,
-        FENCE,
-        0xffdf_f06f,
-        0x00a5_b3af,
+        0x00050a63, 0xfff50313, 0x1005b2af, 0x00030863, 0x1865be2f, FENCE, 0xffdff06f, 0x00a5b3af,
     ];
     let mut machine = machine_of(&rt, &words, 3)?;
-    let items = [
-        Item::Steps {
-            hart: 0,
-            count: 131_072,
-        },
-        Item::Steps { hart: 1, count: 4 },
-        Item::Steps { hart: 2, count: 4 },
-    ];
+    let items = [steps(0, 131_072), steps(1, 4), steps(2, 4)];
     machine.run(&schedule_of(&rt, &items)?)?;
     assert_eq!(rt; machine.events().len(), 65_536);
     for hart in [1, 2, 2] {
@@ -447,7 +233,7 @@ fn a_full_trace_refuses_atomics(rt: HostRuntime) -> Result<(), Fail> {
 #[test]
 fn two_harts(rt: HostRuntime) -> Result<(), Fail> {
     let mut machine = machine_of(&rt, &FIRST_RUN, 2)?;
-    machine.run(&schedule_of(&rt, &[Item::Steps { hart: 1, count: 2 }])?)?;
+    machine.run(&schedule_of(&rt, &[steps(1, 2)])?)?;
     assert_eq!(rt; *state_of(&rt, &machine, 0), HartState::start(0));
     assert!(rt; machine.harts() == 2);
     let second = machine.hart(1);

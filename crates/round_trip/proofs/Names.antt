@@ -1,5 +1,5 @@
 -- The name of each instruction is a token.
-use Rattle.std.proofs.Common.{◌≡◌, ℕ, Bool, true, false, List, ◌++◌, refl}
+use Rattle.std.proofs.Common.{◌≡◌, ℕ, ◌<◌, ◌≤◌, Bool, true, false, List, ◌++◌, length, refl, arith}
 use Rattle.std.specs.Prelude.{Some, codes}
 use Rattle.std.specs.List.{list_all}
 use Rattle.asm_lex.specs.Pieces.{is_word}
@@ -26,6 +26,8 @@ use Rattle.isa_table.specs.declared.instruction.SystemOp.TheVariants.{Ecall}
 pub record IsName (text : List ℕ) : Type 0 where
   pub run : list_all is_word text ≡ true
   pub token : kind_of text ≡ Some Name
+  pub there : 0 < length text
+  pub short : length text ≤ 20
 
 suffix_run : (w : AtomicWidth) (a r : Bool) → list_all is_word (atomic_suffix w a r) ≡ true
 unfolding is_word
@@ -38,36 +40,46 @@ suffix_run Doubleword false true = refl
 suffix_run Doubleword true false = refl
 suffix_run Doubleword true true = refl
 
--- an atomic instruction's name, before and with the end that gives its form
-formed_is_name : (op : AtomicOp) (end : List ℕ) → list_all is_word end ≡ true → IsName (atomic_name op ++ end)
-unfolding is_word kind_of
-formed_is_name Sc end h = record { run = h; token = refl }
-formed_is_name op end h = record { run = h; token = refl }
+suffix_short : (w : AtomicWidth) (a r : Bool) → length (atomic_suffix w a r) ≤ 7
+suffix_short Word false false = omega arith
+suffix_short Word false true = omega arith
+suffix_short Word true false = omega arith
+suffix_short Word true true = omega arith
+suffix_short Doubleword false false = omega arith
+suffix_short Doubleword false true = omega arith
+suffix_short Doubleword true false = omega arith
+suffix_short Doubleword true true = omega arith
 
-reserved_is_name : (end : List ℕ) → list_all is_word end ≡ true → IsName (codes "lr" ++ end)
+-- an atomic instruction's name, before and with the end that gives its form
+formed_is_name : (op : AtomicOp) (end : List ℕ) → list_all is_word end ≡ true → length end ≤ 7 → IsName (atomic_name op ++ end)
 unfolding is_word kind_of
-reserved_is_name end h = record { run = h; token = refl }
+formed_is_name Sc end h k = record { run = h; token = refl; there = omega arith; short = omega arith }
+formed_is_name op end h k = record { run = h; token = refl; there = omega arith; short = omega arith }
+
+reserved_is_name : (end : List ℕ) → list_all is_word end ≡ true → length end ≤ 7 → IsName (codes "lr" ++ end)
+unfolding is_word kind_of
+reserved_is_name end h k = record { run = h; token = refl; there = omega arith; short = omega arith }
 
 pub named : (i : Instr) → IsName (mnemonic i)
 unfolding is_word kind_of
-named (LoadReserved w rd rs1 a r) = reserved_is_name (atomic_suffix w a r) (suffix_run w a r)
-named (Atomic op w rd rs1 rs2 a r) = formed_is_name op (atomic_suffix w a r) (suffix_run w a r)
-named (Upper Lui rd n) = record { run = refl; token = refl }
-named (Upper op rd n) = record { run = refl; token = refl }
-named (Branch Beq rs1 rs2 z) = record { run = refl; token = refl }
-named (Branch op rs1 rs2 z) = record { run = refl; token = refl }
-named (Load Lb rd rs1 z) = record { run = refl; token = refl }
-named (Load op rd rs1 z) = record { run = refl; token = refl }
-named (Store Sb rs2 rs1 z) = record { run = refl; token = refl }
-named (Store op rs2 rs1 z) = record { run = refl; token = refl }
-named (Immediate Addi rd rs1 z) = record { run = refl; token = refl }
-named (Immediate op rd rs1 z) = record { run = refl; token = refl }
-named (Shift Slli rd rs1 n) = record { run = refl; token = refl }
-named (Shift op rd rs1 n) = record { run = refl; token = refl }
-named (Register Add rd rs1 rs2) = record { run = refl; token = refl }
-named (Register op rd rs1 rs2) = record { run = refl; token = refl }
-named (Cache Inval rs1) = record { run = refl; token = refl }
-named (Cache op rs1) = record { run = refl; token = refl }
-named (System Ecall) = record { run = refl; token = refl }
-named (System op) = record { run = refl; token = refl }
-named i = record { run = refl; token = refl }
+named (LoadReserved w rd rs1 a r) = reserved_is_name (atomic_suffix w a r) (suffix_run w a r) (suffix_short w a r)
+named (Atomic op w rd rs1 rs2 a r) = formed_is_name op (atomic_suffix w a r) (suffix_run w a r) (suffix_short w a r)
+named (Upper Lui rd n) = record { run = refl; token = refl; there = omega arith; short = omega arith }
+named (Upper op rd n) = record { run = refl; token = refl; there = omega arith; short = omega arith }
+named (Branch Beq rs1 rs2 z) = record { run = refl; token = refl; there = omega arith; short = omega arith }
+named (Branch op rs1 rs2 z) = record { run = refl; token = refl; there = omega arith; short = omega arith }
+named (Load Lb rd rs1 z) = record { run = refl; token = refl; there = omega arith; short = omega arith }
+named (Load op rd rs1 z) = record { run = refl; token = refl; there = omega arith; short = omega arith }
+named (Store Sb rs2 rs1 z) = record { run = refl; token = refl; there = omega arith; short = omega arith }
+named (Store op rs2 rs1 z) = record { run = refl; token = refl; there = omega arith; short = omega arith }
+named (Immediate Addi rd rs1 z) = record { run = refl; token = refl; there = omega arith; short = omega arith }
+named (Immediate op rd rs1 z) = record { run = refl; token = refl; there = omega arith; short = omega arith }
+named (Shift Slli rd rs1 n) = record { run = refl; token = refl; there = omega arith; short = omega arith }
+named (Shift op rd rs1 n) = record { run = refl; token = refl; there = omega arith; short = omega arith }
+named (Register Add rd rs1 rs2) = record { run = refl; token = refl; there = omega arith; short = omega arith }
+named (Register op rd rs1 rs2) = record { run = refl; token = refl; there = omega arith; short = omega arith }
+named (Cache Inval rs1) = record { run = refl; token = refl; there = omega arith; short = omega arith }
+named (Cache op rs1) = record { run = refl; token = refl; there = omega arith; short = omega arith }
+named (System Ecall) = record { run = refl; token = refl; there = omega arith; short = omega arith }
+named (System op) = record { run = refl; token = refl; there = omega arith; short = omega arith }
+named i = record { run = refl; token = refl; there = omega arith; short = omega arith }

@@ -1,5 +1,5 @@
 -- The operands of instructions, as they are written and read.
-use Rattle.std.proofs.Common.{◌≡◌, ℕ, zero, suc, ◌^◌, ◌<◌, Bool, true, false, not, ◌||◌, List, [], ◌∷◌, ◌++◌, length, get_or, refl, ap, arith, append_assoc, add-one, ltb-true, ltb-false}
+use Rattle.std.proofs.Common.{◌≡◌, ℕ, zero, suc, ◌^◌, ◌<◌, ◌≤◌, Bool, true, false, not, ◌||◌, List, [], ◌∷◌, ◌++◌, length, get_or, refl, sym, ap, arith, append_assoc, add-one}
 use Rattle.std.specs.Prelude.{Some, Ok, ℤ, pos, negsuc, int_le, unsigned_abs, codes, decimal, ◌==◌, nat_lt, nat_le}
 use Rattle.std.specs.List.{list_all}
 use Rattle.std.specs.Char.{digit_value}
@@ -7,7 +7,6 @@ use Rattle.std.specs.Fmt.{signed_decimal}
 use Rattle.std.specs.Str.Parse.{AllDigits}
 use Rattle.std.proofs.lemmas.Bool.Decides.{nat_tests}
 use Rattle.std.proofs.lemmas.Fmt.{decimal_is_IsNumeral, decimal_digit, first_decimal, length-decimal-le}
-use denote.Struct.Props.{props}
 use Rattle.asm_lex.specs.Pieces.{is_word, is_blank, begins_word}
 use Rattle.asm_lex.specs.Kinds.{are_digits, is_decimal, in_word, number_of, kind_of, mark_of}
 use Rattle.asm_lex.specs.declared.Kind.{Kind}
@@ -18,7 +17,8 @@ use Rattle.isa_table.specs.declared.register.Reg.{Reg}
 use Rattle.asm_line.specs.Grammar.{by_distance, set_then, target_then}
 use Rattle.asm_line.specs.Lexemes.{Lexeme, name, number, opening, closing, colon, plus, minus, lexeme_of}
 use Rattle.asm_line.specs.Numbers.{unsigned, negated, number_then, within}
-use Rattle.asm_line.specs.Registers.{register, register_if, register_of, register_number, plain_number, short_number, set_of}
+use Rattle.asm_names.specs.Registers.{register_of, register_number, plain_number, short_number, set_of}
+use Rattle.asm_names.proofs.RegisterLemmas.{same_register}
 use Rattle.decode.specs.Text.{register_text, address_text, place_text, distance_text, letters, set_text}
 use Rattle.round_trip.proofs.Tokens.{Writes, IsMark, run_writes, mark_then}
 
@@ -107,20 +107,9 @@ short_decimal n small =
     let short : nat_le (length (decimal n)) 2 ≡ true = grind (arith, nat_tests, length-decimal-le 2 n (omega arith) (omega arith) fits) in
     rw (is_decimal-digits (decimal n) numeral.0.1 numeral.0.0 (zero_lone n fits), short, numeral.1) refl
 
-same_bound : (n : ℕ) (h g : n < 32) → h ≡ g
-same_bound n = let p : IsProp (n < 32) = hlevel props in p
-
-found : (r : Reg) (t : Bool) (is : nat_lt r.number 32 ≡ t) → register_if r.number t is ≡ Some r
-found r true is = ap (λ (h : r.number < 32). let s : Reg = record { number = r.number; in_range = h } in Some s) (same_bound r.number (ltb-true r.number 32 is) r.in_range)
-found r false is = absurd (omega (arith, ltb-false r.number 32 is, r.in_range))
-
-register_found : (r : Reg) → register r.number ≡ Some r
-unfolding register
-register_found r = found r (nat_lt r.number 32) refl
-
 pub register_reads : (r : Reg) → register_of (register_text r) ≡ Some r
 unfolding register_of register_number plain_number
-register_reads r = rw (short_decimal r.number r.in_range) (register_found r)
+register_reads r = rw (short_decimal r.number r.in_range) (sym (same_register r.number (Some r) ((λ some. r.in_range), (λ below. refl)) refl))
 
 x_is_word : is_word 120 ≡ true
 unfolding is_word
@@ -178,6 +167,7 @@ pub record ReadsAsSet (set : AccessSet) : Type 0 where
   pub run : list_all is_word (set_text set) ≡ true
   pub token : kind_of (set_text set) ≡ Some (kind_of_letters (letters set))
   pub no_colon : is_colon (set_lexeme set) ≡ false
+  pub short : length (set_text set) ≤ 44
   pub read : (rest : List Lexeme) → set_then (set_lexeme set ∷ rest) ≡ Some (set, rest)
 
 abbrev set_with : Bool → Bool → Bool → Bool → AccessSet
@@ -185,22 +175,22 @@ set_with i o r w = record { device_input = i; device_output = o; memory_reads = 
 
 sixteen : (i o r w : Bool) → ReadsAsSet (set_with i o r w)
 unfolding is_word kind_of number_of is_decimal are_digits in_word set_of
-sixteen false false false false = record { run = refl; token = refl; no_colon = refl; read = λ rest. refl }
-sixteen false false false true = record { run = refl; token = refl; no_colon = refl; read = λ rest. refl }
-sixteen false false true false = record { run = refl; token = refl; no_colon = refl; read = λ rest. refl }
-sixteen false false true true = record { run = refl; token = refl; no_colon = refl; read = λ rest. refl }
-sixteen false true false false = record { run = refl; token = refl; no_colon = refl; read = λ rest. refl }
-sixteen false true false true = record { run = refl; token = refl; no_colon = refl; read = λ rest. refl }
-sixteen false true true false = record { run = refl; token = refl; no_colon = refl; read = λ rest. refl }
-sixteen false true true true = record { run = refl; token = refl; no_colon = refl; read = λ rest. refl }
-sixteen true false false false = record { run = refl; token = refl; no_colon = refl; read = λ rest. refl }
-sixteen true false false true = record { run = refl; token = refl; no_colon = refl; read = λ rest. refl }
-sixteen true false true false = record { run = refl; token = refl; no_colon = refl; read = λ rest. refl }
-sixteen true false true true = record { run = refl; token = refl; no_colon = refl; read = λ rest. refl }
-sixteen true true false false = record { run = refl; token = refl; no_colon = refl; read = λ rest. refl }
-sixteen true true false true = record { run = refl; token = refl; no_colon = refl; read = λ rest. refl }
-sixteen true true true false = record { run = refl; token = refl; no_colon = refl; read = λ rest. refl }
-sixteen true true true true = record { run = refl; token = refl; no_colon = refl; read = λ rest. refl }
+sixteen false false false false = record { run = refl; token = refl; no_colon = refl; short = omega arith; read = λ rest. refl }
+sixteen false false false true = record { run = refl; token = refl; no_colon = refl; short = omega arith; read = λ rest. refl }
+sixteen false false true false = record { run = refl; token = refl; no_colon = refl; short = omega arith; read = λ rest. refl }
+sixteen false false true true = record { run = refl; token = refl; no_colon = refl; short = omega arith; read = λ rest. refl }
+sixteen false true false false = record { run = refl; token = refl; no_colon = refl; short = omega arith; read = λ rest. refl }
+sixteen false true false true = record { run = refl; token = refl; no_colon = refl; short = omega arith; read = λ rest. refl }
+sixteen false true true false = record { run = refl; token = refl; no_colon = refl; short = omega arith; read = λ rest. refl }
+sixteen false true true true = record { run = refl; token = refl; no_colon = refl; short = omega arith; read = λ rest. refl }
+sixteen true false false false = record { run = refl; token = refl; no_colon = refl; short = omega arith; read = λ rest. refl }
+sixteen true false false true = record { run = refl; token = refl; no_colon = refl; short = omega arith; read = λ rest. refl }
+sixteen true false true false = record { run = refl; token = refl; no_colon = refl; short = omega arith; read = λ rest. refl }
+sixteen true false true true = record { run = refl; token = refl; no_colon = refl; short = omega arith; read = λ rest. refl }
+sixteen true true false false = record { run = refl; token = refl; no_colon = refl; short = omega arith; read = λ rest. refl }
+sixteen true true false true = record { run = refl; token = refl; no_colon = refl; short = omega arith; read = λ rest. refl }
+sixteen true true true false = record { run = refl; token = refl; no_colon = refl; short = omega arith; read = λ rest. refl }
+sixteen true true true true = record { run = refl; token = refl; no_colon = refl; short = omega arith; read = λ rest. refl }
 
 pub set_reads : (set : AccessSet) → ReadsAsSet set
 set_reads set = sixteen set.device_input set.device_output set.memory_reads set.memory_writes

@@ -28,7 +28,7 @@ use Rattle.asm_line.specs.Lexemes.{Lexeme, name, colon, comma}
 use Rattle.asm_line.specs.declared.fault.AsmCode.{AsmCode}
 use Rattle.asm_line.specs.Lines.{body_of, line_of, lexemes_line, unlabelled}
 use Rattle.asm_line.specs.Meanings.{Meaning, instruction}
-use Rattle.asm_line.specs.Mnemonics.{upper_of, branch_of, load_of, store_of, immediate_of, shift_of, register_op_of, cache_of, system_of, computation_of, transfer_of, special_of, operation_of, single_of, unary_of, zero_branch_of, exchanged_branch_of, pseudo_of, directive_of, form, form_of, atomic_of, atomic_mnemonic_of, mnemonic_of}
+use Rattle.asm_names.specs.Mnemonics.{upper_of, branch_of, load_of, store_of, immediate_of, shift_of, register_op_of, cache_of, system_of, computation_of, transfer_of, special_of, operation_of, single_of, unary_of, zero_branch_of, exchanged_branch_of, pseudo_of, directive_of, form, form_of, atomic_of, atomic_mnemonic_of, mnemonic_of}
 use Rattle.asm_line.specs.Numbers.{unsigned, negated, within}
 use Rattle.decode.specs.Text.{register_text, operand_texts, text_of}
 use Rattle.asm_lex.specs.declared.Kind.TheVariants.{Name}
@@ -38,17 +38,17 @@ use Rattle.round_trip.proofs.Operands.{is_colon, by_sign, signed_lexemes, addres
 
 -- an integer between these, with a size that a word holds
 pub record IsBetween (low high z : ℤ) : Type 0 where
-  above : int_le low z ≡ true
-  below : int_le z high ≡ true
-  size : unsigned_abs z < 2 ^ 64
+  pub above : int_le low z ≡ true
+  pub below : int_le z high ≡ true
+  pub size : unsigned_abs z < 2 ^ 64
 
-between_12 : (z : ℤ) → FitsBits 12 z → IsBetween (negsuc 2047) (pos 2047) z
+pub between_12 : (z : ℤ) → FitsBits 12 z → IsBetween (negsuc 2047) (pos 2047) z
 between_12 z h = record { above = grind (arith, ints, nat_tests); below = grind (arith, ints, nat_tests); size = grind (arith, ints, nat_tests) }
 
-between_13 : (z : ℤ) → FitsBits 13 z → IsBetween (negsuc 4095) (pos 4095) z
+pub between_13 : (z : ℤ) → FitsBits 13 z → IsBetween (negsuc 4095) (pos 4095) z
 between_13 z h = record { above = grind (arith, ints, nat_tests); below = grind (arith, ints, nat_tests); size = grind (arith, ints, nat_tests) }
 
-between_21 : (z : ℤ) → FitsBits 21 z → IsBetween (negsuc 1048575) (pos 1048575) z
+pub between_21 : (z : ℤ) → FitsBits 21 z → IsBetween (negsuc 1048575) (pos 1048575) z
 between_21 z h = record { above = grind (arith, ints, nat_tests); below = grind (arith, ints, nat_tests); size = grind (arith, ints, nat_tests) }
 
 between_up_to : (n m : ℕ) → n ≤ m → m < 2 ^ 64 → IsBetween (pos 0) (pos m) (pos n)
@@ -102,10 +102,10 @@ operand_lexemes (Atomic op w rd rs1 rs2 a r) = (name (register_text rd) ∷ []) 
 operand_lexemes (System op) = []
 
 -- the bounds of a number as an instruction's check states them
-upper_between : (n : ℕ) → n < 2 ^ 20 → IsBetween (pos 0) (pos 1048575) (pos n)
+pub upper_between : (n : ℕ) → n < 2 ^ 20 → IsBetween (pos 0) (pos 1048575) (pos n)
 upper_between n h = between_up_to n 1048575 (omega arith) (omega arith)
 
-shift_between : (op : ShiftOp) (n : ℕ) → n < 2 ^ shift_bits op → IsBetween (pos 0) (pos (2 ^ shift_bits op - 1)) (pos n)
+pub shift_between : (op : ShiftOp) (n : ℕ) → n < 2 ^ shift_bits op → IsBetween (pos 0) (pos (2 ^ shift_bits op - 1)) (pos n)
 shift_between Slli n h = between_up_to n 63 (omega arith) (omega arith)
 shift_between op n h = between_up_to n (2 ^ shift_bits op - 1) (omega arith) (omega arith)
 

@@ -7,10 +7,13 @@
 
 ghost use Rattle.asm_line.specs.Lines.{line_of};
 ghost use Rattle.asm_line.specs.Meanings.{instruction};
+ghost use Rattle.assemble.specs.Assembly.{Assembles};
 ghost use Rattle.decode.specs.Text.{text_of};
 ghost use Rattle.isa_table.specs.Ranges.{IsChecked};
+ghost use Rattle.isa_table.specs.Table.{IsCanonical};
 ghost use Rattle.isa_table.specs.declared.instruction.Instr.{Instr};
-ghost use Rattle.std.specs.Prelude.{◌≡◌, None, Ok};
+ghost use Rattle.std.specs.Int.{to_le_bytes, w32};
+ghost use Rattle.std.specs.Prelude.{◌≡◌, ℕ, ◌^◌, ◌<◌, [], None, Ok};
 
 #[cfg(test)]
 mod tests;
@@ -20,4 +23,11 @@ mod tests;
 #[tactic(auto, using(crate::proofs::Shapes::reads_back))]
 pub fn shown_reads_back()
     ensures { (i : Instr) → IsChecked i → line_of (text_of i) ≡ Ok (record { label = None; meaning = instruction i }) }
+{}
+
+/// The text of an instruction alone is a source, which assembles to the canonical word of the
+/// instruction, the least significant byte first: a law, with nothing to run.
+pub fn shown_assembles()
+    ensures { (i : Instr) (word : ℕ) → word < 2 ^ 32 → IsChecked i → IsCanonical word i
+        → Assembles (text_of i) (record { text = to_le_bytes w32 word; static_data = [] }) }
 {}

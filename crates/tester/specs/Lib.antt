@@ -1,2 +1,1 @@
-pub mod ProgramRun
-pub mod ImageCount
+pub mod SourceRun
