@@ -9,16 +9,16 @@ use std::alloc::Global;
 use std::process::Abort;
 use std::test::Fail;
 
-/// A cache of two harts over 512 lines of zeros.
+/// A cache of eight harts over 512 lines of zeros.
 fn cache(alloc: Global, capacity: u32) -> Result<PmCache, MediumFault>
     requires { 1 ≤ capacity }
-    ensures { IfOk result (λ pm. (pm.harts ≡ 2) × (length pm.lines ≡ 512)) }
+    ensures { IfOk result (λ pm. (pm.harts ≡ 8) × (length pm.lines ≡ 512)) }
 {
     let medium = Medium::zero(alloc, 512)?;
     if medium.lines() != 512 {
         return Err(MediumFault::Size);
     }
-    PmCache::new(alloc, medium, capacity, 2)
+    PmCache::new(alloc, medium, capacity, 8)
 }
 
 #[test]
@@ -105,8 +105,11 @@ fn cache_of_one_line(rt: HostRuntime) -> Result<(), Fail> {
     Ok(())
 }
 
-/// The lines that are used: two of one set, and one of another.
-const LINES: [u32; 3] = [0, 1, 8];
+/// How many lines a list of calls uses.
+const USED: usize = 9;
+
+/// The lines that are used: eight of three sets, and the last line.
+const LINES: [u32; USED] = [0, 1, 2, 8, 9, 10, 16, 24, 511];
 
 #[derive(Clone, Copy)]
 enum Call {
@@ -134,13 +137,13 @@ const CALLS: [Call; 8] = [
 struct Replay {
     pm: PmCache,
     steps: Vec<PersistenceStep>,
-    ghost harts: { pm.harts ≡ 2 },
+    ghost harts: { pm.harts ≡ 8 },
     ghost lines: { length pm.lines ≡ 512 },
 }
 
 impl Replay {
     fn make(&mut self, rt: &impl Abort, call: Call, hart: u32, line: u32) -> Result<(), Fail>
-        requires hart { hart < 2 }
+        requires hart { hart < 8 }
         requires line { line < 512 }
     {
         match call {
@@ -196,16 +199,16 @@ impl Replay {
         })
     }
 
-    fn residents(&self) -> [bool; 3] {
-        [
-            self.pm.is_resident(LINES[0]),
-            self.pm.is_resident(LINES[1]),
-            self.pm.is_resident(LINES[2]),
-        ]
+    fn residents(&self) -> [bool; USED] {
+        let mut residents = [false; USED];
+        for (i, line) in LINES.iter().enumerate() {
+            residents[i] = self.pm.is_resident(*line);
+        }
+        residents
     }
 
     /// A line that was resident before a use and isn't after it had to leave.
-    fn note_forced(&mut self, before: [bool; 3]) -> Result<(), Fail> {
+    fn note_forced(&mut self, before: [bool; USED]) -> Result<(), Fail> {
         let after = self.residents();
         for (i, line) in LINES.iter().enumerate() {
             if before[i] && !after[i] {
@@ -250,20 +253,30 @@ fn next(number: u32) -> u32 {
     number.wrapping_mul(1_664_525).wrapping_add(1_013_904_223)
 }
 
+/// Two hundred calls of eight harts, each compared with the plain program.
+fn calls_agree(rt: &(impl AllocGlobal + Abort), capacity: u32, seed: u32) -> Result<(), Fail>
+    requires { 1 ≤ capacity }
+{
+    let mut replay = Replay {
+        pm: cache(rt.alloc(), capacity)?,
+        steps: Vec::new(rt.alloc()),
+    };
+    let mut number = seed;
+    for _ in 0..200 {
+        number = next(number);
+        let call = CALLS[(number >> 29) as usize % 8];
+        let line = LINES[(number >> 18) as usize % USED];
+        replay.make(rt, call, (number >> 24) % 8, line)?;
+        replay.agree(rt);
+    }
+    Ok(())
+}
+
 #[test]
 fn plain_program_agrees(rt: HostRuntime) -> Result<(), Fail> {
-    for capacity in [1, 2, 8] {
-        let mut replay = Replay {
-            pm: cache(rt.alloc(), capacity)?,
-            steps: Vec::new(rt.alloc()),
-        };
-        let mut number = 2026;
-        for _ in 0..120 {
-            number = next(number);
-            let call = CALLS[(number >> 29) as usize % 8];
-            let line = LINES[(number >> 20) as usize % 3];
-            replay.make(&rt, call, (number >> 24) % 2, line)?;
-            replay.agree(&rt);
+    for capacity in [1, 2, 7, 512] {
+        for seed in 2026..2036 {
+            calls_agree(&rt, capacity, seed)?;
         }
     }
     Ok(())
