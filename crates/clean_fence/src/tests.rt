@@ -254,14 +254,14 @@ fn next(number: u32) -> u32 {
 }
 
 /// Two hundred calls of eight harts, each compared with the plain program.
-fn calls_agree(rt: &(impl AllocGlobal + Abort), capacity: u32, seed: u32) -> Result<(), Fail>
+fn calls_agree(rt: &(impl AllocGlobal + Abort), capacity: u32, start: u32) -> Result<(), Fail>
     requires { 1 ≤ capacity }
 {
     let mut replay = Replay {
         pm: cache(rt.alloc(), capacity)?,
         steps: Vec::new(rt.alloc()),
     };
-    let mut number = seed;
+    let mut number = start;
     for _ in 0..200 {
         number = next(number);
         let call = CALLS[(number >> 29) as usize % 8];
@@ -275,8 +275,8 @@ fn calls_agree(rt: &(impl AllocGlobal + Abort), capacity: u32, seed: u32) -> Res
 #[test]
 fn plain_program_agrees(rt: HostRuntime) -> Result<(), Fail> {
     for capacity in [1, 2, 7, 512] {
-        for seed in 2026..2036 {
-            calls_agree(&rt, capacity, seed)?;
+        for start in 2026..2036 {
+            calls_agree(&rt, capacity, start)?;
         }
     }
     Ok(())
