@@ -1,1 +1,2 @@
-pub mod SourceRun
+pub mod ProgramRun
+pub mod ImageCount

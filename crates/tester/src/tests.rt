@@ -1,6 +1,6 @@
 //! The first run and its neighbours, with the registers and events that the manual's effects give by hand.
 
-use crate::{SourceFault, run_source};
+use crate::{ProgramFault, run_program};
 use assemble::AsmCode;
 use hart::{Status, Trap};
 use isa_table::Reg;
@@ -20,7 +20,7 @@ fn value_of(machine: &machine::Machine, number: u8) -> Option<u64> {
 
 #[test]
 fn the_first_run_ends(rt: HostRuntime) -> Result<(), Fail> {
-    let machine = run_source(rt.alloc(), FIRST, 1_000_000)?;
+    let machine = run_program(rt.alloc(), FIRST, 1_000_000)?;
     assert_eq!(rt; machine.harts(), 1);
     assert_eq!(rt; machine.hart(0).status, Status::Exited(0));
     assert_eq!(rt; machine.hart(0).pc, 0x1_0020);
@@ -47,7 +47,7 @@ fn the_first_run_ends(rt: HostRuntime) -> Result<(), Fail> {
 
 #[test]
 fn it_makes_as_many_steps_as_are_asked(rt: HostRuntime) -> Result<(), Fail> {
-    let machine = run_source(rt.alloc(), FIRST, 3)?;
+    let machine = run_program(rt.alloc(), FIRST, 3)?;
     assert_eq!(rt; machine.harts(), 1);
     assert_eq!(rt; machine.hart(0).status, Status::Running);
     assert_eq!(rt; machine.hart(0).pc, 0x1_000c);
@@ -57,11 +57,11 @@ fn it_makes_as_many_steps_as_are_asked(rt: HostRuntime) -> Result<(), Fail> {
 
 #[test]
 fn faults_are_answered(rt: HostRuntime) -> Result<(), Fail> {
-    let empty = run_source(rt.alloc(), b"", 5)?;
+    let empty = run_program(rt.alloc(), b"", 5)?;
     assert_eq!(rt; empty.harts(), 1);
     assert_eq!(rt; empty.hart(0).status, Status::Trapped(Trap::NoInstruction));
-    match run_source(rt.alloc(), b"ecall\nfoo x1\n", 5) {
-        Err(SourceFault::Assembly(fault)) => {
+    match run_program(rt.alloc(), b"ecall\nfoo x1\n", 5) {
+        Err(ProgramFault::Assembly(fault)) => {
             assert_eq!(rt; fault.line, 2);
             assert_eq!(rt; fault.code, AsmCode::Mnemonic);
         }
