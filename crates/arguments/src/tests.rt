@@ -115,14 +115,14 @@ fn texts_are_shown(rt: HostRuntime) -> Result<(), Fail> {
         (
             "novacrash run a.s b.s",
             "error: unexpected argument 'b.s' found\n\n\
-             Usage: novacrash run [OPTIONS] <SOURCE>\n\n\
+             Usage: novacrash run [OPTIONS] <PROGRAM>\n\n\
              For more information, try '--help'.\n",
         ),
         (
             "novacrash run --help",
-            "Assemble a program and run it on one hart\n\n\
-             Usage: novacrash run [OPTIONS] <SOURCE>\n\n\
-             Arguments:\n  <SOURCE>  The program's file\n\n\
+            "Run a program on one hart\n\n\
+             Usage: novacrash run [OPTIONS] <PROGRAM>\n\n\
+             Arguments:\n  <PROGRAM>  The program's file: an object or a source\n\n\
              Options:\n      --steps <N>  The most steps, from 1 to 500000000 [default: 1000000]\n      \
              --help       Print help\n",
         ),
