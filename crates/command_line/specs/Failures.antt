@@ -5,8 +5,8 @@ use Rattle.asm_line.specs.declared.fault.AsmCode.TheVariants as asm
 use Rattle.assemble.specs.declared.fault.AsmFault.{AsmFault}
 use Rattle.object.specs.declared.fault.LoadFault.{LoadFault}
 use Rattle.object.specs.declared.fault.LoadFault.TheVariants as loads
-use Rattle.machine.specs.declared.fault.StepFault.{StepFault}
-use Rattle.machine.specs.declared.fault.StepFault.TheVariants as steps
+use Rattle.shared_memory.specs.declared.fault.StepFault.{StepFault}
+use Rattle.shared_memory.specs.declared.fault.StepFault.TheVariants as steps
 use Rattle.command_line.specs.declared.failure.Failure.{Failure}
 use Rattle.command_line.specs.declared.failure.Failure.TheVariants.{Line, Refused, Memory, File}
 use Rattle.command_line.specs.declared.failure.Refusal.{Refusal}
@@ -39,6 +39,7 @@ step_code steps.NoSuchHart = codes "G1"
 step_code steps.NoSuchLine = codes "G2"
 step_code steps.TraceFull = codes "G4"
 step_code steps.Memory = codes "G5"
+step_code steps.OutOfLimits = codes "G6"
 
 abbrev pub load_code : LoadFault → List ℕ
 load_code loads.Magic = codes "P1"

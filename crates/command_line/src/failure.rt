@@ -222,5 +222,6 @@ fn step_code(fault: StepFault) -> &'static str
         StepFault::NoSuchLine => "G2",
         StepFault::TraceFull => "G4",
         StepFault::Memory => "G5",
+        StepFault::OutOfLimits => "G6",
     }
 }

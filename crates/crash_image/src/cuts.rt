@@ -6,7 +6,7 @@ ghost use Rattle.crash_model.specs.Cut.{IsCut, cut_count, cuts, number_in};
 ghost use Rattle.crash_model.specs.Image.{image};
 ghost use Rattle.line_memory.specs.Lines.{IsMedium};
 ghost use Rattle.store_trace.specs.History.{at_moment};
-ghost use Rattle.std.specs.Prelude.{◌≡◌, ◌↔◌, ◌<◌, ◌≤◌, ◌*◌, [], length, slice_index_or, IfOk, IfSome, IsNone, IsErrOf, IfErr, OnOk};
+ghost use Rattle.std.specs.Prelude.{◌≡◌, ◌↔◌, ◌<◌, ◌≤◌, ◌*◌, [], length, slice_index_or, IfOk, IfSome, IsNone, IsErrOf, IfErr, IsTrue, OnOk};
 
 use crate::ImageFault;
 use crate::bounds::{LineBounds, floors, line_bounds, product};
@@ -94,6 +94,14 @@ impl<'a> Cuts<'a> {
         Ok(Cut::from_entries(entries))
     }
 
+    /// Whether the cut is one of this moment: of just the stored lines, each within its bounds.
+    #[tactic(auto, using(crate::proofs::Numbering::cut_from_fits, crate::proofs::Numbering::fits_from_cut))]
+    pub fn contains(&self, cut: &Cut) -> bool
+        ensures { IsTrue result ↔ IsCut self.now.steps cut.now }
+    {
+        fits(&self.bounds, cut.entries())
+    }
+
     /// The image of the cut of number `n`, which lies below the count.
     pub fn image(&self, alloc: Global, n: u32) -> Result<Medium, ImageFault>
         requires { n < cut_count self.now.steps }
@@ -115,7 +123,7 @@ impl<'a> Cuts<'a> {
         ensures cut { IsErrOf result ImageFault.NotACut ↔ ¬ IsCut self.now.steps cut.now }
         ensures moment { ¬ IsErrOf result ImageFault.NoSuchMoment }
     {
-        if !fits(&self.bounds, cut.entries()) {
+        if !self.contains(cut) {
             return Err(ImageFault::NotACut);
         }
         self.image_by(alloc, cut.entries())

@@ -6,6 +6,7 @@
 
 pub use cut::Cut;
 pub use cuts::Cuts;
+pub use images::numbers_of_lines;
 pub use names::has_lines;
 use std::alloc::AllocError;
 use thiserror::Error;

@@ -244,6 +244,14 @@ fn below_the_floor(rt: HostRuntime) -> Result<(), Fail> {
     let cuts = cuts_of(&rt, &medium, &trace)?;
     let below = cuts.image_of(rt.alloc(), &cut_of(&rt, &[(5, 0)])?);
     assert!(rt; matches!(below, Err(ImageFault::NotACut)));
+    assert!(rt;
+        !cuts.contains(&cut_of(&rt, &[(5, 0)])?),
+        "a cut below the floor"
+    );
+    assert!(rt;
+        cuts.contains(&cut_of(&rt, &[(5, 1)])?),
+        "the cut at the floor"
+    );
     assert!(rt; cuts.find(rt.alloc(), &medium)?.is_none());
     let image = cuts.image_of(rt.alloc(), &cut_of(&rt, &[(5, 1)])?)?;
     assert_eq!(rt; first_words(&rt, &image, [5, 5]), [7, 7]);

@@ -1,8 +1,8 @@
 pub mod Copying
 pub mod Determined
-pub mod Naming
+pub mod Evicting
+pub mod Numbering
 pub mod Refusing
-pub mod Reserving
-pub mod Serving
+pub mod RunParts
 pub mod Stepping
 pub mod Steps

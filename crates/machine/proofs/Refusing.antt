@@ -13,18 +13,21 @@ use Rattle.hart.specs.declared.need.Need.TheVariants.{Local, Ask, Stop}
 use Rattle.hart.specs.declared.need.Reply.{Reply}
 use Rattle.hart.specs.declared.need.Request.{Request}
 use Rattle.decode.specs.Decoding.{Decodes}
-use Rattle.machine.specs.declared.fault.StepFault.{StepFault}
-use Rattle.machine.specs.declared.fault.StepFault.TheVariants.{NoSuchHart, NoSuchLine, TraceFull, Memory as MemoryRefused}
+use Rattle.shared_memory.specs.declared.fault.StepFault.{StepFault}
+use Rattle.shared_memory.specs.declared.fault.StepFault.TheVariants.{NoSuchHart, NoSuchLine, TraceFull, Memory as MemoryRefused, OutOfLimits}
 use Rattle.machine.specs.declared.machine.Outcome.{Outcome}
 use Rattle.schedule.specs.declared.items.Step.{Step}
 use Rattle.schedule.specs.declared.items.Step.TheVariants.{Hart, Evict}
 use Rattle.machine.specs.Outcomes.{HartMakesEvent, MakesEvent}
-use Rattle.machine.specs.Refusals.{IsEventFault, LacksHart, LacksLine, Refuses, RefusesRequest}
+use Rattle.machine.specs.Refusals.{LacksHart, LacksLine, Refuses}
+use Rattle.shared_memory.specs.Refusals.{IsEventFault, RefusesRequest}
 use Rattle.machine.specs.Run.{Config, Executes, IsSpelledBy, StepsTo, after_request, fetched, fetched_by}
-use Rattle.machine.specs.Served.{events_of, reply_after}
-use Rattle.machine.specs.Stands.{IsThere, MachineView, Serves, SharedView, Stands, copy_of, reply_to}
+use Rattle.shared_memory.specs.Served.{events_of, reply_after}
+use Rattle.machine.specs.Stands.{IsThere, MachineView, Stands, copy_of}
+use Rattle.shared_memory.specs.SharedView.{Serves, SharedView, reply_to}
 use Rattle.machine.proofs.Determined.{needs_once}
-use Rattle.machine.proofs.Stepping.{hart_steps, reply_stands, word_stands}
+use Rattle.shared_memory.proofs.Shown.{reply_stands}
+use Rattle.machine.proofs.Stepping.{hart_steps, word_stands}
 
 -- the instruction by which a hart asks
 asks_by : (s : HartState) (w : ℕ) (request : Request) (o : Option Instr) → Decodes w o → Ask request ≡ need_of s o
@@ -107,6 +110,7 @@ refused_by m h TraceFull makes reason = (makes, reason)
 refused_by m h MemoryRefused makes reason = (makes, reason)
 refused_by m h NoSuchHart makes reason = absurd reason
 refused_by m h NoSuchLine makes reason = absurd reason
+refused_by m h OutOfLimits makes reason = absurd reason
 
 pub refused_with_request : (m : MachineView) (h : ℕ) (s : HartState) (request : Request) (fault : StepFault)
     → slice_get m.harts h ≡ Some s → s.status ≡ Running → Needs s (fetched (copy_of m h) s.pc) (Ask request)
@@ -144,6 +148,7 @@ no_hart_exactly m step (Ok o) there refused = (λ e. absurd (cc), λ lacks. absu
 no_hart_exactly m step (Err NoSuchHart) there refused = (λ e. refused, λ lacks. refl)
 no_hart_exactly m step (Err NoSuchLine) there refused = (λ e. absurd (cc), λ lacks. absurd (no_hart_no_line m step lacks refused))
 no_hart_exactly m step (Err TraceFull) there refused = (λ e. absurd (cc), λ lacks. absurd (no_hart_no_event m step lacks refused.0))
+no_hart_exactly m step (Err OutOfLimits) there refused = (λ e. absurd (cc), λ lacks. absurd refused)
 no_hart_exactly m step (Err MemoryRefused) there refused = (λ e. absurd (cc), λ lacks. absurd (no_hart_no_event m step lacks refused.0))
 
 pub no_line_exactly : (m : MachineView) (step : Step) (r : Result Outcome StepFault) → OnOk r (IsThere m step) → IfErr r (Refuses m step)
@@ -152,6 +157,7 @@ no_line_exactly m step (Ok o) there refused = (λ e. absurd (cc), λ lacks. absu
 no_line_exactly m step (Err NoSuchHart) there refused = (λ e. absurd (cc), λ lacks. absurd (no_hart_no_line m step refused lacks))
 no_line_exactly m step (Err NoSuchLine) there refused = (λ e. refused, λ lacks. refl)
 no_line_exactly m step (Err TraceFull) there refused = (λ e. absurd (cc), λ lacks. absurd (no_line_no_event m step lacks refused.0))
+no_line_exactly m step (Err OutOfLimits) there refused = (λ e. absurd (cc), λ lacks. absurd refused)
 no_line_exactly m step (Err MemoryRefused) there refused = (λ e. absurd (cc), λ lacks. absurd (no_line_no_event m step lacks refused.0))
 
 pub full_exactly : (old new : MachineView) (step : Step) (r : Result Outcome StepFault)
@@ -163,6 +169,7 @@ full_exactly old new step (Ok o) event limit refused =
 full_exactly old new step (Err NoSuchHart) event limit refused = (λ e. absurd (cc), λ full. absurd (no_hart_no_event old step refused full.0))
 full_exactly old new step (Err NoSuchLine) event limit refused = (λ e. absurd (cc), λ full. absurd (no_line_no_event old step refused full.0))
 full_exactly old new step (Err TraceFull) event limit refused = (λ e. refused, λ full. refl)
+full_exactly old new step (Err OutOfLimits) event limit refused = (λ e. absurd (cc), λ full. absurd refused)
 full_exactly old new step (Err MemoryRefused) event limit refused = (λ e. absurd (cc), λ full. let less = refused.1 in let all = full.1 in absurd (omega arith))
 
 -- a step is refused for one reason
@@ -170,16 +177,21 @@ pub refused_once : (m : MachineView) (step : Step) (f g : StepFault) → Refuses
 refused_once m step NoSuchHart NoSuchHart a b = refl
 refused_once m step NoSuchHart NoSuchLine a b = absurd (no_hart_no_line m step a b)
 refused_once m step NoSuchHart TraceFull a b = absurd (no_hart_no_event m step a b.0)
+refused_once m step NoSuchHart OutOfLimits a b = absurd b
 refused_once m step NoSuchHart MemoryRefused a b = absurd (no_hart_no_event m step a b.0)
 refused_once m step NoSuchLine NoSuchHart a b = absurd (no_hart_no_line m step b a)
 refused_once m step NoSuchLine NoSuchLine a b = refl
 refused_once m step NoSuchLine TraceFull a b = absurd (no_line_no_event m step a b.0)
+refused_once m step NoSuchLine OutOfLimits a b = absurd b
 refused_once m step NoSuchLine MemoryRefused a b = absurd (no_line_no_event m step a b.0)
 refused_once m step TraceFull NoSuchHart a b = absurd (no_hart_no_event m step b a.0)
 refused_once m step TraceFull NoSuchLine a b = absurd (no_line_no_event m step b a.0)
 refused_once m step TraceFull TraceFull a b = refl
+refused_once m step TraceFull OutOfLimits a b = absurd b
 refused_once m step TraceFull MemoryRefused a b = let x = a.1 in let y = b.1 in absurd (omega arith)
 refused_once m step MemoryRefused NoSuchHart a b = absurd (no_hart_no_event m step b a.0)
 refused_once m step MemoryRefused NoSuchLine a b = absurd (no_line_no_event m step b a.0)
 refused_once m step MemoryRefused TraceFull a b = let x = a.1 in let y = b.1 in absurd (omega arith)
+refused_once m step MemoryRefused OutOfLimits a b = absurd b
 refused_once m step MemoryRefused MemoryRefused a b = refl
+refused_once m step OutOfLimits g a b = absurd a

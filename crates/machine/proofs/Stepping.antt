@@ -18,14 +18,16 @@ use Rattle.hart.specs.declared.need.Request.{Request}
 use Rattle.line_memory.specs.Memory.{Memory}
 use Rattle.schedule.specs.declared.items.Step.{Step}
 use Rattle.schedule.specs.declared.items.Step.TheVariants.{Hart, Evict}
-use Rattle.machine.specs.declared.history.Entry.TheVariants.{Asked, Evicted}
-use Rattle.machine.specs.Histories.{copied, memory_after, replayed, text_of}
+use Rattle.shared_memory.specs.declared.history.Entry.TheVariants.{Asked, Evicted}
+use Rattle.shared_memory.specs.Histories.{copied, replayed, text_of}
 use Rattle.machine.specs.Outcomes.{hart_outcome, outcome_of}
-use Rattle.machine.specs.Served.{Common, asked, reply_after}
+use Rattle.shared_memory.specs.Served.{asked, reply_after}
 use Rattle.machine.specs.Run.{Config, Executes, HartSteps, RunsTo, StepsTo, after_request, fetched, fetched_by, with_hart}
-use Rattle.machine.specs.Stands.{Answers, IsThere, MachineView, Runs, Serves, SharedView, Shows, Stands, copies_after, copy_of, reply_to, text_bytes}
+use Rattle.machine.specs.Stands.{Answers, IsThere, MachineView, Runs, Stands, copies_after, copy_of, text_bytes}
+use Rattle.shared_memory.specs.SharedView.{Evicts, SharedView, Shows, lines_shown}
+use Rattle.clean_fence.specs.Rules.{PmView, SameSizes}
+use Rattle.shared_memory.proofs.Shown.{evicted_shows, reply_stands, served_shows}
 use Rattle.machine.proofs.Copying.{copied_more, text_there}
-use Rattle.machine.proofs.Reserving.{held_as}
 
 -- a hart asks only by an instruction that its word spells
 asks_spelled : (s : HartState) (word : ℕ) (request : Request) (spelled : Option Instr)
@@ -43,22 +45,28 @@ one_step c d step h = (d, h, refl)
 one_there : (m : MachineView) (step : Step) → IsThere m step → All (IsThere m) (step ∷ [])
 one_there m step there = All-push (IsThere m) [] step (All-nil (IsThere m)) there
 
-pub evicts : (m : MachineView) (line : ℕ) → line < length m.shared.lines → Runs m m (Evict line ∷ [])
-evicts m line there = record {
-  there = one_there m (Evict line) there;
-  harts = refl;
-  lines = refl;
+pub evicts : (old new : MachineView) (shared : SharedView) (line : ℕ) → line < length old.shared.cache.lines → Evicts old.shared shared line
+    → new ≡ record old { shared = shared } → Runs old new (Evict line ∷ [])
+evicts old new shared line there evicted e = record {
+  there = one_there old (Evict line) there;
+  harts = rw e refl;
+  lines = rw e evicted.steps.sizes.lines;
+  capacity = rw e evicted.steps.sizes.capacity;
   stands = λ c s.
       let d : Config = record c { common = record c.common { history = Evicted line ∷ c.common.history } } in (
         d,
         one_step c d (Evict line) refl,
-        record {
+        rw e (record {
           harts = s.harts;
-          shared = record { memory = s.shared.memory; replays = s.shared.replays; reserved = s.shared.reserved; trace = s.shared.trace };
+          shared = evicted_shows old.shared shared line c.common evicted s.shared;
           copies = s.copies;
-        },
+        }),
       );
 }
+
+-- a machine whose cache is as it was
+same_sizes : (cache : PmView) → SameSizes cache cache
+same_sizes cache = record { harts = refl; capacity = refl; lines = refl }
 
 -- the step of a running hart
 running_steps : (c d : Config) (h : ℕ) (s : HartState) (status : Status) → status ≡ Running
@@ -79,15 +87,16 @@ abbrev pub with_state : MachineView → ℕ → HartState → MachineView
 with_state m h s = record m { harts = slice_set m.harts h s }
 
 executes : (old new : MachineView) (h : ℕ) (s after : HartState) → slice_get old.harts h ≡ Some s → s.status ≡ Running
-    → new.harts ≡ slice_set old.harts h after → length new.shared.lines ≡ length old.shared.lines
+    → new.harts ≡ slice_set old.harts h after → SameSizes old.shared.cache new.shared.cache
     → ((c : Config) → Stands old c → (d : Config) × Executes c h s (fetched (copy_of old h) s.pc) d × Stands new d)
     → Runs old new (Hart h ∷ [])
-executes old new h s after there running harts lines makes =
+executes old new h s after there running harts sizes makes =
     let inside : h < length old.harts = slice_get_within old.harts h s there in
     record {
       there = one_there old (Hart h) inside;
       harts = ap (λ (l : List HartState). length l) harts ∙ simp length-set;
-      lines = lines;
+      lines = sizes.lines;
+      capacity = sizes.capacity;
       stands = λ c stands.
           let made = makes c stands in
           let there_too : slice_get c.harts h ≡ Some s = rw (← stands.harts) there in
@@ -102,7 +111,7 @@ copies_kept m c h k after stands inside = stands.copies k (simp length-set at in
 -- the three ways of a step
 pub goes_on_alone : (old new : MachineView) (h : ℕ) (s after : HartState) → slice_get old.harts h ≡ Some s → s.status ≡ Running
     → Needs s (fetched (copy_of old h) s.pc) (Local after) → new ≡ with_state old h after → Runs old new (Hart h ∷ [])
-goes_on_alone old new h s after there running needs e = executes old new h s after there running (rw e refl) (rw e refl) (λ c stands. (
+goes_on_alone old new h s after there running needs e = executes old new h s after there running (rw e refl) (rw e (same_sizes old.shared.cache)) (λ c stands. (
   with_hart c h after,
   (Local after, needs, refl),
   record {
@@ -115,7 +124,7 @@ goes_on_alone old new h s after there running needs e = executes old new h s aft
 pub traps : (old new : MachineView) (h : ℕ) (s after : HartState) (trap : Trap) → slice_get old.harts h ≡ Some s → s.status ≡ Running
     → Needs s (fetched (copy_of old h) s.pc) (Stop trap) → after ≡ record s { status = Trapped trap } → new ≡ with_state old h after
     → Runs old new (Hart h ∷ [])
-traps old new h s after trap there running needs stopped e = executes old new h s after there running (rw e refl) (rw e refl) (λ c stands. (
+traps old new h s after trap there running needs stopped e = executes old new h s after there running (rw e refl) (rw e (same_sizes old.shared.cache)) (λ c stands. (
   with_hart c h (record s { status = Trapped trap }),
   (Stop trap, needs, refl),
   record {
@@ -125,31 +134,13 @@ traps old new h s after trap there running needs stopped e = executes old new h 
   },
 ))
 
--- the reply to a request is the one that the definition gives
-pub reply_stands : (shared : SharedView) (h : ℕ) (request : Request) (c : Common) → h < 8 → Shows shared c
-    → reply_to shared h request ≡ reply_after c h request
-reply_stands shared h request c few shows =
-    rw (shows.memory, held_as shared c.history h few shows.reserved) refl
-
--- what is shared after a request shows what the definition makes of it
-served_shows : (old new : SharedView) (h : ℕ) (request : Request) (reply : Reply) (c : Common) → h < 8
-    → Serves old new h request reply → Shows old c → Shows new (asked c h request)
-served_shows old new h request reply c few serves shows =
-    let same : reply ≡ reply_after c h request = serves.reply ∙ reply_stands old h request c few shows in
-    record {
-      memory = serves.memory ∙ rw (same, shows.memory) refl;
-      replays = ap (λ (memory : Memory). memory_after memory request (reply_after c h request)) shows.replays;
-      reserved = rw same at (serves.reserved _ shows.reserved);
-      trace = serves.trace ∙ rw (same, shows.trace) refl;
-    }
-
 pub goes_on_answered : (old new : MachineView) (shared : SharedView) (h : ℕ) (s after : HartState) (request : Request)
     → h < 8 → length old.copies ≡ length old.harts → slice_get old.harts h ≡ Some s → s.status ≡ Running
     → Needs s (fetched (copy_of old h) s.pc) (Ask request) → Answers old.shared shared h s (fetched (copy_of old h) s.pc) request after
     → new ≡ record { harts = slice_set old.harts h after; copies = copies_after old.copies h request shared.ram.text; shared = shared }
     → Runs old new (Hart h ∷ [])
 goes_on_answered old new shared h s after request few each there running needs a e =
-    executes old new h s after there running (rw e refl) (rw e a.serves.lines) (λ c stands.
+    executes old new h s after there running (rw e refl) (rw e a.serves.steps.sizes) (λ c stands.
     let i : Instr = a.instruction in
     let reply : Reply = reply_after c.common h request in
     let told : after ≡ answered s i reply =
@@ -157,7 +148,7 @@ goes_on_answered old new shared h s after request few each there running needs a
     let shows : Shows shared (asked c.common h request) = served_shows old.shared shared h request a.reply c.common few a.serves stands.shared in
     let inside : h < length old.copies = rw each (slice_get_within old.harts h s there) in
     let now : text_bytes shared.ram.text ≡ text_of (replayed c.common.initial (Asked h request reply ∷ c.common.history)) =
-    text_there shared.ram (line_bytes shared.lines) ∙ ap (λ (memory : Memory). text_of memory) (shows.memory ∙ shows.replays) in (
+    text_there shared.ram (line_bytes (lines_shown shared)) ∙ ap (λ (memory : Memory). text_of memory) (shows.memory ∙ shows.replays) in (
       after_request c h s i request,
       (Ask request, needs, (i, a.spelled, refl)),
       record {

@@ -17,11 +17,11 @@ use Rattle.machine.specs.Stands.{IsThere, MachineView, Runs}
 use Rattle.machine.specs.declared.fault.RunStop.{RunStop}
 use Rattle.machine.specs.Stops.{StopsAfter, StopsAt, has_stopped, is_stopped}
 use Rattle.machine.specs.Refusals.{Refuses}
-use Rattle.machine.specs.declared.fault.StepFault.{StepFault}
+use Rattle.shared_memory.specs.declared.fault.StepFault.{StepFault}
 
 -- no step changes nothing
 pub runs_none : (m : MachineView) → Runs m m []
-runs_none m = record { there = All-nil (IsThere m); harts = refl; lines = refl; stands = λ c s. (c, refl, s) }
+runs_none m = record { there = All-nil (IsThere m); harts = refl; lines = refl; capacity = refl; stands = λ c s. (c, refl, s) }
 
 joined : (xs ys : List Step) (c d e : Config) → RunsTo c xs d → RunsTo d ys e → RunsTo c (xs ++ ys) e
 joined [] ys c d e a b = rw (← a) b
@@ -29,12 +29,12 @@ joined (x ∷ xs) ys c d e a b = (a.0, a.1, joined xs ys a.0 d e a.2 b)
 
 -- what is there later was there before
 there_before : (old middle : MachineView) (step : Step) → length middle.harts ≡ length old.harts
-    → length middle.shared.lines ≡ length old.shared.lines → IsThere middle step → IsThere old step
+    → length middle.shared.cache.lines ≡ length old.shared.cache.lines → IsThere middle step → IsThere old step
 there_before old middle (Hart h) harts lines there = rw harts at there
 there_before old middle (Evict line) harts lines there = rw lines at there
 
 all_before : (old middle : MachineView) (steps : List Step) → length middle.harts ≡ length old.harts
-    → length middle.shared.lines ≡ length old.shared.lines → All (IsThere middle) steps → All (IsThere old) steps
+    → length middle.shared.cache.lines ≡ length old.shared.cache.lines → All (IsThere middle) steps → All (IsThere old) steps
 all_before old middle steps harts lines there k d inside = there_before old middle _ harts lines (there k d inside)
 
 -- steps after steps
@@ -43,6 +43,7 @@ runs_more old middle new xs ys a b = record {
   there = All-append (IsThere old) xs ys a.there (all_before old middle ys a.harts a.lines b.there);
   harts = b.harts ∙ a.harts;
   lines = b.lines ∙ a.lines;
+  capacity = b.capacity ∙ a.capacity;
   stands = λ c s.
       let first = a.stands c s in
       let then = b.stands first.0 first.2 in
@@ -74,6 +75,7 @@ stopped_runs m h n e = record {
   there = All-replicate (IsThere m) n (Hart h) (stopped_is_there m.harts h e);
   harts = refl;
   lines = refl;
+  capacity = refl;
   stands = λ c s. (c, all_rest c h n (rw (← s.harts) e), s);
 }
 

@@ -1,8 +1,8 @@
-pub mod Faults
-pub mod Histories
+pub mod Evicting
 pub mod Outcomes
+pub mod Recorded
+pub mod Recorders
 pub mod Refusals
-pub mod Served
 pub mod Run
 pub mod Stands
 pub mod Stops

@@ -5,10 +5,8 @@ use Rattle.std.specs.Prelude.{◌≡◌, ℕ, ◌+◌, ◌&&◌, List, [], ◌�
 use Rattle.std.specs.List.{range_with_len}
 use Rattle.isa_table.specs.Table.{Spells}
 use Rattle.isa_table.specs.declared.instruction.Instr.{Instr}
-use Rattle.line_memory.specs.Lines.{line_bytes}
 use Rattle.line_memory.specs.Memory.{Memory, loaded_from}
-use Rattle.line_memory.specs.Regions.{ram_bytes, flat, padded}
-use Rattle.line_memory.specs.declared.TheConstants.{TEXT_BASE, TEXT_SIZE, DATA_SIZE}
+use Rattle.line_memory.specs.declared.TheConstants.{TEXT_BASE, TEXT_SIZE}
 use Rattle.object.specs.Sections.{Sections}
 use Rattle.hart.specs.declared.state.HartState.{HartState}
 use Rattle.hart.specs.declared.state.Status.{Status}
@@ -18,32 +16,22 @@ use Rattle.hart.specs.declared.need.Need.TheVariants.{Local, Ask, Stop}
 use Rattle.hart.specs.declared.need.Request.{Request}
 use Rattle.hart.specs.Effect.{answered, start}
 use Rattle.hart.specs.Needs.{Needs}
-use Rattle.machine.specs.declared.history.Entry.TheVariants.{Evicted}
+use Rattle.shared_memory.specs.declared.history.Entry.TheVariants.{Evicted}
 use Rattle.schedule.specs.declared.items.Step.{Step}
 use Rattle.schedule.specs.declared.items.Step.TheVariants.{Hart, Evict}
-use Rattle.machine.specs.Histories.{copied}
-use Rattle.machine.specs.Served.{Common, asked, reply_after}
+use Rattle.shared_memory.specs.Histories.{copied}
+use Rattle.shared_memory.specs.Served.{Common, asked, common_at_start, reply_after}
 
 -- all that a run changes: the harts, by their number, and what they share
 pub record Config : Type 0 where
   pub harts : List HartState
   pub common : Common
 
--- the flat memory of a program's sections and the lines of a medium
-abbrev pub starting_memory : Sections → List (List ℕ) → Memory
-starting_memory program lines =
-    flat (ram_bytes (record { text = padded program.text TEXT_SIZE; bytes = padded program.static_data DATA_SIZE })) (line_bytes lines)
-
 -- the start of a number of harts over a program's sections and the lines of a medium
 abbrev pub started : Sections → List (List ℕ) → ℕ → Config
 started program lines harts = record {
   harts = map start (range_with_len 0 harts);
-  common = record {
-    initial = starting_memory program lines;
-    memory = starting_memory program lines;
-    history = [];
-    trace = [];
-  };
+  common = common_at_start program lines;
 }
 
 -- the word of a text at an address, None where it doesn't lie in the text region

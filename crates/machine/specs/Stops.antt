@@ -4,7 +4,7 @@ use Rattle.hart.specs.declared.state.HartState.{HartState}
 use Rattle.hart.specs.declared.state.Status.{Status}
 use Rattle.hart.specs.declared.state.Status.TheVariants.{Running, Exited, Trapped}
 use Rattle.machine.specs.declared.fault.RunStop.{RunStop}
-use Rattle.machine.specs.declared.fault.StepFault.{StepFault}
+use Rattle.shared_memory.specs.declared.fault.StepFault.{StepFault}
 use Rattle.schedule.specs.declared.items.Item.{Item}
 use Rattle.schedule.specs.declared.items.Step.{Step}
 use Rattle.machine.specs.Refusals.{RefusesNext}

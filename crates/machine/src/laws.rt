@@ -1,13 +1,16 @@
 //! The laws of runs, each as the contract of a function with an empty body: a caller has the law as what that
 //! call ensures.
 
+ghost use Rattle.machine.specs.Evicting.{AreAlike};
+ghost use Rattle.machine.specs.Recorded.{hart_steps};
 ghost use Rattle.machine.specs.Refusals.{Refuses};
 ghost use Rattle.machine.specs.Run.{Config, RunsTo, StepsTo};
 ghost use Rattle.machine.specs.Outcomes.{MakesEvent};
 ghost use Rattle.machine.specs.Stands.{MachineView, Stands};
-ghost use Rattle.machine.specs.declared.fault.StepFault.{StepFault};
+ghost use Rattle.shared_memory.specs.declared.fault.StepFault.{StepFault};
 ghost use Rattle.schedule.specs.declared.items.Step.{Step};
-ghost use Rattle.std.specs.Prelude.{◌≡◌, ◌+◌, ◌≤◌, List, length};
+ghost use Rattle.store_trace.specs.declared.event.Event.{Event};
+ghost use Rattle.std.specs.Prelude.{◌≡◌, ◌+◌, ◌≤◌, ◌++◌, List, length};
 
 /// From one configuration a step, and a list of steps, comes to one configuration.
 #[tactic(auto, using(crate::proofs::Determined::steps_once, crate::proofs::Determined::runs_once))]
@@ -28,4 +31,30 @@ pub fn refusal_is_determined()
 pub fn event_is_longer()
     ensures { (machine : MachineView) (step : Step) (c : Config) → length machine.harts ≤ 8 → Stands machine c →
         MakesEvent machine step → (d : Config) × StepsTo c step d × (length d.common.trace ≡ length c.common.trace + 1) }
+{}
+
+/// A run of steps after steps is a run of the first and then of the others.
+#[tactic(auto, using(crate::proofs::RunParts::run_joined, crate::proofs::RunParts::run_parted))]
+pub fn run_has_parts()
+    ensures joined { (c d e : Config) (first others : List Step) →
+        RunsTo c first d → RunsTo d others e → RunsTo c (first ++ others) e }
+    ensures parted { (c e : Config) (first others : List Step) →
+        RunsTo c (first ++ others) e → (d : Config) × RunsTo c first d × RunsTo d others e }
+{}
+
+/// A trace only grows, by one event a step at most.
+#[tactic(auto, using(crate::proofs::RunParts::step_grows, crate::proofs::RunParts::run_grows))]
+pub fn trace_grows()
+    ensures step { (c d : Config) (step : Step) → StepsTo c step d →
+        length d.common.trace ≤ length c.common.trace + 1 }
+    ensures run { (c d : Config) (steps : List Step) → RunsTo c steps d →
+        (more : List Event) × (d.common.trace ≡ c.common.trace ++ more) }
+{}
+
+/// Evictions change nothing but the history: from configurations that differ in evictions alone, the same hart steps
+/// with any evictions between them come to configurations that differ in evictions alone.
+#[tactic(auto, using(crate::proofs::Evicting::runs_alike))]
+pub fn evictions_change_nothing_else()
+    ensures { (c d e : Config) (steps others : List Step) → AreAlike c d → hart_steps steps ≡ hart_steps others →
+        RunsTo c steps e → (f : Config) × RunsTo d others f × AreAlike e f }
 {}

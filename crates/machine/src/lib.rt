@@ -2,19 +2,21 @@
 #![tactic(auto)]
 
 mod fault;
-mod history;
 mod laws;
 mod machine;
+mod recording;
 mod running;
-mod shared;
 mod text_copy;
 
-pub use fault::{RunStop, StepFault};
-pub use history::Entry;
-pub use laws::{event_is_longer, refusal_is_determined, run_is_determined};
+pub use fault::RunStop;
+pub use laws::{
+    event_is_longer, evictions_change_nothing_else, refusal_is_determined, run_has_parts,
+    run_is_determined, trace_grows,
+};
 pub use machine::{Machine, Outcome};
+pub use recording::{Recorded, record};
 pub use schedule::{Item, Schedule, Step};
-pub use shared::Shared;
+pub use shared_memory::{Entry, Shared, StepFault};
 
 #[cfg(test)]
 mod tests;

@@ -1,24 +1,30 @@
 //! A machine of one to eight harts, and one step of it.
 
-ghost use Rattle.std.specs.Prelude.{◌≡◌, ◌+◌, ◌<◌, ◌≤◌, ◌↔◌, ◌⊎◌, [], ◌∷◌, Some, length, slice_get, slice_set, map, IfOk, IfErr, OnOk, OnErr, All};
+ghost use Rattle.std.specs.Prelude.{◌≡◌, ◌+◌, ◌<◌, ◌≤◌, ◌↔◌, ◌⊎◌, ℕ, List, [], ◌∷◌, Some, length, slice_get, slice_set, map, IfOk, IfErr, OnOk, OnErr, All};
+ghost use Rattle.crash_model.specs.Cut.{IsCutImage};
+ghost use Rattle.crash_model.specs.Image.{image};
+ghost use Rattle.crash_model.specs.WrittenBack.{back};
+ghost use Rattle.store_trace.specs.History.{history};
+ghost use Rattle.shared_memory.specs.Persisted.{AreAmong, persisted, touched};
 ghost use Rattle.hart.specs.Effect.{start};
 ghost use Rattle.hart.specs.Needs.{Needs};
 ghost use Rattle.hart.specs.Requests.{IsRequest};
 ghost use Rattle.std.specs.List.{range_with_len};
 ghost use Rattle.store_trace.specs.TraceView.{NamesLine};
 ghost use Rattle.machine.specs.Outcomes.{MakesEvent, outcome_after, outcome_of};
-ghost use Rattle.machine.specs.Refusals.{LacksHart, LacksLine, Refuses, RefusesRequest};
-ghost use Rattle.machine.specs.Run.{fetched as fetched_from, started};
-ghost use Rattle.machine.specs.Stands.{Answers, IsRunning, NeedsAt, Runs, Stands, copy_of, memory_of};
+ghost use Rattle.machine.specs.Refusals.{LacksHart, LacksLine, Refuses};
+ghost use Rattle.shared_memory.specs.Refusals.{RefusesRequest};
+ghost use Rattle.machine.specs.Run.{Config, fetched as fetched_from, started};
+ghost use Rattle.machine.specs.Stands.{Answers, IsRunning, NeedsAt, Runs, Stands, copy_of};
+ghost use Rattle.shared_memory.specs.SharedView.{Evicts, memory_of};
 
-use crate::fault::StepFault;
-use crate::shared::Shared;
 use crate::text_copy::{TextCopy, renew_after, starting_copies};
 use decode::decode;
 use hart::{HartState, Need, Request, Status, Trap, answer, next};
 use line_memory::Medium;
 use program::Program;
 use schedule::Step;
+use shared_memory::{Shared, StepFault};
 use std::alloc::Global;
 use std::marker::Model;
 use store_trace::{Event, Trace};
@@ -53,27 +59,33 @@ impl Model for Machine {
     ghost view = { λ m. record { harts = m.harts.items; copies = m.copies.items; shared = m.shared } };
 
     ghost invariant = { λ m. (length m.harts.items ≤ 8) × (length m.copies.items ≡ length m.harts.items)
-        × (length m.shared.trace ≤ 65536) × All (NamesLine (length m.shared.lines)) m.shared.trace };
+        × (length m.shared.trace ≤ 65536) × All (NamesLine (length m.shared.cache.lines)) m.shared.trace };
 }
 
 impl Machine {
-    /// A machine of one to eight harts, which begin at the base of the text of `program`, over `medium`.
+    /// A machine of one to eight harts, which begin at the base of the text of `program`, over `medium` behind an empty cache
+    /// of 1 to 16,384 lines. NoSuchHart comes before OutOfLimits.
     pub fn new(
         alloc: Global,
         program: Program,
         medium: Medium,
         harts: u32,
+        capacity: u32,
     ) -> Result<Machine, StepFault>
         ensures ok { IfOk result (λ machine. Stands machine (started program medium harts)) }
-        ensures lines { IfOk result (λ machine. machine.shared.lines ≡ medium) }
+        ensures lines { IfOk result (λ machine. machine.shared.cache.lines ≡ medium) }
+        ensures capacity { IfOk result (λ machine. machine.shared.cache.cache.capacity ≡ capacity) }
         ensures count { (result ≡ Err StepFault.NoSuchHart) ↔ ((harts < 1) ⊎ (8 < harts)) }
-        ensures err { IfErr result (λ fault. (fault ≡ StepFault.NoSuchHart) ⊎ (fault ≡ StepFault.Memory)) }
+        ensures limits { (result ≡ Err StepFault.OutOfLimits)
+            ↔ ((1 ≤ harts) × (harts ≤ 8) × ((capacity < 1) ⊎ (16384 < capacity))) }
+        ensures err { IfErr result (λ fault.
+            (fault ≡ StepFault.NoSuchHart) ⊎ (fault ≡ StepFault.OutOfLimits) ⊎ (fault ≡ StepFault.Memory)) }
     {
-        if harts < 1 || harts > 8 {
-            return Err(StepFault::NoSuchHart);
-        }
+        let shared = match Shared::new(alloc, &program, medium, harts, capacity) {
+            Ok(shared) => shared,
+            Err(fault) => return Err(fault),
+        };
         let states = starting_harts(alloc, harts)?;
-        let shared = Shared::new(alloc, &program, medium)?;
         let copies = starting_copies(alloc, harts, shared.text())?;
         Ok(Machine {
             harts: states,
@@ -88,7 +100,7 @@ impl Machine {
         ensures runs { OnOk result (Runs self.old self.new (step ∷ [])) }
         ensures event { OnOk result (MakesEvent self.old step → length self.new.shared.trace ≡ length self.old.shared.trace + 1) }
         ensures limit { length self.new.shared.trace ≤ 65536 }
-        ensures named { All (NamesLine (length self.new.shared.lines)) self.new.shared.trace }
+        ensures named { All (NamesLine (length self.new.shared.cache.lines)) self.new.shared.trace }
         ensures err { OnErr result (self.new ≡ self.old) }
         ensures refused { IfErr result (Refuses self.old step) }
         ensures no_hart { (result ≡ Err StepFault.NoSuchHart) ↔ LacksHart self.old step }
@@ -138,16 +150,24 @@ impl Machine {
     pub fn events(&self) -> &[Event]
         ensures value { result.now ≡ self.now.shared.trace }
         ensures limit { length self.now.shared.trace ≤ 65536 }
-        ensures named { All (NamesLine (length self.now.shared.lines)) self.now.shared.trace }
+        ensures named { All (NamesLine (length self.now.shared.cache.lines)) self.now.shared.trace }
     {
         self.shared.events()
     }
 
-    /// What a power cut leaves: the lines of persistent memory, beside the trace.
+    /// What a power cut leaves: the medium alone, without what is dirty in the cache, beside the trace.
     pub fn power_cut(self) -> (Medium, Trace)
-        ensures lines { result.0 ≡ self.shared.lines }
+        ensures lines { result.0 ≡ self.shared.cache.lines }
         ensures trace { result.1.events ≡ self.shared.trace }
         ensures named { All (NamesLine (length result.0)) result.1.events }
+
+        // every leaving is a cut
+        ensures cut { (c : Config) → Stands self c → IsCutImage c.common.start (history c.common.trace) result.0 }
+
+        // with room for all lines that were loaded or stored, the cut is what the steps of the run have written back
+        ensures written_back { (c : Config) (lines : List ℕ) → Stands self c → length lines ≤ self.shared.cache.cache.capacity →
+            AreAmong (touched c.common.history) lines →
+            result.0 ≡ image c.common.start (λ l. (back l (persisted c.common.history)).count) (history c.common.trace) }
     {
         let Machine { shared, .. } = self;
         shared.power_cut()
@@ -159,7 +179,7 @@ impl Machine {
         ensures runs { OnOk result (Runs self.old self.new (Step.Hart hart ∷ [])) }
         ensures event { OnOk result (MakesEvent self.old (Step.Hart hart) → length self.new.shared.trace ≡ length self.old.shared.trace + 1) }
         ensures limit { length self.new.shared.trace ≤ 65536 }
-        ensures named { All (NamesLine (length self.new.shared.lines)) self.new.shared.trace }
+        ensures named { All (NamesLine (length self.new.shared.cache.lines)) self.new.shared.trace }
         ensures err { OnErr result (self.new ≡ self.old) }
         ensures refused { IfErr result (Refuses self.old (Step.Hart hart)) }
     {
@@ -175,16 +195,16 @@ impl Machine {
 
     fn evict(&mut self, line: u32) -> Result<Outcome, StepFault>
         ensures ok { IfOk result (λ outcome. outcome ≡ Outcome.Done) }
-        ensures there { OnOk result (line < length self.old.shared.lines) }
+        ensures there { OnOk result (line < length self.old.shared.cache.lines) }
         ensures runs { OnOk result (Runs self.old self.new (Step.Evict line ∷ [])) }
         ensures event { OnOk result (MakesEvent self.old (Step.Evict line) → length self.new.shared.trace ≡ length self.old.shared.trace + 1) }
         ensures limit { length self.new.shared.trace ≤ 65536 }
-        ensures named { All (NamesLine (length self.new.shared.lines)) self.new.shared.trace }
+        ensures named { All (NamesLine (length self.new.shared.cache.lines)) self.new.shared.trace }
         ensures err { OnErr result (self.new ≡ self.old) }
         ensures refused { IfErr result (Refuses self.old (Step.Evict line)) }
     {
-        if line >= self.shared.lines() {
-            return Err(StepFault::NoSuchLine);
+        if let Err(fault) = evict_line(&mut self.shared, line) {
+            return Err(fault);
         }
         Ok(Outcome::Done)
     }
@@ -197,7 +217,7 @@ impl Machine {
         ensures runs { OnOk result (Runs self.old self.new (Step.Hart hart ∷ [])) }
         ensures event { OnOk result (MakesEvent self.old (Step.Hart hart) → length self.new.shared.trace ≡ length self.old.shared.trace + 1) }
         ensures limit { length self.new.shared.trace ≤ 65536 }
-        ensures named { All (NamesLine (length self.new.shared.lines)) self.new.shared.trace }
+        ensures named { All (NamesLine (length self.new.shared.cache.lines)) self.new.shared.trace }
         ensures err { OnErr result (self.new ≡ self.old) }
         ensures refused { IfErr result (Refuses self.old (Step.Hart hart)) }
     {
@@ -219,7 +239,7 @@ impl Machine {
         ensures replaced { self.new ≡ record self.old { harts = slice_set self.old.harts hart after } }
         ensures outcome { result ≡ outcome_of after.status }
         ensures limit { length self.new.shared.trace ≤ 65536 }
-        ensures named { All (NamesLine (length self.new.shared.lines)) self.new.shared.trace }
+        ensures named { All (NamesLine (length self.new.shared.cache.lines)) self.new.shared.trace }
     {
         let outcome = outcome_of(after.status);
         let harts = &mut self.harts;
@@ -238,7 +258,7 @@ impl Machine {
 }
 
 /// Has a request served, and gives the hart that is told the reply.
-#[tactic(auto, using(crate::proofs::Naming::served_named))]
+#[tactic(auto, using(shared_memory::proofs::Naming::served_named))]
 fn ask(
     shared: &mut Shared,
     hart: u32,
@@ -249,10 +269,10 @@ fn ask(
     requires hart { hart < 8 }
     requires width { IsRequest request }
     requires needs { Needs state.now fetched (Need.Ask request) }
-    requires named { All (NamesLine (length shared.old.lines)) shared.old.trace }
+    requires named { All (NamesLine (length shared.old.cache.lines)) shared.old.trace }
     ensures ok { IfOk result (λ after. Answers shared.old shared.new hart state.now fetched request after) }
     ensures limit { length shared.new.trace ≤ 65536 }
-    ensures named { All (NamesLine (length shared.new.lines)) shared.new.trace }
+    ensures named { All (NamesLine (length shared.new.cache.lines)) shared.new.trace }
     ensures err { OnErr result (shared.new ≡ shared.old) }
     ensures refused { IfErr result (RefusesRequest shared.old hart request) }
 {
@@ -262,6 +282,22 @@ fn ask(
     };
     let reply = shared.request(hart, request)?;
     Ok(answer(state, instr, reply))
+}
+
+#[tactic(auto, using(shared_memory::proofs::Naming::evicted_named))]
+fn evict_line(shared: &mut Shared, line: u32) -> Result<(), StepFault>
+    requires named { All (NamesLine (length shared.old.cache.lines)) shared.old.trace }
+    ensures ok { OnOk result (Evicts shared.old shared.new line) }
+    ensures there { OnOk result (line < length shared.old.cache.lines) }
+    ensures limit { length shared.new.trace ≤ 65536 }
+    ensures named { All (NamesLine (length shared.new.cache.lines)) shared.new.trace }
+    ensures err { OnErr result (shared.new ≡ shared.old) }
+    ensures no_line { IfErr result (λ fault. (fault ≡ StepFault.NoSuchLine) × (length shared.old.cache.lines ≤ line)) }
+{
+    match shared.evict(line) {
+        Ok(()) => Ok(()),
+        Err(fault) => Err(fault),
+    }
 }
 
 fn starting_harts(alloc: Global, harts: u32) -> Result<Vec<HartState>, StepFault>

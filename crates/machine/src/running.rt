@@ -5,10 +5,11 @@ ghost use Rattle.schedule.specs.Steps.{all_steps, steps_of};
 ghost use Rattle.machine.specs.Stands.{Runs};
 ghost use Rattle.machine.specs.Stops.{StopsAfter, StopsAt, is_stopped};
 
-use crate::fault::{RunStop, StepFault};
+use crate::fault::RunStop;
 use crate::machine::Machine;
 use hart::Status;
 use schedule::{Item, Schedule, Step};
+use shared_memory::StepFault;
 
 /// A step of an item that was refused, after as many as `steps` says.
 #[derive(Clone, Copy)]

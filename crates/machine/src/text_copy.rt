@@ -6,10 +6,10 @@ ghost use Rattle.machine.specs.Run.{fetched};
 ghost use Rattle.machine.specs.Stands.{copies_after, text_bytes};
 ghost use Rattle.word_bits.specs.Bytes.{loaded};
 
-use crate::fault::StepFault;
 use byteorder::{ByteOrder, LittleEndian};
 use hart::Request;
 use line_memory::{TEXT_BASE, TEXT_SIZE};
+use shared_memory::StepFault;
 use std::alloc::Global;
 use std::marker::Model;
 

@@ -1,2 +1,10 @@
+pub mod Agreement
+pub mod Chains
+pub mod Entries
+pub mod Journals
 pub mod Lines
+pub mod Questions
+pub mod Superblocks
 pub mod Volumes
+pub mod Walks
+pub mod Wholes

@@ -1,6 +1,6 @@
 -- The two layouts. A page is 4 KB of entries and a link line; pages stand from byte 16384 on.
 -- Source: NOVA, FAST 2016: logs of linked 4 KB pages.
-use Rattle.std.specs.Prelude.{ℕ, ◌+◌, ◌*◌, ◌≤◌, codes}
+use Rattle.std.specs.Prelude.{ℕ, ◌+◌, ◌*◌, ◌<◌, ◌≤◌, codes}
 use Rattle.nova_log.specs.declared.layout.Layout.{Layout}
 use Rattle.nova_log.specs.declared.layout.Layout.TheVariants.{One, Two}
 use Rattle.nova_log.specs.declared.layout.Shape.{Shape}
@@ -25,3 +25,10 @@ pub record AreCounts (inodes pages journals lines : ℕ) : Type 0 where
   pub least_lines : 512 ≤ lines
   pub most_lines : lines ≤ 16384
   pub room : page_at pages ≤ 64 * lines
+
+-- what both layouts have of a page: lines of an entry size that isn't zero, within 4 KB
+pub record IsShape (shape : Shape) : Type 0 where
+  pub some_bytes : 1 ≤ shape.entry_size
+  pub link : shape.entry_size * shape.page_entries + 64 ≤ 4096
+  pub entry : (k : ℕ) → k < shape.page_entries → shape.entry_size * k + 128 ≤ 4096
+  pub name : shape.longest_name ≤ 96

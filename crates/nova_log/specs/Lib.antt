@@ -1,3 +1,12 @@
+pub mod Chains
+pub mod Entries
 pub mod Fresh
+pub mod Inodes
+pub mod Journals
 pub mod Layouts
 pub mod Numbers
+pub mod Questions
+pub mod Sources
+pub mod Superblocks
+pub mod Volumes
+pub mod Walks

@@ -1,14 +1,25 @@
-//! Log volumes on persistent memory, in a layout after the inode logs of NOVA, and how a new one is made.
+//! Log volumes on persistent memory, in a layout after the inode logs of NOVA: how a new one is made, and how one is read.
 //!
 //! Source: NOVA (FAST 2016): a log for each inode, linked from 4 KB pages, and small journals for operations on several inodes.
 #![tactic(auto)]
 
 pub use fault::VolumeFault;
+pub use laws::{asked_lines_decide, chains_are_walks};
 pub use layout::{Layout, Shape};
 pub use make::mkfs;
+pub use recovery::{recover, recover_from};
+pub use source::{LineSource, MediumLines};
 
+mod chain;
+mod entry;
 mod fault;
+mod inode;
+mod journal;
+mod laws;
 mod layout;
 mod make;
+mod recovery;
+mod source;
+mod superblock;
 #[cfg(test)]
 mod tests;

@@ -1,3 +1,4 @@
+pub mod Growing
 pub mod JoinedLemmas
 pub mod OneReading
 pub mod RunLemmas

@@ -1,6 +1,7 @@
 //! The items of a schedule.
 
 ghost use Rattle.std.specs.Prelude.{◌≡◌, [], ◌∷◌, ◌++◌, OnOk, OnErr};
+ghost use Rattle.schedule.specs.Steps.{all_steps};
 
 use std::alloc::{AllocError, Global};
 use std::marker::Model;
@@ -55,6 +56,26 @@ impl Schedule {
     {
         self.items.push(item)?;
         Ok(())
+    }
+
+    /// Adds one step of a hart at the end, to the last item where that is steps of this hart. A refused growth leaves the
+    /// schedule as it was.
+    #[tactic(auto, using(crate::proofs::Growing::one_more, crate::proofs::Growing::one_first))]
+    pub fn push_step(&mut self, hart: u32) -> Result<(), AllocError>
+        ensures ok { OnOk result (all_steps self.new ≡ all_steps self.old ++ Step.Hart hart ∷ []) }
+        ensures err { OnErr result (self.new ≡ self.old) }
+    {
+        match self.items.last().copied() {
+            Some(Item::Steps { hart: last, count }) if last == hart && count < u32::MAX => {
+                let end = self.items.len() - 1;
+                self.items[end] = Item::Steps {
+                    hart,
+                    count: count + 1,
+                };
+                Ok(())
+            }
+            _ => self.push(Item::Steps { hart, count: 1 }),
+        }
     }
 
     /// The items, in order.

@@ -9,7 +9,7 @@ use Rattle.machine.specs.Stands.{MachineView, Runs, Stands}
 use Rattle.object.specs.Sections.{Sections}
 use Rattle.machine.specs.Stops.{StopsAt, steps_before, steps_of_item}
 use Rattle.machine.specs.declared.fault.RunStop.{RunStop}
-use Rattle.machine.specs.declared.fault.StepFault.TheVariants.{Memory as NoMemory}
+use Rattle.shared_memory.specs.declared.fault.StepFault.TheVariants.{Memory as NoMemory}
 use Rattle.schedule.specs.declared.items.Item.{Item}
 use Rattle.schedule.specs.declared.items.Item.TheVariants as items
 use Rattle.schedule.specs.declared.items.Step.{Step}

@@ -7,8 +7,8 @@ use Rattle.machine.specs.Refusals.{RefusesNext}
 use Rattle.machine.specs.Run.{Config, RunsTo, started}
 use Rattle.machine.specs.Stands.{MachineView, Stands}
 use Rattle.machine.specs.Stops.{steps_before, steps_of_item}
-use Rattle.machine.specs.declared.fault.StepFault.{StepFault}
-use Rattle.machine.specs.declared.fault.StepFault.TheVariants.{Memory as NoMemory}
+use Rattle.shared_memory.specs.declared.fault.StepFault.{StepFault}
+use Rattle.shared_memory.specs.declared.fault.StepFault.TheVariants.{Memory as NoMemory}
 use Rattle.object.specs.Sections.{Sections}
 use Rattle.schedule.specs.Steps.{all_steps}
 use Rattle.schedule.specs.declared.items.Item.{Item}

@@ -6,8 +6,8 @@ use Rattle.line_memory.specs.Lines.{zero_lines}
 use Rattle.machine.specs.Refusals.{Refuses}
 use Rattle.machine.specs.Run.{Config, RunsTo, started}
 use Rattle.machine.specs.Stands.{MachineView, Stands}
-use Rattle.machine.specs.declared.fault.StepFault.{StepFault}
-use Rattle.machine.specs.declared.fault.StepFault.TheVariants.{Memory as NoMemory}
+use Rattle.shared_memory.specs.declared.fault.StepFault.{StepFault}
+use Rattle.shared_memory.specs.declared.fault.StepFault.TheVariants.{Memory as NoMemory}
 use Rattle.schedule.specs.declared.items.Step.TheVariants.{Hart}
 use Rattle.object.specs.ObjectFile.{IsObjectFile, magic, IsFirstFault as IsFirstFileFault}
 use Rattle.object.specs.Sections.{Sections}

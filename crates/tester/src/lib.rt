@@ -149,7 +149,7 @@ fn start(alloc: Global, program: Program) -> Result<Machine, ProgramFault>
     let Ok(medium) = Medium::zero(alloc, DEFAULT_LINES) else {
         return Err(ProgramFault::Memory);
     };
-    match Machine::new(alloc, program, medium, 1) {
+    match Machine::new(alloc, program, medium, 1, DEFAULT_LINES) {
         Ok(machine) => Ok(machine),
         Err(_) => Err(ProgramFault::Memory),
     }

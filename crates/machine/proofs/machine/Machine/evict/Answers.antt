@@ -1,10 +1,10 @@
-use Rattle.std.proofs.Common.{◌<◌, length, ap, arith}
+use Rattle.std.proofs.Common.{ap, refl}
 use Rattle.machine.specs.Stands.{MachineView}
 use Rattle.machine.proofs.Stepping.{evicts}
 use Rattle.machine.proofs.machine.Machine.evict.Goals as goal
 
 pub returns-clause-runs : goal.returns-clause-runs
 returns-clause-runs c =
-    let same = ap (λ (m : MachineView). length m.shared.lines) c.self.view_is in
-    let there : c.args.line < length c.args.self.now.shared.lines = omega arith in
-    evicts c.args.self.now c.args.line there
+    let shared = ap (λ (m : MachineView). m.shared) c.self.view_is in
+    evicts c.args.self.now _ c.evict_line.new.shared c.args.line (rw shared at c.in_default.ensures.there)
+    (rw shared at c.in_default.ensures.ok) (rw (← c.self.view_is) refl)

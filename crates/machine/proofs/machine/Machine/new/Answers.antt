@@ -1,18 +1,19 @@
 use Rattle.std.proofs.Common.{◌<◌, ap, ◌∙◌}
 use Rattle.line_memory.specs.Lines.{line_bytes}
 use Rattle.line_memory.specs.Memory.{Memory}
-use Rattle.machine.specs.Histories.{text_of}
+use Rattle.shared_memory.specs.Histories.{text_of}
+use Rattle.shared_memory.specs.SharedView.{lines_shown}
 use Rattle.machine.proofs.Copying.{copies_at_start, text_there}
 use Rattle.machine.proofs.machine.Machine.new.Goals as goal
 
 pub returns-clause-ok : goal.returns-clause-ok
 returns-clause-ok c =
-    let shared = c.in_ok-shared.shared in
-    let shows = c.in_ok-shared.ensures.ok c.args.harts in record {
+    let shared = c.in-Ok.shared in
+    let shows = c.in-Ok.ensures.ok in record {
       harts = c.in_ok-states.ensures.ok;
       shared = shows;
       copies = λ h inside.
           let few : h < c.args.harts = rw c.in_ok-states.ensures.count at inside in
-          let same = text_there shared.ram (line_bytes shared.lines) ∙ ap (λ (memory : Memory). text_of memory) shows.memory in
+          let same = text_there shared.ram (line_bytes (lines_shown shared)) ∙ ap (λ (memory : Memory). text_of memory) shows.memory in
           rw (c.in_ok-copies.ensures.ok, c.text.ensures.value) (copies_at_start shared.ram.text _ c.args.harts h few same);
     }

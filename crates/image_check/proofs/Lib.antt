@@ -1,0 +1,12 @@
+mod Apart
+mod Faulting
+mod Growing
+mod Judging
+mod Looping
+mod Marking
+mod Members
+mod Passing
+mod Planning
+mod Refusing
+mod Sharing
+mod Weighing

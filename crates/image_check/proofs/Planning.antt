@@ -1,0 +1,99 @@
+-- The inodes of an operation's one or two entries, and whether the plan has an operation.
+use Rattle.std.proofs.Common.{◌≡◌, ◌⊎◌, ℕ, ◌+◌, ◌<◌, Bool, true, false, cond, inl, inr, List, [], ◌∷◌, map, length, get_or, drop, refl, sym, ap, ◌∙◌, subst, Some, None, ◌↔◌, eqb-true, eq-eqb}
+use Rattle.std.specs.Prelude.{◌==◌}
+use Rattle.std.specs.List.{Contains}
+use Rattle.std.proofs.lemmas.Bool.{cases_Bool}
+use Rattle.std.proofs.lemmas.List.{drop_more}
+use Rattle.plan.specs.declared.operation.Operation.{Operation}
+use Rattle.volume.specs.declared.entry.Entry.{Entry}
+use Rattle.image_check.specs.OrderFaults.{IsPlanned}
+use Rattle.image_check.specs.Planned.{operation_of}
+use Rattle.image_check.proofs.Members.{contains_cases, contains_first, contains_later, no_members}
+
+abbrev inodes : List (ℕ × Entry) → List ℕ
+inodes es = map (λ e. e.0) es
+
+-- the inodes of one entry
+pub one_inode : (es : List (ℕ × Entry)) (first : ℕ × Entry) (inode : ℕ) → es ≡ first ∷ [] → Contains (map (λ e. e.0) es) inode ↔ (first.0 ≡ inode)
+one_inode es first inode e = (
+  λ c. elim (contains_cases first.0 [] inode (subst (λ (xs : List (ℕ × Entry)). Contains (inodes xs) inode) e c)) [ inl s ↦ s | inr z ↦ absurd (no_members inode z) ],
+  λ s. subst (λ (xs : List (ℕ × Entry)). Contains (inodes xs) inode) (sym e) (contains_first first.0 [] inode s),
+)
+
+-- the inodes of two entries
+pub two_inodes : (es : List (ℕ × Entry)) (first second : ℕ × Entry) (inode : ℕ) → es ≡ first ∷ second ∷ [] →
+    Contains (map (λ e. e.0) es) inode ↔ ((first.0 ≡ inode) ⊎ (second.0 ≡ inode))
+two_inodes es first second inode e = (
+  λ c. elim (contains_cases first.0 (second.0 ∷ []) inode (subst (λ (xs : List (ℕ × Entry)). Contains (inodes xs) inode) e c)) [
+    | inl s ↦ inl s
+    | inr d ↦ elim (contains_cases second.0 [] inode d) [ inl s ↦ inr s | inr z ↦ absurd (no_members inode z) ]
+  ],
+  λ s. subst (λ (xs : List (ℕ × Entry)). Contains (inodes xs) inode) (sym e) (elim s [
+    | inl a ↦ contains_first first.0 (second.0 ∷ []) inode a
+    | inr b ↦ contains_later first.0 (second.0 ∷ []) inode (contains_first second.0 [] inode b)
+  ]),
+)
+
+some_none : (o : Operation) → ¬ (Some o ≡ None)
+some_none o s = absurd cc
+
+false_true : ¬ (false ≡ true)
+false_true s = absurd cc
+
+-- the plan has an operation of a number exactly where one is found
+pub found_planned : (plan : List Operation) (op : ℕ) (operation : Operation) → operation_of plan op ≡ Some operation → IsPlanned plan op
+found_planned [] op operation e = absurd cc
+found_planned (o ∷ plan) op operation e = elim (cases_Bool (o.number == op)) [
+  | inl t ↦ contains_first o.number (map (λ o. o.number) plan) op (eqb-true o.number op t)
+  | inr f ↦ contains_later o.number (map (λ o. o.number) plan) op (found_planned plan op operation (sym (ap (λ (b : Bool). cond b (Some o) (operation_of plan op)) f) ∙ e))
+]
+
+pub lost_unplanned : (plan : List Operation) (op : ℕ) → operation_of plan op ≡ None → ¬ IsPlanned plan op
+lost_unplanned [] op e c = no_members op c
+lost_unplanned (o ∷ plan) op e c = elim (cases_Bool (o.number == op)) [
+  | inl t ↦ absurd (some_none o (sym (ap (λ (b : Bool). cond b (Some o) (operation_of plan op)) t) ∙ e))
+  | inr f ↦ elim (contains_cases o.number (map (λ o. o.number) plan) op c) [
+    | inl s ↦ absurd (false_true (sym f ∙ eq-eqb o.number op s))
+    | inr d ↦ lost_unplanned plan op (sym (ap (λ (b : Bool). cond b (Some o) (operation_of plan op)) f) ∙ e) d
+  ]
+]
+
+-- an inode of one list of entries that is an inode of another
+pub share_one : (es os : List (ℕ × Entry)) (first : ℕ × Entry) → es ≡ first ∷ [] →
+    ((inode : ℕ) × Contains (map (λ e. e.0) es) inode × Contains (map (λ e. e.0) os) inode) ↔ Contains (map (λ e. e.0) os) first.0
+share_one es os first e = (
+  λ s. subst (λ (i : ℕ). Contains (inodes os) i) (sym ((one_inode es first s.0 e).0 s.1)) s.2,
+  λ c. (first.0, (one_inode es first first.0 e).1 refl, c),
+)
+
+pub share_two : (es os : List (ℕ × Entry)) (first second : ℕ × Entry) → es ≡ first ∷ second ∷ [] →
+    ((inode : ℕ) × Contains (map (λ e. e.0) es) inode × Contains (map (λ e. e.0) os) inode)
+    ↔ (Contains (map (λ e. e.0) os) first.0 ⊎ Contains (map (λ e. e.0) os) second.0)
+share_two es os first second e = (
+  λ s. elim ((two_inodes es first second s.0 e).0 s.1) [
+    | inl a ↦ inl (subst (λ (i : ℕ). Contains (inodes os) i) (sym a) s.2)
+    | inr b ↦ inr (subst (λ (i : ℕ). Contains (inodes os) i) (sym b) s.2)
+  ],
+  λ c. elim c [
+    | inl a ↦ (first.0, (two_inodes es first second first.0 e).1 (inl refl), a)
+    | inr b ↦ (second.0, (two_inodes es first second second.0 e).1 (inr refl), b)
+  ],
+)
+
+-- the search for an operation, one further
+pub found_here : (plan : List Operation) (op i : ℕ) (d : Operation) → i < length plan → operation_of plan op ≡ operation_of (drop i plan) op →
+    (get_or plan i d).number ≡ op → operation_of plan op ≡ Some (get_or plan i d)
+found_here plan op i d h e n =
+    e
+    ∙ ap (λ (os : List Operation). operation_of os op) (drop_more plan i d h)
+    ∙ ap (λ (b : Bool). cond b (Some (get_or plan i d)) (operation_of (drop (i + 1) plan) op)) (eq-eqb (get_or plan i d).number op n)
+
+unequal : (a b : ℕ) → ¬ (a ≡ b) → (a == b) ≡ false
+unequal a b n = elim (cases_Bool (a == b)) [ inl t ↦ absurd (n (eqb-true a b t)) | inr f ↦ f ]
+
+pub found_later : (plan : List Operation) (op i : ℕ) (d : Operation) → i < length plan → operation_of plan op ≡ operation_of (drop i plan) op →
+    ¬ ((get_or plan i d).number ≡ op) → operation_of plan op ≡ operation_of (drop (i + 1) plan) op
+found_later plan op i d h e n =
+    e
+    ∙ ap (λ (os : List Operation). operation_of os op) (drop_more plan i d h)
+    ∙ ap (λ (b : Bool). cond b (Some (get_or plan i d)) (operation_of (drop (i + 1) plan) op)) (unequal (get_or plan i d).number op n)

@@ -1,0 +1,27 @@
+use Rattle.std.proofs.Common.{◌≡◌, ℕ, List, Option, Some, sym, subst, true≢false}
+use Rattle.std.specs.Prelude.{filter}
+use Rattle.std.specs.List.{flat_map}
+use Rattle.std.specs.Result.{result_ok}
+use Rattle.volume.specs.declared.entry.Entry.{Entry}
+use Rattle.image_check.specs.Growth.{AreOutcomes, is_shown}
+use Rattle.image_check.specs.Legal.{with_entries}
+use Rattle.image_check.specs.Planned.{planned}
+use Rattle.image_check.proofs.Judging.{compared_legal, none_legal}
+use Rattle.image_check.proofs.legal.Outcomes.has.Goals as goal
+
+pub returns-in_default : goal.returns-in_default
+returns-in_default c = λ start events o a. (
+  λ f. absurd (true≢false (sym f)),
+  λ l. absurd (none_legal c.args.plan.now.operations start events c.args.volume.now c.args.self.now.under_way.items
+      (subst (λ (s : Option (List (List Entry))). AreOutcomes c.args.plan.now.operations (result_ok start) events s c.args.self.now.under_way.items) c.in_default.is o) l),
+)
+
+pub returns : goal.returns
+returns c = λ start events o a.
+    compared_legal c.args.plan.now.operations start events c.in-Some.settled c.args.volume.now c.in_ok-expected.expected c.args.self.now.under_way.items c.equals.result
+    (subst (λ (s : Option (List (List Entry))). AreOutcomes c.args.plan.now.operations (result_ok start) events s c.args.self.now.under_way.items) c.in-Some.is o)
+    a
+    (subst (λ (ops : List ℕ). with_entries c.in-Some.settled (flat_map (planned c.args.plan.now.operations)
+    (filter (λ op. is_shown c.in-Some.settled c.args.volume.now (planned c.args.plan.now.operations op)) ops)) ≡ Some c.in_ok-expected.expected)
+    c.deref.ensures.value c.in_ok-expected.ensures)
+    c.equals.ensures

@@ -1,0 +1,20 @@
+use Rattle.std.proofs.Common.{◌≡◌, true≢false, List, take, sym, subst, ◌∙◌}
+use Rattle.std.proofs.lemmas.List.{take_all}
+use Rattle.std.specs.List.{Contains}
+use Rattle.store_trace.specs.declared.event.Event.{Event}
+use Rattle.image_check.specs.Marks.{begun}
+use Rattle.image_check.proofs.Marking.{no_more_begun}
+use Rattle.image_check.proofs.marks.has_begun.Goals as goal
+
+pub loop-event-preserved : goal.loop-event-preserved
+loop-event-preserved c =
+    no_more_begun c.args.events.now c.loop-event.event-index _ c.args.op c.loop-event-test.true c.loop-event.invariant
+    (λ e. true≢false (sym (c.begins.ensures.1 e) ∙ c.if-begins.false))
+
+pub returns : goal.returns
+returns c =
+    let whole : take c.loop-event.event-index c.args.events.now ≡ c.args.events.now =
+    take_all c.loop-event.event-index c.args.events.now c.loop-event-test.false in (
+      λ f. absurd (true≢false (sym f)),
+      λ m. absurd (c.loop-event.invariant (subst (λ (es : List Event). Contains (begun es) c.args.op) (sym whole) m)),
+    )

@@ -1,0 +1,7 @@
+use Rattle.std.proofs.Common.{take}
+use Rattle.std.specs.List.{Contains}
+use Rattle.image_check.specs.Marks.{ended}
+use Rattle.image_check.proofs.marks.has_ended.Given as goal
+
+abbrev pub invariant-loop-event : goal.invariant-loop-event
+invariant-loop-event l = ¬ Contains (ended (take l.event-index l.events)) l.op

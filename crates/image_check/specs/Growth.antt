@@ -1,0 +1,36 @@
+-- How a volume grows by entries, and which operations a volume shows.
+-- Source: NOVA, FAST 2016: logs grow at their ends alone, so a log tells by its length what was appended.
+use Rattle.std.specs.Prelude.{◌≡◌, ℕ, ◌&&◌, nat_lt, Bool, false, List, [], ◌∷◌, length, Option, option_and_then}
+use Rattle.std.specs.List.{Contains, flat_map, list_all}
+use Rattle.plan.specs.declared.operation.Operation.{Operation}
+use Rattle.store_trace.specs.declared.event.Event.{Event}
+use Rattle.volume.specs.Logs.{log_of}
+use Rattle.volume.specs.declared.entry.Entry.{Entry}
+use Rattle.image_check.specs.Legal.{with_entries}
+use Rattle.image_check.specs.Marks.{ended, pending}
+use Rattle.image_check.specs.OrderFaults.{ShareInode}
+use Rattle.image_check.specs.Planned.{planned}
+
+-- a volume of so many inodes has the inode of each entry
+abbrev pub are_within : ℕ → List (ℕ × Entry) → Bool
+are_within inodes es = list_all (λ e. nat_lt e.0 inodes) es
+
+-- the log of the first entry's inode is longer than it was
+abbrev pub is_longer : List (List Entry) → List (List Entry) → List (ℕ × Entry) → Bool
+is_longer before after [] = false
+is_longer before after (e ∷ es) = nat_lt (length (log_of before e.0)) (length (log_of after e.0))
+
+-- the volume before has an inode for each of these entries, and there is something new in the first one's log
+abbrev pub is_shown : List (List Entry) → List (List Entry) → List (ℕ × Entry) → Bool
+is_shown before after es = are_within (length before) es && is_longer before after es
+
+-- two pending operations don't share an inode
+abbrev pub AreApart : List Operation → List Event → Type 0
+AreApart plan events = (one other : ℕ) → Contains (pending events) one → Contains (pending events) other →
+    ¬ (one ≡ other) → ¬ ShareInode plan one other
+
+-- the starting volume with the entries of the ended operations, and the pending operations
+pub record AreOutcomes (plan : List Operation) (start : Option (List (List Entry))) (events : List Event)
+    (settled : Option (List (List Entry))) (under_way : List ℕ) : Type 0 where
+  pub settled_is : settled ≡ option_and_then (λ before. with_entries before (flat_map (planned plan) (ended events))) start
+  pub under_way_is : under_way ≡ pending events

@@ -1,0 +1,22 @@
+//! The verdict over crash images: whether every state that a power cut may leave recovers to a legal volume.
+//!
+//! Source: Vinter, USENIX ATC 2022: crash images are made from a trace, and the state that recovery shows in
+//! each is judged.
+#![tactic(auto)]
+
+pub use fault::{CheckFault, OpFault};
+pub use moment::check_moment;
+pub use order::check_trace;
+pub use run::check_run;
+pub use verdict::{Cause, MomentVerdict, Verdict};
+
+mod fault;
+mod legal;
+mod marks;
+mod moment;
+mod operations;
+mod order;
+mod run;
+#[cfg(test)]
+mod tests;
+mod verdict;

@@ -1,0 +1,76 @@
+//! The marks of operations among events.
+
+ghost use Rattle.image_check.specs.Marks.{begun, begun_by, ended, ended_by};
+ghost use Rattle.std.specs.List.{Contains};
+ghost use Rattle.std.specs.Prelude.{◌≡◌, ◌↔◌, IsTrue};
+
+use store_trace::Event;
+
+/// Whether the operation begins in one of the events.
+#[tactic(auto, using(crate::proofs::Marking::begun_here, crate::proofs::Marking::none_begun))]
+pub fn has_begun(events: &[Event], op: u64) -> bool
+    ensures { IsTrue result ↔ Contains (begun events.now) op }
+{
+    for event in events {
+        if begins(*event, op) {
+            return true;
+        }
+    }
+    false
+}
+
+/// Whether the operation ends in one of the events.
+#[tactic(auto, using(crate::proofs::Marking::ended_here, crate::proofs::Marking::none_ended))]
+pub fn has_ended(events: &[Event], op: u64) -> bool
+    ensures { IsTrue result ↔ Contains (ended events.now) op }
+{
+    for event in events {
+        if ends(*event, op) {
+            return true;
+        }
+    }
+    false
+}
+
+/// Whether this hart begins the operation in one of the events.
+#[tactic(auto, using(crate::proofs::Marking::event_here, crate::proofs::Marking::no_events, crate::proofs::Marking::no_more_events))]
+pub fn has_begun_by(events: &[Event], hart: u32, op: u64) -> bool
+    ensures { IsTrue result ↔ Contains events.now (Event.Begin hart op) }
+{
+    for event in events {
+        if begins_by(*event, hart, op) {
+            return true;
+        }
+    }
+    false
+}
+
+fn begins(event: Event, op: u64) -> bool
+    ensures { IsTrue result ↔ (begun_by event ≡ Some op) }
+{
+    match event {
+        Event::Begin { op: begun, .. } => begun == op,
+        _ => false,
+    }
+}
+
+fn ends(event: Event, op: u64) -> bool
+    ensures { IsTrue result ↔ (ended_by event ≡ Some op) }
+{
+    match event {
+        Event::End { op: ended, .. } => ended == op,
+        _ => false,
+    }
+}
+
+fn begins_by(event: Event, hart: u32, op: u64) -> bool
+    ensures { IsTrue result ↔ (event ≡ Event.Begin hart op) }
+{
+    match event {
+        Event::Begin {
+            hart: beginner,
+            op: begun,
+        } => beginner == hart && begun == op,
+        _ => false,
+    }
+}

@@ -1,0 +1,99 @@
+//! The operations of a plan, and what they append.
+
+ghost use Rattle.image_check.specs.Growth.{are_within, is_shown};
+ghost use Rattle.image_check.specs.Legal.{with_entries};
+ghost use Rattle.image_check.specs.Planned.{operation_of};
+ghost use Rattle.plan.specs.Entries.{entries_of};
+ghost use Rattle.volume.specs.Logs.{log_of};
+ghost use Rattle.std.specs.List.{Contains};
+ghost use Rattle.std.specs.Prelude.{◌≡◌, ◌↔◌, ℕ, length, map, IsTrue, OnOk};
+
+use plan::{Operation, Plan};
+use std::alloc::AllocError;
+use volume::Volume;
+
+/// The planned operation of this number.
+#[tactic(auto, using(crate::proofs::Planning::found_here, crate::proofs::Planning::found_later))]
+pub fn find_operation(plan: &Plan, op: u64) -> Option<Operation>
+    ensures { result ≡ operation_of plan.now.operations op }
+{
+    let operations = plan.operations();
+    for operation in operations {
+        if operation.number == op {
+            return Some(*operation);
+        }
+    }
+    None
+}
+
+/// Whether two operations add to one inode.
+#[tactic(auto, using(crate::proofs::Planning::share_one, crate::proofs::Planning::share_two))]
+pub fn share_inode(one: &Operation, other: &Operation) -> bool
+    ensures { IsTrue result ↔ ((inode : ℕ)
+        × Contains (map (λ e. e.0) (entries_of one.now)) inode
+        × Contains (map (λ e. e.0) (entries_of other.now)) inode) }
+{
+    let (first, second) = one.entries();
+    match second {
+        Some((inode, _)) => adds_to(other, first.0) || adds_to(other, inode),
+        None => adds_to(other, first.0),
+    }
+}
+
+#[tactic(auto, using(crate::proofs::Planning::one_inode, crate::proofs::Planning::two_inodes))]
+fn adds_to(operation: &Operation, inode: u32) -> bool
+    ensures { IsTrue result ↔ Contains (map (λ e. e.0) (entries_of operation.now)) inode }
+{
+    let (first, second) = operation.entries();
+    match second {
+        Some((other, _)) => first.0 == inode || other == inode,
+        None => first.0 == inode,
+    }
+}
+
+/// Whether the volume has the inodes of the operation.
+pub fn fits(volume: &Volume, operation: &Operation) -> bool
+    ensures { result ≡ are_within (length volume.now) (entries_of operation.now) }
+{
+    let inodes = volume.inodes();
+    let (first, second) = operation.entries();
+    match second {
+        Some((inode, _)) => first.0 < inodes && inode < inodes,
+        None => first.0 < inodes,
+    }
+}
+
+/// Adds the entries of the operation. Where memory is refused, the first of them may have been added.
+#[tactic(auto, using(crate::proofs::Growing::first_within, crate::proofs::Growing::second_within, crate::proofs::Growing::one_grown, crate::proofs::Growing::two_grown))]
+pub fn append(volume: &mut Volume, operation: &Operation) -> Result<(), AllocError>
+    requires { IsTrue (are_within (length volume.old) (entries_of operation.now)) }
+    ensures { OnOk result (with_entries volume.old (entries_of operation.now) ≡ Some volume.new) }
+{
+    let (first, second) = operation.entries();
+    volume.append(first.0, first.1)?;
+    match second {
+        Some((inode, entry)) => volume.append(inode, entry),
+        None => Ok(()),
+    }
+}
+
+/// Whether the second volume shows the operation: whether its first inode has more entries than in the first volume,
+/// which has the operation's inodes.
+#[tactic(auto, using(crate::proofs::Growing::shown_first))]
+pub fn shows(before: &Volume, after: &Volume, operation: &Operation) -> bool
+    ensures { result ≡ is_shown before.now after.now (entries_of operation.now) }
+{
+    let (first, _) = operation.entries();
+    fits(before, operation) && log_length(before, first.0) < log_length(after, first.0)
+}
+
+/// How many entries the inode's log has, none where the volume lacks the inode.
+fn log_length(volume: &Volume, inode: u32) -> usize
+    ensures { result ≡ length (log_of volume.now inode) }
+{
+    if inode < volume.inodes() {
+        volume.log(inode).len()
+    } else {
+        0
+    }
+}

@@ -1,0 +1,107 @@
+//! The marks of operations in a trace, looked at in turn.
+
+ghost use Rattle.image_check.specs.Marks.{pending};
+ghost use Rattle.image_check.specs.OrderFaults.{AreSound, HasFault, IsFirstFault, IsLowestFault, OpensSharer, ShareInode};
+ghost use Rattle.image_check.specs.Planned.{operation_of};
+ghost use Rattle.image_check.specs.declared.fault.OpFault.{OpFault as AFault};
+ghost use Rattle.std.specs.List.{Contains};
+ghost use Rattle.std.specs.Prelude.{◌≡◌, ◌↔◌, ℕ, length, IfErr, IsTrue, OnOk};
+
+use crate::OpFault;
+use crate::marks::{has_begun, has_begun_by, has_ended};
+use crate::operations::{find_operation, share_inode};
+use plan::{Operation, Plan};
+use store_trace::{Event, Trace};
+
+/// Whether the marks of the trace fit the plan and each other. Else it answers the first event at fault by its lowest
+/// fault. It takes no memory, and looks back over the trace at each mark.
+#[tactic(auto, using(crate::proofs::Faulting::sound_more, crate::proofs::Faulting::first_fault))]
+pub fn check_trace(plan: &Plan, trace: &Trace) -> Result<(), OpFault>
+    ensures ok { OnOk result (AreSound plan.now.operations trace.now.events (length trace.now.events)) }
+    ensures err { IfErr result (λ fault. IsFirstFault plan.now.operations trace.now.events fault) }
+{
+    let events = trace.events();
+    for at in 0..events.len() {
+        check_event(plan, &events[..at], events[at])?;
+    }
+    Ok(())
+}
+
+/// Whether the event fits the plan and the events before it.
+#[tactic(auto, using(crate::proofs::Faulting::store_faultless, crate::proofs::Faulting::clean_faultless, crate::proofs::Faulting::fence_faultless))]
+fn check_event(plan: &Plan, before: &[Event], event: Event) -> Result<(), OpFault>
+    ensures ok { OnOk result ((fault : AFault) → ¬ HasFault plan.now.operations before.now event fault) }
+    ensures err { IfErr result (λ fault. IsLowestFault plan.now.operations before.now event fault) }
+{
+    match event {
+        Event::Begin { hart, op } => check_begin(plan, before, hart, op),
+        Event::End { hart, op } => check_end(plan, before, hart, op),
+        Event::Store { .. } | Event::Clean { .. } | Event::Fence { .. } => Ok(()),
+    }
+}
+
+#[tactic(auto, using(crate::proofs::Planning::found_planned, crate::proofs::Planning::lost_unplanned, crate::proofs::Faulting::begin_unknown, crate::proofs::Faulting::begin_twice, crate::proofs::Faulting::begin_sharing, crate::proofs::Faulting::begin_faultless))]
+fn check_begin(plan: &Plan, before: &[Event], _hart: u32, op: u64) -> Result<(), OpFault>
+    ensures ok { OnOk result ((fault : AFault) → ¬ HasFault plan.now.operations before.now (Event.Begin _hart op) fault) }
+    ensures err { IfErr result (λ fault. IsLowestFault plan.now.operations before.now (Event.Begin _hart op) fault) }
+{
+    let Some(operation) = find_operation(plan, op) else {
+        return Err(OpFault::Unknown);
+    };
+    if has_begun(before, op) {
+        return Err(OpFault::BegunTwice);
+    }
+    if shares_pending(plan, before, op, &operation) {
+        return Err(OpFault::SharesInode);
+    }
+    Ok(())
+}
+
+#[tactic(auto, using(crate::proofs::Planning::found_planned, crate::proofs::Planning::lost_unplanned, crate::proofs::Faulting::end_unknown, crate::proofs::Faulting::end_unbegun, crate::proofs::Faulting::end_ended, crate::proofs::Faulting::end_faultless))]
+fn check_end(plan: &Plan, before: &[Event], hart: u32, op: u64) -> Result<(), OpFault>
+    ensures ok { OnOk result ((fault : AFault) → ¬ HasFault plan.now.operations before.now (Event.End hart op) fault) }
+    ensures err { IfErr result (λ fault. IsLowestFault plan.now.operations before.now (Event.End hart op) fault) }
+{
+    if find_operation(plan, op).is_none() {
+        return Err(OpFault::Unknown);
+    }
+    if !has_begun_by(before, hart, op) {
+        return Err(OpFault::NotPending);
+    }
+    if has_ended(before, op) {
+        return Err(OpFault::NotPending);
+    }
+    Ok(())
+}
+
+/// Whether an operation that is pending after the events adds to an inode of this one.
+#[tactic(auto, using(crate::proofs::Sharing::shared_here, crate::proofs::Sharing::all_shared))]
+fn shares_pending(plan: &Plan, before: &[Event], op: u64, operation: &Operation) -> bool
+    requires { operation_of plan.now.operations op ≡ Some operation.now }
+    ensures { IsTrue result ↔ ((other : ℕ) × Contains (pending before.now) other × ShareInode plan.now.operations other op) }
+{
+    for event in before {
+        if opens_sharer(plan, before, *event, op, operation) {
+            return true;
+        }
+    }
+    false
+}
+
+/// Whether the event begins an operation that doesn't end, and that adds to an inode of this one.
+#[tactic(auto, using(crate::proofs::Sharing::sharer_shares, crate::proofs::Sharing::shares_sharer, crate::proofs::Sharing::ended_shares_not, crate::proofs::Sharing::other_shares_not, crate::proofs::Sharing::unplanned_shares_not))]
+fn opens_sharer(plan: &Plan, events: &[Event], event: Event, op: u64, operation: &Operation) -> bool
+    requires { operation_of plan.now.operations op ≡ Some operation.now }
+    ensures { IsTrue result ↔ OpensSharer plan.now.operations events.now event op }
+{
+    let Event::Begin { op: other, .. } = event else {
+        return false;
+    };
+    if has_ended(events, other) {
+        return false;
+    }
+    match find_operation(plan, other) {
+        Some(other) => share_inode(&other, operation),
+        None => false,
+    }
+}

@@ -1,0 +1,48 @@
+//! Verdicts on a moment and on a run.
+
+use nova_log::VolumeFault;
+use thiserror::Error;
+
+/// Why an image is bad. It prints as the code of the fault, or as `illegal`.
+#[derive(Clone, Copy, Debug, PartialEq, Eq, Error)]
+pub enum Cause {
+    /// Recovery finds this fault in it.
+    #[error("{0}")]
+    Fault(VolumeFault),
+    /// It recovers to a volume that isn't legal.
+    #[error("illegal")]
+    Illegal,
+}
+
+/// The verdict on one moment.
+#[derive(Clone, Copy, Debug, PartialEq, Eq)]
+pub enum MomentVerdict {
+    /// Every image recovers to a legal volume.
+    Pass,
+    /// The image of this number is the least bad one.
+    Fail { image: u32, cause: Cause },
+    /// There are over 65,536 cuts, and no image was looked at.
+    TooMany,
+}
+
+/// The verdict on all moments of a run.
+#[derive(Clone, Copy, Debug, PartialEq, Eq)]
+pub enum Verdict {
+    /// Every moment passes.
+    Pass {
+        /// The number of moments: one more than there are events.
+        moments: u64,
+        /// The sum of the numbers of images of all moments.
+        images: u64,
+    },
+    /// This moment is the least that doesn't pass, and this image its least bad one.
+    Fail {
+        moment: u32,
+        image: u32,
+        cause: Cause,
+    },
+    /// This moment is the least that doesn't pass, and it has over 65,536 cuts.
+    TooMany {
+        moment: u32,
+    },
+}

@@ -1,0 +1,22 @@
+-- Runs that differ in their evictions alone.
+use Rattle.std.specs.Prelude.{◌≡◌, List, Bool, true, false, filter}
+use Rattle.shared_memory.specs.declared.history.Entry.{Entry}
+use Rattle.shared_memory.specs.declared.history.Entry.TheVariants.{Asked, Evicted}
+use Rattle.machine.specs.Run.{Config}
+
+-- the requests of a history, without its evictions
+abbrev pub is_asked : Entry → Bool
+is_asked (Asked h request reply) = true
+is_asked (Evicted line) = false
+
+abbrev pub requests : List Entry → List Entry
+requests history = filter is_asked history
+
+-- two configurations are one but for the evictions of their histories
+pub record AreAlike (c d : Config) : Type 0 where
+  pub harts : c.harts ≡ d.harts
+  pub start : c.common.start ≡ d.common.start
+  pub initial : c.common.initial ≡ d.common.initial
+  pub memory : c.common.memory ≡ d.common.memory
+  pub trace : c.common.trace ≡ d.common.trace
+  pub requests : requests c.common.history ≡ requests d.common.history

@@ -1,0 +1,26 @@
+//! What holds of recovery over all media: laws, with nothing to run.
+
+ghost use Rattle.std.specs.Prelude.{◌≡◌, ℕ, ◌+◌, ◌≤◌, List, None, length};
+ghost use Rattle.std.specs.List.{AllByRecursion};
+ghost use Rattle.line_memory.specs.Lines.{line_at};
+ghost use Rattle.nova_log.specs.Chains.{chain, link_questions};
+ghost use Rattle.nova_log.specs.Questions.{first_fault};
+ghost use Rattle.nova_log.specs.Volumes.{asked_lines, volume_of};
+ghost use Rattle.nova_log.specs.Walks.{IsWalk};
+ghost use Rattle.nova_log.specs.declared.layout.Shape.{Shape};
+
+/// A medium that agrees with another on the lines which recovery asks of that one has its volume, and recovery asks the same
+/// lines of it.
+pub fn asked_lines_decide()
+    ensures { (lines other : List (List ℕ)) → length other ≡ length lines →
+        AllByRecursion (λ n. line_at other n ≡ line_at lines n) (asked_lines lines) →
+        (asked_lines other ≡ asked_lines lines) × (volume_of other ≡ volume_of lines) }
+{}
+
+/// The chain of a log whose links have no fault is a walk from the head to the tail, step by step, that enters at most so many
+/// pages, counting those that it enters again.
+pub fn chains_are_walks()
+    ensures { (shape : Shape) (pages : ℕ) (lines : List (List ℕ)) (tail more head : ℕ) → 1 ≤ shape.entry_size →
+        first_fault (link_questions shape pages lines tail (more + 1) head) ≡ None →
+        IsWalk shape pages lines tail more head 0 (chain shape lines tail (more + 1) head) }
+{}

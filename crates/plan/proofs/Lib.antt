@@ -1,0 +1,12 @@
+pub mod Beginnings
+pub mod Drafting
+pub mod FirstWords
+pub mod Headers
+pub mod Judgements
+pub mod Lining
+pub mod Numerals
+pub mod Reading
+pub mod Refusals
+pub mod Rules
+pub mod Unique
+pub mod Wordings

@@ -1,0 +1,21 @@
+-- The entries that an operation plans, each with the inode to whose log it goes.
+-- Source: NOVA, FAST 2016: an append goes to one inode's log, a rename to two.
+use Rattle.std.specs.Prelude.{ℕ, List, [], ◌∷◌}
+use Rattle.volume.specs.declared.entry.Entry.{Entry}
+use Rattle.volume.specs.declared.entry.EntryKind.{EntryKind}
+use Rattle.volume.specs.declared.entry.EntryKind.TheVariants as kind
+use Rattle.plan.specs.declared.operation.Action.{Action}
+use Rattle.plan.specs.declared.operation.Action.TheVariants.{Append, Rename}
+use Rattle.plan.specs.declared.operation.Operation.{Operation}
+
+abbrev pub entry : ℕ → EntryKind → List ℕ → ℕ → Entry
+entry operation kind name value = record { operation = operation; kind = kind; name = name; value = value }
+
+-- a value is written to an inode; a name goes away from one inode and comes to another
+abbrev pub entries_by : ℕ → Action → List (ℕ × Entry)
+entries_by number (Append inode value) = (inode, entry number kind.Write [] value) ∷ []
+entries_by number (Rename from to name value) =
+    (from, entry number kind.RemoveName name value) ∷ (to, entry number kind.AddName name value) ∷ []
+
+abbrev pub entries_of : Operation → List (ℕ × Entry)
+entries_of operation = entries_by operation.number operation.action

@@ -1,0 +1,19 @@
+//! Plans: which entries each operation of a run is to add to which logs, read from text.
+#![tactic(auto)]
+
+pub use fault::{PlanCode, PlanFault};
+pub use operation::{Action, Operation};
+pub use plan::Plan;
+
+mod draft;
+mod fault;
+mod judging;
+mod lines;
+mod numbers;
+mod operation;
+mod plan;
+mod reader;
+#[cfg(test)]
+mod tests;
+mod wording;
+mod words;

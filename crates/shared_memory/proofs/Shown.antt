@@ -1,0 +1,132 @@
+-- What is shared shows what the definition makes of each request and eviction, and what a power cut then leaves.
+use Rattle.std.proofs.Common.{◌≡◌, ℕ, ◌<◌, ◌≤◌, List, [], ◌∷◌, ◌++◌, length, true, eqb, refl, sym, ap, ◌∙◌, inl, inr, arith}
+use Rattle.std.proofs.lemmas.Bool.{cases_Bool}
+use Rattle.index_list.specs.Lists.{has}
+use Rattle.crash_model.specs.Cut.{IsCutImage}
+use Rattle.crash_model.specs.Image.{image}
+use Rattle.crash_model.specs.Schedule.{without_evictions}
+use Rattle.crash_model.specs.WrittenBack.{back}
+use Rattle.crash_model.specs.declared.step.PersistenceStep.{PersistenceStep}
+use Rattle.crash_model.proofs.Explained.{cut_image_without_evictions, image_without_evictions}
+use Rattle.clean_fence.specs.Rules.{PmView}
+use Rattle.clean_fence.specs.Stands.{Stands}
+use Rattle.line_memory.specs.Memory.{Memory}
+use Rattle.store_trace.specs.History.{history}
+use Rattle.store_trace.specs.declared.event.Event.{Event}
+use Rattle.hart.specs.declared.need.Reply.{Reply}
+use Rattle.hart.specs.declared.need.Request.{Request}
+use Rattle.shared_memory.specs.declared.history.Entry.TheVariants.{Evicted}
+use Rattle.shared_memory.specs.CacheSteps.{StandsEvicting}
+use Rattle.shared_memory.specs.Histories.{memory_after}
+use Rattle.shared_memory.specs.Persisted.{AreAmong, lines_used, persisted, touched}
+use Rattle.shared_memory.specs.Served.{Common, asked, events_of, reply_after}
+use Rattle.shared_memory.specs.SharedView.{Evicts, Serves, SharedView, Shows, reply_to}
+use Rattle.shared_memory.proofs.CacheCalls.{history_evicts_nothing, history_more, without_append}
+use Rattle.shared_memory.proofs.Reserving.{held_as}
+
+-- lines among others
+has_left : (x : ℕ) (xs ys : List ℕ) → has x xs ≡ true → has x (xs ++ ys) ≡ true
+has_left x [] ys h = absurd (cc)
+has_left x (y ∷ xs) ys h = elim (cases_Bool (eqb x y)) [
+  | inl e ↦ rw e refl
+  | inr e ↦ rw e (has_left x xs ys (rw e at h))
+]
+
+has_right : (x : ℕ) (xs ys : List ℕ) → has x ys ≡ true → has x (xs ++ ys) ≡ true
+has_right x [] ys h = h
+has_right x (y ∷ xs) ys h = elim (cases_Bool (eqb x y)) [
+  | inl e ↦ rw e refl
+  | inr e ↦ rw e (has_right x xs ys h)
+]
+
+among_left : (xs ys lines : List ℕ) → AreAmong (xs ++ ys) lines → AreAmong xs lines
+among_left xs ys lines among = record { each = λ x h. among.each x (has_left x xs ys h) }
+
+among_right : (xs ys lines : List ℕ) → AreAmong (xs ++ ys) lines → AreAmong ys lines
+among_right xs ys lines among = record { each = λ x h. among.each x (has_right x xs ys h) }
+
+-- the same steps by another name
+evicting_as : (start : List (List ℕ)) (p q : List PersistenceStep) (cache : PmView) → StandsEvicting start p cache → p ≡ q
+    → StandsEvicting start q cache
+evicting_as start p q cache s e = rw (← e) s
+
+-- the reply to a request is the one that the definition gives
+pub reply_stands : (shared : SharedView) (h : ℕ) (request : Request) (c : Common) → h < 8 → Shows shared c
+    → reply_to shared h request ≡ reply_after c h request
+reply_stands shared h request c few shows =
+    rw (shows.memory, held_as shared c.history h few shows.reserved) refl
+
+-- the steps of a request join those of the trace and of the history
+joined_steps : (events : List Event) (c : Common) → history c.trace ≡ without_evictions (persisted c.history)
+    → history (c.trace ++ events) ≡ without_evictions (history events ++ persisted c.history)
+joined_steps events c same =
+    history_more c.trace events
+    ∙ ap (λ (p : List PersistenceStep). history events ++ p) same
+    ∙ sym (without_append (history events) (persisted c.history)
+    ∙ ap (λ (p : List PersistenceStep). p ++ without_evictions (persisted c.history)) (history_evicts_nothing events))
+
+-- what is shared after a request shows what the definition makes of it
+served_as_told : (old new : SharedView) (h : ℕ) (request : Request) (c : Common)
+    → Serves old new h request (reply_after c h request) → Shows old c → Shows new (asked c h request)
+served_as_told old new h request c serves shows =
+    let reply : Reply = reply_after c h request in
+    let made : List Event = events_of h request (reply_after c h request) in
+    record {
+      memory = serves.memory ∙ ap (λ (m : Memory). memory_after m request (reply_after c h request)) shows.memory;
+      replays = ap (λ (m : Memory). memory_after m request (reply_after c h request)) shows.replays;
+      reserved = serves.reserved _ shows.reserved;
+      trace = serves.trace ∙ ap (λ (t : List Event). t ++ events_of h request (reply_after c h request)) shows.trace;
+      steps = joined_steps (events_of h request (reply_after c h request)) c shows.steps;
+      cached = evicting_as c.start _ _ new.cache (serves.steps.evicting c.start (history c.trace) shows.cached)
+          (ap (λ (p : List PersistenceStep). p ++ history c.trace) (history_evicts_nothing (events_of h request (reply_after c h request)))
+          ∙ sym (history_more c.trace (events_of h request (reply_after c h request))));
+      unforced = λ lines few among.
+          let capacity = serves.steps.sizes.capacity in
+          let room : length lines ≤ old.cache.cache.capacity = omega arith in
+          let before : AreAmong (touched c.history) lines =
+          among_right (lines_used request (reply_after c h request)) (touched c.history) lines among in
+          let now : AreAmong (lines_used request (reply_after c h request)) lines =
+          among_left (lines_used request (reply_after c h request)) (touched c.history) lines among in
+          serves.steps.unforced c.start lines (persisted c.history) (shows.unforced lines room before) now;
+    }
+
+pub served_shows : (old new : SharedView) (h : ℕ) (request : Request) (reply : Reply) (c : Common) → h < 8
+    → Serves old new h request reply → Shows old c → Shows new (asked c h request)
+served_shows old new h request reply c few serves shows =
+    let same : reply ≡ reply_after c h request = serves.reply ∙ reply_stands old h request c few shows in
+    served_as_told old new h request c (rw same at serves) shows
+
+-- and after an eviction
+pub evicted_shows : (old new : SharedView) (line : ℕ) (c : Common) → Evicts old new line → Shows old c
+    → Shows new (record c { history = Evicted line ∷ c.history })
+evicted_shows old new line c evicts shows = record {
+  memory = evicts.memory ∙ shows.memory;
+  replays = shows.replays;
+  reserved = rw evicts.reserved shows.reserved;
+  trace = evicts.trace ∙ shows.trace;
+  steps = shows.steps;
+  cached = evicts.steps.evicting c.start (history c.trace) shows.cached;
+  unforced = λ lines few among.
+      let capacity = evicts.steps.sizes.capacity in
+      let room : length lines ≤ old.cache.cache.capacity = omega arith in
+      evicts.steps.unforced c.start lines (persisted c.history) (shows.unforced lines room among) (among_left [] (touched c.history) lines among);
+}
+
+-- what a power cut leaves
+pub leaves_cut : (shared : SharedView) (medium : List (List ℕ))
+    → ((start : List (List ℕ)) (p : List PersistenceStep) → Stands start p shared.cache → IsCutImage start p medium)
+    → (c : Common) → Shows shared c → IsCutImage c.start (history c.trace) medium
+leaves_cut shared medium cut c shows =
+    rw shows.cached.others at
+    (cut_image_without_evictions c.start shows.cached.steps medium (cut c.start shows.cached.steps shows.cached.stands))
+
+pub leaves_written_back : (shared : SharedView) (medium : List (List ℕ))
+    → ((start : List (List ℕ)) (p : List PersistenceStep) → Stands start p shared.cache → medium ≡ image start (λ l. (back l p).count) p)
+    → (c : Common) (lines : List ℕ) → Shows shared c → length lines ≤ shared.cache.cache.capacity → AreAmong (touched c.history) lines
+    → medium ≡ image c.start (λ l. (back l (persisted c.history)).count) (history c.trace)
+leaves_written_back shared medium written c lines shows few among =
+    let p : List PersistenceStep = persisted c.history in
+    let stands = shows.unforced lines few among in
+    written c.start (persisted c.history) stands.stands
+    ∙ sym (image_without_evictions c.start (λ l. (back l (persisted c.history)).count) (persisted c.history))
+    ∙ ap (λ (q : List PersistenceStep). image c.start (λ l. (back l (persisted c.history)).count) q) (sym shows.steps)

@@ -1,0 +1,32 @@
+//! Why a step is refused.
+
+use store_trace::TraceFault;
+
+/// Why a step is refused. A refused step changes nothing.
+#[derive(Clone, Copy, Debug, PartialEq, Eq)]
+pub enum StepFault {
+    /// G1: there is no hart of this number, or not one to eight harts were asked for.
+    NoSuchHart,
+    /// G2: there is no line of this number.
+    NoSuchLine,
+    /// G4: the step would make an event, and the trace is full.
+    TraceFull,
+    /// G5: memory was refused.
+    Memory,
+    /// G6: a cache of no line, or of more than 16,384.
+    OutOfLimits,
+}
+
+impl From<TraceFault> for StepFault {
+    ghost use Rattle.shared_memory.specs.Faults.{step_fault};
+    ghost use Rattle.std.specs.Prelude.{◌≡◌};
+
+    ghost from_gives = { λ refused fault. fault ≡ step_fault refused };
+
+    fn from(refused: TraceFault) -> StepFault {
+        match refused {
+            TraceFault::Full => StepFault::TraceFull,
+            TraceFault::Memory => StepFault::Memory,
+        }
+    }
+}

@@ -1,0 +1,15 @@
+//! What the harts of a machine share: flat memory with a persistent part, reservations, and the trace of what is done to
+//! persistent memory.
+#![tactic(auto)]
+
+mod caching;
+mod fault;
+mod history;
+mod shared;
+
+pub use fault::StepFault;
+pub use history::Entry;
+pub use shared::Shared;
+
+#[cfg(test)]
+mod tests;

@@ -1,0 +1,670 @@
+//! What the harts of a machine share: its memory, behind a cache where it is persistent, and its trace. It serves their
+//! requests.
+
+ghost use Rattle.std.specs.Prelude.{◌≡◌, ◌↔◌, ◌⊎◌, ◌+◌, ◌*◌, ◌/◌, ◌%◌, ◌^◌, ◌<◌, ◌≤◌, ℕ, None, Some, List, [], ◌∷◌, ◌++◌, IfOk, IfErr, OnOk, OnErr, length};
+ghost use Rattle.crash_model.specs.Cut.{IsCutImage};
+ghost use Rattle.crash_model.specs.Image.{image};
+ghost use Rattle.crash_model.specs.WrittenBack.{back};
+ghost use Rattle.store_trace.specs.History.{history};
+ghost use Rattle.store_trace.specs.TraceView.{IsEvent};
+ghost use Rattle.line_memory.specs.Memory.{IsWidth, fault_of};
+ghost use Rattle.line_memory.specs.declared.TheConstants.{TEXT_SIZE};
+ghost use Rattle.hart.specs.Memory.{amo_result};
+ghost use Rattle.hart.specs.Requests.{IsAtomicWidth, IsRequest};
+ghost use Rattle.line_memory.specs.Lines.{AreLines};
+ghost use Rattle.shared_memory.specs.Persisted.{AreAmong, persisted, touched};
+ghost use Rattle.shared_memory.specs.Refusals.{IsEventFault, RefusesRequest, RefusesWrite};
+ghost use Rattle.shared_memory.specs.Served.{access_fault, store_event};
+ghost use Rattle.shared_memory.specs.SharedView.{Evicts, Finds, IsMark, IsPlaceIn, Reads, Serves, Writes, lines_shown, memory_of};
+
+use crate::caching;
+use crate::fault::StepFault;
+use clean_fence::PmCache;
+use hart::{AccessFault, Reply, Request, amo_result};
+use isa_table::{AtomicOp, CacheOp};
+use line_memory::{Medium, MemFault, PERSISTENT_BASE, Ram};
+use program::Program;
+use reservation::Reservations;
+use std::alloc::Global;
+use std::marker::Model;
+use store_trace::{Event, Trace};
+
+/// The most lines that a cache can have room for.
+const MAX_CAPACITY: u32 = 16_384;
+
+/// Text, data, persistent memory behind its cache, the harts' reservations, and the trace of what is done to persistent
+/// memory.
+#[derive(Drop)]
+pub struct Shared {
+    ram: Ram,
+    cache: PmCache,
+    reservations: Reservations,
+    trace: Trace,
+}
+
+impl Model for Shared {
+    ghost use Rattle.shared_memory.specs.CacheSteps.{IsReady};
+    ghost use Rattle.shared_memory.specs.SharedView.{SharedView, reserved_lines};
+    ghost use Rattle.std.specs.Prelude.{◌≤◌, length};
+
+    ghost Value = { SharedView };
+
+    ghost view = { λ s. record {
+      ram = s.ram;
+      cache = s.cache;
+      reserved = reserved_lines s.reservations 0 8;
+      trace = s.trace.events;
+    } };
+
+    ghost invariant = { λ s. (length s.trace.events ≤ 65536) × IsReady s.cache };
+}
+
+impl Shared {
+    ghost use Rattle.shared_memory.specs.Served.{Common, common_at_start};
+    ghost use Rattle.shared_memory.specs.SharedView.{Shows};
+
+    /// The memory at the start of a run of one to eight harts: a program's text and data, a medium behind an empty cache of
+    /// 1 to 16,384 lines, and an empty trace. NoSuchHart comes before OutOfLimits, and both before any memory is taken.
+    pub fn new(
+        alloc: Global,
+        program: &Program,
+        medium: Medium,
+        harts: u32,
+        capacity: u32,
+    ) -> Result<Shared, StepFault>
+        ensures ok { IfOk result (λ shared. Shows shared (common_at_start program.now medium)) }
+        ensures lines { IfOk result (λ shared. shared.cache.lines ≡ medium) }
+        ensures capacity { IfOk result (λ shared. shared.cache.cache.capacity ≡ capacity) }
+        ensures trace { IfOk result (λ shared. shared.trace ≡ []) }
+        ensures within { OnOk result ((1 ≤ harts) × (harts ≤ 8) × (1 ≤ capacity) × (capacity ≤ 16384)) }
+        ensures count { (result ≡ Err StepFault.NoSuchHart) ↔ ((harts < 1) ⊎ (8 < harts)) }
+        ensures limits { (result ≡ Err StepFault.OutOfLimits)
+            ↔ ((1 ≤ harts) × (harts ≤ 8) × ((capacity < 1) ⊎ (16384 < capacity))) }
+        ensures err { IfErr result (λ fault.
+            (fault ≡ StepFault.NoSuchHart) ⊎ (fault ≡ StepFault.OutOfLimits) ⊎ (fault ≡ StepFault.Memory)) }
+    {
+        if harts < 1 || harts > 8 {
+            return Err(StepFault::NoSuchHart);
+        }
+        if capacity < 1 || capacity > MAX_CAPACITY {
+            return Err(StepFault::OutOfLimits);
+        }
+        Shared::made(alloc, program, medium, capacity)
+    }
+
+    fn made(
+        alloc: Global,
+        program: &Program,
+        medium: Medium,
+        capacity: u32,
+    ) -> Result<Shared, StepFault>
+        requires { 1 ≤ capacity }
+        ensures ok { IfOk result (λ shared. Shows shared (common_at_start program.now medium)) }
+        ensures lines { IfOk result (λ shared. shared.cache.lines ≡ medium) }
+        ensures capacity { IfOk result (λ shared. shared.cache.cache.capacity ≡ capacity) }
+        ensures trace { IfOk result (λ shared. shared.trace ≡ []) }
+        ensures err { IfErr result (λ fault. fault ≡ StepFault.Memory) }
+    {
+        let ram = match Ram::from_bytes(alloc, program.text_bytes(), program.data_bytes()) {
+            Ok(ram) => ram,
+            Err(_) => return Err(StepFault::Memory),
+        };
+        let cache = match caching::start(alloc, medium, capacity) {
+            Ok(cache) => cache,
+            Err(fault) => return Err(fault),
+        };
+        Ok(Shared {
+            ram,
+            cache,
+            reservations: Reservations::new(),
+            trace: Trace::new(alloc),
+        })
+    }
+
+    /// Serves a request of a hart. A refused request changes nothing; memory is taken only for an event.
+    pub fn request(&mut self, hart: u32, request: Request) -> Result<Reply, StepFault>
+        requires hart { hart < 8 }
+        requires width { IsRequest request }
+        ensures ok { IfOk result (λ reply. Serves self.old self.new hart request reply) }
+        ensures limit { length self.new.trace ≤ 65536 }
+        ensures err { OnErr result (self.new ≡ self.old) }
+        ensures refused { IfErr result (RefusesRequest self.old hart request) }
+    {
+        match request {
+            Request::Load { address, width } => Ok(self.load(hart, address, width)),
+            Request::Store {
+                address,
+                width,
+                value,
+            } => self.store(hart, address, width, value),
+            Request::Lr { address, width } => Ok(self.load_reserved(hart, address, width)),
+            Request::Sc {
+                address,
+                width,
+                value,
+            } => self.store_conditional(hart, address, width, value),
+            Request::Amo {
+                op,
+                address,
+                width,
+                operand,
+            } => self.combine(hart, op, address, width, operand),
+            Request::FenceI => Ok(self.renew(hart)),
+            Request::Cbo { op, address } => self.cache_operation(hart, op, address),
+            Request::Fence => self.fence(hart),
+            Request::Begin { op } => self.mark(hart, request, Event::Begin { hart, op }),
+            Request::End { op } => self.mark(hart, request, Event::End { hart, op }),
+        }
+    }
+
+    /// A FENCE.I changes nothing here: who keeps the hart's copy of the text renews it.
+    fn renew(&self, hart: u32) -> Reply
+        ensures serves { Serves self.now self.now hart Request.FenceI result }
+        ensures limit { length self.now.trace ≤ 65536 }
+    {
+        let _ = &self.trace;
+        Reply::Done
+    }
+
+    fn load(&mut self, hart: u32, address: u64, width: u32) -> Reply
+        requires width { IsWidth width }
+        ensures serves { Serves self.old self.new hart (Request.Load address width) result }
+        ensures limit { length self.new.trace ≤ 65536 }
+    {
+        match self.read(address, width) {
+            Ok(value) => Reply::Value(value),
+            Err(fault) => Reply::Fault(access_fault(fault)),
+        }
+    }
+
+    fn store(&mut self, hart: u32, address: u64, width: u32, value: u64) -> Result<Reply, StepFault>
+        requires hart { hart < 8 }
+        requires width { IsWidth width }
+        ensures ok { IfOk result (λ reply. Serves self.old self.new hart (Request.Store address width value) reply) }
+        ensures limit { length self.new.trace ≤ 65536 }
+        ensures err { OnErr result (self.new ≡ self.old) }
+        ensures refused { IfErr result (RefusesRequest self.old hart (Request.Store address width value)) }
+    {
+        if let Err(fault) = self.check(address, width) {
+            return Ok(Reply::Fault(access_fault(fault)));
+        }
+        self.write(hart, address, width, value)?;
+        Ok(Reply::Done)
+    }
+
+    fn load_reserved(&mut self, hart: u32, address: u64, width: u32) -> Reply
+        requires hart { hart < 8 }
+        requires width { IsAtomicWidth width }
+        ensures serves { Serves self.old self.new hart (Request.Lr address width) result }
+        ensures limit { length self.new.trace ≤ 65536 }
+    {
+        match self.read(address, width) {
+            Ok(value) => {
+                self.reservations.reserve(hart, reserved_line(address));
+                Reply::Value(value)
+            }
+            Err(fault) => Reply::Fault(access_fault(fault)),
+        }
+    }
+
+    fn store_conditional(
+        &mut self,
+        hart: u32,
+        address: u64,
+        width: u32,
+        value: u64,
+    ) -> Result<Reply, StepFault>
+        requires hart { hart < 8 }
+        requires width { IsAtomicWidth width }
+        ensures ok { IfOk result (λ reply. Serves self.old self.new hart (Request.Sc address width value) reply) }
+        ensures limit { length self.new.trace ≤ 65536 }
+        ensures err { OnErr result (self.new ≡ self.old) }
+        ensures refused { IfErr result (RefusesRequest self.old hart (Request.Sc address width value)) }
+    {
+        if let Err(fault) = self.check(address, width) {
+            return Ok(Reply::Fault(access_fault(fault)));
+        }
+        let line = reserved_line(address);
+        if !self.reservations.take(hart, line) {
+            return Ok(Reply::Value(1));
+        }
+        if let Err(fault) = self.write(hart, address, width, value) {
+            // A refused step changes nothing: the reservation stands again.
+            self.reservations.reserve(hart, line);
+            return Err(fault);
+        }
+        Ok(Reply::Value(0))
+    }
+
+    /// An atomic operation: what it stores is made of the value that it finds, which is the reply.
+    fn combine(
+        &mut self,
+        hart: u32,
+        op: AtomicOp,
+        address: u64,
+        width: u32,
+        operand: u64,
+    ) -> Result<Reply, StepFault>
+        requires hart { hart < 8 }
+        requires width { IsAtomicWidth width }
+        ensures ok { IfOk result (λ reply. Serves self.old self.new hart (Request.Amo op address width operand) reply) }
+        ensures limit { length self.new.trace ≤ 65536 }
+        ensures err { OnErr result (self.new ≡ self.old) }
+        ensures refused { IfErr result (RefusesRequest self.old hart (Request.Amo op address width operand)) }
+    {
+        if address < PERSISTENT_BASE {
+            return Ok(self.combine_in_ram(hart, op, address, width, operand));
+        }
+        match self.place(address, width) {
+            Ok(offset) => self.combine_in_cache(hart, op, address, offset, width, operand),
+            Err(fault) => Ok(Reply::Fault(access_fault(fault))),
+        }
+    }
+
+    fn combine_in_ram(
+        &mut self,
+        hart: u32,
+        op: AtomicOp,
+        address: u64,
+        width: u32,
+        operand: u64,
+    ) -> Reply
+        requires hart { hart < 8 }
+        requires width { IsAtomicWidth width }
+        requires below { address < PERSISTENT_BASE }
+        ensures serves { Serves self.old self.new hart (Request.Amo op address width operand) result }
+        ensures limit { length self.new.trace ≤ 65536 }
+    {
+        match self.read_ram(address, width) {
+            Ok(old) => {
+                self.write_to_ram(hart, address, width, amo_result(op, width, old, operand));
+                Reply::Value(old)
+            }
+            Err(fault) => Reply::Fault(access_fault(fault)),
+        }
+    }
+
+    /// The room for the event is made before the cache is touched, so that a refusal leaves the cache as it was.
+    fn combine_in_cache(
+        &mut self,
+        hart: u32,
+        op: AtomicOp,
+        address: u64,
+        offset: u32,
+        width: u32,
+        operand: u64,
+    ) -> Result<Reply, StepFault>
+        requires hart { hart < 8 }
+        requires width { IsAtomicWidth width }
+        requires place { IsPlaceIn self.old address width offset }
+        ensures ok { IfOk result (λ reply. Serves self.old self.new hart (Request.Amo op address width operand) reply) }
+        ensures limit { length self.new.trace ≤ 65536 }
+        ensures err { OnErr result (self.new ≡ self.old) }
+        ensures refused { IfErr result (RefusesRequest self.old hart (Request.Amo op address width operand)) }
+    {
+        reserve_one(&mut self.trace)?;
+        let old = caching::load(&mut self.cache, offset, width);
+        let value = amo_result(op, width, old, operand);
+        caching::store(&mut self.cache, offset, width, value);
+        push_reserved(&mut self.trace, store_event(hart, offset, width, value));
+        self.reservations.stored(hart, reserved_line(address));
+        Ok(Reply::Value(old))
+    }
+
+    /// Serves a request whose event this is.
+    fn mark(&mut self, hart: u32, request: Request, event: Event) -> Result<Reply, StepFault>
+        requires event { IsEvent event }
+        requires marks { IsMark hart request event }
+        ensures ok { IfOk result (λ reply. Serves self.old self.new hart request reply) }
+        ensures limit { length self.new.trace ≤ 65536 }
+        ensures err { OnErr result (self.new ≡ self.old) }
+        ensures refused { IfErr result (RefusesRequest self.old hart request) }
+    {
+        self.note(event)?;
+        Ok(Reply::Done)
+    }
+
+    /// A hart's FENCE whose predecessor set has memory writes: its pending lines are written back.
+    fn fence(&mut self, hart: u32) -> Result<Reply, StepFault>
+        requires hart { hart < 8 }
+        ensures ok { IfOk result (λ reply. Serves self.old self.new hart Request.Fence reply) }
+        ensures limit { length self.new.trace ≤ 65536 }
+        ensures err { OnErr result (self.new ≡ self.old) }
+        ensures refused { IfErr result (RefusesRequest self.old hart Request.Fence) }
+    {
+        self.note(Event::Fence { hart })?;
+        caching::fence(&mut self.cache, hart);
+        Ok(Reply::Done)
+    }
+
+    /// The number that the bytes of an access spell, which a load of persistent memory brings into the cache.
+    fn read(&mut self, address: u64, width: u32) -> Result<u64, MemFault>
+        requires { IsWidth width }
+        ensures ok { IfOk result (λ value. Finds (memory_of self.old) address width value) }
+        ensures reads { OnOk result (Reads self.old self.new address) }
+        ensures low { OnOk result (address < 2 ^ 38) }
+        ensures err { IfErr result (λ fault. fault_of (memory_of self.old) address width ≡ Some fault) }
+        ensures same { OnErr result (self.new ≡ self.old) }
+        ensures limit { length self.new.trace ≤ 65536 }
+    {
+        if address < PERSISTENT_BASE {
+            return self.read_ram(address, width);
+        }
+        match self.place(address, width) {
+            Ok(offset) => Ok(self.read_cache(address, offset, width)),
+            Err(fault) => Err(fault),
+        }
+    }
+
+    fn read_ram(&self, address: u64, width: u32) -> Result<u64, MemFault>
+        requires width { IsWidth width }
+        requires below { address < PERSISTENT_BASE }
+        ensures ok { IfOk result (λ value. Finds (memory_of self.now) address width value) }
+        ensures err { IfErr result (λ fault. fault_of (memory_of self.now) address width ≡ Some fault) }
+        ensures limit { length self.now.trace ≤ 65536 }
+    {
+        match self.ram.load(address, width) {
+            Ok(value) => Ok(value),
+            Err(fault) => Err(fault),
+        }
+    }
+
+    fn read_cache(&mut self, address: u64, offset: u32, width: u32) -> u64
+        requires width { IsWidth width }
+        requires place { IsPlaceIn self.old address width offset }
+        ensures value { Finds (memory_of self.old) address width result }
+        ensures reads { Reads self.old self.new address }
+        ensures limit { length self.new.trace ≤ 65536 }
+    {
+        caching::load(&mut self.cache, offset, width)
+    }
+
+    /// Whether an access can be made.
+    fn check(&self, address: u64, width: u32) -> Result<(), MemFault>
+        requires { IsWidth width }
+        ensures ok { OnOk result (fault_of (memory_of self.now) address width ≡ None) }
+        ensures low { OnOk result (address < 2 ^ 38) }
+        ensures err { IfErr result (λ fault. fault_of (memory_of self.now) address width ≡ Some fault) }
+        ensures limit { length self.now.trace ≤ 65536 }
+    {
+        if address < PERSISTENT_BASE {
+            return match self.ram.load(address, width) {
+                Ok(_) => Ok(()),
+                Err(fault) => Err(fault),
+            };
+        }
+        match self.place(address, width) {
+            Ok(_) => Ok(()),
+            Err(fault) => Err(fault),
+        }
+    }
+
+    /// Where an access to persistent memory begins, counted from its base.
+    fn place(&self, address: u64, width: u32) -> Result<u32, MemFault>
+        requires width { IsWidth width }
+        requires above { PERSISTENT_BASE ≤ address }
+        ensures limit { length self.now.trace ≤ 65536 }
+        ensures ok { IfOk result (λ offset. IsPlaceIn self.now address width offset) }
+        ensures err { IfErr result (λ fault. fault_of (memory_of self.now) address width ≡ Some fault) }
+    {
+        let offset = address - PERSISTENT_BASE;
+        let size = self.size();
+        if offset % u64::from(width) != 0 {
+            return Err(MemFault::Misaligned);
+        }
+        if offset >= size {
+            return Err(MemFault::Outside);
+        }
+        Ok(offset as u32)
+    }
+
+    /// Makes a write that can be made, and the event of one to persistent memory. A refused write changes nothing.
+    fn write(&mut self, hart: u32, address: u64, width: u32, value: u64) -> Result<(), StepFault>
+        requires hart { hart < 8 }
+        requires width { IsWidth width }
+        requires low { address < 2 ^ 38 }
+        requires no_fault { fault_of (memory_of self.old) address width ≡ None }
+        ensures ok { OnOk result (Writes self.old self.new hart address width value) }
+        ensures limit { length self.new.trace ≤ 65536 }
+        ensures err { OnErr result (self.new ≡ self.old) }
+        ensures refused { IfErr result (RefusesWrite self.old address) }
+    {
+        if address < PERSISTENT_BASE {
+            self.write_to_ram(hart, address, width, value);
+            return Ok(());
+        }
+        match self.place(address, width) {
+            Ok(offset) => self.write_to_cache(hart, address, offset, width, value),
+            Err(_) => unreachable!(),
+        }
+    }
+
+    fn write_to_ram(&mut self, hart: u32, address: u64, width: u32, value: u64)
+        requires hart { hart < 8 }
+        requires width { IsWidth width }
+        requires below { address < PERSISTENT_BASE }
+        requires no_fault { fault_of (memory_of self.old) address width ≡ None }
+        ensures writes { Writes self.old self.new hart address width value }
+        ensures limit { length self.new.trace ≤ 65536 }
+    {
+        match self.ram.store(address, width, value) {
+            Ok(()) => self.reservations.stored(hart, reserved_line(address)),
+            Err(_) => unreachable!(),
+        }
+    }
+
+    fn write_to_cache(
+        &mut self,
+        hart: u32,
+        address: u64,
+        offset: u32,
+        width: u32,
+        value: u64,
+    ) -> Result<(), StepFault>
+        requires hart { hart < 8 }
+        requires width { IsWidth width }
+        requires place { IsPlaceIn self.old address width offset }
+        ensures ok { OnOk result (Writes self.old self.new hart address width value) }
+        ensures limit { length self.new.trace ≤ 65536 }
+        ensures err { OnErr result (self.new ≡ self.old) }
+        ensures refused { IfErr result (RefusesWrite self.old address) }
+    {
+        self.note(store_event(hart, offset, width, value))?;
+        caching::store(&mut self.cache, offset, width, value);
+        self.reservations.stored(hart, reserved_line(address));
+        Ok(())
+    }
+
+    fn cache_operation(&mut self, hart: u32, op: CacheOp, address: u64) -> Result<Reply, StepFault>
+        requires hart { hart < 8 }
+        ensures ok { IfOk result (λ reply. Serves self.old self.new hart (Request.Cbo op address) reply) }
+        ensures limit { length self.new.trace ≤ 65536 }
+        ensures err { OnErr result (self.new ≡ self.old) }
+        ensures refused { IfErr result (RefusesRequest self.old hart (Request.Cbo op address)) }
+    {
+        let size = self.size();
+        if address < PERSISTENT_BASE {
+            return Ok(self.reply_below(hart, op, address));
+        }
+        let offset = address - PERSISTENT_BASE;
+        if offset >= size {
+            return Ok(Reply::Fault(AccessFault::Outside));
+        }
+        self.note_clean(hart, op, address, offset as u32)
+    }
+
+    /// The byte of flat memory at an address; None outside the regions.
+    #[tactic(auto, using(line_memory::proofs::Flat::flat_persistent, line_memory::proofs::Flat::flat_ram, crate::proofs::Serving::no_byte_past))]
+    pub fn peek(&self, address: u64) -> Option<u8>
+        ensures { result ≡ memory_of self.now address }
+    {
+        if address < PERSISTENT_BASE {
+            return self.ram.peek(address);
+        }
+        let offset = address - PERSISTENT_BASE;
+        if offset >= self.size() {
+            return None;
+        }
+        Some(self.cache.peek(offset as u32))
+    }
+
+    /// The events so far, the oldest first.
+    pub fn events(&self) -> &[Event]
+        ensures value { result.now ≡ self.now.trace }
+        ensures limit { length self.now.trace ≤ 65536 }
+    {
+        self.trace.events()
+    }
+
+    /// Evicts a line from the cache: it is written back where it is dirty. No memory is taken. NoSuchLine past the last line,
+    /// and then nothing changes.
+    pub fn evict(&mut self, line: u32) -> Result<(), StepFault>
+        ensures ok { OnOk result (Evicts self.old self.new line) }
+        ensures there { OnOk result (line < length self.old.cache.lines) }
+        ensures limit { length self.new.trace ≤ 65536 }
+        ensures err { OnErr result (self.new ≡ self.old) }
+        ensures no_line { IfErr result (λ fault. (fault ≡ StepFault.NoSuchLine) × (length self.old.cache.lines ≤ line)) }
+    {
+        if line >= self.lines() {
+            return Err(StepFault::NoSuchLine);
+        }
+        caching::evict(&mut self.cache, line);
+        Ok(())
+    }
+
+    /// What a power cut leaves: the medium alone, without what is dirty in the cache, beside the trace.
+    pub fn power_cut(self) -> (Medium, Trace)
+        ensures lines { result.0 ≡ self.cache.lines }
+        ensures trace { result.1.events ≡ self.trace }
+        ensures cut { (c : Common) → Shows self c → IsCutImage c.start (history c.trace) result.0 }
+        ensures written_back { (c : Common) (lines : List ℕ) → Shows self c → length lines ≤ self.cache.cache.capacity →
+            AreAmong (touched c.history) lines →
+            result.0 ≡ image c.start (λ l. (back l (persisted c.history)).count) (history c.trace) }
+    {
+        let Shared { cache, trace, .. } = self;
+        (cache.power_cut(), trace)
+    }
+
+    /// The bytes of the text region, as they stand.
+    pub fn text(&self) -> &[u8]
+        ensures value { result.now ≡ self.now.ram.text }
+        ensures whole { length result.now ≡ TEXT_SIZE }
+    {
+        self.ram.text()
+    }
+
+    /// The number of lines of persistent memory.
+    pub fn lines(&self) -> u32
+        ensures { result ≡ length self.now.cache.lines }
+    {
+        self.cache.medium().lines()
+    }
+
+    /// The number of bytes of persistent memory.
+    fn size(&self) -> u64
+        ensures size { result ≡ 64 * length self.now.cache.lines }
+        ensures limit { result ≤ 64 * 16384 }
+        ensures whole { AreLines (lines_shown self.now) }
+        ensures trace { length self.now.trace ≤ 65536 }
+    {
+        64 * u64::from(self.cache.medium().lines())
+    }
+
+    fn note_clean(
+        &mut self,
+        hart: u32,
+        op: CacheOp,
+        address: u64,
+        offset: u32,
+    ) -> Result<Reply, StepFault>
+        requires hart { hart < 8 }
+        requires place { address ≡ PERSISTENT_BASE + offset }
+        requires there { offset < 64 * length self.old.cache.lines }
+        requires whole { AreLines (lines_shown self.old) }
+        ensures ok { IfOk result (λ reply. Serves self.old self.new hart (Request.Cbo op address) reply) }
+        ensures limit { length self.new.trace ≤ 65536 }
+        ensures err { OnErr result (self.new ≡ self.old) }
+        ensures refused { IfErr result (RefusesRequest self.old hart (Request.Cbo op address)) }
+    {
+        let line = offset / 64;
+        self.note(Event::Clean { hart, line })?;
+        caching::operate(&mut self.cache, hart, op, line);
+        Ok(Reply::Done)
+    }
+
+    /// Adds the one event of a request that is done.
+    fn note(&mut self, event: Event) -> Result<(), StepFault>
+        requires { IsEvent event }
+        ensures ok { OnOk result (self.new ≡ record self.old { trace = self.old.trace ++ event ∷ [] }) }
+        ensures limit { length self.new.trace ≤ 65536 }
+        ensures err { OnErr result (self.new ≡ self.old) }
+        ensures refused { IfErr result (IsEventFault self.old.trace) }
+    {
+        self.trace.push(event)?;
+        Ok(())
+    }
+
+    /// The reply to an operation on the line of an address below persistent memory.
+    fn reply_below(&self, hart: u32, op: CacheOp, address: u64) -> Reply
+        requires { address < PERSISTENT_BASE }
+        ensures { Serves self.now self.now hart (Request.Cbo op address) result }
+    {
+        match self.ram.peek(address) {
+            Some(_) => Reply::Done,
+            None => Reply::Fault(AccessFault::Outside),
+        }
+    }
+}
+
+/// Makes room for one event.
+fn reserve_one(trace: &mut Trace) -> Result<(), StepFault>
+    requires { length trace.old.events ≤ 65536 }
+    ensures ok { OnOk result ((0 < trace.new.room) × (length trace.old.events < 65536)) }
+    ensures same { trace.new.events ≡ trace.old.events }
+    ensures refused { IfErr result (IsEventFault trace.old.events) }
+{
+    trace.reserve_one()?;
+    Ok(())
+}
+
+/// Adds the event that there is room for.
+fn push_reserved(trace: &mut Trace, event: Event)
+    requires event { IsEvent event }
+    requires room { 0 < trace.old.room }
+    ensures { trace.new.events ≡ trace.old.events ++ event ∷ [] }
+{
+    match trace.push(event) {
+        Ok(()) => {}
+        Err(_) => unreachable!(),
+    }
+}
+
+/// The event of a hart's store at a place of persistent memory.
+fn store_event(hart: u32, offset: u32, width: u32, value: u64) -> Event
+    ensures { result ≡ store_event hart offset width value }
+{
+    Event::Store {
+        hart,
+        line: offset / 64,
+        offset: offset % 64,
+        width,
+        value,
+    }
+}
+
+/// The line of the address space that holds an address of memory.
+fn reserved_line(address: u64) -> u32
+    requires { address < 2 ^ 38 }
+    ensures { result ≡ address / 64 }
+{
+    (address / 64) as u32
+}
+
+fn access_fault(fault: MemFault) -> AccessFault
+    ensures { result ≡ access_fault fault }
+{
+    match fault {
+        MemFault::Misaligned => AccessFault::Misaligned,
+        MemFault::Outside => AccessFault::Outside,
+    }
+}
