@@ -3,11 +3,13 @@ use Rattle.std.proofs.Common.{◌≡◌, ◌∙◌, List, [], ◌∷◌, Option,
 use Rattle.std.specs.Prelude.{◌≢◌, ◌⊎◌, MatchOption}
 use Rattle.std.specs.Borrow.{Bor}
 use Rattle.clap.specs.Kinds.{HasKind, IsAmong, Kinds}
-use Rattle.clap.specs.Words.{App, Text, app_of, fault_of, first_of, first_value, is_simple_and_free, kind_of, rows_of}
+use Rattle.clap.specs.Words.{App, HasMatchesOf, Text, app_of, fault_of, first_of, first_value, is_simple}
+use Rattle.clap.specs.Words.{is_simple_and_free, kind_of, rows_of, subcommand_of, subcommand_rows_of}
 use Rattle.clap.specs.declared.builder.command.Command.{Command as Clap}
 use Rattle.clap.specs.declared.error.Error.{Error}
 use Rattle.clap.specs.declared.error.ErrorKind.{ErrorKind}
 use Rattle.clap.specs.declared.error.ErrorKind.TheVariants as kinds
+use Rattle.clap.specs.declared.parser.matches.ArgMatches.{ArgMatches}
 use Rattle.clap.specs.declared.parser.matches.Found.{Found}
 use Rattle.clap.proofs.WalkLemmas.{first_value-rows}
 use Rattle.arguments.specs.Grammar.{IsGrammar, novacrash}
@@ -42,8 +44,11 @@ refused_by_kind words kind (Fault text) (inr among) is =
     (others kind (fault_of novacrash words) among is.0, λ command line. some kind (fault_of novacrash words) among line.grammatical)
 refused_by_kind words kind Memory among is = tt
 
-is_simple : is_simple_and_free novacrash ≡ true
-is_simple = refl
+simple_and_free : is_simple_and_free novacrash ≡ true
+simple_and_free = refl
+
+simple : is_simple novacrash ≡ true
+simple = refl
 
 -- an error of the grammar's parse is refused by the fault for its kind
 pub refused : (command : Clap) (words : List Text) (error : Error) (fault : LineFault) → IsGrammar novacrash command
@@ -51,4 +56,18 @@ pub refused : (command : Clap) (words : List Text) (error : Error) (fault : Line
     → IsKindOf (kind_of error) fault → Refuses words fault
 refused command words error fault by fails is =
     let P : App → Type 0 = λ app. is_simple_and_free app ≡ true → HasKind (fault_of app words) error in
-    refused_by_kind words (kind_of error) fault (subst P by.shape fails is_simple) is
+    refused_by_kind words (kind_of error) fault (subst P by.shape fails simple_and_free) is
+
+-- where the grammar's parse has no error the line has no fault
+pub grammatical : (command : Clap) (words : List Text) → IsGrammar novacrash command
+    → (is_simple_and_free (app_of command) ≡ true → fault_of (app_of command) words ≡ []) → fault_of novacrash words ≡ []
+grammatical command words by passes =
+    let P : App → Type 0 = λ app. is_simple_and_free app ≡ true → fault_of app words ≡ [] in
+    subst P by.shape passes simple_and_free
+
+-- the subcommand that a parse entered is that of the grammar's walk
+pub entered : (command : Clap) (words : List Text) (found : ArgMatches) → IsGrammar novacrash command
+    → HasMatchesOf (app_of command) words found → subcommand_rows_of found ≡ subcommand_of novacrash words
+entered command words found by has =
+    let P : App → Type 0 = λ app. HasMatchesOf app words found in
+    (subst P by.shape has simple).1

@@ -1,6 +1,6 @@
 -- The grammar of the command line, as clap's specification takes a command.
 use Rattle.std.specs.Prelude.{◌≡◌, List, [], ◌∷◌, Some, codes, true, false}
-use Rattle.clap.specs.Words.{App, Rule, Shape, Text, app_of, new_rule}
+use Rattle.clap.specs.Words.{App, Rule, Shape, Text, app_of, new_rule, with_rule}
 use Rattle.clap.specs.Simple.{new_shape}
 use Rattle.clap.specs.declared.builder.action.ArgAction.TheVariants.{Help}
 use Rattle.clap.specs.declared.builder.command.Command.{Command}
@@ -14,9 +14,9 @@ help_option = record (new_rule (codes "help")) { long = Some (codes "help"); act
 abbrev pub needed_word : Text → Rule
 needed_word name = record (new_rule name) { required = true }
 
--- `--name N`
-abbrev pub number_option : Text → Rule
-number_option name = record (new_rule name) { long = Some name; value_names = 1 }
+-- `--name VALUE`, which may be left out
+abbrev pub valued_option : Text → Rule
+valued_option name = record (new_rule name) { long = Some name; value_names = 1 }
 
 -- `asm SOURCE OBJECT`
 abbrev pub assemble_shape : Shape
@@ -24,16 +24,47 @@ assemble_shape = record (new_shape (codes "asm")) {
   rules = needed_word (codes "SOURCE") ∷ needed_word (codes "OBJECT") ∷ help_option ∷ [];
 }
 
--- `run PROGRAM [--steps N]`
-abbrev pub run_shape : Shape
-run_shape = record (new_shape (codes "run")) {
-  rules = needed_word (codes "PROGRAM") ∷ number_option (codes "steps") ∷ help_option ∷ [];
+-- `mkfs PLAN LINES MEDIUM`
+abbrev pub make_volume_shape : Shape
+make_volume_shape = record (new_shape (codes "mkfs")) {
+  rules = needed_word (codes "PLAN") ∷ needed_word (codes "LINES") ∷ needed_word (codes "MEDIUM") ∷ help_option ∷ [];
 }
 
--- `images PROGRAM SCHEDULE MOMENT`
+-- `run PROGRAM [--medium FILE --harts N --capacity N --steps N --record FILE --out FILE]`
+abbrev pub run_shape : Shape
+run_shape = record (new_shape (codes "run")) {
+  rules = needed_word (codes "PROGRAM") ∷ valued_option (codes "medium") ∷ valued_option (codes "harts")
+      ∷ valued_option (codes "capacity") ∷ valued_option (codes "steps") ∷ valued_option (codes "record")
+      ∷ valued_option (codes "out") ∷ help_option ∷ [];
+}
+
+-- `replay PROGRAM SCHEDULE [--medium FILE --harts N --capacity N --out FILE]`
+abbrev pub replay_shape : Shape
+replay_shape = record (new_shape (codes "replay")) {
+  rules = needed_word (codes "PROGRAM") ∷ needed_word (codes "SCHEDULE") ∷ valued_option (codes "medium")
+      ∷ valued_option (codes "harts") ∷ valued_option (codes "capacity") ∷ valued_option (codes "out")
+      ∷ help_option ∷ [];
+}
+
+-- `images PROGRAM SCHEDULE MOMENT [--medium FILE --harts N]`
 abbrev pub images_shape : Shape
 images_shape = record (new_shape (codes "images")) {
-  rules = needed_word (codes "PROGRAM") ∷ needed_word (codes "SCHEDULE") ∷ needed_word (codes "MOMENT") ∷ help_option ∷ [];
+  rules = needed_word (codes "PROGRAM") ∷ needed_word (codes "SCHEDULE") ∷ needed_word (codes "MOMENT")
+      ∷ valued_option (codes "medium") ∷ valued_option (codes "harts") ∷ help_option ∷ [];
+}
+
+-- `explain PROGRAM SCHEDULE MOMENT IMAGE [--medium FILE --harts N]`
+abbrev pub explain_shape : Shape
+explain_shape = record (new_shape (codes "explain")) {
+  rules = needed_word (codes "PROGRAM") ∷ needed_word (codes "SCHEDULE") ∷ needed_word (codes "MOMENT")
+      ∷ needed_word (codes "IMAGE") ∷ valued_option (codes "medium") ∷ valued_option (codes "harts") ∷ help_option ∷ [];
+}
+
+-- `check PLAN PROGRAM SCHEDULE [--medium FILE --harts N]`
+abbrev pub check_shape : Shape
+check_shape = record (new_shape (codes "check")) {
+  rules = needed_word (codes "PLAN") ∷ needed_word (codes "PROGRAM") ∷ needed_word (codes "SCHEDULE")
+      ∷ valued_option (codes "medium") ∷ valued_option (codes "harts") ∷ help_option ∷ [];
 }
 
 -- a command with no subcommand
@@ -55,9 +86,38 @@ line shapes = record {
 
 -- the whole line
 abbrev pub novacrash : App
-novacrash = line (assemble_shape ∷ run_shape ∷ images_shape ∷ [])
+novacrash = line (assemble_shape ∷ make_volume_shape ∷ run_shape ∷ replay_shape ∷ images_shape
+    ∷ explain_shape ∷ check_shape ∷ [])
+
+-- the command with a program and a schedule
+abbrev pub with_run : App → App
+with_run app = with_rule (with_rule app (needed_word (codes "PROGRAM"))) (needed_word (codes "SCHEDULE"))
+
+-- the command with a program, a schedule and a moment
+abbrev pub with_moment : App → App
+with_moment app = with_rule (with_run app) (needed_word (codes "MOMENT"))
+
+-- the command with the options of a machine
+abbrev pub with_machine : App → App
+with_machine app = with_rule (with_rule app (valued_option (codes "medium"))) (valued_option (codes "harts"))
+
+-- the command with the options of a machine and of its cache
+abbrev pub with_cached_machine : App → App
+with_cached_machine app = with_rule (with_machine app) (valued_option (codes "capacity"))
+
+-- the command with the limit and the record of a run
+abbrev pub with_recording : App → App
+with_recording app = with_rule (with_rule app (valued_option (codes "steps"))) (valued_option (codes "record"))
+
+-- the command with the option of the medium at the end, and `--help`
+abbrev pub with_end : App → App
+with_end app = with_rule (with_rule app (valued_option (codes "out"))) help_option
+
+-- no option of the command holds at every level
+abbrev pub IsLocal : Command → Type 0
+IsLocal c = (out-Command c).has_globals ≡ false
 
 -- a command of clap that parses by this grammar, in which no option holds at every level
 pub record IsGrammar (app : App) (c : Command) : Type 0 where
   pub shape : app_of c ≡ app
-  pub local : (out-Command c).has_globals ≡ false
+  pub local : IsLocal c

@@ -1,78 +1,122 @@
 -- Which command a line asks for, by what clap's specification says of its words.
-use Rattle.std.specs.Prelude.{◌≡◌, ◌≢◌, ◌≤◌, ◌<◌, ◌^◌, ◌⊎◌, ℕ, List, [], ◌∷◌, Option, Some, None, codes, ⊤}
-use Rattle.std.specs.Prelude.{string_bytes}
-use Rattle.std.specs.Str.Parse.{IsNumeral, digits_value}
+use Rattle.std.specs.Prelude.{◌≡◌, ◌≢◌, ◌≤◌, ◌<◌, ◌^◌, ℕ, List, [], ◌∷◌, Option, Some, None, IfSome, codes, ⊤}
 use Rattle.clap.specs.Words.{Row, Text, fault_of, first_of, subcommand_of}
 use Rattle.clap.specs.Kinds.{IsAmong}
 use Rattle.clap.specs.declared.error.ErrorKind.{ErrorKind}
 use Rattle.clap.specs.declared.error.ErrorKind.TheVariants as kinds
 use Rattle.arguments.specs.Grammar.{novacrash}
+use Rattle.arguments.specs.Values.{IsCapacity, IsHarts, IsNumberWord, IsOptional, IsSteps, IsWord}
+use Rattle.arguments.specs.declared.asked.AssembleCommand.{AssembleCommand}
+use Rattle.arguments.specs.declared.asked.CheckCommand.{CheckCommand}
 use Rattle.arguments.specs.declared.asked.Command.{Command}
-use Rattle.arguments.specs.declared.asked.Command.TheVariants.{Assemble, Run, Images}
+use Rattle.arguments.specs.declared.asked.Command.TheVariants.{Assemble, Check, Explain, Images, MakeVolume, Replay, Run}
+use Rattle.arguments.specs.declared.asked.ExplainCommand.{ExplainCommand}
+use Rattle.arguments.specs.declared.asked.ImagesCommand.{ImagesCommand}
 use Rattle.arguments.specs.declared.asked.LineFault.{LineFault}
 use Rattle.arguments.specs.declared.asked.LineFault.TheVariants.{Help, Fault, Memory}
+use Rattle.arguments.specs.declared.asked.MachineOptions.{MachineOptions}
+use Rattle.arguments.specs.declared.asked.MakeVolumeCommand.{MakeVolumeCommand}
+use Rattle.arguments.specs.declared.asked.ReplayCommand.{ReplayCommand}
+use Rattle.arguments.specs.declared.asked.RunCommand.{RunCommand}
 
--- the number that an option's text writes in decimal digits, within its limits, or the default of
--- an option that isn't given
-abbrev pub IsNumber : ℕ → ℕ → ℕ → Option Text → ℕ → Type 0
-IsNumber default low high None n = n ≡ default
-IsNumber default low high (Some text) n =
-    IsNumeral 10 text × (n ≡ digits_value 10 text) × (low ≤ n) × (n ≤ high)
+-- the machine of a command that has no option of a capacity
+pub record IsWholeMachine (rows : List Row) (machine : MachineOptions) : Type 0 where
+  pub medium : IsOptional (codes "medium") rows machine.medium
+  pub harts : IsHarts rows machine.harts
+  pub capacity : machine.capacity ≡ None
 
--- the number below 2^32 that a needed word writes in decimal digits
-abbrev pub IsNumberWord : Option Text → ℕ → Type 0
-IsNumberWord None n = ⊥
-IsNumberWord (Some text) n = IsNumeral 10 text × (n ≡ digits_value 10 text) × (n < 2 ^ 32)
+-- the machine of a command that has one
+pub record IsCachedMachine (rows : List Row) (machine : MachineOptions) : Type 0 where
+  pub medium : IsOptional (codes "medium") rows machine.medium
+  pub harts : IsHarts rows machine.harts
+  pub capacity : (lines : ℕ) × (machine.capacity ≡ Some lines) × IsCapacity rows lines
 
--- the limits of a budget of steps, and the budget of a line that names none
-abbrev pub least_steps : ℕ
-least_steps = 1
+-- `asm` with these files
+pub record IsAssemble (rows : List Row) (command : AssembleCommand) : Type 0 where
+  pub source : IsWord (codes "SOURCE") rows command.source
+  pub object : IsWord (codes "OBJECT") rows command.object
 
-abbrev pub most_steps : ℕ
-most_steps = 500000000
+-- `mkfs` with these files and lines
+pub record IsMakeVolume (rows : List Row) (command : MakeVolumeCommand) : Type 0 where
+  pub plan : IsWord (codes "PLAN") rows command.plan
+  pub lines : IsNumberWord (first_of (codes "LINES") rows) command.lines
+  pub medium : IsWord (codes "MEDIUM") rows command.medium
 
-abbrev pub default_steps : ℕ
-default_steps = 1000000
+-- `run` with this program and these options
+pub record IsRun (rows : List Row) (command : RunCommand) : Type 0 where
+  pub program : IsWord (codes "PROGRAM") rows command.program
+  pub machine : IsCachedMachine rows command.machine
+  pub steps : IsSteps rows command.steps
+  pub recorded : IsOptional (codes "record") rows command.record
+  pub out : IsOptional (codes "out") rows command.out
 
--- a command's numbers are within their limits
-abbrev pub IsWithinLimits : Command → Type 0
-IsWithinLimits (Assemble source object) = ⊤
-IsWithinLimits (Run program steps) = (least_steps ≤ steps) × (steps ≤ most_steps)
-IsWithinLimits (Images program schedule moment) = moment < 2 ^ 32
+-- `replay` with these files and options
+pub record IsReplay (rows : List Row) (command : ReplayCommand) : Type 0 where
+  pub program : IsWord (codes "PROGRAM") rows command.program
+  pub schedule : IsWord (codes "SCHEDULE") rows command.schedule
+  pub machine : IsCachedMachine rows command.machine
+  pub out : IsOptional (codes "out") rows command.out
 
--- `asm` with these files, by the values found for its words
-abbrev pub IsAssemble : List Row → Command → Type 0
-IsAssemble rows (Assemble source object) = (first_of (codes "SOURCE") rows ≡ Some (string_bytes source))
-    × (first_of (codes "OBJECT") rows ≡ Some (string_bytes object))
-IsAssemble rows (Run program steps) = ⊥
-IsAssemble rows (Images program schedule moment) = ⊥
+-- `images` with these files, this moment and these options
+pub record IsImages (rows : List Row) (command : ImagesCommand) : Type 0 where
+  pub program : IsWord (codes "PROGRAM") rows command.program
+  pub schedule : IsWord (codes "SCHEDULE") rows command.schedule
+  pub moment : IsNumberWord (first_of (codes "MOMENT") rows) command.moment
+  pub machine : IsWholeMachine rows command.machine
 
--- `run` with this program and at most these steps, by the values found for its options
-abbrev pub IsRun : List Row → Command → Type 0
-IsRun rows (Assemble source object) = ⊥
-IsRun rows (Run program steps) = (first_of (codes "PROGRAM") rows ≡ Some (string_bytes program))
-    × IsNumber default_steps least_steps most_steps (first_of (codes "steps") rows) steps
-IsRun rows (Images program schedule moment) = ⊥
+-- `explain` with these files, this moment and image, and these options
+pub record IsExplain (rows : List Row) (command : ExplainCommand) : Type 0 where
+  pub program : IsWord (codes "PROGRAM") rows command.program
+  pub schedule : IsWord (codes "SCHEDULE") rows command.schedule
+  pub moment : IsNumberWord (first_of (codes "MOMENT") rows) command.moment
+  pub image : IsNumberWord (first_of (codes "IMAGE") rows) command.image
+  pub machine : IsWholeMachine rows command.machine
 
--- `images` with these files and this moment, by the values found for its words
-abbrev pub IsImages : List Row → Command → Type 0
-IsImages rows (Assemble source object) = ⊥
-IsImages rows (Run program steps) = ⊥
-IsImages rows (Images program schedule moment) = (first_of (codes "PROGRAM") rows ≡ Some (string_bytes program))
-    × (first_of (codes "SCHEDULE") rows ≡ Some (string_bytes schedule))
-    × IsNumberWord (first_of (codes "MOMENT") rows) moment
+-- `check` with these files and options
+pub record IsCheck (rows : List Row) (command : CheckCommand) : Type 0 where
+  pub plan : IsWord (codes "PLAN") rows command.plan
+  pub program : IsWord (codes "PROGRAM") rows command.program
+  pub schedule : IsWord (codes "SCHEDULE") rows command.schedule
+  pub machine : IsWholeMachine rows command.machine
 
--- the command that a subcommand of this name asks for, with the values found for its options
+-- the command of the subcommand of this name, by the values found for its words and options
+abbrev pub IsOf : Text → List Row → Command → Type 0
+IsOf name rows (Assemble command) = (name ≡ codes "asm") × IsAssemble rows command
+IsOf name rows (MakeVolume command) = (name ≡ codes "mkfs") × IsMakeVolume rows command
+IsOf name rows (Run command) = (name ≡ codes "run") × IsRun rows command
+IsOf name rows (Replay command) = (name ≡ codes "replay") × IsReplay rows command
+IsOf name rows (Images command) = (name ≡ codes "images") × IsImages rows command
+IsOf name rows (Explain command) = (name ≡ codes "explain") × IsExplain rows command
+IsOf name rows (Check command) = (name ≡ codes "check") × IsCheck rows command
+
+-- the command that the subcommand of a line asks for
 abbrev pub IsAsked : Option (Text × List Row) → Command → Type 0
 IsAsked None command = ⊥
-IsAsked (Some (name, rows)) command = ((name ≡ codes "asm") × IsAssemble rows command)
-    ⊎ ((name ≡ codes "run") × IsRun rows command)
-    ⊎ ((name ≡ codes "images") × IsImages rows command)
+IsAsked (Some (name, rows)) command = IsOf name rows command
 
 -- the line has no fault in its grammar, and asks for this command
 pub record IsCommand (words : List Text) (command : Command) : Type 0 where
   pub grammatical : fault_of novacrash words ≡ []
   pub asked : IsAsked (subcommand_of novacrash words) command
+
+-- a number is within its limits
+abbrev pub IsWithin : ℕ → ℕ → ℕ → Type 0
+IsWithin low high n = (low ≤ n) × (n ≤ high)
+
+-- the numbers of a machine are within their limits
+pub record IsMachineWithin (machine : MachineOptions) : Type 0 where
+  pub harts : IsWithin 1 8 machine.harts
+  pub capacity : IfSome machine.capacity (IsWithin 1 16384)
+
+-- a command's numbers are within their limits
+abbrev pub IsWithinLimits : Command → Type 0
+IsWithinLimits (Assemble command) = ⊤
+IsWithinLimits (MakeVolume command) = command.lines < 2 ^ 32
+IsWithinLimits (Run command) = IsMachineWithin command.machine × IsWithin 1 500000000 command.steps
+IsWithinLimits (Replay command) = IsMachineWithin command.machine
+IsWithinLimits (Images command) = IsMachineWithin command.machine × (command.moment < 2 ^ 32)
+IsWithinLimits (Explain command) = IsMachineWithin command.machine × (command.moment < 2 ^ 32) × (command.image < 2 ^ 32)
+IsWithinLimits (Check command) = IsMachineWithin command.machine
 
 -- help comes where the grammar answers with help, and a fault where the line asks for no command
 -- and not for help alone

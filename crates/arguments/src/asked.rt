@@ -7,29 +7,122 @@ use thiserror::Error;
 #[derive(Drop)]
 pub enum Command {
     /// `asm SOURCE OBJECT`.
-    Assemble {
-        /// The name of the source's file.
-        source: String,
-        /// The name of the file that gets the object.
-        object: String,
-    },
-    /// `run PROGRAM [--steps N]`.
-    Run {
-        /// The name of the program's file.
-        program: String,
-        /// The most steps that a hart may make, from 1 to 500,000,000; 1,000,000 where the line
-        /// doesn't say.
-        steps: u32,
-    },
-    /// `images PROGRAM SCHEDULE MOMENT`.
-    Images {
-        /// The name of the program's file.
-        program: String,
-        /// The name of the schedule's file.
-        schedule: String,
-        /// The number of events before the power cut.
-        moment: u32,
-    },
+    Assemble(AssembleCommand),
+    /// `mkfs PLAN LINES MEDIUM`.
+    MakeVolume(MakeVolumeCommand),
+    /// `run PROGRAM [--medium FILE --harts N --capacity N --steps N --record FILE --out FILE]`.
+    Run(RunCommand),
+    /// `replay PROGRAM SCHEDULE [--medium FILE --harts N --capacity N --out FILE]`.
+    Replay(ReplayCommand),
+    /// `images PROGRAM SCHEDULE MOMENT [--medium FILE --harts N]`.
+    Images(ImagesCommand),
+    /// `explain PROGRAM SCHEDULE MOMENT IMAGE [--medium FILE --harts N]`.
+    Explain(ExplainCommand),
+    /// `check PLAN PROGRAM SCHEDULE [--medium FILE --harts N]`.
+    Check(CheckCommand),
+}
+
+/// What `asm` is to do.
+#[derive(Drop)]
+pub struct AssembleCommand {
+    /// The name of the source's file.
+    pub source: String,
+    /// The name of the file that gets the object.
+    pub object: String,
+}
+
+/// What `mkfs` is to do.
+#[derive(Drop)]
+pub struct MakeVolumeCommand {
+    /// The name of the plan's file.
+    pub plan: String,
+    /// The number of cache lines of the medium: any number below 2^32.
+    pub lines: u32,
+    /// The name of the file that gets the medium.
+    pub medium: String,
+}
+
+/// What the machine of a run is made of.
+#[derive(Drop)]
+pub struct MachineOptions {
+    /// The name of the medium's file; None: 512 lines of zeros.
+    pub medium: Option<String>,
+    /// The number of harts, from 1 to 8; 1 where the line doesn't say.
+    pub harts: u32,
+    /// The most cache lines that the cache holds, from 1 to 16,384, and 16 where the line of a command
+    /// that has this option doesn't say; None: one line of cache for each line of the medium.
+    pub capacity: Option<u32>,
+}
+
+/// What `run` is to do.
+#[derive(Drop)]
+pub struct RunCommand {
+    /// The name of the program's file.
+    pub program: String,
+    /// The machine, whose capacity is Some.
+    pub machine: MachineOptions,
+    /// The most steps, from 1 to 500,000,000; 1,000,000 where the line doesn't say.
+    pub steps: u32,
+    /// The name of the file that gets the schedule of the run, where the line has `--record`.
+    pub record: Option<String>,
+    /// The name of the file that gets the medium of a power cut at the end, where the line has
+    /// `--out`.
+    pub out: Option<String>,
+}
+
+/// What `replay` is to do.
+#[derive(Drop)]
+pub struct ReplayCommand {
+    /// The name of the program's file.
+    pub program: String,
+    /// The name of the schedule's file.
+    pub schedule: String,
+    /// The machine, whose capacity is Some.
+    pub machine: MachineOptions,
+    /// The name of the file that gets the medium of a power cut at the end, where the line has
+    /// `--out`.
+    pub out: Option<String>,
+}
+
+/// What `images` is to do.
+#[derive(Drop)]
+pub struct ImagesCommand {
+    /// The name of the program's file.
+    pub program: String,
+    /// The name of the schedule's file.
+    pub schedule: String,
+    /// The number of events before the power cut: any number below 2^32.
+    pub moment: u32,
+    /// The machine, whose capacity is None.
+    pub machine: MachineOptions,
+}
+
+/// What `explain` is to do.
+#[derive(Drop)]
+pub struct ExplainCommand {
+    /// The name of the program's file.
+    pub program: String,
+    /// The name of the schedule's file.
+    pub schedule: String,
+    /// The number of events before the power cut: any number below 2^32.
+    pub moment: u32,
+    /// The number of the crash image among those of the moment: any number below 2^32.
+    pub image: u32,
+    /// The machine, whose capacity is None.
+    pub machine: MachineOptions,
+}
+
+/// What `check` is to do.
+#[derive(Drop)]
+pub struct CheckCommand {
+    /// The name of the plan's file.
+    pub plan: String,
+    /// The name of the program's file.
+    pub program: String,
+    /// The name of the schedule's file.
+    pub schedule: String,
+    /// The machine, whose capacity is None.
+    pub machine: MachineOptions,
 }
 
 /// Why a line gives no command.

@@ -1,9 +1,11 @@
 //! The grammar of the command line, as clap takes it.
 
 ghost use Rattle.std.specs.Prelude.{◌≡◌, [], ◌∷◌, IfOk, codes, false};
-ghost use Rattle.clap.specs.Words.{rule_of};
-ghost use Rattle.arguments.specs.Grammar.{IsGrammar, assemble_shape, images_shape, leaf, line, novacrash, run_shape};
-ghost use Rattle.arguments.specs.Grammar.{help_option, needed_word, number_option};
+ghost use Rattle.clap.specs.Words.{app_of, rule_of};
+ghost use Rattle.arguments.specs.Grammar.{IsGrammar, IsLocal, leaf, line, novacrash};
+ghost use Rattle.arguments.specs.Grammar.{assemble_shape, check_shape, explain_shape, images_shape, make_volume_shape, replay_shape, run_shape};
+ghost use Rattle.arguments.specs.Grammar.{help_option, needed_word, valued_option};
+ghost use Rattle.arguments.specs.Grammar.{with_cached_machine as cached, with_end as at_end, with_machine as whole, with_moment as at_moment, with_recording as recording, with_run as of_run};
 
 use clap::{Arg, ArgAction};
 use std::alloc::{AllocError, Global};
@@ -16,12 +18,15 @@ fn word<'a>(alloc: Global, name: &'a str, about: &'a str) -> Arg<'a>
     Arg::new(alloc, name).required(true).help(about)
 }
 
-/// An option whose value is a number.
-fn number<'a>(alloc: Global, name: &'a str, about: &'a str) -> Arg<'a>
-    ensures rule { rule_of result ≡ number_option name.entry.now }
+/// An option whose value is a file's name or a number, as `value` says.
+fn option<'a>(alloc: Global, name: &'a str, value: &'a str, about: &'a str) -> Arg<'a>
+    ensures rule { rule_of result ≡ valued_option name.entry.now }
     ensures local { result.global ≡ false }
 {
-    Arg::new(alloc, name).long(name).value_name("N").help(about)
+    Arg::new(alloc, name)
+        .long(name)
+        .value_name(value)
+        .help(about)
 }
 
 /// The option that asks for help. clap's own would answer to `-h` too.
@@ -35,6 +40,177 @@ fn help_flag<'a>(alloc: Global) -> Arg<'a>
         .help("Print help")
 }
 
+fn program<'a>(alloc: Global) -> Arg<'a>
+    ensures rule { rule_of result ≡ needed_word (codes "PROGRAM") }
+    ensures local { result.global ≡ false }
+{
+    word(
+        alloc,
+        "PROGRAM",
+        "The program's file: an object or a source",
+    )
+}
+
+fn schedule<'a>(alloc: Global) -> Arg<'a>
+    ensures rule { rule_of result ≡ needed_word (codes "SCHEDULE") }
+    ensures local { result.global ≡ false }
+{
+    word(alloc, "SCHEDULE", "The schedule's file")
+}
+
+fn plan<'a>(alloc: Global) -> Arg<'a>
+    ensures rule { rule_of result ≡ needed_word (codes "PLAN") }
+    ensures local { result.global ≡ false }
+{
+    word(alloc, "PLAN", "The plan's file")
+}
+
+fn moment<'a>(alloc: Global) -> Arg<'a>
+    ensures rule { rule_of result ≡ needed_word (codes "MOMENT") }
+    ensures local { result.global ≡ false }
+{
+    word(alloc, "MOMENT", "How many events come before the power cut")
+}
+
+fn image<'a>(alloc: Global) -> Arg<'a>
+    ensures rule { rule_of result ≡ needed_word (codes "IMAGE") }
+    ensures local { result.global ≡ false }
+{
+    word(alloc, "IMAGE", "The number of the crash image")
+}
+
+fn medium<'a>(alloc: Global) -> Arg<'a>
+    ensures rule { rule_of result ≡ valued_option (codes "medium") }
+    ensures local { result.global ≡ false }
+{
+    option(
+        alloc,
+        "medium",
+        "FILE",
+        "The medium's file [default: 512 lines of zeros]",
+    )
+}
+
+fn harts<'a>(alloc: Global) -> Arg<'a>
+    ensures rule { rule_of result ≡ valued_option (codes "harts") }
+    ensures local { result.global ≡ false }
+{
+    option(
+        alloc,
+        "harts",
+        "N",
+        "The number of harts, from 1 to 8 [default: 1]",
+    )
+}
+
+fn capacity<'a>(alloc: Global) -> Arg<'a>
+    ensures rule { rule_of result ≡ valued_option (codes "capacity") }
+    ensures local { result.global ≡ false }
+{
+    option(
+        alloc,
+        "capacity",
+        "N",
+        "The most lines of the cache, from 1 to 16384 [default: 16]",
+    )
+}
+
+fn steps<'a>(alloc: Global) -> Arg<'a>
+    ensures rule { rule_of result ≡ valued_option (codes "steps") }
+    ensures local { result.global ≡ false }
+{
+    option(
+        alloc,
+        "steps",
+        "N",
+        "The most steps, from 1 to 500000000 [default: 1000000]",
+    )
+}
+
+fn record<'a>(alloc: Global) -> Arg<'a>
+    ensures rule { rule_of result ≡ valued_option (codes "record") }
+    ensures local { result.global ≡ false }
+{
+    option(
+        alloc,
+        "record",
+        "FILE",
+        "The file that gets the schedule of the run",
+    )
+}
+
+fn out<'a>(alloc: Global) -> Arg<'a>
+    ensures rule { rule_of result ≡ valued_option (codes "out") }
+    ensures local { result.global ≡ false }
+{
+    option(
+        alloc,
+        "out",
+        "FILE",
+        "The file that gets the medium of a power cut at the end",
+    )
+}
+
+/// The command with a program and a schedule.
+fn with_run<'a>(alloc: Global, command: clap::Command<'a>) -> Result<clap::Command<'a>, AllocError>
+    requires { IsLocal command }
+    ensures { IfOk result (IsGrammar (of_run (app_of command.entry))) }
+{
+    command.arg(program(alloc))?.arg(schedule(alloc))
+}
+
+/// The command with a program, a schedule and a moment.
+fn with_moment<'a>(
+    alloc: Global,
+    command: clap::Command<'a>,
+) -> Result<clap::Command<'a>, AllocError>
+    requires { IsLocal command }
+    ensures { IfOk result (IsGrammar (at_moment (app_of command.entry))) }
+{
+    with_run(alloc, command)?.arg(moment(alloc))
+}
+
+/// The command with the options of a machine.
+fn with_machine<'a>(
+    alloc: Global,
+    command: clap::Command<'a>,
+) -> Result<clap::Command<'a>, AllocError>
+    requires { IsLocal command }
+    ensures { IfOk result (IsGrammar (whole (app_of command.entry))) }
+{
+    command.arg(medium(alloc))?.arg(harts(alloc))
+}
+
+/// The command with the options of a machine and of its cache.
+fn with_cached_machine<'a>(
+    alloc: Global,
+    command: clap::Command<'a>,
+) -> Result<clap::Command<'a>, AllocError>
+    requires { IsLocal command }
+    ensures { IfOk result (IsGrammar (cached (app_of command.entry))) }
+{
+    with_machine(alloc, command)?.arg(capacity(alloc))
+}
+
+/// The command with the limit and the record of a run.
+fn with_recording<'a>(
+    alloc: Global,
+    command: clap::Command<'a>,
+) -> Result<clap::Command<'a>, AllocError>
+    requires { IsLocal command }
+    ensures { IfOk result (IsGrammar (recording (app_of command.entry))) }
+{
+    command.arg(steps(alloc))?.arg(record(alloc))
+}
+
+/// The command with the option of the medium at the end, and `--help`.
+fn with_end<'a>(alloc: Global, command: clap::Command<'a>) -> Result<clap::Command<'a>, AllocError>
+    requires { IsLocal command }
+    ensures { IfOk result (IsGrammar (at_end (app_of command.entry))) }
+{
+    command.arg(out(alloc))?.arg(help_flag(alloc))
+}
+
 fn assemble<'a>(alloc: Global) -> Result<clap::Command<'a>, AllocError>
     ensures { IfOk result (IsGrammar (leaf assemble_shape)) }
 {
@@ -45,37 +221,63 @@ fn assemble<'a>(alloc: Global) -> Result<clap::Command<'a>, AllocError>
         .arg(help_flag(alloc))
 }
 
+fn make_volume<'a>(alloc: Global) -> Result<clap::Command<'a>, AllocError>
+    ensures { IfOk result (IsGrammar (leaf make_volume_shape)) }
+{
+    clap::Command::new(alloc, "mkfs")
+        .about("Write a fresh log volume for the operations of a plan")
+        .arg(plan(alloc))?
+        .arg(word(alloc, "LINES", "The number of cache lines of the medium"))?
+        .arg(word(alloc, "MEDIUM", "The file that gets the medium"))?
+        .arg(help_flag(alloc))
+}
+
 fn run<'a>(alloc: Global) -> Result<clap::Command<'a>, AllocError>
     ensures { IfOk result (IsGrammar (leaf run_shape)) }
 {
-    clap::Command::new(alloc, "run")
-        .about("Run a program on one hart")
-        .arg(word(
-            alloc,
-            "PROGRAM",
-            "The program's file: an object or a source",
-        ))?
-        .arg(number(
-            alloc,
-            "steps",
-            "The most steps, from 1 to 500000000 [default: 1000000]",
-        ))?
-        .arg(help_flag(alloc))
+    let command = clap::Command::new(alloc, "run")
+        .about("Run a program")
+        .arg(program(alloc))?;
+    let command = with_cached_machine(alloc, command)?;
+    with_end(alloc, with_recording(alloc, command)?)
+}
+
+fn replay<'a>(alloc: Global) -> Result<clap::Command<'a>, AllocError>
+    ensures { IfOk result (IsGrammar (leaf replay_shape)) }
+{
+    let command = clap::Command::new(alloc, "replay").about("Run a program by a schedule");
+    let command = with_run(alloc, command)?;
+    with_end(alloc, with_cached_machine(alloc, command)?)
 }
 
 fn images<'a>(alloc: Global) -> Result<clap::Command<'a>, AllocError>
     ensures { IfOk result (IsGrammar (leaf images_shape)) }
 {
-    clap::Command::new(alloc, "images")
-        .about("Count the crash images of a moment of a run by a schedule")
-        .arg(word(
-            alloc,
-            "PROGRAM",
-            "The program's file: an object or a source",
-        ))?
-        .arg(word(alloc, "SCHEDULE", "The schedule's file"))?
-        .arg(word(alloc, "MOMENT", "How many events come before the power cut"))?
-        .arg(help_flag(alloc))
+    let command = clap::Command::new(alloc, "images").about(
+        "Count the crash images of a moment of a run by a schedule",
+    );
+    let command = with_moment(alloc, command)?;
+    with_machine(alloc, command)?.arg(help_flag(alloc))
+}
+
+fn explain<'a>(alloc: Global) -> Result<clap::Command<'a>, AllocError>
+    ensures { IfOk result (IsGrammar (leaf explain_shape)) }
+{
+    let command = clap::Command::new(alloc, "explain").about(
+        "Print a schedule that leaves a crash image of a moment of a run",
+    );
+    let command = with_moment(alloc, command)?.arg(image(alloc))?;
+    with_machine(alloc, command)?.arg(help_flag(alloc))
+}
+
+fn check<'a>(alloc: Global) -> Result<clap::Command<'a>, AllocError>
+    ensures { IfOk result (IsGrammar (leaf check_shape)) }
+{
+    let command = clap::Command::new(alloc, "check")
+        .about("Judge every crash image of a run by a schedule")
+        .arg(plan(alloc))?;
+    let command = with_run(alloc, command)?;
+    with_machine(alloc, command)?.arg(help_flag(alloc))
 }
 
 /// The line with `asm` as its one subcommand.
@@ -91,16 +293,28 @@ fn with_assemble<'a>(alloc: Global) -> Result<clap::Command<'a>, AllocError>
         .subcommand(assemble(alloc)?)
 }
 
-/// The line with `run` beside it.
-fn with_run<'a>(alloc: Global) -> Result<clap::Command<'a>, AllocError>
-    ensures { IfOk result (IsGrammar (line (assemble_shape ∷ run_shape ∷ []))) }
+/// The line with `mkfs` beside it.
+fn with_make_volume<'a>(alloc: Global) -> Result<clap::Command<'a>, AllocError>
+    ensures { IfOk result (IsGrammar (line (assemble_shape ∷ make_volume_shape ∷ []))) }
 {
-    with_assemble(alloc)?.subcommand(run(alloc)?)
+    with_assemble(alloc)?.subcommand(make_volume(alloc)?)
+}
+
+/// The line with `run` and `replay` beside them.
+fn with_runs<'a>(alloc: Global) -> Result<clap::Command<'a>, AllocError>
+    ensures { IfOk result (IsGrammar (line (assemble_shape ∷ make_volume_shape ∷ run_shape ∷ replay_shape ∷ []))) }
+{
+    with_make_volume(alloc)?
+        .subcommand(run(alloc)?)?
+        .subcommand(replay(alloc)?)
 }
 
 /// The whole line: a subcommand with its words and options, and `--help` anywhere.
 pub(crate) fn grammar<'a>(alloc: Global) -> Result<clap::Command<'a>, AllocError>
     ensures { IfOk result (IsGrammar novacrash) }
 {
-    with_run(alloc)?.subcommand(images(alloc)?)
+    with_runs(alloc)?
+        .subcommand(images(alloc)?)?
+        .subcommand(explain(alloc)?)?
+        .subcommand(check(alloc)?)
 }

@@ -2,11 +2,16 @@
 #![tactic(auto)]
 
 mod asked;
+mod commands;
 mod grammar;
 mod line;
+mod machine;
 #[cfg(test)]
 mod tests;
 mod values;
 
-pub use asked::{Command, LineFault};
+pub use asked::{
+    AssembleCommand, CheckCommand, Command, ExplainCommand, ImagesCommand, LineFault,
+    MachineOptions, MakeVolumeCommand, ReplayCommand, RunCommand,
+};
 pub use line::command;

@@ -1,15 +1,13 @@
 //! Reading a command line.
 
 ghost use Rattle.std.specs.Prelude.{◌≡◌, IfOk, IfErr, [], map, string_bytes};
-ghost use Rattle.clap.specs.Words.{fault_of, found_of, kind_of, rows_of, subcommand_of};
-ghost use Rattle.clap.specs.Words.{subcommand_rows_of};
+ghost use Rattle.clap.specs.Words.{fault_of, kind_of, subcommand_of, subcommand_rows_of};
 ghost use Rattle.arguments.specs.Grammar.{novacrash};
-ghost use Rattle.arguments.specs.Line.{IsAssemble, IsCommand, IsImages, IsKindOf, IsRun, IsWithinLimits, OnFault, Refuses};
-ghost use Rattle.arguments.specs.declared.asked.Command.{Command as ACommand};
+ghost use Rattle.arguments.specs.Line.{IsCommand, IsKindOf, IsWithinLimits, Refuses};
 
 use crate::asked::{Command, LineFault};
+use crate::commands::{assemble, check, explain, images, make_volume, replay, run};
 use crate::grammar::grammar;
-use crate::values::{NumberOption, number, number_word, word};
 use clap::ArgMatches;
 use clap::error::ErrorKind;
 use std::alloc::{AllocError, Global};
@@ -30,7 +28,6 @@ fn refusal(alloc: Global, error: &clap::Error) -> Result<LineFault, AllocError>
 }
 
 /// clap's matches for a line.
-#[tactic(auto, using(crate::proofs::Lines::refused))]
 fn matches<'a>(alloc: Global, words: &'a [String]) -> Result<ArgMatches<'a>, LineFault>
     ensures grammatical { IfOk result (λ found.
         fault_of novacrash (map string_bytes words.now) ≡ []) }
@@ -44,60 +41,20 @@ fn matches<'a>(alloc: Global, words: &'a [String]) -> Result<ArgMatches<'a>, Lin
     }
 }
 
-/// The most steps of `run`.
-const STEPS: NumberOption = NumberOption {
-    name: "steps",
-    default: 1_000_000,
-    low: 1,
-    high: 500_000_000,
-};
-
-/// The command that `asm` asks for.
-fn assemble(alloc: Global, found: &ArgMatches<'_>) -> Result<Command, LineFault>
-    ensures ok { IfOk result (IsAssemble (rows_of (found_of found.now))) }
-    ensures within { IfOk result IsWithinLimits }
-    ensures err { IfErr result (OnFault ((command : ACommand)
-        → ¬ (IsAssemble (rows_of (found_of found.now)) command))) }
-{
-    Ok(Command::Assemble {
-        source: word(alloc, found, "SOURCE")?,
-        object: word(alloc, found, "OBJECT")?,
-    })
-}
-
-/// The command that `run` asks for.
-fn run(alloc: Global, found: &ArgMatches<'_>) -> Result<Command, LineFault>
-    ensures ok { IfOk result (IsRun (rows_of (found_of found.now))) }
-    ensures within { IfOk result IsWithinLimits }
-    ensures err { IfErr result (OnFault ((command : ACommand)
-        → ¬ (IsRun (rows_of (found_of found.now)) command))) }
-{
-    Ok(Command::Run {
-        program: word(alloc, found, "PROGRAM")?,
-        steps: number(alloc, found, &STEPS)?,
-    })
-}
-
-/// The command that `images` asks for.
-fn images(alloc: Global, found: &ArgMatches<'_>) -> Result<Command, LineFault>
-    ensures ok { IfOk result (IsImages (rows_of (found_of found.now))) }
-    ensures within { IfOk result IsWithinLimits }
-    ensures err { IfErr result (OnFault ((command : ACommand)
-        → ¬ (IsImages (rows_of (found_of found.now)) command))) }
-{
-    Ok(Command::Images {
-        program: word(alloc, found, "PROGRAM")?,
-        schedule: word(alloc, found, "SCHEDULE")?,
-        moment: number_word(alloc, found, "MOMENT")?,
-    })
-}
-
 /// The command that a line asks for. `words` begins with the program's name.
 ///
 /// # Errors
 /// Help where the line asks for it, Memory where memory is refused, and else Fault where the line
-/// isn't `asm SOURCE OBJECT`, `run PROGRAM [--steps N]`, with N from 1 to 500,000,000, or `images PROGRAM SCHEDULE MOMENT`,
-/// with a MOMENT below 2^32, in decimal digits both.
+/// isn't one of these, with FILE any word, LINES, MOMENT and IMAGE below 2^32, and each N within the
+/// limits that `Command` has for it, in decimal digits all:
+///
+/// - `asm SOURCE OBJECT`
+/// - `mkfs PLAN LINES MEDIUM`
+/// - `run PROGRAM [--medium FILE --harts N --capacity N --steps N --record FILE --out FILE]`
+/// - `replay PROGRAM SCHEDULE [--medium FILE --harts N --capacity N --out FILE]`
+/// - `images PROGRAM SCHEDULE MOMENT [--medium FILE --harts N]`
+/// - `explain PROGRAM SCHEDULE MOMENT IMAGE [--medium FILE --harts N]`
+/// - `check PLAN PROGRAM SCHEDULE [--medium FILE --harts N]`
 pub fn command(alloc: Global, words: &[String]) -> Result<Command, LineFault>
     ensures ok { IfOk result (IsCommand (map string_bytes words.now)) }
     ensures within { IfOk result IsWithinLimits }
@@ -105,9 +62,13 @@ pub fn command(alloc: Global, words: &[String]) -> Result<Command, LineFault>
 {
     let found = matches(alloc, words)?;
     match found.subcommand() {
-        Some(("asm", found)) => assemble(alloc, found),
-        Some(("run", found)) => run(alloc, found),
-        Some(("images", found)) => images(alloc, found),
+        Some(("asm", found)) => Ok(Command::Assemble(assemble(alloc, found)?)),
+        Some(("mkfs", found)) => Ok(Command::MakeVolume(make_volume(alloc, found)?)),
+        Some(("run", found)) => Ok(Command::Run(run(alloc, found)?)),
+        Some(("replay", found)) => Ok(Command::Replay(replay(alloc, found)?)),
+        Some(("images", found)) => Ok(Command::Images(images(alloc, found)?)),
+        Some(("explain", found)) => Ok(Command::Explain(explain(alloc, found)?)),
+        Some(("check", found)) => Ok(Command::Check(check(alloc, found)?)),
         _ => Err(LineFault::Fault(format!(in alloc; "error: there is no such command\n")?)),
     }
 }

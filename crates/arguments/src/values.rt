@@ -1,13 +1,14 @@
 //! The values that clap found for a subcommand's words and options.
 
-ghost use Rattle.std.specs.Prelude.{◌≡◌, ◌≤◌, ◌<◌, ◌^◌, ℕ, IfOk, IfErr, MatchOption, string_bytes};
+ghost use Rattle.std.specs.Prelude.{◌≡◌, ◌≤◌, ℕ, IfOk, IfErr, MatchOption};
 ghost use Rattle.clap.specs.Words.{first_of, found_of, rows_of};
-ghost use Rattle.arguments.specs.Line.{IsNumber, IsNumberWord, OnFault};
+ghost use Rattle.arguments.specs.Line.{OnFault};
+ghost use Rattle.arguments.specs.Values.{IsNumber, IsNumberWord, IsOptional, IsWord};
 
 use crate::asked::LineFault;
 use clap::ArgMatches;
 use decimal::{decimal, decimal_within};
-use std::alloc::Global;
+use std::alloc::{AllocError, Global};
 
 /// The value of an option or a word, where the line has it.
 #[tactic(auto, using(crate::proofs::Lines::value_found))]
@@ -20,13 +21,26 @@ fn value<'a>(found: &ArgMatches<'a>, name: &str) -> Option<&'a str>
 
 /// The word that a command needs.
 pub(crate) fn word(alloc: Global, found: &ArgMatches<'_>, name: &str) -> Result<String, LineFault>
-    ensures ok { IfOk result (λ word.
-        first_of name.now (rows_of (found_of found.now)) ≡ Some (string_bytes word)) }
+    ensures ok { IfOk result (IsWord name.now (rows_of (found_of found.now))) }
     ensures err { IfErr result (OnFault (first_of name.now (rows_of (found_of found.now)) ≡ None)) }
 {
     match value(found, name) {
         Some(word) => Ok(String::from_str(alloc, word)?),
         None => Err(LineFault::Fault(format!(in alloc; "error: {name} is missing\n")?)),
+    }
+}
+
+/// The value of an option that may be left out.
+pub(crate) fn optional(
+    alloc: Global,
+    found: &ArgMatches<'_>,
+    name: &str,
+) -> Result<Option<String>, AllocError>
+    ensures { IfOk result (IsOptional name.now (rows_of (found_of found.now))) }
+{
+    match value(found, name) {
+        Some(value) => Ok(Some(String::from_str(alloc, value)?)),
+        None => Ok(None),
     }
 }
 

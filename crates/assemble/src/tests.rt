@@ -2,6 +2,7 @@
 
 use crate::{AsmCode, AsmFault, assemble};
 use std::alloc::Global;
+use std::process::Abort;
 use std::test::Fail;
 
 /// The words of a source's text.
@@ -40,12 +41,58 @@ fn repeated(
     Ok(source)
 }
 
+/// A source has these words. (One function, since each `assert!` is proved anew; so are the next two.)
+fn expect_words(
+    rt: &(impl AllocGlobal + Abort),
+    source: &[u8],
+    expected: &[u32],
+) -> Result<(), Fail> {
+    let found = words(rt.alloc(), source)?;
+    assert_eq!(rt; found.as_slice(), expected);
+    Ok(())
+}
+
+/// A source has so many words, and this one at this place.
+fn expect_word(
+    rt: &(impl AllocGlobal + Abort),
+    source: &[u8],
+    (count, at): (usize, usize),
+    word: u32,
+) -> Result<(), Fail> {
+    let found = words(rt.alloc(), source)?;
+    assert_eq!(rt; (found.len(), found.get(at).copied()), (count, Some(word)));
+    Ok(())
+}
+
+/// Each source is refused at its line with its code.
+fn expect_faults(rt: &(impl AllocGlobal + Abort), sources: &[(&[u8], u32, AsmCode)]) {
+    for (source, line, code) in sources {
+        let found = fault(rt.alloc(), *source);
+        assert_eq!(rt;
+            found,
+            Some((*line, *code)),
+            "of a source of {} bytes",
+            source.len()
+        );
+    }
+}
+
+/// The data of a source.
+fn static_data(alloc: Global, source: &[u8]) -> Result<Vec<u8>, Fail> {
+    let object = assemble(alloc, source)?;
+    Ok(object.data_bytes().to_vec(alloc)?)
+}
+
+/// The file of a source's object.
+fn file_of(alloc: Global, source: &[u8]) -> Result<Vec<u8>, Fail> {
+    Ok(assemble(alloc, source)?.to_bytes(alloc)?)
+}
+
 #[test]
 fn instructions_have_their_words(rt: HostRuntime) -> Result<(), Fail> {
-    let alloc = rt.alloc();
-    let object = assemble(alloc, b"addi x1, x0, 5")?;
-    let file = b"RVXPROG1\x04\0\0\0\0\0\0\0\x93\x00\x50\x00";
-    assert_eq!(rt; object.to_bytes(alloc)?.as_slice(), file.as_slice());
+    let file = file_of(rt.alloc(), b"addi x1, x0, 5")?;
+    let expected = b"RVXPROG1\x04\0\0\0\0\0\0\0\x93\x00\x50\x00";
+    assert_eq!(rt; file.as_slice(), expected.as_slice());
     let program =
         b"addi x5, x0, 7\r\nlui x6, 0x40000 # base\n\nsd x5, 0(x6)\n\tcbo.clean (x6)\nfence w, w\naddi x17, x0, 93\naddi x10, x0, 0\necall";
     let expected = [
@@ -58,14 +105,12 @@ fn instructions_have_their_words(rt: HostRuntime) -> Result<(), Fail> {
         0x0000_0513,
         0x0000_0073,
     ];
-    assert_eq!(rt; words(alloc, program)?.as_slice(), expected.as_slice());
-    assert_eq!(rt; words(alloc, b"")?.len(), 0);
-    Ok(())
+    expect_words(&rt, program, &expected)?;
+    expect_words(&rt, b"", &[])
 }
 
 #[test]
 fn numbers_are_loaded_by_one_word_or_two(rt: HostRuntime) -> Result<(), Fail> {
-    let alloc = rt.alloc();
     let source =
         b"li a0, 0x12345678\nsrai x1, x1, 63\nli a0, -2048\nli a0, 2048\nli a0, 0x7FFFFFFF";
     let expected = [
@@ -78,43 +123,33 @@ fn numbers_are_loaded_by_one_word_or_two(rt: HostRuntime) -> Result<(), Fail> {
         0x8000_0537,
         0xfff5_051b,
     ];
-    assert_eq!(rt; words(alloc, source)?.as_slice(), expected.as_slice());
-    assert_eq!(rt;
-        fault(alloc, b"nop\nslliw x1, x1, 32"),
-        Some((2, AsmCode::Range))
-    );
-    Ok(())
+    expect_faults(&rt, &[(b"nop\nslliw x1, x1, 32", 2, AsmCode::Range)]);
+    expect_words(&rt, source, &expected)
 }
 
 #[test]
 fn branches_reach_their_labels(rt: HostRuntime) -> Result<(), Fail> {
     let alloc = rt.alloc();
-    assert_eq!(rt;
-        words(alloc, b"back: nop\nbeq x0, x0, back")?.get(1),
-        Some(&0xfe00_0ee3)
-    );
-    assert_eq!(rt;
-        words(alloc, b"here: jal x0, here")?.first(),
-        Some(&0x0000_006f)
-    );
-    assert_eq!(rt;
-        words(alloc, b"jal x1, there\nnop\nthere:")?.first(),
-        Some(&0x0080_00ef)
-    );
-    let jump = b"nop\nj far\n.data\n.zero 65538\nfar:";
-    assert_eq!(rt; words(alloc, jump)?.get(1), Some(&0x7fff_f06f));
     let near = repeated(alloc, b"beq x0, x0, far\n", b"nop\n", 1022, b"far:")?;
-    assert_eq!(rt; words(alloc, &near)?.first(), Some(&0x7e00_0ee3));
     let far = repeated(alloc, b"beq x0, x0, far\n", b"nop\n", 1023, b"far:")?;
-    assert_eq!(rt; fault(alloc, &far), Some((1, AsmCode::Range)));
     let lowest = repeated(alloc, b"far:\n", b"nop\n", 1024, b"bnez x0, far")?;
-    assert_eq!(rt; words(alloc, &lowest)?.last(), Some(&0x8000_1063));
+    let sources: [(&[u8], usize, usize, u32); 6] = [
+        (b"back: nop\nbeq x0, x0, back", 2, 1, 0xfe00_0ee3),
+        (b"here: jal x0, here", 1, 0, 0x0000_006f),
+        (b"jal x1, there\nnop\nthere:", 2, 0, 0x0080_00ef),
+        (b"nop\nj far\n.data\n.zero 65538\nfar:", 2, 1, 0x7fff_f06f),
+        (&near, 1023, 0, 0x7e00_0ee3),
+        (&lowest, 1025, 1024, 0x8000_1063),
+    ];
+    expect_faults(&rt, &[(&far, 1, AsmCode::Range)]);
+    for (source, count, at, word) in sources {
+        expect_word(&rt, source, (count, at), word)?;
+    }
     Ok(())
 }
 
 #[test]
 fn a_program_that_rewrites_itself_has_its_words(rt: HostRuntime) -> Result<(), Fail> {
-    let alloc = rt.alloc();
     let source =
         b"la t0, spot\nla t1, new\nlw t2, 0(t1)\nsw t2, 0(t0)\nfence.i\nspot: li a0, 1\nli a7, 93\necall\nnew: .word 0x00200513";
     let expected = [
@@ -130,21 +165,19 @@ fn a_program_that_rewrites_itself_has_its_words(rt: HostRuntime) -> Result<(), F
         0x0000_0073,
         0x0020_0513,
     ];
-    assert_eq!(rt; words(alloc, source)?.as_slice(), expected.as_slice());
-    Ok(())
+    expect_words(&rt, source, &expected)
 }
 
 #[test]
 fn directives_have_their_bytes(rt: HostRuntime) -> Result<(), Fail> {
-    let alloc = rt.alloc();
     let source =
         b".data\na: .byte 1, -1, 0xff\n.half -2, 0x1234\n.word 0x89abcdef\n.text\nla a0, c\n.data\n.dword -1\n.zero 2\nb: .balign 8\nc: .byte 5\n.balign 1\n.text\n la a0, b\nd: .data\n.text\n la a0, d\nla a0, a";
-    let object = assemble(alloc, source)?;
+    let found = static_data(rt.alloc(), source)?;
     let expected = [
         1, 0xff, 0xff, 0xfe, 0xff, 0x34, 0x12, 0xef, 0xcd, 0xab, 0x89, 0xff, 0xff, 0xff, 0xff,
         0xff, 0xff, 0xff, 0xff, 0, 0, 0, 0, 0, 5,
     ];
-    assert_eq!(rt; object.data_bytes(), expected.as_slice());
+    assert_eq!(rt; found.as_slice(), expected.as_slice());
     let addresses = [
         0x000f_0517,
         0x0185_0513,
@@ -155,129 +188,104 @@ fn directives_have_their_bytes(rt: HostRuntime) -> Result<(), Fail> {
         0x000f_0517,
         0xfe85_0513,
     ];
-    assert_eq!(rt; words(alloc, source)?.as_slice(), addresses.as_slice());
-    assert_eq!(rt;
-        words(alloc, b"la a0, d\n.data\nd:")?.as_slice(),
-        [0x000f_0517, 0x0005_0513].as_slice()
-    );
-    Ok(())
+    expect_words(&rt, source, &addresses)?;
+    expect_words(&rt, b"la a0, d\n.data\nd:", &[0x000f_0517, 0x0005_0513])
 }
 
-#[test]
-fn a_fault_that_needs_no_place_comes_first(rt: HostRuntime) -> Result<(), Fail> {
-    let alloc = rt.alloc();
-    assert_eq!(rt;
-        fault(alloc, b"j away\nfoo x1"),
-        Some((2, AsmCode::Mnemonic))
-    );
-    assert_eq!(rt; fault(alloc, b"j away"), Some((1, AsmCode::UnknownLabel)));
-    assert_eq!(rt;
-        fault(alloc, b"nop\nla a0, away\nj .+1"),
-        Some((3, AsmCode::Range))
-    );
-    assert_eq!(rt;
-        fault(alloc, b"nop\nbeqz a0, away\nj away"),
-        Some((2, AsmCode::UnknownLabel))
-    );
-    assert_eq!(rt;
-        fault(alloc, b"nop\n.data\n.zero 65540\na:\n.text\nj a"),
-        Some((6, AsmCode::Range))
-    );
-    assert_eq!(rt;
-        fault(alloc, b"nop\n.data\na:\n.text\nbltu a0, a1, a"),
-        Some((5, AsmCode::Range))
-    );
-    Ok(())
-}
+static NEEDS_NO_PLACE: [(&[u8], u32, AsmCode); 6] = [
+    (b"j away\nfoo x1", 2, AsmCode::Mnemonic),
+    (b"j away", 1, AsmCode::UnknownLabel),
+    (b"nop\nla a0, away\nj .+1", 3, AsmCode::Range),
+    (b"nop\nbeqz a0, away\nj away", 2, AsmCode::UnknownLabel),
+    (
+        b"nop\n.data\n.zero 65540\na:\n.text\nj a",
+        6,
+        AsmCode::Range,
+    ),
+    (b"nop\n.data\na:\n.text\nbltu a0, a1, a", 5, AsmCode::Range),
+];
 
 #[test]
-fn lines_are_refused_with_their_lowest_code(rt: HostRuntime) -> Result<(), Fail> {
-    let alloc = rt.alloc();
-    assert_eq!(rt; fault(alloc, b"nop\nfoo 01"), Some((2, AsmCode::BadToken)));
-    assert_eq!(rt; fault(alloc, b"nop\nadd x1"), Some((2, AsmCode::Operands)));
-    assert_eq!(rt; fault(alloc, b"nop\nx1: nop"), Some((2, AsmCode::Register)));
-    assert_eq!(rt;
-        fault(alloc, b"a: nop\nb: j c\na: nop\nc:"),
-        Some((3, AsmCode::LabelTwice))
-    );
-    assert_eq!(rt;
-        fault(alloc, b"a:\na: .zero 2"),
-        Some((2, AsmCode::LabelTwice))
-    );
-    assert_eq!(rt;
-        fault(alloc, b"a:\na: .byte 300"),
-        Some((2, AsmCode::Range))
-    );
-    assert_eq!(rt;
-        fault(alloc, b"nop\n.byte 1"),
-        Some((2, AsmCode::WrongSection))
-    );
-    assert_eq!(rt;
-        fault(alloc, b"nop\n.half 1"),
-        Some((2, AsmCode::WrongSection))
-    );
-    assert_eq!(rt;
-        fault(alloc, b"nop\n.dword 1"),
-        Some((2, AsmCode::WrongSection))
-    );
-    assert_eq!(rt;
-        fault(alloc, b"nop\n.zero 1048576"),
-        Some((2, AsmCode::WrongSection))
-    );
-    assert_eq!(rt;
-        fault(alloc, b"nop\n.balign 4"),
-        Some((2, AsmCode::WrongSection))
-    );
-    assert_eq!(rt;
-        fault(alloc, b".data\nli a0, 5000"),
-        Some((2, AsmCode::WrongSection))
-    );
-    assert_eq!(rt;
-        fault(alloc, b".data\nd: la a0, d"),
-        Some((2, AsmCode::WrongSection))
-    );
-    Ok(())
+fn a_fault_that_needs_no_place_comes_first(rt: HostRuntime) {
+    expect_faults(&rt, &NEEDS_NO_PLACE);
+}
+
+static LOWEST_CODES: [(&[u8], u32, AsmCode); 13] = [
+    (b"nop\nfoo 01", 2, AsmCode::BadToken),
+    (b"nop\nadd x1", 2, AsmCode::Operands),
+    (b"nop\nx1: nop", 2, AsmCode::Register),
+    (b"a: nop\nb: j c\na: nop\nc:", 3, AsmCode::LabelTwice),
+    (b"a:\na: .zero 2", 2, AsmCode::LabelTwice),
+    (b"a:\na: .byte 300", 2, AsmCode::Range),
+    (b"nop\n.byte 1", 2, AsmCode::WrongSection),
+    (b"nop\n.half 1", 2, AsmCode::WrongSection),
+    (b"nop\n.dword 1", 2, AsmCode::WrongSection),
+    (b"nop\n.zero 1048576", 2, AsmCode::WrongSection),
+    (b"nop\n.balign 4", 2, AsmCode::WrongSection),
+    (b".data\nli a0, 5000", 2, AsmCode::WrongSection),
+    (b".data\nd: la a0, d", 2, AsmCode::WrongSection),
+];
+
+#[test]
+fn lines_are_refused_with_their_lowest_code(rt: HostRuntime) {
+    expect_faults(&rt, &LOWEST_CODES);
+}
+
+/// The number of words of a source.
+fn count(alloc: Global, source: &[u8]) -> Result<usize, Fail> {
+    Ok(words(alloc, source)?.len())
+}
+
+/// The number of bytes of a source's data, and the last of them.
+fn last_byte(alloc: Global, source: &[u8]) -> Result<(usize, Option<u8>), Fail> {
+    let found = static_data(alloc, source)?;
+    Ok((found.len(), found.last().copied()))
 }
 
 #[test]
 fn sections_may_reach_their_limits_and_not_pass_them(rt: HostRuntime) -> Result<(), Fail> {
     let alloc = rt.alloc();
     let full = repeated(alloc, b"", b"nop\n", 16_384, b".data\n.text\n#")?;
-    assert_eq!(rt; words(alloc, &full)?.len(), 16_384);
     let past = repeated(alloc, b"", b"nop\n", 16_384, b"#\nnop")?;
-    assert_eq!(rt; fault(alloc, &past), Some((16_386, AsmCode::TooLarge)));
     let pair = repeated(alloc, b"", b"nop\n", 16_383, b"li a0, 5000")?;
-    assert_eq!(rt; fault(alloc, &pair), Some((16_384, AsmCode::TooLarge)));
-    let data = assemble(
-        alloc,
-        b".data\n.zero 1048575\n.byte 7\n.zero 0\n.balign 4096\nend:",
-    )?;
-    assert_eq!(rt; data.data_bytes().len(), 1_048_576);
-    assert_eq!(rt; data.data_bytes().last(), Some(&7));
-    assert_eq!(rt;
-        fault(alloc, b".data\n.zero 1048576\n.byte 7"),
-        Some((3, AsmCode::TooLarge))
-    );
-    assert_eq!(rt;
-        fault(alloc, b".data\n.zero 1048570\n.dword 7"),
-        Some((3, AsmCode::TooLarge))
-    );
+    let data = b".data\n.zero 1048575\n.byte 7\n.zero 0\n.balign 4096\nend:";
+    let sources: [(&[u8], u32, AsmCode); 4] = [
+        (&past, 16_386, AsmCode::TooLarge),
+        (&pair, 16_384, AsmCode::TooLarge),
+        (b".data\n.zero 1048576\n.byte 7", 3, AsmCode::TooLarge),
+        (b".data\n.zero 1048570\n.dword 7", 3, AsmCode::TooLarge),
+    ];
+    expect_faults(&rt, &sources);
+    let found = (count(alloc, &full)?, last_byte(alloc, data)?);
+    assert_eq!(rt; found, (16_384, (1_048_576, Some(7))));
     Ok(())
+}
+
+/// The number of bytes of a source's text.
+fn text_length(alloc: Global, source: &[u8]) -> Result<usize, Fail> {
+    Ok(assemble(alloc, source)?.text_bytes().len())
+}
+
+/// A beginning, and then a comment up to so many bytes.
+fn comment(alloc: Global, first: &[u8], size: usize) -> Result<Vec<u8>, Fail> {
+    let mut source = first.to_vec(alloc)?;
+    source.resize(size, b'#')?;
+    Ok(source)
 }
 
 #[test]
 fn a_source_may_reach_its_limit_and_not_pass_it(rt: HostRuntime) -> Result<(), Fail> {
     let alloc = rt.alloc();
-    let mut source = vec![in alloc; b'#'; 4_194_304]?;
-    assert!(rt; assemble(alloc, &source)?.text_bytes().is_empty());
-    source.push(b'#')?;
-    assert_eq!(rt; fault(alloc, &source), Some((1, AsmCode::TooLarge)));
-    let mut lower = b".byte 1".to_vec(alloc)?;
-    lower.extend_from_slice(&source)?;
-    assert_eq!(rt; fault(alloc, &lower), Some((1, AsmCode::WrongSection)));
-    if let Some(byte) = source.first_mut() {
-        *byte = b'+';
-    }
-    assert_eq!(rt; fault(alloc, &source), Some((1, AsmCode::Operands)));
+    let full = comment(alloc, b"", 4_194_304)?;
+    assert_eq!(rt; text_length(alloc, &full)?, 0);
+    let past = comment(alloc, b"", 4_194_305)?;
+    let section = comment(alloc, b".byte 1", 4_194_312)?;
+    let operands = comment(alloc, b"+", 4_194_305)?;
+    let sources: [(&[u8], u32, AsmCode); 3] = [
+        (&past, 1, AsmCode::TooLarge),
+        (&section, 1, AsmCode::WrongSection),
+        (&operands, 1, AsmCode::Operands),
+    ];
+    expect_faults(&rt, &sources);
     Ok(())
 }

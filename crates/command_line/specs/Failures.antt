@@ -1,61 +1,49 @@
--- What standard error gets of a command that fails, and the status that the program then ends with.
+-- What standard error gets of a command that fails, the status that the program then ends with, and which failure a fault
+-- of the layers below comes to.
 use Rattle.std.specs.Prelude.{ℕ, List, ◌++◌, codes, decimal, string_bytes}
 use Rattle.asm_line.specs.declared.fault.AsmCode.{AsmCode}
 use Rattle.asm_line.specs.declared.fault.AsmCode.TheVariants as asm
 use Rattle.assemble.specs.declared.fault.AsmFault.{AsmFault}
-use Rattle.object.specs.declared.fault.LoadFault.{LoadFault}
-use Rattle.object.specs.declared.fault.LoadFault.TheVariants as loads
+use Rattle.line_memory.specs.declared.MediumFault.{MediumFault}
+use Rattle.line_memory.specs.declared.MediumFault.TheVariants as media
+use Rattle.nova_log.specs.declared.fault.VolumeFault.{VolumeFault}
+use Rattle.nova_log.specs.declared.fault.VolumeFault.TheVariants as volumes
+use Rattle.plan.specs.declared.fault.PlanCode.{PlanCode}
+use Rattle.plan.specs.declared.fault.PlanCode.TheVariants as plans
+use Rattle.plan.specs.declared.fault.PlanFault.{PlanFault}
+use Rattle.schedule.specs.declared.fault.ScheduleFault.{ScheduleFault}
+use Rattle.schedule.specs.declared.fault.ScheduleFault.TheVariants as schedules
 use Rattle.shared_memory.specs.declared.fault.StepFault.{StepFault}
 use Rattle.shared_memory.specs.declared.fault.StepFault.TheVariants as steps
+use Rattle.tester.specs.declared.checking.VerdictFault.{VerdictFault}
+use Rattle.tester.specs.declared.checking.VerdictFault.TheVariants as verdicts
+use Rattle.tester.specs.declared.explaining.ExplainFault.{ExplainFault}
+use Rattle.tester.specs.declared.explaining.ExplainFault.TheVariants as explanations
+use Rattle.tester.specs.declared.images.CountFault.{CountFault}
+use Rattle.tester.specs.declared.images.CountFault.TheVariants as counts
+use Rattle.tester.specs.declared.loading.ProgramFault.{ProgramFault}
+use Rattle.tester.specs.declared.loading.ProgramFault.TheVariants as programs
+use Rattle.command_line.specs.Codes.{assembly_code, load_code, operation_code, plan_code, step_code, volume_code}
+use Rattle.command_line.specs.Reports.{line_end}
 use Rattle.command_line.specs.declared.failure.Failure.{Failure}
 use Rattle.command_line.specs.declared.failure.Failure.TheVariants.{Line, Refused, Memory, File}
 use Rattle.command_line.specs.declared.failure.Refusal.{Refusal}
-use Rattle.command_line.specs.declared.failure.Refusal.TheVariants.{Assembly, Object, Step, ScheduleText, Moment}
-use Rattle.schedule.specs.declared.fault.ScheduleFault.{ScheduleFault}
-use Rattle.schedule.specs.declared.fault.ScheduleFault.TheVariants as schedule_faults
-use Rattle.tester.specs.declared.CountFault.{CountFault}
-use Rattle.tester.specs.declared.CountFault.TheVariants as count_faults
-use Rattle.tester.specs.declared.ProgramFault.{ProgramFault}
-use Rattle.tester.specs.declared.ProgramFault.TheVariants as program_faults
+use Rattle.command_line.specs.declared.failure.Refusal.TheVariants.{Assembly, Object, Plan, ScheduleText, Medium, Volume, Step, Moment, Image, Operation}
 use Rattle.command_line.specs.declared.files.FileFault.{FileFault}
-use Rattle.command_line.specs.declared.files.FileFault.TheVariants as file_faults
-use Rattle.command_line.specs.Reports.{line_end}
-
--- the name that a fault is known by
-abbrev pub assembly_code : AsmCode → List ℕ
-assembly_code asm.BadToken = codes "A1"
-assembly_code asm.Mnemonic = codes "A2"
-assembly_code asm.Operands = codes "A3"
-assembly_code asm.Register = codes "A4"
-assembly_code asm.Range = codes "A5"
-assembly_code asm.UnknownLabel = codes "A6"
-assembly_code asm.LabelTwice = codes "A7"
-assembly_code asm.WrongSection = codes "A8"
-assembly_code asm.TooLarge = codes "A9"
-assembly_code asm.Memory = codes "A10"
-
-abbrev pub step_code : StepFault → List ℕ
-step_code steps.NoSuchHart = codes "G1"
-step_code steps.NoSuchLine = codes "G2"
-step_code steps.TraceFull = codes "G4"
-step_code steps.Memory = codes "G5"
-step_code steps.OutOfLimits = codes "G6"
-
-abbrev pub load_code : LoadFault → List ℕ
-load_code loads.Magic = codes "P1"
-load_code loads.Truncated = codes "P2"
-load_code loads.TooLarge = codes "P3"
-load_code loads.Trailing = codes "P4"
-load_code loads.TextLength = codes "P5"
-load_code loads.Memory = codes "P6"
+use Rattle.command_line.specs.declared.files.FileFault.TheVariants as files
 
 -- `refused CODE`, and ` line N` of a fault that has a line
 abbrev pub refusal_text : Refusal → List ℕ
 refusal_text (Assembly fault) = codes "refused " ++ (assembly_code fault.code ++ (codes " line " ++ decimal fault.line))
 refusal_text (Object fault) = codes "refused " ++ load_code fault
-refusal_text (Step fault) = codes "refused " ++ step_code fault
+refusal_text (Plan fault) = codes "refused " ++ (plan_code fault.code ++ (codes " line " ++ decimal fault.line))
 refusal_text ScheduleText = codes "refused G3"
+refusal_text Medium = codes "refused M3"
+refusal_text (Volume fault) = codes "refused " ++ volume_code fault
+refusal_text (Step fault) = codes "refused " ++ step_code fault
 refusal_text Moment = codes "refused C1"
+refusal_text Image = codes "refused C2"
+refusal_text (Operation fault) = codes "refused " ++ operation_code fault
 
 -- the lines of a failure; those of a fault of the command line are given
 abbrev pub failure_text : Failure → List ℕ
@@ -72,10 +60,10 @@ failure_status File = 5
 
 -- the failure for a file that wasn't read or written
 abbrev pub failure_of_file : FileFault → Failure
-failure_of_file file_faults.Failed = File
-failure_of_file file_faults.Memory = Memory
+failure_of_file files.Failed = File
+failure_of_file files.Memory = Memory
 
--- the failure for a source that wasn't assembled
+-- for a source that wasn't assembled
 abbrev pub failure_by_code : AsmFault → AsmCode → Failure
 failure_by_code fault asm.Memory = Memory
 failure_by_code fault code = Refused (Assembly fault)
@@ -83,20 +71,55 @@ failure_by_code fault code = Refused (Assembly fault)
 abbrev pub failure_of_assembly : AsmFault → Failure
 failure_of_assembly fault = failure_by_code fault fault.code
 
--- the failure for a program that wasn't run
+-- for a file that gave no program
 abbrev pub failure_of_program : ProgramFault → Failure
-failure_of_program (program_faults.Assembly fault) = Refused (Assembly fault)
-failure_of_program (program_faults.Object fault) = Refused (Object fault)
-failure_of_program (program_faults.Step fault) = Refused (Step fault)
-failure_of_program program_faults.Memory = Memory
+failure_of_program (programs.Assembly fault) = Refused (Assembly fault)
+failure_of_program (programs.Object fault) = Refused (Object fault)
+failure_of_program programs.Memory = Memory
 
--- the failure for a schedule that wasn't read
+-- for a text that gave no plan
+abbrev pub failure_by_plan_code : PlanFault → PlanCode → Failure
+failure_by_plan_code fault plans.Memory = Memory
+failure_by_plan_code fault code = Refused (Plan fault)
+
+abbrev pub failure_of_plan : PlanFault → Failure
+failure_of_plan fault = failure_by_plan_code fault fault.code
+
+-- for a schedule that wasn't read or written
 abbrev pub failure_of_schedule : ScheduleFault → Failure
-failure_of_schedule schedule_faults.Text = Refused ScheduleText
-failure_of_schedule schedule_faults.Memory = Memory
+failure_of_schedule schedules.Text = Refused ScheduleText
+failure_of_schedule schedules.Memory = Memory
 
--- the failure for images that weren't counted
+-- for bytes that gave no medium
+abbrev pub failure_of_medium : MediumFault → Failure
+failure_of_medium media.Size = Refused Medium
+failure_of_medium media.Memory = Memory
+
+-- for a volume that wasn't made
+abbrev pub failure_of_volume : VolumeFault → Failure
+failure_of_volume volumes.Memory = Memory
+failure_of_volume fault = Refused (Volume fault)
+
+-- for a run that stopped
+abbrev pub failure_of_step : StepFault → Failure
+failure_of_step steps.Memory = Memory
+failure_of_step fault = Refused (Step fault)
+
+-- for images that weren't counted
 abbrev pub failure_of_count : CountFault → Failure
-failure_of_count (count_faults.Step fault) = Refused (Step fault)
-failure_of_count count_faults.NoSuchMoment = Refused Moment
-failure_of_count count_faults.Memory = Memory
+failure_of_count (counts.Step fault) = Refused (Step fault)
+failure_of_count counts.NoSuchMoment = Refused Moment
+failure_of_count counts.Memory = Memory
+
+-- for an image that wasn't explained
+abbrev pub failure_of_explanation : ExplainFault → Failure
+failure_of_explanation (explanations.Step fault) = Refused (Step fault)
+failure_of_explanation explanations.NoSuchMoment = Refused Moment
+failure_of_explanation explanations.NoSuchImage = Refused Image
+failure_of_explanation explanations.Memory = Memory
+
+-- for a run without a verdict
+abbrev pub failure_of_verdict : VerdictFault → Failure
+failure_of_verdict (verdicts.Step fault) = Refused (Step fault)
+failure_of_verdict (verdicts.Operation fault) = Refused (Operation fault)
+failure_of_verdict verdicts.Memory = Memory

@@ -1,6 +1,14 @@
 pub mod Assembling
+pub mod Checking
+pub mod Codes
+pub mod Explaining
 pub mod Failures
 pub mod HartLines
-pub mod Images
+pub mod Imaging
+pub mod Making
 pub mod Outcomes
+pub mod Reading
 pub mod Reports
+pub mod Running
+pub mod Steps
+pub mod Writing

@@ -1,74 +1,56 @@
 //! The command that assembles a source.
 
-ghost use Rattle.std.specs.Prelude.{◌≡◌, IfOk, string_bytes};
-ghost use Rattle.command_line.specs.Assembling.{AssemblesFile, AssemblesSource, WritesBytes, WritesObject, sizes_line};
+ghost use Rattle.std.specs.Result.{result_map_both};
+ghost use Rattle.command_line.specs.Assembling.{AssemblesFile, AssemblesTo, GivesFile, sizes_line};
+ghost use Rattle.command_line.specs.Steps.{Prints};
 
 use crate::answer::Answer;
 use crate::failure::Failure;
 use crate::files::Files;
+use crate::reading::read_file;
+use crate::writing::write_file;
+use arguments::AssembleCommand;
 use assemble::assemble;
 use object::Object;
-use std::alloc::{AllocError, Global};
+use std::alloc::Global;
 
 /// `asm`: reads the file of a source, and writes the file of its object.
 pub(crate) fn assemble_file<F: Files>(
     alloc: Global,
-    source: &str,
-    object: &str,
+    command: &AssembleCommand,
     files: &mut F,
 ) -> Result<Answer, Failure>
-    ensures { AssemblesFile F.read_gives F.write_gives source.now object.now files.old files.new result }
+    ensures { AssemblesFile F.read_gives F.write_gives command.now files.old result files.new }
 {
-    let source = files.read(source)?;
-    assemble_source(alloc, &source, object, files)
+    let source = read_file(command.source.as_str(), files)?;
+    let object = object_of(alloc, &source)?;
+    let bytes = bytes_of(alloc, &object)?;
+    write_file(command.object.as_str(), &bytes, files)?;
+    sizes(alloc, &object)
 }
 
-fn assemble_source<F: Files>(
-    alloc: Global,
-    source: &[u8],
-    name: &str,
-    files: &mut F,
-) -> Result<Answer, Failure>
-    ensures { AssemblesSource F.write_gives source.now name.now files.old files.new result }
+fn object_of(alloc: Global, source: &[u8]) -> Result<Object, Failure>
+    ensures { AssemblesTo source.now result }
 {
-    let object = assemble(alloc, source)?;
-    write_object(alloc, &object, name, files)
+    Ok(assemble(alloc, source)?)
 }
 
-fn write_object<F: Files>(
-    alloc: Global,
-    object: &Object,
-    name: &str,
-    files: &mut F,
-) -> Result<Answer, Failure>
-    ensures { WritesObject F.write_gives object.now name.now files.old files.new result }
+fn bytes_of(alloc: Global, object: &Object) -> Result<Vec<u8>, Failure>
+    ensures { GivesFile object.now (result_map_both (λ bytes. bytes.items) (λ failure. failure) result) }
 {
     match object.to_bytes(alloc) {
-        Ok(bytes) => write_bytes(alloc, object, &bytes, name, files),
+        Ok(bytes) => Ok(bytes),
+        // It's the only fault of writing an object.
         Err(_) => Err(Failure::Memory),
     }
 }
 
-/// Writes the bytes of an object's file, and tells the object's sizes.
-fn write_bytes<F: Files>(
-    alloc: Global,
-    object: &Object,
-    bytes: &[u8],
-    name: &str,
-    files: &mut F,
-) -> Result<Answer, Failure>
-    ensures { WritesBytes F.write_gives object.now bytes.now name.now files.old files.new result }
-{
-    files.write(name, bytes)?;
-    let text = sizes(alloc, object)?;
-    Ok(Answer { text, status: 0 })
-}
-
 /// `text N data M`.
-fn sizes(alloc: Global, object: &Object) -> Result<String, AllocError>
-    ensures { IfOk result (λ text. string_bytes text ≡ sizes_line object.now) }
+fn sizes(alloc: Global, object: &Object) -> Result<Answer, Failure>
+    ensures { Prints (sizes_line object.now) 0 result }
 {
     let text = object.text_bytes().len();
     let data = object.data_bytes().len();
-    format!(in alloc; "text {text} data {data}\n")
+    let text = format!(in alloc; "text {text} data {data}\n")?;
+    Ok(Answer { text, status: 0 })
 }

@@ -1,16 +1,15 @@
 //! Why a command gives no answer: what is printed of it, and its status.
 
 ghost use Rattle.std.specs.Prelude.{◌≡◌};
-ghost use Rattle.command_line.specs.Failures.{assembly_code, load_code, step_code};
 
-use crate::files::FileFault;
-use assemble::{AsmCode, AsmFault};
+use crate::codes::{assembly_code, load_code, operation_code, plan_code, step_code, volume_code};
+use assemble::AsmFault;
+use image_check::OpFault;
 use machine::StepFault;
+use nova_log::VolumeFault;
 use object::LoadFault;
-use schedule::ScheduleFault;
-use std::alloc::AllocError;
+use plan::PlanFault;
 use std::fmt;
-use tester::{CountFault, ProgramFault};
 
 /// Input that is refused, by the fault that was found in it.
 #[derive(Clone, Copy, Debug, PartialEq, Eq)]
@@ -19,12 +18,22 @@ pub enum Refusal {
     Assembly(AsmFault),
     /// A file that begins as an object.
     Object(LoadFault),
-    /// A step of a run.
-    Step(StepFault),
+    /// A plan, by its first line at fault.
+    Plan(PlanFault),
     /// The text of a schedule.
     ScheduleText,
+    /// The bytes of a medium.
+    Medium,
+    /// A volume that was to be made.
+    Volume(VolumeFault),
+    /// A step of a run.
+    Step(StepFault),
     /// A moment past the events of a run.
     Moment,
+    /// An image that a moment doesn't have.
+    Image,
+    /// The mark of an operation in a run.
+    Operation(OpFault),
 }
 
 impl fmt::Display for Refusal {
@@ -44,9 +53,16 @@ impl fmt::Display for Refusal {
                 )
             }
             Refusal::Object(fault) => write!(f, "refused {}", load_code(fault)),
-            Refusal::Step(fault) => write!(f, "refused {}", step_code(fault)),
+            Refusal::Plan(fault) => {
+                write!(f, "refused {} line {}", plan_code(fault.code), fault.line)
+            }
             Refusal::ScheduleText => write!(f, "refused G3"),
+            Refusal::Medium => write!(f, "refused M3"),
+            Refusal::Volume(fault) => write!(f, "refused {}", volume_code(fault)),
+            Refusal::Step(fault) => write!(f, "refused {}", step_code(fault)),
             Refusal::Moment => write!(f, "refused C1"),
+            Refusal::Image => write!(f, "refused C2"),
+            Refusal::Operation(fault) => write!(f, "refused {}", operation_code(fault)),
         }
     }
 }
@@ -80,90 +96,6 @@ impl Failure {
     }
 }
 
-impl From<AsmFault> for Failure {
-    ghost use Rattle.std.specs.Prelude.{◌≡◌};
-    ghost use Rattle.command_line.specs.Failures.{failure_of_assembly};
-
-    ghost from_gives = { λ fault failure. failure ≡ failure_of_assembly fault };
-
-    fn from(fault: AsmFault) -> Failure {
-        match fault.code {
-            AsmCode::Memory => Failure::Memory,
-            _ => Failure::Refused(Refusal::Assembly(fault)),
-        }
-    }
-}
-
-impl From<ProgramFault> for Failure {
-    ghost use Rattle.std.specs.Prelude.{◌≡◌};
-    ghost use Rattle.command_line.specs.Failures.{failure_of_program};
-
-    ghost from_gives = { λ fault failure. failure ≡ failure_of_program fault };
-
-    fn from(fault: ProgramFault) -> Failure {
-        match fault {
-            ProgramFault::Assembly(fault) => Failure::Refused(Refusal::Assembly(fault)),
-            ProgramFault::Object(fault) => Failure::Refused(Refusal::Object(fault)),
-            ProgramFault::Step(fault) => Failure::Refused(Refusal::Step(fault)),
-            ProgramFault::Memory => Failure::Memory,
-        }
-    }
-}
-
-impl From<ScheduleFault> for Failure {
-    ghost use Rattle.std.specs.Prelude.{◌≡◌};
-    ghost use Rattle.command_line.specs.Failures.{failure_of_schedule};
-
-    ghost from_gives = { λ fault failure. failure ≡ failure_of_schedule fault };
-
-    fn from(fault: ScheduleFault) -> Failure {
-        match fault {
-            ScheduleFault::Text => Failure::Refused(Refusal::ScheduleText),
-            ScheduleFault::Memory => Failure::Memory,
-        }
-    }
-}
-
-impl From<CountFault> for Failure {
-    ghost use Rattle.std.specs.Prelude.{◌≡◌};
-    ghost use Rattle.command_line.specs.Failures.{failure_of_count};
-
-    ghost from_gives = { λ fault failure. failure ≡ failure_of_count fault };
-
-    fn from(fault: CountFault) -> Failure {
-        match fault {
-            CountFault::Step(fault) => Failure::Refused(Refusal::Step(fault)),
-            CountFault::NoSuchMoment => Failure::Refused(Refusal::Moment),
-            CountFault::Memory => Failure::Memory,
-        }
-    }
-}
-
-impl From<FileFault> for Failure {
-    ghost use Rattle.std.specs.Prelude.{◌≡◌};
-    ghost use Rattle.command_line.specs.Failures.{failure_of_file};
-
-    ghost from_gives = { λ fault failure. failure ≡ failure_of_file fault };
-
-    fn from(fault: FileFault) -> Failure {
-        match fault {
-            FileFault::Failed => Failure::File,
-            FileFault::Memory => Failure::Memory,
-        }
-    }
-}
-
-impl From<AllocError> for Failure {
-    ghost use Rattle.std.specs.Prelude.{◌≡◌};
-    ghost use Rattle.command_line.specs.declared.failure.Failure.TheVariants.{Memory};
-
-    ghost from_gives = { λ _ failure. failure ≡ Memory };
-
-    fn from(_refused: AllocError) -> Failure {
-        Failure::Memory
-    }
-}
-
 /// The lines that standard error gets.
 impl fmt::Display for Failure {
     ghost use Rattle.std.specs.Prelude.{Some};
@@ -178,50 +110,5 @@ impl fmt::Display for Failure {
             Failure::Memory => writeln!(f, "memory"),
             Failure::File => writeln!(f, "file"),
         }
-    }
-}
-
-/// The name of a line's fault.
-fn assembly_code(code: AsmCode) -> &'static str
-    ensures { result.now ≡ assembly_code code }
-{
-    match code {
-        AsmCode::BadToken => "A1",
-        AsmCode::Mnemonic => "A2",
-        AsmCode::Operands => "A3",
-        AsmCode::Register => "A4",
-        AsmCode::Range => "A5",
-        AsmCode::UnknownLabel => "A6",
-        AsmCode::LabelTwice => "A7",
-        AsmCode::WrongSection => "A8",
-        AsmCode::TooLarge => "A9",
-        AsmCode::Memory => "A10",
-    }
-}
-
-/// The name of an object's fault.
-fn load_code(fault: LoadFault) -> &'static str
-    ensures { result.now ≡ load_code fault }
-{
-    match fault {
-        LoadFault::Magic => "P1",
-        LoadFault::Truncated => "P2",
-        LoadFault::TooLarge => "P3",
-        LoadFault::Trailing => "P4",
-        LoadFault::TextLength => "P5",
-        LoadFault::Memory => "P6",
-    }
-}
-
-/// The name of a step's fault.
-fn step_code(fault: StepFault) -> &'static str
-    ensures { result.now ≡ step_code fault }
-{
-    match fault {
-        StepFault::NoSuchHart => "G1",
-        StepFault::NoSuchLine => "G2",
-        StepFault::TraceFull => "G4",
-        StepFault::Memory => "G5",
-        StepFault::OutOfLimits => "G6",
     }
 }

@@ -1,17 +1,23 @@
-//! The program's commands: what each prints, and the status that it ends with.
+//! The program's commands: what each reads, writes and prints, and the status that it ends with.
 #![tactic(auto)]
 
 mod answer;
 mod assembling;
+mod causes;
+mod checking;
+mod codes;
 mod commands;
 mod executing;
+mod explaining;
 mod failure;
 mod files;
 mod hart_line;
-mod images;
+mod imaging;
+mod making;
+mod reading;
 mod reporting;
-#[cfg(test)]
-mod tests;
+mod running;
+mod writing;
 
 pub use answer::Answer;
 pub use commands::outcome;

@@ -11,3 +11,8 @@ pub record IsImaged (start : List (List ℕ)) (k : ℕ → ℕ) (p : List Persis
   pub counts : length left ≡ length start
   pub lines : (l : ℕ) → l < length start → line_at medium l ≡ line_after (line_at start l) l (k l) p
   pub due : (l d : ℕ) → l < length start → slice_index_or left l d ≡ k l - stores l p
+
+-- after these steps line l, over these starting bytes, has had its first k stores, as far as they were made, and `left` of them are due
+pub record IsLineMade (start : List ℕ) (l k : ℕ) (p : List PersistenceStep) (left : ℕ) (bytes : List ℕ) : Type 0 where
+  pub made : bytes ≡ line_after start l k p
+  pub due : left ≡ k - stores l p

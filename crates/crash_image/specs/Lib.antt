@@ -1,5 +1,6 @@
 pub mod Bounds
 pub mod Imaging
+pub mod Places
 pub mod Sought
 pub mod Tallies
 pub mod View

@@ -4,14 +4,15 @@ ghost use Rattle.crash_image.specs.Sought.{IsLeastCut};
 ghost use Rattle.crash_image.specs.View.{HasLines};
 ghost use Rattle.crash_model.specs.Cut.{IsCut, cut_count, cuts, number_in};
 ghost use Rattle.crash_model.specs.Image.{image};
-ghost use Rattle.line_memory.specs.Lines.{IsMedium};
+ghost use Rattle.line_memory.specs.Lines.{IsMedium, line_at};
 ghost use Rattle.store_trace.specs.History.{at_moment};
-ghost use Rattle.std.specs.Prelude.{◌≡◌, ◌↔◌, ◌<◌, ◌≤◌, ◌*◌, [], length, slice_index_or, IfOk, IfSome, IsNone, IsErrOf, IfErr, IsTrue, OnOk};
+ghost use Rattle.std.specs.Prelude.{◌≡◌, ℕ, ◌↔◌, ◌<◌, ◌≤◌, ◌*◌, [], length, slice_index_or, IfOk, IfSome, IsNone, IsErrOf, IfErr, IsTrue, OnOk};
 
 use crate::ImageFault;
 use crate::bounds::{LineBounds, floors, line_bounds, product};
-use crate::cut::{Cut, fits, numbered};
+use crate::cut::{Cut, fits, number_of, numbered};
 use crate::images::imaged;
+use crate::line::bytes_after;
 use crate::search::least;
 use line_memory::Medium;
 use std::alloc::Global;
@@ -127,6 +128,25 @@ impl<'a> Cuts<'a> {
             return Err(ImageFault::NotACut);
         }
         self.image_by(alloc, cut.entries())
+    }
+
+    /// How many lines the starting medium has, and so each image.
+    #[tactic(auto, using(crate::proofs::Lined::image_is_medium))]
+    pub fn lines(&self) -> u32
+        ensures count { result ≡ length self.now.start }
+        ensures whole { (numbers : ℕ → ℕ) → IsMedium (image self.now.start numbers self.now.steps) }
+    {
+        self.medium.lines()
+    }
+
+    /// One line of the image of the cut, without the others. [`Cuts::contains`] tells which cuts are of this moment.
+    pub fn line(&self, cut: &Cut, line: u32) -> [u8; 64]
+        requires there { line < length self.now.start }
+        requires cut { IsCut self.now.steps cut.now }
+        ensures { result ≡ line_at (image self.now.start (number_in cut.now) self.now.steps) line }
+    {
+        let number = number_of(cut.entries(), line);
+        bytes_after(self.medium.read_line(line), line, number, self.events)
     }
 
     /// The least cut whose image is `medium`, and None where it is the image of no cut, as a medium with

@@ -12,7 +12,8 @@ ghost use Rattle.store_trace.specs.TraceView.{IsEvent, IsWidth};
 ghost use Rattle.std.specs.Prelude.{◌≡◌, ℕ, ◌+◌, ◌%◌, ◌<◌, ◌≤◌, ◌++◌, List, length, slice_index_or, slice_set, All, IfOk, IfErr};
 
 use crate::ImageFault;
-use line_memory::{Medium, store_bytes};
+use crate::line::store_in_line;
+use line_memory::Medium;
 use std::alloc::{AllocError, Global};
 use store_trace::Event;
 
@@ -86,7 +87,6 @@ fn make(medium: &mut Medium, left: &mut [u32], event: Event)
 }
 
 /// Writes the low `width` bytes of `value` at the line's `offset`.
-#[tactic(auto, using(crate::proofs::Imaged::aligned_fits))]
 pub fn store(medium: &mut Medium, line: u32, offset: u32, width: u32, value: u64)
     requires there { line < length medium.old }
     requires width { IsWidth width }
@@ -96,6 +96,6 @@ pub fn store(medium: &mut Medium, line: u32, offset: u32, width: u32, value: u64
     ensures changed { medium.new ≡ slice_set medium.old line (stored (line_at medium.old line) offset width value) }
 {
     let mut bytes = *medium.read_line(line);
-    store_bytes(&mut bytes, offset as usize, width as usize, value);
+    store_in_line(&mut bytes, offset, width, value);
     medium.write_line(line, &bytes);
 }

@@ -15,6 +15,7 @@ mod bounds;
 mod cut;
 mod cuts;
 mod images;
+mod line;
 mod names;
 mod search;
 #[cfg(test)]

@@ -11,6 +11,7 @@ pub use run::check_run;
 pub use verdict::{Cause, MomentVerdict, Verdict};
 
 mod fault;
+mod image_lines;
 mod legal;
 mod marks;
 mod moment;

@@ -11,6 +11,7 @@ ghost use Rattle.store_trace.specs.declared.event.Event.{Event as AnEvent};
 ghost use Rattle.std.specs.Prelude.{◌≡◌, ℕ, ◌<◌, ◌≤◌, List, length, take, IfErr, IfOk};
 ghost use Rattle.std.specs.Result.{result_ok};
 
+use crate::image_lines::recover_image;
 use crate::legal::Outcomes;
 use crate::order::check_trace;
 use crate::{Cause, CheckFault, MomentVerdict};
@@ -190,10 +191,10 @@ fn judge_image(
         IsJudged plan.now.operations cuts.now.start events (cut_at events image) found) }
     ensures err { IfErr result (λ fault. fault ≡ CheckFault.Memory) }
 {
-    let Ok(medium) = cuts.image(alloc, image) else {
+    let Ok(cut) = cuts.cut(alloc, image) else {
         return Err(CheckFault::Memory);
     };
-    match recover(alloc, &medium) {
+    match recover_image(alloc, cuts, &cut) {
         Ok(volume) => {
             let found = judge_volume(alloc, plan, outcomes, &volume)?;
             Ok(found)

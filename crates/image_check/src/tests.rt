@@ -1,4 +1,7 @@
 //! Traces made by hand, event by event as small routines make them, and their verdicts.
+//!
+//! Plans, media and traces stay in functions that give back verdicts: a test that holds one proves at each of its exits that it
+//! is let go whole.
 
 use crate::{
     Cause, CheckFault, MomentVerdict, OpFault, Verdict, check_moment, check_run, check_trace,
@@ -7,11 +10,23 @@ use crash_image::{Cuts, has_lines};
 use line_memory::Medium;
 use nova_log::{Layout, VolumeFault, mkfs};
 use plan::Plan;
+use std::alloc::Global;
+use std::fmt::Debug;
 use std::process::Abort;
 use std::test::Fail;
-use store_trace::{Event, Trace};
+use store_trace::{Event, Trace, TraceFault};
 
-/// An event of hart 0. A store writes eight bytes at an offset of a line.
+/// The test fails where what was found isn't what was expected. (One function, since each `assert!` is proved anew.)
+fn expect<W: Debug + Drop, T: PartialEq + Debug + Drop>(
+    rt: &impl Abort,
+    what: W,
+    found: T,
+    expected: T,
+) {
+    assert_eq!(rt; found, expected, "{what:?}");
+}
+
+/// An event of a hart. A store writes eight bytes at an offset of a line.
 #[derive(Clone, Copy)]
 enum Made {
     Store(u32, u32, u64),
@@ -21,56 +36,120 @@ enum Made {
     End(u64),
 }
 
+/// Adds the events of a hart.
 fn push_all(
     rt: &(impl AllocGlobal + Abort),
     trace: &mut Trace,
     hart: u32,
     events: &[Made],
-) -> Result<(), Fail> {
+) -> Result<(), TraceFault> {
+    assert!(rt; hart < 8, "a hart");
     for made in events {
-        assert!(rt; hart < 8, "a hart");
-        match *made {
+        let event = match *made {
             Made::Store(line, offset, value) => {
                 assert!(rt; offset % 8 == 0 && offset < 64, "a store in a line");
-                trace.push(Event::Store {
+                Event::Store {
                     hart,
                     line,
                     offset,
                     width: 8,
                     value,
-                })?;
+                }
             }
-            Made::Clean(line) => trace.push(Event::Clean { hart, line })?,
-            Made::Fence => trace.push(Event::Fence { hart })?,
-            Made::Begin(op) => trace.push(Event::Begin { hart, op })?,
-            Made::End(op) => trace.push(Event::End { hart, op })?,
-        }
+            Made::Clean(line) => Event::Clean { hart, line },
+            Made::Fence => Event::Fence { hart },
+            Made::Begin(op) => Event::Begin { hart, op },
+            Made::End(op) => Event::End { hart, op },
+        };
+        trace.push(event)?;
     }
     Ok(())
 }
 
-fn trace_of(rt: &(impl AllocGlobal + Abort), events: &[Made]) -> Result<Trace, Fail> {
+/// The events of harts, one part after another.
+type Parts<'a> = &'a [(u32, &'a [Made])];
+
+fn trace_of(rt: &(impl AllocGlobal + Abort), parts: Parts<'_>) -> Result<Trace, TraceFault> {
     let mut trace = Trace::new(rt.alloc());
-    push_all(rt, &mut trace, 0, events)?;
+    for (hart, events) in parts {
+        push_all(rt, &mut trace, *hart, events)?;
+    }
     Ok(trace)
 }
 
-fn plan_of(rt: &(impl AllocGlobal + Abort), text: &[u8]) -> Result<Plan, Fail> {
-    Ok(Plan::read(rt.alloc(), text)?)
+/// A new volume of so many inodes and pages; zeros where that is 0.
+fn start_of(alloc: Global, inodes: u32) -> Result<Medium, VolumeFault> {
+    if inodes == 0 {
+        return Medium::zero(alloc, 512).map_err(|_| VolumeFault::Memory);
+    }
+    mkfs(alloc, Layout::One, inodes, inodes, 1, 512)
 }
 
-/// The verdict, asked for again where memory was refused.
-fn verdict_of(
+/// The verdict on a run, asked for again where memory was refused.
+fn judge(
     rt: &(impl AllocGlobal + Abort),
     plan: &Plan,
     medium: &Medium,
     trace: &Trace,
-) -> Result<Verdict, Fail> {
+) -> Result<Verdict, CheckFault> {
     assert!(rt; has_lines(medium, trace), "the medium has the lines");
     match check_run(rt.alloc(), plan, medium, trace) {
-        Err(CheckFault::Memory) => Ok(check_run(rt.alloc(), plan, medium, trace)?),
-        verdict => Ok(verdict?),
+        Err(CheckFault::Memory) => check_run(rt.alloc(), plan, medium, trace),
+        verdict => verdict,
     }
+}
+
+/// The verdict on the run of these events from a new volume of so many inodes, by a plan's text.
+fn verdict_of(
+    rt: &(impl AllocGlobal + Abort),
+    text: &[u8],
+    inodes: u32,
+    parts: Parts<'_>,
+) -> Result<Result<Verdict, CheckFault>, Fail> {
+    let plan = Plan::read(rt.alloc(), text)?;
+    let medium = start_of(rt.alloc(), inodes)?;
+    let trace = trace_of(rt, parts)?;
+    Ok(judge(rt, &plan, &medium, &trace))
+}
+
+/// The number of images of a moment, None where they aren't counted, and its verdict.
+fn judge_moment(
+    rt: &(impl AllocGlobal + Abort),
+    plan: &Plan,
+    medium: &Medium,
+    trace: &Trace,
+    moment: u32,
+) -> (Option<u32>, Result<MomentVerdict, CheckFault>) {
+    assert!(rt; has_lines(medium, trace), "the medium has the lines");
+    let count = match Cuts::at(rt.alloc(), medium, trace, moment) {
+        Ok(cuts) => cuts.count(),
+        Err(_) => None,
+    };
+    (count, check_moment(rt.alloc(), plan, medium, trace, moment))
+}
+
+/// The number of images of a moment of such a run, and the moment's verdict.
+fn moment_of(
+    rt: &(impl AllocGlobal + Abort),
+    text: &[u8],
+    parts: Parts<'_>,
+    moment: u32,
+) -> Result<(Option<u32>, Result<MomentVerdict, CheckFault>), Fail> {
+    let plan = Plan::read(rt.alloc(), text)?;
+    let medium = start_of(rt.alloc(), 1)?;
+    let trace = trace_of(rt, parts)?;
+    Ok(judge_moment(rt, &plan, &medium, &trace, moment))
+}
+
+/// Whether the marks of these events are right by a plan's text.
+fn marks_of(
+    rt: &(impl AllocGlobal + Abort),
+    text: &[u8],
+    parts: Parts<'_>,
+) -> Result<Result<(), OpFault>, Fail> {
+    let plan = Plan::read(rt.alloc(), text)?;
+    let trace = trace_of(rt, parts)?;
+    Ok(check_trace(&plan, &trace))
 }
 
 const ONE_APPEND: &[u8] = b"inodes 1\npages 1\njournals 1\nop 1 append 0 77\n";
@@ -91,36 +170,28 @@ const APPEND: [Made; 10] = [
 
 #[test]
 fn an_append_passes(rt: HostRuntime) -> Result<(), Fail> {
-    let plan = plan_of(&rt, ONE_APPEND)?;
-    let medium = mkfs(rt.alloc(), Layout::One, 1, 1, 1, 512)?;
-    let trace = trace_of(&rt, &APPEND)?;
-    assert!(rt; has_lines(&medium, &trace), "the append's lines");
     let counts = [1, 1, 2, 3, 4, 4, 1, 2, 2, 1, 1];
     for (moment, count) in counts.iter().enumerate() {
-        let moment = moment as u32;
-        let cuts = Cuts::at(rt.alloc(), &medium, &trace, moment)?;
-        assert_eq!(rt; cuts.count(), Some(*count), "images of {moment}");
-        let verdict = check_moment(rt.alloc(), &plan, &medium, &trace, moment)?;
-        assert_eq!(rt; verdict, MomentVerdict::Pass, "at {moment}");
+        let found = moment_of(&rt, ONE_APPEND, &[(0, &APPEND)], moment as u32)?;
+        expect(&rt, moment, found, (Some(*count), Ok(MomentVerdict::Pass)));
     }
-    let past = check_moment(rt.alloc(), &plan, &medium, &trace, 11);
-    assert_eq!(rt; past, Err(CheckFault::NoSuchMoment), "past the end");
-    let verdict = verdict_of(&rt, &plan, &medium, &trace)?;
+    let (_, past) = moment_of(&rt, ONE_APPEND, &[(0, &APPEND)], 11)?;
+    expect(&rt, "past the end", past, Err(CheckFault::NoSuchMoment));
     let pass = Verdict::Pass {
         moments: 11,
         images: 22,
     };
-    assert_eq!(rt; verdict, pass, "the append");
+    let verdict = verdict_of(&rt, ONE_APPEND, 1, &[(0, &APPEND)])?;
+    expect(&rt, "the append", verdict, Ok(pass));
     Ok(())
 }
 
 #[test]
 fn an_append_without_a_fence_fails(rt: HostRuntime) -> Result<(), Fail> {
-    let plan = plan_of(&rt, ONE_APPEND)?;
-    let medium = mkfs(rt.alloc(), Layout::One, 1, 1, 1, 512)?;
-    for (fence, verdict) in [
+    for (before, after, verdict) in [
         (
-            5,
+            &APPEND[..5],
+            &APPEND[6..],
             Verdict::Fail {
                 moment: 6,
                 image: 4,
@@ -128,7 +199,8 @@ fn an_append_without_a_fence_fails(rt: HostRuntime) -> Result<(), Fail> {
             },
         ),
         (
-            8,
+            &APPEND[..8],
+            &APPEND[9..],
             Verdict::Fail {
                 moment: 9,
                 image: 0,
@@ -136,50 +208,39 @@ fn an_append_without_a_fence_fails(rt: HostRuntime) -> Result<(), Fail> {
             },
         ),
     ] {
-        assert!(rt; fence < 10, "an event of the append");
-        let mut trace = trace_of(&rt, &APPEND[..fence])?;
-        push_all(&rt, &mut trace, 0, &APPEND[fence + 1..])?;
-        assert_eq!(rt;
-            verdict_of(&rt, &plan, &medium, &trace)?,
-            verdict,
-            "without event {fence}"
-        );
+        let found = verdict_of(&rt, ONE_APPEND, 1, &[(0, before), (0, after)])?;
+        expect(&rt, before.len(), found, Ok(verdict));
     }
     Ok(())
+}
+
+/// The append of a value by operation `op` in a line, and then the tail in the inode's line.
+fn append_of(op: u64, value: u64, line: u32, inode_line: u32, tail: u64) -> [Made; 10] {
+    [
+        Made::Begin(op),
+        Made::Store(line, 0, 1),
+        Made::Store(line, 8, op),
+        Made::Store(line, 16, value),
+        Made::Clean(line),
+        Made::Fence,
+        Made::Store(inode_line, 8, tail),
+        Made::Clean(inode_line),
+        Made::Fence,
+        Made::End(op),
+    ]
 }
 
 #[test]
 fn two_appends_pass(rt: HostRuntime) -> Result<(), Fail> {
     let text = b"inodes 2\npages 2\njournals 1\nop 1 append 0 70\nop 2 append 1 71\n";
-    let plan = plan_of(&rt, text)?;
-    let medium = mkfs(rt.alloc(), Layout::One, 2, 2, 1, 512)?;
-    let mut trace = Trace::new(rt.alloc());
-    for (hart, line, tail) in [(0, 256, 16_448), (1, 320, 20_544)] {
-        assert!(rt; hart < 2, "two harts");
-        let op = u64::from(hart) + 1;
-        let events = [
-            Made::Begin(op),
-            Made::Store(line, 0, 1),
-            Made::Store(line, 8, op),
-            Made::Store(line, 16, 69 + op),
-            Made::Clean(line),
-            Made::Fence,
-            Made::Store(1 + hart, 8, tail),
-            Made::Clean(1 + hart),
-            Made::Fence,
-            Made::End(op),
-        ];
-        push_all(&rt, &mut trace, hart, &events)?;
-    }
+    let first = append_of(1, 70, 256, 1, 16_448);
+    let second = append_of(2, 71, 320, 2, 20_544);
     let pass = Verdict::Pass {
         moments: 21,
         images: 43,
     };
-    assert_eq!(rt;
-        verdict_of(&rt, &plan, &medium, &trace)?,
-        pass,
-        "two appends"
-    );
+    let verdict = verdict_of(&rt, text, 2, &[(0, &first), (1, &second)])?;
+    expect(&rt, "two appends", verdict, Ok(pass));
     Ok(())
 }
 
@@ -226,93 +287,79 @@ const RENAME_COMMIT: [Made; 19] = [
 
 #[test]
 fn a_rename_passes_with_its_journal(rt: HostRuntime) -> Result<(), Fail> {
-    let plan = plan_of(&rt, ONE_RENAME)?;
-    let medium = mkfs(rt.alloc(), Layout::One, 2, 2, 1, 512)?;
-    let mut trace = trace_of(&rt, &RENAME_ENTRIES)?;
-    push_all(&rt, &mut trace, 0, &RENAME_COMMIT)?;
+    let parts: [(u32, &[Made]); 2] = [(0, &RENAME_ENTRIES), (0, &RENAME_COMMIT)];
     let pass = Verdict::Pass {
         moments: 32,
         images: 202,
     };
-    assert_eq!(rt; verdict_of(&rt, &plan, &medium, &trace)?, pass, "a rename");
+    let verdict = verdict_of(&rt, ONE_RENAME, 2, &parts)?;
+    expect(&rt, "a rename", verdict, Ok(pass));
     Ok(())
 }
 
 /// Without a journal the first tail alone shows half of the rename.
 #[test]
 fn half_a_rename_fails(rt: HostRuntime) -> Result<(), Fail> {
-    let plan = plan_of(&rt, ONE_RENAME)?;
-    let medium = mkfs(rt.alloc(), Layout::One, 2, 2, 1, 512)?;
-    let mut trace = trace_of(&rt, &RENAME_ENTRIES)?;
-    push_all(&rt, &mut trace, 0, &[Made::Store(1, 8, 16_448)])?;
+    let parts: [(u32, &[Made]); 2] = [(0, &RENAME_ENTRIES), (0, &[Made::Store(1, 8, 16_448)])];
     let half = Verdict::Fail {
         moment: 13,
         image: 1,
         cause: Cause::Illegal,
     };
-    assert_eq!(rt;
-        verdict_of(&rt, &plan, &medium, &trace)?,
-        half,
-        "half a rename"
-    );
+    let verdict = verdict_of(&rt, ONE_RENAME, 2, &parts)?;
+    expect(&rt, "half a rename", verdict, Ok(half));
     Ok(())
 }
 
 #[test]
 fn seventeen_lines_are_too_many(rt: HostRuntime) -> Result<(), Fail> {
-    let plan = plan_of(&rt, b"inodes 1\npages 1\njournals 1\n")?;
-    let medium = mkfs(rt.alloc(), Layout::One, 1, 1, 1, 512)?;
-    let mut trace = Trace::new(rt.alloc());
-    for line in 300..317 {
-        push_all(&rt, &mut trace, 0, &[Made::Store(line, 0, 1)])?;
+    let mut stores = [Made::Store(300, 0, 1); 17];
+    for (k, store) in stores.iter_mut().enumerate() {
+        *store = Made::Store(300 + k as u32, 0, 1);
     }
-    assert!(rt; has_lines(&medium, &trace), "the lines from 300 on");
-    let verdict = check_moment(rt.alloc(), &plan, &medium, &trace, 17)?;
-    assert_eq!(rt; verdict, MomentVerdict::TooMany, "seventeen lines");
+    let text = b"inodes 1\npages 1\njournals 1\n";
+    let (_, verdict) = moment_of(&rt, text, &[(0, &stores)], 17)?;
+    expect(&rt, "seventeen lines", verdict, Ok(MomentVerdict::TooMany));
     Ok(())
 }
 
 /// The starting medium has no volume, so its only image is bad.
 #[test]
 fn zeros_are_no_volume(rt: HostRuntime) -> Result<(), Fail> {
-    let plan = plan_of(&rt, ONE_APPEND)?;
-    let medium = Medium::zero(rt.alloc(), 512)?;
     let fail = Verdict::Fail {
         moment: 0,
         image: 0,
         cause: Cause::Fault(VolumeFault::Magic),
     };
-    let verdict = verdict_of(&rt, &plan, &medium, &Trace::new(rt.alloc()))?;
-    assert_eq!(rt; verdict, fail, "zeros");
+    let verdict = verdict_of(&rt, ONE_APPEND, 0, &[])?;
+    expect(&rt, "zeros", verdict, Ok(fail));
     Ok(())
 }
 
 /// An operation on an inode that the volume lacks may be under way, and can't have ended.
 #[test]
 fn a_missing_inode(rt: HostRuntime) -> Result<(), Fail> {
-    let plan = plan_of(&rt, b"inodes 2\npages 2\njournals 1\nop 1 append 1 5\n")?;
-    let medium = mkfs(rt.alloc(), Layout::One, 1, 1, 1, 512)?;
-    let begun = trace_of(&rt, &[Made::Begin(1)])?;
+    let text = b"inodes 2\npages 2\njournals 1\nop 1 append 1 5\n";
+    let marks = [Made::Begin(1), Made::End(1)];
     let pass = Verdict::Pass {
         moments: 2,
         images: 2,
     };
-    assert_eq!(rt; verdict_of(&rt, &plan, &medium, &begun)?, pass, "under way");
-    let ended = trace_of(&rt, &[Made::Begin(1), Made::End(1)])?;
+    let begun = verdict_of(&rt, text, 1, &[(0, &marks[..1])])?;
+    expect(&rt, "under way", begun, Ok(pass));
     let fail = Verdict::Fail {
         moment: 2,
         image: 0,
         cause: Cause::Illegal,
     };
-    assert_eq!(rt; verdict_of(&rt, &plan, &medium, &ended)?, fail, "ended");
+    let ended = verdict_of(&rt, text, 1, &[(0, &marks)])?;
+    expect(&rt, "ended", ended, Ok(fail));
     Ok(())
 }
 
 #[test]
 fn wrong_marks(rt: HostRuntime) -> Result<(), Fail> {
     let text = b"inodes 2\npages 2\njournals 1\nop 7 append 0 1\nop 8 rename 1 0 a 2\n";
-    let plan = plan_of(&rt, text)?;
-    let medium = mkfs(rt.alloc(), Layout::One, 2, 2, 1, 512)?;
     for (events, fault) in [
         ([Made::Fence, Made::Fence, Made::Begin(9)], OpFault::Unknown),
         (
@@ -340,36 +387,27 @@ fn wrong_marks(rt: HostRuntime) -> Result<(), Fail> {
             OpFault::SharesInode,
         ),
     ] {
-        let trace = trace_of(&rt, &events)?;
-        assert_eq!(rt; check_trace(&plan, &trace), Err(fault), "{fault}");
-        assert!(rt; has_lines(&medium, &trace), "no lines");
-        let refused = check_run(rt.alloc(), &plan, &medium, &trace);
-        assert_eq!(rt;
-            refused,
-            Err(CheckFault::Operation(fault)),
-            "a run with {fault}"
-        );
+        let marks = marks_of(&rt, text, &[(0, &events)])?;
+        expect(&rt, fault, marks, Err(fault));
+        let refused = verdict_of(&rt, text, 2, &[(0, &events)])?;
+        expect(&rt, fault, refused, Err(CheckFault::Operation(fault)));
     }
-    let mut trace = trace_of(&rt, &[Made::Begin(7)])?;
-    push_all(&rt, &mut trace, 1, &[Made::End(7)])?;
-    assert_eq!(rt;
-        check_trace(&plan, &trace),
-        Err(OpFault::NotPending),
-        "of another hart"
-    );
+    let parts: [(u32, &[Made]); 2] = [(0, &[Made::Begin(7)]), (1, &[Made::End(7)])];
+    let foreign = marks_of(&rt, text, &parts)?;
+    expect(&rt, "of another hart", foreign, Err(OpFault::NotPending));
     let right = [Made::Begin(7), Made::End(7), Made::Begin(8), Made::End(8)];
-    let trace = trace_of(&rt, &right)?;
-    assert_eq!(rt; check_trace(&plan, &trace), Ok(()), "right marks");
+    let marks = marks_of(&rt, text, &[(0, &right)])?;
+    expect(&rt, "right marks", marks, Ok(()));
     Ok(())
 }
 
 #[test]
 fn causes_print_their_codes(rt: HostRuntime) -> Result<(), Fail> {
     let illegal = format!(in rt.alloc(); "{}", Cause::Illegal)?;
-    assert_eq!(rt; illegal.as_str(), "illegal");
+    expect(&rt, "an illegal volume", illegal.as_str(), "illegal");
     let kind = format!(in rt.alloc(); "{}", Cause::Fault(VolumeFault::Kind))?;
-    assert_eq!(rt; kind.as_str(), "N8");
+    expect(&rt, "a fault of the volume", kind.as_str(), "N8");
     let shared = format!(in rt.alloc(); "{}", CheckFault::Operation(OpFault::SharesInode))?;
-    assert_eq!(rt; shared.as_str(), "O4");
+    expect(&rt, "a fault of the marks", shared.as_str(), "O4");
     Ok(())
 }

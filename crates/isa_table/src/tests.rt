@@ -16,100 +16,99 @@ fn words_are_canonical(rt: HostRuntime) -> Result<(), Fail> {
         rd: x6,
         immediate: 0x40000,
     };
-    assert_eq!(rt; encode(lui.check()?), 0x4000_0337);
     let sd = Instr::Store {
         op: StoreOp::Sd,
         rs2: x5,
         rs1: x6,
         offset: -1,
     };
-    assert_eq!(rt; encode(sd.check()?), 0xfe53_3fa3);
     let clean = Instr::Cache {
         op: CacheOp::Clean,
         rs1: x6,
     };
-    assert_eq!(rt; encode(clean.check()?), 0x0013_200f);
+    for (instr, word) in [(lui, 0x4000_0337), (sd, 0xfe53_3fa3), (clean, 0x0013_200f)] {
+        assert_eq!(rt; encode(instr.check()?), word);
+    }
     Ok(())
 }
 
-#[test]
-fn immediates_out_of_range_are_refused(rt: HostRuntime) {
-    let zero = Reg { number: 0 };
-    let addi = |immediate: i32| -> Instr {
-        Instr::Immediate {
-            op: ImmediateOp::Addi,
-            rd: zero,
-            rs1: zero,
-            immediate,
-        }
-    };
-    assert_eq!(rt; addi(2047).check(), Ok(addi(2047)));
-    assert_eq!(rt; addi(-2048).check(), Ok(addi(-2048)));
-    assert_eq!(rt; addi(2048).check(), Err(FieldFault::ImmediateOutOfRange));
-    assert_eq!(rt; addi(-2049).check(), Err(FieldFault::ImmediateOutOfRange));
+const ZERO: Reg = Reg { number: 0 };
+
+fn addi(immediate: i32) -> Instr {
+    Instr::Immediate {
+        op: ImmediateOp::Addi,
+        rd: ZERO,
+        rs1: ZERO,
+        immediate,
+    }
+}
+
+fn jal(distance: i32) -> Instr {
+    Instr::Jump { rd: ZERO, distance }
+}
+
+fn beq(distance: i32) -> Instr {
+    Instr::Branch {
+        op: BranchOp::Beq,
+        rs1: ZERO,
+        rs2: ZERO,
+        distance,
+    }
+}
+
+fn shift(op: ShiftOp, amount: u32) -> Instr {
+    Instr::Shift {
+        op,
+        rd: ZERO,
+        rs1: ZERO,
+        amount,
+    }
 }
 
 #[test]
-fn distances_are_even_and_in_range(rt: HostRuntime) {
-    let zero = Reg { number: 0 };
-    let jal = |distance: i32| -> Instr { Instr::Jump { rd: zero, distance } };
-    let beq = |distance: i32| -> Instr {
-        Instr::Branch {
-            op: BranchOp::Beq,
-            rs1: zero,
-            rs2: zero,
-            distance,
-        }
-    };
-    assert_eq!(rt; jal(1048574).check(), Ok(jal(1048574)));
-    assert_eq!(rt; jal(1048575).check(), Err(FieldFault::OddOffset));
-    assert_eq!(rt; jal(1048577).check(), Err(FieldFault::ImmediateOutOfRange));
-    assert_eq!(rt; beq(-4096).check(), Ok(beq(-4096)));
-    assert_eq!(rt; beq(-4095).check(), Err(FieldFault::OddOffset));
-    assert_eq!(rt; beq(-4097).check(), Err(FieldFault::ImmediateOutOfRange));
-}
-
-#[test]
-fn shifts_are_in_range(rt: HostRuntime) {
-    let zero = Reg { number: 0 };
-    let shift = |op: ShiftOp, amount: u32| -> Instr {
-        Instr::Shift {
-            op,
-            rd: zero,
-            rs1: zero,
-            amount,
-        }
-    };
-    assert_eq!(rt;
-        shift(ShiftOp::Slli, 63).check(),
-        Ok(shift(ShiftOp::Slli, 63))
-    );
-    assert_eq!(rt;
-        shift(ShiftOp::Slli, 64).check(),
-        Err(FieldFault::ShiftOutOfRange)
-    );
-    assert_eq!(rt;
-        shift(ShiftOp::Slliw, 31).check(),
-        Ok(shift(ShiftOp::Slliw, 31))
-    );
-    assert_eq!(rt;
-        shift(ShiftOp::Slliw, 32).check(),
-        Err(FieldFault::ShiftOutOfRange)
-    );
+fn operands_at_and_past_the_ends_of_their_ranges(rt: HostRuntime) {
+    let cases = [
+        (addi(2047), None),
+        (addi(-2048), None),
+        (addi(2048), Some(FieldFault::ImmediateOutOfRange)),
+        (addi(-2049), Some(FieldFault::ImmediateOutOfRange)),
+        (jal(1048574), None),
+        (jal(1048575), Some(FieldFault::OddOffset)),
+        (jal(1048577), Some(FieldFault::ImmediateOutOfRange)),
+        (beq(-4096), None),
+        (beq(-4095), Some(FieldFault::OddOffset)),
+        (beq(-4097), Some(FieldFault::ImmediateOutOfRange)),
+        (shift(ShiftOp::Slli, 63), None),
+        (shift(ShiftOp::Slli, 64), Some(FieldFault::ShiftOutOfRange)),
+        (shift(ShiftOp::Slliw, 31), None),
+        (shift(ShiftOp::Slliw, 32), Some(FieldFault::ShiftOutOfRange)),
+    ];
+    for (instr, fault) in cases {
+        let expected = match fault {
+            None => Ok(instr),
+            Some(fault) => Err(fault),
+        };
+        assert_eq!(rt; instr.check(), expected);
+    }
 }
 
 #[test]
 fn mnemonics_have_their_names(rt: HostRuntime) {
-    assert_eq!(rt; UpperOp::Auipc.name(), "auipc");
-    assert_eq!(rt; BranchOp::Bgeu.name(), "bgeu");
-    assert_eq!(rt; LoadOp::Lwu.name(), "lwu");
-    assert_eq!(rt; StoreOp::Sh.name(), "sh");
-    assert_eq!(rt; ImmediateOp::Addiw.name(), "addiw");
-    assert_eq!(rt; ShiftOp::Sraiw.name(), "sraiw");
-    assert_eq!(rt; RegisterOp::Sltu.name(), "sltu");
-    assert_eq!(rt; CacheOp::Flush.name(), "cbo.flush");
-    assert_eq!(rt; SystemOp::Ebreak.name(), "ebreak");
-    assert_eq!(rt; AtomicOp::Amomaxu.name(), "amomaxu");
-    assert_eq!(rt; AtomicWidth::Doubleword.suffix(), ".d");
-    assert_eq!(rt; ordering_suffix(true, true), ".aqrl");
+    let names = [
+        (UpperOp::Auipc.name(), "auipc"),
+        (BranchOp::Bgeu.name(), "bgeu"),
+        (LoadOp::Lwu.name(), "lwu"),
+        (StoreOp::Sh.name(), "sh"),
+        (ImmediateOp::Addiw.name(), "addiw"),
+        (ShiftOp::Sraiw.name(), "sraiw"),
+        (RegisterOp::Sltu.name(), "sltu"),
+        (CacheOp::Flush.name(), "cbo.flush"),
+        (SystemOp::Ebreak.name(), "ebreak"),
+        (AtomicOp::Amomaxu.name(), "amomaxu"),
+        (AtomicWidth::Doubleword.suffix(), ".d"),
+        (ordering_suffix(true, true), ".aqrl"),
+    ];
+    for (name, expected) in names {
+        assert_eq!(rt; name, expected);
+    }
 }

@@ -1,5 +1,5 @@
 -- Evictions change nothing but the history.
-use Rattle.std.proofs.Common.{◌≡◌, ℕ, List, [], ◌∷◌, ◌++◌, Option, Some, None, Bool, true, false, if◌then◌else◌, slice_get, slice_set, filter, flat_map, refl, sym, ap, ◌∙◌}
+use Rattle.std.proofs.Common.{◌≡◌, ℕ, List, [], ◌∷◌, ◌++◌, Option, Some, None, Bool, true, false, if◌then◌else◌, slice_get, slice_set, flat_map, refl, sym, ap, ◌∙◌}
 use Rattle.isa_table.specs.declared.instruction.Instr.{Instr}
 use Rattle.hart.specs.Effect.{answered}
 use Rattle.hart.specs.declared.state.HartState.{HartState}
@@ -16,11 +16,10 @@ use Rattle.schedule.specs.declared.items.Step.TheVariants.{Hart, Evict}
 use Rattle.store_trace.specs.declared.event.Event.{Event}
 use Rattle.shared_memory.specs.declared.history.Entry.{Entry}
 use Rattle.shared_memory.specs.declared.history.Entry.TheVariants.{Asked, Evicted}
-use Rattle.machine.specs.Evicting.{AreAlike, requests}
+use Rattle.machine.specs.Evicting.{AreAlike, hart_steps, requests}
 use Rattle.shared_memory.specs.Histories.{calls_of, copied, has_reserved, is_renewal, memory_after, replayed, text_of}
-use Rattle.machine.specs.Recorded.{hart_steps}
 use Rattle.machine.specs.Run.{Config, HartSteps, HartStepsIfThere, Meets, RunsTo, StepsTo, after_request, fetched, fetched_by, with_hart}
-use Rattle.shared_memory.specs.Served.{Common, asked, events_of, replied, reply_after}
+use Rattle.shared_memory.specs.Served.{events_of, replied, reply_after}
 
 -- what is read off a history is read off its requests
 calls_kept : (history : List Entry) → flat_map calls_of history ≡ flat_map calls_of (requests history)

@@ -1,7 +1,6 @@
 pub mod Copying
 pub mod Determined
 pub mod Evicting
-pub mod Numbering
 pub mod Refusing
 pub mod RunParts
 pub mod Stepping

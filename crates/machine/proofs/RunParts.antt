@@ -1,5 +1,5 @@
--- Parts of runs, how traces grow, and the numbers of the hart steps that made their events.
-use Rattle.std.proofs.Common.{◌≡◌, ℕ, ◌+◌, ◌≤◌, List, [], ◌∷◌, ◌++◌, length, Option, Some, None, Bool, true, false, if◌then◌else◌, nat_le, slice_get, refl, sym, ap, ◌∙◌, arith, rules, append_assoc}
+-- Parts of runs, and how traces grow.
+use Rattle.std.proofs.Common.{◌≡◌, ℕ, ◌+◌, ◌≤◌, List, [], ◌∷◌, ◌++◌, length, Option, Some, None, Bool, true, false, if◌then◌else◌, slice_get, refl, sym, ap, ◌∙◌, arith, rules, append_assoc}
 use Rattle.std.proofs.lemmas.List.{append-nil, length-append}
 use Rattle.hart.specs.declared.state.HartState.{HartState}
 use Rattle.hart.specs.declared.state.Status.{Status}
@@ -7,15 +7,15 @@ use Rattle.hart.specs.declared.state.Status.TheVariants.{Running, Exited, Trappe
 use Rattle.hart.specs.declared.need.Need.{Need}
 use Rattle.hart.specs.declared.need.Need.TheVariants.{Local, Ask, Stop}
 use Rattle.hart.specs.declared.need.Reply.{Reply}
-use Rattle.hart.specs.declared.need.Reply.TheVariants.{Value, Done, Fault}
+use Rattle.hart.specs.declared.need.Reply.TheVariants.{Done}
 use Rattle.hart.specs.declared.need.Request.{Request}
 use Rattle.hart.specs.declared.need.Request.TheVariants as requests
 use Rattle.schedule.specs.declared.items.Step.{Step}
 use Rattle.schedule.specs.declared.items.Step.TheVariants.{Hart, Evict}
 use Rattle.store_trace.specs.declared.event.Event.{Event}
 use Rattle.shared_memory.specs.Histories.{Write, written}
-use Rattle.machine.specs.Run.{Config, Executes, HartSteps, HartStepsIfThere, Meets, RunsTo, StepsTo, fetched_by}
-use Rattle.shared_memory.specs.Served.{events_of, events_of_write, if_persistent, reply_after}
+use Rattle.machine.specs.Run.{Config, HartSteps, HartStepsIfThere, Meets, RunsTo, StepsTo, fetched_by}
+use Rattle.shared_memory.specs.Served.{events_of, events_of_write, reply_after}
 
 pub run_joined : (c d e : Config) (first others : List Step) → RunsTo c first d → RunsTo d others e → RunsTo c (first ++ others) e
 run_joined c d e [] others a b = rw (← a) b

@@ -2,7 +2,17 @@
 use Rattle.std.specs.Prelude.{◌≡◌, List, Bool, true, false, filter}
 use Rattle.shared_memory.specs.declared.history.Entry.{Entry}
 use Rattle.shared_memory.specs.declared.history.Entry.TheVariants.{Asked, Evicted}
+use Rattle.schedule.specs.declared.items.Step.{Step}
+use Rattle.schedule.specs.declared.items.Step.TheVariants.{Hart, Evict}
 use Rattle.machine.specs.Run.{Config}
+
+-- the hart steps of a list of steps, in order, without its evictions
+abbrev pub is_hart_step : Step → Bool
+is_hart_step (Hart h) = true
+is_hart_step (Evict line) = false
+
+abbrev pub hart_steps : List Step → List Step
+hart_steps steps = filter is_hart_step steps
 
 -- the requests of a history, without its evictions
 abbrev pub is_asked : Entry → Bool

@@ -1,8 +1,7 @@
 //! The laws of runs, each as the contract of a function with an empty body: a caller has the law as what that
 //! call ensures.
 
-ghost use Rattle.machine.specs.Evicting.{AreAlike};
-ghost use Rattle.machine.specs.Recorded.{hart_steps};
+ghost use Rattle.machine.specs.Evicting.{AreAlike, hart_steps};
 ghost use Rattle.machine.specs.Refusals.{Refuses};
 ghost use Rattle.machine.specs.Run.{Config, RunsTo, StepsTo};
 ghost use Rattle.machine.specs.Outcomes.{MakesEvent};

@@ -4,7 +4,6 @@
 mod fault;
 mod laws;
 mod machine;
-mod recording;
 mod running;
 mod text_copy;
 
@@ -14,7 +13,6 @@ pub use laws::{
     run_is_determined, trace_grows,
 };
 pub use machine::{Machine, Outcome};
-pub use recording::{Recorded, record};
 pub use schedule::{Item, Schedule, Step};
 pub use shared_memory::{Entry, Shared, StepFault};
 

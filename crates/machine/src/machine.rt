@@ -15,6 +15,7 @@ ghost use Rattle.machine.specs.Outcomes.{MakesEvent, outcome_after, outcome_of};
 ghost use Rattle.machine.specs.Refusals.{LacksHart, LacksLine, Refuses};
 ghost use Rattle.shared_memory.specs.Refusals.{RefusesRequest};
 ghost use Rattle.machine.specs.Run.{Config, fetched as fetched_from, started};
+ghost use Rattle.machine.specs.Stops.{is_stopped};
 ghost use Rattle.machine.specs.Stands.{Answers, IsRunning, NeedsAt, Runs, Stands, copy_of};
 ghost use Rattle.shared_memory.specs.SharedView.{Evicts, memory_of};
 
@@ -128,6 +129,19 @@ impl Machine {
         ensures { slice_get self.now.harts hart ≡ Some result.now }
     {
         &self.harts[hart as usize]
+    }
+
+    /// Whether there is such a hart and it has stopped.
+    pub fn has_stopped(&self, hart: u32) -> bool
+        ensures { result ≡ is_stopped (slice_get self.now.harts hart) }
+    {
+        if hart >= self.harts() {
+            return false;
+        }
+        match self.hart(hart).status {
+            Status::Running => false,
+            Status::Exited(_) | Status::Trapped(_) => true,
+        }
     }
 
     /// What the next instruction of a running hart needs.

@@ -1,13 +1,12 @@
 //! Runs of a schedule.
 
-ghost use Rattle.std.specs.Prelude.{◌≡◌, replicate, slice_get, OnOk, IfErr};
+ghost use Rattle.std.specs.Prelude.{replicate, OnOk, IfErr};
 ghost use Rattle.schedule.specs.Steps.{all_steps, steps_of};
 ghost use Rattle.machine.specs.Stands.{Runs};
-ghost use Rattle.machine.specs.Stops.{StopsAfter, StopsAt, is_stopped};
+ghost use Rattle.machine.specs.Stops.{StopsAfter, StopsAt};
 
 use crate::fault::RunStop;
 use crate::machine::Machine;
-use hart::Status;
 use schedule::{Item, Schedule, Step};
 use shared_memory::StepFault;
 
@@ -66,17 +65,5 @@ impl Machine {
             }
         }
         Ok(())
-    }
-
-    fn has_stopped(&self, hart: u32) -> bool
-        ensures { result ≡ is_stopped (slice_get self.now.harts hart) }
-    {
-        if hart >= self.harts() {
-            return false;
-        }
-        match self.hart(hart).status {
-            Status::Running => false,
-            Status::Exited(_) | Status::Trapped(_) => true,
-        }
     }
 }

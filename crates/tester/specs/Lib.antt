@@ -1,2 +1,5 @@
-pub mod ProgramRun
-pub mod ImageCount
+pub mod Programs
+pub mod Runs
+pub mod Images
+pub mod Explaining
+pub mod Checking

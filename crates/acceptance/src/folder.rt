@@ -1,0 +1,57 @@
+//! Files in memory, by their names.
+
+use crate::routines::FILES;
+use command_line::{FileFault, Files};
+use std::alloc::{AllocError, Global};
+
+/// Files in memory. No file can be written whose name is `unwritable`.
+#[derive(Drop)]
+pub struct Folder {
+    alloc: Global,
+    files: Vec<(String, Vec<u8>)>,
+}
+
+impl Folder {
+    pub fn new(alloc: Global) -> Folder {
+        Folder {
+            alloc,
+            files: Vec::new(alloc),
+        }
+    }
+
+    /// Puts a file in place of an older one of its name.
+    pub fn put(&mut self, name: &str, bytes: &[u8]) -> Result<(), AllocError> {
+        let name = String::from_str(self.alloc, name)?;
+        let bytes = Vec::from_slice(self.alloc, bytes)?;
+        // The newest file of a name is the first that a read finds.
+        self.files.insert(0, (name, bytes))?;
+        Ok(())
+    }
+}
+
+impl Files for Folder {
+    fn read(&mut self, name: &str) -> Result<Vec<u8>, FileFault> {
+        for (known, bytes) in &self.files {
+            if known.as_str() == name {
+                return Vec::from_slice(self.alloc, bytes).map_err(|_| FileFault::Memory);
+            }
+        }
+        Err(FileFault::Failed)
+    }
+
+    fn write(&mut self, name: &str, bytes: &[u8]) -> Result<(), FileFault> {
+        if name == "unwritable" {
+            return Err(FileFault::Failed);
+        }
+        self.put(name, bytes).map_err(|_| FileFault::Memory)
+    }
+}
+
+/// A folder of the files of the examples.
+pub fn folder_of_examples(alloc: Global) -> Result<Folder, AllocError> {
+    let mut folder = Folder::new(alloc);
+    for (name, text) in FILES {
+        folder.put(name, text.as_bytes())?;
+    }
+    Ok(folder)
+}

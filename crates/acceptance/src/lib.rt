@@ -1,0 +1,22 @@
+//! The program as its users meet it: whole runs over files in memory, with what each prints and the status that it
+//! ends with. The crate has tests alone.
+#![tactic(auto)]
+
+#[cfg(test)]
+mod checking;
+#[cfg(test)]
+mod folder;
+#[cfg(test)]
+mod imaging;
+#[cfg(test)]
+mod refusing;
+#[cfg(test)]
+mod routines;
+#[cfg(test)]
+mod running;
+#[cfg(test)]
+mod streams;
+#[cfg(test)]
+mod turns;
+#[cfg(test)]
+mod tutorial;

@@ -1,0 +1,148 @@
+//! The files of the examples: routines, plans and schedules.
+
+/// The example that the program is delivered with: one store, cleaned and fenced.
+const FIRST: &str = "addi x5, x0, 7\nlui x6, 0x40000\nsd x5, 0(x6)\ncbo.clean (x6)\nfence w, w\n\
+    addi x17, x0, 93\naddi x10, x0, 0\necall\n";
+
+/// The same with a store at an address that is no multiple of its width.
+const MISALIGNED: &str =
+    "addi x5, x0, 7\nlui x6, 0x40000\nsd x5, 4(x6)\ncbo.clean (x6)\nfence w, w\n\
+    addi x17, x0, 93\naddi x10, x0, 0\necall\n";
+
+/// Three stores to line 5, the first two of them cleaned before the third.
+const THREE_STORES: &str =
+    "addi x5, x0, 1\naddi x6, x11, 320\nsd x5, 0(x6)\naddi x5, x5, 1\nsd x5, 0(x6)\n\
+    cbo.clean (x6)\naddi x5, x5, 1\nsd x5, 0(x6)\nfence w, w\n";
+
+/// Stores to lines 0 and 1 in turn, and loads of both.
+const TWO_LINES: &str =
+    "li t0, 1\nsd t0, 0(a1)\nli t0, 3\nsd t0, 64(a1)\nli t0, 2\nsd t0, 0(a1)\nli t0, 4\n\
+    sd t0, 64(a1)\nld t1, 0(a1)\nld t2, 64(a1)\nli a7, 93\nli a0, 0\necall\n";
+
+/// Loads of lines 0, 1 and 5.
+const LOADS: &str = "ld t1, 0(a1)\nld t2, 64(a1)\nld t3, 320(a1)\nli a7, 93\nli a0, 0\necall\n";
+
+/// A loop that stores, without an end.
+const STORES: &str = "loop: sd t0, 0(a1)\nj loop\n";
+
+/// A thousand additions to one doubleword by each hart.
+const COUNTER: &str =
+    "li t0, 1000\nli t1, 1\nloop: amoadd.d zero, t1, (a1)\naddi t0, t0, -1\nbnez t0, loop\n\
+    li a7, 93\nli a0, 0\necall\n";
+
+/// A routine that writes its own text, without and with the fence that makes its hart fetch it.
+const REWRITE: &str =
+    "la t0, spot\nla t1, new\nlw t2, 0(t1)\nsw t2, 0(t0)\nspot: li a0, 1\nli a7, 93\necall\n\
+    new: .word 0x00200513\n";
+
+const RENEW: &str =
+    "la t0, spot\nla t1, new\nlw t2, 0(t1)\nsw t2, 0(t0)\nfence.i\nspot: li a0, 1\nli a7, 93\necall\n\
+    new: .word 0x00200513\n";
+
+/// Appends value 77 to the log of inode 0 as operation 1.
+const APPEND: &str =
+    "li a7, 2001\nli a0, 1\necall\nld t0, 72(a1)\nadd t1, a1, t0\nli t2, 1\nsd t2, 0(t1)\nsd t2, 8(t1)\n\
+    li t3, 77\nsd t3, 16(t1)\ncbo.clean (t1)\nfence w, w\naddi t0, t0, 64\nsd t0, 72(a1)\naddi t4, a1, 64\ncbo.clean (t4)\n\
+    fence w, w\nli a7, 2002\necall\nli a7, 93\nli a0, 0\necall\n";
+
+/// The same without the fence between the entry and the tail.
+const MISSING_FENCE: &str =
+    "li a7, 2001\nli a0, 1\necall\nld t0, 72(a1)\nadd t1, a1, t0\nli t2, 1\nsd t2, 0(t1)\nsd t2, 8(t1)\n\
+    li t3, 77\nsd t3, 16(t1)\ncbo.clean (t1)\naddi t0, t0, 64\nsd t0, 72(a1)\naddi t4, a1, 64\ncbo.clean (t4)\n\
+    fence w, w\nli a7, 2002\necall\nli a7, 93\nli a0, 0\necall\n";
+
+/// The same without the fence between the tail and the operation's end.
+const EARLY_END: &str =
+    "li a7, 2001\nli a0, 1\necall\nld t0, 72(a1)\nadd t1, a1, t0\nli t2, 1\nsd t2, 0(t1)\nsd t2, 8(t1)\n\
+    li t3, 77\nsd t3, 16(t1)\ncbo.clean (t1)\nfence w, w\naddi t0, t0, 64\nsd t0, 72(a1)\naddi t4, a1, 64\ncbo.clean (t4)\n\
+    li a7, 2002\necall\nli a7, 93\nli a0, 0\necall\n";
+
+/// The append with entries of 128 bytes.
+const LONG_APPEND: &str =
+    "li a7, 2001\nli a0, 1\necall\nld t0, 72(a1)\nadd t1, a1, t0\nli t2, 1\nsd t2, 0(t1)\nsd t2, 8(t1)\n\
+    li t3, 77\nsd t3, 16(t1)\ncbo.clean (t1)\nfence w, w\naddi t0, t0, 128\nsd t0, 72(a1)\naddi t4, a1, 64\ncbo.clean (t4)\n\
+    fence w, w\nli a7, 2002\necall\nli a7, 93\nli a0, 0\necall\n";
+
+/// Hart h appends value 70 + h to the log of inode h as operation h + 1.
+const APPEND_TWO: &str =
+    "li a7, 2001\naddi a0, a0, 1\necall\nslli t4, a0, 6\nadd t4, t4, a1\nld t0, 8(t4)\nadd t1, a1, t0\nli t2, 1\n\
+    sd t2, 0(t1)\nsd a0, 8(t1)\naddi t3, a0, 69\nsd t3, 16(t1)\ncbo.clean (t1)\nfence w, w\naddi t0, t0, 64\nsd t0, 8(t4)\n\
+    cbo.clean (t4)\nfence w, w\nli a7, 2002\necall\nli a7, 93\nli a0, 0\necall\n";
+
+/// Takes the name `a` from the log of inode 0 and adds it to that of inode 1, by journal 0.
+const RENAME: &str =
+    "li a7, 2001\nli a0, 1\necall\nld t0, 72(a1)\nld t1, 136(a1)\nadd t2, a1, t0\nadd t3, a1, t1\nli t4, 1\n\
+    li t5, 9\nli t6, 97\nli a2, 0x103\nsd a2, 0(t2)\nsd t4, 8(t2)\nsd t5, 16(t2)\nsd t6, 24(t2)\nli a2, 0x102\nsd a2, 0(t3)\n\
+    sd t4, 8(t3)\nsd t5, 16(t3)\nsd t6, 24(t3)\ncbo.clean (t2)\ncbo.clean (t3)\nfence w, w\nlui a3, 2\nadd a3, a3, a1\n\
+    addi a4, a3, 64\naddi a5, a3, 128\nsd zero, 0(a4)\nsd t0, 8(a4)\nsd t4, 0(a5)\nsd t1, 8(a5)\ncbo.clean (a4)\ncbo.clean (a5)\n\
+    fence w, w\nli a2, 2\nsd a2, 8(a3)\ncbo.clean (a3)\nfence w, w\naddi t0, t0, 64\naddi t1, t1, 64\nsd t0, 72(a1)\n\
+    sd t1, 136(a1)\naddi a4, a1, 64\naddi a5, a1, 128\ncbo.clean (a4)\ncbo.clean (a5)\nfence w, w\nsd a2, 0(a3)\ncbo.clean (a3)\n\
+    fence w, w\nli a7, 2002\necall\nli a7, 93\nli a0, 0\necall\n";
+
+/// Stores to seventeen lines, none of them cleaned.
+const SEVENTEEN: &str =
+    "li t0, 17\nli t1, 19200\nadd t1, t1, a1\nloop: sd t0, 0(t1)\naddi t1, t1, 64\naddi t0, t0, -1\n\
+    bnez t0, loop\nli a7, 93\necall\n";
+
+/// Begins operation 7, ends it, and begins it again.
+const TWICE: &str = "li a7, 2001\nli a0, 7\necall\nli a7, 2002\necall\nli a7, 2001\necall\n";
+
+/// Each file's name and text.
+pub const FILES: [(&str, &str); 41] = [
+    ("first.s", FIRST),
+    ("misaligned.s", MISALIGNED),
+    ("empty.s", ""),
+    ("three.s", THREE_STORES),
+    ("two-lines.s", TWO_LINES),
+    ("loads.s", LOADS),
+    ("stores.s", STORES),
+    ("counter.s", COUNTER),
+    ("rewrite.s", REWRITE),
+    ("renew.s", RENEW),
+    ("append.s", APPEND),
+    ("missing-fence.s", MISSING_FENCE),
+    ("early-end.s", EARLY_END),
+    ("long-append.s", LONG_APPEND),
+    ("append2.s", APPEND_TWO),
+    ("rename.s", RENAME),
+    ("seventeen.s", SEVENTEEN),
+    ("twice.s", TWICE),
+    ("five.s", "addi x1, x0, 5\n"),
+    ("short.o", "RVXPROG1\u{4}\0\0\0\0\0\0"),
+    ("seven.o", "RVXPROG"),
+    ("fault.s", "addi x5, x0, 7\nfoo x1\n"),
+    ("away.s", "j away\nfoo x1\n"),
+    ("unknown.s", "j away\n"),
+    (
+        "append.plan",
+        "inodes 1\npages 1\njournals 1\nop 1 append 0 77\n",
+    ),
+    (
+        "append2.plan",
+        "inodes 2\npages 2\njournals 1\nop 1 append 0 70\nop 2 append 1 71\n",
+    ),
+    (
+        "rename.plan",
+        "inodes 2\npages 2\njournals 1\nop 1 rename 0 1 a 9\n",
+    ),
+    (
+        "layout2.plan",
+        "layout 2\ninodes 1\npages 1\njournals 1\nop 1 append 0 77\n",
+    ),
+    ("bare.plan", "inodes 1\npages 1\njournals 1\n"),
+    (
+        "seven.plan",
+        "inodes 1\npages 1\njournals 1\nop 7 append 0 77\n",
+    ),
+    ("fault.plan", "inodes 1\npages one\n"),
+    ("append.schedule", "h0*22\n"),
+    ("append2.schedule", "h0*100 h1*100\n"),
+    ("rename.schedule", "h0*200\n"),
+    ("seventeen.schedule", "h0*74\n"),
+    ("eight.schedule", "h0*8\n"),
+    ("nine.schedule", "h0*3 h0\nh0*5"),
+    ("thirteen.schedule", "h0*13\n"),
+    ("nothing.schedule", "\n"),
+    ("beyond.schedule", "h0*3 e512\n"),
+    ("zero.schedule", "h0*0"),
+];

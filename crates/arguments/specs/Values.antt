@@ -1,0 +1,39 @@
+-- What the values found for words and options say: names of files, and numbers within their limits.
+use Rattle.std.specs.Prelude.{◌≡◌, ◌≤◌, ℕ, List, Option, Some, None, String, codes, option_map, string_bytes}
+use Rattle.std.specs.declared.alloc.Global.{Global}
+use Rattle.std.specs.Str.Parse.{IsNumeral, digits_value}
+use Rattle.clap.specs.Words.{Row, Text, first_of}
+
+-- the word that has to be given
+abbrev pub IsWord : Text → List Row → String Global → Type 0
+IsWord name rows word = first_of name rows ≡ Some (string_bytes word)
+
+-- the value of an option that may be left out
+abbrev pub IsOptional : Text → List Row → Option (String Global) → Type 0
+IsOptional name rows value = first_of name rows ≡ option_map string_bytes value
+
+-- the number that a text writes in decimal digits, within limits
+abbrev pub IsDecimal : ℕ → ℕ → Text → ℕ → Type 0
+IsDecimal low high text n = IsNumeral 10 text × (n ≡ digits_value 10 text) × (low ≤ n) × (n ≤ high)
+
+-- the number of an option, or the default of an option that isn't given
+abbrev pub IsNumber : ℕ → ℕ → ℕ → Option Text → ℕ → Type 0
+IsNumber default low high None n = n ≡ default
+IsNumber default low high (Some text) n = IsDecimal low high text n
+
+-- the number of a word that has to be given: any below 2^32
+abbrev pub IsNumberWord : Option Text → ℕ → Type 0
+IsNumberWord None n = ⊥
+IsNumberWord (Some text) n = IsDecimal 0 4294967295 text n
+
+-- the most steps of a run: 1,000,000 where the line doesn't say
+abbrev pub IsSteps : List Row → ℕ → Type 0
+IsSteps rows steps = IsNumber 1000000 1 500000000 (first_of (codes "steps") rows) steps
+
+-- the harts of a machine: 1 where the line doesn't say
+abbrev pub IsHarts : List Row → ℕ → Type 0
+IsHarts rows harts = IsNumber 1 1 8 (first_of (codes "harts") rows) harts
+
+-- the most lines of a cache: 16 where the line doesn't say
+abbrev pub IsCapacity : List Row → ℕ → Type 0
+IsCapacity rows capacity = IsNumber 16 1 16384 (first_of (codes "capacity") rows) capacity

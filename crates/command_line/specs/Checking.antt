@@ -1,0 +1,49 @@
+-- What `check` comes to.
+use Rattle.std.specs.Prelude.{ℕ, List, Result, MatchResult, ◌++◌, codes, decimal, option_map, string_bytes}
+use Rattle.arguments.specs.declared.asked.CheckCommand.{CheckCommand}
+use Rattle.image_check.specs.declared.verdict.Cause.{Cause}
+use Rattle.image_check.specs.declared.verdict.Cause.TheVariants as causes
+use Rattle.image_check.specs.declared.verdict.Verdict.{Verdict}
+use Rattle.image_check.specs.declared.verdict.Verdict.TheVariants as verdicts
+use Rattle.plan.specs.declared.operation.Operation.{Operation}
+use Rattle.schedule.specs.declared.items.Item.{Item}
+use Rattle.tester.specs.Checking.{HasNoVerdict, HasVerdict}
+use Rattle.tester.specs.Runs.{Setup, with_room}
+use Rattle.command_line.specs.Codes.{volume_code}
+use Rattle.command_line.specs.Failures.{failure_of_verdict}
+use Rattle.command_line.specs.Reading.{ReadsMedium, ReadsPlan, ReadsProgram, ReadsSchedule}
+use Rattle.command_line.specs.Reports.{line_end}
+use Rattle.command_line.specs.Steps.{First, Prints, Reads, Step, Still, Tells}
+use Rattle.command_line.specs.declared.answer.Answer.{Answer}
+use Rattle.command_line.specs.declared.failure.Failure.{Failure}
+
+-- the verdict on the run by a schedule, or why there is none
+pub record Judges (plan : List Operation) (s : Setup) (schedule : List Item) (outcome : Result Verdict Failure) : Type 0 where
+  pub judges : MatchResult outcome (HasVerdict plan s schedule) (Tells (HasNoVerdict plan s schedule) failure_of_verdict)
+
+-- why an image is bad: the code of the fault that recovery finds in it, or `illegal`
+abbrev pub cause_text : Cause → List ℕ
+cause_text (causes.Fault fault) = volume_code fault
+cause_text causes.Illegal = codes "illegal"
+
+-- `pass moments=N images=N`, `fail moment=M image=N cause=C` or `too many moment=M`
+abbrev pub verdict_line : Verdict → List ℕ
+verdict_line (verdicts.Pass moments images) =
+    codes "pass moments=" ++ (decimal moments ++ (codes " images=" ++ (decimal images ++ line_end)))
+verdict_line (verdicts.Fail moment image cause) =
+    codes "fail moment=" ++ (decimal moment ++ (codes " image=" ++ (decimal image ++ (codes " cause=" ++ (cause_text cause ++ line_end)))))
+verdict_line (verdicts.TooMany moment) = codes "too many moment=" ++ (decimal moment ++ line_end)
+
+abbrev pub verdict_status : Verdict → ℕ
+verdict_status (verdicts.Pass moments images) = 0
+verdict_status (verdicts.Fail moment image cause) = 1
+verdict_status (verdicts.TooMany moment) = 3
+
+abbrev pub ChecksFile : {F : Type 0} → Reads F → CheckCommand → Step F Answer
+ChecksFile reads command =
+    First (ReadsPlan reads (string_bytes command.plan)) (λ plan.
+    First (ReadsProgram reads (string_bytes command.program)) (λ program.
+    First (ReadsSchedule reads (string_bytes command.schedule)) (λ schedule.
+    First (ReadsMedium reads (option_map string_bytes command.machine.medium)) (λ medium.
+    First (Still (Judges plan.operations (with_room program medium command.machine.harts) schedule)) (λ verdict.
+    Still (Prints (verdict_line verdict) (verdict_status verdict)))))))

@@ -1,0 +1,24 @@
+-- What `explain` comes to.
+use Rattle.std.specs.Prelude.{ℕ, List, Result, MatchResult, option_map, string_bytes}
+use Rattle.arguments.specs.declared.asked.ExplainCommand.{ExplainCommand}
+use Rattle.schedule.specs.declared.items.Item.{Item}
+use Rattle.tester.specs.Explaining.{ExplainsImage, FailsToExplain}
+use Rattle.tester.specs.Runs.{Setup, with_room}
+use Rattle.command_line.specs.Failures.{failure_of_explanation}
+use Rattle.command_line.specs.Reading.{ReadsMedium, ReadsProgram, ReadsSchedule}
+use Rattle.command_line.specs.Steps.{First, Prints, Reads, Step, Still, Tells}
+use Rattle.command_line.specs.Writing.{schedule_line}
+use Rattle.command_line.specs.declared.answer.Answer.{Answer}
+use Rattle.command_line.specs.declared.failure.Failure.{Failure}
+
+-- an explanation of an image of a moment, or why there is none
+pub record Explained (s : Setup) (schedule : List Item) (moment image : ℕ) (outcome : Result (List Item) Failure) : Type 0 where
+  pub explains : MatchResult outcome (ExplainsImage s schedule moment image) (Tells (FailsToExplain s schedule moment image) failure_of_explanation)
+
+abbrev pub ExplainsFile : {F : Type 0} → Reads F → ExplainCommand → Step F Answer
+ExplainsFile reads command =
+    First (ReadsProgram reads (string_bytes command.program)) (λ program.
+    First (ReadsSchedule reads (string_bytes command.schedule)) (λ schedule.
+    First (ReadsMedium reads (option_map string_bytes command.machine.medium)) (λ medium.
+    First (Still (Explained (with_room program medium command.machine.harts) schedule command.moment command.image)) (λ explanation.
+    Still (Prints (schedule_line explanation) 0)))))

@@ -1,0 +1,33 @@
+-- What `images` comes to.
+use Rattle.std.specs.Prelude.{ℕ, List, Option, Some, None, Result, MatchResult, ◌++◌, codes, decimal, option_map, string_bytes}
+use Rattle.arguments.specs.declared.asked.ImagesCommand.{ImagesCommand}
+use Rattle.schedule.specs.declared.items.Item.{Item}
+use Rattle.tester.specs.Images.{CountsImages, FailsToCount}
+use Rattle.tester.specs.Runs.{Setup, with_room}
+use Rattle.command_line.specs.Failures.{failure_of_count}
+use Rattle.command_line.specs.Reading.{ReadsMedium, ReadsProgram, ReadsSchedule}
+use Rattle.command_line.specs.Reports.{line_end}
+use Rattle.command_line.specs.Steps.{First, Prints, Reads, Step, Still, Tells}
+use Rattle.command_line.specs.declared.answer.Answer.{Answer}
+use Rattle.command_line.specs.declared.failure.Failure.{Failure}
+
+-- the images of a moment, or why they aren't counted
+pub record Counts (s : Setup) (schedule : List Item) (moment : ℕ) (outcome : Result (Option ℕ) Failure) : Type 0 where
+  pub counts : MatchResult outcome (CountsImages s schedule moment) (Tells (FailsToCount s schedule moment) failure_of_count)
+
+-- `N`, and `over 65536` where there are more
+abbrev pub count_text : Option ℕ → List ℕ
+count_text None = codes "over 65536"
+count_text (Some n) = decimal n
+
+-- `moment M images N`
+abbrev pub images_line : ℕ → Option ℕ → List ℕ
+images_line moment count = codes "moment " ++ (decimal moment ++ (codes " images " ++ (count_text count ++ line_end)))
+
+abbrev pub CountsFile : {F : Type 0} → Reads F → ImagesCommand → Step F Answer
+CountsFile reads command =
+    First (ReadsProgram reads (string_bytes command.program)) (λ program.
+    First (ReadsSchedule reads (string_bytes command.schedule)) (λ schedule.
+    First (ReadsMedium reads (option_map string_bytes command.machine.medium)) (λ medium.
+    First (Still (Counts (with_room program medium command.machine.harts) schedule command.moment)) (λ count.
+    Still (Prints (images_line command.moment count) 0)))))

@@ -1,0 +1,62 @@
+-- What the files say that a command reads.
+use Rattle.std.specs.Prelude.{◌≡◌, ◌≢◌, ◌⊎◌, ◌%◌, ◌/◌, ◌<◌, ℕ, List, Option, Some, None, Result, MatchResult, length, ⊤}
+use Rattle.std.specs.List.{concat}
+use Rattle.line_memory.specs.Lines.{IsMedium, zero_lines}
+use Rattle.line_memory.specs.declared.MediumFault.{MediumFault}
+use Rattle.line_memory.specs.declared.MediumFault.TheVariants as media
+use Rattle.object.specs.Sections.{Sections}
+use Rattle.plan.specs.Grammar.{IsFirstFault, IsPlan, OnText as OnPlanText}
+use Rattle.plan.specs.Plans.{PlanView}
+use Rattle.plan.specs.declared.fault.PlanFault.{PlanFault}
+use Rattle.schedule.specs.Grammar.{IsSchedule, OnText}
+use Rattle.schedule.specs.declared.items.Item.{Item}
+use Rattle.tester.specs.Programs.{IsLoadFault, IsProgramOf}
+use Rattle.command_line.specs.Failures.{failure_of_medium, failure_of_plan, failure_of_program, failure_of_schedule}
+use Rattle.command_line.specs.Steps.{First, Reads, ReadsFile, Step, Still, Tells}
+use Rattle.command_line.specs.declared.failure.Failure.{Failure}
+use Rattle.command_line.specs.declared.failure.Failure.TheVariants.{Memory}
+
+-- the program of a file, or why it gives none
+pub record SaysProgram (file : List ℕ) (outcome : Result Sections Failure) : Type 0 where
+  pub says : MatchResult outcome (IsProgramOf file) (Tells (IsLoadFault file) failure_of_program)
+
+-- the plan of a text, or its first line at fault
+abbrev pub IsPlanFault : List ℕ → PlanFault → Type 0
+IsPlanFault text fault = OnPlanText fault.code (IsFirstFault text fault.line fault.code)
+
+pub record SaysPlan (text : List ℕ) (outcome : Result PlanView Failure) : Type 0 where
+  pub says : MatchResult outcome (IsPlan text) (Tells (IsPlanFault text) failure_of_plan)
+
+-- the schedule of a text, or that it says none
+pub record SaysSchedule (text : List ℕ) (outcome : Result (List Item) Failure) : Type 0 where
+  pub says : MatchResult outcome (IsSchedule text) (Tells (OnText ((schedule : List Item) → ¬ IsSchedule text schedule)) failure_of_schedule)
+
+-- the medium of these bytes, or that they aren't 512 to 16,384 whole lines
+pub record HasBytes (bytes : List ℕ) (lines : List (List ℕ)) : Type 0 where
+  pub all : concat lines ≡ bytes
+  pub whole : IsMedium lines
+
+abbrev pub IsMediumFault : List ℕ → MediumFault → Type 0
+IsMediumFault bytes media.Size = (length bytes % 64 ≢ 0) ⊎ (length bytes / 64 < 512) ⊎ (16384 < length bytes / 64)
+IsMediumFault bytes media.Memory = ⊤
+
+pub record SaysMedium (bytes : List ℕ) (outcome : Result (List (List ℕ)) Failure) : Type 0 where
+  pub says : MatchResult outcome (HasBytes bytes) (Tells (IsMediumFault bytes) failure_of_medium)
+
+-- where no medium is given: 512 lines of zeros
+pub record IsDefaultMedium (outcome : Result (List (List ℕ)) Failure) : Type 0 where
+  pub zeros : MatchResult outcome (λ lines. lines ≡ zero_lines 512) (λ failure. failure ≡ Memory)
+
+abbrev pub ReadsProgram : {F : Type 0} → Reads F → List ℕ → Step F Sections
+ReadsProgram reads name = First (ReadsFile reads name) (λ file. Still (SaysProgram file))
+
+abbrev pub ReadsPlan : {F : Type 0} → Reads F → List ℕ → Step F PlanView
+ReadsPlan reads name = First (ReadsFile reads name) (λ text. Still (SaysPlan text))
+
+abbrev pub ReadsSchedule : {F : Type 0} → Reads F → List ℕ → Step F (List Item)
+ReadsSchedule reads name = First (ReadsFile reads name) (λ text. Still (SaysSchedule text))
+
+-- the medium's file, where one is named
+abbrev pub ReadsMedium : {F : Type 0} → Reads F → Option (List ℕ) → Step F (List (List ℕ))
+ReadsMedium reads None = Still IsDefaultMedium
+ReadsMedium reads (Some name) = First (ReadsFile reads name) (λ bytes. Still (SaysMedium bytes))

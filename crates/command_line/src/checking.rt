@@ -1,0 +1,91 @@
+//! The command that checks a run.
+
+ghost use Rattle.std.specs.Prelude.{◌≡◌, IfOk, string_bytes};
+ghost use Rattle.command_line.specs.Checking.{ChecksFile, Judges, cause_text, verdict_line, verdict_status};
+ghost use Rattle.command_line.specs.Steps.{Prints};
+ghost use Rattle.tester.specs.Runs.{with_room};
+
+use crate::answer::Answer;
+use crate::codes::volume_code;
+use crate::failure::Failure;
+use crate::files::Files;
+use crate::reading::{read_medium, read_plan, read_program, read_schedule};
+use arguments::CheckCommand;
+use image_check::{Cause, Verdict};
+use line_memory::Medium;
+use plan::Plan;
+use program::Program;
+use schedule::Schedule;
+use std::alloc::{AllocError, Global};
+use tester::check_program;
+
+/// `check`: reads the files of a plan, a program, a schedule and a medium, and gives the verdict on the run.
+pub(crate) fn check_file<F: Files>(
+    alloc: Global,
+    command: &CheckCommand,
+    files: &mut F,
+) -> Result<Answer, Failure>
+    ensures { ChecksFile F.read_gives command.now files.old result files.new }
+{
+    let plan = read_plan(alloc, command.plan.as_str(), files)?;
+    let program = read_program(alloc, command.program.as_str(), files)?;
+    let schedule = read_schedule(alloc, command.schedule.as_str(), files)?;
+    let medium = read_medium(alloc, &command.machine.medium, files)?;
+    let harts = command.machine.harts;
+    let verdict = verdict(alloc, &plan, program, medium, harts, &schedule)?;
+    verdict_answer(alloc, verdict)
+}
+
+fn verdict(
+    alloc: Global,
+    plan: &Plan,
+    program: Program,
+    medium: Medium,
+    harts: u32,
+    schedule: &Schedule,
+) -> Result<Verdict, Failure>
+    ensures { Judges plan.now.operations (with_room program medium harts) schedule.now result }
+{
+    Ok(check_program(alloc, plan, program, medium, harts, schedule)?)
+}
+
+fn verdict_answer(alloc: Global, verdict: Verdict) -> Result<Answer, Failure>
+    ensures { Prints (verdict_line verdict) (verdict_status verdict) result }
+{
+    let text = verdict_line(alloc, verdict)?;
+    let status = match verdict {
+        Verdict::Pass { .. } => 0,
+        Verdict::Fail { .. } => 1,
+        Verdict::TooMany { .. } => 3,
+    };
+    Ok(Answer { text, status })
+}
+
+/// `pass moments=N images=N`, `fail moment=M image=N cause=C` or `too many moment=M`.
+fn verdict_line(alloc: Global, verdict: Verdict) -> Result<String, AllocError>
+    ensures { IfOk result (λ text. string_bytes text ≡ verdict_line verdict) }
+{
+    match verdict {
+        Verdict::Pass { moments, images } => {
+            format!(in alloc; "pass moments={moments} images={images}\n")
+        }
+        Verdict::Fail {
+            moment,
+            image,
+            cause,
+        } => {
+            let cause = cause_text(cause);
+            format!(in alloc; "fail moment={moment} image={image} cause={cause}\n")
+        }
+        Verdict::TooMany { moment } => format!(in alloc; "too many moment={moment}\n"),
+    }
+}
+
+fn cause_text(cause: Cause) -> &'static str
+    ensures { result.now ≡ cause_text cause }
+{
+    match cause {
+        Cause::Fault(fault) => volume_code(fault),
+        Cause::Illegal => "illegal",
+    }
+}

@@ -1,0 +1,109 @@
+//! The files that commands read.
+
+ghost use Rattle.std.specs.Prelude.{◌<◌, ◌^◌, IfOk, option_map, string_bytes};
+ghost use Rattle.std.specs.Result.{result_map_both};
+ghost use Rattle.schedule.specs.Grammar.{hart_steps};
+ghost use Rattle.command_line.specs.Reading.{IsDefaultMedium, ReadsMedium, ReadsPlan, ReadsProgram, ReadsSchedule};
+ghost use Rattle.command_line.specs.Reading.{SaysMedium, SaysPlan, SaysProgram, SaysSchedule};
+ghost use Rattle.command_line.specs.Steps.{ReadsFile};
+
+use crate::failure::Failure;
+use crate::files::Files;
+use line_memory::Medium;
+use plan::Plan;
+use program::Program;
+use schedule::Schedule;
+use std::alloc::Global;
+use tester::{default_medium, load_program};
+
+/// The bytes of a file.
+pub(crate) fn read_file<F: Files>(name: &str, files: &mut F) -> Result<Vec<u8>, Failure>
+    ensures { ReadsFile F.read_gives name.now files.old (result_map_both (λ bytes. bytes.items) (λ failure. failure) result) files.new }
+{
+    Ok(files.read(name)?)
+}
+
+/// The program in a file.
+pub(crate) fn read_program<F: Files>(
+    alloc: Global,
+    name: &str,
+    files: &mut F,
+) -> Result<Program, Failure>
+    ensures { ReadsProgram F.read_gives name.now files.old result files.new }
+{
+    let file = read_file(name, files)?;
+    program_of(alloc, &file)
+}
+
+fn program_of(alloc: Global, file: &[u8]) -> Result<Program, Failure>
+    ensures { SaysProgram file.now result }
+{
+    Ok(load_program(alloc, file)?)
+}
+
+/// The plan in a file.
+pub(crate) fn read_plan<F: Files>(alloc: Global, name: &str, files: &mut F) -> Result<Plan, Failure>
+    ensures { ReadsPlan F.read_gives name.now files.old result files.new }
+{
+    let text = read_file(name, files)?;
+    plan_of(alloc, &text)
+}
+
+fn plan_of(alloc: Global, text: &[u8]) -> Result<Plan, Failure>
+    ensures { SaysPlan text.now result }
+{
+    Ok(Plan::read(alloc, text)?)
+}
+
+/// The schedule in a file.
+pub(crate) fn read_schedule<F: Files>(
+    alloc: Global,
+    name: &str,
+    files: &mut F,
+) -> Result<Schedule, Failure>
+    ensures reads { ReadsSchedule F.read_gives name.now files.old result files.new }
+    ensures few { IfOk result (λ schedule. hart_steps schedule < 2 ^ 32) }
+{
+    let text = read_file(name, files)?;
+    schedule_of(alloc, &text)
+}
+
+fn schedule_of(alloc: Global, text: &[u8]) -> Result<Schedule, Failure>
+    ensures says { SaysSchedule text.now result }
+    ensures few { IfOk result (λ schedule. hart_steps schedule < 2 ^ 32) }
+{
+    Ok(Schedule::read(alloc, text)?)
+}
+
+/// The medium in a file, or 512 lines of zeros where none is named.
+pub(crate) fn read_medium<F: Files>(
+    alloc: Global,
+    name: &Option<String>,
+    files: &mut F,
+) -> Result<Medium, Failure>
+    ensures { ReadsMedium F.read_gives (option_map string_bytes name.now) files.old result files.new }
+{
+    match name {
+        Some(name) => read_named_medium(alloc, name.as_str(), files),
+        None => zeros(alloc),
+    }
+}
+
+fn read_named_medium<F: Files>(alloc: Global, name: &str, files: &mut F) -> Result<Medium, Failure>
+    ensures { ReadsMedium F.read_gives (Some name.now) files.old result files.new }
+{
+    let bytes = read_file(name, files)?;
+    medium_of(alloc, &bytes)
+}
+
+fn medium_of(alloc: Global, bytes: &[u8]) -> Result<Medium, Failure>
+    ensures { SaysMedium bytes.now result }
+{
+    Ok(Medium::from_bytes(alloc, bytes)?)
+}
+
+fn zeros(alloc: Global) -> Result<Medium, Failure>
+    ensures { IsDefaultMedium result }
+{
+    Ok(default_medium(alloc)?)
+}

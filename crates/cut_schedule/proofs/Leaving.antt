@@ -1,0 +1,81 @@
+-- What a schedule that follows the events up to the moment leaves.
+use Rattle.std.proofs.Common.{◌≡◌, ℕ, ◌<◌, ◌≤◌, List, All, length, take, refl, ap, ◌∙◌, arith}
+use Rattle.crash_model.specs.Cut.{IsCut, number_in}
+use Rattle.crash_model.specs.Image.{image}
+use Rattle.crash_model.specs.Schedule.{explained}
+use Rattle.crash_model.specs.WrittenBack.{written_back}
+use Rattle.crash_model.specs.declared.step.PersistenceStep.{PersistenceStep}
+use Rattle.crash_model.proofs.Explained.{explained_image, explained_leaves}
+use Rattle.crash_model.proofs.Images.{image_from_lines}
+use Rattle.crash_model.proofs.Lines.{within_from_cut}
+use Rattle.clean_fence.specs.Rules.{PmView}
+use Rattle.clean_fence.specs.Stands.{Stands as CacheStands}
+use Rattle.std.proofs.lemmas.List.Elements.{All-take}
+use Rattle.store_trace.specs.History.{at_moment}
+use Rattle.store_trace.specs.TraceView.{NamesLine}
+use Rattle.crash_image.proofs.Stored.{cut_below}
+use Rattle.schedule.specs.declared.items.Step.{Step}
+use Rattle.shared_memory.specs.Persisted.{AreAmong, persisted, touched}
+use Rattle.machine.specs.Evicting.{hart_steps}
+use Rattle.recording.specs.Recorded.{RecordedView, Records}
+use Rattle.machine.specs.Run.{Config, started}
+use Rattle.machine.specs.Stands.{MachineView, Stands}
+use Rattle.cut_schedule.specs.Explains.{Explains, Leaves, steps_by}
+use Rattle.cut_schedule.specs.Walking.{Follows, IsStart}
+use Rattle.cut_schedule.proofs.Following.{split_in_time}
+use Rattle.cut_schedule.proofs.HartRuns.{run_start}
+use Rattle.cut_schedule.proofs.RunFrom.{first_runs}
+
+-- the medium behind a cache that stands for the steps of a cut's schedule is the cut's image
+image_left : (start : List (List ℕ)) (p : List PersistenceStep) (cut : List (ℕ × ℕ)) (cache : PmView) → IsCut p cut
+    → CacheStands start (explained (number_in cut) p) cache → cache.lines ≡ image start (number_in cut) p
+image_left start p cut cache is s =
+    image_from_lines start (λ l. written_back l (explained (number_in cut) p)) (explained (number_in cut) p) cache.lines s.count
+    (λ l b. (s.each l b).medium)
+    ∙ explained_image start p (number_in cut) (within_from_cut p cut is)
+
+machine_left : (c d : Config) (p : List PersistenceStep) (cut : List (ℕ × ℕ)) (machine : MachineView) (lines : List ℕ) → IsCut p cut
+    → persisted d.common.history ≡ explained (number_in cut) p → d.common.start ≡ c.common.start → Stands machine d
+    → length lines ≤ machine.shared.cache.cache.capacity → AreAmong (touched d.common.history) lines
+    → machine.shared.cache.lines ≡ image c.common.start (number_in cut) p
+machine_left c d p cut machine lines is steps start stands few among =
+    let cached = stands.shared.unforced lines few among in
+    image_left c.common.start p cut machine.shared.cache is (rw (steps, start) at cached.stands)
+
+leaves_from : (c : Config) (recorded : RecordedView) (moment : ℕ) (cut : List (ℕ × ℕ)) (steps : List Step)
+    → IsCut (at_moment recorded.trace moment) cut → Records c recorded → IsStart c
+    → Follows recorded (number_in cut) moment (steps_by recorded.steps moment) steps → Leaves c recorded moment cut steps
+leaves_from c recorded moment cut steps is r start follows =
+    let from = follows.follows c start r in
+    let run = first_runs c recorded (steps_by recorded.steps moment) steps r follows.hart_steps_are in
+    let p : List PersistenceStep = at_moment recorded.trace moment in
+    let persists : persisted run.0.common.history ≡ explained (number_in cut) (at_moment recorded.trace moment) = from.persisted_is run.0 run.1 in
+    record {
+      evictions = λ before after line split. split_in_time recorded (number_in cut) moment 0 (length (hart_steps before)) before after line
+          (omega arith) (rw split at from.evictions);
+      end = run.0;
+      runs = run.1;
+      trace = from.trace run.0 run.1;
+      persisted_is = persists;
+      written = λ l. ap (λ (q : List PersistenceStep). written_back l q) persists
+          ∙ explained_leaves p (number_in cut) (within_from_cut p cut is) l;
+      left = λ machine lines stands few among. machine_left c run.0 p cut machine lines is persists
+          (run_start c run.0 steps run.1) stands few among;
+    }
+
+pub explains_cut : (recorded : RecordedView) (moment : ℕ) (cut : List (ℕ × ℕ)) (steps : List Step)
+    → IsCut (at_moment recorded.trace moment) cut
+    → Follows recorded (number_in cut) moment (steps_by recorded.steps moment) steps → Explains recorded moment cut steps
+explains_cut recorded moment cut steps is follows = record {
+  is_cut = is;
+  hart_steps_are = follows.hart_steps_are;
+  leaves = λ program lines harts r. leaves_from (started program lines harts) recorded moment cut steps is r
+      (record { history = refl; trace = refl }) follows;
+}
+
+-- the lines of a cut of the moment are there
+pub cut_lines : (recorded : RecordedView) (moment : ℕ) (cut entries : List (ℕ × ℕ)) → All (NamesLine (length recorded.start)) recorded.trace
+    → IsCut (at_moment recorded.trace moment) cut → entries ≡ cut → All (λ entry. entry.0 < length recorded.start) entries
+cut_lines recorded moment cut entries named is same =
+    rw same (cut_below (length recorded.start) (take moment recorded.trace) cut
+    (All-take (λ event. NamesLine (length recorded.start) event) moment recorded.trace named) is)

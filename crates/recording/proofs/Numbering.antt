@@ -1,0 +1,312 @@
+-- The hart steps of a run are counted, and its events are numbered by them.
+use Rattle.std.proofs.Common.{◌≡◌, ℕ, zero, suc, ◌+◌, ◌<◌, ◌≤◌, ◌⊎◌, List, [], ◌∷◌, ◌++◌, length, take, replicate, Some, true, All, slice_get, get_or, refl, sym, ap, ◌∙◌, inl, inr, arith, lit<, append_assoc}
+use Rattle.std.proofs.lemmas.Bool.{cases_lt}
+use Rattle.std.proofs.lemmas.List.{append-nil, get_or-replicate, length-append, length-replicate, replicate_more, replicate-append-replicate, take-replicate, take_more}
+use Rattle.std.proofs.lemmas.List.Elements.{filter-append}
+use Rattle.std.proofs.lemmas.Grind.{flat_map-append}
+use Rattle.std.proofs.lemmas.Option.{slice_get-get_or, slice_get_within}
+use Rattle.hart.specs.declared.state.HartState.{HartState}
+use Rattle.schedule.specs.declared.items.Item.{Item}
+use Rattle.schedule.specs.declared.items.Step.{Step}
+use Rattle.schedule.specs.declared.items.Step.TheVariants.{Hart, Evict}
+use Rattle.schedule.specs.Steps.{all_steps, steps_of}
+use Rattle.store_trace.specs.declared.event.Event.{Event}
+use Rattle.recording.specs.Recorded.{AreNumbers, IsAmong, IsMadeBy, RecordedView, Records, StopsRecording}
+use Rattle.machine.specs.Evicting.{hart_steps, is_hart_step}
+use Rattle.recording.specs.Recorders.{Continues, HasRecorded, HoldsAfter, HoldsAt, IsHeld, RecorderView}
+use Rattle.machine.specs.Run.{Config, RunsTo, StepsTo}
+use Rattle.machine.specs.Stands.{IsThere, MachineView, Runs, Stands}
+use Rattle.machine.specs.Stops.{is_stopped}
+use Rattle.machine.specs.declared.fault.RunStop.{RunStop}
+use Rattle.shared_memory.specs.declared.fault.StepFault.{StepFault}
+use Rattle.shared_memory.specs.declared.fault.StepFault.TheVariants.{Memory}
+use Rattle.machine.proofs.RunParts.{grows, run_joined}
+use Rattle.machine.proofs.Steps.{runs_more, runs_none, stopped_runs}
+
+-- a longer run has the same numbers
+made_kept : (c : Config) (steps more : List Step) (i n : ℕ) → IsMadeBy c steps i n → IsMadeBy c (steps ++ more) i n
+made_kept c steps more i n m = record {
+  before = m.before;
+  hart = m.hart;
+  after = m.after ++ more;
+  old = m.old;
+  new = m.new;
+  split = ap (λ (s : List Step). s ++ more) m.split ∙ append_assoc m.before (Hart m.hart ∷ m.after) more;
+  number = m.number;
+  runs = m.runs;
+  makes = m.makes;
+  earlier = m.earlier;
+  event = m.event;
+}
+
+numbers_kept : (c : Config) (steps more : List Step) (numbers : List ℕ) → AreNumbers c steps numbers → AreNumbers c (steps ++ more) numbers
+numbers_kept c steps more numbers all i n got = made_kept c steps more i n (all i n got)
+
+-- one number more
+pushed_get : (xs : List ℕ) (x i n : ℕ) → slice_get (xs ++ x ∷ []) i ≡ Some n → (slice_get xs i ≡ Some n) ⊎ ((i ≡ length xs) × (n ≡ x))
+pushed_get [] x zero n e = inr (refl, cc)
+pushed_get [] x (suc i) n e = absurd (cc)
+pushed_get (y ∷ xs) x zero n e = inl e
+pushed_get (y ∷ xs) x (suc i) n e = elim (pushed_get xs x i n e) [
+  | inl before ↦ inl before
+  | inr last ↦ inr (ap (λ (k : ℕ). suc k) last.0, last.1)
+]
+
+numbers_pushed : (c : Config) (steps : List Step) (numbers : List ℕ) (number : ℕ) → AreNumbers c steps numbers
+    → IsMadeBy c steps (length numbers) number → AreNumbers c steps (numbers ++ number ∷ [])
+numbers_pushed c steps numbers number all made i n got = elim (pushed_get numbers number i n got) [
+  | inl before ↦ all i n before
+  | inr last ↦ rw (last.0, last.1) made
+]
+
+-- hart steps are counted
+counted : (xs ys : List Step) → length (hart_steps (xs ++ ys)) ≡ length (hart_steps xs) + length (hart_steps ys)
+counted xs ys = ap (λ (l : List Step). length l) (filter-append is_hart_step xs ys) ∙ length-append (hart_steps xs) (hart_steps ys)
+
+all_counted : (n h : ℕ) → length (hart_steps (replicate n (Hart h))) ≡ n
+all_counted zero h = refl
+all_counted (suc n) h = ap (λ (k : ℕ). suc k) (all_counted n h)
+
+-- steps that make no event
+recorded_same : (old new : RecorderView) (more : List Step) (c : Config) (past : List Step) (r : HasRecorded c past old) (end : Config)
+    → RunsTo r.end more end → Stands new.machine end → new.made ≡ old.made + length (hart_steps more)
+    → length end.common.trace ≡ length r.end.common.trace → new.numbers ≡ old.numbers → HasRecorded c (past ++ more) new
+recorded_same old new more c past r end runs stands made same numbers =
+    let count = counted past more in
+    let before = r.made in record {
+      end = end;
+      runs = run_joined c r.end end past more r.runs runs;
+      stands = stands;
+      made = omega arith;
+      each = ap (λ (l : List ℕ). length l) numbers ∙ r.each ∙ sym same;
+      numbers = rw numbers (numbers_kept c past more old.numbers r.numbers);
+    }
+
+-- a hart step that makes an event
+recorded_event : (old new : RecorderView) (h : ℕ) (c : Config) (past : List Step) (r : HasRecorded c past old) (end : Config)
+    → StepsTo r.end (Hart h) end → Stands new.machine end → new.made ≡ old.made + 1
+    → length end.common.trace ≡ length r.end.common.trace + 1 → new.numbers ≡ old.numbers ++ new.made ∷ []
+    → HasRecorded c (past ++ Hart h ∷ []) new
+recorded_event old new h c past r end step stands made longer numbers =
+    let count = counted past (Hart h ∷ []) in
+    let number : new.made ≡ length (hart_steps past) + 1 = made ∙ ap (λ (n : ℕ). n + 1) r.made in
+    let last : IsMadeBy c (past ++ Hart h ∷ []) (length old.numbers) new.made = record {
+      before = past;
+      hart = h;
+      after = [];
+      old = r.end;
+      new = end;
+      split = refl;
+      number = number;
+      runs = r.runs;
+      makes = step;
+      earlier = sym r.each;
+      event = longer ∙ ap (λ (n : ℕ). n + 1) (sym r.each);
+    } in record {
+      end = end;
+      runs = run_joined c r.end end past (Hart h ∷ []) r.runs (end, step, refl);
+      stands = stands;
+      made = number ∙ sym count;
+      each = ap (λ (l : List ℕ). length l) numbers ∙ length-append old.numbers (new.made ∷ [])
+          ∙ ap (λ (n : ℕ). n + 1) r.each ∙ sym longer;
+      numbers = rw numbers (numbers_pushed c (past ++ Hart h ∷ []) old.numbers new.made
+          (numbers_kept c past (Hart h ∷ []) old.numbers r.numbers) last);
+    }
+
+recorded_hart : (old new : RecorderView) (h : ℕ) (c : Config) (past : List Step) (r : HasRecorded c past old) (end : Config)
+    → StepsTo r.end (Hart h) end → Stands new.machine end → new.made ≡ old.made + 1
+    → (length old.numbers < length new.machine.shared.trace → new.numbers ≡ old.numbers ++ new.made ∷ [])
+    → (length new.machine.shared.trace ≤ length old.numbers → new.numbers ≡ old.numbers)
+    → HasRecorded c (past ++ Hart h ∷ []) new
+recorded_hart old new h c past r end step stands made more same =
+    let g = grows r.end end (Hart h) step in
+    let all = ap (λ (t : List Event). length t) g.trace in
+    let sum = length-append r.end.common.trace g.more in
+    let few = g.few in
+    let each = r.each in
+    let now = ap (λ (t : List Event). length t) stands.shared.trace in
+    elim (cases_lt (length old.numbers) (length new.machine.shared.trace)) [
+      | inl less ↦ recorded_event old new h c past r end step stands made (omega arith) (more less)
+      | inr none ↦ recorded_same old new (Hart h ∷ []) c past r end (end, step, refl) stands made (omega arith) (same none)
+    ]
+
+-- the end of a run of one step
+pub one_step : (c d : Config) (step : Step) → RunsTo c (step ∷ []) d → StepsTo c step d
+one_step c d step run = rw run.2 run.1
+
+pub continues_hart : (old new : RecorderView) (h : ℕ) → Runs old.machine new.machine (Hart h ∷ []) → new.made ≡ old.made + 1
+    → (length old.numbers < length new.machine.shared.trace → new.numbers ≡ old.numbers ++ new.made ∷ [])
+    → (length new.machine.shared.trace ≤ length old.numbers → new.numbers ≡ old.numbers)
+    → Continues old new (Hart h ∷ [])
+continues_hart old new h runs made more same = record {
+  runs = runs;
+  records = λ c past r.
+      let after = runs.stands r.end r.stands in
+      recorded_hart old new h c past r after.0 (one_step r.end after.0 (Hart h) after.1) after.2 made more same;
+}
+
+eviction_is_silent : (c d : Config) (line : ℕ) → StepsTo c (Evict line) d → length d.common.trace ≡ length c.common.trace
+eviction_is_silent c d line step = rw step refl
+
+pub continues_evicted : (old new : RecorderView) (line : ℕ) → Runs old.machine new.machine (Evict line ∷ []) → new.made ≡ old.made
+    → new.numbers ≡ old.numbers → Continues old new (Evict line ∷ [])
+continues_evicted old new line runs made same = record {
+  runs = runs;
+  records = λ c past r.
+      let after = runs.stands r.end r.stands in
+      recorded_same old new (Evict line ∷ []) c past r after.0 after.1 after.2 (omega arith)
+      (eviction_is_silent r.end after.0 line (one_step r.end after.0 (Evict line) after.1)) same;
+}
+
+-- the steps of a hart that stopped
+stopped_records : (old new : RecorderView) (h n : ℕ) → is_stopped (slice_get old.machine.harts h) ≡ true → new.machine ≡ old.machine
+    → new.made ≡ old.made + n → new.numbers ≡ old.numbers
+    → (c : Config) (past : List Step) → HasRecorded c past old → HasRecorded c (past ++ replicate n (Hart h)) new
+stopped_records old new h n stopped e made same c past r =
+    let after = (stopped_runs old.machine h n stopped).stands r.end r.stands in
+    let count = all_counted n h in
+    let trace : after.0.common.trace ≡ r.end.common.trace = sym after.2.shared.trace ∙ r.stands.shared.trace in
+    recorded_same old new (replicate n (Hart h)) c past r after.0 after.1 (rw e after.2) (omega arith)
+    (ap (λ (t : List Event). length t) trace) same
+
+pub continues_stopped : (old new : RecorderView) (h n : ℕ) → is_stopped (slice_get old.machine.harts h) ≡ true → new.machine ≡ old.machine
+    → new.made ≡ old.made + n → new.numbers ≡ old.numbers → Continues old new (replicate n (Hart h))
+continues_stopped old new h n stopped e made same = record {
+  runs = rw e (stopped_runs old.machine h n stopped);
+  records = stopped_records old new h n stopped e made same;
+}
+
+-- no step, and steps after steps
+pub continues_none : (m : RecorderView) → Continues m m []
+continues_none m = record { runs = runs_none m.machine; records = λ c past r. rw (append-nil past) r }
+
+pub continues_more : (old middle new : RecorderView) (xs ys : List Step) → Continues old middle xs → Continues middle new ys
+    → Continues old new (xs ++ ys)
+continues_more old middle new xs ys a b = record {
+  runs = runs_more old.machine middle.machine new.machine xs ys a.runs b.runs;
+  records = λ c past r. rw (← append_assoc past xs ys) (b.records c (past ++ xs) (a.records c past r));
+}
+
+pub hart_continues : (old middle new : RecorderView) (h n : ℕ) → Continues old middle (replicate n (Hart h))
+    → Continues middle new (Hart h ∷ []) → Continues old new (replicate (n + 1) (Hart h))
+hart_continues old middle new h n a b =
+    rw (← replicate_more n (Hart h)) (continues_more old middle new (replicate n (Hart h)) (Hart h ∷ []) a b)
+
+pub hart_rests : (old middle new : RecorderView) (h done rest count : ℕ) → done + rest ≡ count
+    → Continues old middle (replicate done (Hart h)) → Continues middle new (replicate rest (Hart h))
+    → Continues old new (replicate count (Hart h))
+hart_rests old middle new h done rest count all a b =
+    let steps : replicate done (Hart h) ++ replicate rest (Hart h) ≡ replicate count (Hart h) =
+    replicate-append-replicate done rest (Hart h) ∙ ap (λ (n : ℕ). replicate n (Hart h)) all in
+    rw (← steps) (continues_more old middle new (replicate done (Hart h)) (replicate rest (Hart h)) a b)
+
+pub items_continue : (old middle new : RecorderView) (items : List Item) (i : ℕ) (d : Item) → i < length items
+    → Continues old middle (all_steps (take i items)) → Continues middle new (steps_of (get_or items i d))
+    → Continues old new (all_steps (take (i + 1) items))
+items_continue old middle new items i d fits a b =
+    let item : Item = get_or items i d in
+    let steps : all_steps (take (i + 1) items) ≡ all_steps (take i items) ++ steps_of item =
+    ap (λ (front : List Item). all_steps front) (take_more items i d fits)
+    ∙ flat_map-append steps_of (take i items) (item ∷ [])
+    ∙ ap (λ (more : List Step). all_steps (take i items) ++ more) (append-nil (steps_of item)) in
+    rw steps (continues_more old middle new (all_steps (take i items)) (steps_of item) a b)
+
+-- where a recorder goes no further
+pub hart_holds : (old middle new : RecorderView) (h done count : ℕ) (fault : StepFault) → done < count
+    → Continues old middle (replicate done (Hart h)) → new ≡ middle → IsHeld middle.machine (Some (Hart h)) fault
+    → HoldsAfter old new (replicate count (Hart h)) done fault
+hart_holds old middle new h done count fault fits continues e held =
+    let less : done ≤ count = omega arith in
+    let next : slice_get (replicate count (Hart h)) done ≡ Some (Hart h) = slice_get-get_or (replicate count (Hart h)) done (Hart h) (rw length-replicate fits)
+    ∙ ap (λ (x : Step). Some x) (get_or-replicate count done (Hart h) (Hart h) fits) in
+    rw e (record {
+      there = rw length-replicate fits;
+      continues = rw take-replicate continues;
+      held = rw next held;
+    })
+
+pub eviction_holds : (old new : RecorderView) (line : ℕ) (fault : StepFault) → new ≡ old → IsHeld old.machine (Some (Evict line)) fault
+    → HoldsAfter old new (Evict line ∷ []) 0 fault
+eviction_holds old new line fault e held = rw e (record { there = lit< tt; continues = continues_none old; held = held })
+
+pub item_holds : (old middle new : RecorderView) (items : List Item) (stop : RunStop) (d : Item) → stop.item < length items
+    → Continues old middle (all_steps (take stop.item items))
+    → HoldsAfter middle new (steps_of (get_or items stop.item d)) stop.steps stop.fault
+    → HoldsAt old new items stop
+item_holds old middle new items stop d fits a b =
+    let there : slice_get items stop.item ≡ Some (get_or items stop.item d) = slice_get-get_or items stop.item d fits in
+    record {
+      item = fits;
+      steps = rw there b.there;
+      continues = rw there (continues_more old middle new (all_steps (take stop.item items)) _ a b.continues);
+      held = rw there b.held;
+    }
+
+-- what is made of a recorder that began at c
+at_start : (c : Config) (m : RecorderView) → HasRecorded c [] m → Stands m.machine c
+at_start c m r = rw (← r.runs) r.stands
+
+pub each_event : (c : Config) (old new : RecorderView) (steps : List Step) → HasRecorded c [] old → Continues old new steps
+    → length new.numbers ≡ length new.machine.shared.trace
+each_event c old new steps r continues =
+    let now = continues.records c [] r in now.each ∙ ap (λ (t : List Event). length t) (sym now.stands.shared.trace)
+
+among : (m : MachineView) (harts lines : ℕ) (step : Step) → harts ≡ length m.harts → lines ≡ length m.shared.cache.lines
+    → IsThere m step → IsAmong harts lines step
+among m harts lines (Hart h) e f there = rw e there
+among m harts lines (Evict line) e f there = rw f there
+
+all_among : (m : MachineView) (harts lines : ℕ) (steps : List Step) → harts ≡ length m.harts → lines ≡ length m.shared.cache.lines
+    → All (IsThere m) steps → All (IsAmong harts lines) steps
+all_among m harts lines steps e f there k d inside = among m harts lines _ e f (there k d inside)
+
+pub records_all : (c : Config) (old new : RecorderView) (recorded : RecordedView) → HasRecorded c [] old
+    → Continues old new (all_steps recorded.items) → old.machine.shared.cache.lines ≡ recorded.start
+    → old.machine.shared.cache.cache.capacity ≡ recorded.capacity
+    → recorded.trace ≡ new.machine.shared.trace → recorded.harts ≡ new.machine.harts → recorded.left ≡ new.machine.shared.cache.lines
+    → recorded.steps ≡ new.numbers → Records c recorded
+records_all c old new recorded r continues lines capacity trace harts left numbers =
+    let now = continues.records c [] r in record {
+      end = now.end;
+      there = all_among old.machine (length recorded.harts) (length recorded.start) (all_steps recorded.items)
+          (ap (λ (l : List HartState). length l) harts ∙ continues.runs.harts) (ap (λ (l : List (List ℕ)). length l) (sym lines))
+          continues.runs.there;
+      runs = now.runs;
+      harts = harts ∙ now.stands.harts;
+      trace = trace ∙ now.stands.shared.trace;
+      numbers = rw numbers now.numbers;
+      left = record { machine = new.machine; stands = now.stands; capacity_is = continues.runs.capacity ∙ capacity; lines = left };
+    }
+
+pub stops_recording : (c : Config) (lines : List (List ℕ)) (old new : RecorderView) (items : List Item) (stop : RunStop)
+    → HasRecorded c [] old → old.machine.shared.cache.lines ≡ lines → HoldsAt old new items stop → StopsRecording c (length lines) items stop
+stops_recording c lines old new items stop r same h =
+    let now = h.continues.records c [] r in record {
+      reached = now.end;
+      runs = now.runs;
+      reason = elim h.held [
+        | inl memory ↦ inl memory
+        | inr refused ↦ inr (record {
+          old = old.machine;
+          new = new.machine;
+          stands = at_start c old r;
+          lines = ap (λ (l : List (List ℕ)). length l) same;
+          stops = record { item = h.item; steps = h.steps; runs = h.continues.runs; refused = refused };
+        })
+      ];
+    }
+
+pub memory_stops : (c : Config) (lines : ℕ) (items : List Item) (stop : RunStop) → stop.item ≡ 0 → stop.steps ≡ 0 → stop.fault ≡ Memory
+    → StopsRecording c lines items stop
+memory_stops c lines items stop item steps memory = record {
+  reached = c;
+  runs = rw (item, steps) refl;
+  reason = inl memory;
+}
+
+pub take_with : (xs : List HartState) (i : ℕ) (x : HartState) → slice_get xs i ≡ Some x → take (i + 1) xs ≡ take i xs ++ x ∷ []
+take_with xs i x got =
+    let inside : i < length xs = slice_get_within xs i x got in
+    let both : Some (get_or xs i x) ≡ Some x = sym (slice_get-get_or xs i x inside) ∙ got in
+    let same : get_or xs i x ≡ x = cc in
+    take_more xs i x inside ∙ ap (λ (y : HartState). take i xs ++ y ∷ []) same

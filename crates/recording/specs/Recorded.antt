@@ -1,0 +1,81 @@
+-- What is kept of a run: from where, by which schedule and to where it went, and which hart step made each event.
+use Rattle.std.specs.Prelude.{◌≡◌, ◌⊎◌, ℕ, ◌+◌, ◌<◌, List, ◌∷◌, ◌++◌, All, length, slice_get, Some}
+use Rattle.hart.specs.declared.state.HartState.{HartState}
+use Rattle.schedule.specs.Steps.{all_steps}
+use Rattle.schedule.specs.declared.items.Item.{Item}
+use Rattle.schedule.specs.declared.items.Step.{Step}
+use Rattle.schedule.specs.declared.items.Step.TheVariants.{Hart, Evict}
+use Rattle.store_trace.specs.declared.event.Event.{Event}
+use Rattle.machine.specs.Evicting.{hart_steps}
+use Rattle.machine.specs.Run.{Config, RunsTo, StepsTo}
+use Rattle.machine.specs.Stands.{MachineView, Stands}
+use Rattle.machine.specs.Stops.{StopsAt, steps_before}
+use Rattle.machine.specs.declared.fault.RunStop.{RunStop}
+use Rattle.shared_memory.specs.declared.fault.StepFault.TheVariants.{Memory}
+
+-- what a contract sees of a recorded run: the lines of persistent memory at the start, the cache's capacity, the schedule, the events, the
+-- harts at the end, the lines that a power cut there leaves, and for each event the number of hart steps through its own
+pub record RecordedView : Type 0 where
+  pub start : List (List ℕ)
+  pub capacity : ℕ
+  pub items : List Item
+  pub trace : List Event
+  pub harts : List HartState
+  pub left : List (List ℕ)
+  pub steps : List ℕ
+
+-- in the run from c by the steps, event i, the first being event 0, is made by the n-th hart step, the first being hart
+-- step 1
+pub record IsMadeBy (c : Config) (steps : List Step) (i n : ℕ) : Type 0 where
+  pub before : List Step
+  pub hart : ℕ
+  pub after : List Step
+  pub old : Config
+  pub new : Config
+  pub split : steps ≡ before ++ Hart hart ∷ after
+  pub number : n ≡ length (hart_steps before) + 1
+  pub runs : RunsTo c before old
+  pub makes : StepsTo old (Hart hart) new
+  pub earlier : length old.common.trace ≡ i
+  pub event : length new.common.trace ≡ i + 1
+
+-- each number is that of the hart step that made its event
+abbrev pub AreNumbers : Config → List Step → List ℕ → Type 0
+AreNumbers c steps numbers = (i n : ℕ) → slice_get numbers i ≡ Some n → IsMadeBy c steps i n
+
+-- the hart, or the line, of a step is among as many as there are
+abbrev pub IsAmong : ℕ → ℕ → Step → Type 0
+IsAmong harts lines (Hart h) = h < harts
+IsAmong harts lines (Evict line) = line < lines
+
+-- what a power cut leaves of a machine with a cache of this capacity that has come to the end
+pub record IsLeftAt (end : Config) (capacity : ℕ) (left : List (List ℕ)) : Type 0 where
+  pub machine : MachineView
+  pub stands : Stands machine end
+  pub capacity_is : machine.shared.cache.cache.capacity ≡ capacity
+  pub lines : left ≡ machine.shared.cache.lines
+
+-- the run from c by the recorded schedule, each step of which is there, comes to what is recorded
+pub record Records (c : Config) (recorded : RecordedView) : Type 0 where
+  pub end : Config
+  pub there : All (IsAmong (length recorded.harts) (length recorded.start)) (all_steps recorded.items)
+  pub runs : RunsTo c (all_steps recorded.items) end
+  pub harts : recorded.harts ≡ end.harts
+  pub trace : recorded.trace ≡ end.common.trace
+  pub numbers : AreNumbers c (all_steps recorded.items) recorded.steps
+  pub left : IsLeftAt end recorded.capacity recorded.left
+
+-- a machine at the start c, with this number of lines, stops in the schedule: the steps before the stop are carried
+-- out, and the next one is refused
+pub record IsRefused (c : Config) (count : ℕ) (items : List Item) (stop : RunStop) : Type 0 where
+  pub old : MachineView
+  pub new : MachineView
+  pub stands : Stands old c
+  pub lines : length old.shared.cache.lines ≡ count
+  pub stops : StopsAt old new items stop
+
+-- a run from c is recorded up to the stop, and no further: memory was refused, or the machine refuses the next step
+pub record StopsRecording (c : Config) (lines : ℕ) (items : List Item) (stop : RunStop) : Type 0 where
+  pub reached : Config
+  pub runs : RunsTo c (steps_before items stop.item stop.steps) reached
+  pub reason : (stop.fault ≡ Memory) ⊎ IsRefused c lines items stop

@@ -1,0 +1,11 @@
+//! What is kept of a run, for those who look at it afterwards.
+#![tactic(auto)]
+
+mod recorded;
+mod recorder;
+mod recording;
+#[cfg(test)]
+mod tests;
+
+pub use recorded::Recorded;
+pub use recording::record;

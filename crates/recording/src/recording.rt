@@ -1,0 +1,149 @@
+//! Runs that are recorded.
+
+ghost use Rattle.machine.specs.Run.{started};
+ghost use Rattle.machine.specs.Stands.{Stands};
+ghost use Rattle.recording.specs.Recorded.{Records, StopsRecording};
+ghost use Rattle.recording.specs.Recorders.{HasRecorded};
+ghost use Rattle.schedule.specs.Grammar.{hart_steps as count_of_hart_steps};
+ghost use Rattle.std.specs.Prelude.{◌≡◌, ◌^◌, ◌<◌, ◌≤◌, ◌⊎◌, [], ◌∷◌, ◌++◌, IfErr, IfOk, length};
+
+use crate::recorded::Recorded;
+use crate::recorder::Recorder;
+use line_memory::Medium;
+use machine::{Machine, RunStop};
+use program::Program;
+use schedule::{Item, Schedule};
+use shared_memory::StepFault;
+use std::alloc::Global;
+
+/// Runs a schedule on a machine of one to eight harts, which begin at the base of the text of `program`, over `medium`
+/// behind a cache of 1 to 16,384 lines, and keeps what there is to know of the run.
+///
+/// # Errors
+/// The first step that is refused, with its item and the steps made in it. NoSuchHart, at step 0 of item 0, where
+/// `harts` isn't from 1 to 8, and else OutOfLimits there where the capacity is outside its limits. Memory where a growth is refused, at step 0 of item 0 if it isn't for a step.
+pub fn record(
+    alloc: Global,
+    program: Program,
+    medium: Medium,
+    harts: u32,
+    capacity: u32,
+    schedule: &Schedule,
+) -> Result<Recorded, RunStop>
+    requires { count_of_hart_steps schedule.now < 2 ^ 32 }
+    ensures ok { IfOk result (Records (started program medium harts)) }
+    ensures start { IfOk result (λ recorded. recorded.start ≡ medium) }
+    ensures items { IfOk result (λ recorded. recorded.items ≡ schedule.now) }
+    ensures capacity { IfOk result (λ recorded. recorded.capacity ≡ capacity) }
+    ensures harts { ((harts < 1) ⊎ (8 < harts)) → result ≡ Err (record { item = 0; steps = 0; fault = StepFault.NoSuchHart }) }
+    ensures limits { (1 ≤ harts) × (harts ≤ 8) → ((capacity < 1) ⊎ (16384 < capacity)) →
+        result ≡ Err (record { item = 0; steps = 0; fault = StepFault.OutOfLimits }) }
+    ensures err { IfErr result (λ stop. (1 ≤ harts) × (harts ≤ 8) → (1 ≤ capacity) × (capacity ≤ 16384) →
+        StopsRecording (started program medium harts) (length medium) schedule.now stop) }
+{
+    let (mut recorder, kept) = match prepare(alloc, program, &medium, harts, capacity, schedule) {
+        Ok(prepared) => prepared,
+        Err(fault) => return Err(before_all(fault)),
+    };
+    if let Err(stop) = recorder.run(schedule.items()) {
+        return Err(stop);
+    }
+    match recorder.finish(alloc, medium, capacity, kept) {
+        Ok(recorded) => Ok(recorded),
+        Err(fault) => Err(before_all(fault)),
+    }
+}
+
+/// A stop before the first step.
+fn before_all(fault: StepFault) -> RunStop
+    ensures { result ≡ record { item = 0; steps = 0; fault = fault } }
+{
+    RunStop {
+        item: 0,
+        steps: 0,
+        fault,
+    }
+}
+
+/// A recorder at its start, and a copy of the schedule.
+fn prepare(
+    alloc: Global,
+    program: Program,
+    medium: &Medium,
+    harts: u32,
+    capacity: u32,
+    schedule: &Schedule,
+) -> Result<(Recorder, Schedule), StepFault>
+    ensures ok { IfOk result (λ made. HasRecorded (started program medium.now harts) [] made.0) }
+    ensures lines { IfOk result (λ made. made.0.machine.shared.cache.lines ≡ medium.now) }
+    ensures capacity { IfOk result (λ made. made.0.machine.shared.cache.cache.capacity ≡ capacity) }
+    ensures made { IfOk result (λ made. made.0.made ≡ 0) }
+    ensures items { IfOk result (λ made. made.1 ≡ schedule.now) }
+    ensures harts { ((harts < 1) ⊎ (8 < harts)) → result ≡ Err StepFault.NoSuchHart }
+    ensures limits { (1 ≤ harts) × (harts ≤ 8) → ((capacity < 1) ⊎ (16384 < capacity)) → result ≡ Err StepFault.OutOfLimits }
+    ensures err { IfErr result (λ fault. (1 ≤ harts) × (harts ≤ 8) → (1 ≤ capacity) × (capacity ≤ 16384) → fault ≡ StepFault.Memory) }
+{
+    if harts < 1 || harts > 8 {
+        return Err(StepFault::NoSuchHart);
+    }
+    if capacity < 1 || capacity > 16_384 {
+        return Err(StepFault::OutOfLimits);
+    }
+    let machine = machine_over(alloc, program, medium, harts, capacity)?;
+    let copy = copy_of(alloc, schedule)?;
+    let recorder = Recorder {
+        machine,
+        made: 0,
+        numbers: Vec::new(alloc),
+    };
+    Ok((recorder, copy))
+}
+
+/// A machine over a copy of the medium.
+fn machine_over(
+    alloc: Global,
+    program: Program,
+    medium: &Medium,
+    harts: u32,
+    capacity: u32,
+) -> Result<Machine, StepFault>
+    requires few { harts ≤ 8 }
+    requires some { 1 ≤ harts }
+    requires room { 1 ≤ capacity }
+    requires bounded { capacity ≤ 16384 }
+    ensures ok { IfOk result (λ machine. Stands machine (started program medium.now harts)) }
+    ensures lines { IfOk result (λ machine. machine.shared.cache.lines ≡ medium.now) }
+    ensures capacity { IfOk result (λ machine. machine.shared.cache.cache.capacity ≡ capacity) }
+    ensures err { IfErr result (λ fault. fault ≡ StepFault.Memory) }
+{
+    let copy = match medium.copy(alloc) {
+        Ok(copy) => copy,
+        Err(_) => return Err(StepFault::Memory),
+    };
+    match Machine::new(alloc, program, copy, harts, capacity) {
+        Ok(machine) => Ok(machine),
+        Err(_) => Err(StepFault::Memory),
+    }
+}
+
+/// The items of a schedule once more.
+fn copy_of(alloc: Global, schedule: &Schedule) -> Result<Schedule, StepFault>
+    ensures ok { IfOk result (λ copy. copy ≡ schedule.now) }
+    ensures err { IfErr result (λ fault. fault ≡ StepFault.Memory) }
+{
+    let mut copy = Schedule::new(alloc);
+    for item in schedule.items() {
+        push_item(&mut copy, *item)?;
+    }
+    Ok(copy)
+}
+
+fn push_item(schedule: &mut Schedule, item: Item) -> Result<(), StepFault>
+    ensures ok { IfOk result (λ _. schedule.new ≡ schedule.old ++ item ∷ []) }
+    ensures err { IfErr result (λ fault. fault ≡ StepFault.Memory) }
+{
+    match schedule.push(item) {
+        Ok(()) => Ok(()),
+        Err(_) => Err(StepFault::Memory),
+    }
+}

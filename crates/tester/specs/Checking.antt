@@ -1,0 +1,51 @@
+-- The verdict on the run of a program by a schedule.
+use Rattle.std.specs.Prelude.{◌≢◌, ℕ, ◌≤◌, List, length, take}
+use Rattle.crash_model.specs.Cut.{IsCut}
+use Rattle.image_check.specs.OrderFaults.{AreSound, IsFirstFault}
+use Rattle.image_check.specs.Verdicts.{IsVerdict, Passes}
+use Rattle.image_check.specs.declared.fault.OpFault.{OpFault}
+use Rattle.image_check.specs.declared.verdict.Verdict.{Verdict}
+use Rattle.machine.specs.Run.{Config, RunsTo}
+use Rattle.plan.specs.declared.operation.Operation.{Operation}
+use Rattle.schedule.specs.Steps.{all_steps}
+use Rattle.schedule.specs.declared.items.Item.{Item}
+use Rattle.shared_memory.specs.declared.fault.StepFault.{StepFault}
+use Rattle.shared_memory.specs.declared.fault.StepFault.TheVariants as refused
+use Rattle.store_trace.specs.History.{at_moment}
+use Rattle.store_trace.specs.declared.event.Event.{Event}
+use Rattle.tester.specs.Runs.{HasTrace, IsRefused, Setup, start_of}
+use Rattle.tester.specs.declared.checking.VerdictFault.{VerdictFault}
+use Rattle.tester.specs.declared.checking.VerdictFault.TheVariants.{Step, Operation as WrongMark, Memory}
+
+-- the verdict on all moments of the run, whose marks are right, over the medium at its start
+pub record HasVerdict (plan : List Operation) (s : Setup) (schedule : List Item) (verdict : Verdict) : Type 0 where
+  pub trace : List Event
+  pub has_trace : HasTrace s schedule trace
+  pub sound : AreSound plan trace (length trace)
+  pub verdict_is : IsVerdict plan s.medium trace verdict
+
+-- whatever a power cut leaves at whatever moment of the run recovers to a legal volume
+abbrev pub AlwaysPasses : List Operation → Setup → List Item → Type 0
+AlwaysPasses plan s schedule = (end : Config) (moment : ℕ) (cut : List (ℕ × ℕ)) → RunsTo (start_of s) (all_steps schedule) end
+    → moment ≤ length end.common.trace → IsCut (at_moment end.common.trace moment) cut
+    → Passes plan s.medium (take moment end.common.trace) cut
+
+-- the fault is that of the run's first wrong mark
+pub record HasWrongMark (plan : List Operation) (s : Setup) (schedule : List Item) (fault : OpFault) : Type 0 where
+  pub trace : List Event
+  pub has_trace : HasTrace s schedule trace
+  pub first : IsFirstFault plan trace fault
+
+-- the fault of a run on which there was to be a verdict
+abbrev pub verdict_fault : StepFault → VerdictFault
+verdict_fault refused.NoSuchHart = Step refused.NoSuchHart
+verdict_fault refused.NoSuchLine = Step refused.NoSuchLine
+verdict_fault refused.TraceFull = Step refused.TraceFull
+verdict_fault refused.Memory = Memory
+verdict_fault refused.OutOfLimits = Step refused.OutOfLimits
+
+-- what a fault says of the run and of its marks
+abbrev pub HasNoVerdict : List Operation → Setup → List Item → VerdictFault → Type 0
+HasNoVerdict plan s schedule (Step fault) = (fault ≢ refused.Memory) × IsRefused s schedule fault
+HasNoVerdict plan s schedule (WrongMark fault) = HasWrongMark plan s schedule fault
+HasNoVerdict plan s schedule Memory = Unit {0}

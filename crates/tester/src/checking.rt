@@ -1,0 +1,67 @@
+//! The verdict on a run of a program.
+
+ghost use Rattle.std.specs.Prelude.{◌≡◌, ℕ, IfErr, IfOk, Ok};
+ghost use Rattle.tester.specs.Checking.{AlwaysPasses, HasNoVerdict, HasVerdict};
+ghost use Rattle.tester.specs.Runs.{with_room};
+
+use crate::runs::trace_of;
+use image_check::{CheckFault, OpFault, Verdict, check_run};
+use line_memory::Medium;
+use machine::{Schedule, StepFault};
+use plan::Plan;
+use program::Program;
+use std::alloc::Global;
+use thiserror::Error;
+
+/// Why there is no verdict.
+#[derive(Clone, Copy, Debug, PartialEq, Eq, Error)]
+pub enum VerdictFault {
+    /// There is no such machine, or a step was refused; never by the want of memory.
+    #[error("the run was refused")]
+    Step(StepFault),
+    /// A mark of an operation in the run is wrong: the first one.
+    #[error("{0}")]
+    Operation(OpFault),
+    /// Memory was refused.
+    #[error("out of memory")]
+    Memory,
+}
+
+impl From<StepFault> for VerdictFault {
+    ghost use Rattle.std.specs.Prelude.{◌≡◌};
+    ghost use Rattle.tester.specs.Checking.{verdict_fault};
+
+    ghost from_gives = { λ refused fault. fault ≡ verdict_fault refused };
+
+    fn from(refused: StepFault) -> VerdictFault {
+        match refused {
+            StepFault::Memory => VerdictFault::Memory,
+            _ => VerdictFault::Step(refused),
+        }
+    }
+}
+
+/// The verdict on all moments of the run of a program by a schedule, over a medium behind a cache of as many lines: whether
+/// each state that a power cut may leave recovers to a volume that the plan's operations allow.
+pub fn check_program(
+    alloc: Global,
+    plan: &Plan,
+    program: Program,
+    medium: Medium,
+    harts: u32,
+    schedule: &Schedule,
+) -> Result<Verdict, VerdictFault>
+    ensures ok { IfOk result (HasVerdict plan.now.operations (with_room program medium harts) schedule.now) }
+
+    // Pass: whatever a power cut leaves at whatever moment of the run recovers to a legal volume.
+    ensures pass { (moments images : ℕ) → result ≡ Ok (Verdict.Pass moments images) →
+        AlwaysPasses plan.now.operations (with_room program medium harts) schedule.now }
+    ensures err { IfErr result (HasNoVerdict plan.now.operations (with_room program medium harts) schedule.now) }
+{
+    let trace = trace_of(alloc, program, &medium, harts, schedule)?;
+    match check_run(alloc, plan, &medium, &trace) {
+        Ok(verdict) => Ok(verdict),
+        Err(CheckFault::Operation(fault)) => Err(VerdictFault::Operation(fault)),
+        Err(_) => Err(VerdictFault::Memory),
+    }
+}

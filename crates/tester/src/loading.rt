@@ -1,0 +1,55 @@
+//! From a program's file to the program.
+
+ghost use Rattle.std.specs.Prelude.{IfErr, IfOk};
+ghost use Rattle.tester.specs.Programs.{IsLoadFault, IsObjectOf, IsProgramOf, begins_as_object};
+
+use assemble::{AsmCode, AsmFault, assemble};
+use object::{LoadFault, MAGIC, Object};
+use program::{Program, load};
+use std::alloc::Global;
+use thiserror::Error;
+
+/// Why a file gives no program.
+#[derive(Debug, Drop, Error)]
+pub enum ProgramFault {
+    /// The source's first line at fault, with its lowest code; never the want of memory.
+    #[error("{0}")]
+    Assembly(AsmFault),
+    /// Why bytes that begin as an object are none; never the want of memory.
+    #[error("{0}")]
+    Object(LoadFault),
+    /// Memory was refused.
+    #[error("out of memory")]
+    Memory,
+}
+
+/// The program of a file, loaded: the file is an object's where it begins with `RVXPROG1`, and else a source.
+pub fn load_program(alloc: Global, file: &[u8]) -> Result<Program, ProgramFault>
+    ensures ok { IfOk result (λ program. IsProgramOf file.now program) }
+    ensures err { IfErr result (IsLoadFault file.now) }
+{
+    let object = object_of(alloc, file)?;
+    match load(object) {
+        Ok(program) => Ok(program),
+        Err(_) => Err(ProgramFault::Memory),
+    }
+}
+
+/// The object of a program's file.
+fn object_of(alloc: Global, file: &[u8]) -> Result<Object, ProgramFault>
+    ensures ok { IfOk result (λ object. IsObjectOf (begins_as_object file.now) file.now object) }
+    ensures err { IfErr result (IsLoadFault file.now) }
+{
+    if file.starts_with(&MAGIC) {
+        return match Object::read(alloc, file) {
+            Ok(object) => Ok(object),
+            Err(LoadFault::Memory) => Err(ProgramFault::Memory),
+            Err(fault) => Err(ProgramFault::Object(fault)),
+        };
+    }
+    match assemble(alloc, file) {
+        Ok(object) => Ok(object),
+        Err(fault) if fault.code == AsmCode::Memory => Err(ProgramFault::Memory),
+        Err(fault) => Err(ProgramFault::Assembly(fault)),
+    }
+}
