@@ -92,3 +92,48 @@ fn seventeen_free_lines_are_too_many(rt: HostRuntime) -> Result<(), Fail> {
     assert_eq!(rt; first_difference(rt.alloc(), &turns)?, None);
     Ok(())
 }
+
+#[test]
+fn broken_links_and_journals_are_no_volumes(rt: HostRuntime) -> Result<(), Fail> {
+    let turns = [
+        done("novacrash mkfs links.plan 512 fresh", "lines 512\n"),
+        done(
+            "novacrash run unlinked.s --medium fresh --out broken",
+            "h0 exit 0 pc=0x1001c x2=0x200000 x5=0x5000 x6=0x40000040 x11=0x40000000 x17=0x5d\nevents 3\n",
+        ),
+        ends(
+            1,
+            "novacrash check links.plan append.s nothing.schedule --medium broken",
+            "fail moment=0 image=0 cause=N6\n",
+        ),
+        done(
+            "novacrash run self-linked.s --medium fresh --out broken",
+            "h0 exit 0 pc=0x10030 x2=0x200000 x5=0x5000 x6=0x40000040 x7=0x4000 x11=0x40000000 x17=0x5d x28=0x40004fc0\nevents 5\n",
+        ),
+        ends(
+            1,
+            "novacrash check links.plan append.s nothing.schedule --medium broken",
+            "fail moment=0 image=0 cause=N7\n",
+        ),
+        done(
+            "novacrash run tail-before-head.s --medium fresh --out broken",
+            "h0 exit 0 pc=0x10028 x2=0x200000 x5=0x40002000 x6=0x3 x11=0x40000000 x17=0x5d\nevents 4\n",
+        ),
+        ends(
+            1,
+            "novacrash check links.plan append.s nothing.schedule --medium broken",
+            "fail moment=0 image=0 cause=N3\n",
+        ),
+        done(
+            "novacrash run far-tail.s --medium fresh --out broken",
+            "h0 exit 0 pc=0x10020 x2=0x200000 x5=0x40002000 x6=0x5 x11=0x40000000 x17=0x5d\nevents 3\n",
+        ),
+        ends(
+            1,
+            "novacrash check links.plan append.s nothing.schedule --medium broken",
+            "fail moment=0 image=0 cause=N3\n",
+        ),
+    ];
+    assert_eq!(rt; first_difference(rt.alloc(), &turns)?, None);
+    Ok(())
+}

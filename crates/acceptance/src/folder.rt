@@ -6,13 +6,13 @@ use std::alloc::{AllocError, Global};
 
 /// Files in memory. No file can be written whose name is `unwritable`.
 #[derive(Drop)]
-pub struct Folder {
+pub(crate) struct Folder {
     alloc: Global,
     files: Vec<(String, Vec<u8>)>,
 }
 
 impl Folder {
-    pub fn new(alloc: Global) -> Folder {
+    pub(crate) fn new(alloc: Global) -> Folder {
         Folder {
             alloc,
             files: Vec::new(alloc),
@@ -20,7 +20,7 @@ impl Folder {
     }
 
     /// Puts a file in place of an older one of its name.
-    pub fn put(&mut self, name: &str, bytes: &[u8]) -> Result<(), AllocError> {
+    pub(crate) fn put(&mut self, name: &str, bytes: &[u8]) -> Result<(), AllocError> {
         let name = String::from_str(self.alloc, name)?;
         let bytes = Vec::from_slice(self.alloc, bytes)?;
         // The newest file of a name is the first that a read finds.
@@ -48,7 +48,7 @@ impl Files for Folder {
 }
 
 /// A folder of the files of the examples.
-pub fn folder_of_examples(alloc: Global) -> Result<Folder, AllocError> {
+pub(crate) fn folder_of_examples(alloc: Global) -> Result<Folder, AllocError> {
     let mut folder = Folder::new(alloc);
     for (name, text) in FILES {
         folder.put(name, text.as_bytes())?;

@@ -136,3 +136,102 @@ fn an_explained_image_is_left_by_its_schedule(rt: HostRuntime) -> Result<(), Fai
     assert_eq!(rt; first_difference(rt.alloc(), &turns)?, None);
     Ok(())
 }
+
+/// A routine's state after the clean of its entry, and after the store of its tail.
+const CLEANED: &str =
+    "h0 running pc=0x1002c x2=0x200000 x5=0x4000 x6=0x40004000 x7=0x1 x10=0x1 x11=0x40000000 x17=0x7d1 x28=0x4d\nevents 5\n";
+
+const COMMITTED: &str =
+    "h0 running pc=0x10038 x2=0x200000 x5=0x4040 x6=0x40004000 x7=0x1 x10=0x1 x11=0x40000000 x17=0x7d1 x28=0x4d\nevents 7\n";
+
+/// The images of an append after the clean of its entry: any number of the entry's three stores.
+#[test]
+fn schedules_leave_any_part_of_an_entry(rt: HostRuntime) -> Result<(), Fail> {
+    let turns = [
+        done("novacrash mkfs append.plan 512 fresh", "lines 512\n"),
+        done(
+            "novacrash explain append.s append.schedule 5 0 --medium fresh > found",
+            "h0*11\n",
+        ),
+        done(
+            "novacrash replay append.s found --medium fresh --capacity 512 --out left",
+            CLEANED,
+        ),
+        done(
+            "novacrash run reads-log.s --medium left",
+            "h0 exit 0 pc=0x10024 x2=0x200000 x5=0x40004000 x11=0x40000000 x17=0x5d x29=0x4000\nevents 0\n",
+        ),
+        done(
+            "novacrash explain append.s append.schedule 5 1 --medium fresh > found",
+            "h0*7 e256 h0*4\n",
+        ),
+        done(
+            "novacrash replay append.s found --medium fresh --capacity 512 --out left",
+            CLEANED,
+        ),
+        done(
+            "novacrash run reads-log.s --medium left",
+            "h0 exit 0 pc=0x10024 x2=0x200000 x5=0x40004000 x6=0x1 x11=0x40000000 x17=0x5d x29=0x4000\nevents 0\n",
+        ),
+        done(
+            "novacrash explain append.s append.schedule 5 2 --medium fresh > found",
+            "h0*8 e256 h0*3\n",
+        ),
+        done(
+            "novacrash replay append.s found --medium fresh --capacity 512 --out left",
+            CLEANED,
+        ),
+        done(
+            "novacrash run reads-log.s --medium left",
+            "h0 exit 0 pc=0x10024 x2=0x200000 x5=0x40004000 x6=0x1 x7=0x1 x11=0x40000000 x17=0x5d x29=0x4000\nevents 0\n",
+        ),
+        done(
+            "novacrash explain append.s append.schedule 5 3 --medium fresh > found",
+            "h0*10 e256 h0*1\n",
+        ),
+        done(
+            "novacrash replay append.s found --medium fresh --capacity 512 --out left",
+            CLEANED,
+        ),
+        done(
+            "novacrash run reads-log.s --medium left",
+            "h0 exit 0 pc=0x10024 x2=0x200000 x5=0x40004000 x6=0x1 x7=0x1 x11=0x40000000 x17=0x5d x28=0x4d x29=0x4000\nevents 0\n",
+        ),
+    ];
+    assert_eq!(rt; first_difference(rt.alloc(), &turns)?, None);
+    Ok(())
+}
+
+/// Those after the store of its tail: the entry is whole, and the tail has moved or hasn't.
+#[test]
+fn schedules_leave_a_tail_that_moved_or_not(rt: HostRuntime) -> Result<(), Fail> {
+    let turns = [
+        done("novacrash mkfs append.plan 512 fresh", "lines 512\n"),
+        done(
+            "novacrash explain append.s append.schedule 7 0 --medium fresh > found",
+            "h0*10 e256 h0*4\n",
+        ),
+        done(
+            "novacrash replay append.s found --medium fresh --capacity 512 --out left",
+            COMMITTED,
+        ),
+        done(
+            "novacrash run reads-log.s --medium left",
+            "h0 exit 0 pc=0x10024 x2=0x200000 x5=0x40004000 x6=0x1 x7=0x1 x11=0x40000000 x17=0x5d x28=0x4d x29=0x4000\nevents 0\n",
+        ),
+        done(
+            "novacrash explain append.s append.schedule 7 1 --medium fresh > found",
+            "h0*10 e256 h0*4 e1\n",
+        ),
+        done(
+            "novacrash replay append.s found --medium fresh --capacity 512 --out left",
+            COMMITTED,
+        ),
+        done(
+            "novacrash run reads-log.s --medium left",
+            "h0 exit 0 pc=0x10024 x2=0x200000 x5=0x40004000 x6=0x1 x7=0x1 x11=0x40000000 x17=0x5d x28=0x4d x29=0x4040\nevents 0\n",
+        ),
+    ];
+    assert_eq!(rt; first_difference(rt.alloc(), &turns)?, None);
+    Ok(())
+}

@@ -22,6 +22,11 @@ const TWO_LINES: &str =
 /// Loads of lines 0, 1 and 5.
 const LOADS: &str = "ld t1, 0(a1)\nld t2, 64(a1)\nld t3, 320(a1)\nli a7, 93\nli a0, 0\necall\n";
 
+/// Loads of the first entry of inode 0's log, and of the log's tail.
+const READS_LOG: &str =
+    "lui t0, 4\nadd t0, t0, a1\nld t1, 0(t0)\nld t2, 8(t0)\nld t3, 16(t0)\nld t4, 72(a1)\nli a7, 93\n\
+    li a0, 0\necall\n";
+
 /// A loop that stores, without an end.
 const STORES: &str = "loop: sd t0, 0(a1)\nj loop\n";
 
@@ -84,17 +89,36 @@ const SEVENTEEN: &str =
     "li t0, 17\nli t1, 19200\nadd t1, t1, a1\nloop: sd t0, 0(t1)\naddi t1, t1, 64\naddi t0, t0, -1\n\
     bnez t0, loop\nli a7, 93\necall\n";
 
+/// Moves the tail of inode 0 to the second page, without a link there.
+const UNLINKED: &str =
+    "lui t0, 5\nsd t0, 72(a1)\naddi t1, a1, 64\ncbo.clean (t1)\nfence w, w\nli a7, 93\necall\n";
+
+/// The same, with a link from the first page to itself.
+const SELF_LINKED: &str =
+    "lui t0, 5\nsd t0, 72(a1)\naddi t1, a1, 64\nlui t2, 4\naddi t3, t0, -64\nadd t3, t3, a1\nsd t2, 0(t3)\n\
+    cbo.clean (t1)\ncbo.clean (t3)\nfence w, w\nli a7, 93\necall\n";
+
+/// Sets the head of journal 0 to 5 and its tail to 3.
+const TAIL_BEFORE_HEAD: &str =
+    "lui t0, 2\nadd t0, t0, a1\nli t1, 5\nsd t1, 0(t0)\nli t1, 3\nsd t1, 8(t0)\ncbo.clean (t0)\nfence w, w\n\
+    li a7, 93\necall\n";
+
+/// Sets the tail of journal 0 to 5, more than four past its head.
+const FAR_TAIL: &str =
+    "lui t0, 2\nadd t0, t0, a1\nli t1, 5\nsd t1, 8(t0)\ncbo.clean (t0)\nfence w, w\nli a7, 93\necall\n";
+
 /// Begins operation 7, ends it, and begins it again.
 const TWICE: &str = "li a7, 2001\nli a0, 7\necall\nli a7, 2002\necall\nli a7, 2001\necall\n";
 
 /// Each file's name and text.
-pub const FILES: [(&str, &str); 41] = [
+pub(crate) const FILES: [(&str, &str); 47] = [
     ("first.s", FIRST),
     ("misaligned.s", MISALIGNED),
     ("empty.s", ""),
     ("three.s", THREE_STORES),
     ("two-lines.s", TWO_LINES),
     ("loads.s", LOADS),
+    ("reads-log.s", READS_LOG),
     ("stores.s", STORES),
     ("counter.s", COUNTER),
     ("rewrite.s", REWRITE),
@@ -107,6 +131,10 @@ pub const FILES: [(&str, &str); 41] = [
     ("rename.s", RENAME),
     ("seventeen.s", SEVENTEEN),
     ("twice.s", TWICE),
+    ("unlinked.s", UNLINKED),
+    ("self-linked.s", SELF_LINKED),
+    ("tail-before-head.s", TAIL_BEFORE_HEAD),
+    ("far-tail.s", FAR_TAIL),
     ("five.s", "addi x1, x0, 5\n"),
     ("short.o", "RVXPROG1\u{4}\0\0\0\0\0\0"),
     ("seven.o", "RVXPROG"),
@@ -129,6 +157,7 @@ pub const FILES: [(&str, &str); 41] = [
         "layout2.plan",
         "layout 2\ninodes 1\npages 1\njournals 1\nop 1 append 0 77\n",
     ),
+    ("links.plan", "inodes 1\npages 2\njournals 1\n"),
     ("bare.plan", "inodes 1\npages 1\njournals 1\n"),
     (
         "seven.plan",

@@ -8,14 +8,14 @@ use std::io;
 /// A command line, and what it comes to: its status, and what it prints on standard output or, where it fails, on
 /// standard error. A line may end with ` > NAME`, and then the file of that name gets what it prints on standard output.
 #[derive(Clone, Copy)]
-pub struct Turn {
+pub(crate) struct Turn {
     pub line: &'static str,
     pub status: u8,
     pub printed: &'static str,
 }
 
 /// A line that is done, or passes.
-pub const fn done(line: &'static str, printed: &'static str) -> Turn {
+pub(crate) const fn done(line: &'static str, printed: &'static str) -> Turn {
     Turn {
         line,
         status: 0,
@@ -24,7 +24,7 @@ pub const fn done(line: &'static str, printed: &'static str) -> Turn {
 }
 
 /// A line that ends with another status.
-pub const fn ends(status: u8, line: &'static str, printed: &'static str) -> Turn {
+pub(crate) const fn ends(status: u8, line: &'static str, printed: &'static str) -> Turn {
     Turn {
         line,
         status,
@@ -42,7 +42,10 @@ struct Ended {
 
 /// The first of these lines that comes to something else, with what it comes to. They run in turn over one folder, which
 /// has the files of the examples at first.
-pub fn first_difference(alloc: Global, turns: &[Turn]) -> Result<Option<String>, AllocError> {
+pub(crate) fn first_difference(
+    alloc: Global,
+    turns: &[Turn],
+) -> Result<Option<String>, AllocError> {
     let mut folder = folder_of_examples(alloc)?;
     for turn in turns {
         if let Some(difference) = difference(alloc, &mut folder, *turn)? {
@@ -107,7 +110,7 @@ fn run(alloc: Global, folder: &mut Folder, line: &str) -> Result<Ended, AllocErr
 }
 
 /// The words of a line, which are parted by single spaces.
-pub fn words_of(alloc: Global, line: &str) -> Result<Vec<String>, AllocError> {
+pub(crate) fn words_of(alloc: Global, line: &str) -> Result<Vec<String>, AllocError> {
     line.split(' ')
         .map(|word| String::from_str(alloc, word))
         .try_collect(alloc)

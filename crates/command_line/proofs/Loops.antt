@@ -1,18 +1,13 @@
 -- What one more item adds to the text of a loop.
-use Rattle.std.proofs.Common.{◌≡◌, ◌∙◌, ℕ, zero, suc, ◌+◌, ◌-◌, ◌<◌, ◌≤◌, List, [], ◌∷◌, ◌++◌, Some, length, get_or, take, ap, sym, append_assoc, arith, rules}
-use Rattle.std.specs.List.{enumerate_from, flat_map, range_with_len, slice_get}
+use Rattle.std.proofs.Common.{◌≡◌, ◌∙◌, ℕ, ◌+◌, ◌<◌, ◌≤◌, List, [], ◌∷◌, ◌++◌, Some, length, get_or, take, ap, arith, rules}
+use Rattle.std.specs.List.{enumerate_from, flat_map, slice_get}
 use Rattle.std.proofs.lemmas.Grind.{flat_map-append}
 use Rattle.std.proofs.lemmas.List.{take_all, take_more}
 use Rattle.std.proofs.lemmas.List.FromFn.{length-enumerate_from, get_or-enumerate_from}
 use Rattle.std.proofs.lemmas.Option.{slice_get_within, get_or_from_slice_get}
 use Rattle.hart.specs.declared.state.HartState.{HartState}
-use Rattle.hart.specs.Registers.{register}
-use Rattle.command_line.specs.HartLines.{hart_line, register_text}
+use Rattle.hart_line.specs.HartLines.{hart_line}
 use Rattle.command_line.specs.Reports.{line_end}
-
--- the text of the registers from x1 up to one
-abbrev pub registers_below : List ℕ → ℕ → List ℕ
-registers_below registers number = flat_map (λ n. register_text n (register registers n)) (range_with_len 1 (number - 1))
 
 -- the lines of the harts below one
 abbrev pub harts_below : List HartState → ℕ → List ℕ
@@ -20,18 +15,6 @@ harts_below harts hart = flat_map (λ (h : ℕ × HartState). hart_line h.0 h.1 
 
 append_none : (xs : List ℕ) → xs ++ [] ≡ xs
 append_none xs = search rules
-
-range_more : (f : ℕ → List ℕ) (a n j : ℕ) → a + n ≡ j → flat_map f (range_with_len a (suc n)) ≡ flat_map f (range_with_len a n) ++ f j
-range_more f a zero j e = append_none (f a) ∙ ap f (omega arith)
-range_more f a (suc n) j e =
-    ap (λ (l : List ℕ). f a ++ l) (range_more f (a + 1) n j (omega arith)) ∙ sym (append_assoc (f a) (flat_map f (range_with_len (a + 1) n)) (f j))
-
-pub registers_more : (registers : List ℕ) (number : ℕ) → 1 ≤ number
-    → registers_below registers (number + 1) ≡ registers_below registers number ++ register_text number (register registers number)
-registers_more registers number h =
-    let f : ℕ → List ℕ = λ n. register_text n (register registers n) in
-    let e : number + 1 - 1 ≡ suc (number - 1) = omega arith in
-    ap (λ (n : ℕ). flat_map f (range_with_len 1 n)) e ∙ range_more f 1 (number - 1) number (omega arith)
 
 numbered : (i j : ℕ) (r s : HartState) → i ≡ j → r ≡ s → ◌≡◌ {A = ℕ × HartState} (i, r) (j, s)
 numbered i j r s e q = cc

@@ -3,7 +3,6 @@ pub mod Checking
 pub mod Codes
 pub mod Explaining
 pub mod Failures
-pub mod HartLines
 pub mod Imaging
 pub mod Making
 pub mod Outcomes

@@ -3,7 +3,7 @@
 ghost use Rattle.std.specs.Prelude.{◌≡◌, IfOk, string_bytes};
 ghost use Rattle.command_line.specs.Reports.{run_report};
 
-use crate::hart_line::HartLine;
+use hart_line::HartLine;
 use machine::Machine;
 use std::alloc::{AllocError, Global};
 use std::fmt::Write;

@@ -365,7 +365,7 @@ fn three_lines(
     medium.write_line(7, &[9; 64]);
     let trace = trace_of(rt, &TWO_LINES)?;
     let cuts = cuts_of(rt, &medium, &trace)?;
-    let cut = cut_of(rt, entries)?;
+    let cut = Cut::from_entries(entries.to_vec(rt.alloc())?);
     assert!(rt; cuts.contains(&cut));
     assert!(rt; cuts.lines() == 512);
     Ok([cuts.line(&cut, 3), cuts.line(&cut, 5), cuts.line(&cut, 7)])

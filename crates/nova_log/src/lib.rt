@@ -21,5 +21,3 @@ mod make;
 mod recovery;
 mod source;
 mod superblock;
-#[cfg(test)]
-mod tests;

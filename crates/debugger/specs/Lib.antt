@@ -1,0 +1,4 @@
+pub mod Going
+pub mod Points
+pub mod StopPoint
+pub mod Walks

@@ -1,0 +1,19 @@
+//! A debugger over a machine: it goes on by a schedule up to a breakpoint or to an access to a watched line.
+#![tactic(auto)]
+
+mod debugger;
+mod fault;
+mod going;
+mod points;
+mod stepping;
+mod stop;
+#[cfg(test)]
+mod tests;
+
+pub use debugger::Debugger;
+pub use fault::DebugFault;
+pub use machine::{Machine, Outcome};
+pub use points::{MAX_POINTS, Point};
+pub use schedule::Schedule;
+pub use shared_memory::StepFault;
+pub use stop::{Cause, Place, Stop};

@@ -1,0 +1,5 @@
+pub mod Commands
+pub mod FirstWords
+pub mod Lines
+pub mod Numerals
+pub mod Runs

@@ -1,0 +1,15 @@
+//! Commands to a debugger, read line by line, each answered by lines of text.
+#![tactic(auto)]
+
+mod answering;
+mod carrying;
+mod command;
+mod input;
+mod numbers;
+mod running;
+#[cfg(test)]
+mod tests;
+mod words;
+
+pub use input::{Failed, Sink, Source};
+pub use running::session;
