@@ -3,13 +3,14 @@
 use crate::folder::{Folder, folder_of_examples};
 use command_line::execute;
 use std::alloc::{AllocError, Global};
-use std::io;
 
 /// A command line, and what it comes to: its status, and what it prints on standard output or, where it fails, on
 /// standard error. A line may end with ` > NAME`, and then the file of that name gets what it prints on standard output.
 #[derive(Clone, Copy)]
 pub(crate) struct Turn {
     pub line: &'static str,
+    /// What is typed on standard input.
+    pub typed: &'static str,
     pub status: u8,
     pub printed: &'static str,
 }
@@ -18,6 +19,17 @@ pub(crate) struct Turn {
 pub(crate) const fn done(line: &'static str, printed: &'static str) -> Turn {
     Turn {
         line,
+        typed: "",
+        status: 0,
+        printed,
+    }
+}
+
+/// A line of `debug`, the commands of its session, and their answers.
+pub(crate) const fn debug(line: &'static str, typed: &'static str, printed: &'static str) -> Turn {
+    Turn {
+        line,
+        typed,
         status: 0,
         printed,
     }
@@ -27,6 +39,7 @@ pub(crate) const fn done(line: &'static str, printed: &'static str) -> Turn {
 pub(crate) const fn ends(status: u8, line: &'static str, printed: &'static str) -> Turn {
     Turn {
         line,
+        typed: "",
         status,
         printed,
     }
@@ -64,7 +77,7 @@ fn difference(
         Some((command, name)) => (command, Some(name)),
         None => (turn.line, None),
     };
-    let ended = run(alloc, folder, command)?;
+    let ended = run(alloc, folder, command, turn.typed)?;
     if let Some(name) = kept {
         folder.put(name, &ended.output)?;
     }
@@ -90,18 +103,12 @@ fn is_as_expected(ended: &Ended, turn: Turn) -> bool {
     ended.status == turn.status && told.as_slice() == turn.printed.as_bytes() && silent.is_empty()
 }
 
-fn run(alloc: Global, folder: &mut Folder, line: &str) -> Result<Ended, AllocError> {
+fn run(alloc: Global, folder: &mut Folder, line: &str, typed: &str) -> Result<Ended, AllocError> {
     let words = words_of(alloc, line)?;
+    let mut input = typed.as_bytes();
     let mut output = Vec::new(alloc);
     let mut errors = Vec::new(alloc);
-    let status = execute(
-        alloc,
-        &words,
-        folder,
-        &mut io::empty(),
-        &mut output,
-        &mut errors,
-    );
+    let status = execute(alloc, &words, folder, &mut input, &mut output, &mut errors);
     Ok(Ended {
         status,
         output,

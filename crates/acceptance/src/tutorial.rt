@@ -1,6 +1,6 @@
 //! The commands of docs/TUTORIAL.md, in turn, with what they print.
 
-use crate::turns::{done, ends, first_difference};
+use crate::turns::{debug, done, ends, first_difference};
 use std::test::Fail;
 
 #[test]
@@ -28,6 +28,12 @@ fn the_tutorial_prints_what_it_says(rt: HostRuntime) -> Result<(), Fail> {
             1,
             "novacrash check append.plan append.s nothing.schedule --medium left.medium",
             "fail moment=0 image=0 cause=N8\n",
+        ),
+        debug(
+            "novacrash debug missing-fence.s --medium fresh.medium",
+            "break 0x10030\ngo h0*22\npeek 0x40004000 16\nwatch 0x40000048\ngo\npeek 0x40000048 8\nquit\n",
+            "ok\nbreak h0 pc=0x10030\n01 00 00 00 00 00 00 00 01 00 00 00 00 00 00 00\nok\n\
+             watch h0 line=0x40000040\n40 40 00 00 00 00 00 00\n",
         ),
         done(
             "novacrash check append.plan append.s append.schedule --medium fresh.medium",

@@ -46,6 +46,13 @@ replay_shape = record (new_shape (codes "replay")) {
       ∷ help_option ∷ [];
 }
 
+-- `debug PROGRAM [--medium FILE --harts N --capacity N]`
+abbrev pub debug_shape : Shape
+debug_shape = record (new_shape (codes "debug")) {
+  rules = needed_word (codes "PROGRAM") ∷ valued_option (codes "medium") ∷ valued_option (codes "harts")
+      ∷ valued_option (codes "capacity") ∷ help_option ∷ [];
+}
+
 -- `images PROGRAM SCHEDULE MOMENT [--medium FILE --harts N]`
 abbrev pub images_shape : Shape
 images_shape = record (new_shape (codes "images")) {
@@ -86,7 +93,7 @@ line shapes = record {
 
 -- the whole line
 abbrev pub novacrash : App
-novacrash = line (assemble_shape ∷ make_volume_shape ∷ run_shape ∷ replay_shape ∷ images_shape
+novacrash = line (assemble_shape ∷ make_volume_shape ∷ run_shape ∷ replay_shape ∷ debug_shape ∷ images_shape
     ∷ explain_shape ∷ check_shape ∷ [])
 
 -- the command with a program and a schedule

@@ -9,7 +9,8 @@ use Rattle.arguments.specs.Values.{IsCapacity, IsHarts, IsNumberWord, IsOptional
 use Rattle.arguments.specs.declared.asked.AssembleCommand.{AssembleCommand}
 use Rattle.arguments.specs.declared.asked.CheckCommand.{CheckCommand}
 use Rattle.arguments.specs.declared.asked.Command.{Command}
-use Rattle.arguments.specs.declared.asked.Command.TheVariants.{Assemble, Check, Explain, Images, MakeVolume, Replay, Run}
+use Rattle.arguments.specs.declared.asked.Command.TheVariants.{Assemble, Check, Debug, Explain, Images, MakeVolume, Replay, Run}
+use Rattle.arguments.specs.declared.asked.DebugCommand.{DebugCommand}
 use Rattle.arguments.specs.declared.asked.ExplainCommand.{ExplainCommand}
 use Rattle.arguments.specs.declared.asked.ImagesCommand.{ImagesCommand}
 use Rattle.arguments.specs.declared.asked.LineFault.{LineFault}
@@ -57,6 +58,11 @@ pub record IsReplay (rows : List Row) (command : ReplayCommand) : Type 0 where
   pub machine : IsCachedMachine rows command.machine
   pub out : IsOptional (codes "out") rows command.out
 
+-- `debug` with this program and these options
+pub record IsDebug (rows : List Row) (command : DebugCommand) : Type 0 where
+  pub program : IsWord (codes "PROGRAM") rows command.program
+  pub machine : IsCachedMachine rows command.machine
+
 -- `images` with these files, this moment and these options
 pub record IsImages (rows : List Row) (command : ImagesCommand) : Type 0 where
   pub program : IsWord (codes "PROGRAM") rows command.program
@@ -85,6 +91,7 @@ IsOf name rows (Assemble command) = (name ≡ codes "asm") × IsAssemble rows co
 IsOf name rows (MakeVolume command) = (name ≡ codes "mkfs") × IsMakeVolume rows command
 IsOf name rows (Run command) = (name ≡ codes "run") × IsRun rows command
 IsOf name rows (Replay command) = (name ≡ codes "replay") × IsReplay rows command
+IsOf name rows (Debug command) = (name ≡ codes "debug") × IsDebug rows command
 IsOf name rows (Images command) = (name ≡ codes "images") × IsImages rows command
 IsOf name rows (Explain command) = (name ≡ codes "explain") × IsExplain rows command
 IsOf name rows (Check command) = (name ≡ codes "check") × IsCheck rows command
@@ -114,6 +121,7 @@ IsWithinLimits (Assemble command) = ⊤
 IsWithinLimits (MakeVolume command) = command.lines < 2 ^ 32
 IsWithinLimits (Run command) = IsMachineWithin command.machine × IsWithin 1 500000000 command.steps
 IsWithinLimits (Replay command) = IsMachineWithin command.machine
+IsWithinLimits (Debug command) = IsMachineWithin command.machine
 IsWithinLimits (Images command) = IsMachineWithin command.machine × (command.moment < 2 ^ 32)
 IsWithinLimits (Explain command) = IsMachineWithin command.machine × (command.moment < 2 ^ 32) × (command.image < 2 ^ 32)
 IsWithinLimits (Check command) = IsMachineWithin command.machine

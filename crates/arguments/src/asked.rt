@@ -14,6 +14,8 @@ pub enum Command {
     Run(RunCommand),
     /// `replay PROGRAM SCHEDULE [--medium FILE --harts N --capacity N --out FILE]`.
     Replay(ReplayCommand),
+    /// `debug PROGRAM [--medium FILE --harts N --capacity N]`.
+    Debug(DebugCommand),
     /// `images PROGRAM SCHEDULE MOMENT [--medium FILE --harts N]`.
     Images(ImagesCommand),
     /// `explain PROGRAM SCHEDULE MOMENT IMAGE [--medium FILE --harts N]`.
@@ -82,6 +84,15 @@ pub struct ReplayCommand {
     /// The name of the file that gets the medium of a power cut at the end, where the line has
     /// `--out`.
     pub out: Option<String>,
+}
+
+/// What `debug` is to do.
+#[derive(Drop)]
+pub struct DebugCommand {
+    /// The name of the program's file.
+    pub program: String,
+    /// The machine, whose capacity is Some.
+    pub machine: MachineOptions,
 }
 
 /// What `images` is to do.

@@ -2,19 +2,20 @@
 
 ghost use Rattle.std.specs.Prelude.{◌<◌, ◌^◌, IfOk, IfErr};
 ghost use Rattle.clap.specs.Words.{found_of, rows_of};
-ghost use Rattle.arguments.specs.Line.{IsAssemble, IsCheck, IsExplain, IsImages, IsMakeVolume, IsReplay, IsRun};
+ghost use Rattle.arguments.specs.Line.{IsAssemble, IsCheck, IsDebug, IsExplain, IsImages, IsMakeVolume, IsReplay, IsRun};
 ghost use Rattle.arguments.specs.Line.{IsMachineWithin, IsWithin, OnFault};
 ghost use Rattle.arguments.specs.declared.asked.AssembleCommand.{AssembleCommand as AAssembleCommand};
 ghost use Rattle.arguments.specs.declared.asked.MakeVolumeCommand.{MakeVolumeCommand as AMakeVolumeCommand};
 ghost use Rattle.arguments.specs.declared.asked.RunCommand.{RunCommand as ARunCommand};
 ghost use Rattle.arguments.specs.declared.asked.ReplayCommand.{ReplayCommand as AReplayCommand};
+ghost use Rattle.arguments.specs.declared.asked.DebugCommand.{DebugCommand as ADebugCommand};
 ghost use Rattle.arguments.specs.declared.asked.ImagesCommand.{ImagesCommand as AImagesCommand};
 ghost use Rattle.arguments.specs.declared.asked.ExplainCommand.{ExplainCommand as AExplainCommand};
 ghost use Rattle.arguments.specs.declared.asked.CheckCommand.{CheckCommand as ACheckCommand};
 
 use crate::asked::{
-    AssembleCommand, CheckCommand, ExplainCommand, ImagesCommand, LineFault, MakeVolumeCommand,
-    ReplayCommand, RunCommand,
+    AssembleCommand, CheckCommand, DebugCommand, ExplainCommand, ImagesCommand, LineFault,
+    MakeVolumeCommand, ReplayCommand, RunCommand,
 };
 use crate::machine::{cached_machine, whole_machine};
 use crate::values::{NumberOption, number, number_word, optional, word};
@@ -87,6 +88,19 @@ pub(crate) fn replay(alloc: Global, found: &ArgMatches<'_>) -> Result<ReplayComm
         schedule: word(alloc, found, "SCHEDULE")?,
         machine: cached_machine(alloc, found)?,
         out: optional(alloc, found, "out")?,
+    })
+}
+
+/// What `debug` is to do.
+pub(crate) fn debug(alloc: Global, found: &ArgMatches<'_>) -> Result<DebugCommand, LineFault>
+    ensures ok { IfOk result (IsDebug (rows_of (found_of found.now))) }
+    ensures within { IfOk result (λ command. IsMachineWithin command.machine) }
+    ensures err { IfErr result (OnFault ((command : ADebugCommand)
+        → ¬ (IsDebug (rows_of (found_of found.now)) command))) }
+{
+    Ok(DebugCommand {
+        program: word(alloc, found, "PROGRAM")?,
+        machine: cached_machine(alloc, found)?,
     })
 }
 

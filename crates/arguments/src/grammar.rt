@@ -3,7 +3,7 @@
 ghost use Rattle.std.specs.Prelude.{◌≡◌, [], ◌∷◌, IfOk, codes, false};
 ghost use Rattle.clap.specs.Words.{app_of, rule_of};
 ghost use Rattle.arguments.specs.Grammar.{IsGrammar, IsLocal, leaf, line, novacrash};
-ghost use Rattle.arguments.specs.Grammar.{assemble_shape, check_shape, explain_shape, images_shape, make_volume_shape, replay_shape, run_shape};
+ghost use Rattle.arguments.specs.Grammar.{assemble_shape, check_shape, debug_shape, explain_shape, images_shape, make_volume_shape, replay_shape, run_shape};
 ghost use Rattle.arguments.specs.Grammar.{help_option, needed_word, valued_option};
 ghost use Rattle.arguments.specs.Grammar.{with_cached_machine as cached, with_end as at_end, with_machine as whole, with_moment as at_moment, with_recording as recording, with_run as of_run};
 
@@ -250,6 +250,15 @@ fn replay<'a>(alloc: Global) -> Result<clap::Command<'a>, AllocError>
     with_end(alloc, with_cached_machine(alloc, command)?)
 }
 
+fn debug<'a>(alloc: Global) -> Result<clap::Command<'a>, AllocError>
+    ensures { IfOk result (IsGrammar (leaf debug_shape)) }
+{
+    let command = clap::Command::new(alloc, "debug")
+        .about("Debug a program by commands on standard input")
+        .arg(program(alloc))?;
+    with_cached_machine(alloc, command)?.arg(help_flag(alloc))
+}
+
 fn images<'a>(alloc: Global) -> Result<clap::Command<'a>, AllocError>
     ensures { IfOk result (IsGrammar (leaf images_shape)) }
 {
@@ -300,13 +309,14 @@ fn with_make_volume<'a>(alloc: Global) -> Result<clap::Command<'a>, AllocError>
     with_assemble(alloc)?.subcommand(make_volume(alloc)?)
 }
 
-/// The line with `run` and `replay` beside them.
+/// The line with `run`, `replay` and `debug` beside them.
 fn with_runs<'a>(alloc: Global) -> Result<clap::Command<'a>, AllocError>
-    ensures { IfOk result (IsGrammar (line (assemble_shape ∷ make_volume_shape ∷ run_shape ∷ replay_shape ∷ []))) }
+    ensures { IfOk result (IsGrammar (line (assemble_shape ∷ make_volume_shape ∷ run_shape ∷ replay_shape ∷ debug_shape ∷ []))) }
 {
     with_make_volume(alloc)?
         .subcommand(run(alloc)?)?
-        .subcommand(replay(alloc)?)
+        .subcommand(replay(alloc)?)?
+        .subcommand(debug(alloc)?)
 }
 
 /// The whole line: a subcommand with its words and options, and `--help` anywhere.

@@ -6,12 +6,10 @@ mod commands;
 mod grammar;
 mod line;
 mod machine;
-#[cfg(test)]
-mod tests;
 mod values;
 
 pub use asked::{
-    AssembleCommand, CheckCommand, Command, ExplainCommand, ImagesCommand, LineFault,
+    AssembleCommand, CheckCommand, Command, DebugCommand, ExplainCommand, ImagesCommand, LineFault,
     MachineOptions, MakeVolumeCommand, ReplayCommand, RunCommand,
 };
 pub use line::command;

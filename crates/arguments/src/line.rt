@@ -6,7 +6,7 @@ ghost use Rattle.arguments.specs.Grammar.{novacrash};
 ghost use Rattle.arguments.specs.Line.{IsCommand, IsKindOf, IsWithinLimits, Refuses};
 
 use crate::asked::{Command, LineFault};
-use crate::commands::{assemble, check, explain, images, make_volume, replay, run};
+use crate::commands::{assemble, check, debug, explain, images, make_volume, replay, run};
 use crate::grammar::grammar;
 use clap::ArgMatches;
 use clap::error::ErrorKind;
@@ -52,6 +52,7 @@ fn matches<'a>(alloc: Global, words: &'a [String]) -> Result<ArgMatches<'a>, Lin
 /// - `mkfs PLAN LINES MEDIUM`
 /// - `run PROGRAM [--medium FILE --harts N --capacity N --steps N --record FILE --out FILE]`
 /// - `replay PROGRAM SCHEDULE [--medium FILE --harts N --capacity N --out FILE]`
+/// - `debug PROGRAM [--medium FILE --harts N --capacity N]`
 /// - `images PROGRAM SCHEDULE MOMENT [--medium FILE --harts N]`
 /// - `explain PROGRAM SCHEDULE MOMENT IMAGE [--medium FILE --harts N]`
 /// - `check PLAN PROGRAM SCHEDULE [--medium FILE --harts N]`
@@ -66,6 +67,7 @@ pub fn command(alloc: Global, words: &[String]) -> Result<Command, LineFault>
         Some(("mkfs", found)) => Ok(Command::MakeVolume(make_volume(alloc, found)?)),
         Some(("run", found)) => Ok(Command::Run(run(alloc, found)?)),
         Some(("replay", found)) => Ok(Command::Replay(replay(alloc, found)?)),
+        Some(("debug", found)) => Ok(Command::Debug(debug(alloc, found)?)),
         Some(("images", found)) => Ok(Command::Images(images(alloc, found)?)),
         Some(("explain", found)) => Ok(Command::Explain(explain(alloc, found)?)),
         Some(("check", found)) => Ok(Command::Check(check(alloc, found)?)),

@@ -12,8 +12,6 @@ ghost use Rattle.std.specs.Prelude.{◌≡◌, IfErr, IfOk};
 mod kinds;
 mod lines;
 mod scan;
-#[cfg(test)]
-mod tests;
 
 use kinds::kind_of;
 pub use lines::next_line;

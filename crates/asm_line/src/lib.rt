@@ -23,8 +23,6 @@ mod operands;
 mod pseudo;
 mod shapes;
 mod statement;
-#[cfg(test)]
-mod tests;
 
 use asm_lex::{Token, tokens};
 pub use asm_names::{NumberWidth, Section};

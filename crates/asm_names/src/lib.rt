@@ -7,8 +7,6 @@ mod kinds;
 mod lookup;
 mod mnemonic;
 mod registers;
-#[cfg(test)]
-mod tests;
 
 pub use kinds::{NumberWidth, Section};
 pub use lookup::mnemonic_of;

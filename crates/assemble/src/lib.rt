@@ -90,6 +90,3 @@ fn code_of_first(alloc: Global, line: &[u8]) -> AsmCode
         Err(code) => code,
     }
 }
-
-#[cfg(test)]
-mod tests;

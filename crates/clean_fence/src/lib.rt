@@ -24,9 +24,6 @@ use lru_cache::Cache;
 use std::alloc::Global;
 use std::marker::Model;
 
-#[cfg(test)]
-mod tests;
-
 /// Persistent memory: a medium behind a write-back cache, whose dirty lines a power cut loses.
 ///
 /// A clean or flush of a dirty line pends for its hart until the line is written back: by a fence of that hart, or by an

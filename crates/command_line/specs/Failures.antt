@@ -4,6 +4,8 @@ use Rattle.std.specs.Prelude.{ℕ, List, ◌++◌, codes, decimal, string_bytes}
 use Rattle.asm_line.specs.declared.fault.AsmCode.{AsmCode}
 use Rattle.asm_line.specs.declared.fault.AsmCode.TheVariants as asm
 use Rattle.assemble.specs.declared.fault.AsmFault.{AsmFault}
+use Rattle.debugger.specs.declared.fault.DebugFault.{DebugFault}
+use Rattle.debugger.specs.declared.fault.DebugFault.TheVariants as sessions
 use Rattle.line_memory.specs.declared.MediumFault.{MediumFault}
 use Rattle.line_memory.specs.declared.MediumFault.TheVariants as media
 use Rattle.nova_log.specs.declared.fault.VolumeFault.{VolumeFault}
@@ -123,3 +125,8 @@ abbrev pub failure_of_verdict : VerdictFault → Failure
 failure_of_verdict (verdicts.Step fault) = Refused (Step fault)
 failure_of_verdict (verdicts.Operation fault) = Refused (Operation fault)
 failure_of_verdict verdicts.Memory = Memory
+
+-- for a session that ended by a fault: want of memory, or a standard stream that failed
+abbrev pub failure_of_session : DebugFault → Failure
+failure_of_session sessions.Memory = Memory
+failure_of_session fault = File

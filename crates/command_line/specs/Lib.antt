@@ -1,6 +1,7 @@
 pub mod Assembling
 pub mod Checking
 pub mod Codes
+pub mod Debugging
 pub mod Explaining
 pub mod Failures
 pub mod Imaging

@@ -3,6 +3,7 @@
 use crate::failure::{Failure, Refusal};
 use crate::files::FileFault;
 use assemble::{AsmCode, AsmFault};
+use debugger::DebugFault;
 use line_memory::MediumFault;
 use machine::StepFault;
 use nova_log::VolumeFault;
@@ -166,6 +167,20 @@ impl From<VerdictFault> for Failure {
             VerdictFault::Step(fault) => Failure::Refused(Refusal::Step(fault)),
             VerdictFault::Operation(fault) => Failure::Refused(Refusal::Operation(fault)),
             VerdictFault::Memory => Failure::Memory,
+        }
+    }
+}
+
+impl From<DebugFault> for Failure {
+    ghost use Rattle.std.specs.Prelude.{◌≡◌};
+    ghost use Rattle.command_line.specs.Failures.{failure_of_session};
+
+    ghost from_gives = { λ fault failure. failure ≡ failure_of_session fault };
+
+    fn from(fault: DebugFault) -> Failure {
+        match fault {
+            DebugFault::Memory => Failure::Memory,
+            _ => Failure::File,
         }
     }
 }

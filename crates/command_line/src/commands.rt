@@ -1,12 +1,15 @@
 //! The commands.
 
-ghost use Rattle.std.specs.Prelude.{map, string_bytes};
+ghost use Rattle.std.specs.Prelude.{◌≡◌, map, string_bytes};
+ghost use Rattle.std.specs.Result.{result_map_both};
 ghost use Rattle.arguments.specs.Line.{IsWithinLimits};
 ghost use Rattle.command_line.specs.Outcomes.{AnswersFault, CarriesOut, ComesTo};
+ghost use Rattle.command_line.specs.declared.answer.Action.TheVariants.{Debug, Print};
 
-use crate::answer::Answer;
+use crate::answer::{Action, Answer};
 use crate::assembling::assemble_file;
 use crate::checking::check_file;
+use crate::debugging::open_file;
 use crate::explaining::explain_file;
 use crate::failure::Failure;
 use crate::files::Files;
@@ -14,10 +17,11 @@ use crate::imaging::count_file;
 use crate::making::make_file;
 use crate::running::{replay_file, run_file};
 use arguments::{Command, LineFault, command};
+use machine::Machine;
 use std::alloc::Global;
 
 /// What a line comes to, its words beginning with the program's name.
-pub fn outcome<F: Files>(alloc: Global, words: &[String], files: &mut F) -> Result<Answer, Failure>
+pub fn outcome<F: Files>(alloc: Global, words: &[String], files: &mut F) -> Result<Action, Failure>
     ensures { ComesTo F.read_gives F.write_gives (map string_bytes words.now) files.old files.new result }
 {
     match command(alloc, words) {
@@ -27,27 +31,42 @@ pub fn outcome<F: Files>(alloc: Global, words: &[String], files: &mut F) -> Resu
 }
 
 /// What a command comes to.
-fn carry_out<F: Files>(alloc: Global, command: Command, files: &mut F) -> Result<Answer, Failure>
+fn carry_out<F: Files>(alloc: Global, command: Command, files: &mut F) -> Result<Action, Failure>
     requires { IsWithinLimits command }
     ensures { CarriesOut F.read_gives F.write_gives command files.old result files.new }
 {
     match command {
-        Command::Assemble(command) => assemble_file(alloc, &command, files),
-        Command::MakeVolume(command) => make_file(alloc, &command, files),
-        Command::Run(command) => run_file(alloc, &command, files),
-        Command::Replay(command) => replay_file(alloc, &command, files),
-        Command::Images(command) => count_file(alloc, &command, files),
-        Command::Explain(command) => explain_file(alloc, &command, files),
-        Command::Check(command) => check_file(alloc, &command, files),
+        Command::Assemble(command) => printed(assemble_file(alloc, &command, files)),
+        Command::MakeVolume(command) => printed(make_file(alloc, &command, files)),
+        Command::Run(command) => printed(run_file(alloc, &command, files)),
+        Command::Replay(command) => printed(replay_file(alloc, &command, files)),
+        Command::Debug(command) => debugged(open_file(alloc, &command, files)),
+        Command::Images(command) => printed(count_file(alloc, &command, files)),
+        Command::Explain(command) => printed(explain_file(alloc, &command, files)),
+        Command::Check(command) => printed(check_file(alloc, &command, files)),
     }
 }
 
+/// An answer is printed.
+fn printed(answer: Result<Answer, Failure>) -> Result<Action, Failure>
+    ensures { result ≡ result_map_both Print (λ failure. failure) answer }
+{
+    Ok(Action::Print(answer?))
+}
+
+/// A session is held on a machine.
+fn debugged(machine: Result<Machine, Failure>) -> Result<Action, Failure>
+    ensures { result ≡ result_map_both Debug (λ failure. failure) machine }
+{
+    Ok(Action::Debug(machine?))
+}
+
 /// What a line comes to that asks for no command.
-fn answer_to(fault: LineFault) -> Result<Answer, Failure>
+fn answer_to(fault: LineFault) -> Result<Action, Failure>
     ensures { AnswersFault fault result }
 {
     match fault {
-        LineFault::Help(text) => Ok(Answer { text, status: 0 }),
+        LineFault::Help(text) => Ok(Action::Print(Answer { text, status: 0 })),
         LineFault::Fault(text) => Err(Failure::Line(text)),
         LineFault::Memory => Err(Failure::Memory),
     }

@@ -1,14 +1,16 @@
 //! A whole run of the program.
 
-ghost use Rattle.std.specs.Prelude.{◌≡◌, map, string_bytes, OnOk};
+ghost use Rattle.std.specs.Prelude.{map, string_bytes, OnOk};
 ghost use Rattle.std.specs.Io.KnownBytes.{Appends};
 ghost use Rattle.command_line.specs.Failures.{failure_text};
-ghost use Rattle.command_line.specs.Outcomes.{Delivers, Ends, EndsWith};
+ghost use Rattle.command_line.specs.Outcomes.{Delivers, Ends, EndsWith, IsPrinted};
 
-use crate::answer::Answer;
+use crate::answer::{Action, Answer};
 use crate::commands::outcome;
+use crate::debugging::hold_session;
 use crate::failure::Failure;
 use crate::files::Files;
+use crate::streams::print;
 use std::alloc::Global;
 use std::io;
 use std::io::{Read, Write};
@@ -19,18 +21,19 @@ use std::io::{Read, Write};
 /// with the program's name.
 ///
 /// An answer goes to standard output, and nothing of a failure does; the lines of a failure go to standard error,
-/// and where they can't be written the status still stands.
+/// and where they can't be written the status still stands. Only the session of `debug` reads standard input, once its
+/// files have been read and its machine made.
 pub fn execute<F: Files, R: Read, W: Write, E: Write>(
     alloc: Global,
     words: &[String],
     files: &mut F,
-    _input: &mut R,
+    input: &mut R,
     output: &mut W,
     errors: &mut E,
 ) -> u8
-    ensures { EndsWith F.read_gives F.write_gives W.contents (map string_bytes words.now) files.old files.new output.old output.new result }
+    ensures { EndsWith F.read_gives F.write_gives W.contents (map string_bytes words.now) files.old files.new (input.old, output.old) (input.new, output.new) result }
 {
-    match answer_line(alloc, words, files, output) {
+    match answer_line(alloc, words, files, input, output) {
         Ok(status) => status,
         Err(failure) => {
             let _ = tell(&failure, errors);
@@ -40,32 +43,39 @@ pub fn execute<F: Files, R: Read, W: Write, E: Write>(
 }
 
 /// Answers a command line on standard output, and gives the status.
-pub fn answer_line<F: Files, W: Write>(
+pub fn answer_line<F: Files, R: Read, W: Write>(
     alloc: Global,
     words: &[String],
     files: &mut F,
+    input: &mut R,
     output: &mut W,
 ) -> Result<u8, Failure>
-    ensures { Ends F.read_gives F.write_gives W.contents (map string_bytes words.now) files.old files.new output.old output.new result }
+    ensures { Ends F.read_gives F.write_gives W.contents (map string_bytes words.now) files.old files.new (input.old, output.old) (input.new, output.new) result }
 {
-    deliver(outcome(alloc, words, files), output)
+    deliver(alloc, outcome(alloc, words, files), input, output)
 }
 
-fn deliver<W: Write>(outcome: Result<Answer, Failure>, output: &mut W) -> Result<u8, Failure>
-    ensures { Delivers W.contents output.old output.new outcome result }
+fn deliver<R: Read, W: Write>(
+    alloc: Global,
+    outcome: Result<Action, Failure>,
+    input: &mut R,
+    output: &mut W,
+) -> Result<u8, Failure>
+    ensures { Delivers W.contents (input.old, output.old) (input.new, output.new) outcome result }
 {
-    let Answer { text, status } = outcome?;
-    match print(text.as_bytes(), output) {
-        Ok(()) => Ok(status),
-        Err(_) => Err(Failure::File),
+    match outcome? {
+        Action::Print(answer) => print_answer(answer, output),
+        Action::Debug(machine) => hold_session(alloc, machine, input, output),
     }
 }
 
-fn print<W: Write>(text: &[u8], output: &mut W) -> io::Result<()>
-    ensures { OnOk result (Appends (W.contents output.old) (W.contents output.new) text.now) }
+fn print_answer<W: Write>(answer: Answer, output: &mut W) -> Result<u8, Failure>
+    ensures { IsPrinted W.contents output.old output.new answer result }
 {
-    output.write_all(text)?;
-    output.flush()
+    match print(answer.text.as_bytes(), output) {
+        Ok(()) => Ok(answer.status),
+        Err(_) => Err(Failure::File),
+    }
 }
 
 /// Writes the lines of a failure.

@@ -82,7 +82,7 @@ fn run_by(
 }
 
 /// The most lines of the cache.
-fn capacity(options: &MachineOptions, medium: &Medium) -> u32
+pub(crate) fn capacity(options: &MachineOptions, medium: &Medium) -> u32
     ensures { result ≡ unwrap_or options.now.capacity (length medium.now) }
 {
     match options.capacity {

@@ -18,8 +18,6 @@ mod images;
 mod line;
 mod names;
 mod search;
-#[cfg(test)]
-mod tests;
 
 /// Why crash images aren't given.
 #[derive(Debug, Drop, Error)]

@@ -8,8 +8,6 @@
 mod laws;
 mod plain;
 mod step;
-#[cfg(test)]
-mod tests;
 
 pub use laws::{
     clean_step, cuts_are_listed, evict_step, evictions_leave_cuts, evictions_leave_floors,

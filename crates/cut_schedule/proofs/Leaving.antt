@@ -1,6 +1,6 @@
 -- What a schedule that follows the events up to the moment leaves.
 use Rattle.std.proofs.Common.{◌≡◌, ℕ, ◌<◌, ◌≤◌, List, All, length, take, refl, ap, ◌∙◌, arith}
-use Rattle.crash_model.specs.Cut.{IsCut, number_in}
+use Rattle.crash_model.specs.Cut.{IsCut, IsCutImage, number_in}
 use Rattle.crash_model.specs.Image.{image}
 use Rattle.crash_model.specs.Schedule.{explained}
 use Rattle.crash_model.specs.WrittenBack.{written_back}
@@ -8,10 +8,12 @@ use Rattle.crash_model.specs.declared.step.PersistenceStep.{PersistenceStep}
 use Rattle.crash_model.proofs.Explained.{explained_image, explained_leaves}
 use Rattle.crash_model.proofs.Images.{image_from_lines}
 use Rattle.crash_model.proofs.Lines.{within_from_cut}
+use Rattle.clean_fence.proofs.Views.{leaves_cut as cache_leaves_cut}
 use Rattle.clean_fence.specs.Rules.{PmView}
 use Rattle.clean_fence.specs.Stands.{Stands as CacheStands}
 use Rattle.std.proofs.lemmas.List.Elements.{All-take}
-use Rattle.store_trace.specs.History.{at_moment}
+use Rattle.shared_memory.proofs.Shown.{leaves_cut}
+use Rattle.store_trace.specs.History.{at_moment, history}
 use Rattle.store_trace.specs.TraceView.{NamesLine}
 use Rattle.crash_image.proofs.Stored.{cut_below}
 use Rattle.schedule.specs.declared.items.Step.{Step}
@@ -25,6 +27,12 @@ use Rattle.cut_schedule.specs.Walking.{Follows, IsStart}
 use Rattle.cut_schedule.proofs.Following.{split_in_time}
 use Rattle.cut_schedule.proofs.HartRuns.{run_start}
 use Rattle.cut_schedule.proofs.RunFrom.{first_runs}
+
+-- the medium behind the cache of a machine is the image of a cut of the events of what it stands for
+pub leaves_a_cut : (machine : MachineView) (c : Config) → Stands machine c
+    → IsCutImage c.common.start (history c.common.trace) machine.shared.cache.lines
+leaves_a_cut machine c stands =
+    leaves_cut machine.shared machine.shared.cache.lines (λ start p. cache_leaves_cut start p machine.shared.cache) c.common stands.shared
 
 -- the medium behind a cache that stands for the steps of a cut's schedule is the cut's image
 image_left : (start : List (List ℕ)) (p : List PersistenceStep) (cut : List (ℕ × ℕ)) (cache : PmView) → IsCut p cut

@@ -6,5 +6,3 @@ pub use explaining::explain;
 mod explaining;
 mod growing;
 mod recorded_steps;
-#[cfg(test)]
-mod tests;

@@ -2,7 +2,7 @@
 use Rattle.std.proofs.Common.{◌≡◌, ℕ, zero, suc, ◌+◌, ◌-◌, ◌<◌, ◌≤◌, ◌||◌, List, [], ◌∷◌, ◌++◌, length, take, replicate, Bool, true, false, Some, nat_lt, slice_get, refl, sym, ap, ◌∙◌, arith, append_assoc, add-one}
 use Rattle.std.proofs.Math.Seq.{take-append_seam}
 use Rattle.std.proofs.lemmas.Bool.{lt-ltb}
-use Rattle.std.proofs.lemmas.List.{append-nil, length-append, replicate_more, replicate-append-replicate}
+use Rattle.std.proofs.lemmas.List.{append-nil, length-append, length-replicate, replicate_more, replicate-append-replicate}
 use Rattle.std.proofs.lemmas.Option.{slice_get_within}
 use Rattle.hart.specs.declared.state.HartState.{HartState}
 use Rattle.schedule.specs.declared.items.Item.{Item}
@@ -23,7 +23,7 @@ use Rattle.debugger.specs.declared.points.Point.{Point}
 use Rattle.debugger.specs.declared.stop.Cause.{Cause}
 use Rattle.debugger.specs.declared.stop.Cause.TheVariants as causes
 use Rattle.debugger.specs.declared.stop.Place.{Place}
-use Rattle.debugger.proofs.Places.{all_before, item_after, item_before, nothing_after, within_item}
+use Rattle.debugger.proofs.Places.{all_before, item_after, item_before, item_inside, nothing_after, within_item}
 use Rattle.debugger.proofs.Quiet.{longer, next_step, no_break, no_touch, passes_runs, quiet}
 use Rattle.debugger.proofs.Walking.{moved_by-append, same_break, touch_there, unbroken_there, walks_joined, walks_none}
 
@@ -170,6 +170,7 @@ gone_further old now new items from index steps moved later step count equal g s
 pub record Reaches (points : List Point) (old now : MachineView) (items : List Item) (from : Place) (index at : ℕ) (step : Step) (moved : Bool) : Type 0 where
   pub made : List Step
   pub more : List Step
+  pub inside : at < length (steps_of_item (slice_get items index))
   pub split : steps_after items from ≡ made ++ step ∷ more
   pub before : steps_before items index at ≡ steps_before items from.item from.steps ++ made
   pub behind : steps_before items index (at + 1) ≡ steps_before items from.item from.steps ++ (made ++ step ∷ [])
@@ -193,9 +194,12 @@ reaches old now middle items from index steps moved step count n equal g inside 
     let one : (steps + n) + 1 ≡ steps + (n + 1) = omega arith in
     let fits : steps + n ≤ count = omega arith in
     let fits_too : steps + (n + 1) ≤ count = omega arith in
+    let size : length (steps_of_item (slice_get items index)) ≡ count =
+    ap (λ (l : List Step). length l) equal ∙ length-replicate count step in
     record {
       made = g.made ++ part;
       more = replicate past step ++ rest;
+      inside = rw size inside;
       split = g.split ∙ ap (λ (l : List Step). g.made ++ l) left ∙ sym (append_assoc g.made part (step ∷ (replicate past step ++ rest)));
       before = within_item items index step count equal steps n fits ∙ ap (λ (l : List Step). l ++ part) g.before
           ∙ append_assoc front g.made part;
@@ -244,6 +248,7 @@ pub goes_to_break : (old new : DebuggerView) (middle : MachineView) (items : Lis
     → HaltsAtBreak old.points moved middle new.machine step hart pc
     → GoesTo old new items from (record { cause = causes.Break hart pc; place = record { item = index; steps = at } })
 goes_to_break old new middle items from index at step moved hart pc same r h =
+    let inside = r.inside in
     let steps : List Step = steps_after items from in
     let made : take (length r.made) steps ≡ r.made = taken steps r.made r.more step r.split in
     let walks : Walks old.points false old.machine new.machine r.made =
@@ -258,6 +263,7 @@ goes_to_break old new middle items from index at step moved hart pc same r h =
           stop_alike old.points c (r.made ++ step ∷ r.more) steps (length r.made) (causes.Break hart pc) (sym r.split)
           (break_stop old.points c come.0 r.made r.more step hart pc come.1 (sym r.has_moved ∙ h.has_moved) h.is_hart
           (same_break old.points (slice_get middle.harts hart) (slice_get come.0.harts hart) pc there h.broken));
+      place = record { item = item_inside items index at r.inside; steps = omega arith };
       reached = r.before ∙ ap (λ (l : List Step). steps_before items from.item from.steps ++ l) (sym made);
     }
 
@@ -266,6 +272,7 @@ pub goes_to_watch : (old new : DebuggerView) (middle : MachineView) (items : Lis
     → HaltsAtWatch old.points moved middle new.machine step hart line
     → GoesTo old new items from (record { cause = causes.Watch hart line; place = record { item = index; steps = at + 1 } })
 goes_to_watch old new middle items from index at step moved hart line same r h =
+    let inside = r.inside in
     let steps : List Step = steps_after items from in
     let made : take (suc (length r.made)) steps ≡ r.made ++ step ∷ [] = taken_too steps r.made r.more step r.split in
     record {
@@ -282,6 +289,7 @@ goes_to_watch old new middle items from index at step moved hart line same r h =
           stop_alike old.points c (r.made ++ step ∷ r.more) steps (suc (length r.made)) (causes.Watch hart line) (sym r.split)
           (watch_stop old.points c come.0 go.0 r.made r.more step hart line come.1 unbroken h.onto.is_hart end
           (touch_there old.points middle new.machine come.0 go.0 hart line come.2 go.2 h.onto.touches));
+      place = record { item = item_inside items index at r.inside; steps = omega arith };
       reached = r.behind ∙ ap (λ (l : List Step). steps_before items from.item from.steps ++ l) (sym made);
     }
 
@@ -290,6 +298,7 @@ pub goes_up_to : (old new : DebuggerView) (middle : MachineView) (items : List I
     → IsHeldBy old.points moved middle new.machine step fault
     → GoesUpTo old new items from (record { item = index; steps = at }) fault
 goes_up_to old new middle items from index at step moved fault same r h =
+    let inside = r.inside in
     let steps : List Step = steps_after items from in
     let made : take (length r.made) steps ≡ r.made = taken steps r.made r.more step r.split in
     let next : slice_get steps (length r.made) ≡ Some step =
@@ -307,6 +316,7 @@ goes_up_to old new middle items from index at step moved fault same r h =
           quiet old.points c come.0 r.made r.more step k cause come.1 unbroken less
           (cause_alike old.points c steps (r.made ++ step ∷ r.more) k cause r.split has);
       refused = rw (next, h.same) h.refused;
+      there = r.inside;
       reached = r.before ∙ ap (λ (l : List Step). steps_before items from.item from.steps ++ l) (sym made);
     }
 
@@ -328,6 +338,7 @@ goes_to_end old now items from index steps moved past g =
       stops = λ c s.
           let come = g.walks.passes c s in
           stop_alike old.points c g.made (steps_after items from) (length g.made) causes.End (sym all) (end_stop old.points c come.0 g.made come.1);
+      place = record { item = omega arith; steps = omega arith };
       reached = end ∙ g.before ∙ ap (λ (l : List Step). steps_before items from.item from.steps ++ l) (sym made);
     }
 

@@ -1,5 +1,5 @@
 -- The steps on both sides of a place in a schedule.
-use Rattle.std.proofs.Common.{◌≡◌, ℕ, zero, suc, ◌+◌, ◌-◌, ◌≤◌, List, [], ◌∷◌, ◌++◌, length, take, drop, replicate, slice_get, refl, sym, ap, ◌∙◌, arith, append_assoc}
+use Rattle.std.proofs.Common.{◌≡◌, ℕ, zero, suc, ◌+◌, ◌-◌, ◌<◌, ◌≤◌, List, [], ◌∷◌, ◌++◌, length, take, drop, replicate, slice_get, refl, sym, ap, ◌∙◌, arith, append_assoc}
 use Rattle.std.proofs.lemmas.List.{append-nil, drop-replicate, replicate-append-replicate, take-append-drop, take-replicate}
 use Rattle.schedule.specs.Steps.{all_steps, steps_of}
 use Rattle.schedule.specs.declared.items.Item.{Item}
@@ -30,6 +30,13 @@ all_before (item ∷ items) zero steps past = absurd (omega arith)
 all_before (item ∷ items) (suc i) steps past =
     append_assoc (steps_of item) (all_steps (take i items)) (take steps (steps_of_item (slice_get items i)))
     ∙ ap (λ (l : List Step). steps_of item ++ l) (all_before items i steps (omega arith))
+
+-- an item that has steps is one of the schedule's
+pub item_inside : (items : List Item) (i steps : ℕ) → steps < length (steps_of_item (slice_get items i)) → i ≤ length items
+item_inside [] zero steps inside = omega arith
+item_inside [] (suc i) steps inside = absurd (omega arith)
+item_inside (item ∷ items) zero steps inside = omega arith
+item_inside (item ∷ items) (suc i) steps inside = let less = item_inside items i steps inside in omega arith
 
 -- from a place in an item to the start of the next
 pub before_next : (items : List Item) (i steps : ℕ)

@@ -1,5 +1,5 @@
 -- What `go` does: the steps from a place in a schedule on, up to their stop point or to the first that is refused.
-use Rattle.std.specs.Prelude.{◌≡◌, ◌<◌, ◌++◌, ℕ, suc, List, drop, slice_get, take}
+use Rattle.std.specs.Prelude.{◌≡◌, ◌<◌, ◌≤◌, ◌++◌, ℕ, suc, List, drop, length, slice_get, take}
 use Rattle.machine.specs.Refusals.{Refuses, RefusesNext}
 use Rattle.machine.specs.Run.{Config}
 use Rattle.machine.specs.Stands.{MachineView, Runs, Stands}
@@ -25,12 +25,18 @@ abbrev pub IsReached : List Item → Place → ℕ → Place → Type 0
 IsReached items from made place =
     steps_before items place.item place.steps ≡ steps_before items from.item from.steps ++ take made (steps_after items from)
 
+-- a place of the schedule: at one of its items, or behind the last, and behind no more steps than the item has
+pub record IsPlaceOf (items : List Item) (place : Place) : Type 0 where
+  pub item : place.item ≤ length items
+  pub steps : place.steps ≤ length (steps_of_item (slice_get items place.item))
+
 -- the steps up to the stop point are made, and no others; the place reached is behind them
 pub record GoesTo (old new : DebuggerView) (items : List Item) (from : Place) (stop : Stop) : Type 0 where
   pub made : ℕ
   pub points : new.points ≡ old.points
   pub runs : Runs old.machine new.machine (take made (steps_after items from))
   pub stops : (c : Config) → Stands old.machine c → IsStopPoint old.points c (steps_after items from) made stop.cause
+  pub place : IsPlaceOf items stop.place
   pub reached : IsReached items from made stop.place
 
 -- the steps before one that is refused are made; no stop point is among them, and the place reached is that of the refused one
@@ -41,6 +47,7 @@ pub record GoesUpTo (old new : DebuggerView) (items : List Item) (from place : P
   pub goes_on : (c : Config) → Stands old.machine c → (k : ℕ) (cause : Cause) → k < made
       → ¬ (HasCause old.points c (steps_after items from) k cause)
   pub refused : RefusesNext new.machine (slice_get (steps_after items from) made) fault
+  pub there : place.steps < length (steps_of_item (slice_get items place.item))
   pub reached : IsReached items from made place
 
 -- why a debugger is refused a step, and where `go` is

@@ -7,8 +7,6 @@ mod going;
 mod points;
 mod stepping;
 mod stop;
-#[cfg(test)]
-mod tests;
 
 pub use debugger::Debugger;
 pub use fault::DebugFault;

@@ -13,11 +13,7 @@ ghost use Rattle.std.specs.Prelude.{◌≡◌, ℕ, ◌^◌, ◌<◌, IfSome};
 mod mnemonics;
 mod operands;
 mod shapes;
-#[cfg(test)]
-mod tests;
 mod text;
-#[cfg(test)]
-mod words;
 
 use isa_table::Instr;
 pub use text::show;

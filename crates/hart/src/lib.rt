@@ -18,8 +18,3 @@ pub use atomics::amo_result;
 pub use need::{AccessFault, Need, Reply, Request};
 pub use state::{HartState, Registers, Status, Trap};
 pub use stepping::next;
-
-#[cfg(test)]
-mod table_tests;
-#[cfg(test)]
-mod tests;

@@ -18,6 +18,4 @@ mod moment;
 mod operations;
 mod order;
 mod run;
-#[cfg(test)]
-mod tests;
 mod verdict;

@@ -9,8 +9,6 @@ use std::alloc::{AllocError, Global};
 use std::marker::Model;
 
 mod ring;
-#[cfg(test)]
-mod tests;
 
 /// `K` lists over nodes numbered from 0. A node can stand in any of them at once, and in each at most once.
 /// After making, no call takes memory and none searches a list.

@@ -13,8 +13,6 @@ mod instruction;
 mod keys;
 mod names;
 mod register;
-#[cfg(test)]
-mod tests;
 
 pub use access::AccessSet;
 pub use encoding::encode;

@@ -14,8 +14,6 @@ use thiserror::Error;
 mod bytes;
 mod medium;
 mod ram;
-#[cfg(test)]
-mod tests;
 
 /// The first address of the text region.
 pub const TEXT_BASE: u64 = 0x1_0000;

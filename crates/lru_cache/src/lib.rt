@@ -17,8 +17,6 @@ use std::alloc::{AllocError, Global};
 use std::marker::Model;
 
 mod orders;
-#[cfg(test)]
-mod tests;
 
 /// A cache of some lines of a medium. A resident line has a copy here, which loads and stores use in the place of the
 /// medium's bytes; it is dirty from its first store until it is written back.

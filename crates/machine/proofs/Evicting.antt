@@ -209,7 +209,7 @@ alike_then c d e a b = record {
   requests = a.requests ∙ b.requests;
 }
 
-alike_itself : (c : Config) → AreAlike c c
+pub alike_itself : (c : Config) → AreAlike c c
 alike_itself c = record { harts = refl; start = refl; initial = refl; memory = refl; trace = refl; requests = refl }
 
 pub runs_alike : (c d e : Config) (steps others : List Step) → AreAlike c d → hart_steps steps ≡ hart_steps others

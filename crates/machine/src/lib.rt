@@ -15,6 +15,3 @@ pub use laws::{
 pub use machine::{Machine, Outcome};
 pub use schedule::{Item, Schedule, Step};
 pub use shared_memory::{Entry, Shared, StepFault};
-
-#[cfg(test)]
-mod tests;

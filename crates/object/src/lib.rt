@@ -11,8 +11,6 @@ use std::marker::Model;
 
 mod fault;
 mod file;
-#[cfg(test)]
-mod tests;
 
 /// The most bytes that a text section has: the size of the text region.
 pub const TEXT_LIMIT: usize = 65_536;

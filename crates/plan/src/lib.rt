@@ -13,7 +13,5 @@ mod numbers;
 mod operation;
 mod plan;
 mod reader;
-#[cfg(test)]
-mod tests;
 mod wording;
 mod words;

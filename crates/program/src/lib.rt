@@ -74,6 +74,3 @@ fn fill_with_zeros(mut bytes: Vec<u8>, size: usize) -> Result<Vec<u8>, AllocErro
     bytes.resize(size, 0)?;
     Ok(bytes)
 }
-
-#[cfg(test)]
-mod tests;

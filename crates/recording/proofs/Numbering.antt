@@ -256,7 +256,7 @@ among : (m : MachineView) (harts lines : ℕ) (step : Step) → harts ≡ length
 among m harts lines (Hart h) e f there = rw e there
 among m harts lines (Evict line) e f there = rw f there
 
-all_among : (m : MachineView) (harts lines : ℕ) (steps : List Step) → harts ≡ length m.harts → lines ≡ length m.shared.cache.lines
+pub all_among : (m : MachineView) (harts lines : ℕ) (steps : List Step) → harts ≡ length m.harts → lines ≡ length m.shared.cache.lines
     → All (IsThere m) steps → All (IsAmong harts lines) steps
 all_among m harts lines steps e f there k d inside = among m harts lines _ e f (there k d inside)
 

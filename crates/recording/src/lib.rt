@@ -4,8 +4,6 @@
 mod recorded;
 mod recorder;
 mod recording;
-#[cfg(test)]
-mod tests;
 
 pub use recorded::Recorded;
 pub use recording::record;

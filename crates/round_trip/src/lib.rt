@@ -15,9 +15,6 @@ ghost use Rattle.isa_table.specs.declared.instruction.Instr.{Instr};
 ghost use Rattle.std.specs.Int.{to_le_bytes, w32};
 ghost use Rattle.std.specs.Prelude.{◌≡◌, ℕ, ◌^◌, ◌<◌, [], None, Ok};
 
-#[cfg(test)]
-mod tests;
-
 /// The text of each instruction whose word can hold its operands is a line that says that
 /// instruction and defines no label: a law, with nothing to run.
 #[tactic(auto, using(crate::proofs::Shapes::reads_back))]

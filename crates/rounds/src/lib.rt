@@ -3,8 +3,6 @@
 
 mod fault;
 mod running;
-#[cfg(test)]
-mod tests;
 
 pub use fault::RoundFault;
 pub use running::run_rounds;

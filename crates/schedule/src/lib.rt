@@ -6,8 +6,6 @@ mod items;
 mod joining;
 mod limit;
 mod reader;
-#[cfg(test)]
-mod tests;
 mod words;
 mod writer;
 

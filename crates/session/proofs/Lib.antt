@@ -1,5 +1,10 @@
+pub mod Ahead
 pub mod Commands
 pub mod FirstWords
-pub mod Lines
 pub mod Numerals
+pub mod Outcomes
+pub mod Points
 pub mod Runs
+pub mod Taking
+pub mod Texts
+pub mod Underway

@@ -1,5 +1,10 @@
+pub mod Answers
+pub mod Doing
 pub mod Failing
 pub mod Grammar
 pub mod Numbers
+pub mod Reading
 pub mod Running
+pub mod Sessions
+pub mod Turns
 pub mod Words

@@ -1,6 +1,10 @@
 //! The text that answers a command.
 
-use crate::carrying::Answer;
+ghost use Rattle.std.specs.Prelude.{◌≡◌, ◌++◌, IfOk, OnOk, string_bytes, slice_get};
+ghost use Rattle.session.specs.Answers.{answer_text, bytes_text, code, fault_text, line_of, parted_byte, register_line, state_text, step_code, stop_text, text_of};
+ghost use Rattle.hart_line.specs.HartLines.{hart_line};
+
+use crate::carrying::{Answer, byte_at};
 use debugger::{Cause, DebugFault, Debugger, StepFault};
 use hart::HartState;
 use hart_line::HartLine;
@@ -13,7 +17,9 @@ pub(crate) fn answer_text(
     alloc: Global,
     debugger: &Debugger,
     answer: Answer,
-) -> Result<String, AllocError> {
+) -> Result<String, AllocError>
+    ensures { IfOk result (λ text. string_bytes text ≡ answer_text debugger.now.machine answer) }
+{
     match answer {
         Answer::Done => String::from_str(alloc, "ok\n"),
         Answer::Hart(hart) => hart_text(alloc, debugger, hart),
@@ -25,12 +31,16 @@ pub(crate) fn answer_text(
 }
 
 /// `fault CODE`.
-pub(crate) fn fault_text(alloc: Global, fault: DebugFault) -> Result<String, AllocError> {
+pub(crate) fn fault_text(alloc: Global, fault: DebugFault) -> Result<String, AllocError>
+    ensures { IfOk result (λ text. string_bytes text ≡ fault_text fault) }
+{
     format!(in alloc; "fault {}\n", code(fault))
 }
 
 /// The code by which a fault is known.
-fn code(fault: DebugFault) -> &'static str {
+fn code(fault: DebugFault) -> &'static str
+    ensures { result.now ≡ code fault }
+{
     match fault {
         DebugFault::Command => "D1",
         DebugFault::Address => "D2",
@@ -41,7 +51,9 @@ fn code(fault: DebugFault) -> &'static str {
     }
 }
 
-fn step_code(fault: StepFault) -> &'static str {
+fn step_code(fault: StepFault) -> &'static str
+    ensures { result.now ≡ step_code fault }
+{
     match fault {
         StepFault::NoSuchHart => "G1",
         StepFault::NoSuchLine => "G2",
@@ -51,17 +63,22 @@ fn step_code(fault: StepFault) -> &'static str {
     }
 }
 
-fn hart_text(alloc: Global, debugger: &Debugger, hart: u32) -> Result<String, AllocError> {
+fn hart_text(alloc: Global, debugger: &Debugger, hart: u32) -> Result<String, AllocError>
+    ensures { IfOk result (λ text. string_bytes text
+        ≡ text_of (λ state. line_of (hart_line hart state)) (slice_get debugger.now.machine.harts hart)) }
+{
     match debugger.regs(hart) {
         Ok(state) => {
             let state = *state;
             format!(in alloc; "{}\n", HartLine { hart, state })
         }
-        Err(fault) => fault_text(alloc, fault),
+        Err(_) => Ok(String::new(alloc)),
     }
 }
 
-fn stop_text(alloc: Global, cause: Cause) -> Result<String, AllocError> {
+fn stop_text(alloc: Global, cause: Cause) -> Result<String, AllocError>
+    ensures { IfOk result (λ text. string_bytes text ≡ stop_text cause) }
+{
     match cause {
         Cause::Break { hart, pc } => format!(in alloc; "break h{hart} pc=0x{pc:x}\n"),
         Cause::Watch { hart, line } => format!(in alloc; "watch h{hart} line=0x{line:x}\n"),
@@ -69,37 +86,60 @@ fn stop_text(alloc: Global, cause: Cause) -> Result<String, AllocError> {
     }
 }
 
-fn registers_text(alloc: Global, debugger: &Debugger, hart: u32) -> Result<String, AllocError> {
+fn registers_text(alloc: Global, debugger: &Debugger, hart: u32) -> Result<String, AllocError>
+    ensures { IfOk result (λ text. string_bytes text ≡ text_of state_text (slice_get debugger.now.machine.harts hart)) }
+{
     match debugger.regs(hart) {
         Ok(state) => state_text(alloc, state),
-        Err(fault) => fault_text(alloc, fault),
+        Err(_) => Ok(String::new(alloc)),
     }
 }
 
 /// `pc=0xH`, and a line `xN=0xH` for each register.
-fn state_text(alloc: Global, state: &HartState) -> Result<String, AllocError> {
-    let mut text = String::new(alloc);
-    writeln!(text, "pc=0x{:x}", state.pc)?;
+#[tactic(auto, using(crate::proofs::Texts::registers_more))]
+fn state_text(alloc: Global, state: &HartState) -> Result<String, AllocError>
+    ensures { IfOk result (λ text. string_bytes text ≡ state_text state.now) }
+{
+    let mut text = format!(in alloc; "pc=0x{:x}\n", state.pc)?;
     for number in 0..32 {
-        let value = state.registers.get(Reg { number });
-        writeln!(text, "x{number}=0x{value:x}")?;
+        push_register(&mut text, number, state.registers.get(Reg { number }))?;
     }
     Ok(text)
 }
 
+fn push_register(text: &mut String, number: u8, value: u64) -> Result<(), AllocError>
+    ensures { OnOk result (string_bytes text.new ≡ string_bytes text.old ++ register_line number value) }
+{
+    write!(text, "x{number}=0x{value:x}\n")
+}
+
 /// Bytes as two hexadecimal digits each, with one space between them.
+#[tactic(auto, using(crate::proofs::Texts::bytes_more))]
 fn bytes_text(
     alloc: Global,
     debugger: &Debugger,
     address: u64,
     count: u64,
-) -> Result<String, AllocError> {
+) -> Result<String, AllocError>
+    ensures { IfOk result (λ text. string_bytes text ≡ bytes_text debugger.now.machine address count) }
+{
     let mut text = String::new(alloc);
     for place in 0..count {
-        let byte = debugger.peek(address.wrapping_add(place)).unwrap_or(0);
-        let parting = if place == 0 { "" } else { " " };
-        write!(text, "{parting}{byte:02x}")?;
+        push_byte(&mut text, place, byte_at(debugger, address, place))?;
     }
-    writeln!(text, "")?;
+    text.push('\n')?;
     Ok(text)
+}
+
+/// Adds a byte that is there, after a space where it isn't the first.
+fn push_byte(text: &mut String, place: u64, byte: Option<u8>) -> Result<(), AllocError>
+    ensures { OnOk result (string_bytes text.new ≡ string_bytes text.old ++ parted_byte place byte) }
+{
+    if place > 0 {
+        text.push(' ')?;
+    }
+    match byte {
+        Some(byte) => write!(text, "{:x}{:x}", byte / 16, byte % 16),
+        None => Ok(()),
+    }
 }

@@ -1,5 +1,7 @@
 //! Carrying out a command.
 
+ghost use Rattle.std.specs.Prelude.{◌≡◌, ◌+◌};
+ghost use Rattle.session.specs.Doing.{Breaks, Clears, Does, Goes, GoesOnBy, MakesStep, ShowsBytes, ShowsHart, Watches, byte_at};
 ghost use Rattle.session.specs.Running.{SomeRun};
 
 use crate::command::Command;
@@ -28,12 +30,15 @@ pub(crate) enum Answer {
 }
 
 /// Carries out a command.
+#[tactic(auto, using(crate::proofs::Runs::command_run))]
 pub(crate) fn carry_out(
     debugger: &mut Debugger,
     last: &mut Option<Progress>,
     command: Command,
 ) -> Result<Answer, DebugFault>
-    ensures { SomeRun debugger.old.machine debugger.new.machine }
+    ensures runs { SomeRun debugger.old.machine debugger.new.machine }
+    ensures does { Does (record { debugger = debugger.old; last = last.old })
+        (record { debugger = debugger.new; last = last.new }) command result }
 {
     match command {
         Command::Break(address) => break_at(debugger, address),
@@ -52,9 +57,9 @@ pub(crate) fn carry_out(
     }
 }
 
-#[tactic(auto, using(crate::proofs::Runs::no_run))]
+#[tactic(auto, using(crate::proofs::Points::break_set, crate::proofs::Points::break_refused))]
 fn break_at(debugger: &mut Debugger, address: u64) -> Result<Answer, DebugFault>
-    ensures { SomeRun debugger.old.machine debugger.new.machine }
+    ensures { Breaks debugger.old debugger.new address result }
 {
     match debugger.break_at(address) {
         Ok(()) => Ok(Answer::Done),
@@ -62,9 +67,9 @@ fn break_at(debugger: &mut Debugger, address: u64) -> Result<Answer, DebugFault>
     }
 }
 
-#[tactic(auto, using(crate::proofs::Runs::no_run))]
+#[tactic(auto, using(crate::proofs::Points::watch_set, crate::proofs::Points::watch_refused))]
 fn watch_line(debugger: &mut Debugger, address: u64) -> Result<Answer, DebugFault>
-    ensures { SomeRun debugger.old.machine debugger.new.machine }
+    ensures { Watches debugger.old debugger.new address result }
 {
     match debugger.watch_line(address) {
         Ok(()) => Ok(Answer::Done),
@@ -72,9 +77,9 @@ fn watch_line(debugger: &mut Debugger, address: u64) -> Result<Answer, DebugFaul
     }
 }
 
-#[tactic(auto, using(crate::proofs::Runs::no_run))]
+#[tactic(auto, using(crate::proofs::Points::points_cleared, crate::proofs::Points::clear_refused))]
 fn clear(debugger: &mut Debugger, address: u64) -> Result<Answer, DebugFault>
-    ensures { SomeRun debugger.old.machine debugger.new.machine }
+    ensures { Clears debugger.old debugger.new address result }
 {
     match debugger.clear(address) {
         Ok(()) => Ok(Answer::Done),
@@ -82,9 +87,8 @@ fn clear(debugger: &mut Debugger, address: u64) -> Result<Answer, DebugFault>
     }
 }
 
-#[tactic(auto, using(crate::proofs::Runs::no_run, crate::proofs::Runs::one_run))]
 fn step(debugger: &mut Debugger, hart: u32) -> Result<Answer, DebugFault>
-    ensures { SomeRun debugger.old.machine debugger.new.machine }
+    ensures { MakesStep debugger.old debugger.new hart result }
 {
     match debugger.step(hart) {
         Ok(_) => Ok(Answer::Hart(hart)),
@@ -92,7 +96,9 @@ fn step(debugger: &mut Debugger, hart: u32) -> Result<Answer, DebugFault>
     }
 }
 
-fn registers(debugger: &Debugger, hart: u32) -> Result<Answer, DebugFault> {
+fn registers(debugger: &Debugger, hart: u32) -> Result<Answer, DebugFault>
+    ensures { ShowsHart debugger.now.machine hart result }
+{
     match debugger.regs(hart) {
         Ok(_) => Ok(Answer::Registers(hart)),
         Err(fault) => Err(fault),
@@ -100,9 +106,9 @@ fn registers(debugger: &Debugger, hart: u32) -> Result<Answer, DebugFault> {
 }
 
 /// Goes on by the last schedule, which keeps the place that is reached: a step that was refused is the next one.
-#[tactic(auto, using(crate::proofs::Runs::no_run))]
 fn go_on(debugger: &mut Debugger, last: &mut Option<Progress>) -> Result<Answer, DebugFault>
-    ensures { SomeRun debugger.old.machine debugger.new.machine }
+    ensures { GoesOnBy (record { debugger = debugger.old; last = last.old })
+        (record { debugger = debugger.new; last = last.new }) last.old result }
 {
     match last {
         Some(progress) => go_from(debugger, progress),
@@ -110,9 +116,9 @@ fn go_on(debugger: &mut Debugger, last: &mut Option<Progress>) -> Result<Answer,
     }
 }
 
-#[tactic(auto, using(crate::proofs::Runs::gone_run, crate::proofs::Runs::stopped_run))]
 fn go_from(debugger: &mut Debugger, progress: &mut Progress) -> Result<Answer, DebugFault>
-    ensures { SomeRun debugger.old.machine debugger.new.machine }
+    ensures progress { progress.new ≡ record progress.old { place = progress.new.place } }
+    ensures goes { Goes debugger.old debugger.new progress.old.schedule progress.old.place progress.new.place result }
 {
     match debugger.go(&progress.schedule, progress.place) {
         Ok(stop) => {
@@ -129,14 +135,23 @@ fn go_from(debugger: &mut Debugger, progress: &mut Progress) -> Result<Answer, D
 }
 
 /// The bytes from an address on, all of which must lie in regions.
-fn peek(debugger: &Debugger, address: u64, count: u64) -> Result<Answer, DebugFault> {
+fn peek(debugger: &Debugger, address: u64, count: u64) -> Result<Answer, DebugFault>
+    ensures { ShowsBytes debugger.now.machine address count result }
+{
     for place in 0..count {
-        let Some(at) = address.checked_add(place) else {
-            return Err(DebugFault::Address);
-        };
-        if debugger.peek(at).is_none() {
+        if byte_at(debugger, address, place).is_none() {
             return Err(DebugFault::Address);
         }
     }
     Ok(Answer::Bytes { address, count })
+}
+
+/// The byte at this place behind an address.
+pub(crate) fn byte_at(debugger: &Debugger, address: u64, place: u64) -> Option<u8>
+    ensures { result ≡ byte_at debugger.now.machine (address + place) }
+{
+    match address.checked_add(place) {
+        Some(at) => debugger.peek(at),
+        None => None,
+    }
 }

@@ -1,6 +1,6 @@
 //! The command that a line says.
 
-ghost use Rattle.std.specs.Prelude.{◌≡◌, ◌≤◌, [], ℕ, IfErr, IfOk, MatchOption, codes};
+ghost use Rattle.std.specs.Prelude.{◌≡◌, ◌≢◌, ◌≤◌, [], ℕ, IfErr, IfOk, MatchOption, OnErr, codes};
 ghost use Rattle.session.specs.Grammar.{IsOneAddress, IsOneHart, IsRange, OnAddress, OnAsked, OnHart, Says, SaysNamed, meant};
 ghost use Rattle.session.specs.Numbers.{Writes};
 ghost use Rattle.session.specs.Words.{words};
@@ -49,6 +49,7 @@ pub(crate) enum Command {
 pub(crate) fn read_command(alloc: Global, line: &[u8]) -> Result<Option<Command>, DebugFault>
     ensures ok { IfOk result (λ found. MatchOption found (words line.now ≡ []) (λ command. Says line.now (meant command))) }
     ensures err { IfErr result (OnAsked (Says line.now)) }
+    ensures filled { OnErr result (words line.now ≢ []) }
 {
     let Some((name, rest)) = first_word(line) else {
         return Ok(None);

@@ -6,9 +6,8 @@ mod carrying;
 mod command;
 mod input;
 mod numbers;
+mod reading;
 mod running;
-#[cfg(test)]
-mod tests;
 mod words;
 
 pub use input::{Failed, Sink, Source};

@@ -1,8 +1,12 @@
 //! A whole run of commands.
 
-ghost use Rattle.std.specs.Prelude.{◌≡◌, IfErr, OnOk};
+ghost use Rattle.std.specs.Prelude.{◌≡◌, ℕ, List, true, IfErr, IfOk, MatchResult, OnErr, OnOk, string_bytes};
+ghost use Rattle.std.specs.Io.KnownBytes.{Appends};
 ghost use Rattle.session.specs.Failing.{EndsBy, FailsBy};
+ghost use Rattle.session.specs.Reading.{IsHeld};
 ghost use Rattle.session.specs.Running.{SomeRun};
+ghost use Rattle.session.specs.Sessions.{Fails, Session};
+ghost use Rattle.session.specs.Turns.{ComesOut, IsAnswered, LineOutcome};
 
 use crate::answering::{answer_text, fault_text};
 use crate::carrying::{Answer, Progress, carry_out};
@@ -19,6 +23,7 @@ use std::alloc::{AllocError, Global};
 /// # Errors
 /// Memory where a growth is refused, InputOutput where a read or a write failed; nothing is written of them. The machine
 /// stands as after the last command that was carried out.
+#[tactic(auto, using(crate::proofs::Runs::no_run, crate::proofs::Runs::run_joined, crate::proofs::Underway::begun, crate::proofs::Underway::answered_more))]
 pub fn session<S: Source, K: Sink>(
     alloc: Global,
     debugger: &mut Debugger,
@@ -26,6 +31,10 @@ pub fn session<S: Source, K: Sink>(
     sink: &mut K,
 ) -> Result<(), DebugFault>
     ensures runs { SomeRun debugger.old.machine debugger.new.machine }
+    ensures session { OnOk result (Session debugger.old debugger.new (S.remaining_of source.old) (S.remaining_of source.new)
+        (K.contents_of sink.old) (K.contents_of sink.new)) }
+    ensures fails { IfErr result (Fails debugger.old debugger.new (S.remaining_of source.old) (S.remaining_of source.new)
+        (K.contents_of sink.old) (K.contents_of sink.new) (K.failures_of sink.old) (K.failures_of sink.new)) }
     ensures source { OnOk result (S.failures_of source.new ≡ S.failures_of source.old) }
     ensures sink { OnOk result (K.failures_of sink.new ≡ K.failures_of sink.old) }
     ensures err { IfErr result (EndsBy (S.failures_of source.old) (S.failures_of source.new)
@@ -36,13 +45,15 @@ pub fn session<S: Source, K: Sink>(
     let mut last = None;
     'lines: loop {
         let read = match input.read_line(source, &mut line) {
-            Ok(Some(read)) => read,
-            Ok(None) => return Ok(()),
+            Ok(read) => read,
             Err(fault) => return Err(fault),
         };
-        match answer_line(alloc, debugger, &mut last, read, &line, sink) {
-            Ok(true) => {}
-            Ok(false) => return Ok(()),
+        match answer_line(alloc, debugger, &mut last, read.line, &line, sink) {
+            Ok(goes_on) => {
+                if !goes_on || read.is_last {
+                    return Ok(());
+                }
+            }
             Err(fault) => return Err(fault),
         }
     }
@@ -58,6 +69,13 @@ fn answer_line<K: Sink>(
     sink: &mut K,
 ) -> Result<bool, DebugFault>
     ensures runs { SomeRun debugger.old.machine debugger.new.machine }
+    ensures answered { IfOk result (λ goes_on. (whole : List ℕ) → IsHeld read line.now whole
+        → IsAnswered (record { debugger = debugger.old; last = last.old }) (record { debugger = debugger.new; last = last.new })
+        whole goes_on (K.contents_of sink.old) (K.contents_of sink.new)) }
+    ensures unanswered { OnErr result ((whole : List ℕ) → IsHeld read line.now whole → (outcome : LineOutcome)
+        × ComesOut (record { debugger = debugger.old; last = last.old }) (record { debugger = debugger.new; last = last.new })
+        whole outcome) }
+    ensures unwritten { IfErr result (λ fault. fault ≡ DebugFault.Memory → K.contents_of sink.new ≡ K.contents_of sink.old) }
     ensures ok { OnOk result (K.failures_of sink.new ≡ K.failures_of sink.old) }
     ensures err { IfErr result (FailsBy (K.failures_of sink.old) (K.failures_of sink.new)) }
 {
@@ -78,23 +96,30 @@ fn carried(
     read: Line,
     line: &[u8],
 ) -> Result<Option<Answer>, DebugFault>
-    ensures { SomeRun debugger.old.machine debugger.new.machine }
+    ensures runs { SomeRun debugger.old.machine debugger.new.machine }
+    ensures comes_out { (whole : List ℕ) → IsHeld read line.now whole
+        → ComesOut (record { debugger = debugger.old; last = last.old }) (record { debugger = debugger.new; last = last.new })
+        whole result }
 {
-    if read == Line::TooLong {
-        return Err(DebugFault::Command);
-    }
-    match read_command(alloc, line) {
-        Ok(None) => Ok(None),
-        Ok(Some(command)) => match carry_out(debugger, last, command) {
-            Ok(answer) => Ok(Some(answer)),
+    match read {
+        Line::TooLong => Err(DebugFault::Command),
+        Line::Read => match read_command(alloc, line) {
+            Ok(None) => Ok(None),
+            Ok(Some(command)) => match carry_out(debugger, last, command) {
+                Ok(answer) => Ok(Some(answer)),
+                Err(fault) => Err(fault),
+            },
             Err(fault) => Err(fault),
         },
-        Err(fault) => Err(fault),
     }
 }
 
-/// Writes an answer.
+/// Writes an answer, after which the session goes on.
 fn say<K: Sink>(text: Result<String, AllocError>, sink: &mut K) -> Result<bool, DebugFault>
+    ensures goes_on { IfOk result (λ goes_on. goes_on ≡ true) }
+    ensures written { OnOk result (MatchResult text
+        (λ said. Appends (K.contents_of sink.old) (K.contents_of sink.new) (string_bytes said)) (λ _. ⊥)) }
+    ensures unwritten { IfErr result (λ fault. fault ≡ DebugFault.Memory → K.contents_of sink.new ≡ K.contents_of sink.old) }
     ensures ok { OnOk result (K.failures_of sink.new ≡ K.failures_of sink.old) }
     ensures err { IfErr result (FailsBy (K.failures_of sink.old) (K.failures_of sink.new)) }
 {

@@ -10,6 +10,3 @@ mod shared;
 pub use fault::StepFault;
 pub use history::Entry;
 pub use shared::Shared;
-
-#[cfg(test)]
-mod tests;

@@ -4,8 +4,6 @@
 
 mod event;
 mod history;
-#[cfg(test)]
-mod tests;
 mod trace;
 
 pub use event::Event;

@@ -5,6 +5,7 @@ use Rattle.recording.specs.Recorded.{IsRefused as StopsMachine, StopsRecording}
 use Rattle.machine.specs.declared.fault.RunStop.{RunStop}
 use Rattle.schedule.specs.declared.items.Item.{Item}
 use Rattle.shared_memory.specs.declared.fault.StepFault.TheVariants.{NoSuchHart, OutOfLimits}
+use Rattle.tester.proofs.Making.{are_there}
 use Rattle.tester.specs.Runs.{FailsToRun, IsWithin, RefusesStep, Setup, start_of}
 
 -- a number is outside two limits, or within them
@@ -22,8 +23,14 @@ refuses_step s schedule stop within stops =
       machine = stops.new;
       item = stop.item;
       steps = stop.steps;
-      within = within;
-      has_made = record { end = made.0; run = made.1; stands = made.2; lines = stops.stops.runs.lines ∙ stops.lines };
+      has_made = record {
+        within = within;
+        there = are_there s stops.old _ stops.stands stops.lines stops.stops.runs.there;
+        end = made.0;
+        run = made.1;
+        stands = made.2;
+        lines = stops.stops.runs.lines ∙ stops.lines;
+      };
       refused = stops.stops.refused;
     }
 

@@ -18,7 +18,13 @@ pub takes_turns : (s : Setup) (rounds : ℕ) (schedule : List Item) (old new : M
     → MakesTurns old new (turns_in rounds (length old.harts)) (all_steps schedule) → HasRunInRounds s rounds schedule new
 takes_turns s rounds schedule old new at makes =
     let made = (rw (harts_of s old at) at makes).stands (start_of s) at.stands in
-    record { end = made.0; turns = made.1; stands = made.2 }
+    record {
+      within = at.within;
+      end = made.0;
+      turns = made.1;
+      stands = made.2;
+      capacity = makes.runs.capacity ∙ at.capacity;
+    }
 
 pub refuses_turn : (s : Setup) (rounds : ℕ) (old new : MachineView) → IsAtStart s old
     → StopsInTurns old new (turns_in rounds (length old.harts)) TraceFull → RefusesTurn s rounds refused.TraceFull

@@ -1,21 +1,27 @@
 -- The verdict on the run of a program by a schedule.
-use Rattle.std.specs.Prelude.{◌≢◌, ℕ, ◌≤◌, List, length, take}
+use Rattle.std.specs.Prelude.{◌≡◌, ◌≢◌, ℕ, ◌≤◌, ◌++◌, List, Ok, length, take}
 use Rattle.crash_model.specs.Cut.{IsCut}
+use Rattle.image_check.specs.Legal.{IsLegal}
 use Rattle.image_check.specs.OrderFaults.{AreSound, IsFirstFault}
 use Rattle.image_check.specs.Verdicts.{IsVerdict, Passes}
 use Rattle.image_check.specs.declared.fault.OpFault.{OpFault}
 use Rattle.image_check.specs.declared.verdict.Verdict.{Verdict}
+use Rattle.machine.specs.Evicting.{hart_steps}
 use Rattle.machine.specs.Run.{Config, RunsTo}
+use Rattle.machine.specs.Stands.{MachineView, Stands}
+use Rattle.nova_log.specs.Volumes.{volume_of}
 use Rattle.plan.specs.declared.operation.Operation.{Operation}
 use Rattle.schedule.specs.Steps.{all_steps}
 use Rattle.schedule.specs.declared.items.Item.{Item}
+use Rattle.schedule.specs.declared.items.Step.{Step}
 use Rattle.shared_memory.specs.declared.fault.StepFault.{StepFault}
 use Rattle.shared_memory.specs.declared.fault.StepFault.TheVariants as refused
 use Rattle.store_trace.specs.History.{at_moment}
 use Rattle.store_trace.specs.declared.event.Event.{Event}
 use Rattle.tester.specs.Runs.{HasTrace, IsRefused, Setup, start_of}
 use Rattle.tester.specs.declared.checking.VerdictFault.{VerdictFault}
-use Rattle.tester.specs.declared.checking.VerdictFault.TheVariants.{Step, Operation as WrongMark, Memory}
+use Rattle.tester.specs.declared.checking.VerdictFault.TheVariants.{Step as StepRefused, Operation as WrongMark, Memory}
+use Rattle.volume.specs.declared.entry.Entry.{Entry}
 
 -- the verdict on all moments of the run, whose marks are right, over the medium at its start
 pub record HasVerdict (plan : List Operation) (s : Setup) (schedule : List Item) (verdict : Verdict) : Type 0 where
@@ -30,6 +36,19 @@ AlwaysPasses plan s schedule = (end : Config) (moment : ℕ) (cut : List (ℕ ×
     → moment ≤ length end.common.trace → IsCut (at_moment end.common.trace moment) cut
     → Passes plan s.medium (take moment end.common.trace) cut
 
+-- a medium recovers to a volume that is legal after these events
+pub record Recovers (plan : List Operation) (start : List (List ℕ)) (events : List Event) (left : List (List ℕ)) : Type 0 where
+  pub volume : List (List Entry)
+  pub recovers : volume_of left ≡ Ok volume
+  pub legal : IsLegal plan (volume_of start) events volume
+
+-- Whatever machine, with a cache of whatever size, has made the first hart steps of the run, with evictions wherever they came:
+-- what a power cut leaves of it recovers to a legal volume.
+abbrev pub SurvivesPowerCuts : List Operation → Setup → List Item → Type 0
+SurvivesPowerCuts plan s schedule = (machine : MachineView) (end : Config) (steps rest : List Step)
+    → RunsTo (start_of s) steps end → hart_steps (all_steps schedule) ≡ hart_steps steps ++ hart_steps rest → Stands machine end
+    → Recovers plan s.medium end.common.trace machine.shared.cache.lines
+
 -- the fault is that of the run's first wrong mark
 pub record HasWrongMark (plan : List Operation) (s : Setup) (schedule : List Item) (fault : OpFault) : Type 0 where
   pub trace : List Event
@@ -38,14 +57,14 @@ pub record HasWrongMark (plan : List Operation) (s : Setup) (schedule : List Ite
 
 -- the fault of a run on which there was to be a verdict
 abbrev pub verdict_fault : StepFault → VerdictFault
-verdict_fault refused.NoSuchHart = Step refused.NoSuchHart
-verdict_fault refused.NoSuchLine = Step refused.NoSuchLine
-verdict_fault refused.TraceFull = Step refused.TraceFull
+verdict_fault refused.NoSuchHart = StepRefused refused.NoSuchHart
+verdict_fault refused.NoSuchLine = StepRefused refused.NoSuchLine
+verdict_fault refused.TraceFull = StepRefused refused.TraceFull
 verdict_fault refused.Memory = Memory
-verdict_fault refused.OutOfLimits = Step refused.OutOfLimits
+verdict_fault refused.OutOfLimits = StepRefused refused.OutOfLimits
 
 -- what a fault says of the run and of its marks
 abbrev pub HasNoVerdict : List Operation → Setup → List Item → VerdictFault → Type 0
-HasNoVerdict plan s schedule (Step fault) = (fault ≢ refused.Memory) × IsRefused s schedule fault
+HasNoVerdict plan s schedule (StepRefused fault) = (fault ≢ refused.Memory) × IsRefused s schedule fault
 HasNoVerdict plan s schedule (WrongMark fault) = HasWrongMark plan s schedule fault
 HasNoVerdict plan s schedule Memory = Unit {0}

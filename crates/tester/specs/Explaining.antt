@@ -13,7 +13,7 @@ use Rattle.shared_memory.specs.declared.fault.StepFault.{StepFault}
 use Rattle.shared_memory.specs.declared.fault.StepFault.TheVariants as refused
 use Rattle.store_trace.specs.History.{at_moment}
 use Rattle.store_trace.specs.declared.event.Event.{Event}
-use Rattle.tester.specs.Runs.{HasTrace, IsRefused, Setup, start_of}
+use Rattle.tester.specs.Runs.{HasTrace, IsRefused, IsWithin, Setup, start_of}
 use Rattle.tester.specs.declared.explaining.ExplainFault.{ExplainFault}
 use Rattle.tester.specs.declared.explaining.ExplainFault.TheVariants.{Step, NoSuchMoment, NoSuchImage, Memory}
 
@@ -37,7 +37,9 @@ LacksImage trace moment number Memory = Unit {0}
 
 -- the run by a schedule, recorded
 pub record IsRecorded (s : Setup) (schedule : List Item) (recorded : RecordedView) : Type 0 where
+  pub within : IsWithin s
   pub records : Records (start_of s) recorded
+  pub start : recorded.start ≡ s.medium
   pub items : recorded.items ≡ schedule
 
 -- Where a run from the start has come to `end`, and the cache had room for every line that was loaded or stored, a power

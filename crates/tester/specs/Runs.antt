@@ -1,10 +1,11 @@
 -- Runs of a program by a schedule, over a medium that is given.
-use Rattle.std.specs.Prelude.{◌≡◌, ◌⊎◌, ℕ, ◌<◌, ◌≤◌, List, ◌∷◌, ◌++◌, length, slice_get}
+use Rattle.std.specs.Prelude.{◌≡◌, ◌⊎◌, ℕ, ◌<◌, ◌≤◌, List, ◌∷◌, ◌++◌, All, length, slice_get}
 use Rattle.machine.specs.Refusals.{Refuses, RefusesNext}
 use Rattle.machine.specs.Run.{Config, RunsTo, started}
 use Rattle.machine.specs.Stands.{MachineView, Stands}
 use Rattle.machine.specs.Stops.{steps_before, steps_of_item}
 use Rattle.object.specs.Sections.{Sections}
+use Rattle.recording.specs.Recorded.{IsAmong}
 use Rattle.rounds.specs.Rounds.{TakesTurns, turns_in}
 use Rattle.schedule.specs.Steps.{all_steps}
 use Rattle.schedule.specs.declared.items.Item.{Item}
@@ -58,8 +59,14 @@ pub record IsAtStart (s : Setup) (machine : MachineView) : Type 0 where
 abbrev pub FailsToStart : Setup → StepFault → Type 0
 FailsToStart s fault = (fault ≡ Memory) ⊎ IsOutside s fault
 
--- a machine that stands for what these steps make of the start
+-- the hart, or the line, of each step is there
+abbrev pub AreThere : Setup → List Step → Type 0
+AreThere s steps = All (IsAmong s.harts (length s.medium)) steps
+
+-- a machine that stands for what these steps, each of which is there, make of the start
 pub record HasMade (s : Setup) (steps : List Step) (machine : MachineView) : Type 0 where
+  pub within : IsWithin s
+  pub there : AreThere s steps
   pub end : Config
   pub run : RunsTo (start_of s) steps end
   pub stands : Stands machine end
@@ -70,8 +77,10 @@ pub record HasRun (s : Setup) (schedule : List Item) (machine : MachineView) : T
   pub has_made : HasMade s (all_steps schedule) machine
   pub capacity : machine.shared.cache.cache.capacity ≡ s.capacity
 
--- the events of the run by a schedule
+-- the events of the run by a schedule, each step of which is there
 pub record HasTrace (s : Setup) (schedule : List Item) (trace : List Event) : Type 0 where
+  pub within : IsWithin s
+  pub there : AreThere s (all_steps schedule)
   pub end : Config
   pub run : RunsTo (start_of s) (all_steps schedule) end
   pub trace_is : trace ≡ end.common.trace
@@ -81,7 +90,6 @@ pub record RefusesStep (s : Setup) (schedule : List Item) (fault : StepFault) : 
   pub machine : MachineView
   pub item : ℕ
   pub steps : ℕ
-  pub within : IsWithin s
   pub has_made : HasMade s (steps_before schedule item steps) machine
   pub refused : RefusesNext machine (slice_get (steps_of_item (slice_get schedule item)) steps) fault
 
@@ -95,9 +103,11 @@ FailsToRun s schedule fault = (fault ≡ Memory) ⊎ IsRefused s schedule fault
 
 -- a machine that has run in rounds, and the schedule of the steps that it made
 pub record HasRunInRounds (s : Setup) (rounds : ℕ) (schedule : List Item) (machine : MachineView) : Type 0 where
+  pub within : IsWithin s
   pub end : Config
   pub turns : TakesTurns (start_of s) (turns_in rounds s.harts) (all_steps schedule) end
   pub stands : Stands machine end
+  pub capacity : machine.shared.cache.cache.capacity ≡ s.capacity
 
 -- a machine that has taken the turns before one of the rounds' refuses the step of that turn, for this reason
 pub record RefusesTurn (s : Setup) (rounds : ℕ) (fault : StepFault) : Type 0 where

@@ -1,7 +1,7 @@
 //! The verdict on a run of a program.
 
 ghost use Rattle.std.specs.Prelude.{◌≡◌, ℕ, IfErr, IfOk, Ok};
-ghost use Rattle.tester.specs.Checking.{AlwaysPasses, HasNoVerdict, HasVerdict};
+ghost use Rattle.tester.specs.Checking.{AlwaysPasses, HasNoVerdict, HasVerdict, SurvivesPowerCuts};
 ghost use Rattle.tester.specs.Runs.{with_room};
 
 use crate::runs::trace_of;
@@ -53,9 +53,12 @@ pub fn check_program(
 ) -> Result<Verdict, VerdictFault>
     ensures ok { IfOk result (HasVerdict plan.now.operations (with_room program medium harts) schedule.now) }
 
-    // Pass: whatever a power cut leaves at whatever moment of the run recovers to a legal volume.
+    // Pass: every image of every moment of the run recovers to a legal volume; and so does what a power cut leaves of any
+    // machine, with a cache of any size, that has made the first hart steps of the run with evictions anywhere.
     ensures pass { (moments images : ℕ) → result ≡ Ok (Verdict.Pass moments images) →
         AlwaysPasses plan.now.operations (with_room program medium harts) schedule.now }
+    ensures survives { (moments images : ℕ) → result ≡ Ok (Verdict.Pass moments images) →
+        SurvivesPowerCuts plan.now.operations (with_room program medium harts) schedule.now }
     ensures err { IfErr result (HasNoVerdict plan.now.operations (with_room program medium harts) schedule.now) }
 {
     let trace = trace_of(alloc, program, &medium, harts, schedule)?;

@@ -33,7 +33,7 @@ pub fn run_program(
     ensures few { IfOk result (λ made. hart_steps made.1 ≤ 8 * steps) }
     ensures err { IfErr result (FailsInRounds (setup program medium harts capacity) steps) }
 {
-    let mut machine = start(alloc, program, medium, harts, capacity)?;
+    let mut machine = start_program(alloc, program, medium, harts, capacity)?;
     match run_rounds(alloc, &mut machine, steps) {
         Ok(schedule) => Ok((machine, schedule)),
         Err(RoundFault::TraceFull) => Err(StepFault::TraceFull),
@@ -58,16 +58,21 @@ pub fn replay(
     ensures ok { IfOk result (HasRun (setup program medium harts capacity) schedule.now) }
     ensures err { IfErr result (FailsToRun (setup program medium harts capacity) schedule.now) }
 {
-    let mut machine = start(alloc, program, medium, harts, capacity)?;
+    let mut machine = start_program(alloc, program, medium, harts, capacity)?;
     if let Err(stop) = machine.run(schedule) {
         return Err(stop.fault);
     }
     Ok(machine)
 }
 
-/// A machine that has made no step.
+/// A machine of one to eight harts that has made no step of a program, over the medium behind an empty cache of 1 to
+/// 16,384 lines.
+///
+/// # Errors
+/// NoSuchHart where `harts` isn't from 1 to 8, and else OutOfLimits where `capacity` is outside its limits. Memory where a
+/// growth is refused.
 #[tactic(auto, using(crate::proofs::Making::is_within))]
-fn start(
+pub fn start_program(
     alloc: Global,
     program: Program,
     medium: Medium,

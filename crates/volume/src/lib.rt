@@ -11,6 +11,4 @@ pub use volume::Volume;
 mod entry;
 mod log;
 mod name;
-#[cfg(test)]
-mod tests;
 mod volume;

@@ -2,22 +2,25 @@
 use Rattle.command_line.proofs.commands.carry_out.Goals as goal
 
 pub returns-in-Assemble : goal.returns-in-Assemble
-returns-in-Assemble g c = rw c.in-Assemble.is c.assemble_file.ensures
+returns-in-Assemble g c = rw c.in-Assemble.is (record { found = c.assemble_file.result; finding = c.assemble_file.ensures; leads = c.printed.ensures })
 
 pub returns-in-MakeVolume : goal.returns-in-MakeVolume
-returns-in-MakeVolume g c = rw c.in-MakeVolume.is c.make_file.ensures
+returns-in-MakeVolume g c = rw c.in-MakeVolume.is (record { found = c.make_file.result; finding = c.make_file.ensures; leads = c.printed-in-MakeVolume.ensures })
 
 pub returns-in-Run : goal.returns-in-Run
-returns-in-Run g c = rw c.in-Run.is c.run_file.ensures
+returns-in-Run g c = rw c.in-Run.is (record { found = c.run_file.result; finding = c.run_file.ensures; leads = c.printed-in-Run.ensures })
 
 pub returns-in-Replay : goal.returns-in-Replay
-returns-in-Replay g c = rw c.in-Replay.is c.replay_file.ensures
+returns-in-Replay g c = rw c.in-Replay.is (record { found = c.replay_file.result; finding = c.replay_file.ensures; leads = c.printed-in-Replay.ensures })
+
+pub returns-in-Debug : goal.returns-in-Debug
+returns-in-Debug g c = rw c.in-Debug.is (record { found = c.open_file.result; finding = c.open_file.ensures; leads = c.debugged.ensures })
 
 pub returns-in-Images : goal.returns-in-Images
-returns-in-Images g c = rw c.in-Images.is c.count_file.ensures
+returns-in-Images g c = rw c.in-Images.is (record { found = c.count_file.result; finding = c.count_file.ensures; leads = c.printed-in-Images.ensures })
 
 pub returns-in-Explain : goal.returns-in-Explain
-returns-in-Explain g c = rw c.in-Explain.is c.explain_file.ensures
+returns-in-Explain g c = rw c.in-Explain.is (record { found = c.explain_file.result; finding = c.explain_file.ensures; leads = c.printed-in-Explain.ensures })
 
 pub returns-in-Check : goal.returns-in-Check
-returns-in-Check g c = rw c.in-Check.is c.check_file.ensures
+returns-in-Check g c = rw c.in-Check.is (record { found = c.check_file.result; finding = c.check_file.ensures; leads = c.printed-in-Check.ensures })

@@ -1,10 +1,13 @@
 use Rattle.std.proofs.Common.{◌≡◌}
 use Rattle.session.specs.Running.{SomeRun}
+use Rattle.session.proofs.Underway.{IsUnderway}
 use Rattle.session.proofs.running.session.Given as goal
 
 abbrev pub invariant-lines : goal.invariant-lines
 invariant-lines g l = record {
   runs : SomeRun l.fn.debugger.machine l.debugger.machine;
+  underway : IsUnderway l.fn.debugger (record { debugger = l.debugger; last = l.last }) l.initial.input l.input
+      (g.S.Source.remaining_of l.fn.source) (g.S.Source.remaining_of l.source) (g.K.Sink.contents_of l.fn.sink) (g.K.Sink.contents_of l.sink);
   source : g.S.Source.failures_of l.source ≡ g.S.Source.failures_of l.fn.source;
   sink : g.K.Sink.failures_of l.sink ≡ g.K.Sink.failures_of l.fn.sink;
 }

@@ -1,6 +1,24 @@
-use Rattle.session.proofs.Lines.{still_less}
+use Rattle.std.proofs.Common.{◌≡◌}
+use Rattle.session.proofs.Taking.{line_done, line_last, part_broken, part_left}
 use Rattle.session.proofs.input.Input.read_line.Goals as goal
 
-pub returns-in-Ok-None-clause-shorter : goal.returns-in-Ok-None-clause-shorter
-returns-in-Ok-None-clause-shorter g c =
-    still_less c.bytes.read c.bytes.self.left c.args.self.now.left c.next_byte.new.self.left c.bytes.invariant.less c.next_byte.ensures.most
+pub returns-in-Ok-Some-eq10-clause-line : goal.returns-in-Ok-Some-eq10-clause-line
+returns-in-Ok-Some-eq10-clause-line g c =
+    let arm = c.in-Ok-Some-eq10 in
+    let is : arm.field-0-0 ≡ 10 = cc in
+    let taken = rw arm.field-0-is at arm.ensures.byte in
+    line_done _ _ _ _ _ _ _ _ c.bytes.invariant.part (rw is at taken)
+
+pub returns-in-Err-held-clause-part : goal.returns-in-Err-held-clause-part
+returns-in-Err-held-clause-part g c =
+    let arm = c.in-Ok-Some in
+    part_broken _ _ _ _ _ _ _ _ _ c.bytes.invariant.part (rw arm.field-0-is at arm.ensures.byte)
+
+pub returns-in-Ok-None-clause-line : goal.returns-in-Ok-None-clause-line
+returns-in-Ok-None-clause-line g c =
+    let arm = c.in-Ok-None in
+    let none = rw arm.field-0-is at arm.ensures.byte in
+    line_last _ _ _ _ _ _ _ _ c.bytes.invariant.part none.0 none.1
+
+pub returns-in-Err-clause-part : goal.returns-in-Err-clause-part
+returns-in-Err-clause-part g c = part_left _ _ _ _ _ _ _ _ c.bytes.invariant.part c.in-Err.ensures.none

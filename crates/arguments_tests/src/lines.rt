@@ -1,0 +1,456 @@
+//! Lines that are read, and lines that are refused, for each rule of the command line.
+
+use arguments::{Command, LineFault, MachineOptions, command};
+use std::alloc::{AllocError, Global};
+use std::test::Fail;
+
+/// The words of a line, which are parted by single spaces.
+fn words_of(alloc: Global, line: &str) -> Result<Vec<String>, AllocError> {
+    line.split(' ')
+        .map(|word| String::from_str(alloc, word))
+        .try_collect(alloc)
+}
+
+/// An option's value, and a dash where the line doesn't have it.
+fn value_of(value: &Option<String>) -> &str {
+    match value {
+        Some(value) => value.as_str(),
+        None => "-",
+    }
+}
+
+/// A machine: the medium, the harts and the capacity.
+fn machine_of(alloc: Global, machine: &MachineOptions) -> Result<String, AllocError> {
+    let medium = value_of(&machine.medium);
+    let harts = machine.harts;
+    match machine.capacity {
+        Some(lines) => format!(in alloc; "{medium} {harts} {lines}"),
+        None => format!(in alloc; "{medium} {harts} whole"),
+    }
+}
+
+/// A command of a run: its name and its words, the machine, and what else it has.
+fn run_of(alloc: Global, command: &Command) -> Result<String, AllocError> {
+    match command {
+        Command::Run(run) => {
+            let machine = machine_of(alloc, &run.machine)?;
+            let (record, out) = (value_of(&run.record), value_of(&run.out));
+            format!(in alloc;
+                "run {} / {machine} / {} {record} {out}",
+                run.program, run.steps
+            )
+        }
+        Command::Replay(replay) => {
+            let machine = machine_of(alloc, &replay.machine)?;
+            let out = value_of(&replay.out);
+            format!(in alloc;
+                "replay {} {} / {machine} / {out}",
+                replay.program, replay.schedule
+            )
+        }
+        Command::Debug(debug) => {
+            let machine = machine_of(alloc, &debug.machine)?;
+            format!(in alloc; "debug {} / {machine}", debug.program)
+        }
+        _ => String::from_str(alloc, "another"),
+    }
+}
+
+/// A command on the images of a run: its name and its words, and the machine.
+fn images_of(alloc: Global, command: &Command) -> Result<String, AllocError> {
+    match command {
+        Command::Images(images) => {
+            let machine = machine_of(alloc, &images.machine)?;
+            format!(in alloc;
+                "images {} {} {} / {machine}",
+                images.program, images.schedule, images.moment
+            )
+        }
+        Command::Explain(explain) => {
+            let machine = machine_of(alloc, &explain.machine)?;
+            let (moment, image) = (explain.moment, explain.image);
+            format!(in alloc;
+                "explain {} {} {moment} {image} / {machine}",
+                explain.program, explain.schedule
+            )
+        }
+        Command::Check(check) => {
+            let machine = machine_of(alloc, &check.machine)?;
+            format!(in alloc;
+                "check {} {} {} / {machine}",
+                check.plan, check.program, check.schedule
+            )
+        }
+        _ => run_of(alloc, command),
+    }
+}
+
+/// A command: its name, its words and its options.
+fn shown(alloc: Global, command: &Command) -> Result<String, AllocError> {
+    match command {
+        Command::Assemble(files) => format!(in alloc; "asm {} {}", files.source, files.object),
+        Command::MakeVolume(volume) => format!(in alloc;
+            "mkfs {} {} {}",
+            volume.plan, volume.lines, volume.medium
+        ),
+        _ => images_of(alloc, command),
+    }
+}
+
+/// What a line is read as: its command, or which fault it is.
+fn read(alloc: Global, line: &str) -> Result<String, AllocError> {
+    let words = words_of(alloc, line)?;
+    match command(alloc, words.as_slice()) {
+        Ok(command) => shown(alloc, &command),
+        Err(LineFault::Help(_)) => String::from_str(alloc, "help"),
+        Err(LineFault::Fault(_)) => String::from_str(alloc, "fault"),
+        Err(LineFault::Memory) => String::from_str(alloc, "memory"),
+    }
+}
+
+/// The first line that isn't read as the text beside it says, and what it is read as.
+fn first_misread(alloc: Global, lines: &[(&str, &str)]) -> Result<Option<String>, AllocError> {
+    for (line, expected) in lines {
+        let outcome = read(alloc, line)?;
+        if outcome.as_str() != *expected {
+            return Ok(Some(format!(in alloc; "{line}: {outcome}")?));
+        }
+    }
+    Ok(None)
+}
+
+/// The first line that isn't answered by this outcome, and what it is read as.
+fn first_other(
+    alloc: Global,
+    lines: &[&str],
+    expected: &str,
+) -> Result<Option<String>, AllocError> {
+    for line in lines {
+        let outcome = read(alloc, line)?;
+        if outcome.as_str() != expected {
+            return Ok(Some(format!(in alloc; "{line}: {outcome}")?));
+        }
+    }
+    Ok(None)
+}
+
+#[test]
+fn defaults_stand_where_options_are_left_out(rt: HostRuntime) -> Result<(), Fail> {
+    let lines = [
+        ("novacrash asm a.s a.o", "asm a.s a.o"),
+        ("novacrash mkfs p 512 m", "mkfs p 512 m"),
+        ("novacrash run a.s", "run a.s / - 1 16 / 1000000 - -"),
+        ("novacrash replay a.s s", "replay a.s s / - 1 16 / -"),
+        ("novacrash debug a.s", "debug a.s / - 1 16"),
+        ("novacrash images a.s s 7", "images a.s s 7 / - 1 whole"),
+        (
+            "novacrash explain a.s s 7 4",
+            "explain a.s s 7 4 / - 1 whole",
+        ),
+        ("novacrash check p a.s s", "check p a.s s / - 1 whole"),
+    ];
+    let misread = first_misread(rt.alloc(), &lines)?;
+    assert!(rt; misread.is_none(), "{misread:?}");
+    Ok(())
+}
+
+/// Lines with options, before and after the words, and what they are read as.
+const WITH_OPTIONS: [(&str, &str); 14] = [
+    (
+        "novacrash run a.s --medium m --harts 2 --capacity 3 --steps 4 --record r --out o",
+        "run a.s / m 2 3 / 4 r o",
+    ),
+    (
+        "novacrash run --out=o --record=r --steps=4 --capacity=3 --harts=2 --medium=m a.s",
+        "run a.s / m 2 3 / 4 r o",
+    ),
+    (
+        "novacrash replay a.s --medium m --harts 2 s --capacity 3 --out o",
+        "replay a.s s / m 2 3 / o",
+    ),
+    (
+        "novacrash debug --capacity=3 a.s --harts 2 --medium m",
+        "debug a.s / m 2 3",
+    ),
+    (
+        "novacrash images --medium m a.s s 7 --harts=2",
+        "images a.s s 7 / m 2 whole",
+    ),
+    (
+        "novacrash explain a.s s 7 4 --harts 2 --medium m",
+        "explain a.s s 7 4 / m 2 whole",
+    ),
+    (
+        "novacrash check --harts 2 p --medium=m a.s s",
+        "check p a.s s / m 2 whole",
+    ),
+    (
+        "novacrash run a.s --out o",
+        "run a.s / - 1 16 / 1000000 - o",
+    ),
+    (
+        "novacrash run a.s --record r",
+        "run a.s / - 1 16 / 1000000 r -",
+    ),
+    (
+        "novacrash run a.s --medium m",
+        "run a.s / m 1 16 / 1000000 - -",
+    ),
+    (
+        "novacrash run --steps=20 -- a.s",
+        "run a.s / - 1 16 / 20 - -",
+    ),
+    (
+        "novacrash run -- --steps",
+        "run --steps / - 1 16 / 1000000 - -",
+    ),
+    ("novacrash asm -- -a.s -a.o", "asm -a.s -a.o"),
+    (
+        "novacrash images -- a.s -s 7",
+        "images a.s -s 7 / - 1 whole",
+    ),
+];
+
+#[test]
+fn options_are_read(rt: HostRuntime) -> Result<(), Fail> {
+    let misread = first_misread(rt.alloc(), &WITH_OPTIONS)?;
+    assert!(rt; misread.is_none(), "{misread:?}");
+    Ok(())
+}
+
+/// Lines whose numbers are at their limits, and what they are read as.
+const AT_LIMITS: [(&str, &str); 13] = [
+    (
+        "novacrash run a --harts 8 --capacity 16384",
+        "run a / - 8 16384 / 1000000 - -",
+    ),
+    (
+        "novacrash run a --harts 1 --capacity 1",
+        "run a / - 1 1 / 1000000 - -",
+    ),
+    ("novacrash run a --steps 1", "run a / - 1 16 / 1 - -"),
+    (
+        "novacrash run a --steps 500000000",
+        "run a / - 1 16 / 500000000 - -",
+    ),
+    ("novacrash run a --steps=0007", "run a / - 1 16 / 7 - -"),
+    (
+        "novacrash replay a s --harts 8 --capacity 16384",
+        "replay a s / - 8 16384 / -",
+    ),
+    (
+        "novacrash check p a s --harts 008",
+        "check p a s / - 8 whole",
+    ),
+    ("novacrash mkfs p 0 m", "mkfs p 0 m"),
+    ("novacrash mkfs p 4294967295 m", "mkfs p 4294967295 m"),
+    ("novacrash images a s 0", "images a s 0 / - 1 whole"),
+    (
+        "novacrash images a s 0004294967295",
+        "images a s 4294967295 / - 1 whole",
+    ),
+    (
+        "novacrash explain a s 0 4294967295",
+        "explain a s 0 4294967295 / - 1 whole",
+    ),
+    (
+        "novacrash explain a s 4294967295 0",
+        "explain a s 4294967295 0 / - 1 whole",
+    ),
+];
+
+#[test]
+fn numbers_at_their_limits_are_read(rt: HostRuntime) -> Result<(), Fail> {
+    let misread = first_misread(rt.alloc(), &AT_LIMITS)?;
+    assert!(rt; misread.is_none(), "{misread:?}");
+    Ok(())
+}
+
+#[test]
+fn other_numbers_are_faults(rt: HostRuntime) -> Result<(), Fail> {
+    let lines = [
+        "novacrash run a --harts 0",
+        "novacrash run a --harts 9",
+        "novacrash run a --capacity 0",
+        "novacrash run a --capacity 16385",
+        "novacrash run a --steps 0",
+        "novacrash run a --steps 500000001",
+        "novacrash run a --steps 4294967297",
+        "novacrash run a --steps 18446744073709551617",
+        "novacrash run a --steps +5",
+        "novacrash run a --steps=+5",
+        "novacrash run a --steps=-5",
+        "novacrash run a --steps -5",
+        "novacrash run a --steps 0x10",
+        "novacrash run a --steps=",
+        "novacrash run a --steps  5",
+        "novacrash replay a s --harts 9",
+        "novacrash replay a s --capacity 16385",
+        "novacrash debug a --harts 9",
+        "novacrash debug a --capacity 0",
+        "novacrash images a s 1 --harts 0",
+        "novacrash explain a s 1 1 --harts 9",
+        "novacrash check p a s --harts 9",
+        "novacrash mkfs p 4294967296 m",
+        "novacrash mkfs p +1 m",
+        "novacrash images a s 4294967296",
+        "novacrash images a s +1",
+        "novacrash images a s 0x1",
+        "novacrash explain a s 4294967296 0",
+        "novacrash explain a s 0 4294967296",
+        "novacrash explain a s 0 x",
+    ];
+    let accepted = first_other(rt.alloc(), &lines, "fault")?;
+    assert!(rt; accepted.is_none(), "{accepted:?}");
+    Ok(())
+}
+
+#[test]
+fn missing_and_further_words_are_faults(rt: HostRuntime) -> Result<(), Fail> {
+    let lines = [
+        "novacrash",
+        "novacrash asm a.s",
+        "novacrash asm a.s a.o b.o",
+        "novacrash mkfs p 512",
+        "novacrash mkfs p 512 m n",
+        "novacrash run",
+        "novacrash run a.s b.s",
+        "novacrash replay a.s",
+        "novacrash replay a.s s t",
+        "novacrash debug",
+        "novacrash debug a.s s",
+        "novacrash images",
+        "novacrash images a.s s",
+        "novacrash images a.s s 0 1",
+        "novacrash explain a.s s 0",
+        "novacrash explain a.s s 0 1 2",
+        "novacrash check p a.s",
+        "novacrash check p a.s s t",
+        "novacrash ru a.s",
+        "novacrash help",
+        "novacrash help run",
+    ];
+    let accepted = first_other(rt.alloc(), &lines, "fault")?;
+    assert!(rt; accepted.is_none(), "{accepted:?}");
+    Ok(())
+}
+
+#[test]
+fn options_out_of_place_are_faults(rt: HostRuntime) -> Result<(), Fail> {
+    let lines = [
+        "novacrash run a.s --steps",
+        "novacrash run a.s --medium",
+        "novacrash run a.s --medium --harts 2",
+        "novacrash run a.s --medium -m",
+        "novacrash run a.s --steps 5 --steps 5",
+        "novacrash run a.s --medium m --medium=m",
+        "novacrash check p a.s s --harts 2 --harts 2",
+        "novacrash run a.s --step 5",
+        "novacrash run a.s --med m",
+        "novacrash run a.s --lines 5",
+        "novacrash asm a.s a.o --harts 1",
+        "novacrash mkfs p 512 m --medium m",
+        "novacrash replay a.s s --steps 5",
+        "novacrash replay a.s s --record r",
+        "novacrash debug a.s --steps 5",
+        "novacrash debug a.s --out o",
+        "novacrash images a.s s 1 --capacity 2",
+        "novacrash images a.s s 1 --steps 2",
+        "novacrash explain a.s s 1 1 --out o",
+        "novacrash check p a.s s --capacity 2",
+        "novacrash --steps 5 run a.s",
+        "novacrash run -a.s",
+        "novacrash run -h",
+        "novacrash -h",
+        "novacrash -V",
+        "novacrash --version",
+    ];
+    let accepted = first_other(rt.alloc(), &lines, "fault")?;
+    assert!(rt; accepted.is_none(), "{accepted:?}");
+    Ok(())
+}
+
+#[test]
+fn help_is_asked_for(rt: HostRuntime) -> Result<(), Fail> {
+    let lines = [
+        "novacrash --help",
+        "novacrash asm --help",
+        "novacrash mkfs --help",
+        "novacrash run --help",
+        "novacrash replay --help",
+        "novacrash debug --help",
+        "novacrash images --help",
+        "novacrash explain --help",
+        "novacrash check --help",
+        "novacrash run a.s --help",
+    ];
+    let other = first_other(rt.alloc(), &lines, "help")?;
+    assert!(rt; other.is_none(), "{other:?}");
+    Ok(())
+}
+
+/// The text of a line's fault, or of its help.
+fn text_of(alloc: Global, line: &str) -> Result<Option<String>, AllocError> {
+    let words = words_of(alloc, line)?;
+    match command(alloc, words.as_slice()) {
+        Ok(_) => Ok(None),
+        Err(fault) => Ok(Some(format!(in alloc; "{fault}")?)),
+    }
+}
+
+/// Lines that are refused, and the texts that they are refused with.
+const TEXTS: [(&str, &str); 5] = [
+    (
+        "novacrash run a.s --steps 0",
+        "error: --steps takes a decimal number from 1 to 500000000\n",
+    ),
+    (
+        "novacrash replay a.s s --harts 9",
+        "error: --harts takes a decimal number from 1 to 8\n",
+    ),
+    (
+        "novacrash explain a.s s 0 x",
+        "error: IMAGE is a decimal number below 4294967296\n",
+    ),
+    (
+        "novacrash run a.s b.s",
+        "error: unexpected argument 'b.s' found\n\n\
+         Usage: novacrash run [OPTIONS] <PROGRAM>\n\n\
+         For more information, try '--help'.\n",
+    ),
+    (
+        "novacrash replay --help",
+        "Run a program by a schedule\n\n\
+         Usage: novacrash replay [OPTIONS] <PROGRAM> <SCHEDULE>\n\n\
+         Arguments:\n  <PROGRAM>   The program's file: an object or a source\n  \
+         <SCHEDULE>  The schedule's file\n\n\
+         Options:\n      --medium <FILE>  The medium's file [default: 512 lines of zeros]\n      \
+         --harts <N>      The number of harts, from 1 to 8 [default: 1]\n      \
+         --capacity <N>   The most lines of the cache, from 1 to 16384 [default: 16]\n      \
+         --out <FILE>     The file that gets the medium of a power cut at the end\n      \
+         --help           Print help\n",
+    ),
+];
+
+#[test]
+fn texts_are_shown(rt: HostRuntime) -> Result<(), Fail> {
+    for (line, expected) in TEXTS {
+        let shown = text_of(rt.alloc(), line)?.ok_or("a fault")?;
+        assert_eq!(rt; shown.as_str(), expected, "{line}");
+    }
+    Ok(())
+}
+
+/// A call that is refused memory says so, and gives its answer when it is made again.
+#[test]
+fn refused_growth(rt: HostRuntime) -> Result<(), Fail> {
+    let line = "novacrash run a.s --medium m --harts 2 --capacity 3 --steps 4 --record r --out o";
+    let first = read(rt.alloc(), line)?;
+    let asked = if first.as_str() == "memory" {
+        read(rt.alloc(), line)?
+    } else {
+        first
+    };
+    assert_eq!(rt; asked.as_str(), "run a.s / m 2 3 / 4 r o");
+    Ok(())
+}

@@ -1,0 +1,76 @@
+//! The command that debugs a program: its machine, and the session over the standard streams.
+
+ghost use Rattle.std.specs.Prelude.{◌≡◌};
+ghost use Rattle.std.specs.Result.{result_map_both};
+ghost use Rattle.command_line.specs.Debugging.{HoldsSession, OpensFile, Starts};
+ghost use Rattle.command_line.specs.Failures.{failure_of_session};
+ghost use Rattle.command_line.specs.Running.{machine_of};
+
+use crate::failure::Failure;
+use crate::files::Files;
+use crate::reading::{read_medium, read_program};
+use crate::running::capacity;
+use crate::streams::{StandardInput, StandardOutput};
+use arguments::{DebugCommand, MachineOptions};
+use debugger::{DebugFault, Debugger};
+use line_memory::Medium;
+use machine::Machine;
+use program::Program;
+use session::session;
+use std::alloc::Global;
+use std::io::{Read, Write};
+use tester::start_program;
+
+/// `debug`: reads the files of a program and of a medium, and makes the machine of a session.
+pub(crate) fn open_file<F: Files>(
+    alloc: Global,
+    command: &DebugCommand,
+    files: &mut F,
+) -> Result<Machine, Failure>
+    ensures { OpensFile F.read_gives command.now files.old result files.new }
+{
+    let program = read_program(alloc, command.program.as_str(), files)?;
+    let medium = read_medium(alloc, &command.machine.medium, files)?;
+    start(alloc, &command.machine, program, medium)
+}
+
+/// The machine that the options ask for.
+fn start(
+    alloc: Global,
+    options: &MachineOptions,
+    program: Program,
+    medium: Medium,
+) -> Result<Machine, Failure>
+    ensures { Starts (machine_of options.now program medium) result }
+{
+    let capacity = capacity(options, &medium);
+    Ok(start_program(alloc, program, medium, options.harts, capacity)?)
+}
+
+/// Holds a session on a machine, and gives the status with which it ends: each command is answered on standard output
+/// before the next is read from standard input.
+pub(crate) fn hold_session<R: Read, W: Write>(
+    alloc: Global,
+    machine: Machine,
+    input: &mut R,
+    output: &mut W,
+) -> Result<u8, Failure>
+    ensures { HoldsSession machine result }
+{
+    let mut debugger = Debugger::new(machine);
+    let mut source = StandardInput { input, failures: 0 };
+    let mut sink = StandardOutput {
+        output,
+        failures: 0,
+    };
+    let held = session(alloc, &mut debugger, &mut source, &mut sink);
+    status_of(held)
+}
+
+/// The status with which a session ends, or the failure of its fault.
+fn status_of(held: Result<(), DebugFault>) -> Result<u8, Failure>
+    ensures { result ≡ result_map_both (λ _. 0) failure_of_session held }
+{
+    held?;
+    Ok(0)
+}

@@ -1,0 +1,80 @@
+//! The standard streams as a session reads and writes them.
+
+ghost use Rattle.std.specs.Prelude.{◌≤◌, IfOk, OnOk, length};
+ghost use Rattle.std.specs.Io.KnownBytes.{Appends};
+
+use session::{Failed, Sink, Source};
+use std::io;
+use std::io::{ErrorKind, Read, Write};
+
+/// Standard input, and how many of its reads have failed.
+#[derive(Drop)]
+pub(crate) struct StandardInput<'a, R> {
+    pub(crate) input: &'a mut R,
+    pub(crate) failures: u64,
+}
+
+/// Standard output, and how many of its writes have failed.
+#[derive(Drop)]
+pub(crate) struct StandardOutput<'a, W> {
+    pub(crate) output: &'a mut W,
+    pub(crate) failures: u64,
+}
+
+impl<R: Read> Source for StandardInput<'_, R> {
+    ghost failures_of = { λ stream. stream.failures };
+
+    fn read(&mut self, buffer: &mut [u8]) -> Result<usize, Failed> {
+        match read_uninterrupted(self.input, buffer) {
+            Ok(count) => Ok(count),
+            Err(failed) => {
+                self.failures = self.failures.saturating_add(1);
+                Err(failed)
+            }
+        }
+    }
+
+    fn failures(&self) -> u64 {
+        self.failures
+    }
+}
+
+impl<W: Write> Sink for StandardOutput<'_, W> {
+    ghost failures_of = { λ stream. stream.failures };
+
+    fn write(&mut self, bytes: &[u8]) -> Result<(), Failed> {
+        match print(bytes, self.output) {
+            Ok(()) => Ok(()),
+            Err(_) => {
+                self.failures = self.failures.saturating_add(1);
+                Err(Failed)
+            }
+        }
+    }
+
+    fn failures(&self) -> u64 {
+        self.failures
+    }
+}
+
+/// Reads into the front of a buffer. A read that a signal interrupts is made again.
+fn read_uninterrupted<R: Read>(input: &mut R, buffer: &mut [u8]) -> Result<usize, Failed>
+    ensures { IfOk result (λ count. count ≤ length buffer.new) }
+{
+    for _ in 0..u64::MAX {
+        match input.read(buffer) {
+            Ok(count) => return Ok(count),
+            Err(error) if error.kind() == ErrorKind::Interrupted => {}
+            Err(_) => return Err(Failed),
+        }
+    }
+    Err(Failed)
+}
+
+/// Writes all of a text, and flushes it.
+pub(crate) fn print<W: Write>(text: &[u8], output: &mut W) -> io::Result<()>
+    ensures { OnOk result (Appends (W.contents output.old) (W.contents output.new) text.now) }
+{
+    output.write_all(text)?;
+    output.flush()
+}

@@ -1,0 +1,232 @@
+-- A session underway: the lines that were taken so far were answered.
+use Rattle.std.proofs.Common.{◌≡◌, ◌∙◌, ◌+◌, ◌++◌, ◌∷◌, ◌⊎◌, inl, inr, ℕ, List, [], Bool, true, false, Option, Some, None, ap, sym, refl, arith}
+use Rattle.std.proofs.lemmas.List.{append_assoc, append-nil, length-append}
+use Rattle.std.specs.Io.KnownBytes.{Appends, Consumes}
+use Rattle.debugger.specs.Points.{DebuggerView}
+use Rattle.debugger.specs.declared.fault.DebugFault.{DebugFault}
+use Rattle.debugger.specs.declared.fault.DebugFault.TheVariants as faults
+use Rattle.session.specs.Doing.{SessionState}
+use Rattle.session.specs.Failing.{FailsBy}
+use Rattle.session.specs.Reading.{IsHeld, IsOver, OverIf, ReadsLine, Takes, ahead_of, line_end}
+use Rattle.session.specs.Sessions.{BreaksOff, Fails, IsInputEnd, IsLastLine, Session}
+use Rattle.session.specs.Turns.{ComesOut, IsAnswered, LineOutcome, Turns, beginning, none, more}
+use Rattle.session.specs.declared.input.Input.{Input}
+use Rattle.session.specs.declared.carrying.Progress.{Progress}
+use Rattle.session.specs.declared.input.ReadLine.{ReadLine}
+use Rattle.session.proofs.Taking.{takes_more, takes_none}
+
+abbrev pub state_of : DebuggerView → Option Progress → SessionState
+state_of debugger last = record { debugger = debugger; last = last }
+
+-- the sink has the answers to the lines that were taken
+pub record IsUnderway (old : DebuggerView) (state : SessionState) (fresh input : Input) (source source_then sink sink_then : Option (List ℕ)) : Type 0 where
+  pub taken : List ℕ
+  pub answered : List ℕ
+  pub takes : Takes fresh input source source_then taken
+  pub turns : Turns (beginning old) state taken answered
+  pub writes : Appends sink sink_then answered
+
+pub appends_none : (a : Option (List ℕ)) → Appends a a []
+appends_none None = tt
+appends_none (Some xs) = sym (append-nil xs)
+
+appends_more : (a b c : Option (List ℕ)) (xs ys : List ℕ) → Appends a b xs → Appends b c ys → Appends a c (xs ++ ys)
+appends_more None b c xs ys p q = tt
+appends_more (Some x) None c xs ys p q = absurd p
+appends_more (Some x) (Some y) None xs ys p q = absurd q
+appends_more (Some x) (Some y) (Some z) xs ys p q = q ∙ ap (λ (l : List ℕ). l ++ ys) p ∙ append_assoc x xs ys
+
+pub begun : (old : DebuggerView) (fresh : Input) (source sink : Option (List ℕ)) → IsUnderway old (beginning old) fresh fresh source source sink sink
+begun old fresh source sink = record {
+  taken = [];
+  answered = [];
+  takes = takes_none fresh source;
+  turns = none (beginning old);
+  writes = appends_none sink;
+}
+
+-- what was read, of an input of which nothing was taken before
+read_is : (fresh input : Input) (s t : Option (List ℕ)) (taken : List ℕ) → ahead_of fresh ≡ [] → (takes : Takes fresh input s t taken)
+    → takes.read ≡ taken ++ ahead_of input
+read_is fresh input s t taken empty takes = ap (λ (l : List ℕ). l ++ takes.read) (sym empty) ∙ takes.bytes
+
+regroup : (taken line rest ahead : List ℕ) → (taken ++ (line ++ rest)) ++ ahead ≡ taken ++ (line ++ (rest ++ ahead))
+regroup taken line rest ahead =
+    append_assoc taken (line ++ rest) ahead ∙ ap (λ (l : List ℕ). taken ++ l) (append_assoc line rest ahead)
+
+-- one more line, with its line end, is answered
+pub answered_more : (old : DebuggerView) (state after : SessionState) (fresh input further : Input) (s t u k l m : Option (List ℕ))
+    (read : ReadLine) (held : List ℕ) (goes_on : Bool) → IsUnderway old state fresh input s t k l → ReadsLine input further t u read held
+    → ((whole : List ℕ) → IsHeld read.line held whole → IsAnswered state after whole goes_on l m) → goes_on ≡ true → read.is_last ≡ false
+    → IsUnderway old after fresh further s u k m
+answered_more old state after fresh input further s t u k l m read held goes_on so_far line answered on ends =
+    let said : IsAnswered state after line.whole true l m = rw on at (answered line.whole line.held) in
+    let takes : Takes input further t u (line.whole ++ 10 ∷ []) = rw ends at line.takes in
+    record {
+      taken = so_far.taken ++ (line.whole ++ 10 ∷ []);
+      answered = so_far.answered ++ said.0;
+      takes = takes_more fresh input further s t u so_far.taken (line.whole ++ 10 ∷ []) so_far.takes takes;
+      turns = more (beginning old) state after so_far.taken so_far.answered line.whole said.0 so_far.turns line.is_line said.1;
+      writes = appends_more k l m so_far.answered said.0 so_far.writes said.2;
+    }
+
+-- the end of an input, by its limit
+limit_reached : (fresh input : Input) (s t : Option (List ℕ)) (taken line : List ℕ) → fresh.left ≡ 4294967295 → Takes fresh input s t (taken ++ (line ++ []))
+    → IsOver input t → IsInputEnd (taken ++ line) (ahead_of input) t
+limit_reached fresh input s t taken line all takes (inl over) = inl over
+limit_reached fresh input s t taken line all takes (inr empty) =
+    inr (omega (arith, length-append taken line, simp (length-append, append-nil) at takes.left, all, empty))
+
+-- the session ends by `quit`
+quit_bytes : (fresh input : Input) (s t : Option (List ℕ)) (taken line : List ℕ) (is_last : Bool) → ahead_of fresh ≡ [] → fresh.left ≡ 4294967295
+    → (takes : Takes fresh input s t (taken ++ (line ++ line_end is_last))) → OverIf is_last input t
+    → IsLastLine takes.read taken line (ahead_of input) t
+quit_bytes fresh input s t taken line false empty all takes over =
+    inl (read_is fresh input s t (taken ++ (line ++ 10 ∷ [])) empty takes ∙ regroup taken line (10 ∷ []) (ahead_of input))
+quit_bytes fresh input s t taken line true empty all takes over =
+    inr (
+      read_is fresh input s t (taken ++ (line ++ [])) empty takes ∙ regroup taken line [] (ahead_of input),
+      limit_reached fresh input s t taken line all takes over,
+    )
+
+kept_appends : (k l m : Option (List ℕ)) (answered : List ℕ) → Appends k l answered → m ≡ l → Appends k m answered
+kept_appends k l m answered writes e = rw e writes
+
+ended_by_quit : (old : DebuggerView) (state after : SessionState) (fresh input further : Input) (s t u k l m : Option (List ℕ))
+    (read : ReadLine) (held : List ℕ) → ahead_of fresh ≡ [] → fresh.left ≡ 4294967295
+    → IsUnderway old state fresh input s t k l → (line : ReadsLine input further t u read held) → IsAnswered state after line.whole false l m
+    → Session old after.debugger s u k m
+ended_by_quit old state after fresh input further s t u k l m read held empty all so_far line quits =
+    let takes : Takes fresh further s u (so_far.taken ++ (line.whole ++ line_end read.is_last)) =
+    takes_more fresh input further s t u so_far.taken (line.whole ++ line_end read.is_last) so_far.takes line.takes in
+    record {
+      read = takes.read;
+      answered = so_far.answered;
+      reads = takes.reads;
+      writes = kept_appends k l m so_far.answered so_far.writes quits.1;
+      ends = inl (record {
+        taken = so_far.taken;
+        line = line.whole;
+        ahead = ahead_of further;
+        before = state;
+        after = after;
+        turns = so_far.turns;
+        line_of = line.is_line;
+        quits = quits.0;
+        debugger = refl;
+        bytes = quit_bytes fresh further s u so_far.taken line.whole read.is_last empty all takes line.over;
+      });
+    }
+
+-- it ends with the input
+ended_by_input : (old : DebuggerView) (state after : SessionState) (fresh input further : Input) (s t u k l m : Option (List ℕ))
+    (read : ReadLine) (held : List ℕ) → ahead_of fresh ≡ [] → fresh.left ≡ 4294967295
+    → IsUnderway old state fresh input s t k l → (line : ReadsLine input further t u read held) → read.is_last ≡ true
+    → IsAnswered state after line.whole true l m → Session old after.debugger s u k m
+ended_by_input old state after fresh input further s t u k l m read held empty all so_far line last said =
+    let taken : Takes input further t u (line.whole ++ []) = rw last at line.takes in
+    let over : IsOver further u = rw last at line.over in
+    let takes : Takes fresh further s u (so_far.taken ++ (line.whole ++ [])) =
+    takes_more fresh input further s t u so_far.taken (line.whole ++ []) so_far.takes taken in
+    record {
+      read = takes.read;
+      answered = so_far.answered ++ said.0;
+      reads = takes.reads;
+      writes = appends_more k l m so_far.answered said.0 so_far.writes said.2;
+      ends = inr (record {
+        taken = so_far.taken;
+        answers = so_far.answered;
+        line = line.whole;
+        answer = said.0;
+        ahead = ahead_of further;
+        before = state;
+        after = after;
+        turns = so_far.turns;
+        line_of = line.is_line;
+        turn = said.1;
+        debugger = refl;
+        bytes = read_is fresh further s u (so_far.taken ++ (line.whole ++ [])) empty takes ∙ regroup so_far.taken line.whole [] (ahead_of further);
+        written = refl;
+        ended = limit_reached fresh further s u so_far.taken line.whole all takes over;
+      });
+    }
+
+-- it ends by the line that was answered last
+pub ended : (old : DebuggerView) (state : SessionState) (debugger : DebuggerView) (last : Option Progress) (fresh input further : Input) (s t u k l m : Option (List ℕ))
+    (read : ReadLine) (held : List ℕ) (goes_on : Bool) → ahead_of fresh ≡ [] → fresh.left ≡ 4294967295
+    → IsUnderway old state fresh input s t k l → ReadsLine input further t u read held
+    → ((whole : List ℕ) → IsHeld read.line held whole → IsAnswered state (state_of debugger last) whole goes_on l m) → (goes_on ≡ false) ⊎ (read.is_last ≡ true)
+    → Session old debugger s u k m
+ended old state debugger last fresh input further s t u k l m read held false empty all so_far line answered e =
+    ended_by_quit old state (state_of debugger last) fresh input further s t u k l m read held empty all so_far line (answered line.whole line.held)
+ended old state debugger last fresh input further s t u k l m read held true empty all so_far line answered (inl e) = absurd (cc)
+ended old state debugger last fresh input further s t u k l m read held true empty all so_far line answered (inr e) =
+    ended_by_input old state (state_of debugger last) fresh input further s t u k l m read held empty all so_far line e (answered line.whole line.held)
+
+-- a session that is broken off while a line is read
+further_read : (fresh input : Input) (s t : Option (List ℕ)) (taken part : List ℕ) → ahead_of fresh ≡ []
+    → (takes : Takes fresh input s t (taken ++ part)) → Consumes s t (taken ++ (part ++ ahead_of input))
+further_read fresh input s t taken part empty takes =
+    let e : takes.read ≡ taken ++ (part ++ ahead_of input) =
+    read_is fresh input s t (taken ++ part) empty takes ∙ append_assoc taken part (ahead_of input) in
+    rw e at takes.reads
+
+unread : (old : DebuggerView) (state : SessionState) (fresh input further : Input) (s t u k l : Option (List ℕ)) (part : List ℕ)
+    → ahead_of fresh ≡ [] → (so_far : IsUnderway old state fresh input s t k l) → Takes input further t u part
+    → BreaksOff old state.debugger s u so_far.answered
+unread old state fresh input further s t u k l part empty so_far takes = record {
+  taken = so_far.taken;
+  further = part ++ ahead_of further;
+  state = state;
+  reads = further_read fresh further s u so_far.taken part empty (takes_more fresh input further s t u so_far.taken part so_far.takes takes);
+  turns = so_far.turns;
+  stands = inl refl;
+}
+
+pub failed_read : (old debugger : DebuggerView) (last : Option Progress) (fresh input further : Input) (s t u k l : Option (List ℕ)) (n m a b : ℕ)
+    (fault : DebugFault) → ahead_of fresh ≡ [] → IsUnderway old (state_of debugger last) fresh input s t k l
+    → ((part : List ℕ) × Takes input further t u part) → FailsBy a b fault → Fails old debugger s u k l n m fault
+failed_read old debugger last fresh input further s t u k l n m a b faults.Memory empty so_far takes by =
+    (so_far.answered, unread old (state_of debugger last) fresh input further s t u k l takes.0 empty so_far takes.1, so_far.writes)
+failed_read old debugger last fresh input further s t u k l n m a b faults.InputOutput empty so_far takes by =
+    (so_far.answered, unread old (state_of debugger last) fresh input further s t u k l takes.0 empty so_far takes.1, inl so_far.writes)
+failed_read old debugger last fresh input further s t u k l n m a b fault empty so_far takes by = absurd by
+
+-- and while it is answered
+unanswered : (old : DebuggerView) (state after : SessionState) (fresh input further : Input) (s t u k l : Option (List ℕ))
+    (read : ReadLine) (held : List ℕ) → ahead_of fresh ≡ [] → (so_far : IsUnderway old state fresh input s t k l)
+    → (line : ReadsLine input further t u read held) → ((outcome : LineOutcome) × ComesOut state after line.whole outcome)
+    → BreaksOff old after.debugger s u so_far.answered
+unanswered old state after fresh input further s t u k l read held empty so_far line out =
+    let part : List ℕ = line.whole ++ line_end read.is_last in
+    record {
+      taken = so_far.taken;
+      further = part ++ ahead_of further;
+      state = state;
+      reads = further_read fresh further s u so_far.taken part empty (takes_more fresh input further s t u so_far.taken part so_far.takes line.takes);
+      turns = so_far.turns;
+      stands = inr (record {
+        line = line.whole;
+        behind = line_end read.is_last ++ ahead_of further;
+        bytes = append_assoc line.whole (line_end read.is_last) (ahead_of further);
+        line_of = line.is_line;
+        outcome = out.0;
+        after = after;
+        comes_out = out.1;
+        debugger = refl;
+      });
+    }
+
+pub failed_answer : (old : DebuggerView) (state : SessionState) (debugger : DebuggerView) (last : Option Progress) (fresh input further : Input) (s t u k l m : Option (List ℕ)) (a b : ℕ)
+    (read : ReadLine) (held : List ℕ) (fault : DebugFault) → ahead_of fresh ≡ [] → IsUnderway old state fresh input s t k l
+    → ReadsLine input further t u read held
+    → ((whole : List ℕ) → IsHeld read.line held whole → (outcome : LineOutcome) × ComesOut state (state_of debugger last) whole outcome)
+    → (fault ≡ faults.Memory → m ≡ l) → FailsBy a b fault → Fails old debugger s u k m a b fault
+failed_answer old state debugger last fresh input further s t u k l m a b read held faults.Memory empty so_far line out kept by = (
+  so_far.answered,
+  unanswered old state (state_of debugger last) fresh input further s t u k l read held empty so_far line (out line.whole line.held),
+  kept_appends k l m so_far.answered so_far.writes (kept refl),
+)
+failed_answer old state debugger last fresh input further s t u k l m a b read held faults.InputOutput empty so_far line out kept by =
+    (so_far.answered, unanswered old state (state_of debugger last) fresh input further s t u k l read held empty so_far line (out line.whole line.held), inr by)
+failed_answer old state debugger last fresh input further s t u k l m a b read held fault empty so_far line out kept by = absurd by

@@ -1,0 +1,89 @@
+-- What a whole session does: which bytes it reads and writes, and what becomes of the debugger.
+use Rattle.std.specs.Prelude.{◌≡◌, ◌++◌, ◌∷◌, ◌⊎◌, ℕ, List, [], Option, length}
+use Rattle.std.specs.Io.KnownBytes.{Appends, Consumes, IsAtEnd}
+use Rattle.debugger.specs.Points.{DebuggerView}
+use Rattle.debugger.specs.declared.fault.DebugFault.{DebugFault}
+use Rattle.debugger.specs.declared.fault.DebugFault.TheVariants.{Memory, InputOutput}
+use Rattle.session.specs.Doing.{SessionState}
+use Rattle.session.specs.Failing.{one_more}
+use Rattle.session.specs.Turns.{ComesOut, IsLine, LineOutcome, Quits, Turn, Turns, beginning}
+
+-- an input ends at this many bytes at the latest
+abbrev pub most_input : ℕ
+most_input = 4294967295
+
+-- nothing is left behind what was taken: the source is at its end and gave no more, or the input is at its limit
+abbrev pub IsInputEnd : List ℕ → List ℕ → Option (List ℕ) → Type 0
+IsInputEnd taken ahead left = ((ahead ≡ []) × IsAtEnd left) ⊎ (length taken ≡ most_input)
+
+-- the bytes of the last line that is read: it lacks a line end only at the end of the input
+abbrev pub IsLastLine : List ℕ → List ℕ → List ℕ → List ℕ → Option (List ℕ) → Type 0
+IsLastLine read taken line ahead left = (read ≡ taken ++ (line ++ 10 ∷ ahead))
+    ⊎ ((read ≡ taken ++ (line ++ ahead)) × IsInputEnd (taken ++ line) ahead left)
+
+-- the session ends by a line that says `quit`; what was read ahead of it is no part of any turn
+pub record EndsByQuit (old new : DebuggerView) (read answered : List ℕ) (left : Option (List ℕ)) : Type 0 where
+  pub taken : List ℕ
+  pub line : List ℕ
+  pub ahead : List ℕ
+  pub before : SessionState
+  pub after : SessionState
+  pub turns : Turns (beginning old) before taken answered
+  pub line_of : IsLine line
+  pub quits : Quits before after line
+  pub debugger : after.debugger ≡ new
+  pub bytes : IsLastLine read taken line ahead left
+
+-- it ends at the end of the input: the last line lacks its line end, and may be empty
+pub record EndsWithInput (old new : DebuggerView) (read answered : List ℕ) (left : Option (List ℕ)) : Type 0 where
+  pub taken : List ℕ
+  pub answers : List ℕ
+  pub line : List ℕ
+  pub answer : List ℕ
+  pub ahead : List ℕ
+  pub before : SessionState
+  pub after : SessionState
+  pub turns : Turns (beginning old) before taken answers
+  pub line_of : IsLine line
+  pub turn : Turn before after line answer
+  pub debugger : after.debugger ≡ new
+  pub bytes : read ≡ taken ++ (line ++ ahead)
+  pub written : answered ≡ answers ++ answer
+  pub ended : IsInputEnd (taken ++ line) ahead left
+
+-- a whole session, by what was known of the source and of the sink before and after it
+pub record Session (old new : DebuggerView) (source source_then sink sink_then : Option (List ℕ)) : Type 0 where
+  pub read : List ℕ
+  pub answered : List ℕ
+  pub reads : Consumes source source_then read
+  pub writes : Appends sink sink_then answered
+  pub ends : EndsByQuit old new read answered source_then ⊎ EndsWithInput old new read answered source_then
+
+-- the first line of these bytes was carried out, but its answer wasn't written
+pub record IsUnanswered (before : SessionState) (new : DebuggerView) (further : List ℕ) : Type 0 where
+  pub line : List ℕ
+  pub behind : List ℕ
+  pub bytes : further ≡ line ++ behind
+  pub line_of : IsLine line
+  pub outcome : LineOutcome
+  pub after : SessionState
+  pub comes_out : ComesOut before after line outcome
+  pub debugger : after.debugger ≡ new
+
+-- a session that is broken off: these lines were answered, and the debugger stands as after the last command that was carried out
+pub record BreaksOff (old new : DebuggerView) (source source_then : Option (List ℕ)) (answered : List ℕ) : Type 0 where
+  pub taken : List ℕ
+  pub further : List ℕ
+  pub state : SessionState
+  pub reads : Consumes source source_then (taken ++ further)
+  pub turns : Turns (beginning old) state taken answered
+  pub stands : (state.debugger ≡ new) ⊎ IsUnanswered state new further
+
+-- nothing more is written, but for what a write that failed may have written
+abbrev pub Fails : DebuggerView → DebuggerView → Option (List ℕ) → Option (List ℕ) → Option (List ℕ) → Option (List ℕ) → ℕ → ℕ → DebugFault → Type 0
+Fails old new source source_then sink sink_then failures failures_then Memory =
+    (answered : List ℕ) × BreaksOff old new source source_then answered × Appends sink sink_then answered
+Fails old new source source_then sink sink_then failures failures_then InputOutput =
+    (answered : List ℕ) × BreaksOff old new source source_then answered
+    × (Appends sink sink_then answered ⊎ (failures_then ≡ one_more failures))
+Fails old new source source_then sink sink_then failures failures_then fault = ⊥

@@ -1,0 +1,6 @@
+use Rattle.tester.proofs.Making.{has_run}
+use Rattle.tester.proofs.runs.run_program.Goals as goal
+
+pub returns-in-Ok-clause-run : goal.returns-in-Ok-clause-run
+returns-in-Ok-clause-run c =
+    has_run _ c.in-Ok.schedule c.in_ok-machine.machine c.run_rounds.new.machine c.in_ok-machine.ensures.ok c.in-Ok.ensures.ok.runs

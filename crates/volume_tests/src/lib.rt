@@ -1,0 +1,12 @@
+//! Tests of `volume`, `nova_log` and `plan`: logs that grow, volumes made by hand and recovered, and plans read. They stand
+//! apart, so that those crates aren't proved a second time for them. The crate has tests alone.
+#![tactic(auto)]
+
+#[cfg(test)]
+mod expecting;
+#[cfg(test)]
+mod plans;
+#[cfg(test)]
+mod recovery;
+#[cfg(test)]
+mod volumes;
