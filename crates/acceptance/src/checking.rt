@@ -1,139 +1,124 @@
 //! Verdicts on the guests.
 
-use crate::turns::{done, ends, first_difference};
+use crate::transcripts::first_difference;
 use std::test::Fail;
 
-#[test]
-fn an_append_passes_with_its_fences_alone(rt: HostRuntime) -> Result<(), Fail> {
-    let turns = [
-        done("novacrash mkfs append.plan 512 fresh", "lines 512\n"),
-        done(
-            "novacrash check append.plan append.s append.schedule --medium fresh",
-            "pass moments=11 images=22\n",
-        ),
-        ends(
-            1,
-            "novacrash check append.plan missing-fence.s append.schedule --medium fresh",
-            "fail moment=6 image=4 cause=N8\n",
-        ),
-        done(
-            "novacrash explain missing-fence.s append.schedule 6 4 --medium fresh",
-            "h0*13 e1\n",
-        ),
-        ends(
-            1,
-            "novacrash check append.plan early-end.s append.schedule --medium fresh",
-            "fail moment=9 image=0 cause=illegal\n",
-        ),
-        ends(
-            1,
-            "novacrash check append.plan append.s append.schedule",
-            "fail moment=0 image=0 cause=N1\n",
-        ),
-    ];
-    assert_eq!(rt; first_difference(rt.alloc(), &turns)?, None);
-    Ok(())
-}
+/// An append passes, and fails without either of its fences and on a medium without a volume.
+const APPENDS: &str = "\
+$ novacrash mkfs append.plan 512 fresh
+lines 512
+$ novacrash check append.plan append.s append.schedule --medium fresh
+pass moments=11 images=22
+$ novacrash check append.plan missing-fence.s append.schedule --medium fresh
+fail moment=6 image=4 cause=N8
+[1]
+$ novacrash explain missing-fence.s append.schedule 6 4 --medium fresh
+h0*13 e1
+$ novacrash check append.plan early-end.s append.schedule --medium fresh
+fail moment=9 image=0 cause=illegal
+[1]
+$ novacrash check append.plan append.s append.schedule
+fail moment=0 image=0 cause=N1
+[1]
+";
+
+/// A rename, which a journal makes one commit.
+const RENAMES: &str = "\
+$ novacrash mkfs rename.plan 512 fresh
+lines 512
+$ novacrash check rename.plan rename.s rename.schedule --medium fresh
+pass moments=32 images=202
+";
+
+/// In the middle of a rename, with one log's tail moved and the journal open, both logs are empty: they stay as they are
+/// when the tail is moved back and the journal closed. After the rename the log of inode 0 doesn't stay so.
+const VOLUME_OF_A_RENAME: &str = "\
+$ novacrash mkfs rename.plan 512 fresh
+lines 512
+$ novacrash explain rename.s rename.schedule 24 2 --medium fresh | tee half.schedule
+h0*15 e256 h0*5 e320 h0*9 e129 h0*2 e130 h0*5 e128 h0*5 e1 h0*1
+$ novacrash replay rename.s half.schedule --medium fresh --capacity 512 --out half
+h0 running pc=0x100a8 x2=0x200000 x5=0x4040 x6=0x5040 x7=0x40004000 x10=0x1 x11=0x40000000 x12=0x2 x13=0x40002000 x14=0x40002040 x15=0x40002080 x17=0x7d1 x28=0x40005000 x29=0x1 x30=0x9 x31=0x61
+events 24
+$ novacrash check two.plan empties.s thirteen.schedule --medium half
+pass moments=7 images=11
+$ novacrash run rename.s --medium fresh --out renamed
+h0 exit 0 pc=0x100dc x2=0x200000 x5=0x4040 x6=0x5040 x7=0x40004000 x11=0x40000000 x12=0x2 x13=0x40002000 x14=0x40000040 x15=0x40000080 x17=0x5d x28=0x40005000 x29=0x1 x30=0x9 x31=0x61
+events 31
+$ novacrash check two.plan empties.s thirteen.schedule --medium renamed
+fail moment=1 image=1 cause=illegal
+[1]
+";
+
+/// Two appends to two logs by two harts.
+const APPENDS_ON_TWO_HARTS: &str = "\
+$ novacrash mkfs append2.plan 512 fresh
+lines 512
+$ novacrash check append2.plan append2.s append2.schedule --harts 2 --medium fresh
+pass moments=21 images=43
+";
+
+/// An entry of the second layout is longer than the first layout's append writes it.
+const LAYOUTS: &str = "\
+$ novacrash mkfs layout2.plan 512 fresh
+lines 512
+$ novacrash check layout2.plan append.s append.schedule --medium fresh
+fail moment=7 image=1 cause=N6
+[1]
+$ novacrash check layout2.plan long-append.s append.schedule --medium fresh
+pass moments=11 images=22
+";
+
+/// Seventeen lines that are free at a moment have 131,072 images.
+const TOO_MANY: &str = "\
+$ novacrash mkfs bare.plan 512 fresh
+lines 512
+$ novacrash check bare.plan seventeen.s seventeen.schedule --medium fresh
+too many moment=17
+[3]
+";
+
+/// A log without its page, a log that links to itself, and journals whose head and tail can't be.
+const BROKEN_VOLUMES: &str = "\
+$ novacrash mkfs links.plan 512 fresh
+lines 512
+$ novacrash run unlinked.s --medium fresh --out broken
+h0 exit 0 pc=0x1001c x2=0x200000 x5=0x5000 x6=0x40000040 x11=0x40000000 x17=0x5d
+events 3
+$ novacrash check links.plan append.s nothing.schedule --medium broken
+fail moment=0 image=0 cause=N6
+[1]
+$ novacrash run self-linked.s --medium fresh --out broken
+h0 exit 0 pc=0x10030 x2=0x200000 x5=0x5000 x6=0x40000040 x7=0x4000 x11=0x40000000 x17=0x5d x28=0x40004fc0
+events 5
+$ novacrash check links.plan append.s nothing.schedule --medium broken
+fail moment=0 image=0 cause=N7
+[1]
+$ novacrash run tail-before-head.s --medium fresh --out broken
+h0 exit 0 pc=0x10028 x2=0x200000 x5=0x40002000 x6=0x3 x11=0x40000000 x17=0x5d
+events 4
+$ novacrash check links.plan append.s nothing.schedule --medium broken
+fail moment=0 image=0 cause=N3
+[1]
+$ novacrash run far-tail.s --medium fresh --out broken
+h0 exit 0 pc=0x10020 x2=0x200000 x5=0x40002000 x6=0x5 x11=0x40000000 x17=0x5d
+events 3
+$ novacrash check links.plan append.s nothing.schedule --medium broken
+fail moment=0 image=0 cause=N3
+[1]
+";
 
 #[test]
-fn a_rename_passes(rt: HostRuntime) -> Result<(), Fail> {
-    let turns = [
-        done("novacrash mkfs rename.plan 512 fresh", "lines 512\n"),
-        done(
-            "novacrash check rename.plan rename.s rename.schedule --medium fresh",
-            "pass moments=32 images=202\n",
-        ),
+fn guests_pass_or_fail(rt: HostRuntime) -> Result<(), Fail> {
+    let transcripts = [
+        APPENDS,
+        RENAMES,
+        VOLUME_OF_A_RENAME,
+        APPENDS_ON_TWO_HARTS,
+        LAYOUTS,
+        TOO_MANY,
+        BROKEN_VOLUMES,
     ];
-    assert_eq!(rt; first_difference(rt.alloc(), &turns)?, None);
-    Ok(())
-}
-
-#[test]
-fn appends_on_two_harts_pass(rt: HostRuntime) -> Result<(), Fail> {
-    let turns = [
-        done("novacrash mkfs append2.plan 512 fresh", "lines 512\n"),
-        done(
-            "novacrash check append2.plan append2.s append2.schedule --harts 2 --medium fresh",
-            "pass moments=21 images=43\n",
-        ),
-    ];
-    assert_eq!(rt; first_difference(rt.alloc(), &turns)?, None);
-    Ok(())
-}
-
-#[test]
-fn entries_are_as_long_as_the_layout_says(rt: HostRuntime) -> Result<(), Fail> {
-    let turns = [
-        done("novacrash mkfs layout2.plan 512 fresh", "lines 512\n"),
-        ends(
-            1,
-            "novacrash check layout2.plan append.s append.schedule --medium fresh",
-            "fail moment=7 image=1 cause=N6\n",
-        ),
-        done(
-            "novacrash check layout2.plan long-append.s append.schedule --medium fresh",
-            "pass moments=11 images=22\n",
-        ),
-    ];
-    assert_eq!(rt; first_difference(rt.alloc(), &turns)?, None);
-    Ok(())
-}
-
-#[test]
-fn seventeen_free_lines_are_too_many(rt: HostRuntime) -> Result<(), Fail> {
-    let turns = [
-        done("novacrash mkfs bare.plan 512 fresh", "lines 512\n"),
-        ends(
-            3,
-            "novacrash check bare.plan seventeen.s seventeen.schedule --medium fresh",
-            "too many moment=17\n",
-        ),
-    ];
-    assert_eq!(rt; first_difference(rt.alloc(), &turns)?, None);
-    Ok(())
-}
-
-#[test]
-fn broken_links_and_journals_are_no_volumes(rt: HostRuntime) -> Result<(), Fail> {
-    let turns = [
-        done("novacrash mkfs links.plan 512 fresh", "lines 512\n"),
-        done(
-            "novacrash run unlinked.s --medium fresh --out broken",
-            "h0 exit 0 pc=0x1001c x2=0x200000 x5=0x5000 x6=0x40000040 x11=0x40000000 x17=0x5d\nevents 3\n",
-        ),
-        ends(
-            1,
-            "novacrash check links.plan append.s nothing.schedule --medium broken",
-            "fail moment=0 image=0 cause=N6\n",
-        ),
-        done(
-            "novacrash run self-linked.s --medium fresh --out broken",
-            "h0 exit 0 pc=0x10030 x2=0x200000 x5=0x5000 x6=0x40000040 x7=0x4000 x11=0x40000000 x17=0x5d x28=0x40004fc0\nevents 5\n",
-        ),
-        ends(
-            1,
-            "novacrash check links.plan append.s nothing.schedule --medium broken",
-            "fail moment=0 image=0 cause=N7\n",
-        ),
-        done(
-            "novacrash run tail-before-head.s --medium fresh --out broken",
-            "h0 exit 0 pc=0x10028 x2=0x200000 x5=0x40002000 x6=0x3 x11=0x40000000 x17=0x5d\nevents 4\n",
-        ),
-        ends(
-            1,
-            "novacrash check links.plan append.s nothing.schedule --medium broken",
-            "fail moment=0 image=0 cause=N3\n",
-        ),
-        done(
-            "novacrash run far-tail.s --medium fresh --out broken",
-            "h0 exit 0 pc=0x10020 x2=0x200000 x5=0x40002000 x6=0x5 x11=0x40000000 x17=0x5d\nevents 3\n",
-        ),
-        ends(
-            1,
-            "novacrash check links.plan append.s nothing.schedule --medium broken",
-            "fail moment=0 image=0 cause=N3\n",
-        ),
-    ];
-    assert_eq!(rt; first_difference(rt.alloc(), &turns)?, None);
+    assert_eq!(rt; first_difference(rt.alloc(), &transcripts)?, None);
     Ok(())
 }

@@ -1,98 +1,187 @@
 //! Sessions of the debugger over standard input and output.
 
 use crate::folder::folder_of_examples;
-use crate::turns::{debug, done, ends, first_difference, words_of};
+use crate::transcripts::{first_difference, words_of};
 use command_line::execute;
 use std::alloc::{AllocError, Global};
 use std::io;
 use std::io::{Read, Write};
 use std::test::Fail;
 
-/// A breakpoint, a watch, and a word that is no command.
-const COMMANDS: &str =
-    "break 0x10008\ngo h0*8\nwatch 0x40000000\ngo\npeek 0x40000000 2\ngo\njump\n";
+/// A session answers each line, whatever the capacity; its last line may lack its end.
+const SESSIONS: &str = "\
+$ novacrash debug first.s
+< break 0x10008
+< go h0*8
+< watch 0x40000000
+< go
+< peek 0x40000000 2
+< go
+< jump
+ok
+break h0 pc=0x10008
+ok
+watch h0 line=0x40000000
+07 00
+end
+fault D1
+$ novacrash debug first.s --capacity 1
+< break 0x10008
+< go h0*8
+< watch 0x40000000
+< go
+< peek 0x40000000 2
+< go
+< jump
+ok
+break h0 pc=0x10008
+ok
+watch h0 line=0x40000000
+07 00
+end
+fault D1
+$ novacrash debug --capacity=512 --harts=8 first.s
+< break 0x10008
+< go h0*8
+< watch 0x40000000
+< go
+< peek 0x40000000 2
+< go
+< jump
+ok
+break h0 pc=0x10008
+ok
+watch h0 line=0x40000000
+07 00
+end
+fault D1
+$ novacrash debug first.s
+$ novacrash debug first.s
+<
+< quit
+< step 0
+$ novacrash debug first.s
+< step 0
+< step 0 (no-eol)
+h0 running pc=0x10004 x2=0x200000 x5=0x7 x11=0x40000000
+h0 running pc=0x10008 x2=0x200000 x5=0x7 x6=0x40000000 x11=0x40000000
+$ novacrash debug first.s
+< step 1
+< regs 1
+< watch 0
+< break 0x10002
+< peek 0x40000000 65
+< go e512
+fault G1
+fault G1
+fault D2
+fault D2
+fault D1
+fault G2
+$ novacrash debug counter.s --harts 2
+< regs 1
+< regs 2
+pc=0x10000
+x0=0x0
+x1=0x0
+x2=0x1ff000
+x3=0x0
+x4=0x0
+x5=0x0
+x6=0x0
+x7=0x0
+x8=0x0
+x9=0x0
+x10=0x1
+x11=0x40000000
+x12=0x0
+x13=0x0
+x14=0x0
+x15=0x0
+x16=0x0
+x17=0x0
+x18=0x0
+x19=0x0
+x20=0x0
+x21=0x0
+x22=0x0
+x23=0x0
+x24=0x0
+x25=0x0
+x26=0x0
+x27=0x0
+x28=0x0
+x29=0x0
+x30=0x0
+x31=0x0
+fault G1
+";
 
-const ANSWERS: &str =
-    "ok\nbreak h0 pc=0x10008\nok\nwatch h0 line=0x40000000\n07 00\nend\nfault D1\n";
+/// A session shows the bytes of its medium, and runs an object as its source.
+const SESSIONS_OVER_A_MEDIUM: &str = "\
+$ novacrash mkfs append.plan 512 fresh
+lines 512
+$ novacrash debug append.s --medium fresh
+< peek 0x40000000 8
+< peek 0x40000040 16
+4e 4f 56 41 4c 4f 47 31
+00 40 00 00 00 00 00 00 00 40 00 00 00 00 00 00
+$ novacrash debug append.s
+< peek 0x40000000 8
+00 00 00 00 00 00 00 00
+$ novacrash asm first.s first.o
+text 32 data 0
+$ novacrash debug first.o
+< break 0x10008
+< go h0*8
+< watch 0x40000000
+< go
+< peek 0x40000000 2
+< go
+< jump
+ok
+break h0 pc=0x10008
+ok
+watch h0 line=0x40000000
+07 00
+end
+fault D1
+";
 
-/// The registers of hart 1 at its start, and the answer for a hart that isn't there.
-const REGISTERS: &str =
-    "pc=0x10000\nx0=0x0\nx1=0x0\nx2=0x1ff000\nx3=0x0\nx4=0x0\nx5=0x0\nx6=0x0\nx7=0x0\nx8=0x0\nx9=0x0\n\
-    x10=0x1\nx11=0x40000000\nx12=0x0\nx13=0x0\nx14=0x0\nx15=0x0\nx16=0x0\nx17=0x0\nx18=0x0\nx19=0x0\nx20=0x0\n\
-    x21=0x0\nx22=0x0\nx23=0x0\nx24=0x0\nx25=0x0\nx26=0x0\nx27=0x0\nx28=0x0\nx29=0x0\nx30=0x0\nx31=0x0\nfault G1\n";
+/// What is at fault in the files is told before anything is read from standard input.
+const FILES_BEFORE_A_SESSION: &str = "\
+$ novacrash debug never
+! file
+[5]
+$ novacrash debug fault.s
+! refused A2 line 2
+[2]
+$ novacrash debug fault.s --medium never
+! refused A2 line 2
+[2]
+$ novacrash debug first.s --medium never
+! file
+[5]
+$ novacrash debug first.s --medium five.s
+! refused M3
+[2]
+$ novacrash debug short.o
+! refused P2
+[2]
+";
+
+#[test]
+fn sessions_answer_each_line(rt: HostRuntime) -> Result<(), Fail> {
+    let transcripts = [SESSIONS, SESSIONS_OVER_A_MEDIUM, FILES_BEFORE_A_SESSION];
+    assert_eq!(rt; first_difference(rt.alloc(), &transcripts)?, None);
+    Ok(())
+}
 
 /// The line of hart 0 after its first step, and those after each of two.
 const ONE_STEP: &str = "h0 running pc=0x10004 x2=0x200000 x5=0x7 x11=0x40000000\n";
 
 const TWO_STEPS: &str = "h0 running pc=0x10004 x2=0x200000 x5=0x7 x11=0x40000000\n\
     h0 running pc=0x10008 x2=0x200000 x5=0x7 x6=0x40000000 x11=0x40000000\n";
-
-#[test]
-fn a_session_answers_each_line(rt: HostRuntime) -> Result<(), Fail> {
-    let turns = [
-        debug("novacrash debug first.s", COMMANDS, ANSWERS),
-        debug("novacrash debug first.s --capacity 1", COMMANDS, ANSWERS),
-        debug(
-            "novacrash debug --capacity=512 --harts=8 first.s",
-            COMMANDS,
-            ANSWERS,
-        ),
-        debug("novacrash debug first.s", "", ""),
-        debug("novacrash debug first.s", "\nquit\nstep 0\n", ""),
-        debug("novacrash debug first.s", "step 0\nstep 0", TWO_STEPS),
-        debug(
-            "novacrash debug first.s",
-            "step 1\nregs 1\nwatch 0\nbreak 0x10002\npeek 0x40000000 65\ngo e512\n",
-            "fault G1\nfault G1\nfault D2\nfault D2\nfault D1\nfault G2\n",
-        ),
-        debug(
-            "novacrash debug counter.s --harts 2",
-            "regs 1\nregs 2\n",
-            REGISTERS,
-        ),
-    ];
-    assert_eq!(rt; first_difference(rt.alloc(), &turns)?, None);
-    Ok(())
-}
-
-#[test]
-fn a_session_is_over_the_medium(rt: HostRuntime) -> Result<(), Fail> {
-    let turns = [
-        done("novacrash mkfs append.plan 512 fresh", "lines 512\n"),
-        debug(
-            "novacrash debug append.s --medium fresh",
-            "peek 0x40000000 8\npeek 0x40000040 16\n",
-            "4e 4f 56 41 4c 4f 47 31\n00 40 00 00 00 00 00 00 00 40 00 00 00 00 00 00\n",
-        ),
-        debug(
-            "novacrash debug append.s",
-            "peek 0x40000000 8\n",
-            "00 00 00 00 00 00 00 00\n",
-        ),
-        done("novacrash asm first.s first.o", "text 32 data 0\n"),
-        debug("novacrash debug first.o", COMMANDS, ANSWERS),
-    ];
-    assert_eq!(rt; first_difference(rt.alloc(), &turns)?, None);
-    Ok(())
-}
-
-#[test]
-fn files_are_read_before_the_session(rt: HostRuntime) -> Result<(), Fail> {
-    let turns = [
-        ends(5, "novacrash debug never", "file\n"),
-        ends(2, "novacrash debug fault.s", "refused A2 line 2\n"),
-        ends(
-            2,
-            "novacrash debug fault.s --medium never",
-            "refused A2 line 2\n",
-        ),
-        ends(5, "novacrash debug first.s --medium never", "file\n"),
-        ends(2, "novacrash debug first.s --medium five.s", "refused M3\n"),
-        ends(2, "novacrash debug short.o", "refused P2\n"),
-    ];
-    assert_eq!(rt; first_difference(rt.alloc(), &turns)?, None);
-    Ok(())
-}
 
 /// A reader that gives so many bytes at a time, is interrupted before each read, and fails at the read of this number.
 #[derive(Drop)]

@@ -19,6 +19,6 @@ mod running;
 #[cfg(test)]
 mod streams;
 #[cfg(test)]
-mod turns;
+mod transcripts;
 #[cfg(test)]
 mod tutorial;

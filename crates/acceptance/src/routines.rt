@@ -44,6 +44,30 @@ const RENEW: &str =
     "la t0, spot\nla t1, new\nlw t2, 0(t1)\nsw t2, 0(t0)\nfence.i\nspot: li a0, 1\nli a7, 93\necall\n\
     new: .word 0x00200513\n";
 
+/// The same by hart 0 alone: any other hart goes straight to the word that is written anew.
+const ONE_RENEWS: &str =
+    "bnez a0, spot\nla t0, spot\nla t1, new\nlw t2, 0(t1)\nsw t2, 0(t0)\nfence.i\nspot: li a0, 1\nli a7, 93\necall\n\
+    new: .word 0x00200513\n";
+
+/// Adds 1 to the greatest word, and swaps the sum for zero.
+const SUM_AND_SWAP: &str =
+    "li t0, 0x7fffffff\nsw t0, 0(a1)\nli t1, 1\namoadd.w t2, t1, (a1)\namoswap.w s0, zero, (a1)\nli a7, 93\n\
+    li a0, 0\necall\n";
+
+/// Two conditional stores of hart 0 after its reservation, and a store of any other hart to the same line.
+const RESERVE: &str =
+    "bnez a0, other\nlr.d t0, (a1)\nli t1, 5\nsc.d t2, t1, (a1)\nsc.d t3, t1, (a1)\nli a7, 93\nli a0, 0\necall\n\
+    other: sd a0, 8(a1)\nli a7, 93\nli a0, 0\necall\n";
+
+/// The same with the other hart's store to the next line.
+const NEXT_LINE: &str =
+    "bnez a0, other\nlr.d t0, (a1)\nli t1, 5\nsc.d t2, t1, (a1)\nsc.d t3, t1, (a1)\nli a7, 93\nli a0, 0\necall\n\
+    other: sd a0, 64(a1)\nli a7, 93\nli a0, 0\necall\n";
+
+/// A conditional store to another line than the reserved one, and then one to the reserved line.
+const ELSEWHERE: &str =
+    "lr.d t0, (a1)\naddi t4, a1, 64\nli t1, 5\nsc.d t2, t1, (t4)\nsc.d t3, t1, (a1)\nli a7, 93\nli a0, 0\necall\n";
+
 /// Appends value 77 to the log of inode 0 as operation 1.
 const APPEND: &str =
     "li a7, 2001\nli a0, 1\necall\nld t0, 72(a1)\nadd t1, a1, t0\nli t2, 1\nsd t2, 0(t1)\nsd t2, 8(t1)\n\
@@ -84,6 +108,11 @@ const RENAME: &str =
     sd t1, 136(a1)\naddi a4, a1, 64\naddi a5, a1, 128\ncbo.clean (a4)\ncbo.clean (a5)\nfence w, w\nsd a2, 0(a3)\ncbo.clean (a3)\n\
     fence w, w\nli a7, 2002\necall\nli a7, 93\nli a0, 0\necall\n";
 
+/// Moves the tail of inode 0 back to its head, and then closes journal 0 after two records.
+const EMPTIES: &str =
+    "lui t0, 4\nsd t0, 72(a1)\naddi t1, a1, 64\ncbo.clean (t1)\nfence w, w\nlui t2, 2\nadd t2, t2, a1\nli t3, 2\n\
+    sd t3, 0(t2)\ncbo.clean (t2)\nfence w, w\nli a7, 93\nli a0, 0\necall\n";
+
 /// Stores to seventeen lines, none of them cleaned.
 const SEVENTEEN: &str =
     "li t0, 17\nli t1, 19200\nadd t1, t1, a1\nloop: sd t0, 0(t1)\naddi t1, t1, 64\naddi t0, t0, -1\n\
@@ -111,7 +140,7 @@ const FAR_TAIL: &str =
 const TWICE: &str = "li a7, 2001\nli a0, 7\necall\nli a7, 2002\necall\nli a7, 2001\necall\n";
 
 /// Each file's name and text.
-pub(crate) const FILES: [(&str, &str); 47] = [
+pub(crate) const FILES: [(&str, &str); 58] = [
     ("first.s", FIRST),
     ("misaligned.s", MISALIGNED),
     ("empty.s", ""),
@@ -123,12 +152,18 @@ pub(crate) const FILES: [(&str, &str); 47] = [
     ("counter.s", COUNTER),
     ("rewrite.s", REWRITE),
     ("renew.s", RENEW),
+    ("one-renews.s", ONE_RENEWS),
+    ("amo.s", SUM_AND_SWAP),
+    ("reserve.s", RESERVE),
+    ("next-line.s", NEXT_LINE),
+    ("elsewhere.s", ELSEWHERE),
     ("append.s", APPEND),
     ("missing-fence.s", MISSING_FENCE),
     ("early-end.s", EARLY_END),
     ("long-append.s", LONG_APPEND),
     ("append2.s", APPEND_TWO),
     ("rename.s", RENAME),
+    ("empties.s", EMPTIES),
     ("seventeen.s", SEVENTEEN),
     ("twice.s", TWICE),
     ("unlinked.s", UNLINKED),
@@ -137,6 +172,8 @@ pub(crate) const FILES: [(&str, &str); 47] = [
     ("far-tail.s", FAR_TAIL),
     ("five.s", "addi x1, x0, 5\n"),
     ("short.o", "RVXPROG1\u{4}\0\0\0\0\0\0"),
+    ("longer.o", "RVXPROG1\u{4}\0\0\0\0\0\0\0\u{13}\0\0\0\0"),
+    ("six.o", "RVXPROG1\u{6}\0\0\0\0\0\0\0\u{13}\0\0\0\u{13}\0"),
     ("seven.o", "RVXPROG"),
     ("fault.s", "addi x5, x0, 7\nfoo x1\n"),
     ("away.s", "j away\nfoo x1\n"),
@@ -158,12 +195,15 @@ pub(crate) const FILES: [(&str, &str); 47] = [
         "layout 2\ninodes 1\npages 1\njournals 1\nop 1 append 0 77\n",
     ),
     ("links.plan", "inodes 1\npages 2\njournals 1\n"),
+    ("two.plan", "inodes 2\npages 2\njournals 1\n"),
     ("bare.plan", "inodes 1\npages 1\njournals 1\n"),
     (
         "seven.plan",
         "inodes 1\npages 1\njournals 1\nop 7 append 0 77\n",
     ),
     ("fault.plan", "inodes 1\npages one\n"),
+    ("one-renews.schedule", "h0*11 h1*4\n"),
+    ("reserve.schedule", "h0*3 h1*2 h0*5 h1*3\n"),
     ("append.schedule", "h0*22\n"),
     ("append2.schedule", "h0*100 h1*100\n"),
     ("rename.schedule", "h0*200\n"),

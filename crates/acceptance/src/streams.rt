@@ -1,7 +1,7 @@
 //! Standard output and standard error that can't be written, lines at fault, and help.
 
 use crate::folder::{Folder, folder_of_examples};
-use crate::turns::words_of;
+use crate::transcripts::words_of;
 use command_line::execute;
 use std::alloc::{AllocError, Global};
 use std::io;

@@ -12,7 +12,7 @@ use Rattle.clap.specs.declared.error.ErrorKind.TheVariants as kinds
 use Rattle.clap.specs.declared.parser.matches.ArgMatches.{ArgMatches}
 use Rattle.clap.specs.declared.parser.matches.Found.{Found}
 use Rattle.clap.proofs.WalkLemmas.{first_value-rows}
-use Rattle.arguments.specs.Grammar.{IsGrammar, novacrash}
+use Rattle.arguments.specs.Grammar.{IsGrammar, novacrash, assemble_shape, make_volume_shape, run_shape, replay_shape, debug_shape, images_shape, explain_shape, check_shape}
 use Rattle.arguments.specs.Line.{IsKindOf, Refuses}
 use Rattle.arguments.specs.declared.asked.LineFault.{LineFault}
 use Rattle.arguments.specs.declared.asked.LineFault.TheVariants.{Help, Fault, Memory}
@@ -45,9 +45,11 @@ refused_by_kind words kind (Fault text) (inr among) is =
 refused_by_kind words kind Memory among is = tt
 
 simple_and_free : is_simple_and_free novacrash ≡ true
+unfolding assemble_shape make_volume_shape run_shape replay_shape debug_shape images_shape explain_shape check_shape
 simple_and_free = refl
 
 simple : is_simple novacrash ≡ true
+unfolding assemble_shape make_volume_shape run_shape replay_shape debug_shape images_shape explain_shape check_shape
 simple = refl
 
 -- an error of the grammar's parse is refused by the fault for its kind

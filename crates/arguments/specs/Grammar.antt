@@ -19,19 +19,19 @@ abbrev pub valued_option : Text → Rule
 valued_option name = record (new_rule name) { long = Some name; value_names = 1 }
 
 -- `asm SOURCE OBJECT`
-abbrev pub assemble_shape : Shape
+unfoldable pub assemble_shape : Shape
 assemble_shape = record (new_shape (codes "asm")) {
   rules = needed_word (codes "SOURCE") ∷ needed_word (codes "OBJECT") ∷ help_option ∷ [];
 }
 
 -- `mkfs PLAN LINES MEDIUM`
-abbrev pub make_volume_shape : Shape
+unfoldable pub make_volume_shape : Shape
 make_volume_shape = record (new_shape (codes "mkfs")) {
   rules = needed_word (codes "PLAN") ∷ needed_word (codes "LINES") ∷ needed_word (codes "MEDIUM") ∷ help_option ∷ [];
 }
 
 -- `run PROGRAM [--medium FILE --harts N --capacity N --steps N --record FILE --out FILE]`
-abbrev pub run_shape : Shape
+unfoldable pub run_shape : Shape
 run_shape = record (new_shape (codes "run")) {
   rules = needed_word (codes "PROGRAM") ∷ valued_option (codes "medium") ∷ valued_option (codes "harts")
       ∷ valued_option (codes "capacity") ∷ valued_option (codes "steps") ∷ valued_option (codes "record")
@@ -39,7 +39,7 @@ run_shape = record (new_shape (codes "run")) {
 }
 
 -- `replay PROGRAM SCHEDULE [--medium FILE --harts N --capacity N --out FILE]`
-abbrev pub replay_shape : Shape
+unfoldable pub replay_shape : Shape
 replay_shape = record (new_shape (codes "replay")) {
   rules = needed_word (codes "PROGRAM") ∷ needed_word (codes "SCHEDULE") ∷ valued_option (codes "medium")
       ∷ valued_option (codes "harts") ∷ valued_option (codes "capacity") ∷ valued_option (codes "out")
@@ -47,28 +47,28 @@ replay_shape = record (new_shape (codes "replay")) {
 }
 
 -- `debug PROGRAM [--medium FILE --harts N --capacity N]`
-abbrev pub debug_shape : Shape
+unfoldable pub debug_shape : Shape
 debug_shape = record (new_shape (codes "debug")) {
   rules = needed_word (codes "PROGRAM") ∷ valued_option (codes "medium") ∷ valued_option (codes "harts")
       ∷ valued_option (codes "capacity") ∷ help_option ∷ [];
 }
 
 -- `images PROGRAM SCHEDULE MOMENT [--medium FILE --harts N]`
-abbrev pub images_shape : Shape
+unfoldable pub images_shape : Shape
 images_shape = record (new_shape (codes "images")) {
   rules = needed_word (codes "PROGRAM") ∷ needed_word (codes "SCHEDULE") ∷ needed_word (codes "MOMENT")
       ∷ valued_option (codes "medium") ∷ valued_option (codes "harts") ∷ help_option ∷ [];
 }
 
 -- `explain PROGRAM SCHEDULE MOMENT IMAGE [--medium FILE --harts N]`
-abbrev pub explain_shape : Shape
+unfoldable pub explain_shape : Shape
 explain_shape = record (new_shape (codes "explain")) {
   rules = needed_word (codes "PROGRAM") ∷ needed_word (codes "SCHEDULE") ∷ needed_word (codes "MOMENT")
       ∷ needed_word (codes "IMAGE") ∷ valued_option (codes "medium") ∷ valued_option (codes "harts") ∷ help_option ∷ [];
 }
 
 -- `check PLAN PROGRAM SCHEDULE [--medium FILE --harts N]`
-abbrev pub check_shape : Shape
+unfoldable pub check_shape : Shape
 check_shape = record (new_shape (codes "check")) {
   rules = needed_word (codes "PLAN") ∷ needed_word (codes "PROGRAM") ∷ needed_word (codes "SCHEDULE")
       ∷ valued_option (codes "medium") ∷ valued_option (codes "harts") ∷ help_option ∷ [];
@@ -78,18 +78,18 @@ check_shape = record (new_shape (codes "check")) {
 abbrev pub leaf : Shape → App
 leaf shape = record { top = shape; subs = [] }
 
--- a line with these subcommands: no `help` subcommand, no `-h`, and a subcommand has to be given
-abbrev pub line : List Shape → App
-line shapes = record {
-  top = record (new_shape (codes "novacrash")) {
-    rules = help_option ∷ [];
-    is_leaf = false;
-    disable_help_flag = true;
-    disable_help_subcommand = true;
-    subcommand_required = true;
-  };
-  subs = shapes;
+-- the line before it has a subcommand: no `help` subcommand, no `-h`, and a subcommand has to be given
+abbrev pub bare : Shape
+bare = record (new_shape (codes "novacrash")) {
+  rules = help_option ∷ [];
+  disable_help_flag = true;
+  disable_help_subcommand = true;
+  subcommand_required = true;
 }
+
+-- a line with these subcommands
+abbrev pub line : List Shape → App
+line shapes = record { top = record bare { is_leaf = false }; subs = shapes }
 
 -- the whole line
 abbrev pub novacrash : App
@@ -115,6 +115,10 @@ with_cached_machine app = with_rule (with_machine app) (valued_option (codes "ca
 -- the command with the limit and the record of a run
 abbrev pub with_recording : App → App
 with_recording app = with_rule (with_rule app (valued_option (codes "steps"))) (valued_option (codes "record"))
+
+-- the command with a number of lines and the file of a new medium
+abbrev pub with_new_medium : App → App
+with_new_medium app = with_rule (with_rule app (needed_word (codes "LINES"))) (needed_word (codes "MEDIUM"))
 
 -- the command with the option of the medium at the end, and `--help`
 abbrev pub with_end : App → App

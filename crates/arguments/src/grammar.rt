@@ -2,10 +2,10 @@
 
 ghost use Rattle.std.specs.Prelude.{◌≡◌, [], ◌∷◌, IfOk, codes, false};
 ghost use Rattle.clap.specs.Words.{app_of, rule_of};
-ghost use Rattle.arguments.specs.Grammar.{IsGrammar, IsLocal, leaf, line, novacrash};
+ghost use Rattle.arguments.specs.Grammar.{IsGrammar, IsLocal, bare as bare_shape, leaf, line, novacrash};
 ghost use Rattle.arguments.specs.Grammar.{assemble_shape, check_shape, debug_shape, explain_shape, images_shape, make_volume_shape, replay_shape, run_shape};
 ghost use Rattle.arguments.specs.Grammar.{help_option, needed_word, valued_option};
-ghost use Rattle.arguments.specs.Grammar.{with_cached_machine as cached, with_end as at_end, with_machine as whole, with_moment as at_moment, with_recording as recording, with_run as of_run};
+ghost use Rattle.arguments.specs.Grammar.{with_cached_machine as cached, with_end as at_end, with_machine as whole, with_moment as at_moment, with_new_medium as new_medium, with_recording as recording, with_run as of_run};
 
 use clap::{Arg, ArgAction};
 use std::alloc::{AllocError, Global};
@@ -203,6 +203,19 @@ fn with_recording<'a>(
     command.arg(steps(alloc))?.arg(record(alloc))
 }
 
+/// The command with a number of lines, and the file of the medium that has so many.
+fn with_new_medium<'a>(
+    alloc: Global,
+    command: clap::Command<'a>,
+) -> Result<clap::Command<'a>, AllocError>
+    requires { IsLocal command }
+    ensures { IfOk result (IsGrammar (new_medium (app_of command.entry))) }
+{
+    command
+        .arg(word(alloc, "LINES", "The number of cache lines of the medium"))?
+        .arg(word(alloc, "MEDIUM", "The file that gets the medium"))
+}
+
 /// The command with the option of the medium at the end, and `--help`.
 fn with_end<'a>(alloc: Global, command: clap::Command<'a>) -> Result<clap::Command<'a>, AllocError>
     requires { IsLocal command }
@@ -211,6 +224,7 @@ fn with_end<'a>(alloc: Global, command: clap::Command<'a>) -> Result<clap::Comma
     command.arg(out(alloc))?.arg(help_flag(alloc))
 }
 
+#[tactic(auto, unfolding(crate::specs::Grammar::assemble_shape))]
 fn assemble<'a>(alloc: Global) -> Result<clap::Command<'a>, AllocError>
     ensures { IfOk result (IsGrammar (leaf assemble_shape)) }
 {
@@ -221,17 +235,17 @@ fn assemble<'a>(alloc: Global) -> Result<clap::Command<'a>, AllocError>
         .arg(help_flag(alloc))
 }
 
+#[tactic(auto, unfolding(crate::specs::Grammar::make_volume_shape))]
 fn make_volume<'a>(alloc: Global) -> Result<clap::Command<'a>, AllocError>
     ensures { IfOk result (IsGrammar (leaf make_volume_shape)) }
 {
-    clap::Command::new(alloc, "mkfs")
+    let command = clap::Command::new(alloc, "mkfs")
         .about("Write a fresh log volume for the operations of a plan")
-        .arg(plan(alloc))?
-        .arg(word(alloc, "LINES", "The number of cache lines of the medium"))?
-        .arg(word(alloc, "MEDIUM", "The file that gets the medium"))?
-        .arg(help_flag(alloc))
+        .arg(plan(alloc))?;
+    with_new_medium(alloc, command)?.arg(help_flag(alloc))
 }
 
+#[tactic(auto, unfolding(crate::specs::Grammar::run_shape))]
 fn run<'a>(alloc: Global) -> Result<clap::Command<'a>, AllocError>
     ensures { IfOk result (IsGrammar (leaf run_shape)) }
 {
@@ -242,6 +256,7 @@ fn run<'a>(alloc: Global) -> Result<clap::Command<'a>, AllocError>
     with_end(alloc, with_recording(alloc, command)?)
 }
 
+#[tactic(auto, unfolding(crate::specs::Grammar::replay_shape))]
 fn replay<'a>(alloc: Global) -> Result<clap::Command<'a>, AllocError>
     ensures { IfOk result (IsGrammar (leaf replay_shape)) }
 {
@@ -250,6 +265,7 @@ fn replay<'a>(alloc: Global) -> Result<clap::Command<'a>, AllocError>
     with_end(alloc, with_cached_machine(alloc, command)?)
 }
 
+#[tactic(auto, unfolding(crate::specs::Grammar::debug_shape))]
 fn debug<'a>(alloc: Global) -> Result<clap::Command<'a>, AllocError>
     ensures { IfOk result (IsGrammar (leaf debug_shape)) }
 {
@@ -259,6 +275,7 @@ fn debug<'a>(alloc: Global) -> Result<clap::Command<'a>, AllocError>
     with_cached_machine(alloc, command)?.arg(help_flag(alloc))
 }
 
+#[tactic(auto, unfolding(crate::specs::Grammar::images_shape))]
 fn images<'a>(alloc: Global) -> Result<clap::Command<'a>, AllocError>
     ensures { IfOk result (IsGrammar (leaf images_shape)) }
 {
@@ -269,6 +286,7 @@ fn images<'a>(alloc: Global) -> Result<clap::Command<'a>, AllocError>
     with_machine(alloc, command)?.arg(help_flag(alloc))
 }
 
+#[tactic(auto, unfolding(crate::specs::Grammar::explain_shape))]
 fn explain<'a>(alloc: Global) -> Result<clap::Command<'a>, AllocError>
     ensures { IfOk result (IsGrammar (leaf explain_shape)) }
 {
@@ -279,6 +297,7 @@ fn explain<'a>(alloc: Global) -> Result<clap::Command<'a>, AllocError>
     with_machine(alloc, command)?.arg(help_flag(alloc))
 }
 
+#[tactic(auto, unfolding(crate::specs::Grammar::check_shape))]
 fn check<'a>(alloc: Global) -> Result<clap::Command<'a>, AllocError>
     ensures { IfOk result (IsGrammar (leaf check_shape)) }
 {
@@ -289,17 +308,23 @@ fn check<'a>(alloc: Global) -> Result<clap::Command<'a>, AllocError>
     with_machine(alloc, command)?.arg(help_flag(alloc))
 }
 
-/// The line with `asm` as its one subcommand.
-fn with_assemble<'a>(alloc: Global) -> Result<clap::Command<'a>, AllocError>
-    ensures { IfOk result (IsGrammar (line (assemble_shape ∷ []))) }
+/// The line before it has a subcommand.
+fn bare<'a>(alloc: Global) -> Result<clap::Command<'a>, AllocError>
+    ensures { IfOk result (IsGrammar (leaf bare_shape)) }
 {
     clap::Command::new(alloc, "novacrash")
         .about("A crash tester for persistent-memory routines")
         .disable_help_flag(true)
         .disable_help_subcommand(true)
         .subcommand_required(true)
-        .arg(help_flag(alloc))?
-        .subcommand(assemble(alloc)?)
+        .arg(help_flag(alloc))
+}
+
+/// The line with `asm` as its one subcommand.
+fn with_assemble<'a>(alloc: Global) -> Result<clap::Command<'a>, AllocError>
+    ensures { IfOk result (IsGrammar (line (assemble_shape ∷ []))) }
+{
+    bare(alloc)?.subcommand(assemble(alloc)?)
 }
 
 /// The line with `mkfs` beside it.

@@ -56,6 +56,7 @@ fn matches<'a>(alloc: Global, words: &'a [String]) -> Result<ArgMatches<'a>, Lin
 /// - `images PROGRAM SCHEDULE MOMENT [--medium FILE --harts N]`
 /// - `explain PROGRAM SCHEDULE MOMENT IMAGE [--medium FILE --harts N]`
 /// - `check PLAN PROGRAM SCHEDULE [--medium FILE --harts N]`
+#[tactic(auto, unfolding(crate::specs::Grammar::assemble_shape, crate::specs::Grammar::make_volume_shape, crate::specs::Grammar::run_shape, crate::specs::Grammar::replay_shape, crate::specs::Grammar::debug_shape, crate::specs::Grammar::images_shape, crate::specs::Grammar::explain_shape, crate::specs::Grammar::check_shape))]
 pub fn command(alloc: Global, words: &[String]) -> Result<Command, LineFault>
     ensures ok { IfOk result (IsCommand (map string_bytes words.now)) }
     ensures within { IfOk result IsWithinLimits }

@@ -59,7 +59,7 @@ Gives view (Err e) r = r ≡ Err e
 abbrev pub shaped : Interval → List Slot → List Lexeme → Result Parts AsmCode
 shaped range shape ls = checked range (fit shape ls)
 
--- a number alone; a number and a name, or two; a name alone; a target alone
+-- a number alone; a number and one to three names; a name alone; a target alone, and after one name or two
 abbrev pub of_number : SignedNumber → Operands
 of_number n = record { names = []; numbers = n ∷ []; sets = []; targets = [] }
 
@@ -69,11 +69,20 @@ of_place n text = record { names = text ∷ []; numbers = n ∷ []; sets = []; t
 abbrev pub of_names : SignedNumber → List ℕ → List ℕ → Operands
 of_names n first second = record { names = first ∷ second ∷ []; numbers = n ∷ []; sets = []; targets = [] }
 
+abbrev pub of_three_names : SignedNumber → List ℕ → List ℕ → List ℕ → Operands
+of_three_names n first second third = record { names = first ∷ second ∷ third ∷ []; numbers = n ∷ []; sets = []; targets = [] }
+
 abbrev pub of_name : List ℕ → Operands
 of_name text = record { names = text ∷ []; numbers = []; sets = []; targets = [] }
 
 abbrev pub of_target : Target → Operands
 of_target place = record { names = []; numbers = []; sets = []; targets = place ∷ [] }
+
+abbrev pub of_name_and_target : List ℕ → Target → Operands
+of_name_and_target text place = record { names = text ∷ []; numbers = []; sets = []; targets = place ∷ [] }
+
+abbrev pub of_names_and_target : List ℕ → List ℕ → Target → Operands
+of_names_and_target first second place = record { names = first ∷ second ∷ []; numbers = []; sets = []; targets = place ∷ [] }
 
 -- the numbers that are left to read: none after the last one
 abbrev pub numbers_left : Option (Bor (List Found)) → Option (List SignedNumber)

@@ -6,7 +6,7 @@ ghost use Rattle.asm_line.specs.Grammar.{with_target, distance_then};
 ghost use Rattle.asm_line.specs.Numbers.{number_then, within, even};
 ghost use Rattle.asm_names.specs.Registers.{register_of};
 ghost use Rattle.asm_line.specs.Steps.{all_seen, seen, target_seen, of_number, of_names, of_place};
-ghost use Rattle.asm_line.specs.Steps.{of_name, of_target};
+ghost use Rattle.asm_line.specs.Steps.{of_name, of_name_and_target, of_names_and_target, of_target, of_three_names};
 ghost use Rattle.std.specs.Prelude.{◌≡◌, ◌^◌, ◌≤ℤ◌, pos, negsuc, neg_ℤ, int_le, if◌then◌else◌};
 ghost use Rattle.std.specs.Prelude.{◌∷◌, [], Some, None, Ok, Err, MatchOption, IfOk, IfSome, ok_or};
 ghost use Rattle.std.specs.Prelude.{option_map, length, ◌<◌};
@@ -106,6 +106,77 @@ fn base<'a>(lexemes: &[Lexeme<'a>]) -> Option<&'a [u8]>
 {
     match lexemes {
         [Lexeme::Open, Lexeme::Name(name), Lexeme::Close] => Some(*name),
+        _ => None,
+    }
+}
+
+/// A name and a place, between them a comma.
+pub(crate) fn name_and_place<'a>(
+    lexemes: &[Lexeme<'a>],
+) -> Option<(&'a [u8], SignedNumber, &'a [u8])>
+    ensures { fit (register_then memory_place) (all_seen lexemes.now)
+        ≡ option_map (λ (name, n, base). of_names n name.now base.now) result }
+{
+    match lexemes {
+        [Lexeme::Name(name), Lexeme::Comma, rest @ ..] => {
+            let (offset, base) = place(rest)?;
+            Some((*name, offset, base))
+        }
+        _ => None,
+    }
+}
+
+/// Two names, and the place after them.
+#[derive(Clone, Copy)]
+pub(crate) struct NamesAndPlace<'a> {
+    pub(crate) first: &'a [u8],
+    pub(crate) second: &'a [u8],
+    pub(crate) offset: SignedNumber,
+    pub(crate) base: &'a [u8],
+}
+
+/// Two names and a place, between them commas.
+pub(crate) fn names_and_place<'a>(lexemes: &[Lexeme<'a>]) -> Option<NamesAndPlace<'a>>
+    ensures { fit (register_then (register_then memory_place)) (all_seen lexemes.now)
+        ≡ option_map (λ found. of_three_names found.offset found.first.now found.second.now found.base.now) result }
+{
+    match lexemes {
+        [Lexeme::Name(first), Lexeme::Comma, rest @ ..] => {
+            let (second, offset, base) = name_and_place(rest)?;
+            Some(NamesAndPlace {
+                first: *first,
+                second,
+                offset,
+                base,
+            })
+        }
+        _ => None,
+    }
+}
+
+/// A name and a target, between them a comma.
+pub(crate) fn name_and_target<'a>(lexemes: &[Lexeme<'a>]) -> Option<(&'a [u8], Target<'a>)>
+    ensures { fit (register_then (target ∷ [])) (all_seen lexemes.now)
+        ≡ option_map (λ (name, t). of_name_and_target name.now (target_seen t)) result }
+{
+    match lexemes {
+        [Lexeme::Name(name), Lexeme::Comma, rest @ ..] => Some((*name, target_of(rest)?)),
+        _ => None,
+    }
+}
+
+/// Two names and a target, between them commas.
+pub(crate) fn names_and_target<'a>(
+    lexemes: &[Lexeme<'a>],
+) -> Option<(&'a [u8], &'a [u8], Target<'a>)>
+    ensures { fit (register_then (register_then (target ∷ []))) (all_seen lexemes.now)
+        ≡ option_map (λ (first, second, t). of_names_and_target first.now second.now (target_seen t)) result }
+{
+    match lexemes {
+        [Lexeme::Name(first), Lexeme::Comma, rest @ ..] => {
+            let (second, target) = name_and_target(rest)?;
+            Some((*first, second, target))
+        }
         _ => None,
     }
 }

@@ -12,7 +12,8 @@ ghost use Rattle.std.specs.Prelude.{◌≡◌, ◌^◌, ◌≤ℤ◌, [], ◌∷
 use crate::fault::AsmCode;
 use crate::lexeme::Lexeme;
 use crate::operands::{
-    Target, name_and_number, names_and_number, number, place, register, target_of, within,
+    Target, name_and_number, name_and_place, name_and_target, names_and_number, names_and_place,
+    names_and_target, number, place, register, target_of, within,
 };
 use isa_table::Reg;
 
@@ -134,15 +135,10 @@ pub(crate) fn register_and_memory(
         (shaped (from_to low high) (register_then memory_place) (all_seen operands.now)) }
     ensures range { IfOk result (λ (a, b, z). (low ≤ℤ z) × (z ≤ℤ high)) }
 {
-    match operands {
-        [Lexeme::Name(name), Lexeme::Comma, rest @ ..] => {
-            let (offset, base) = place(rest).ok_or(AsmCode::Operands)?;
-            let register = register(name)?;
-            let base = crate::operands::register(base)?;
-            Ok((register, base, within(offset, low, high)?))
-        }
-        _ => Err(AsmCode::Operands),
-    }
+    let (name, offset, base) = name_and_place(operands).ok_or(AsmCode::Operands)?;
+    let first = register(name)?;
+    let base = register(base)?;
+    Ok((first, base, within(offset, low, high)?))
 }
 
 /// `rd, rs2, (rs1)`, where an offset of 0 may stand.
@@ -150,23 +146,12 @@ pub(crate) fn two_registers_and_memory(operands: &[Lexeme]) -> Result<(Reg, Reg,
     ensures { Gives (λ (a, b, c). parts (a ∷ b ∷ c ∷ []) (pos 0 ∷ []) [] []) result
         (shaped (up_to 0) (register_then (register_then memory_place)) (all_seen operands.now)) }
 {
-    match operands {
-        [
-            Lexeme::Name(first),
-            Lexeme::Comma,
-            Lexeme::Name(second),
-            Lexeme::Comma,
-            rest @ ..,
-        ] => {
-            let (offset, base) = place(rest).ok_or(AsmCode::Operands)?;
-            let first = register(first)?;
-            let second = register(second)?;
-            let base = register(base)?;
-            within(offset, 0, 0)?;
-            Ok((first, second, base))
-        }
-        _ => Err(AsmCode::Operands),
-    }
+    let found = names_and_place(operands).ok_or(AsmCode::Operands)?;
+    let first = register(found.first)?;
+    let second = register(found.second)?;
+    let base = register(found.base)?;
+    within(found.offset, 0, 0)?;
+    Ok((first, second, base))
 }
 
 /// A target alone.
@@ -182,13 +167,8 @@ pub(crate) fn register_and_target<'a>(operands: &[Lexeme<'a>]) -> Result<(Reg, T
     ensures { Gives (λ (r, t). parts (r ∷ []) [] [] (target_seen t ∷ [])) result
         (shaped signed_12 (register_then (target ∷ [])) (all_seen operands.now)) }
 {
-    match operands {
-        [Lexeme::Name(name), Lexeme::Comma, rest @ ..] => {
-            let target = target_of(rest).ok_or(AsmCode::Operands)?;
-            Ok((register(name)?, target))
-        }
-        _ => Err(AsmCode::Operands),
-    }
+    let (name, target) = name_and_target(operands).ok_or(AsmCode::Operands)?;
+    Ok((register(name)?, target))
 }
 
 /// `rs1, rs2, target`
@@ -198,19 +178,8 @@ pub(crate) fn two_registers_and_target<'a>(
     ensures { Gives (λ (a, b, t). parts (a ∷ b ∷ []) [] [] (target_seen t ∷ [])) result
         (shaped signed_12 (register_then (register_then (target ∷ []))) (all_seen operands.now)) }
 {
-    match operands {
-        [
-            Lexeme::Name(first),
-            Lexeme::Comma,
-            Lexeme::Name(second),
-            Lexeme::Comma,
-            rest @ ..,
-        ] => {
-            let target = target_of(rest).ok_or(AsmCode::Operands)?;
-            Ok((register(first)?, register(second)?, target))
-        }
-        _ => Err(AsmCode::Operands),
-    }
+    let (first, second, target) = names_and_target(operands).ok_or(AsmCode::Operands)?;
+    Ok((register(first)?, register(second)?, target))
 }
 
 /// No operands.

@@ -3,15 +3,15 @@
 #![tactic(auto)]
 
 #[cfg(test)]
-mod lines;
+mod examples;
 #[cfg(test)]
-mod loading;
+mod files;
+#[cfg(test)]
+mod lines;
 #[cfg(test)]
 mod names;
 #[cfg(test)]
-mod objects;
-#[cfg(test)]
-mod round_trips;
+mod readings;
 #[cfg(test)]
 mod sources;
 #[cfg(test)]

@@ -1,91 +1,83 @@
 //! Lines and tokens of small sources; the expected values come from the grammar.
 
-use asm_lex::{Kind, LexFault, next_line, tokens};
+use crate::examples::{Example, first_difference};
+use crate::readings::Reading;
 use std::test::Fail;
+
+/// Lines end at line feeds, and an LF at the end begins no line.
+static LINES: [Example; 2] = [
+    (b"a\r\n\n b\r\r\nlast\r", "a\n\n b\r\nlast\r\n0 left"),
+    (b"\r\n", "\n0 left"),
+];
 
 #[test]
 fn lines_end_at_line_feeds(rt: HostRuntime) -> Result<(), Fail> {
-    let mut rest = b"a\r\n\n b\r\r\nlast\r".as_slice();
-    for expected in [b"a".as_slice(), b"", b" b\r", b"last\r"] {
-        let (line, after) = next_line(rest).ok_or("a line is missing")?;
-        assert_eq!(rt; line, expected);
-        rest = after;
-    }
-    assert_eq!(rt; rest.len(), 0);
-    assert!(rt; next_line(rest).is_none());
-    let (line, after) = next_line(b"\r\n").ok_or("the empty line is missing")?;
-    assert_eq!(rt; line.len(), 0);
-    assert_eq!(rt; after.len(), 0, "an LF at the end begins no line");
+    assert_eq!(rt; first_difference(rt.alloc(), Reading::Lines, &LINES)?, None);
     Ok(())
 }
 
-#[test]
-fn a_line_has_tokens_of_every_kind(rt: HostRuntime) -> Result<(), Fail> {
-    let line = b"\tlab_1: lw x1,+8 (sp) -0xfF .5 . #,\x80\r";
-    let found = tokens(rt.alloc(), line, 7)?;
-    let expected = [
-        (b"lab_1".as_slice(), Kind::Name, 1),
-        (b":", Kind::Colon, 6),
-        (b"lw", Kind::Name, 8),
-        (b"x1", Kind::Name, 11),
-        (b",", Kind::Comma, 13),
-        (b"+", Kind::Plus, 14),
-        (b"8", Kind::Number(Some(8)), 15),
-        (b"(", Kind::Open, 17),
-        (b"sp", Kind::Name, 18),
-        (b")", Kind::Close, 20),
-        (b"-", Kind::Minus, 22),
-        (b"0xfF", Kind::Number(Some(255)), 23),
-        (b".5", Kind::Name, 28),
-        (b".", Kind::Name, 31),
-    ];
-    assert_eq!(rt; found.len(), expected.len());
-    for (token, (text, kind, start)) in found.iter().zip(expected) {
-        assert_eq!(rt; token.text, text);
-        assert_eq!(rt; token.kind, kind, "of {text:?}");
-        assert_eq!(rt; token.start, start, "of {text:?}");
-        assert_eq!(rt; token.line, 7);
-    }
-    Ok(())
-}
+const TOKENS_OF_EVERY_KIND: &str = "\
+7:1 Name lab_1
+7:6 Colon :
+7:8 Name lw
+7:11 Name x1
+7:13 Comma ,
+7:14 Plus +
+7:15 Number(Some(8)) 8
+7:17 Open (
+7:18 Name sp
+7:20 Close )
+7:22 Minus -
+7:23 Number(Some(255)) 0xfF
+7:28 Name .5
+7:31 Name .
+";
+
+static TOKENS: [Example; 22] = [
+    (
+        b"\tlab_1: lw x1,+8 (sp) -0xfF .5 . #,\x80\r",
+        TOKENS_OF_EVERY_KIND,
+    ),
+    (b"0", "7:0 Number(Some(0)) 0\n"),
+    (b"0x00", "7:0 Number(Some(0)) 0x00\n"),
+    (
+        b"18446744073709551615",
+        "7:0 Number(Some(18446744073709551615)) 18446744073709551615\n",
+    ),
+    (
+        b"18446744073709551616",
+        "7:0 Number(None) 18446744073709551616\n",
+    ),
+    (
+        b"0x0FFFFffffFFFFffff",
+        "7:0 Number(Some(18446744073709551615)) 0x0FFFFffffFFFFffff\n",
+    ),
+    (
+        b"0x10000000000000000",
+        "7:0 Number(None) 0x10000000000000000\n",
+    ),
+    (b"0x", "bad token"),
+    (b"00", "bad token"),
+    (b"1b", "bad token"),
+    (b"0X1", "bad token"),
+    (b"0xg", "bad token"),
+    (b"1.5", "bad token"),
+    (b"9_", "bad token"),
+    (b"add \x80", "bad token"),
+    (b"nop\r", "bad token"),
+    (b"a@b", "bad token"),
+    (b"x1;", "bad token"),
+    (b"", ""),
+    (b" \t ", ""),
+    (b"#", ""),
+    (b" # \x80 00", ""),
+];
 
 #[test]
-fn numbers_have_values(rt: HostRuntime) -> Result<(), Fail> {
-    for (text, value) in [
-        (b"0".as_slice(), Some(0)),
-        (b"0x00", Some(0)),
-        (b"18446744073709551615", Some(0xffff_ffff_ffff_ffff)),
-        (b"18446744073709551616", None),
-        (b"0x0FFFFffffFFFFffff", Some(0xffff_ffff_ffff_ffff)),
-        (b"0x10000000000000000", None),
-    ] {
-        let found = tokens(rt.alloc(), text, 1)?;
-        assert_eq!(rt; found.len(), 1, "of {text:?}");
-        assert_eq!(rt; found[0].kind, Kind::Number(value), "of {text:?}");
-    }
-    Ok(())
-}
-
-#[test]
-fn other_bytes_and_runs_are_bad(rt: HostRuntime) -> Result<(), Fail> {
-    for line in [
-        b"0x".as_slice(),
-        b"00",
-        b"1b",
-        b"0X1",
-        b"0xg",
-        b"1.5",
-        b"9_",
-        b"add \x80",
-        b"nop\r",
-        b"a@b",
-        b"x1;",
-    ] {
-        let answer = tokens(rt.alloc(), line, 1).map(|found| found.len());
-        assert_eq!(rt; answer, Err(LexFault::BadToken), "of {line:?}");
-    }
-    for line in [b"".as_slice(), b" \t ", b"#", b" # \x80 00"] {
-        assert_eq!(rt; tokens(rt.alloc(), line, 1)?.len(), 0, "of {line:?}");
-    }
+fn lines_have_their_tokens(rt: HostRuntime) -> Result<(), Fail> {
+    assert_eq!(rt;
+        first_difference(rt.alloc(), Reading::Tokens, &TOKENS)?,
+        None
+    );
     Ok(())
 }

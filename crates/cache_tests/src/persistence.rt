@@ -1,107 +1,235 @@
-//! Worked examples, each public call, and lists of calls compared with the crash model's plain program.
+//! Worked examples, and lists of calls compared with the crash model's plain program.
 
 ghost use Rattle.std.specs.Prelude.{◌≡◌, ◌<◌, ◌≤◌, length, IfOk};
 
 use clean_fence::PmCache;
 use crash_model::{PersistenceStep, stores, written_back};
 use line_memory::{Medium, MediumFault};
-use std::alloc::Global;
+use std::alloc::{AllocError, Global};
 use std::process::Abort;
 use std::test::Fail;
 
-/// A cache of eight harts over 512 lines of zeros.
-fn cache(alloc: Global, capacity: u32) -> Result<PmCache, MediumFault>
-    requires { 1 ≤ capacity }
-    ensures { IfOk result (λ pm. (pm.harts ≡ 8) × (length pm.lines ≡ 512)) }
-{
-    let medium = Medium::zero(alloc, 512)?;
-    if medium.lines() != 512 {
-        return Err(MediumFault::Size);
+/// A call of a cache over persistent memory, or what is to hold before the next one. Numbers are of the eight bytes at the start
+/// of a line.
+#[derive(Clone, Copy)]
+enum Call {
+    /// A store in a line.
+    Store(u32, u64),
+    /// A store of a line's first byte alone.
+    StoreByte(u32, u8),
+    /// A load from a line, which finds this number.
+    Load(u32, u64),
+    /// A hart's clean of a line.
+    Clean(u32, u32),
+    /// A hart's flush of a line.
+    Flush(u32, u32),
+    /// A hart's fence.
+    Fence(u32),
+    Evict(u32),
+    /// A peek at a line's first byte, which is this one.
+    Peek(u32, u8),
+    /// The medium has this number in a line.
+    Kept(u32, u64),
+    Resident(u32, bool),
+    Dirty(u32, bool),
+}
+
+/// A cache over 512 lines of zeros, for eight harts.
+#[derive(Drop)]
+struct Persistent {
+    pm: PmCache,
+    ghost harts: { pm.harts ≡ 8 },
+    ghost lines: { length pm.lines ≡ 512 },
+}
+
+impl Persistent {
+    fn new(alloc: Global, capacity: u32) -> Result<Persistent, MediumFault>
+        requires { 1 ≤ capacity }
+    {
+        let medium = Medium::zero(alloc, 512)?;
+        if medium.lines() != 512 {
+            return Err(MediumFault::Size);
+        }
+        let pm = PmCache::new(alloc, medium, capacity, 8)?;
+        Ok(Persistent { pm })
     }
-    PmCache::new(alloc, medium, capacity, 8)
+
+    /// Makes a call, and tells whether it finds what it is to find. One of another line or hart is not made.
+    fn holds(&mut self, call: Call) -> bool {
+        match call {
+            Call::Store(line, value) if line < 512 => self.pm.store(64 * line, 8, value),
+            Call::StoreByte(line, byte) if line < 512 => {
+                self.pm.store(64 * line, 1, u64::from(byte));
+            }
+            Call::Clean(hart, line) if hart < 8 && line < 512 => self.pm.clean(hart, line),
+            Call::Flush(hart, line) if hart < 8 && line < 512 => self.pm.flush(hart, line),
+            Call::Fence(hart) if hart < 8 => self.pm.fence(hart),
+            Call::Evict(line) if line < 512 => self.pm.evict(line),
+            Call::Load(line, value) if line < 512 => return self.pm.load(64 * line, 8) == value,
+            _ => return self.shows(call),
+        }
+        true
+    }
+
+    /// Whether what a question finds, which changes nothing, is what it is to find.
+    fn shows(&self, call: Call) -> bool {
+        match call {
+            Call::Peek(line, byte) if line < 512 => self.pm.peek(64 * line) == byte,
+            Call::Kept(line, value) if line < 512 => {
+                self.pm.medium().load(64 * line, 8) == value
+            }
+            Call::Resident(line, resident) if line < 512 => {
+                self.pm.is_resident(line) == resident
+            }
+            Call::Dirty(line, dirty) if line < 512 => self.pm.is_dirty(line) == dirty,
+            _ => false,
+        }
+    }
+
+    /// The place of the first of these calls that finds something else.
+    fn first_difference(&mut self, calls: &[Call]) -> Option<usize> {
+        for (place, call) in calls.iter().enumerate() {
+            if !self.holds(*call) {
+                return Some(place);
+            }
+        }
+        None
+    }
+
+    /// What a power cut leaves in lines 0 and 1.
+    fn power_cut(self) -> [u64; 2] {
+        let Persistent { pm } = self;
+        let medium = pm.power_cut();
+        [medium.load(0, 8), medium.load(64, 8)]
+    }
+}
+
+/// Calls on a cache of so many lines, and what a power cut after them leaves in lines 0 and 1.
+struct Example {
+    name: &'static str,
+    capacity: u32,
+    calls: &'static [Call],
+    left: [u64; 2],
+}
+
+static EXAMPLES: [Example; 6] = [
+    Example {
+        name: "a fence of another hart",
+        capacity: 8,
+        calls: &[
+            Call::Store(0, 1),
+            Call::Store(0, 2),
+            Call::Clean(0, 0),
+            Call::Store(0, 3),
+            Call::Fence(1),
+            Call::Kept(0, 0),
+            Call::Fence(0),
+            Call::Kept(0, 3),
+        ],
+        left: [3, 0],
+    },
+    Example {
+        name: "an eviction ends what pends",
+        capacity: 8,
+        calls: &[
+            Call::Store(0, 1),
+            Call::Clean(0, 0),
+            Call::Evict(0),
+            Call::Store(0, 2),
+            Call::Fence(0),
+            Call::Kept(0, 1),
+        ],
+        left: [1, 0],
+    },
+    Example {
+        name: "a flushed line leaves",
+        capacity: 8,
+        calls: &[
+            Call::Store(0, 1),
+            Call::Clean(0, 0),
+            Call::Flush(1, 0),
+            Call::Fence(0),
+            Call::Kept(0, 1),
+            Call::Resident(0, false),
+        ],
+        left: [1, 0],
+    },
+    Example {
+        name: "a fence without a clean",
+        capacity: 8,
+        calls: &[
+            Call::Store(0, 1),
+            Call::Clean(0, 0),
+            Call::Fence(0),
+            Call::Store(0, 2),
+            Call::Fence(0),
+            Call::Kept(0, 1),
+            Call::Dirty(0, true),
+        ],
+        left: [1, 0],
+    },
+    Example {
+        name: "a flush lasts to the write-back",
+        capacity: 8,
+        calls: &[
+            Call::Store(0, 1),
+            Call::Flush(0, 0),
+            Call::Store(0, 2),
+            Call::Clean(1, 0),
+            Call::Fence(1),
+            Call::Kept(0, 2),
+            Call::Resident(0, false),
+            Call::Load(0, 2),
+            Call::Flush(0, 0),
+            Call::Resident(0, false),
+        ],
+        left: [2, 0],
+    },
+    Example {
+        name: "a cache of one line",
+        capacity: 1,
+        calls: &[
+            Call::Store(0, 1),
+            Call::Store(1, 3),
+            Call::Store(0, 2),
+            Call::Store(1, 4),
+            Call::Load(0, 2),
+            Call::Load(1, 4),
+            Call::StoreByte(1, 5),
+            Call::Peek(1, 5),
+        ],
+        left: [2, 4],
+    },
+];
+
+/// Where an example finds something else: the place of the call, or the number of its calls where only the power cut
+/// leaves something else.
+fn difference(alloc: Global, example: &Example) -> Result<Option<usize>, MediumFault> {
+    if example.capacity == 0 {
+        return Ok(Some(0));
+    }
+    let mut persistent = Persistent::new(alloc, example.capacity)?;
+    if let Some(place) = persistent.first_difference(example.calls) {
+        return Ok(Some(place));
+    }
+    let left = persistent.power_cut();
+    Ok((left != example.left).then_some(example.calls.len()))
+}
+
+/// The first example that finds something else, by its name, and where.
+fn first_wrong(alloc: Global) -> Result<Option<(&'static str, usize)>, MediumFault> {
+    for example in &EXAMPLES {
+        if let Some(place) = difference(alloc, example)? {
+            return Ok(Some((example.name, place)));
+        }
+    }
+    Ok(None)
 }
 
 #[test]
-fn fence_of_the_other_hart(rt: HostRuntime) -> Result<(), Fail> {
-    let mut pm = cache(rt.alloc(), 8)?;
-    pm.store(0, 8, 1);
-    pm.store(0, 8, 2);
-    pm.clean(0, 0);
-    pm.store(0, 8, 3);
-    pm.fence(1);
-    assert_eq!(rt; pm.medium().load(0, 8), 0);
-    pm.fence(0);
-    assert_eq!(rt; pm.medium().load(0, 8), 3);
-    Ok(())
-}
-
-#[test]
-fn eviction_ends_what_pends(rt: HostRuntime) -> Result<(), Fail> {
-    let mut pm = cache(rt.alloc(), 8)?;
-    pm.store(0, 8, 1);
-    pm.clean(0, 0);
-    pm.evict(0);
-    pm.store(0, 8, 2);
-    pm.fence(0);
-    assert_eq!(rt; pm.medium().load(0, 8), 1);
-    Ok(())
-}
-
-#[test]
-fn flushed_line_leaves(rt: HostRuntime) -> Result<(), Fail> {
-    let mut pm = cache(rt.alloc(), 8)?;
-    pm.store(0, 8, 1);
-    pm.clean(0, 0);
-    pm.flush(1, 0);
-    pm.fence(0);
-    assert_eq!(rt; pm.medium().load(0, 8), 1);
-    assert!(rt; !pm.is_resident(0));
-    Ok(())
-}
-
-#[test]
-fn fence_without_a_clean(rt: HostRuntime) -> Result<(), Fail> {
-    let mut pm = cache(rt.alloc(), 8)?;
-    pm.store(0, 8, 1);
-    pm.clean(0, 0);
-    pm.fence(0);
-    pm.store(0, 8, 2);
-    pm.fence(0);
-    assert_eq!(rt; pm.medium().load(0, 8), 1);
-    assert!(rt; pm.is_dirty(0));
-    Ok(())
-}
-
-#[test]
-fn flush_lasts_to_the_write_back(rt: HostRuntime) -> Result<(), Fail> {
-    let mut pm = cache(rt.alloc(), 8)?;
-    pm.store(0, 8, 1);
-    pm.flush(0, 0);
-    pm.store(0, 8, 2);
-    pm.clean(1, 0);
-    pm.fence(1);
-    assert_eq!(rt; pm.medium().load(0, 8), 2);
-    assert!(rt; !pm.is_resident(0));
-    pm.load(0, 8);
-    pm.flush(0, 0);
-    assert!(rt; !pm.is_resident(0));
-    Ok(())
-}
-
-#[test]
-fn cache_of_one_line(rt: HostRuntime) -> Result<(), Fail> {
-    let mut pm = cache(rt.alloc(), 1)?;
-    pm.store(0, 8, 1);
-    pm.store(64, 8, 3);
-    pm.store(0, 8, 2);
-    pm.store(64, 8, 4);
-    assert_eq!(rt; pm.load(0, 8), 2);
-    assert_eq!(rt; pm.load(64, 8), 4);
-    pm.store(64, 1, 5);
-    assert_eq!(rt; pm.peek(64), 5);
-    let medium = pm.power_cut();
-    assert_eq!(rt; medium.load(0, 8), 2);
-    assert_eq!(rt; medium.load(64, 8), 4);
+fn examples(rt: HostRuntime) -> Result<(), Fail> {
+    let wrong = first_wrong(rt.alloc())?;
+    assert!(rt; wrong.is_none(), "{wrong:?}");
     Ok(())
 }
 
@@ -111,120 +239,109 @@ const USED: usize = 9;
 /// The lines that are used: eight of three sets, and the last line.
 const LINES: [u32; USED] = [0, 1, 2, 8, 9, 10, 16, 24, 511];
 
-#[derive(Clone, Copy)]
-enum Call {
-    Load,
-    Store,
-    Clean,
-    Flush,
-    Fence,
-    Evict,
-}
-
-const CALLS: [Call; 8] = [
-    Call::Store,
-    Call::Load,
-    Call::Store,
-    Call::Clean,
-    Call::Fence,
-    Call::Flush,
-    Call::Store,
-    Call::Evict,
-];
-
-/// A cache, and the persistence steps that it stands for, the oldest first. Each store writes eight bytes.
+/// A cache, and the persistence steps that it stands for, the oldest first.
 #[derive(Drop)]
 struct Replay {
-    pm: PmCache,
+    persistent: Persistent,
     steps: Vec<PersistenceStep>,
-    ghost harts: { pm.harts ≡ 8 },
-    ghost lines: { length pm.lines ≡ 512 },
 }
 
 impl Replay {
-    fn make(&mut self, rt: &impl Abort, call: Call, hart: u32, line: u32) -> Result<(), Fail>
-        requires hart { hart < 8 }
-        requires line { line < 512 }
-    {
-        match call {
-            Call::Load => self.load(rt, line),
-            Call::Store => self.store(line),
-            Call::Clean => {
-                self.pm.clean(hart, line);
-                self.note(PersistenceStep::Clean { hart, line })
-            }
-            Call::Flush => {
-                self.pm.flush(hart, line);
-                self.note(PersistenceStep::Clean { hart, line })
-            }
-            Call::Fence => {
-                self.pm.fence(hart);
-                self.note(PersistenceStep::Fence { hart })
-            }
-            Call::Evict => {
-                self.pm.evict(line);
-                self.note(PersistenceStep::Evict { line })
-            }
+    /// The call that a number draws. A load is to find the last number that was stored.
+    fn drawn(&self, rt: &impl Abort, number: u32) -> Call {
+        assert!(rt; self.steps.len() < 1_000);
+        let line = LINES[(number >> 18) as usize % USED];
+        let hart = (number >> 24) % 8;
+        match number >> 29 {
+            1 => Call::Load(
+                line,
+                value_after(&self.steps, line, stores(&self.steps, line)),
+            ),
+            3 => Call::Clean(hart, line),
+            4 => Call::Fence(hart),
+            5 => Call::Flush(hart, line),
+            7 => Call::Evict(line),
+            _ => Call::Store(line, self.steps.len() as u64 + 1),
         }
     }
 
-    fn note(&mut self, step: PersistenceStep) -> Result<(), Fail> {
-        self.steps.push(step)?;
-        Ok(())
-    }
-
-    /// What a load gives is the last value stored.
-    fn load(&mut self, rt: &impl Abort, line: u32) -> Result<(), Fail>
-        requires { line < 512 }
-    {
-        assert!(rt; self.steps.len() < 1_000);
-        let last = value_after(&self.steps, line, stores(&self.steps, line));
+    /// Makes a call and notes it, after the evictions that it forced, and tells whether it finds what it is to find.
+    fn make(&mut self, call: Call) -> Result<bool, AllocError> {
         let before = self.residents();
-        assert_eq!(rt; self.pm.load(64 * line, 8), last);
-        self.note_forced(before)
-    }
-
-    fn store(&mut self, line: u32) -> Result<(), Fail>
-        requires { line < 512 }
-    {
-        let value = self.steps.len() as u64 + 1;
-        let before = self.residents();
-        self.pm.store(64 * line, 8, value);
-        self.note_forced(before)?;
-        self.note(PersistenceStep::Store {
-            line,
-            offset: 0,
-            width: 8,
-            value,
-        })
+        let holds = self.persistent.holds(call);
+        if matches!(call, Call::Load(..) | Call::Store(..)) {
+            self.note_forced(before)?;
+        }
+        if let Some(step) = step_of(call) {
+            self.steps.push(step)?;
+        }
+        Ok(holds)
     }
 
     fn residents(&self) -> [bool; USED] {
         let mut residents = [false; USED];
         for (i, line) in LINES.iter().enumerate() {
-            residents[i] = self.pm.is_resident(*line);
+            residents[i] = self.persistent.shows(Call::Resident(*line, true));
         }
         residents
     }
 
     /// A line that was resident before a use and isn't after it had to leave.
-    fn note_forced(&mut self, before: [bool; USED]) -> Result<(), Fail> {
+    fn note_forced(&mut self, before: [bool; USED]) -> Result<(), AllocError> {
         let after = self.residents();
         for (i, line) in LINES.iter().enumerate() {
             if before[i] && !after[i] {
-                self.note(PersistenceStep::Evict { line: *line })?;
+                self.steps.push(PersistenceStep::Evict { line: *line })?;
             }
         }
         Ok(())
     }
 
-    /// The medium has each line after the stores that the plain program says were written back.
-    fn agree(&self, rt: &impl Abort) {
+    /// The place of the first of two hundred calls after which the cache and the plain program don't agree.
+    fn first_disagreement(
+        &mut self,
+        rt: &impl Abort,
+        start: u32,
+    ) -> Result<Option<u32>, AllocError> {
+        let mut number = start;
+        for place in 0..200 {
+            number = next(number);
+            let call = self.drawn(rt, number);
+            if !self.make(call)? || !self.agrees(rt) {
+                return Ok(Some(place));
+            }
+        }
+        Ok(None)
+    }
+
+    /// Whether the medium has each line after the stores that the plain program says were written back.
+    fn agrees(&self, rt: &impl Abort) -> bool {
         assert!(rt; self.steps.len() < 1_000);
         for line in LINES {
             let wanted = value_after(&self.steps, line, written_back(&self.steps, line));
-            assert_eq!(rt; self.pm.medium().load(64 * line, 8), wanted);
+            if !self.persistent.shows(Call::Kept(line, wanted)) {
+                return false;
+            }
         }
+        true
+    }
+}
+
+/// The persistence step that a call is, where it is one.
+fn step_of(call: Call) -> Option<PersistenceStep> {
+    match call {
+        Call::Store(line, value) => Some(PersistenceStep::Store {
+            line,
+            offset: 0,
+            width: 8,
+            value,
+        }),
+        Call::Clean(hart, line) | Call::Flush(hart, line) => {
+            Some(PersistenceStep::Clean { hart, line })
+        }
+        Call::Fence(hart) => Some(PersistenceStep::Fence { hart }),
+        Call::Evict(line) => Some(PersistenceStep::Evict { line }),
+        _ => None,
     }
 }
 
@@ -253,30 +370,30 @@ fn next(number: u32) -> u32 {
     number.wrapping_mul(1_664_525).wrapping_add(1_013_904_223)
 }
 
-/// Two hundred calls of eight harts, each compared with the plain program.
-fn calls_agree(rt: &(impl AllocGlobal + Abort), capacity: u32, start: u32) -> Result<(), Fail>
+/// The place of the first call after which the cache of so many lines and the plain program don't agree.
+fn disagreement(
+    rt: &(impl AllocGlobal + Abort),
+    capacity: u32,
+    start: u32,
+) -> Result<Option<u32>, MediumFault>
     requires { 1 ≤ capacity }
 {
     let mut replay = Replay {
-        pm: cache(rt.alloc(), capacity)?,
+        persistent: Persistent::new(rt.alloc(), capacity)?,
         steps: Vec::new(rt.alloc()),
     };
-    let mut number = start;
-    for _ in 0..200 {
-        number = next(number);
-        let call = CALLS[(number >> 29) as usize % 8];
-        let line = LINES[(number >> 18) as usize % USED];
-        replay.make(rt, call, (number >> 24) % 8, line)?;
-        replay.agree(rt);
-    }
-    Ok(())
+    Ok(replay.first_disagreement(rt, start)?)
 }
 
 #[test]
 fn plain_program_agrees(rt: HostRuntime) -> Result<(), Fail> {
     for capacity in [1, 2, 7, 512] {
         for start in 2026..2036 {
-            calls_agree(&rt, capacity, start)?;
+            let place = disagreement(&rt, capacity, start)?;
+            assert!(rt;
+                place.is_none(),
+                "{capacity} lines from {start}: at {place:?}"
+            );
         }
     }
     Ok(())

@@ -1,1 +1,3 @@
+mod Held
+mod Kept
 mod Loops

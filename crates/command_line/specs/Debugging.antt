@@ -1,11 +1,14 @@
 -- What `debug` comes to: the machine that a session is held on, and the session.
-use Rattle.std.specs.Prelude.{◌≡◌, ℕ, Result, IfErr, MatchResult, OnOk, option_map, string_bytes}
+use Rattle.std.specs.Prelude.{◌≡◌, ℕ, List, [], Option, Result, MatchResult, option_map, string_bytes}
+use Rattle.std.specs.Io.KnownBytes.{Appends}
 use Rattle.std.specs.Result.{result_map_both}
 use Rattle.arguments.specs.declared.asked.DebugCommand.{DebugCommand}
 use Rattle.debugger.specs.declared.fault.DebugFault.{DebugFault}
+use Rattle.debugger.specs.declared.fault.DebugFault.TheVariants.{InputOutput, Memory}
+use Rattle.debugger.specs.Points.{DebuggerView}
 use Rattle.machine.specs.Stands.{MachineView}
-use Rattle.session.specs.Failing.{EndsBy}
 use Rattle.session.specs.Running.{SomeRun}
+use Rattle.session.specs.Sessions.{BreaksOff, Session}
 use Rattle.tester.specs.Runs.{FailsToStart, IsAtStart, Setup}
 use Rattle.command_line.specs.Failures.{failure_of_session, failure_of_step}
 use Rattle.command_line.specs.Reading.{ReadsMedium, ReadsProgram}
@@ -23,18 +26,24 @@ OpensFile reads command =
     First (ReadsMedium reads (option_map string_bytes command.machine.medium)) (λ medium.
     Still (Starts (machine_of command.machine program medium))))
 
--- a session ends without a failed read or write, or by the one that failed, or by want of memory
-pub record IsSession (old new : MachineView) (outcome : Result (Unit {0}) DebugFault) : Type 0 where
-  pub failed_reads : ℕ
-  pub failed_writes : ℕ
-  pub runs : SomeRun old new
-  pub reads : OnOk outcome (failed_reads ≡ 0)
-  pub writes : OnOk outcome (failed_writes ≡ 0)
-  pub failed : IfErr outcome (EndsBy 0 failed_reads 0 failed_writes)
+-- the debugger of a machine, without points
+abbrev pub debugger_of : MachineView → DebuggerView
+debugger_of machine = record { machine = machine; points = [] }
 
--- the status of a session that is done is 0
-pub record HoldsSession (machine : MachineView) (ended : Result ℕ Failure) : Type 0 where
-  pub left : MachineView
+-- a session that was broken off by this fault, by what was known of standard input and of standard output before and after
+-- it: memory was refused, or a read or a write failed, which may have written some bytes more
+abbrev pub IsBrokenOff : DebuggerView → DebuggerView → Option (List ℕ) → Option (List ℕ) → Option (List ℕ) → Option (List ℕ)
+    → DebugFault → Type 0
+IsBrokenOff old new input input' output output' Memory =
+    (answered : List ℕ) × BreaksOff old new input input' answered × Appends output output' answered
+IsBrokenOff old new input input' output output' InputOutput = (answered : List ℕ) × BreaksOff old new input input' answered
+IsBrokenOff old new input input' output output' fault = ⊥
+
+-- a session on a machine that has made no step; the status of one that ended well is 0
+pub record HoldsSession (machine : MachineView) (input input' output output' : Option (List ℕ)) (ended : Result ℕ Failure) : Type 0 where
+  pub left : DebuggerView
   pub outcome : Result (Unit {0}) DebugFault
-  pub is_session : IsSession machine left outcome
+  pub runs : SomeRun machine left.machine
+  pub held : MatchResult outcome (λ _. Session (debugger_of machine) left input input' output output')
+      (IsBrokenOff (debugger_of machine) left input input' output output')
   pub told : ended ≡ result_map_both (λ _. 0) failure_of_session outcome

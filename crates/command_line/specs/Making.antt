@@ -1,5 +1,5 @@
 -- What `mkfs` comes to.
-use Rattle.std.specs.Prelude.{◌≡◌, ◌++◌, ℕ, List, Result, MatchResult, codes, decimal, length, string_bytes}
+use Rattle.std.specs.Prelude.{◌++◌, ℕ, List, Result, MatchResult, codes, decimal, length, string_bytes}
 use Rattle.arguments.specs.declared.asked.MakeVolumeCommand.{MakeVolumeCommand}
 use Rattle.nova_log.specs.Fresh.{IsFresh}
 use Rattle.nova_log.specs.Layouts.{AreCounts}

@@ -1,5 +1,5 @@
 -- What a line of the program comes to: an answer or a failure, and how it is delivered.
-use Rattle.std.specs.Prelude.{◌≡◌, ◌⊎◌, ℕ, List, Option, Result, Ok, Err, string_bytes}
+use Rattle.std.specs.Prelude.{◌≡◌, ◌⊎◌, ℕ, List, Option, Result, Ok, Err, OnOk, string_bytes}
 use Rattle.std.specs.Io.KnownBytes.{Appends}
 use Rattle.std.specs.Result.{result_map_both}
 use Rattle.arguments.specs.Line.{IsCommand, Refuses}
@@ -68,11 +68,14 @@ IsPrinted contents old new answer (Ok status) = (status ≡ answer.status) × Ap
 IsPrinted contents old new answer (Err failure) = failure ≡ File
 
 -- what is done on standard input and standard output, a pair: an answer is printed, or a session is held; nothing else
--- reads standard input, and a failure of a command leaves both as they are
-abbrev pub Delivers : {R W : Type 0} → (W → Option (List ℕ)) → R × W → R × W → Result Action Failure → Result ℕ Failure → Type 0
-Delivers contents old new (Ok (actions.Print answer)) ended = (new.0 ≡ old.0) × IsPrinted contents old.1 new.1 answer ended
-Delivers contents old new (Ok (actions.Debug machine)) ended = HoldsSession machine ended
-Delivers contents old new (Err failure) ended = (ended ≡ Err failure) × (new ≡ old)
+-- reads standard input, and a failure of a command leaves both as they are. `remaining` is what is known of the bytes that a
+-- reader will still give
+abbrev pub Delivers : {R W : Type 0} → (R → Option (List ℕ)) → (W → Option (List ℕ)) → R × W → R × W
+    → Result Action Failure → Result ℕ Failure → Type 0
+Delivers remaining contents old new (Ok (actions.Print answer)) ended = (new.0 ≡ old.0) × IsPrinted contents old.1 new.1 answer ended
+Delivers remaining contents old new (Ok (actions.Debug machine)) ended =
+    HoldsSession machine (remaining old.0) (remaining new.0) (contents old.1) (contents new.1) ended
+Delivers remaining contents old new (Err failure) ended = (ended ≡ Err failure) × (new ≡ old)
 
 -- the status of the program
 abbrev pub status_of : Result ℕ Failure → ℕ
@@ -81,16 +84,17 @@ status_of (Err failure) = failure_status failure
 
 -- what a line comes to, as it was delivered
 pub record Ends {F R W : Type 0} (reads : Reads F) (writes : Writes F)
-    (contents : W → Option (List ℕ)) (words : List (List ℕ)) (files files' : F) (streams streams' : R × W)
+    (remaining : R → Option (List ℕ)) (contents : W → Option (List ℕ)) (words : List (List ℕ)) (files files' : F) (streams streams' : R × W)
     (ended : Result ℕ Failure) : Type 0 where
   pub outcome : Result Action Failure
   pub comes : ComesTo reads writes words files files' outcome
-  pub delivers : Delivers contents streams streams' outcome ended
+  pub delivers : Delivers remaining contents streams streams' outcome ended
 
--- a status with which the program may end so
-pub record EndsWith {F R W : Type 0} (reads : Reads F) (writes : Writes F)
-    (contents : W → Option (List ℕ)) (words : List (List ℕ)) (files files' : F) (streams streams' : R × W)
-    (status : ℕ) : Type 0 where
+-- a status with which the program may end so; standard error stays as it was but for a failure
+pub record EndsWith {F R W E : Type 0} (reads : Reads F) (writes : Writes F)
+    (remaining : R → Option (List ℕ)) (contents : W → Option (List ℕ)) (words : List (List ℕ)) (files files' : F)
+    (streams streams' : R × W) (errors errors' : E) (status : ℕ) : Type 0 where
   pub ended : Result ℕ Failure
-  pub ends : Ends reads writes contents words files files' streams streams' ended
+  pub ends : Ends reads writes remaining contents words files files' streams streams' ended
   pub status_is : status ≡ status_of ended
+  pub quiet : OnOk ended (errors' ≡ errors)

@@ -1,10 +1,12 @@
 //! The command that debugs a program: its machine, and the session over the standard streams.
 
-ghost use Rattle.std.specs.Prelude.{◌≡◌};
+ghost use Rattle.std.specs.Prelude.{◌≡◌, IfErr, OnOk};
 ghost use Rattle.std.specs.Result.{result_map_both};
-ghost use Rattle.command_line.specs.Debugging.{HoldsSession, OpensFile, Starts};
+ghost use Rattle.command_line.specs.Debugging.{HoldsSession, IsBrokenOff, OpensFile, Starts};
 ghost use Rattle.command_line.specs.Failures.{failure_of_session};
 ghost use Rattle.command_line.specs.Running.{machine_of};
+ghost use Rattle.session.specs.Running.{SomeRun};
+ghost use Rattle.session.specs.Sessions.{Session};
 
 use crate::failure::Failure;
 use crate::files::Files;
@@ -48,23 +50,40 @@ fn start(
 }
 
 /// Holds a session on a machine, and gives the status with which it ends: each command is answered on standard output
-/// before the next is read from standard input.
+/// before the next is asked for on standard input.
 pub(crate) fn hold_session<R: Read, W: Write>(
     alloc: Global,
     machine: Machine,
     input: &mut R,
     output: &mut W,
 ) -> Result<u8, Failure>
-    ensures { HoldsSession machine result }
+    ensures { HoldsSession machine (R.remaining input.old) (R.remaining input.new) (W.contents output.old) (W.contents output.new) result }
 {
     let mut debugger = Debugger::new(machine);
+    let held = converse(alloc, &mut debugger, input, output);
+    status_of(held)
+}
+
+/// A session over standard input and standard output.
+#[tactic(auto, using(crate::proofs::Held::broken_off))]
+fn converse<R: Read, W: Write>(
+    alloc: Global,
+    debugger: &mut Debugger,
+    input: &mut R,
+    output: &mut W,
+) -> Result<(), DebugFault>
+    ensures runs { SomeRun debugger.old.machine debugger.new.machine }
+    ensures session { OnOk result (Session debugger.old debugger.new (R.remaining input.old) (R.remaining input.new)
+        (W.contents output.old) (W.contents output.new)) }
+    ensures broken_off { IfErr result (IsBrokenOff debugger.old debugger.new (R.remaining input.old) (R.remaining input.new)
+        (W.contents output.old) (W.contents output.new)) }
+{
     let mut source = StandardInput { input, failures: 0 };
     let mut sink = StandardOutput {
         output,
         failures: 0,
     };
-    let held = session(alloc, &mut debugger, &mut source, &mut sink);
-    status_of(held)
+    session(alloc, debugger, &mut source, &mut sink)
 }
 
 /// The status with which a session ends, or the failure of its fault.

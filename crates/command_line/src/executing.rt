@@ -31,7 +31,7 @@ pub fn execute<F: Files, R: Read, W: Write, E: Write>(
     output: &mut W,
     errors: &mut E,
 ) -> u8
-    ensures { EndsWith F.read_gives F.write_gives W.contents (map string_bytes words.now) files.old files.new (input.old, output.old) (input.new, output.new) result }
+    ensures { EndsWith F.read_gives F.write_gives R.remaining W.contents (map string_bytes words.now) files.old files.new (input.old, output.old) (input.new, output.new) errors.old errors.new result }
 {
     match answer_line(alloc, words, files, input, output) {
         Ok(status) => status,
@@ -50,7 +50,7 @@ pub fn answer_line<F: Files, R: Read, W: Write>(
     input: &mut R,
     output: &mut W,
 ) -> Result<u8, Failure>
-    ensures { Ends F.read_gives F.write_gives W.contents (map string_bytes words.now) files.old files.new (input.old, output.old) (input.new, output.new) result }
+    ensures { Ends F.read_gives F.write_gives R.remaining W.contents (map string_bytes words.now) files.old files.new (input.old, output.old) (input.new, output.new) result }
 {
     deliver(alloc, outcome(alloc, words, files), input, output)
 }
@@ -61,7 +61,7 @@ fn deliver<R: Read, W: Write>(
     input: &mut R,
     output: &mut W,
 ) -> Result<u8, Failure>
-    ensures { Delivers W.contents (input.old, output.old) (input.new, output.new) outcome result }
+    ensures { Delivers R.remaining W.contents (input.old, output.old) (input.new, output.new) outcome result }
 {
     match outcome? {
         Action::Print(answer) => print_answer(answer, output),

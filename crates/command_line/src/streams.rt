@@ -1,7 +1,7 @@
 //! The standard streams as a session reads and writes them.
 
 ghost use Rattle.std.specs.Prelude.{◌≤◌, IfOk, OnOk, length};
-ghost use Rattle.std.specs.Io.KnownBytes.{Appends};
+ghost use Rattle.std.specs.Io.KnownBytes.{Appends, ReadConsumes};
 
 use session::{Failed, Sink, Source};
 use std::io;
@@ -24,6 +24,10 @@ pub(crate) struct StandardOutput<'a, W> {
 impl<R: Read> Source for StandardInput<'_, R> {
     ghost failures_of = { λ stream. stream.failures };
 
+    ghost remaining_of = { λ stream. R.remaining stream.input.now };
+
+    ghost name_of = { λ stream. stream.input.ghost_name };
+
     fn read(&mut self, buffer: &mut [u8]) -> Result<usize, Failed> {
         match read_uninterrupted(self.input, buffer) {
             Ok(count) => Ok(count),
@@ -42,6 +46,10 @@ impl<R: Read> Source for StandardInput<'_, R> {
 impl<W: Write> Sink for StandardOutput<'_, W> {
     ghost failures_of = { λ stream. stream.failures };
 
+    ghost contents_of = { λ stream. W.contents stream.output.now };
+
+    ghost name_of = { λ stream. stream.output.ghost_name };
+
     fn write(&mut self, bytes: &[u8]) -> Result<(), Failed> {
         match print(bytes, self.output) {
             Ok(()) => Ok(()),
@@ -57,9 +65,11 @@ impl<W: Write> Sink for StandardOutput<'_, W> {
     }
 }
 
+#[tactic(auto, using(crate::proofs::Kept::kept_more, crate::proofs::Kept::kept_read))]
 /// Reads into the front of a buffer. A read that a signal interrupts is made again.
 fn read_uninterrupted<R: Read>(input: &mut R, buffer: &mut [u8]) -> Result<usize, Failed>
-    ensures { IfOk result (λ count. count ≤ length buffer.new) }
+    ensures fits { IfOk result (λ count. count ≤ length buffer.new) }
+    ensures bytes { ReadConsumes (R.remaining input.old) (R.remaining input.new) result buffer.new }
 {
     for _ in 0..u64::MAX {
         match input.read(buffer) {

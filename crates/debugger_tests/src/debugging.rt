@@ -1,45 +1,250 @@
 //! Short programs under a debugger.
 
-use debugger::{Cause, DebugFault, Debugger, Machine, Outcome, Place, Schedule, StepFault, Stop};
+use crate::machines::{FIRST_RUN, debugger_of};
+use debugger::{Cause, DebugFault, Debugger, Outcome, Place, Schedule, StepFault, Stop};
 use hart::Status;
-use line_memory::Medium;
-use object::Object;
-use program::{Program, load};
-use std::process::Abort;
+use std::alloc::{AllocError, Global};
 use std::test::Fail;
 
-/// `addi x5, x0, 7`; `lui x6, 0x40000`; `sd x5, 0(x6)`; `cbo.clean (x6)`; `fence w, w`; `addi x17, x0, 93`;
-/// `addi x10, x0, 0`; `ecall`.
-const FIRST_RUN: [u32; 8] = [
-    0x00700293, 0x40000337, 0x00533023, 0x0013200f, 0x0110000f, 0x05d00893, 0x00000513, 0x00000073,
-];
+/// `lui x6, 0x40000`; `cbo.clean (x6)`; `ld x7, 1(x6)`, which traps.
+const UNTOUCHED: &[u32] = &[0x40000337, 0x0013200f, 0x00133383];
 
-const PERSISTENT: u64 = 0x4000_0000;
+/// `lui x6, 0x40000`; `sc.d x7, x5, (x6)`, which fails, since the hart has reserved nothing; `ecall`.
+const FAILED_SC: &[u32] = &[0x40000337, 0x185333af, 0x00000073];
 
-fn program_of(rt: &(impl AllocGlobal + Abort), words: &[u32]) -> Result<Program, Fail> {
-    let mut text = vec![in rt.alloc()]?;
-    for word in words {
-        text.extend_from_slice(&word.to_le_bytes())?;
-    }
-    assert!(rt; text.len() % 4 == 0 && text.len() <= 65_536);
-    Ok(load(Object::new(text, vec![in rt.alloc()]?))?)
+/// A call of a debugger.
+#[derive(Clone, Copy)]
+enum Call {
+    Break(u64),
+    /// Breakpoints at so many words from the base of the text on.
+    BreakAtEach(u64),
+    Watch(u64),
+    Clear(u64),
+    Step(u32),
+    /// Goes by a schedule, from its start.
+    Go(&'static str),
+    /// Goes on by a schedule, from where it stopped.
+    GoOn(&'static str),
+    Registers(u32),
+    Peek(u64),
 }
 
-fn debugger_of(
-    rt: &(impl AllocGlobal + Abort),
+/// Words, how many harts run them, and calls of their debugger in turn, with the answer to each. A stop is told with its
+/// item of the schedule and the steps of the item that are made.
+type Example = (&'static [u32], u32, &'static [(Call, &'static str)]);
+
+static EXAMPLES: [Example; 15] = [
+    (
+        FIRST_RUN,
+        1,
+        &[
+            (Call::Break(0x1_0008), "done"),
+            (Call::Go("h0*8"), "break h0 pc=0x10008 at 0.2"),
+            (Call::Watch(0x4000_0000), "done"),
+            (Call::GoOn("h0*8"), "watch h0 line=0x40000000 at 0.3"),
+            (Call::Peek(0x4000_0000), "Some(7)"),
+            (Call::Peek(0x4000_0001), "Some(0)"),
+            (Call::GoOn("h0*8"), "end at 1.0"),
+        ],
+    ),
+    // A clean of a line that no store has touched, and a load that traps, touch no line.
+    (
+        UNTOUCHED,
+        1,
+        &[
+            (Call::Watch(0x4000_003f), "done"),
+            (Call::Go("h0*2 e0 h0"), "end at 3.0"),
+        ],
+    ),
+    (
+        FAILED_SC,
+        1,
+        &[
+            (Call::Watch(0x4000_003f), "done"),
+            (Call::Go("h0*3"), "watch h0 line=0x40000000 at 0.2"),
+        ],
+    ),
+    (
+        FAILED_SC,
+        1,
+        &[
+            (Call::Break(0x1_0008), "done"),
+            (Call::Watch(0x4000_0000), "done"),
+            (Call::Go("h0*3"), "watch h0 line=0x40000000 at 0.2"),
+        ],
+    ),
+    // A breakpoint stops a hart before its step.
+    (
+        FIRST_RUN,
+        2,
+        &[
+            (Call::Break(0x1_0004), "done"),
+            (Call::Go("h0*3"), "break h0 pc=0x10004 at 0.1"),
+        ],
+    ),
+    (
+        FIRST_RUN,
+        2,
+        &[
+            (Call::Break(0x1_0004), "done"),
+            (Call::Go("h0 e1 h0"), "break h0 pc=0x10004 at 2.0"),
+        ],
+    ),
+    (
+        FIRST_RUN,
+        2,
+        &[
+            (Call::Break(0x1_0004), "done"),
+            (Call::Go("h1 h0*2"), "break h0 pc=0x10004 at 1.1"),
+        ],
+    ),
+    (
+        FIRST_RUN,
+        2,
+        &[
+            (Call::Break(0x1_0004), "done"),
+            (Call::Go("h0 h1"), "end at 2.0"),
+        ],
+    ),
+    (
+        FIRST_RUN,
+        2,
+        &[
+            (Call::Break(0x1_0004), "done"),
+            (Call::Go("h0"), "end at 1.0"),
+        ],
+    ),
+    (
+        FIRST_RUN,
+        2,
+        &[
+            (Call::Break(0x1_0004), "done"),
+            (Call::Go(""), "end at 0.0"),
+        ],
+    ),
+    (
+        FIRST_RUN,
+        1,
+        &[
+            (Call::Break(0x1_0000), "done"),
+            (Call::Go("h0*2"), "end at 1.0"),
+        ],
+    ),
+    // Refused steps.
+    (
+        FIRST_RUN,
+        1,
+        &[
+            (Call::Go("h0*2 e512 h0"), "no such line at 1.0"),
+            (Call::Registers(0), "running at 0x10008"),
+        ],
+    ),
+    (
+        FIRST_RUN,
+        1,
+        &[
+            (Call::Step(1), "no such hart"),
+            (Call::Step(0), "done"),
+            (Call::Registers(0), "running at 0x10004"),
+            (Call::Registers(1), "no registers"),
+        ],
+    ),
+    // Points at the ends of the text, the data and the medium, and past them.
+    (
+        FIRST_RUN,
+        1,
+        &[
+            (Call::Break(0xfffc), "no such address"),
+            (Call::Break(0x1_0002), "no such address"),
+            (Call::Break(0x2_0000), "no such address"),
+            (Call::Break(0x1_fffc), "done"),
+            (Call::Watch(0x2_0000), "no such address"),
+            (Call::Watch(0x1_fffc), "done"),
+            (Call::Watch(0x4000_7fff), "done"),
+            (Call::Watch(0x4000_8000), "no such address"),
+            (Call::Clear(0x1_0004), "no such address"),
+            (Call::Clear(0x1_fffc), "done"),
+            (Call::Clear(0x1_ffc0), "no such address"),
+            (Call::Clear(0x4000_7fc0), "done"),
+            (Call::Clear(0x4000_7fc0), "no such address"),
+        ],
+    ),
+    (
+        FIRST_RUN,
+        1,
+        &[
+            (Call::BreakAtEach(64), "done"),
+            (Call::Break(0x1_0100), "too many points"),
+            (Call::Break(0x1_0000), "done"),
+            (Call::Watch(0x4000_0000), "too many points"),
+        ],
+    ),
+];
+
+#[test]
+fn calls_are_answered(rt: HostRuntime) -> Result<(), Fail> {
+    for (number, (words, harts, calls)) in EXAMPLES.iter().enumerate() {
+        let difference = first_difference(rt.alloc(), words, *harts, calls)?;
+        assert_eq!(rt; difference, None, "example {number}");
+    }
+    Ok(())
+}
+
+/// The first of these calls that is answered in another way, as its number and the answer.
+fn first_difference(
+    alloc: Global,
     words: &[u32],
     harts: u32,
-) -> Result<Debugger, Fail> {
-    let program = program_of(rt, words)?;
-    let medium = Medium::zero(rt.alloc(), 512)?;
-    let machine = Machine::new(rt.alloc(), program, medium, harts, 512)?;
-    Ok(Debugger::new(machine))
+    calls: &[(Call, &str)],
+) -> Result<Option<String>, Fail> {
+    let mut debugger = debugger_of(alloc, words, harts)?;
+    let mut place = START;
+    for (index, (call, expected)) in calls.iter().enumerate() {
+        let answer = answer_to(alloc, &mut debugger, &mut place, *call)?;
+        if answer.as_str() != *expected {
+            return Ok(Some(format!(in alloc; "call {index}: {answer}")?));
+        }
+    }
+    Ok(None)
+}
+
+const START: Place = Place { item: 0, steps: 0 };
+
+/// The answer to a call. The place is the one where the debugger stopped, and is so afterwards.
+fn answer_to(
+    alloc: Global,
+    debugger: &mut Debugger,
+    place: &mut Place,
+    call: Call,
+) -> Result<String, Fail> {
+    let answer = match call {
+        Call::Break(address) => name_of(break_at(debugger, address)),
+        Call::BreakAtEach(count) => name_of(break_at_each(debugger, count)),
+        Call::Watch(address) => name_of(watch(debugger, address)),
+        Call::Clear(address) => name_of(clear(debugger, address)),
+        Call::Step(hart) => step(debugger, hart),
+        Call::Go(text) => return went(alloc, debugger, place, (text, START)),
+        Call::GoOn(text) => {
+            let from = *place;
+            return went(alloc, debugger, place, (text, from));
+        }
+        Call::Registers(hart) => return Ok(registers(alloc, debugger, hart)?),
+        Call::Peek(address) => return Ok(format!(in alloc; "{:?}", debugger.peek(address))?),
+    };
+    Ok(String::from_str(alloc, answer)?)
 }
 
 // The calls, without what they promise: the tests look at their answers alone.
 
 fn break_at(debugger: &mut Debugger, address: u64) -> Result<(), DebugFault> {
     debugger.break_at(address)
+}
+
+fn break_at_each(debugger: &mut Debugger, count: u64) -> Result<(), DebugFault> {
+    for word in 0..count.min(64) {
+        break_at(debugger, 0x1_0000 + 4 * word)?;
+    }
+    Ok(())
 }
 
 fn watch(debugger: &mut Debugger, address: u64) -> Result<(), DebugFault> {
@@ -50,228 +255,76 @@ fn clear(debugger: &mut Debugger, address: u64) -> Result<(), DebugFault> {
     debugger.clear(address)
 }
 
-fn step(debugger: &mut Debugger, hart: u32) -> Result<Outcome, DebugFault> {
-    debugger.step(hart)
-}
-
-fn go(debugger: &mut Debugger, schedule: &Schedule, from: Place) -> Result<Stop, DebugFault> {
-    debugger.go(schedule, from)
-}
-
-/// The pc and the status of a hart, and its x5.
-fn seen_of(debugger: &Debugger, hart: u32) -> Option<(u64, Status)> {
-    match debugger.regs(hart) {
-        Ok(state) => Some((state.pc, state.status)),
-        Err(_) => None,
+fn step(debugger: &mut Debugger, hart: u32) -> &'static str {
+    match debugger.step(hart) {
+        Ok(Outcome::Done) => "done",
+        Ok(_) => "stopped",
+        Err(fault) => name_of(Err(fault)),
     }
 }
 
-const START: Place = Place { item: 0, steps: 0 };
-
-fn at(cause: Cause, item: usize, steps: u32) -> Result<Stop, DebugFault> {
-    Ok(Stop {
-        cause,
-        place: Place { item, steps },
-    })
+/// Goes by the text of a schedule from a place of it, and keeps the place where it stops.
+fn went(
+    alloc: Global,
+    debugger: &mut Debugger,
+    place: &mut Place,
+    (text, from): (&str, Place),
+) -> Result<String, Fail> {
+    let schedule = Schedule::read(alloc, text.as_bytes())?;
+    let stop = debugger.go(&schedule, from);
+    if let Ok(stop) = stop {
+        *place = stop.place;
+    }
+    Ok(stop_text(alloc, stop)?)
 }
 
-/// The stops of three goes, of which the second has the watched line at 0x40000000 and the breakpoint that the first
-/// has, and the line's first two bytes after the second.
-type Goes = (
-    Result<Stop, DebugFault>,
-    Result<Stop, DebugFault>,
-    (Option<u8>, Option<u8>),
-    Result<Stop, DebugFault>,
-);
-
-fn place_of(stop: &Result<Stop, DebugFault>) -> Place {
-    match *stop {
+fn stop_text(alloc: Global, stop: Result<Stop, DebugFault>) -> Result<String, AllocError> {
+    let place = match stop {
         Ok(stop) => stop.place,
+        Err(DebugFault::Stopped { place, fault: _ }) => place,
         Err(_) => START,
+    };
+    let Place { item, steps } = place;
+    match stop {
+        Ok(
+            Stop {
+                cause: Cause::Break { hart, pc },
+                place: _,
+            },
+        ) => format!(in alloc; "break h{hart} pc={pc:#x} at {item}.{steps}"),
+        Ok(
+            Stop {
+                cause: Cause::Watch { hart, line },
+                place: _,
+            },
+        ) => format!(in alloc; "watch h{hart} line={line:#x} at {item}.{steps}"),
+        Ok(_) => format!(in alloc; "end at {item}.{steps}"),
+        Err(fault) => format!(in alloc; "{} at {item}.{steps}", name_of(Err(fault))),
     }
 }
 
-fn worked_example(rt: &(impl AllocGlobal + Abort)) -> Result<Goes, Fail> {
-    let schedule = Schedule::read(rt.alloc(), b"h0*8")?;
-    let mut debugger = debugger_of(rt, &FIRST_RUN, 1)?;
-    break_at(&mut debugger, 0x1_0008)?;
-    let first = go(&mut debugger, &schedule, START);
-    watch(&mut debugger, PERSISTENT)?;
-    let second = go(&mut debugger, &schedule, place_of(&first));
-    let bytes = (debugger.peek(PERSISTENT), debugger.peek(PERSISTENT + 1));
-    let third = go(&mut debugger, &schedule, place_of(&second));
-    Ok((first, second, bytes, third))
-}
-
-#[test]
-fn stops_and_goes_on(rt: HostRuntime) -> Result<(), Fail> {
-    let (first, second, bytes, third) = worked_example(&rt)?;
-    let pc = 0x1_0008;
-    assert_eq!(rt; first, at(Cause::Break { hart: 0, pc }, 0, 2));
-    let line = PERSISTENT;
-    assert_eq!(rt; second, at(Cause::Watch { hart: 0, line }, 0, 3));
-    assert_eq!(rt; bytes, (Some(7), Some(0)));
-    assert_eq!(rt; third, at(Cause::End, 1, 0));
-    Ok(())
-}
-
-/// Where one go by the text of a schedule from its start stops, with these points.
-fn stop_of(
-    rt: &(impl AllocGlobal + Abort),
-    words: &[u32],
-    harts: u32,
-    points: (Option<u64>, Option<u64>),
-    text: &str,
-) -> Result<(Result<Stop, DebugFault>, Option<(u64, Status)>), Fail> {
-    let schedule = Schedule::read(rt.alloc(), text.as_bytes())?;
-    let mut debugger = debugger_of(rt, words, harts)?;
-    if let Some(address) = points.0 {
-        break_at(&mut debugger, address)?;
+fn registers(alloc: Global, debugger: &Debugger, hart: u32) -> Result<String, AllocError> {
+    match debugger.regs(hart) {
+        Ok(state) => match state.status {
+            Status::Running => format!(in alloc; "running at {:#x}", state.pc),
+            _ => format!(in alloc; "stopped at {:#x}", state.pc),
+        },
+        Err(_) => String::from_str(alloc, "no registers"),
     }
-    if let Some(address) = points.1 {
-        watch(&mut debugger, address)?;
+}
+
+fn name_of(answer: Result<(), DebugFault>) -> &'static str {
+    match answer {
+        Ok(()) => "done",
+        Err(DebugFault::Address) => "no such address",
+        Err(DebugFault::PointsFull) => "too many points",
+        Err(DebugFault::Step(StepFault::NoSuchHart)) => "no such hart",
+        Err(
+            DebugFault::Stopped {
+                place: _,
+                fault: StepFault::NoSuchLine,
+            },
+        ) => "no such line",
+        Err(_) => "another fault",
     }
-    let stop = go(&mut debugger, &schedule, START);
-    Ok((stop, seen_of(&debugger, 0)))
-}
-
-/// `lui x6, 0x40000`; `cbo.clean (x6)`; `ld x7, 1(x6)`, which traps.
-const UNTOUCHED: [u32; 3] = [0x40000337, 0x0013200f, 0x00133383];
-
-/// `lui x6, 0x40000`; `sc.d x7, x5, (x6)`, which fails, since the hart has reserved nothing; `ecall`.
-const FAILED_SC: [u32; 3] = [0x40000337, 0x185333af, 0x00000073];
-
-#[test]
-fn touches(rt: HostRuntime) -> Result<(), Fail> {
-    let line = PERSISTENT;
-    let watched = (None, Some(PERSISTENT + 63));
-    let none = stop_of(&rt, &UNTOUCHED, 1, watched, "h0*2 e0 h0")?;
-    assert_eq!(rt; none.0, at(Cause::End, 3, 0));
-    let failed = stop_of(&rt, &FAILED_SC, 1, watched, "h0*3")?;
-    assert_eq!(rt; failed.0, at(Cause::Watch { hart: 0, line }, 0, 2));
-    let both = (Some(0x1_0008), Some(PERSISTENT));
-    let watch_first = stop_of(&rt, &FAILED_SC, 1, both, "h0*3")?;
-    assert_eq!(rt; watch_first.0, at(Cause::Watch { hart: 0, line }, 0, 2));
-    Ok(())
-}
-
-#[test]
-fn breaks_before_a_step_of_the_hart(rt: HostRuntime) -> Result<(), Fail> {
-    let broken = (Some(0x1_0004), None);
-    let pc = 0x1_0004;
-    let texts = [
-        ("h0*3", at(Cause::Break { hart: 0, pc }, 0, 1)),
-        ("h0 e1 h0", at(Cause::Break { hart: 0, pc }, 2, 0)),
-        ("h1 h0*2", at(Cause::Break { hart: 0, pc }, 1, 1)),
-        ("h0 h1", at(Cause::End, 2, 0)),
-        ("h0", at(Cause::End, 1, 0)),
-        ("", at(Cause::End, 0, 0)),
-    ];
-    for (text, stop) in texts {
-        let seen = stop_of(&rt, &FIRST_RUN, 2, broken, text)?;
-        assert_eq!(rt; seen.0, stop, "{text}");
-    }
-    let first = stop_of(&rt, &FIRST_RUN, 1, (Some(0x1_0000), None), "h0*2")?;
-    assert_eq!(rt; first.0, at(Cause::End, 1, 0));
-    Ok(())
-}
-
-#[test]
-fn refused_steps(rt: HostRuntime) -> Result<(), Fail> {
-    let held = stop_of(&rt, &FIRST_RUN, 1, (None, None), "h0*2 e512 h0")?;
-    let place = Place { item: 1, steps: 0 };
-    let fault = StepFault::NoSuchLine;
-    assert_eq!(rt;
-        held,
-        (
-            Err(DebugFault::Stopped { place, fault }),
-            Some((0x1_0008, Status::Running))
-        )
-    );
-    let mut debugger = debugger_of(&rt, &FIRST_RUN, 1)?;
-    let refused = step(&mut debugger, 1);
-    let made = step(&mut debugger, 0);
-    let seen = seen_of(&debugger, 0);
-    let missing = seen_of(&debugger, 1);
-    drop(debugger);
-    assert_eq!(rt; refused, Err(DebugFault::Step(StepFault::NoSuchHart)));
-    assert_eq!(rt; made, Ok(Outcome::Done));
-    assert_eq!(rt; seen, Some((0x1_0004, Status::Running)));
-    assert_eq!(rt; missing, None);
-    Ok(())
-}
-
-/// What a list of addresses answers where each is set as a breakpoint, or watched, or cleared.
-#[derive(Clone, Copy)]
-enum Call {
-    Break(u64),
-    Watch(u64),
-    Clear(u64),
-}
-
-/// The code of each call's answer, 0 where it is done.
-fn answers_of(rt: &(impl AllocGlobal + Abort), calls: &[Call]) -> Result<Vec<u8>, Fail> {
-    let mut debugger = debugger_of(rt, &FIRST_RUN, 1)?;
-    let mut answers = vec![in rt.alloc()]?;
-    for call in calls {
-        let answer = match *call {
-            Call::Break(address) => break_at(&mut debugger, address),
-            Call::Watch(address) => watch(&mut debugger, address),
-            Call::Clear(address) => clear(&mut debugger, address),
-        };
-        answers.push(match answer {
-            Ok(()) => 0,
-            Err(DebugFault::Address) => 2,
-            Err(DebugFault::PointsFull) => 3,
-            Err(_) => 9,
-        })?;
-    }
-    Ok(answers)
-}
-
-#[test]
-fn points(rt: HostRuntime) -> Result<(), Fail> {
-    let calls = [
-        Call::Break(0xfffc),
-        Call::Break(0x1_0002),
-        Call::Break(0x2_0000),
-        Call::Break(0x1_fffc),
-        Call::Watch(0x2_0000),
-        Call::Watch(0x1_fffc),
-        Call::Watch(0x4000_7fff),
-        Call::Watch(0x4000_8000),
-        Call::Clear(0x1_0004),
-        Call::Clear(0x1_fffc),
-        Call::Clear(0x1_ffc0),
-        Call::Clear(0x4000_7fc0),
-        Call::Clear(0x4000_7fc0),
-    ];
-    let answers = answers_of(&rt, &calls)?;
-    let wanted = [2, 2, 2, 0, 2, 0, 0, 2, 2, 0, 2, 0, 2];
-    assert_eq!(rt; answers.as_slice(), wanted.as_slice());
-    Ok(())
-}
-
-/// Whether 64 breakpoints were set, and the answers to one more, to the first again, and to a watch.
-fn full_answers(
-    rt: &(impl AllocGlobal + Abort),
-) -> Result<(bool, [Result<(), DebugFault>; 3]), Fail> {
-    let mut debugger = debugger_of(rt, &FIRST_RUN, 1)?;
-    let mut set = true;
-    for point in 0..64u32 {
-        set &= break_at(&mut debugger, 0x1_0000 + 4 * u64::from(point)).is_ok();
-    }
-    let more = break_at(&mut debugger, 0x1_0100);
-    let again = break_at(&mut debugger, 0x1_0000);
-    let watched = watch(&mut debugger, PERSISTENT);
-    Ok((set, [more, again, watched]))
-}
-
-#[test]
-fn sixty_four_points(rt: HostRuntime) -> Result<(), Fail> {
-    let (set, answers) = full_answers(&rt)?;
-    assert!(rt; set);
-    let full = Err(DebugFault::PointsFull);
-    assert_eq!(rt; answers, [full, Ok(()), full]);
-    Ok(())
 }

@@ -5,4 +5,6 @@
 #[cfg(test)]
 mod debugging;
 #[cfg(test)]
+mod machines;
+#[cfg(test)]
 mod sessions;

@@ -1,19 +1,10 @@
 //! Commands and their answers.
 
-use debugger::{DebugFault, Debugger, Machine};
-use line_memory::Medium;
-use object::Object;
-use program::{Program, load};
+use crate::machines::{FIRST_RUN, debugger_of};
+use debugger::{DebugFault, Debugger};
 use session::{Failed, Sink, Source, session};
 use std::alloc::Global;
-use std::process::Abort;
 use std::test::Fail;
-
-/// `addi x5, x0, 7`; `lui x6, 0x40000`; `sd x5, 0(x6)`; `cbo.clean (x6)`; `fence w, w`; `addi x17, x0, 93`;
-/// `addi x10, x0, 0`; `ecall`.
-const FIRST_RUN: [u32; 8] = [
-    0x00700293, 0x40000337, 0x00533023, 0x0013200f, 0x0110000f, 0x05d00893, 0x00000513, 0x00000073,
-];
 
 /// A text that is read at most so many bytes at once, up to a read that fails.
 #[derive(Drop)]
@@ -74,22 +65,6 @@ impl Sink for Answers {
     }
 }
 
-fn program_of(rt: &(impl AllocGlobal + Abort), words: &[u32]) -> Result<Program, Fail> {
-    let mut text = vec![in rt.alloc()]?;
-    for word in words {
-        text.extend_from_slice(&word.to_le_bytes())?;
-    }
-    assert!(rt; text.len() % 4 == 0 && text.len() <= 65_536);
-    Ok(load(Object::new(text, vec![in rt.alloc()]?))?)
-}
-
-fn debugger_of(rt: &(impl AllocGlobal + Abort)) -> Result<Debugger, Fail> {
-    let program = program_of(rt, &FIRST_RUN)?;
-    let medium = Medium::zero(rt.alloc(), 512)?;
-    let machine = Machine::new(rt.alloc(), program, medium, 2, 512)?;
-    Ok(Debugger::new(machine))
-}
-
 // This says nothing of a run of commands: the tests look at its answers alone.
 fn run(
     alloc: Global,
@@ -103,27 +78,35 @@ fn run(
 /// How a run of commands ends, its answers, and the pc of hart 0.
 type Outcome = (Result<(), DebugFault>, Vec<u8>, u64);
 
-/// Runs commands, with so many bytes at once, and up to so many reads and writes.
-fn outcome_of(
-    rt: &(impl AllocGlobal + Abort),
-    commands: &[u8],
+/// How many bytes are read at once, and how many reads and writes don't fail.
+#[derive(Clone, Copy)]
+struct Limits {
     at_once: usize,
     reads: u32,
     writes: u32,
-) -> Result<Outcome, Fail> {
-    let mut debugger = debugger_of(rt)?;
+}
+
+const ALL: Limits = Limits {
+    at_once: 1_000,
+    reads: 100_000,
+    writes: 100_000,
+};
+
+/// Runs commands.
+fn outcome_of(alloc: Global, commands: &[u8], limits: Limits) -> Result<Outcome, Fail> {
+    let mut debugger = debugger_of(alloc, FIRST_RUN, 2)?;
     let mut source = Text {
         bytes: commands,
-        at_once,
-        reads,
+        at_once: limits.at_once,
+        reads: limits.reads,
         failures: 0,
     };
     let mut sink = Answers {
-        text: Vec::with_capacity(rt.alloc(), 1_024)?,
-        writes,
+        text: Vec::with_capacity(alloc, 1_024)?,
+        writes: limits.writes,
         failures: 0,
     };
-    let end = run(rt.alloc(), &mut debugger, &mut source, &mut sink);
+    let end = run(alloc, &mut debugger, &mut source, &mut sink);
     let pc = match debugger.regs(0) {
         Ok(state) => state.pc,
         Err(_) => 0,
@@ -132,147 +115,141 @@ fn outcome_of(
     Ok((end, text, pc))
 }
 
-fn answers_to(rt: &(impl AllocGlobal + Abort), commands: &str) -> Result<Vec<u8>, Fail> {
-    let (end, answers, _pc) = outcome_of(rt, commands.as_bytes(), 1_000, 100_000, 100_000)?;
-    assert!(rt; end.is_ok());
-    Ok(answers)
-}
+/// Commands, and the answers to them.
+static TALKS: [(&str, &str); 37] = [
+    (
+        DEBUG_SESSION,
+        "ok\nbreak h0 pc=0x10008\nok\nwatch h0 line=0x40000000\n07 00\nend\nfault D1\n",
+    ),
+    (
+        "go h0 e512 h0\ngo\ngo x\ngo\nstep 0\n",
+        "fault G2\nfault G2\nfault D1\nfault G2\nh0 running pc=0x10008 x2=0x200000 x5=0x7 x6=0x40000000 x11=0x40000000\n",
+    ),
+    ("quit\nstep 0\n", ""),
+    ("break 0x10002", "fault D2\n"),
+    ("break 0x", "fault D1\n"),
+    ("break 0X10000", "fault D1\n"),
+    ("break +65536", "fault D1\n"),
+    ("break 65536", "ok\n"),
+    ("break 065536 ", "ok\n"),
+    (" clear  0x10000", "fault D2\n"),
+    ("break", "fault D1\n"),
+    ("break 0x10000 0", "fault D1\n"),
+    ("break 18446744073709551616", "fault D2\n"),
+    ("watch 0xffffffffffffffff", "fault D2\n"),
+    ("watch 0x10000000000000000", "fault D2\n"),
+    ("step 2", "fault G1\n"),
+    ("step 4294967296", "fault G1\n"),
+    ("step 18446744073709551616", "fault G1\n"),
+    ("step 0x0", "fault D1\n"),
+    ("regs 9", "fault G1\n"),
+    ("regs 0\r", "fault D1\n"),
+    ("peek 0x40000000 0", "fault D1\n"),
+    ("peek 0x40000000 65", "fault D1\n"),
+    ("peek 0x10000000000000000 65", "fault D1\n"),
+    ("peek 0x40007fff 2", "fault D2\n"),
+    ("peek 0xffffffffffffffff 2", "fault D2\n"),
+    ("peek 0x10000000000000000 1", "fault D2\n"),
+    ("peek 65536 4", "93 02 70 00\n"),
+    ("go", "fault D1\n"),
+    ("go h0*0", "fault D1\n"),
+    ("go e512", "fault G2\n"),
+    ("quit x", "fault D1\n"),
+    ("Quit", "fault D1\n"),
+    ("", ""),
+    ("  ", ""),
+    ("quit", ""),
+    (
+        "step 0",
+        "h0 running pc=0x10004 x2=0x200000 x5=0x7 x11=0x40000000\n",
+    ),
+];
 
-#[test]
-fn stops_and_goes_on(rt: HostRuntime) -> Result<(), Fail> {
-    let wanted = "ok\nbreak h0 pc=0x10008\nok\nwatch h0 line=0x40000000\n07 00\nend\nfault D1\n";
-    let answers = answers_to(&rt, DEBUG_SESSION)?;
-    assert_eq!(rt; answers.as_slice(), wanted.as_bytes());
-    Ok(())
-}
-
-#[test]
-fn one_answer_a_line(rt: HostRuntime) -> Result<(), Fail> {
-    let lines = [
-        ("break 0x10002", "fault D2\n"),
-        ("break 0x", "fault D1\n"),
-        ("break 0X10000", "fault D1\n"),
-        ("break +65536", "fault D1\n"),
-        ("break 65536", "ok\n"),
-        ("break 065536 ", "ok\n"),
-        (" clear  0x10000", "fault D2\n"),
-        ("break", "fault D1\n"),
-        ("break 0x10000 0", "fault D1\n"),
-        ("break 18446744073709551616", "fault D2\n"),
-        ("watch 0xffffffffffffffff", "fault D2\n"),
-        ("watch 0x10000000000000000", "fault D2\n"),
-        ("step 2", "fault G1\n"),
-        ("step 4294967296", "fault G1\n"),
-        ("step 18446744073709551616", "fault G1\n"),
-        ("step 0x0", "fault D1\n"),
-        ("regs 9", "fault G1\n"),
-        ("regs 0\r", "fault D1\n"),
-        ("peek 0x40000000 0", "fault D1\n"),
-        ("peek 0x40000000 65", "fault D1\n"),
-        ("peek 0x10000000000000000 65", "fault D1\n"),
-        ("peek 0x40007fff 2", "fault D2\n"),
-        ("peek 0xffffffffffffffff 2", "fault D2\n"),
-        ("peek 0x10000000000000000 1", "fault D2\n"),
-        ("peek 65536 4", "93 02 70 00\n"),
-        ("go", "fault D1\n"),
-        ("go h0*0", "fault D1\n"),
-        ("go e512", "fault G2\n"),
-        ("quit x", "fault D1\n"),
-        ("Quit", "fault D1\n"),
-        ("", ""),
-        ("  ", ""),
-        ("quit", ""),
-        (
-            "step 0",
-            "h0 running pc=0x10004 x2=0x200000 x5=0x7 x11=0x40000000\n",
-        ),
-    ];
-    for (line, wanted) in lines {
-        let answers = answers_to(&rt, line)?;
-        assert_eq!(rt; answers.as_slice(), wanted.as_bytes(), "{line}");
+/// The first of these commands that are answered in another way, and their answers.
+fn first_difference(alloc: Global, talks: &[(&str, &str)]) -> Result<Option<String>, Fail> {
+    for (commands, expected) in talks {
+        let (end, answers, _pc) = outcome_of(alloc, commands.as_bytes(), ALL)?;
+        if end.is_err() || answers.as_slice() != expected.as_bytes() {
+            let found = String::from_utf8_lossy(alloc, &answers)?;
+            return Ok(Some(format!(in alloc; "{commands}: {found}")?));
+        }
     }
-    Ok(())
+    Ok(None)
 }
 
 #[test]
-fn commands_after_one_another(rt: HostRuntime) -> Result<(), Fail> {
-    let refused = answers_to(&rt, "go h0 e512 h0\ngo\ngo x\ngo\nstep 0\n")?;
-    let line = "h0 running pc=0x10008 x2=0x200000 x5=0x7 x6=0x40000000 x11=0x40000000\n";
-    let faults = "fault G2\nfault G2\nfault D1\nfault G2\n";
-    assert_eq!(rt;
-        refused.as_slice(),
-        format!(in rt.alloc(); "{faults}{line}")?.as_bytes()
-    );
-    let left = answers_to(&rt, "quit\nstep 0\n")?;
-    assert_eq!(rt; left.as_slice(), b"".as_slice());
-    let registers = answers_to(&rt, "regs 1")?;
-    let lines = registers
-        .as_slice()
-        .iter()
-        .filter(|byte| **byte == b'\n')
-        .count();
-    assert_eq!(rt; lines, 33);
-    assert!(rt;
-        registers
-            .as_slice()
-            .starts_with(b"pc=0x10000\nx0=0x0\nx1=0x0\nx2=0x1ff000\n")
-    );
+fn commands_are_answered(rt: HostRuntime) -> Result<(), Fail> {
+    assert_eq!(rt; first_difference(rt.alloc(), &TALKS)?, None);
     Ok(())
 }
 
-/// The answers to a line of this many blanks, and a line after it.
-fn answers_to_blanks(rt: &(impl AllocGlobal + Abort), blanks: usize) -> Result<Vec<u8>, Fail> {
-    let mut commands = vec![in rt.alloc(); b' '; blanks]?;
+/// How many lines tell the registers of hart 1; None where they don't begin with its pc and its first registers, or the
+/// run ends by a fault.
+fn registers(alloc: Global) -> Result<Option<usize>, Fail> {
+    let (end, answers, _pc) = outcome_of(alloc, b"regs 1", ALL)?;
+    let begins = answers.starts_with(b"pc=0x10000\nx0=0x0\nx1=0x0\nx2=0x1ff000\n");
+    Ok((begins && end.is_ok()).then_some(lines(&answers)))
+}
+
+fn lines(answers: &[u8]) -> usize {
+    answers.iter().filter(|byte| **byte == b'\n').count()
+}
+
+/// Whether these are the answers to a line of so many blanks, and a line after it.
+fn answers_blanks(alloc: Global, blanks: usize, expected: &[u8]) -> Result<bool, Fail> {
+    let mut commands = vec![in alloc; b' '; blanks]?;
     commands.extend_from_slice(b"\nstep 2")?;
-    let (_end, answers, _pc) = outcome_of(rt, commands.as_slice(), 1_000, 100_000, 100_000)?;
-    Ok(answers)
+    let (_end, answers, _pc) = outcome_of(alloc, &commands, ALL)?;
+    Ok(answers.as_slice() == expected)
 }
 
 #[test]
-fn long_lines(rt: HostRuntime) -> Result<(), Fail> {
-    let longest = answers_to_blanks(&rt, 65_536)?;
-    assert_eq!(rt; longest.as_slice(), b"fault G1\n".as_slice());
-    let longer = answers_to_blanks(&rt, 65_537)?;
-    assert_eq!(rt; longer.as_slice(), b"fault D1\nfault G1\n".as_slice());
+fn long_answers_and_lines(rt: HostRuntime) -> Result<(), Fail> {
+    assert!(rt; registers(rt.alloc())? == Some(33));
+    assert!(rt; answers_blanks(rt.alloc(), 65_536, b"fault G1\n")?);
+    assert!(rt; answers_blanks(rt.alloc(), 65_537, b"fault D1\nfault G1\n")?);
     Ok(())
 }
 
-/// How a run over these commands ends, how many lines it answers, and the pc of hart 0.
-fn ending(
-    rt: &(impl AllocGlobal + Abort),
-    commands: &[u8],
-    at_once: usize,
-    reads: u32,
-    writes: u32,
-) -> Result<(Result<(), DebugFault>, usize, u64), Fail> {
-    let (end, answers, pc) = outcome_of(rt, commands, at_once, reads, writes)?;
-    let lines = answers
-        .as_slice()
-        .iter()
-        .filter(|byte| **byte == b'\n')
-        .count();
-    Ok((end, lines, pc))
+/// How many reads and writes don't fail of three steps of a hart, whether the run ends well, how many lines it answers, and
+/// the pc of hart 0.
+static ENDINGS: [(u32, u32, bool, usize, u64); 9] = [
+    (0, 9, false, 0, 0x1_0000),
+    (1, 9, false, 1, 0x1_0004),
+    (2, 9, false, 2, 0x1_0008),
+    (3, 9, false, 3, 0x1_000c),
+    (9, 0, false, 0, 0x1_0004),
+    (9, 1, false, 1, 0x1_0008),
+    (9, 2, false, 2, 0x1_000c),
+    (9, 3, true, 3, 0x1_000c),
+    (4, 3, true, 3, 0x1_000c),
+];
+
+/// Whether a run over three steps ends well, how many lines it answers, and the pc of hart 0; None where it ends by
+/// another fault than that of its input or output.
+fn ending(alloc: Global, reads: u32, writes: u32) -> Result<Option<(bool, usize, u64)>, Fail> {
+    let limits = Limits {
+        at_once: 7,
+        reads,
+        writes,
+    };
+    let (end, answers, pc) = outcome_of(alloc, b"step 0\nstep 0\nstep 0\n", limits)?;
+    Ok(match end {
+        Ok(()) => Some((true, lines(&answers), pc)),
+        Err(DebugFault::InputOutput) => Some((false, lines(&answers), pc)),
+        Err(_) => None,
+    })
 }
 
 #[test]
 fn failures_end_a_run(rt: HostRuntime) -> Result<(), Fail> {
-    let commands = b"step 0\nstep 0\nstep 0\n";
-    let failed = Err(DebugFault::InputOutput);
-    for calls in 0..4u32 {
-        let lines = calls as usize;
-        let pc = 0x1_0000 + 4 * u64::from(calls);
-        let read = ending(&rt, commands, 7, calls, 9)?;
-        assert_eq!(rt; read, (failed, lines, pc), "read {calls}");
-        let written = ending(&rt, commands, 7, 9, calls)?;
-        let wanted = if calls < 3 {
-            (failed, lines, pc + 4)
-        } else {
-            (Ok(()), lines, pc)
-        };
-        assert_eq!(rt; written, wanted, "write {calls}");
+    for &(reads, writes, is_well, answered, pc) in &ENDINGS {
+        let found = ending(rt.alloc(), reads, writes)?;
+        assert!(rt;
+            found == Some((is_well, answered, pc)),
+            "{reads} reads, {writes} writes"
+        );
     }
-    let all = ending(&rt, commands, 7, 4, 3)?;
-    assert_eq!(rt; all, (Ok(()), 3, 0x1_000c));
     Ok(())
 }
 
@@ -305,10 +282,16 @@ fn is_broken_off(answers: &[u8], pc: u64) -> (bool, bool) {
     (rest.is_empty() && pc == before, true)
 }
 
+const NINE: Limits = Limits {
+    at_once: 1_000,
+    reads: 9,
+    writes: 9,
+};
+
 // Whichever growth is refused, the answers are those so far. The test fails where what it needs itself is refused.
 #[test]
 fn growths_refused_in_turn(rt: HostRuntime) -> Result<(), Fail> {
-    let (end, answers, pc) = outcome_of(&rt, DEBUG_SESSION.as_bytes(), 1_000, 9, 9)?;
+    let (end, answers, pc) = outcome_of(rt.alloc(), DEBUG_SESSION.as_bytes(), NINE)?;
     let (stands, is_whole) = is_broken_off(answers.as_slice(), pc);
     let wanted = if is_whole {
         Ok(())

@@ -1,20 +1,21 @@
 //! Command lines: read, and carried out over files in memory.
 
-use crate::ending::{Fault, Refused, ended, fault_if, ready};
+use crate::ending::{Refused, ended, ready, refusal};
 use arguments::{Command, LineFault, command};
 use command_line::{FileFault, Files, execute};
-use std::alloc::{AllocError, Global};
-use std::io;
-use std::process::Abort;
+use std::alloc::Global;
 
 /// The words of a line, which are parted by single spaces.
-fn words_of(alloc: Global, line: &str) -> Result<Vec<String>, AllocError> {
-    line.split(' ')
-        .map(|word| String::from_str(alloc, word))
-        .try_collect(alloc)
+fn words_of(alloc: Global, line: &str) -> Result<Vec<String>, Refused> {
+    let mut words = Vec::new(alloc);
+    for word in line.split(' ') {
+        let word = ready(String::from_str(alloc, word))?;
+        ready(words.push(word))?;
+    }
+    Ok(words)
 }
 
-/// Whether this is the run that the line asks for.
+/// Whether this is the run that the line of `command_with_options` asks for.
 fn is_run(asked: &Command) -> bool {
     match asked {
         Command::Run(run) => {
@@ -27,45 +28,45 @@ fn is_run(asked: &Command) -> bool {
     }
 }
 
-#[test]
-fn command_with_options(rt: HostRuntime) -> Result<(), Refused> {
-    let line = "novacrash run a.s --medium m --harts 2 --capacity 3 --steps 4 --record r --out o";
-    let words = words_of(rt.alloc(), line)?;
-    let found = match command(rt.alloc(), &words) {
-        Ok(asked) => Ok(is_run(&asked)),
-        Err(refused) => Err(fault_if(matches!(refused, LineFault::Memory))),
-    };
-    ended(&rt, found, true)
+/// Whether a line's fault or its help is told, with a text that says so.
+fn is_told(told: LineFault) -> Result<bool, Refused> {
+    match told {
+        LineFault::Memory => refusal(true),
+        LineFault::Fault(text) => Ok(text.as_str().contains("error")),
+        LineFault::Help(text) => Ok(text.as_str().contains("Usage")),
+    }
 }
 
-/// Whether a line is refused with a text, by the line's grammar; its want of memory apart.
-fn is_refused(alloc: Global, words: &[String]) -> Result<bool, Fault> {
-    match command(alloc, words) {
-        Ok(_) => Ok(false),
-        Err(LineFault::Memory) => Err(Fault::Memory),
-        Err(LineFault::Fault(text)) => Ok(text.as_str().contains("error")),
-        Err(LineFault::Help(text)) => Ok(text.as_str().contains("Usage")),
+/// Whether a line is read as that run, or else is told what it lacks.
+fn is_read(alloc: Global, line: &str, is_command: bool) -> Result<bool, Refused> {
+    let words = words_of(alloc, line)?;
+    match command(alloc, &words) {
+        Ok(asked) => Ok(is_command && is_run(&asked)),
+        Err(told) => Ok(is_told(told)? && !is_command),
     }
 }
 
 #[test]
+fn command_with_options(rt: HostRuntime) -> Result<(), Refused> {
+    let line = "novacrash run a.s --medium m --harts 2 --capacity 3 --steps 4 --record r --out o";
+    ended(&rt, is_read(rt.alloc(), line, true))
+}
+
+#[test]
 fn command_of_no_line(rt: HostRuntime) -> Result<(), Refused> {
-    let words = words_of(rt.alloc(), "novacrash run a.s --harts 9")?;
-    let found = is_refused(rt.alloc(), &words);
-    ended(&rt, found, true)
+    ended(
+        &rt,
+        is_read(rt.alloc(), "novacrash run a.s --harts 9", false),
+    )
 }
 
 #[test]
 fn command_of_help(rt: HostRuntime) -> Result<(), Refused> {
-    let words = words_of(rt.alloc(), "novacrash --help")?;
-    let found = is_refused(rt.alloc(), &words);
-    ended(&rt, found, true)
+    ended(&rt, is_read(rt.alloc(), "novacrash --help", false))
 }
 
-/// A file: its name and its bytes.
-type File = (&'static str, &'static str);
-
-const FILES: [File; 6] = [
+/// The files, by their names.
+const FILES: [(&str, &str); 6] = [
     (
         "first.s",
         "addi x5, x0, 7\nlui x6, 0x40000\nsd x5, 0(x6)\ncbo.clean (x6)\nfence w, w\n\
@@ -92,27 +93,48 @@ struct Folder {
     written: Vec<u8>,
 }
 
+/// The text of a file.
+fn text_of(name: &str) -> Option<&'static str> {
+    for (known, text) in FILES {
+        if known == name {
+            return Some(text);
+        }
+    }
+    None
+}
+
 impl Files for Folder {
     fn read(&mut self, name: &str) -> Result<Vec<u8>, FileFault> {
-        for (known, text) in FILES {
-            if known == name {
-                return Vec::from_slice(self.alloc, text.as_bytes()).map_err(|_| FileFault::Memory);
-            }
+        let Some(text) = text_of(name) else {
+            return Err(FileFault::Failed);
+        };
+        match Vec::from_slice(self.alloc, text.as_bytes()) {
+            Ok(bytes) => Ok(bytes),
+            Err(_) => Err(FileFault::Memory),
         }
-        Err(FileFault::Failed)
     }
 
     fn write(&mut self, name: &str, bytes: &[u8]) -> Result<(), FileFault> {
-        if self.written.extend_from_slice(name.as_bytes()).is_err() {
-            return Err(FileFault::Memory);
+        let is_written = self.written.extend_from_slice(name.as_bytes()).is_ok()
+            && self.written.extend_from_slice(bytes).is_ok();
+        if is_written {
+            Ok(())
+        } else {
+            Err(FileFault::Memory)
         }
-        self.written
-            .extend_from_slice(bytes)
-            .map_err(|_| FileFault::Memory)
     }
 }
 
-/// What a command line comes to: its status, what it prints on standard output, and on standard error.
+/// A line, what is typed on its standard input, the status that it ends with, and what it prints: on standard error for
+/// the status 2, else on standard output.
+struct Example {
+    line: &'static str,
+    typed: &'static str,
+    status: u8,
+    printed: &'static str,
+}
+
+/// What a line came to: its status, and what it printed on standard output and on standard error.
 #[derive(Drop)]
 struct Outcome {
     status: u8,
@@ -120,122 +142,192 @@ struct Outcome {
     errors: Vec<u8>,
 }
 
-/// Room for what a command prints, so that the streams take no memory of their own.
+/// Room for what a line prints or writes, so that the streams take no memory of their own.
 fn stream(alloc: Global) -> Result<Vec<u8>, Refused> {
     ready(Vec::with_capacity(alloc, 4096))
 }
 
-fn outcome_of(alloc: Global, line: &str) -> Result<Outcome, Refused> {
-    let words = words_of(alloc, line)?;
-    let mut output = stream(alloc)?;
-    let mut errors = stream(alloc)?;
-    let mut folder = Folder {
-        alloc,
-        written: stream(alloc)?,
-    };
-    let status = execute(
-        alloc,
-        &words,
-        &mut folder,
-        &mut io::empty(),
-        &mut output,
-        &mut errors,
-    );
+fn silence(alloc: Global) -> Result<Outcome, Refused> {
     Ok(Outcome {
-        status,
-        output,
-        errors,
+        status: 0,
+        output: stream(alloc)?,
+        errors: stream(alloc)?,
     })
 }
 
-/// The status and whether the text was printed, on standard error for the status 2; want of memory is the status 4 and `memory`
-/// on standard error, and nothing on standard output.
-fn answer(outcome: &Outcome, printed: &str) -> Result<(u8, bool), Fault> {
-    let (told, silent) = match outcome.status {
-        2 | 4 | 5 => (&outcome.errors, &outcome.output),
-        _ => (&outcome.output, &outcome.errors),
-    };
-    if outcome.status == 4 {
-        return Err(fault_if(told.as_slice() == b"memory\n".as_slice() && silent.is_empty()));
-    }
-    let is_printed = told.as_slice() == printed.as_bytes() && silent.is_empty();
-    Ok((outcome.status, is_printed))
+fn empty_folder(alloc: Global) -> Result<Folder, Refused> {
+    Ok(Folder {
+        alloc,
+        written: stream(alloc)?,
+    })
 }
 
-/// Runs a line that ends with this status and prints this.
-fn ends(
-    rt: &(impl AllocGlobal + Abort),
-    status: u8,
-    line: &str,
-    printed: &str,
-) -> Result<(), Refused> {
-    let outcome = outcome_of(rt.alloc(), line)?;
-    let found = answer(&outcome, printed);
-    ended(rt, found, (status, true))
+/// Whether these are the first answers of a text, each a whole line.
+fn are_first_lines(output: &[u8], text: &str) -> bool {
+    text.as_bytes().starts_with(output) && (output.is_empty() || output.ends_with(b"\n"))
 }
+
+/// Whether want of memory is told on standard error, with nothing on standard output but a session's answers so far.
+fn tells_memory(example: &Example, output: &[u8], errors: &[u8]) -> bool {
+    let answers = if example.typed.is_empty() {
+        ""
+    } else {
+        example.printed
+    };
+    errors == b"memory\n".as_slice() && are_first_lines(output, answers)
+}
+
+/// Whether the line ended as it should.
+fn is_right(example: &Example, status: u8, output: &[u8], errors: &[u8]) -> bool {
+    let (told, silent) = if status == 2 {
+        (errors, output)
+    } else {
+        (output, errors)
+    };
+    status == example.status && told == example.printed.as_bytes() && silent.is_empty()
+}
+
+fn judged(example: &Example, outcome: &Outcome) -> Result<bool, Refused> {
+    let (output, errors) = (outcome.output.as_slice(), outcome.errors.as_slice());
+    if outcome.status == 4 {
+        return refusal(tells_memory(example, output, errors));
+    }
+    Ok(is_right(example, outcome.status, output, errors))
+}
+
+/// Types a line, over the files.
+fn execute_line(
+    alloc: Global,
+    example: &Example,
+    words: &[String],
+    outcome: &mut Outcome,
+) -> Result<(), Refused> {
+    let mut folder = empty_folder(alloc)?;
+    outcome.status = execute(
+        alloc,
+        words,
+        &mut folder,
+        &mut example.typed.as_bytes(),
+        &mut outcome.output,
+        &mut outcome.errors,
+    );
+    Ok(())
+}
+
+/// Types the line of an example.
+fn typed(alloc: Global, example: &Example) -> Result<bool, Refused> {
+    let words = words_of(alloc, example.line)?;
+    let mut outcome = silence(alloc)?;
+    execute_line(alloc, example, &words, &mut outcome)?;
+    judged(example, &outcome)
+}
+
+const ASM: Example = Example {
+    line: "novacrash asm first.s first.o",
+    typed: "",
+    status: 0,
+    printed: "text 32 data 0\n",
+};
 
 #[test]
 fn execute_asm(rt: HostRuntime) -> Result<(), Refused> {
-    ends(&rt, 0, "novacrash asm first.s first.o", "text 32 data 0\n")
+    ended(&rt, typed(rt.alloc(), &ASM))
 }
+
+const ASM_AT_FAULT: Example = Example {
+    line: "novacrash asm bad.s bad.o",
+    typed: "",
+    status: 2,
+    printed: "refused A3 line 2\n",
+};
 
 #[test]
 fn execute_asm_of_a_source_at_fault(rt: HostRuntime) -> Result<(), Refused> {
-    ends(&rt, 2, "novacrash asm bad.s bad.o", "refused A3 line 2\n")
+    ended(&rt, typed(rt.alloc(), &ASM_AT_FAULT))
 }
+
+const MKFS: Example = Example {
+    line: "novacrash mkfs one.plan 512 fresh",
+    typed: "",
+    status: 0,
+    printed: "lines 512\n",
+};
 
 #[test]
 fn execute_mkfs(rt: HostRuntime) -> Result<(), Refused> {
-    ends(&rt, 0, "novacrash mkfs one.plan 512 fresh", "lines 512\n")
+    ended(&rt, typed(rt.alloc(), &MKFS))
 }
+
+const RUN: Example = Example {
+    line: "novacrash run first.s --harts 1 --record made --out left",
+    typed: "",
+    status: 0,
+    printed: "h0 exit 0 pc=0x10020 x2=0x200000 x5=0x7 x6=0x40000000 x11=0x40000000 x17=0x5d\nevents 3\n",
+};
 
 #[test]
 fn execute_run(rt: HostRuntime) -> Result<(), Refused> {
-    ends(
-        &rt,
-        0,
-        "novacrash run first.s --harts 1 --record made --out left",
-        "h0 exit 0 pc=0x10020 x2=0x200000 x5=0x7 x6=0x40000000 x11=0x40000000 x17=0x5d\nevents 3\n",
-    )
+    ended(&rt, typed(rt.alloc(), &RUN))
 }
+
+const REPLAY: Example = Example {
+    line: "novacrash replay first.s eight --out left",
+    typed: "",
+    status: 0,
+    printed: "h0 exit 0 pc=0x10020 x2=0x200000 x5=0x7 x6=0x40000000 x11=0x40000000 x17=0x5d\nevents 3\n",
+};
 
 #[test]
 fn execute_replay(rt: HostRuntime) -> Result<(), Refused> {
-    ends(
-        &rt,
-        0,
-        "novacrash replay first.s eight --out left",
-        "h0 exit 0 pc=0x10020 x2=0x200000 x5=0x7 x6=0x40000000 x11=0x40000000 x17=0x5d\nevents 3\n",
-    )
+    ended(&rt, typed(rt.alloc(), &REPLAY))
 }
+
+const IMAGES: Example = Example {
+    line: "novacrash images three.s nine 5",
+    typed: "",
+    status: 0,
+    printed: "moment 5 images 2\n",
+};
 
 #[test]
 fn execute_images(rt: HostRuntime) -> Result<(), Refused> {
-    ends(
-        &rt,
-        0,
-        "novacrash images three.s nine 5",
-        "moment 5 images 2\n",
-    )
+    ended(&rt, typed(rt.alloc(), &IMAGES))
 }
+
+const EXPLAIN: Example = Example {
+    line: "novacrash explain three.s nine 5 0",
+    typed: "",
+    status: 0,
+    printed: "h0*5 e5 h0*4\n",
+};
 
 #[test]
 fn execute_explain(rt: HostRuntime) -> Result<(), Refused> {
-    ends(
-        &rt,
-        0,
-        "novacrash explain three.s nine 5 0",
-        "h0*5 e5 h0*4\n",
-    )
+    ended(&rt, typed(rt.alloc(), &EXPLAIN))
 }
 
 /// Without a volume there is nothing to recover at the first moment.
+const CHECK: Example = Example {
+    line: "novacrash check one.plan first.s eight",
+    typed: "",
+    status: 1,
+    printed: "fail moment=0 image=0 cause=N1\n",
+};
+
 #[test]
 fn execute_check(rt: HostRuntime) -> Result<(), Refused> {
-    ends(
-        &rt,
-        1,
-        "novacrash check one.plan first.s eight",
-        "fail moment=0 image=0 cause=N1\n",
-    )
+    ended(&rt, typed(rt.alloc(), &CHECK))
+}
+
+/// A session whose steps make no event: one that is refused there would be told as `fault G5`, and the session goes on.
+const DEBUG: Example = Example {
+    line: "novacrash debug first.s",
+    typed: "break 0x10008\ngo h0*8\nwatch 0x40000000\nstep 1\npeek 0x40000000 2\njump\n",
+    status: 0,
+    printed: "ok\nbreak h0 pc=0x10008\nok\nfault G1\n00 00\nfault D1\n",
+};
+
+#[test]
+fn execute_debug(rt: HostRuntime) -> Result<(), Refused> {
+    ended(&rt, typed(rt.alloc(), &DEBUG))
 }

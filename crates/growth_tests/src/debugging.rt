@@ -1,64 +1,54 @@
 //! A debugger: its steps take memory for events alone, and its points take none.
 
-use crate::ending::{Fault, Refused, ended, fault_if};
+use crate::ending::{Refused, ended, ready, refusal};
 use crate::samples::{FENCES, machine_of, schedule_of};
 use debugger::{Cause, DebugFault, Debugger, Place, StepFault, Stop};
+use std::alloc::Global;
 
 /// The pc of hart 0.
-fn pc_of(debugger: &Debugger) -> Option<u64> {
+fn pc_of(debugger: &Debugger) -> u64 {
     match debugger.regs(0) {
-        Ok(state) => Some(state.pc),
-        Err(_) => None,
+        Ok(state) => state.pc,
+        Err(_) => 0,
     }
 }
 
-/// Makes steps of hart 0; of a refused one the fault, and whether it left the hart where it was.
-fn step_all(debugger: &mut Debugger) -> Result<(), (DebugFault, bool)> {
+/// Makes steps of hart 0; a refused one has to leave it where it was.
+fn stepped(debugger: &mut Debugger) -> Result<bool, Refused> {
     for _ in 0..18 {
         let before = pc_of(debugger);
-        if let Err(refused) = debugger.step(0) {
-            return Err((refused, pc_of(debugger) == before));
+        if let Err(fault) = debugger.step(0) {
+            let is_memory = matches!(fault, DebugFault::Step(StepFault::Memory));
+            return refusal(is_memory && pc_of(debugger) == before);
         }
     }
-    Ok(())
-}
-
-#[test]
-fn debugger_step(rt: HostRuntime) -> Result<(), Refused> {
-    let mut debugger = Debugger::new(machine_of(&rt, &FENCES, 1)?);
-    let found = match step_all(&mut debugger) {
-        Ok(()) => Ok(pc_of(&debugger)),
-        Err(refused) => Err(fault_if(refused == (DebugFault::Step(StepFault::Memory), true))),
-    };
-    ended(&rt, found, Some(0x1_0000))
+    Ok(pc_of(debugger) == 0x1_0000)
 }
 
 /// Whether a go was refused memory, at a fence, with the steps before it made.
-fn stops_at_a_fence(debugger: &Debugger, refused: DebugFault) -> bool {
-    match refused {
+fn stops_at_a_fence(debugger: &Debugger, fault: DebugFault) -> bool {
+    match fault {
         DebugFault::Stopped {
             place,
             fault: StepFault::Memory,
-        } => place.item == 0 && place.steps % 2 == 0 && pc_of(debugger) == Some(0x1_0000),
+        } => place.item == 0 && place.steps % 2 == 0 && pc_of(debugger) == 0x1_0000,
         _ => false,
     }
 }
 
 const START: Place = Place { item: 0, steps: 0 };
 
-#[test]
-fn debugger_go(rt: HostRuntime) -> Result<(), Refused> {
-    let schedule = schedule_of(&rt, "h0*18")?;
-    let mut debugger = Debugger::new(machine_of(&rt, &FENCES, 1)?);
-    let found = match debugger.go(&schedule, START) {
-        Ok(stop) => Ok(stop),
-        Err(refused) => Err(fault_if(stops_at_a_fence(&debugger, refused))),
-    };
-    let end = Stop {
-        cause: Cause::End,
-        place: Place { item: 1, steps: 0 },
-    };
-    ended(&rt, found, end)
+const END: Stop = Stop {
+    cause: Cause::End,
+    place: Place { item: 1, steps: 0 },
+};
+
+fn gone(alloc: Global, debugger: &mut Debugger) -> Result<bool, Refused> {
+    let schedule = schedule_of(alloc, b"h0*18")?;
+    match debugger.go(&schedule, START) {
+        Ok(stop) => Ok(stop == END),
+        Err(fault) => refusal(stops_at_a_fence(debugger, fault)),
+    }
 }
 
 /// Sets sixty-four points, and takes them away.
@@ -74,12 +64,40 @@ fn set_and_clear(debugger: &mut Debugger) -> Result<(), DebugFault> {
     Ok(())
 }
 
+/// A call of a debugger.
+#[derive(Clone, Copy)]
+enum Call {
+    Step,
+    Go,
+    Points,
+}
+
+fn called(alloc: Global, debugger: &mut Debugger, call: Call) -> Result<bool, Refused> {
+    match call {
+        Call::Step => stepped(debugger),
+        Call::Go => gone(alloc, debugger),
+        Call::Points => Ok(set_and_clear(debugger).is_ok() && pc_of(debugger) == 0x1_0000),
+    }
+}
+
+/// Makes a call of a debugger of one hart that makes fences.
+fn on_debugger(alloc: Global, call: Call) -> Result<bool, Refused> {
+    let machine = ready(machine_of(alloc, FENCES, 1))?;
+    let mut debugger = Debugger::new(machine);
+    called(alloc, &mut debugger, call)
+}
+
+#[test]
+fn debugger_step(rt: HostRuntime) -> Result<(), Refused> {
+    ended(&rt, on_debugger(rt.alloc(), Call::Step))
+}
+
+#[test]
+fn debugger_go(rt: HostRuntime) -> Result<(), Refused> {
+    ended(&rt, on_debugger(rt.alloc(), Call::Go))
+}
+
 #[test]
 fn debugger_points_without_memory(rt: HostRuntime) -> Result<(), Refused> {
-    let mut debugger = Debugger::new(machine_of(&rt, &FENCES, 1)?);
-    let found = match set_and_clear(&mut debugger) {
-        Ok(()) => Ok(pc_of(&debugger)),
-        Err(_) => Err(Fault::Other),
-    };
-    ended(&rt, found, Some(0x1_0000))
+    ended(&rt, on_debugger(rt.alloc(), Call::Points))
 }

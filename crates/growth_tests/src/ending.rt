@@ -1,8 +1,6 @@
 //! How a test ends whose growths are refused in turn.
 
-use schedule::ScheduleFault;
-use std::alloc::{AllocError, Global};
-use std::fmt::Debug;
+use std::alloc::Global;
 use std::process::Abort;
 
 /// Where the growth lay that was refused. A test that ends with one of these writes its name on standard error, where
@@ -17,50 +15,38 @@ pub(crate) enum Refused {
     Past,
 }
 
-impl From<AllocError> for Refused {
-    fn from(_refused: AllocError) -> Refused {
-        Refused::SetUp
-    }
-}
-
-impl From<ScheduleFault> for Refused {
-    fn from(_refused: ScheduleFault) -> Refused {
-        Refused::SetUp
-    }
-}
-
-/// A fault that a call answered, of which these tests tell the want of memory alone.
-#[derive(Clone, Copy, Debug, PartialEq, Eq)]
-pub(crate) enum Fault {
-    Memory,
-    Other,
-}
-
-/// The fault of a call.
-pub(crate) fn fault_if(memory: bool) -> Fault {
-    if memory { Fault::Memory } else { Fault::Other }
-}
-
 /// What the test makes for the call, which only a refused growth takes from it.
 pub(crate) fn ready<T, F: Drop>(made: Result<T, F>) -> Result<T, Refused> {
-    made.map_err(|_| Refused::SetUp)
+    match made {
+        Ok(made) => Ok(made),
+        Err(_) => Err(Refused::SetUp),
+    }
 }
 
-/// Ends a test by what the call answered.
-pub(crate) fn ended<T: PartialEq + Debug + Drop>(
-    rt: &(impl AllocGlobal + Abort),
-    found: Result<T, Fault>,
-    expected: T,
-) -> Result<(), Refused> {
-    if let Err(Fault::Memory) = found {
-        return Err(Refused::Call);
+/// What a call that is refused comes to: its want of memory, and anything else is a wrong answer.
+pub(crate) fn refusal(memory: bool) -> Result<bool, Refused> {
+    if memory {
+        Err(Refused::Call)
+    } else {
+        Ok(false)
     }
-    assert_eq!(rt; found, Ok(expected));
+}
+
+/// Ends a test by whether the call's answer was the right one.
+pub(crate) fn ended(
+    rt: &(impl AllocGlobal + Abort),
+    answer: Result<bool, Refused>,
+) -> Result<(), Refused> {
+    let is_right = answer?;
+    assert!(rt; is_right);
     past(rt.alloc())
 }
 
 /// The growth behind all others of a test.
 fn past(alloc: Global) -> Result<(), Refused> {
     let mut last = Vec::new(alloc);
-    last.push(0_u8).map_err(|_| Refused::Past)
+    match last.push(0_u8) {
+        Ok(()) => Ok(()),
+        Err(_) => Err(Refused::Past),
+    }
 }

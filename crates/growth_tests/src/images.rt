@@ -1,146 +1,159 @@
 //! The cuts of a moment, their images, and the schedules that leave them.
 
-use crate::ending::{Fault, Refused, ended, fault_if, ready};
-use crate::samples::{TWO_IMAGES, TWO_LINES, program_of, trace_of, zeros};
+use crate::ending::{Refused, ended, ready, refusal};
+use crate::samples::{TWO_LINES, recorded_run, trace_of, zeros};
 use crash_image::{Cut, Cuts, ImageFault, has_lines};
 use cut_schedule::explain;
 use line_memory::Medium;
-use recording::{Recorded, record};
+use recording::Recorded;
 use schedule::Schedule;
 use std::alloc::Global;
-use std::process::Abort;
 use store_trace::Trace;
 
-fn image_fault(found: ImageFault) -> Fault {
-    fault_if(matches!(found, ImageFault::Memory))
+/// What a call comes to that an image refused.
+fn refused_image(fault: ImageFault) -> Result<bool, Refused> {
+    refusal(matches!(fault, ImageFault::Memory))
 }
 
-/// The state after the trace of stores to two lines, over zeros: twelve cuts.
-fn two_lines(rt: &(impl AllocGlobal + Abort)) -> Result<(Medium, Trace), Refused> {
-    let medium = zeros(rt)?;
-    let trace = trace_of(rt, &TWO_LINES)?;
-    Ok((medium, trace))
+/// A call on the cuts of a moment.
+#[derive(Clone, Copy)]
+enum Call {
+    /// The cuts themselves.
+    Cuts,
+    /// The cut of a number.
+    Cut,
+    /// The image of a number.
+    Image,
+    /// The image of a cut.
+    ImageOfCut,
+    /// The cut of an image.
+    Find,
 }
 
-fn cuts_at<'a>(
-    rt: &(impl AllocGlobal + Abort),
-    medium: &'a Medium,
-    trace: &'a Trace,
-    moment: u32,
-) -> Result<Cuts<'a>, ImageFault> {
-    assert!(rt; has_lines(medium, trace));
-    Cuts::at(rt.alloc(), medium, trace, moment)
+/// The cut of number 7: one store to line 3, and three to line 7.
+const SEVENTH: [(u32, u32); 2] = [(3, 1), (7, 3)];
+
+fn is_seventh(cut: Result<Cut, ImageFault>) -> Result<bool, Refused> {
+    match cut {
+        Ok(cut) => Ok(cut.entries() == SEVENTH.as_slice()),
+        Err(fault) => refused_image(fault),
+    }
+}
+
+/// Whether the first doublewords of lines 3 and 7 are those of that cut.
+fn is_image(image: Result<Medium, ImageFault>) -> Result<bool, Refused> {
+    match image {
+        Ok(image) => Ok(image.lines() > 7 && image.load(192, 8) == 1 && image.load(448, 8) == 3),
+        Err(fault) => refused_image(fault),
+    }
+}
+
+fn is_found(cut: Result<Option<Cut>, ImageFault>) -> Result<bool, Refused> {
+    match cut {
+        Ok(Some(cut)) => Ok(cut.entries() == SEVENTH.as_slice()),
+        Ok(None) => Ok(false),
+        Err(fault) => refused_image(fault),
+    }
+}
+
+/// Makes a call for the number 7 of the twelve cuts.
+fn called(alloc: Global, cuts: &Cuts, call: Call) -> Result<bool, Refused> {
+    if cuts.count() != Some(12) {
+        return Ok(false);
+    }
+    match call {
+        Call::Cuts => Ok(true),
+        Call::Cut => is_seventh(cuts.cut(alloc, 7)),
+        Call::Image => is_image(cuts.image(alloc, 7)),
+        Call::ImageOfCut => {
+            let cut = ready(cuts.cut(alloc, 7))?;
+            is_image(cuts.image_of(alloc, &cut))
+        }
+        Call::Find => {
+            let image = ready(cuts.image(alloc, 7))?;
+            is_found(cuts.find(alloc, &image))
+        }
+    }
+}
+
+/// Makes a call on the cuts after a trace over a medium.
+fn called_after(
+    alloc: Global,
+    medium: &Medium,
+    trace: &Trace,
+    call: Call,
+) -> Result<bool, Refused> {
+    if !has_lines(medium, trace) {
+        return Ok(false);
+    }
+    match Cuts::at(alloc, medium, trace, 5) {
+        Ok(cuts) => called(alloc, &cuts, call),
+        Err(fault) => match call {
+            Call::Cuts => refused_image(fault),
+            _ => Err(Refused::SetUp),
+        },
+    }
+}
+
+/// Makes a call on the cuts after stores to two lines, over zeros.
+fn on_two_lines(alloc: Global, call: Call) -> Result<bool, Refused> {
+    let medium = zeros(alloc)?;
+    let trace = trace_of(alloc, &TWO_LINES)?;
+    called_after(alloc, &medium, &trace, call)
 }
 
 #[test]
 fn cuts_at_a_moment(rt: HostRuntime) -> Result<(), Refused> {
-    let (medium, trace) = two_lines(&rt)?;
-    let found = match cuts_at(&rt, &medium, &trace, 5) {
-        Ok(cuts) => Ok(cuts.count()),
-        Err(refused) => Err(image_fault(refused)),
-    };
-    ended(&rt, found, Some(12))
-}
-
-/// The cut of this number, of which there is one.
-fn numbered(alloc: Global, cuts: &Cuts, number: u32) -> Result<Cut, ImageFault> {
-    match cuts.count() {
-        Some(count) if number < count => cuts.cut(alloc, number),
-        _ => Err(ImageFault::NotACut),
-    }
-}
-
-/// Its image.
-fn numbered_image(alloc: Global, cuts: &Cuts, number: u32) -> Result<Medium, ImageFault> {
-    match cuts.count() {
-        Some(count) if number < count => cuts.image(alloc, number),
-        _ => Err(ImageFault::NotACut),
-    }
+    ended(&rt, on_two_lines(rt.alloc(), Call::Cuts))
 }
 
 #[test]
 fn cut_of_a_number(rt: HostRuntime) -> Result<(), Refused> {
-    let (medium, trace) = two_lines(&rt)?;
-    let cuts = ready(cuts_at(&rt, &medium, &trace, 5))?;
-    let found = match numbered(rt.alloc(), &cuts, 7) {
-        Ok(cut) => Ok(cut.entries() == [(3, 1), (7, 3)].as_slice()),
-        Err(refused) => Err(image_fault(refused)),
-    };
-    ended(&rt, found, true)
-}
-
-/// The first doublewords of lines 3 and 7.
-fn stored_in(medium: &Medium) -> Option<(u64, u64)> {
-    if medium.lines() > 7 {
-        Some((medium.load(192, 8), medium.load(448, 8)))
-    } else {
-        None
-    }
+    ended(&rt, on_two_lines(rt.alloc(), Call::Cut))
 }
 
 #[test]
 fn image_of_a_number(rt: HostRuntime) -> Result<(), Refused> {
-    let (medium, trace) = two_lines(&rt)?;
-    let cuts = ready(cuts_at(&rt, &medium, &trace, 5))?;
-    let found = match numbered_image(rt.alloc(), &cuts, 7) {
-        Ok(image) => Ok(stored_in(&image)),
-        Err(refused) => Err(image_fault(refused)),
-    };
-    ended(&rt, found, Some((1, 3)))
+    ended(&rt, on_two_lines(rt.alloc(), Call::Image))
 }
 
 #[test]
 fn image_of_a_cut(rt: HostRuntime) -> Result<(), Refused> {
-    let (medium, trace) = two_lines(&rt)?;
-    let cuts = ready(cuts_at(&rt, &medium, &trace, 5))?;
-    let cut = ready(numbered(rt.alloc(), &cuts, 7))?;
-    let found = match cuts.image_of(rt.alloc(), &cut) {
-        Ok(image) => Ok(stored_in(&image)),
-        Err(refused) => Err(image_fault(refused)),
-    };
-    ended(&rt, found, Some((1, 3)))
+    ended(&rt, on_two_lines(rt.alloc(), Call::ImageOfCut))
 }
 
 #[test]
 fn cut_of_an_image(rt: HostRuntime) -> Result<(), Refused> {
-    let (medium, trace) = two_lines(&rt)?;
-    let cuts = ready(cuts_at(&rt, &medium, &trace, 5))?;
-    let image = ready(numbered_image(rt.alloc(), &cuts, 7))?;
-    let found = match cuts.find(rt.alloc(), &image) {
-        Ok(Some(cut)) => Ok(cut.entries() == [(3, 1), (7, 3)].as_slice()),
-        Ok(None) => Ok(false),
-        Err(refused) => Err(image_fault(refused)),
-    };
-    ended(&rt, found, true)
+    ended(&rt, on_two_lines(rt.alloc(), Call::Find))
 }
 
-/// A run of nine steps, whose last moment has two images.
-fn recorded_run(rt: &(impl AllocGlobal + Abort)) -> Result<Recorded, Refused> {
-    let program = program_of(rt, &TWO_IMAGES)?;
-    let medium = zeros(rt)?;
-    let schedule = Schedule::read(rt.alloc(), b"h0*9")?;
-    ready(record(rt.alloc(), program, medium, 1, 16, &schedule))
-}
-
-fn cut_of_line_5(alloc: Global, number: u32) -> Result<Cut, Refused> {
+/// The cut of two stores to line 5.
+fn cut_of_line_5(alloc: Global) -> Result<Cut, Refused> {
     let mut entries = Vec::new(alloc);
-    ready(entries.push((5, number)))?;
+    ready(entries.push((5, 2)))?;
     Ok(Cut::from_entries(entries))
 }
 
 /// Whether the schedule's text is this one.
-fn says(alloc: Global, schedule: &Schedule, text: &str) -> Result<bool, Refused> {
+pub(crate) fn says(alloc: Global, schedule: &Schedule, text: &str) -> Result<bool, Refused> {
     let written = ready(schedule.write(alloc))?;
     Ok(written.as_str() == text)
 }
 
+fn explained(alloc: Global, recorded: &Recorded) -> Result<bool, Refused> {
+    let cut = cut_of_line_5(alloc)?;
+    match explain(alloc, recorded, 5, &cut) {
+        Ok(schedule) => says(alloc, &schedule, "h0*5 e5 h0*4"),
+        Err(fault) => refused_image(fault),
+    }
+}
+
+fn explained_run(alloc: Global) -> Result<bool, Refused> {
+    let recorded = ready(recorded_run(alloc))?;
+    explained(alloc, &recorded)
+}
+
 #[test]
 fn explain_a_cut(rt: HostRuntime) -> Result<(), Refused> {
-    let recorded = recorded_run(&rt)?;
-    let cut = cut_of_line_5(rt.alloc(), 2)?;
-    let found = match explain(rt.alloc(), &recorded, 5, &cut) {
-        Ok(schedule) => Ok(says(rt.alloc(), &schedule, "h0*5 e5 h0*4")?),
-        Err(refused) => Err(image_fault(refused)),
-    };
-    ended(&rt, found, true)
+    ended(&rt, explained_run(rt.alloc()))
 }

@@ -1,90 +1,56 @@
 //! Machines: made, stepped, run by schedules and in rounds, and recorded.
 
-use crate::ending::{Fault, Refused, ended, fault_if};
-use crate::samples::{FENCES, TWO_IMAGES, machine_of, program_of, schedule_of, zeros};
+use crate::ending::{Refused, ended, ready, refusal};
+use crate::samples::{FENCES, machine_of, recorded_run, schedule_of};
 use hart::HartState;
-use machine::{Item, Machine, RunStop, Schedule, Step, StepFault};
-use recording::{Recorded, record};
+use machine::{Item, Machine, RunStop, Step, StepFault};
+use recording::Recorded;
 use rounds::{RoundFault, run_rounds};
+use std::alloc::Global;
 
-/// A hart's state, beside the number of events and the first byte of persistent memory.
+/// The state of hart 0, the number of events, and the first byte of persistent memory.
 type Seen = (Option<HartState>, usize, Option<u8>);
 
-fn seen_of(machine: &Machine, hart: u32) -> Seen {
-    let state = if hart < machine.harts() {
-        Some(*machine.hart(hart))
+fn seen_of(machine: &Machine) -> Seen {
+    let state = if machine.harts() > 0 {
+        Some(*machine.hart(0))
     } else {
         None
     };
     (state, machine.events().len(), machine.peek(0x4000_0000))
 }
 
-/// A hart's pc, and the number of events.
-fn place_of(machine: &Machine, hart: u32) -> (u64, usize) {
-    let pc = if hart < machine.harts() {
-        machine.hart(hart).pc
-    } else {
-        0
-    };
-    (pc, machine.events().len())
+/// Whether a hart stands at this pc, after so many events.
+fn stands(machine: &Machine, hart: u32, pc: u64, events: usize) -> bool {
+    hart < machine.harts() && machine.hart(hart).pc == pc && machine.events().len() == events
 }
 
-#[test]
-fn machine_new(rt: HostRuntime) -> Result<(), Refused> {
-    let program = program_of(&rt, &FENCES)?;
-    let medium = zeros(&rt)?;
-    let found = match Machine::new(rt.alloc(), program, medium, 3, 16) {
-        Ok(machine) => Ok((machine.harts(), place_of(&machine, 2))),
-        Err(refused) => Err(fault_if(refused == StepFault::Memory)),
-    };
-    ended(&rt, found, (3, (0x1_0000, 0)))
-}
-
-/// Makes steps of hart 0 up to the first that is refused: its fault, and whether it changed nothing that is seen.
-fn step_all(machine: &mut Machine, count: u32) -> Result<(), (StepFault, bool)> {
+/// Makes steps of hart 0. Whether all were made; a refused one has to change nothing that is seen.
+fn stepped(machine: &mut Machine, count: u32) -> Result<bool, Refused> {
     for _ in 0..count {
-        let before = seen_of(machine, 0);
-        if let Err(refused) = machine.step(Step::Hart(0)) {
-            return Err((refused, seen_of(machine, 0) == before));
+        let before = seen_of(machine);
+        if let Err(fault) = machine.step(Step::Hart(0)) {
+            return refusal(matches!(fault, StepFault::Memory) && seen_of(machine) == before);
         }
     }
-    Ok(())
+    Ok(true)
 }
 
-/// The fault of a refused step, which is the wanted one where nothing changed.
-fn unchanged(refused: (StepFault, bool)) -> Fault {
-    fault_if(refused == (StepFault::Memory, true))
+/// Makes eighteen steps, nine of them fences: the trace grows three times.
+fn fenced(machine: &mut Machine) -> Result<bool, Refused> {
+    Ok(stepped(machine, 18)? && stands(machine, 0, 0x1_0000, 9))
 }
 
-/// Nine fences: the trace grows three times.
-#[test]
-fn machine_step_with_an_event(rt: HostRuntime) -> Result<(), Refused> {
-    let mut machine = machine_of(&rt, &FENCES, 1)?;
-    let found = match step_all(&mut machine, 18) {
-        Ok(()) => Ok(place_of(&machine, 0)),
-        Err(refused) => Err(unchanged(refused)),
-    };
-    ended(&rt, found, (0x1_0000, 9))
+/// The file of `ld x5, 0(x11)`; `add x6, x5, x6`; `sd x6, -8(x2)`; `jal x0, .-12`.
+const LOADS: &[u8] =
+    b"RVXPROG1\x10\0\0\0\0\0\0\0\x83\xb2\x05\0\x33\x83\x62\0\x23\x3c\x61\xfe\x6f\xf0\x5f\xff";
+
+/// Makes forty steps without an event, and an eviction.
+fn looped(machine: &mut Machine) -> Result<bool, Refused> {
+    let is_stepped = stepped(machine, 40)?;
+    let is_evicted = machine.step(Step::Evict(0)).is_ok();
+    Ok(is_stepped && is_evicted && stands(machine, 0, 0x1_0000, 0))
 }
-
-/// `ld x5, 0(x11)`; `add x6, x5, x6`; `sd x6, -8(x2)`; `jal x0, .-12`.
-const LOADS: [u32; 4] = [0x0005_b283, 0x0062_8333, 0xfe61_3c23, 0xff5f_f06f];
-
-#[test]
-fn machine_steps_without_memory(rt: HostRuntime) -> Result<(), Refused> {
-    let mut machine = machine_of(&rt, &LOADS, 1)?;
-    let stepped = step_all(&mut machine, 40);
-    let evicted = machine.step(Step::Evict(0));
-    let found = if stepped.is_ok() && evicted.is_ok() {
-        Ok(place_of(&machine, 0))
-    } else {
-        Err(Fault::Other)
-    };
-    ended(&rt, found, (0x1_0000, 0))
-}
-
-/// A run of fences by two items of one hart.
-const TWO_ITEMS: &str = "h0*5 h0*13";
 
 /// Whether the steps before the refused one stand, and no others: that one was a fence.
 fn stands_at(machine: &Machine, stop: RunStop) -> bool {
@@ -92,81 +58,140 @@ fn stands_at(machine: &Machine, stop: RunStop) -> bool {
         0 => stop.steps,
         _ => stop.steps.wrapping_add(5),
     };
-    done % 2 == 0 && place_of(machine, 0) == (0x1_0000, done as usize / 2)
+    done % 2 == 0 && stands(machine, 0, 0x1_0000, (done / 2) as usize)
 }
 
-#[test]
-fn machine_run(rt: HostRuntime) -> Result<(), Refused> {
-    let schedule = schedule_of(&rt, TWO_ITEMS)?;
-    let mut machine = machine_of(&rt, &FENCES, 1)?;
-    let found = match machine.run(&schedule) {
-        Ok(()) => Ok(place_of(&machine, 0)),
-        Err(stop) => {
-            let is_memory = stop.fault == StepFault::Memory;
-            Err(fault_if(is_memory && stands_at(&machine, stop)))
-        }
-    };
-    ended(&rt, found, (0x1_0000, 9))
+/// A run of fences by two items of one hart.
+fn ran(alloc: Global, machine: &mut Machine) -> Result<bool, Refused> {
+    let schedule = schedule_of(alloc, b"h0*5 h0*13")?;
+    match machine.run(&schedule) {
+        Ok(()) => Ok(stands(machine, 0, 0x1_0000, 9)),
+        Err(stop) => refusal(matches!(stop.fault, StepFault::Memory) && stands_at(machine, stop)),
+    }
 }
 
-/// Both harts' places after so many turns, and the number of events.
-fn after_turns(turns: u32) -> (u64, u64, usize) {
+/// Whether both harts stand where so many turns leave them, with the events of those.
+fn stands_after(machine: &Machine, turns: u32) -> bool {
     let (first, second) = (turns.div_ceil(2), turns / 2);
-    (
+    let events = first.div_ceil(2) + second.div_ceil(2);
+    stands(
+        machine,
+        0,
         0x1_0000 + 4 * u64::from(first % 2),
+        events as usize,
+    ) && stands(
+        machine,
+        1,
         0x1_0000 + 4 * u64::from(second % 2),
-        first.div_ceil(2).wrapping_add(second.div_ceil(2)) as usize,
+        events as usize,
     )
-}
-
-fn places_of(machine: &Machine) -> (u64, u64, usize) {
-    let (first, events) = place_of(machine, 0);
-    (first, place_of(machine, 1).0, events)
 }
 
 /// Whether some of the first eighteen turns were made, and no others.
 fn has_made_turns(machine: &Machine) -> bool {
-    let places = places_of(machine);
-    (0..18).any(|turns| after_turns(turns) == places)
+    for turns in 0..18 {
+        if stands_after(machine, turns) {
+            return true;
+        }
+    }
+    false
 }
 
+/// Whether these are eighteen steps, one of each hart in turn.
 fn are_turns(items: &[Item]) -> bool {
-    items.len() == 18
-        && items.iter().enumerate().all(|(place, item)| match item {
-            Item::Steps { hart, count } => *hart as usize == place % 2 && *count == 1,
+    let mut place = 0_u32;
+    for item in items {
+        let is_turn = match *item {
+            Item::Steps { hart, count } => hart == place % 2 && count == 1,
             Item::Evict { .. } => false,
-        })
+        };
+        if place >= 18 || !is_turn {
+            return false;
+        }
+        place += 1;
+    }
+    place == 18
+}
+
+/// Nine rounds of two harts.
+fn ran_in_rounds(alloc: Global, machine: &mut Machine) -> Result<bool, Refused> {
+    match run_rounds(alloc, machine, 9) {
+        Ok(schedule) => Ok(stands_after(machine, 18) && are_turns(schedule.items())),
+        Err(fault) => refusal(matches!(fault, RoundFault::Memory) && has_made_turns(machine)),
+    }
+}
+
+/// A call on a machine.
+#[derive(Clone, Copy)]
+enum Call {
+    /// It was made.
+    New,
+    /// Steps with events.
+    Fences,
+    /// Steps without an event.
+    Loads,
+    Run,
+    Rounds,
+}
+
+fn called(alloc: Global, machine: &mut Machine, call: Call) -> Result<bool, Refused> {
+    match call {
+        Call::New => Ok(machine.harts() == 3 && stands(machine, 2, 0x1_0000, 0)),
+        Call::Fences => fenced(machine),
+        Call::Loads => looped(machine),
+        Call::Run => ran(alloc, machine),
+        Call::Rounds => ran_in_rounds(alloc, machine),
+    }
+}
+
+/// Makes a call on a machine that was made.
+fn on_machine(alloc: Global, made: Result<Machine, Refused>, call: Call) -> Result<bool, Refused> {
+    let mut machine = made?;
+    called(alloc, &mut machine, call)
+}
+
+#[test]
+fn machine_new(rt: HostRuntime) -> Result<(), Refused> {
+    let made = machine_of(rt.alloc(), FENCES, 3);
+    ended(&rt, on_machine(rt.alloc(), made, Call::New))
+}
+
+#[test]
+fn machine_step_with_an_event(rt: HostRuntime) -> Result<(), Refused> {
+    let made = ready(machine_of(rt.alloc(), FENCES, 1));
+    ended(&rt, on_machine(rt.alloc(), made, Call::Fences))
+}
+
+#[test]
+fn machine_steps_without_memory(rt: HostRuntime) -> Result<(), Refused> {
+    let made = ready(machine_of(rt.alloc(), LOADS, 1));
+    ended(&rt, on_machine(rt.alloc(), made, Call::Loads))
+}
+
+#[test]
+fn machine_run(rt: HostRuntime) -> Result<(), Refused> {
+    let made = ready(machine_of(rt.alloc(), FENCES, 1));
+    ended(&rt, on_machine(rt.alloc(), made, Call::Run))
 }
 
 #[test]
 fn run_in_rounds(rt: HostRuntime) -> Result<(), Refused> {
-    let mut machine = machine_of(&rt, &FENCES, 2)?;
-    let found = match run_rounds(rt.alloc(), &mut machine, 9) {
-        Ok(schedule) => Ok((places_of(&machine), are_turns(schedule.items()))),
-        Err(refused) => {
-            let is_memory = refused == RoundFault::Memory;
-            Err(fault_if(is_memory && has_made_turns(&machine)))
-        }
-    };
-    ended(&rt, found, (after_turns(18), true))
+    let made = ready(machine_of(rt.alloc(), FENCES, 2));
+    ended(&rt, on_machine(rt.alloc(), made, Call::Rounds))
 }
 
-/// Whether this is what there is to know of the run of nine steps.
-fn is_whole(recorded: &Recorded) -> bool {
-    recorded.steps() == [3, 5, 6, 8, 9].as_slice()
-        && recorded.trace().events().len() == 5
-        && recorded.schedule().items().len() == 1
-        && recorded.harts().len() == 1
+/// Whether a run of nine steps was recorded whole.
+fn is_whole(made: Result<Recorded, Refused>) -> Result<bool, Refused> {
+    let recorded = made?;
+    Ok(
+        recorded.steps() == [3, 5, 6, 8, 9].as_slice()
+            && recorded.trace().events().len() == 5
+            && recorded.schedule().items().len() == 1
+            && recorded.harts().len() == 1,
+    )
 }
 
 #[test]
 fn record_a_run(rt: HostRuntime) -> Result<(), Refused> {
-    let program = program_of(&rt, &TWO_IMAGES)?;
-    let medium = zeros(&rt)?;
-    let schedule = Schedule::read(rt.alloc(), b"h0*9")?;
-    let found = match record(rt.alloc(), program, medium, 1, 16, &schedule) {
-        Ok(recorded) => Ok(is_whole(&recorded)),
-        Err(stop) => Err(fault_if(stop.fault == StepFault::Memory)),
-    };
-    ended(&rt, found, true)
+    ended(&rt, is_whole(recorded_run(rt.alloc())))
 }

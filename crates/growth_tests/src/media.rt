@@ -1,27 +1,26 @@
 //! Memory by lines and bytes, and what stands on it: the lists of nodes and the caches, which take their memory where they are
 //! made, and the trace.
 
-use crate::ending::{Fault, Refused, ended, fault_if, ready};
-use crate::samples::zeros;
+use crate::ending::{Refused, ended, ready, refusal};
 use clean_fence::PmCache;
 use index_list::Arena;
 use line_memory::{Medium, MediumFault, Ram};
 use lru_cache::Cache;
 use std::alloc::Global;
-use std::process::Abort;
 use store_trace::{Event, Trace, TraceFault};
 
-fn medium_fault(found: MediumFault) -> Fault {
-    fault_if(matches!(found, MediumFault::Memory))
+/// What a call comes to that a medium refused.
+fn refused_medium(fault: MediumFault) -> Result<bool, Refused> {
+    refusal(matches!(fault, MediumFault::Memory))
 }
 
-/// The number of the lines, and the sum of their bytes, each times its place from 1.
-fn shape_of(medium: &Medium) -> (u32, u64) {
-    let mut sum = 0;
+/// Whether a medium has 512 lines, and this is the sum of their bytes, each times its place from 1.
+fn comes_to(medium: &Medium, sum: u64) -> bool {
+    let mut found = 0;
     for line in 0..medium.lines() {
-        sum = weighed(sum, line, medium.read_line(line));
+        found = weighed(found, line, medium.read_line(line));
     }
-    (medium.lines(), sum)
+    medium.lines() == 512 && found == sum
 }
 
 fn weighed(sum: u64, line: u32, bytes: &[u8]) -> u64 {
@@ -32,6 +31,14 @@ fn weighed(sum: u64, line: u32, bytes: &[u8]) -> u64 {
         sum = place.wrapping_mul(u64::from(*byte)).wrapping_add(sum);
     }
     sum
+}
+
+/// Whether a medium is made, and comes to this sum.
+fn made(medium: Result<Medium, MediumFault>, sum: u64) -> Result<bool, Refused> {
+    match medium {
+        Ok(medium) => Ok(comes_to(&medium, sum)),
+        Err(fault) => refused_medium(fault),
+    }
 }
 
 /// 512 lines whose bytes are those of `novacrash` and zeros.
@@ -52,98 +59,99 @@ const NAMED: u64 = 4_788;
 
 #[test]
 fn medium_zero(rt: HostRuntime) -> Result<(), Refused> {
-    let found = match Medium::zero(rt.alloc(), 512) {
-        Ok(medium) => Ok(shape_of(&medium)),
-        Err(refused) => Err(medium_fault(refused)),
-    };
-    ended(&rt, found, (512, 0))
+    ended(&rt, made(Medium::zero(rt.alloc(), 512), 0))
 }
 
 #[test]
 fn medium_from_bytes(rt: HostRuntime) -> Result<(), Refused> {
     let bytes = named_bytes(rt.alloc())?;
-    let found = match Medium::from_bytes(rt.alloc(), &bytes) {
-        Ok(medium) => Ok(shape_of(&medium)),
-        Err(refused) => Err(medium_fault(refused)),
-    };
-    ended(&rt, found, (512, NAMED))
+    ended(&rt, made(Medium::from_bytes(rt.alloc(), &bytes), NAMED))
+}
+
+/// Whether these bytes are given, 512 lines that come to the sum of `novacrash`.
+fn are_named(bytes: Result<Vec<u8>, MediumFault>) -> Result<bool, Refused> {
+    match bytes {
+        Ok(bytes) => Ok(bytes.len() == 32_768 && weighed(0, 0, &bytes) == NAMED),
+        Err(fault) => refused_medium(fault),
+    }
 }
 
 #[test]
 fn medium_to_bytes(rt: HostRuntime) -> Result<(), Refused> {
     let medium = named_medium(rt.alloc())?;
-    let found = match medium.to_bytes(rt.alloc()) {
-        Ok(bytes) => Ok((bytes.len(), weighed(0, 0, &bytes))),
-        Err(refused) => Err(medium_fault(refused)),
-    };
-    ended(&rt, found, (32_768, NAMED))
+    ended(&rt, are_named(medium.to_bytes(rt.alloc())))
 }
 
 #[test]
 fn medium_copy(rt: HostRuntime) -> Result<(), Refused> {
     let medium = named_medium(rt.alloc())?;
-    let found = match medium.copy(rt.alloc()) {
-        Ok(copy) => Ok(shape_of(&copy)),
-        Err(refused) => Err(medium_fault(refused)),
-    };
-    ended(&rt, found, (512, NAMED))
+    ended(&rt, made(medium.copy(rt.alloc()), NAMED))
+}
+
+/// Whether each section ends where it should, with zeros behind it.
+fn has_sections(ram: &Ram) -> bool {
+    ram.peek(0x1_0003) == Some(b't')
+        && ram.peek(0x1_0004) == Some(0)
+        && ram.peek(0x10_0003) == Some(b'a')
+        && ram.peek(0x10_0004) == Some(0)
 }
 
 #[test]
 fn ram_from_bytes(rt: HostRuntime) -> Result<(), Refused> {
-    let found = match Ram::from_bytes(rt.alloc(), b"text", b"data") {
-        Ok(ram) => Ok([0x1_0003, 0x1_0004, 0x10_0003, 0x10_0004].map(|at| ram.peek(at))),
-        Err(refused) => Err(medium_fault(refused)),
+    let answer = match Ram::from_bytes(rt.alloc(), b"text", b"data") {
+        Ok(ram) => Ok(has_sections(&ram)),
+        Err(fault) => refused_medium(fault),
     };
-    ended(&rt, found, [Some(b't'), Some(0), Some(b'a'), Some(0)])
+    ended(&rt, answer)
 }
 
 #[test]
 fn arena_new(rt: HostRuntime) -> Result<(), Refused> {
-    let found = match Arena::<2>::new(rt.alloc(), 5) {
-        Ok(arena) => Ok((arena.front(0), arena.front(1))),
-        Err(_) => Err(Fault::Memory),
+    let answer = match Arena::<2>::new(rt.alloc(), 5) {
+        Ok(arena) => Ok(arena.front(0).is_none() && arena.front(1).is_none()),
+        Err(_) => refusal(true),
     };
-    ended(&rt, found, (None, None))
+    ended(&rt, answer)
 }
 
 #[test]
 fn cache_new(rt: HostRuntime) -> Result<(), Refused> {
-    let found = match Cache::new(rt.alloc(), 3, 512) {
-        Ok(cache) => Ok((cache.is_resident(0), cache.is_resident(511))),
-        Err(refused) => Err(medium_fault(refused)),
+    let answer = match Cache::new(rt.alloc(), 3, 512) {
+        Ok(cache) => Ok(!cache.is_resident(0) && !cache.is_resident(511)),
+        Err(fault) => refused_medium(fault),
     };
-    ended(&rt, found, (false, false))
+    ended(&rt, answer)
 }
 
 #[test]
 fn pm_cache_new(rt: HostRuntime) -> Result<(), Refused> {
     let medium = named_medium(rt.alloc())?;
-    let found = match PmCache::new(rt.alloc(), medium, 3, 8) {
-        Ok(cache) => Ok(shape_of(cache.medium())),
-        Err(refused) => Err(medium_fault(refused)),
+    let answer = match PmCache::new(rt.alloc(), medium, 3, 8) {
+        Ok(cache) => Ok(comes_to(cache.medium(), NAMED)),
+        Err(fault) => refused_medium(fault),
     };
-    ended(&rt, found, (512, NAMED))
+    ended(&rt, answer)
 }
 
-/// Events up to the first that is refused: how many stand, whether those are the ones, and the fault.
-fn push_all(trace: &mut Trace, reserves: bool) -> Result<(), (Fault, bool)> {
+/// Adds nine events, each with a place in reserve or without; those before a refused one have to stand. An event that has its
+/// place takes no memory: one that is refused there is wrong.
+fn added(alloc: Global, reserves: bool) -> Result<bool, Refused> {
+    let mut trace = Trace::new(alloc);
     for op in 0..9 {
         let event = Event::Begin { hart: 0, op };
-        let pushed = if reserves {
+        let grown = if reserves {
             trace.reserve_one()
         } else {
             trace.push(event)
         };
-        if let Err(refused) = pushed {
-            let stands = are_begun(trace.events(), op);
-            return Err((fault_if(matches!(refused, TraceFault::Memory)), stands));
+        if let Err(fault) = grown {
+            return refusal(matches!(fault, TraceFault::Memory) && are_begun(trace.events(), op));
         }
         if reserves && trace.push(event).is_err() {
-            return Err((Fault::Other, false));
+            return Ok(false);
         }
     }
-    Ok(())
+    Ok(are_begun(trace.events(), 9))
 }
 
 /// Whether the events are the beginnings of the operations below `count`.
@@ -158,26 +166,12 @@ fn are_begun(events: &[Event], count: u64) -> bool {
     op == count
 }
 
-/// What nine events come to; another fault where those before a refused one don't stand.
-fn pushed(trace: &mut Trace, reserves: bool) -> Result<bool, Fault> {
-    match push_all(trace, reserves) {
-        Ok(()) => Ok(are_begun(trace.events(), 9)),
-        Err((refused, true)) => Err(refused),
-        Err((_, false)) => Err(Fault::Other),
-    }
-}
-
 #[test]
 fn trace_push(rt: HostRuntime) -> Result<(), Refused> {
-    let mut trace = Trace::new(rt.alloc());
-    let found = pushed(&mut trace, false);
-    ended(&rt, found, true)
+    ended(&rt, added(rt.alloc(), false))
 }
 
-/// The events behind the reserved places take no memory: a push that is refused there is another fault.
 #[test]
 fn trace_reserve_one(rt: HostRuntime) -> Result<(), Refused> {
-    let mut trace = Trace::new(rt.alloc());
-    let found = pushed(&mut trace, true);
-    ended(&rt, found, true)
+    ended(&rt, added(rt.alloc(), true))
 }

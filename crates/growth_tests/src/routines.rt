@@ -1,6 +1,10 @@
 //! From a program's file to its runs, images and verdicts.
 
-use crate::ending::{Fault, Refused, ended, fault_if, ready};
+ghost use Rattle.schedule.specs.Grammar.{hart_steps};
+ghost use Rattle.std.specs.Prelude.{◌^◌, ◌<◌};
+
+use crate::ending::{Refused, ended, ready, refusal};
+use crate::images::says;
 use crate::samples::{schedule_of, zeros};
 use image_check::Verdict;
 use line_memory::{Medium, MediumFault};
@@ -29,100 +33,109 @@ const APPEND: &[u8] =
     li t3, 77\nsd t3, 16(t1)\ncbo.clean (t1)\nfence w, w\naddi t0, t0, 64\nsd t0, 72(a1)\naddi t4, a1, 64\ncbo.clean (t4)\n\
     fence w, w\nli a7, 2002\necall\nli a7, 93\nli a0, 0\necall\n";
 
-/// The word of the program's text at this place, from 0.
-fn word_at(program: &Program, place: usize) -> Option<&[u8]> {
-    program.text_bytes().chunks(4).nth(place)
+/// Whether a file is loaded, with a call of the system behind so many bytes.
+fn loaded(alloc: Global, file: &[u8], place: usize) -> Result<bool, Refused> {
+    match load_program(alloc, file) {
+        Ok(program) => Ok(has_call_at(&program, place)),
+        Err(fault) => refusal(matches!(fault, ProgramFault::Memory)),
+    }
 }
 
-/// Whether a file is loaded, with a call of the system as its word `place`.
-fn loaded(alloc: Global, file: &[u8], place: usize) -> Result<bool, Fault> {
-    match load_program(alloc, file) {
-        Ok(program) => Ok(word_at(&program, place) == Some(b"\x73\0\0\0".as_slice())),
-        Err(refused) => Err(fault_if(matches!(refused, ProgramFault::Memory))),
+fn has_call_at(program: &Program, place: usize) -> bool {
+    match program.text_bytes().split_at_checked(place) {
+        Some((_, rest)) => rest.starts_with(b"\x73\0\0\0"),
+        None => false,
     }
 }
 
 #[test]
 fn load_program_of_a_source(rt: HostRuntime) -> Result<(), Refused> {
-    let found = loaded(rt.alloc(), FIRST, 7);
-    ended(&rt, found, true)
+    ended(&rt, loaded(rt.alloc(), FIRST, 28))
 }
 
 #[test]
 fn load_program_of_an_object(rt: HostRuntime) -> Result<(), Refused> {
-    let found = loaded(rt.alloc(), b"RVXPROG1\x04\0\0\0\x03\0\0\0\x73\0\0\0abc", 0);
-    ended(&rt, found, true)
+    let file = b"RVXPROG1\x04\0\0\0\x03\0\0\0\x73\0\0\0abc";
+    ended(&rt, loaded(rt.alloc(), file, 0))
 }
 
 fn program_of(alloc: Global, source: &[u8]) -> Result<Program, Refused> {
     ready(load_program(alloc, source))
 }
 
-/// The pc of hart 0, the number of events, and the first byte of persistent memory.
-type Seen = (Option<u64>, usize, Option<u8>);
-
-fn seen_of(machine: &Machine) -> Seen {
-    let pc = if machine.harts() == 0 {
-        None
-    } else {
-        Some(machine.hart(0).pc)
-    };
-    (pc, machine.events().len(), machine.peek(0x4000_0000))
+/// Whether hart 0 has come to the end, after three events, with the value in persistent memory.
+fn has_ended(machine: &Machine) -> bool {
+    machine.harts() > 0
+        && machine.hart(0).pc == 0x1_0020
+        && machine.events().len() == 3
+        && machine.peek(0x4000_0000) == Some(7)
 }
 
-const RUN: Seen = (Some(0x1_0020), 3, Some(7));
+fn ran(alloc: Global) -> Result<bool, Refused> {
+    let program = program_of(alloc, FIRST)?;
+    let medium = zeros(alloc)?;
+    match run_program(alloc, program, medium, 1, 16, 100) {
+        Ok((machine, schedule)) => Ok(has_ended(&machine) && schedule.items().len() == 1),
+        Err(fault) => refusal(matches!(fault, StepFault::Memory)),
+    }
+}
 
 #[test]
 fn run_a_program(rt: HostRuntime) -> Result<(), Refused> {
-    let program = program_of(rt.alloc(), FIRST)?;
-    let medium = zeros(&rt)?;
-    let found = match run_program(rt.alloc(), program, medium, 1, 16, 100) {
-        Ok((machine, schedule)) => Ok((seen_of(&machine), schedule.items().len())),
-        Err(refused) => Err(fault_if(refused == StepFault::Memory)),
-    };
-    ended(&rt, found, (RUN, 1))
+    ended(&rt, ran(rt.alloc()))
+}
+
+fn replayed(alloc: Global, schedule: &Schedule) -> Result<bool, Refused> {
+    let program = program_of(alloc, FIRST)?;
+    let medium = zeros(alloc)?;
+    match replay(alloc, program, medium, 1, 16, schedule) {
+        Ok(machine) => Ok(has_ended(&machine)),
+        Err(fault) => refusal(matches!(fault, StepFault::Memory)),
+    }
 }
 
 #[test]
 fn replay_a_schedule(rt: HostRuntime) -> Result<(), Refused> {
-    let program = program_of(rt.alloc(), FIRST)?;
-    let medium = zeros(&rt)?;
-    let schedule = schedule_of(&rt, "h0*8")?;
-    let found = match replay(rt.alloc(), program, medium, 1, 16, &schedule) {
-        Ok(machine) => Ok(seen_of(&machine)),
-        Err(refused) => Err(fault_if(refused == StepFault::Memory)),
-    };
-    ended(&rt, found, RUN)
+    let schedule = schedule_of(rt.alloc(), b"h0*8")?;
+    ended(&rt, replayed(rt.alloc(), &schedule))
+}
+
+fn counted(alloc: Global, schedule: &Schedule) -> Result<bool, Refused> {
+    let program = program_of(alloc, THREE)?;
+    let medium = zeros(alloc)?;
+    match count_images(alloc, program, medium, 1, schedule, 5) {
+        Ok(count) => Ok(count == Some(2)),
+        Err(fault) => refusal(matches!(fault, CountFault::Memory)),
+    }
 }
 
 #[test]
 fn count_the_images_of_a_moment(rt: HostRuntime) -> Result<(), Refused> {
-    let program = program_of(rt.alloc(), THREE)?;
-    let medium = zeros(&rt)?;
-    let schedule = schedule_of(&rt, "h0*9")?;
-    let found = match count_images(rt.alloc(), program, medium, 1, &schedule, 5) {
-        Ok(count) => Ok(count),
-        Err(refused) => Err(fault_if(refused == CountFault::Memory)),
-    };
-    ended(&rt, found, Some(2))
+    let schedule = schedule_of(rt.alloc(), b"h0*9")?;
+    ended(&rt, counted(rt.alloc(), &schedule))
 }
 
-/// Whether the schedule's text is this one.
-fn says(alloc: Global, schedule: &Schedule, text: &str) -> Result<bool, Refused> {
-    let written = ready(schedule.write(alloc))?;
-    Ok(written.as_str() == text)
+fn explained(alloc: Global, schedule: &Schedule) -> Result<bool, Refused>
+    requires { hart_steps schedule.now < 2 ^ 32 }
+{
+    let program = program_of(alloc, THREE)?;
+    let medium = zeros(alloc)?;
+    match explain_image(alloc, program, medium, 1, schedule, 5, 0) {
+        Ok(explanation) => says(alloc, &explanation, "h0*5 e5 h0*4"),
+        Err(fault) => refusal(matches!(fault, ExplainFault::Memory)),
+    }
+}
+
+fn explained_program(alloc: Global) -> Result<bool, Refused> {
+    let Ok(schedule) = Schedule::read(alloc, b"h0*9") else {
+        return Err(Refused::SetUp);
+    };
+    explained(alloc, &schedule)
 }
 
 #[test]
 fn explain_an_image(rt: HostRuntime) -> Result<(), Refused> {
-    let program = program_of(rt.alloc(), THREE)?;
-    let medium = zeros(&rt)?;
-    let schedule = Schedule::read(rt.alloc(), b"h0*9")?;
-    let found = match explain_image(rt.alloc(), program, medium, 1, &schedule, 5, 0) {
-        Ok(explanation) => Ok(says(rt.alloc(), &explanation, "h0*5 e5 h0*4")?),
-        Err(refused) => Err(fault_if(refused == ExplainFault::Memory)),
-    };
-    ended(&rt, found, true)
+    ended(&rt, explained_program(rt.alloc()))
 }
 
 fn plan_of(alloc: Global) -> Result<Plan, Refused> {
@@ -130,43 +143,47 @@ fn plan_of(alloc: Global) -> Result<Plan, Refused> {
     ready(Plan::read(alloc, text))
 }
 
-#[test]
-fn check_a_program(rt: HostRuntime) -> Result<(), Refused> {
-    let plan = plan_of(rt.alloc())?;
-    let program = program_of(rt.alloc(), APPEND)?;
-    let medium = ready(make_volume(rt.alloc(), &plan, 512))?;
-    let schedule = schedule_of(&rt, "h0*22")?;
-    let found = match check_program(rt.alloc(), &plan, program, medium, 1, &schedule) {
-        Ok(verdict) => Ok(verdict),
-        Err(refused) => Err(fault_if(refused == VerdictFault::Memory)),
-    };
+/// Whether a run of the append passes, by its eleven moments and their images.
+fn checked(alloc: Global, plan: &Plan, schedule: &Schedule) -> Result<bool, Refused> {
+    let program = program_of(alloc, APPEND)?;
+    let medium = ready(make_volume(alloc, plan, 512))?;
     let expected = Verdict::Pass {
         moments: 11,
         images: 22,
     };
-    ended(&rt, found, expected)
+    match check_program(alloc, plan, program, medium, 1, schedule) {
+        Ok(verdict) => Ok(verdict == expected),
+        Err(fault) => refusal(matches!(fault, VerdictFault::Memory)),
+    }
 }
 
-/// The number of lines, and the first eight bytes.
-fn head_of(medium: &Medium) -> (u32, u64) {
-    (medium.lines(), medium.load(0, 8))
+#[test]
+fn check_a_program(rt: HostRuntime) -> Result<(), Refused> {
+    let plan = plan_of(rt.alloc())?;
+    let schedule = schedule_of(rt.alloc(), b"h0*22")?;
+    ended(&rt, checked(rt.alloc(), &plan, &schedule))
+}
+
+/// Whether a medium has 512 lines and begins with these bytes.
+fn begins_with(medium: &Medium, bytes: [u8; 8]) -> bool {
+    medium.lines() == 512 && medium.load(0, 8) == u64::from_le_bytes(bytes)
 }
 
 #[test]
 fn make_a_volume(rt: HostRuntime) -> Result<(), Refused> {
     let plan = plan_of(rt.alloc())?;
-    let found = match make_volume(rt.alloc(), &plan, 512) {
-        Ok(medium) => Ok(head_of(&medium)),
-        Err(refused) => Err(fault_if(refused == VolumeFault::Memory)),
+    let answer = match make_volume(rt.alloc(), &plan, 512) {
+        Ok(medium) => Ok(begins_with(&medium, *b"NOVALOG1")),
+        Err(fault) => refusal(matches!(fault, VolumeFault::Memory)),
     };
-    ended(&rt, found, (512, u64::from_le_bytes(*b"NOVALOG1")))
+    ended(&rt, answer)
 }
 
 #[test]
 fn medium_where_none_is_given(rt: HostRuntime) -> Result<(), Refused> {
-    let found = match default_medium(rt.alloc()) {
-        Ok(medium) => Ok(head_of(&medium)),
-        Err(refused) => Err(fault_if(matches!(refused, MediumFault::Memory))),
+    let answer = match default_medium(rt.alloc()) {
+        Ok(medium) => Ok(begins_with(&medium, [0; 8])),
+        Err(fault) => refusal(matches!(fault, MediumFault::Memory)),
     };
-    ended(&rt, found, (512, 0))
+    ended(&rt, answer)
 }

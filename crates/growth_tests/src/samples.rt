@@ -1,65 +1,76 @@
 //! Small programs, media, schedules and traces, which the tests hand to the calls.
 
+ghost use Rattle.schedule.specs.Grammar.{hart_steps};
+ghost use Rattle.std.specs.Prelude.{◌^◌, ◌<◌};
+
 use crate::ending::{Refused, ready};
 use line_memory::Medium;
-use machine::{Machine, Schedule};
+use machine::{Machine, Schedule, StepFault};
 use object::Object;
 use program::{Program, load};
-use std::process::Abort;
+use recording::{Recorded, record};
+use std::alloc::Global;
 use store_trace::{Event, Trace};
 
-/// `fence w, w`; `jal x0, .-4`: every other step makes an event.
-pub(crate) const FENCES: [u32; 2] = [0x0110_000f, 0xffdf_f06f];
+/// The file of `fence w, w`; `jal x0, .-4`: every other step makes an event.
+pub(crate) const FENCES: &[u8] = b"RVXPROG1\x08\0\0\0\0\0\0\0\x0f\0\x10\x01\x6f\xf0\xdf\xff";
 
-/// `addi x5, x0, 1`; `addi x6, x11, 320`; `sd x5, 0(x6)`; `addi x5, x5, 1`; `sd x5, 0(x6)`; `cbo.clean (x6)`;
+/// The file of `addi x5, x0, 1`; `addi x6, x11, 320`; `sd x5, 0(x6)`; `addi x5, x5, 1`; `sd x5, 0(x6)`; `cbo.clean (x6)`;
 /// `addi x5, x5, 1`; `sd x5, 0(x6)`; `fence w, w`.
-pub(crate) const TWO_IMAGES: [u32; 9] = [
-    0x0010_0293,
-    0x1405_8313,
-    0x0053_3023,
-    0x0012_8293,
-    0x0053_3023,
-    0x0013_200f,
-    0x0012_8293,
-    0x0053_3023,
-    0x0110_000f,
-];
+pub(crate) const TWO_IMAGES: &[u8] =
+    b"RVXPROG1\x24\0\0\0\0\0\0\0\x93\x02\x10\0\x13\x83\x05\x14\x23\x30\x53\0\x93\x82\x12\0\x23\x30\x53\0\
+    \x0f\x20\x13\0\x93\x82\x12\0\x23\x30\x53\0\x0f\0\x10\x01";
 
-/// The object of these words, without data.
-pub(crate) fn object_of(rt: &(impl AllocGlobal + Abort), words: &[u32]) -> Result<Object, Refused> {
-    let mut text = Vec::new(rt.alloc());
-    for word in words {
-        ready(text.extend_from_slice(&word.to_le_bytes()))?;
-    }
-    assert!(rt; text.len() % 4 == 0 && text.len() <= 65_536);
-    Ok(Object::new(text, Vec::new(rt.alloc())))
-}
-
-pub(crate) fn program_of(
-    rt: &(impl AllocGlobal + Abort),
-    words: &[u32],
-) -> Result<Program, Refused> {
-    ready(load(object_of(rt, words)?))
+/// The program of a file.
+pub(crate) fn program_of(alloc: Global, file: &[u8]) -> Result<Program, Refused> {
+    let object = ready(Object::read(alloc, file))?;
+    ready(load(object))
 }
 
 /// 512 lines of zeros.
-pub(crate) fn zeros(rt: &impl AllocGlobal) -> Result<Medium, Refused> {
-    ready(Medium::zero(rt.alloc(), 512))
+pub(crate) fn zeros(alloc: Global) -> Result<Medium, Refused> {
+    ready(Medium::zero(alloc, 512))
 }
 
-/// A machine over zeros, with a cache of sixteen lines.
-pub(crate) fn machine_of(
-    rt: &(impl AllocGlobal + Abort),
-    words: &[u32],
-    harts: u32,
-) -> Result<Machine, Refused> {
-    let program = program_of(rt, words)?;
-    let medium = zeros(rt)?;
-    ready(Machine::new(rt.alloc(), program, medium, harts, 16))
+/// A machine over zeros, with a cache of sixteen lines. Only the growths of its making are those of a call.
+pub(crate) fn machine_of(alloc: Global, file: &[u8], harts: u32) -> Result<Machine, Refused> {
+    let program = program_of(alloc, file)?;
+    let medium = zeros(alloc)?;
+    match Machine::new(alloc, program, medium, harts, 16) {
+        Ok(machine) => Ok(machine),
+        Err(fault) => Err(refused_step(fault)),
+    }
 }
 
-pub(crate) fn schedule_of(rt: &impl AllocGlobal, text: &str) -> Result<Schedule, Refused> {
-    ready(Schedule::read(rt.alloc(), text.as_bytes()))
+/// A recorded run of nine steps, whose last moment has two images. Only the growths of the record are those of a call.
+pub(crate) fn recorded_run(alloc: Global) -> Result<Recorded, Refused> {
+    let Ok(schedule) = Schedule::read(alloc, b"h0*9") else {
+        return Err(Refused::SetUp);
+    };
+    record_of(alloc, &schedule)
+}
+
+fn record_of(alloc: Global, schedule: &Schedule) -> Result<Recorded, Refused>
+    requires { hart_steps schedule.now < 2 ^ 32 }
+{
+    let program = program_of(alloc, TWO_IMAGES)?;
+    let medium = zeros(alloc)?;
+    match record(alloc, program, medium, 1, 16, schedule) {
+        Ok(recorded) => Ok(recorded),
+        Err(stop) => Err(refused_step(stop.fault)),
+    }
+}
+
+/// Where the growth lay that a call refused; for another fault than want of memory, nowhere in the call.
+fn refused_step(fault: StepFault) -> Refused {
+    match fault {
+        StepFault::Memory => Refused::Call,
+        _ => Refused::SetUp,
+    }
+}
+
+pub(crate) fn schedule_of(alloc: Global, text: &[u8]) -> Result<Schedule, Refused> {
+    ready(Schedule::read(alloc, text))
 }
 
 /// An event of hart 0. A store writes eight bytes at an offset of a line.
@@ -95,20 +106,18 @@ pub(crate) const TWO_LINES: [Made; 5] = [
     Made::Store(7, 0, 3),
 ];
 
-pub(crate) fn trace_of(rt: &(impl AllocGlobal + Abort), events: &[Made]) -> Result<Trace, Refused> {
-    let mut trace = Trace::new(rt.alloc());
+pub(crate) fn trace_of(alloc: Global, events: &[Made]) -> Result<Trace, Refused> {
+    let mut trace = Trace::new(alloc);
     for made in events {
         let event = match *made {
-            Made::Store(line, offset, value) => {
-                assert!(rt; offset % 8 == 0 && offset < 64);
-                Event::Store {
-                    hart: 0,
-                    line,
-                    offset,
-                    width: 8,
-                    value,
-                }
-            }
+            Made::Store(line, offset, value) if offset % 8 == 0 && offset < 64 => Event::Store {
+                hart: 0,
+                line,
+                offset,
+                width: 8,
+                value,
+            },
+            Made::Store(..) => return Err(Refused::SetUp),
             Made::Clean(line) => Event::Clean { hart: 0, line },
             Made::Fence => Event::Fence { hart: 0 },
             Made::Begin(op) => Event::Begin { hart: 0, op },

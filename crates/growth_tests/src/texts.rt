@@ -1,10 +1,10 @@
 //! Sources, objects and the text of instructions.
 
-use crate::ending::{Fault, Refused, ended, fault_if, ready};
-use crate::samples::{TWO_IMAGES, object_of};
+use crate::ending::{Refused, ended, ready, refusal};
+use crate::samples::TWO_IMAGES;
 use asm_lex::{LexFault, Token, tokens};
 use asm_line::{AsmCode, Line, Statement, read_line};
-use assemble::{SOURCE_LIMIT, assemble};
+use assemble::{AsmFault, SOURCE_LIMIT, assemble};
 use decode::{decode, show};
 use object::{LoadFault, Object};
 use program::load;
@@ -27,19 +27,21 @@ const PLACES: [(usize, &[u8]); 10] = [
 ];
 
 fn are_at_places(found: &[Token]) -> bool {
-    let expected = PLACES.iter();
+    for (token, (start, text)) in found.iter().zip(PLACES.iter()) {
+        if token.start != *start || token.text != *text {
+            return false;
+        }
+    }
     found.len() == 10
-        && found.iter().zip(expected).all(|(token, place)| token.start == place.0
-            && token.text == place.1)
 }
 
 #[test]
 fn tokens_of_a_line(rt: HostRuntime) -> Result<(), Refused> {
-    let found = match tokens(rt.alloc(), LINE, 1) {
+    let answer = match tokens(rt.alloc(), LINE, 1) {
         Ok(found) => Ok(are_at_places(&found)),
-        Err(refused) => Err(fault_if(refused == LexFault::Memory)),
+        Err(fault) => refusal(matches!(fault, LexFault::Memory)),
     };
-    ended(&rt, found, true)
+    ended(&rt, answer)
 }
 
 fn are_five_words(line: &Line) -> bool {
@@ -51,11 +53,11 @@ fn are_five_words(line: &Line) -> bool {
 
 #[test]
 fn line_of_numbers(rt: HostRuntime) -> Result<(), Refused> {
-    let found = match read_line(rt.alloc(), b".word 1, 2, 3, 4, 5", 1) {
+    let answer = match read_line(rt.alloc(), b".word 1, 2, 3, 4, 5", 1) {
         Ok(line) => Ok(are_five_words(&line)),
-        Err(refused) => Err(fault_if(refused == AsmCode::Memory)),
+        Err(fault) => refusal(matches!(fault, AsmCode::Memory)),
     };
-    ended(&rt, found, true)
+    ended(&rt, answer)
 }
 
 /// Labels ahead and behind, and both sections.
@@ -63,68 +65,58 @@ const SOURCE: &[u8] =
     b"start: la t0, five\nlw t1, 0(t0)\nloop: addi t1, t1, -1\nbnez t1, loop\nbeqz zero, end\n\
     j start\nend: ecall\n.data\n.byte 1\n.balign 4\nfive: .word 5\n";
 
-/// The text and data of that source, encoded by hand.
-const TEXT: [u32; 8] = [
-    0x000f_0297,
-    0x0042_8293,
-    0x0002_a303,
-    0xfff3_0313,
-    0xfe03_1ee3,
-    0x0000_0463,
-    0xfe9f_f06f,
-    0x0000_0073,
-];
+/// The text of that source, encoded by hand: 0x000f0297, 0x00428293, 0x0002a303, 0xfff30313, 0xfe031ee3, 0x00000463,
+/// 0xfe9ff06f and 0x00000073.
+const TEXT: &[u8] =
+    b"\x97\x02\x0f\0\x93\x82\x42\0\x03\xa3\x02\0\x13\x03\xf3\xff\xe3\x1e\x03\xfe\x63\x04\0\0\
+    \x6f\xf0\x9f\xfe\x73\0\0\0";
 
-const DATA: [u8; 8] = [1, 0, 0, 0, 5, 0, 0, 0];
-
-/// Whether the bytes begin with these words.
-fn begins_with(bytes: &[u8], words: &[u32]) -> bool {
-    bytes
-        .chunks(4)
-        .zip(words.iter())
-        .all(|(bytes, word)| bytes == word.to_le_bytes().as_slice())
-}
-
-/// Whether a source is assembled to these words and bytes.
-fn assembled(alloc: Global, source: &[u8], words: &[u32], bytes: &[u8]) -> Result<bool, Fault> {
-    match assemble(alloc, source) {
-        Ok(object) => {
-            let text = object.text_bytes();
-            let is_text = text.len() / 4 == words.len() && begins_with(text, words);
-            Ok(is_text && object.data_bytes() == bytes)
-        }
-        Err(refused) => Err(fault_if(refused.code == AsmCode::Memory)),
-    }
-}
+const DATA: &[u8] = b"\x01\0\0\0\x05\0\0\0";
 
 #[test]
 fn assemble_a_source(rt: HostRuntime) -> Result<(), Refused> {
-    let found = assembled(rt.alloc(), SOURCE, &TEXT, &DATA);
-    ended(&rt, found, true)
+    let answer = match assemble(rt.alloc(), SOURCE) {
+        Ok(object) => Ok(object.text_bytes() == TEXT && object.data_bytes() == DATA),
+        Err(fault) => refusal(matches!(fault.code, AsmCode::Memory)),
+    };
+    ended(&rt, answer)
 }
 
-/// The line at fault, and its code.
-fn refused_line(alloc: Global, source: &[u8]) -> Result<(u32, AsmCode), Fault> {
+/// Whether a source is refused at this line for this cause.
+fn is_at_fault(alloc: Global, source: &[u8], expected: AsmFault) -> Result<bool, Refused> {
     match assemble(alloc, source) {
-        Ok(_) => Err(Fault::Other),
-        Err(refused) if refused.code == AsmCode::Memory => Err(Fault::Memory),
-        Err(refused) => Ok((refused.line, refused.code)),
+        Ok(_) => Ok(false),
+        Err(fault) if fault.code == AsmCode::Memory => refusal(true),
+        Err(fault) => Ok(fault == expected),
     }
 }
 
 #[test]
 fn assemble_a_source_at_fault(rt: HostRuntime) -> Result<(), Refused> {
-    let found = refused_line(rt.alloc(), b"nop\nlabel: j label\nlabel: nop\n");
-    ended(&rt, found, (3, AsmCode::LabelTwice))
+    let source = b"nop\nlabel: j label\nlabel: nop\n";
+    let expected = AsmFault {
+        line: 3,
+        code: AsmCode::LabelTwice,
+    };
+    ended(&rt, is_at_fault(rt.alloc(), source, expected))
+}
+
+/// A source of one line and of line ends, one byte more than a source may have.
+fn long_source(alloc: Global) -> Result<Vec<u8>, Refused> {
+    let mut source = Vec::new(alloc);
+    ready(source.extend_from_slice(b"label: nop"))?;
+    ready(source.resize(SOURCE_LIMIT + 1, b'\n'))?;
+    Ok(source)
 }
 
 #[test]
 fn assemble_a_source_past_its_limit(rt: HostRuntime) -> Result<(), Refused> {
-    let mut source = Vec::new(rt.alloc());
-    ready(source.extend_from_slice(b"label: nop"))?;
-    ready(source.resize(SOURCE_LIMIT + 1, b'\n'))?;
-    let found = refused_line(rt.alloc(), &source);
-    ended(&rt, found, (1, AsmCode::TooLarge))
+    let source = long_source(rt.alloc())?;
+    let expected = AsmFault {
+        line: 1,
+        code: AsmCode::TooLarge,
+    };
+    ended(&rt, is_at_fault(rt.alloc(), &source, expected))
 }
 
 #[test]
@@ -132,11 +124,11 @@ fn show_an_instruction(rt: HostRuntime) -> Result<(), Refused> {
     let Some(instr) = decode(0xff00_0513) else {
         return Err(Refused::SetUp);
     };
-    let found = match show(rt.alloc(), instr) {
+    let answer = match show(rt.alloc(), instr) {
         Ok(text) => Ok(text.as_str() == "addi x10, x0, -16"),
-        Err(_) => Err(Fault::Memory),
+        Err(_) => refusal(true),
     };
-    ended(&rt, found, true)
+    ended(&rt, answer)
 }
 
 /// The file of an object of one word and three bytes.
@@ -144,32 +136,45 @@ const FILE: &[u8] = b"RVXPROG1\x04\0\0\0\x03\0\0\0\x73\0\0\0abc";
 
 #[test]
 fn object_read(rt: HostRuntime) -> Result<(), Refused> {
-    let found = match Object::read(rt.alloc(), FILE) {
-        Ok(object) => Ok(
-            object.text_bytes() == b"\x73\0\0\0".as_slice()
-                && object.data_bytes() == b"abc".as_slice(),
-        ),
-        Err(refused) => Err(fault_if(refused == LoadFault::Memory)),
+    let answer = match Object::read(rt.alloc(), FILE) {
+        Ok(object) => {
+            Ok(
+                object.text_bytes() == b"\x73\0\0\0".as_slice()
+                    && object.data_bytes() == b"abc".as_slice(),
+            )
+        }
+        Err(fault) => refusal(matches!(fault, LoadFault::Memory)),
     };
-    ended(&rt, found, true)
+    ended(&rt, answer)
+}
+
+fn written(alloc: Global, object: &Object) -> Result<bool, Refused> {
+    match object.to_bytes(alloc) {
+        Ok(bytes) => Ok(bytes.as_slice() == FILE),
+        Err(fault) => refusal(matches!(fault, LoadFault::Memory)),
+    }
 }
 
 #[test]
 fn object_to_bytes(rt: HostRuntime) -> Result<(), Refused> {
     let object = ready(Object::read(rt.alloc(), FILE))?;
-    let found = match object.to_bytes(rt.alloc()) {
-        Ok(bytes) => Ok(bytes.as_slice() == FILE),
-        Err(refused) => Err(fault_if(refused == LoadFault::Memory)),
-    };
-    ended(&rt, found, true)
+    ended(&rt, written(rt.alloc(), &object))
+}
+
+/// Whether the program's text is that of the file, behind its sixteen bytes of a head, and then zeros.
+fn begins_as(text: &[u8], file: &[u8]) -> bool {
+    match file.split_at_checked(16) {
+        Some((_, words)) => text.starts_with(words),
+        None => false,
+    }
 }
 
 #[test]
 fn load_an_object(rt: HostRuntime) -> Result<(), Refused> {
-    let object = object_of(&rt, &TWO_IMAGES)?;
-    let found = match load(object) {
-        Ok(program) => Ok(begins_with(program.text_bytes(), &TWO_IMAGES)),
-        Err(refused) => Err(fault_if(refused == LoadFault::Memory)),
+    let object = ready(Object::read(rt.alloc(), TWO_IMAGES))?;
+    let answer = match load(object) {
+        Ok(program) => Ok(begins_as(program.text_bytes(), TWO_IMAGES)),
+        Err(fault) => refusal(matches!(fault, LoadFault::Memory)),
     };
-    ended(&rt, found, true)
+    ended(&rt, answer)
 }

@@ -3,403 +3,407 @@
 //! Media, traces and cuts stay in functions that give back plain data: a test that holds one proves at each of its exits that
 //! it is let go whole.
 
-use crate::expecting::expect;
+use crate::events::{Made, Parts, trace_of};
 use crash_image::{Cut, Cuts, ImageFault, has_lines};
 use crash_model::{PersistenceStep, count_cuts};
 use line_memory::Medium;
+use std::alloc::Global;
 use std::process::Abort;
 use std::test::Fail;
 use store_trace::{Event, Trace, TraceFault};
 
-/// An event of a small trace. Stores write eight bytes at the start of their line.
+/// The entries of a cut: lines with their numbers of stores.
+type Entries = &'static [(u32, u32)];
+
+/// What is to hold of the crash images of a moment. Of an image the first doublewords of lines 3, 5 and 7 are told.
 #[derive(Clone, Copy)]
-enum Made {
-    Store(u32, u64),
-    Clean(u32, u32),
-    Fence(u32),
-    Mark,
+enum Claim {
+    /// There are so many cuts.
+    Count(u32),
+    /// There are too many cuts.
+    TooMany,
+    /// The trace has fewer events.
+    NoSuchMoment,
+    /// The medium lacks a line that the trace names.
+    NoSuchLine,
+    /// The cut of this number, which is found for its image too.
+    Numbered(u32, Entries, [u64; 3]),
+    /// A cut and its image.
+    Image(Entries, [u64; 3]),
+    NotACut(Entries),
+    /// Lines 3, 5 and 7 of the image of a cut: their first doublewords, and the byte that the rest of each is of.
+    Lines(Entries, [(u64, u8); 3]),
+    /// The cut that is found of a medium of so many lines, which are zeros but for this number in this line.
+    Found(u32, (u32, u64), Option<Entries>),
 }
 
-const TWO_LINES: [Made; 5] = [
-    Made::Store(3, 1),
-    Made::Store(7, 1),
-    Made::Store(7, 2),
-    Made::Store(3, 2),
-    Made::Store(7, 3),
+/// A claim on the crash images of a trace at a moment.
+type Example = (Parts, u32, Claim);
+
+const TWO_LINES: Parts = &[(
+    0,
+    &[
+        Made::Store(3, 0, 1),
+        Made::Store(7, 0, 1),
+        Made::Store(7, 0, 2),
+        Made::Store(3, 0, 2),
+        Made::Store(7, 0, 3),
+    ],
+)];
+
+/// Three stores in a line, the first two of them cleaned by hart 0, and a fence of each hart.
+const FENCED: Parts = &[
+    (
+        0,
+        &[
+            Made::Store(0, 0, 1),
+            Made::Store(0, 0, 2),
+            Made::Clean(0),
+            Made::Store(0, 0, 3),
+        ],
+    ),
+    (1, &[Made::Fence]),
+    (0, &[Made::Fence]),
 ];
 
-fn trace_of(rt: &(impl AllocGlobal + Abort), events: &[Made]) -> Result<Trace, TraceFault> {
-    let mut trace = Trace::new(rt.alloc());
-    for made in events {
-        let event = match *made {
-            Made::Store(line, value) => Event::Store {
-                hart: 0,
-                line,
-                offset: 0,
-                width: 8,
-                value,
-            },
-            Made::Clean(hart, line) => {
-                assert!(rt; hart < 8);
-                Event::Clean { hart, line }
-            }
-            Made::Fence(hart) => {
-                assert!(rt; hart < 8);
-                Event::Fence { hart }
-            }
-            Made::Mark => Event::Begin { hart: 0, op: 1 },
-        };
-        trace.push(event)?;
+const FREE_LINES: Parts = &[(
+    0,
+    &[
+        Made::Store(0, 0, 1),
+        Made::Store(1, 0, 1),
+        Made::Store(2, 0, 1),
+        Made::Store(3, 0, 1),
+        Made::Store(4, 0, 1),
+        Made::Store(5, 0, 1),
+        Made::Store(6, 0, 1),
+        Made::Store(7, 0, 1),
+        Made::Store(8, 0, 1),
+        Made::Store(9, 0, 1),
+        Made::Store(10, 0, 1),
+        Made::Store(11, 0, 1),
+        Made::Store(12, 0, 1),
+        Made::Store(13, 0, 1),
+        Made::Store(14, 0, 1),
+        Made::Store(15, 0, 1),
+        Made::Store(511, 0, 1),
+    ],
+)];
+
+const FIRST_RUN: Parts = &[(0, &[Made::Store(0, 0, 7), Made::Clean(0), Made::Fence])];
+
+const LAST_LINE: Parts = &[(0, &[Made::Store(511, 0, 7)])];
+
+const ONE_VALUE_TWICE: Parts = &[(0, &[Made::Store(4, 0, 7), Made::Store(4, 0, 7)])];
+
+/// A store that is fenced, and one after it.
+const FLOOR: Parts = &[(
+    1,
+    &[
+        Made::Store(5, 0, 7),
+        Made::Clean(5),
+        Made::Store(5, 0, 8),
+        Made::Fence,
+    ],
+)];
+
+/// Images of a medium of zeros.
+static OVER_ZEROS: [Example; 23] = [
+    (FENCED, 5, Claim::Count(4)),
+    (FENCED, 6, Claim::Count(2)),
+    (TWO_LINES, 5, Claim::Count(12)),
+    (&[], 0, Claim::Count(1)),
+    (FREE_LINES, 16, Claim::Count(65_536)),
+    (FREE_LINES, 17, Claim::TooMany),
+    (FIRST_RUN, 0, Claim::Count(1)),
+    (FIRST_RUN, 1, Claim::Count(2)),
+    (FIRST_RUN, 2, Claim::Count(2)),
+    (FIRST_RUN, 3, Claim::Count(1)),
+    (LAST_LINE, 1, Claim::Count(2)),
+    (LAST_LINE, 2, Claim::NoSuchMoment),
+    (&[(0, &[Made::Clean(512)])], 0, Claim::NoSuchLine),
+    (
+        TWO_LINES,
+        5,
+        Claim::Numbered(0, &[(3, 0), (7, 0)], [0, 0, 0]),
+    ),
+    (
+        TWO_LINES,
+        5,
+        Claim::Numbered(5, &[(3, 1), (7, 1)], [1, 0, 1]),
+    ),
+    (
+        TWO_LINES,
+        5,
+        Claim::Numbered(7, &[(3, 1), (7, 3)], [1, 0, 3]),
+    ),
+    (
+        TWO_LINES,
+        5,
+        Claim::Numbered(11, &[(3, 2), (7, 3)], [2, 0, 3]),
+    ),
+    (FLOOR, 4, Claim::Found(512, (5, 0), None)),
+    (ONE_VALUE_TWICE, 2, Claim::Count(3)),
+    (
+        ONE_VALUE_TWICE,
+        2,
+        Claim::Found(512, (4, 0), Some(&[(4, 0)])),
+    ),
+    (
+        ONE_VALUE_TWICE,
+        2,
+        Claim::Found(512, (4, 7), Some(&[(4, 1)])),
+    ),
+    (ONE_VALUE_TWICE, 2, Claim::Found(512, (4, 8), None)),
+    (ONE_VALUE_TWICE, 2, Claim::Found(513, (4, 0), None)),
+];
+
+const NINES: u64 = 0x0909_0909_0909_0909;
+
+/// Images of a medium of zeros but for line 7, which is nines.
+static OVER_NINES: [Example; 10] = [
+    (TWO_LINES, 5, Claim::Image(&[(3, 2), (7, 0)], [2, 0, NINES])),
+    (TWO_LINES, 5, Claim::Image(&[(3, 0), (7, 2)], [0, 0, 2])),
+    (TWO_LINES, 5, Claim::NotACut(&[(3, 2), (7, 4)])),
+    (TWO_LINES, 5, Claim::NotACut(&[(3, 2)])),
+    (TWO_LINES, 5, Claim::NotACut(&[(7, 0), (3, 2)])),
+    (TWO_LINES, 5, Claim::NotACut(&[(3, 2), (8, 0)])),
+    (TWO_LINES, 5, Claim::NotACut(&[(3, 2), (7, 0), (8, 0)])),
+    (
+        TWO_LINES,
+        5,
+        Claim::Lines(&[(3, 1), (7, 2)], [(1, 0), (0, 0), (2, 9)]),
+    ),
+    (FLOOR, 4, Claim::NotACut(&[(5, 0)])),
+    (FLOOR, 4, Claim::Image(&[(5, 1)], [0, 7, NINES])),
+];
+
+/// The place of the first example that doesn't hold of a medium of zeros but for the bytes of line 7.
+fn first_wrong(
+    rt: &(impl AllocGlobal + Abort),
+    bytes: u8,
+    examples: &[Example],
+) -> Result<Option<usize>, Fail> {
+    for (place, (events, moment, claim)) in examples.iter().enumerate() {
+        if !holds(rt, bytes, events, *moment, *claim)? {
+            return Ok(Some(place));
+        }
     }
-    Ok(trace)
+    Ok(None)
 }
 
-/// The number of cuts of a moment, None where there are too many.
-fn count_on(
+/// Whether a claim holds of a moment of a trace on such a medium.
+fn holds(
     rt: &(impl AllocGlobal + Abort),
+    bytes: u8,
+    events: Parts,
+    moment: u32,
+    claim: Claim,
+) -> Result<bool, Fail> {
+    let mut medium = Medium::zero(rt.alloc(), 512)?;
+    medium.write_line(7, &[bytes; 64]);
+    let trace = trace_of(rt, events)?;
+    Ok(holds_at(rt.alloc(), &medium, &trace, moment, claim)?)
+}
+
+fn holds_at(
+    alloc: Global,
     medium: &Medium,
     trace: &Trace,
     moment: u32,
-) -> Result<Option<u32>, ImageFault> {
-    assert!(rt; has_lines(medium, trace));
-    Ok(Cuts::at(rt.alloc(), medium, trace, moment)?.count())
-}
-
-fn count_at(
-    rt: &(impl AllocGlobal + Abort),
-    events: &[Made],
-    moment: u32,
-) -> Result<Option<u32>, Fail> {
-    let medium = Medium::zero(rt.alloc(), 512)?;
-    let trace = trace_of(rt, events)?;
-    Ok(count_on(rt, &medium, &trace, moment)?)
-}
-
-#[test]
-fn fence_of_other_hart(rt: HostRuntime) -> Result<(), Fail> {
-    let events = [
-        Made::Store(0, 1),
-        Made::Store(0, 2),
-        Made::Clean(0, 0),
-        Made::Store(0, 3),
-        Made::Fence(1),
-        Made::Fence(0),
-    ];
-    expect(
-        &rt,
-        "before the fence of hart 0",
-        count_at(&rt, &events, 5)?,
-        Some(4),
-    );
-    expect(&rt, "after it", count_at(&rt, &events, 6)?, Some(2));
-    Ok(())
-}
-
-#[test]
-fn free_lines(rt: HostRuntime) -> Result<(), Fail> {
-    expect(&rt, "two lines", count_at(&rt, &TWO_LINES, 5)?, Some(12));
-    expect(&rt, "no events", count_at(&rt, &[], 0)?, Some(1));
-    let mut lines = [Made::Store(511, 1); 17];
-    for line in 0..16 {
-        lines[line] = Made::Store(line as u32, 1);
+    claim: Claim,
+) -> Result<bool, ImageFault> {
+    if !has_lines(medium, trace) {
+        return Ok(matches!(claim, Claim::NoSuchLine));
     }
-    expect(
-        &rt,
-        "sixteen lines",
-        count_at(&rt, &lines[..16], 16)?,
-        Some(65_536),
-    );
-    expect(&rt, "seventeen lines", count_at(&rt, &lines, 17)?, None);
-    Ok(())
-}
-
-#[test]
-fn moments_of_first_run(rt: HostRuntime) -> Result<(), Fail> {
-    let events = [Made::Store(0, 7), Made::Clean(0, 0), Made::Fence(0)];
-    for (moment, count) in [(0, 1), (1, 2), (2, 2), (3, 1)] {
-        expect(&rt, moment, count_at(&rt, &events, moment)?, Some(count));
-    }
-    Ok(())
-}
-
-/// Whether a medium of 512 lines has the lines of the events, and whether there are cuts at a moment of them.
-fn is_there(
-    rt: &(impl AllocGlobal + Abort),
-    events: &[Made],
-    moment: u32,
-) -> Result<(bool, bool), Fail> {
-    let medium = Medium::zero(rt.alloc(), 512)?;
-    let trace = trace_of(rt, events)?;
-    let has_lines = has_lines(&medium, &trace);
-    if !has_lines {
-        return Ok((false, false));
-    }
-    match Cuts::at(rt.alloc(), &medium, &trace, moment) {
-        Ok(_cuts) => Ok((true, true)),
-        Err(ImageFault::NoSuchMoment) => Ok((true, false)),
-        Err(fault) => Err(fault.into()),
+    match Cuts::at(alloc, medium, trace, moment) {
+        Ok(cuts) => holds_of(alloc, &cuts, claim),
+        Err(ImageFault::NoSuchMoment) => Ok(matches!(claim, Claim::NoSuchMoment)),
+        Err(fault) => Err(fault),
     }
 }
 
+fn holds_of(alloc: Global, cuts: &Cuts<'_>, claim: Claim) -> Result<bool, ImageFault> {
+    match claim {
+        Claim::Count(count) => Ok(cuts.count() == Some(count)),
+        Claim::TooMany => Ok(cuts.count().is_none()),
+        Claim::NoSuchMoment | Claim::NoSuchLine => Ok(false),
+        Claim::Numbered(n, entries, words) => is_numbered(alloc, cuts, n, entries, words),
+        Claim::Image(entries, words) => is_image(alloc, cuts, entries, Some(words)),
+        Claim::NotACut(entries) => is_image(alloc, cuts, entries, None),
+        Claim::Lines(entries, lines) => are_lines(alloc, cuts, entries, lines),
+        Claim::Found(lines, stored, entries) => is_found(alloc, cuts, lines, stored, entries),
+    }
+}
+
+/// Whether lines 3, 5 and 7 begin with these doublewords.
+fn has_words(medium: &Medium, words: [u64; 3]) -> bool {
+    medium.lines() == 512
+        && [
+            medium.load(192, 8),
+            medium.load(320, 8),
+            medium.load(448, 8),
+        ] == words
+}
+
+/// Whether the cut of a number and its image are these, and the cut is found for the image.
+fn is_numbered(
+    alloc: Global,
+    cuts: &Cuts<'_>,
+    n: u32,
+    entries: Entries,
+    words: [u64; 3],
+) -> Result<bool, ImageFault> {
+    if !matches!(cuts.count(), Some(count) if n < count) {
+        return Ok(false);
+    }
+    let is_cut = cuts.cut(alloc, n)?.entries() == entries;
+    let image = cuts.image(alloc, n)?;
+    Ok(is_cut && has_words(&image, words) && finds(alloc, cuts, &image, Some(entries))?)
+}
+
+/// Whether this cut is found for a medium.
+fn finds(
+    alloc: Global,
+    cuts: &Cuts<'_>,
+    medium: &Medium,
+    entries: Option<Entries>,
+) -> Result<bool, ImageFault> {
+    match cuts.find(alloc, medium)? {
+        Some(cut) => Ok(entries == Some(cut.into_entries().as_slice())),
+        None => Ok(entries.is_none()),
+    }
+}
+
+/// Whether the cut of these entries has an image with these doublewords; where there are none, whether they are no cut.
+fn is_image(
+    alloc: Global,
+    cuts: &Cuts<'_>,
+    entries: Entries,
+    words: Option<[u64; 3]>,
+) -> Result<bool, ImageFault> {
+    let cut = Cut::from_entries(entries.to_vec(alloc)?);
+    match cuts.image_of(alloc, &cut) {
+        Ok(image) => match words {
+            Some(words) => Ok(cuts.contains(&cut) && has_words(&image, words)),
+            None => Ok(false),
+        },
+        Err(ImageFault::NotACut) => Ok(!cuts.contains(&cut) && words.is_none()),
+        Err(fault) => Err(fault),
+    }
+}
+
+/// Whether lines 3, 5 and 7 of the image of a cut have these first doublewords and then these bytes.
+fn are_lines(
+    alloc: Global,
+    cuts: &Cuts<'_>,
+    entries: Entries,
+    [first, unstored, last]: [(u64, u8); 3],
+) -> Result<bool, ImageFault> {
+    let cut = Cut::from_entries(entries.to_vec(alloc)?);
+    if !cuts.contains(&cut) || cuts.lines() != 512 {
+        return Ok(false);
+    }
+    Ok(
+        cuts.line(&cut, 3) == filled(first)
+            && cuts.line(&cut, 5) == filled(unstored)
+            && cuts.line(&cut, 7) == filled(last),
+    )
+}
+
+/// A line of a first doubleword and a byte.
+fn filled((word, byte): (u64, u8)) -> [u8; 64] {
+    let mut line = [byte; 64];
+    line[..8].copy_from_slice(&word.to_le_bytes());
+    line
+}
+
+/// Whether this cut is found of a medium of so many lines, of zeros but for this number in this line.
+fn is_found(
+    alloc: Global,
+    cuts: &Cuts<'_>,
+    lines: u32,
+    (line, value): (u32, u64),
+    entries: Option<Entries>,
+) -> Result<bool, ImageFault> {
+    let Ok(mut wanted) = Medium::zero(alloc, lines) else {
+        return Err(ImageFault::Memory);
+    };
+    if line >= wanted.lines() {
+        return Ok(false);
+    }
+    wanted.store(64 * line, 8, value);
+    finds(alloc, cuts, &wanted, entries)
+}
+
 #[test]
-fn no_such_moment(rt: HostRuntime) -> Result<(), Fail> {
-    let last = [Made::Store(511, 7)];
-    expect(
-        &rt,
-        "the last moment",
-        is_there(&rt, &last, 1)?,
-        (true, true),
-    );
-    expect(
-        &rt,
-        "past the last moment",
-        is_there(&rt, &last, 2)?,
-        (true, false),
-    );
-    expect(
-        &rt,
-        "past the last line",
-        is_there(&rt, &[Made::Clean(0, 512)], 0)?,
-        (false, false),
-    );
+fn counts_cuts_and_images(rt: HostRuntime) -> Result<(), Fail> {
+    assert_eq!(rt; first_wrong(&rt, 0, &OVER_ZEROS)?, None);
+    assert_eq!(rt; first_wrong(&rt, 9, &OVER_NINES)?, None);
     Ok(())
 }
 
-fn step_of(made: Made) -> PersistenceStep {
-    match made {
-        Made::Store(line, value) => PersistenceStep::Store {
+/// Events of four harts on three lines.
+const MANY: Parts = &[
+    (0, &[Made::Store(1, 0, 1)]),
+    (2, &[Made::Clean(1)]),
+    (0, &[Made::Store(0, 0, 1), Made::Begin(1)]),
+    (2, &[Made::Clean(0)]),
+    (0, &[Made::Store(1, 0, 2)]),
+    (2, &[Made::Fence]),
+    (0, &[Made::Store(0, 0, 2)]),
+    (7, &[Made::Clean(1)]),
+    (0, &[Made::Store(2, 0, 1), Made::Clean(0)]),
+    (7, &[Made::Fence]),
+    (0, &[Made::Store(1, 0, 3)]),
+    (2, &[Made::Fence]),
+    (0, &[Made::Fence]),
+];
+
+/// The step of an event. The eviction that stands for a mark changes no count.
+fn step_of(event: Event) -> PersistenceStep {
+    match event {
+        Event::Store {
             line,
-            offset: 0,
-            width: 8,
+            offset,
+            width,
+            value,
+            ..
+        } => PersistenceStep::Store {
+            line,
+            offset,
+            width,
             value,
         },
-        Made::Clean(hart, line) => PersistenceStep::Clean { hart, line },
-        Made::Fence(hart) => PersistenceStep::Fence { hart },
-        Made::Mark => PersistenceStep::Evict { line: 0 },
+        Event::Clean { hart, line } => PersistenceStep::Clean { hart, line },
+        Event::Fence { hart } => PersistenceStep::Fence { hart },
+        Event::Begin { .. } | Event::End { .. } => PersistenceStep::Evict { line: 0 },
     }
+}
+
+/// The steps of these events.
+fn plain_steps(rt: &(impl AllocGlobal + Abort)) -> Result<[PersistenceStep; 15], TraceFault> {
+    let trace = trace_of(rt, MANY)?;
+    let mut steps = [PersistenceStep::Evict { line: 0 }; 15];
+    for (place, event) in trace.events().iter().enumerate() {
+        if place < 15 {
+            steps[place] = step_of(*event);
+        }
+    }
+    Ok(steps)
 }
 
 #[test]
 fn as_the_plain_program(rt: HostRuntime) -> Result<(), Fail> {
-    let events = [
-        Made::Store(1, 1),
-        Made::Clean(2, 1),
-        Made::Store(0, 1),
-        Made::Mark,
-        Made::Clean(2, 0),
-        Made::Store(1, 2),
-        Made::Fence(2),
-        Made::Store(0, 2),
-        Made::Clean(7, 1),
-        Made::Store(2, 1),
-        Made::Clean(0, 0),
-        Made::Fence(7),
-        Made::Store(1, 3),
-        Made::Fence(2),
-        Made::Fence(0),
-    ];
-    let steps = events.map(step_of);
+    let steps = plain_steps(&rt)?;
     for moment in 0..16 {
-        let plain = count_cuts(&steps[..moment]);
-        expect(&rt, moment, count_at(&rt, &events, moment as u32)?, plain);
-    }
-    Ok(())
-}
-
-/// The moment after all the events.
-fn cuts_of<'a>(
-    rt: &(impl AllocGlobal + Abort),
-    medium: &'a Medium,
-    trace: &'a Trace,
-) -> Result<Cuts<'a>, ImageFault> {
-    assert!(rt; has_lines(medium, trace));
-    Cuts::at(rt.alloc(), medium, trace, trace.events().len() as u32)
-}
-
-/// The entries of a cut as plain data: how many there are, and the first two.
-type Entries = (usize, [(u32, u32); 2]);
-
-fn plain(entries: &[(u32, u32)]) -> Entries {
-    let mut first = [(0, 0); 2];
-    for (place, entry) in first.iter_mut().zip(entries) {
-        *place = *entry;
-    }
-    (entries.len(), first)
-}
-
-/// The first doublewords of lines 3, 5 and 7.
-fn first_words(rt: &(impl AllocGlobal + Abort), medium: &Medium) -> [u64; 3] {
-    assert!(rt; medium.lines() == 512);
-    [
-        medium.load(192, 8),
-        medium.load(320, 8),
-        medium.load(448, 8),
-    ]
-}
-
-/// A cut by its number, the first doublewords of its image, and the cut that is found for that image.
-fn numbered(
-    rt: &(impl AllocGlobal + Abort),
-    cuts: &Cuts<'_>,
-    n: u32,
-) -> Result<(Entries, [u64; 3], Option<Entries>), ImageFault> {
-    assert!(rt; matches!(cuts.count(), Some(count) if n < count));
-    let entries = plain(cuts.cut(rt.alloc(), n)?.entries());
-    let image = cuts.image(rt.alloc(), n)?;
-    let found = cuts.find(rt.alloc(), &image)?;
-    let found = found.map(|cut| plain(&cut.into_entries()));
-    Ok((entries, first_words(rt, &image), found))
-}
-
-/// The same of these events.
-fn numbered_of(
-    rt: &(impl AllocGlobal + Abort),
-    events: &[Made],
-    n: u32,
-) -> Result<(Entries, [u64; 3], Option<Entries>), Fail> {
-    let medium = Medium::zero(rt.alloc(), 512)?;
-    let trace = trace_of(rt, events)?;
-    let cuts = cuts_of(rt, &medium, &trace)?;
-    Ok(numbered(rt, &cuts, n)?)
-}
-
-/// Whether entries are a cut, and the first doublewords of its image, None where it has none.
-fn imaged(
-    rt: &(impl AllocGlobal + Abort),
-    cuts: &Cuts<'_>,
-    entries: &[(u32, u32)],
-) -> Result<(bool, Option<[u64; 3]>), Fail> {
-    let cut = Cut::from_entries(entries.to_vec(rt.alloc())?);
-    let words = match cuts.image_of(rt.alloc(), &cut) {
-        Ok(image) => Some(first_words(rt, &image)),
-        Err(ImageFault::NotACut) => None,
-        Err(fault) => return Err(fault.into()),
-    };
-    Ok((cuts.contains(&cut), words))
-}
-
-/// The same of these events, on a medium of zeros but for line 7, which is nines.
-fn imaged_of(
-    rt: &(impl AllocGlobal + Abort),
-    events: &[Made],
-    entries: &[(u32, u32)],
-) -> Result<(bool, Option<[u64; 3]>), Fail> {
-    let mut medium = Medium::zero(rt.alloc(), 512)?;
-    medium.write_line(7, &[9; 64]);
-    let trace = trace_of(rt, events)?;
-    let cuts = cuts_of(rt, &medium, &trace)?;
-    imaged(rt, &cuts, entries)
-}
-
-/// The cut that is found of a medium of so many lines, of zeros but for this number in this line.
-fn found_of(
-    rt: &(impl AllocGlobal + Abort),
-    events: &[Made],
-    lines: u32,
-    (line, value): (u32, u64),
-) -> Result<Option<Entries>, Fail> {
-    let medium = Medium::zero(rt.alloc(), 512)?;
-    let mut wanted = Medium::zero(rt.alloc(), lines)?;
-    assert!(rt; line < 512 && wanted.lines() >= 512);
-    wanted.store(64 * line, 8, value);
-    let trace = trace_of(rt, events)?;
-    let cuts = cuts_of(rt, &medium, &trace)?;
-    let found = cuts.find(rt.alloc(), &wanted)?;
-    Ok(found.map(|cut| plain(cut.entries())))
-}
-
-#[test]
-fn cut_numbers(rt: HostRuntime) -> Result<(), Fail> {
-    for (n, low, high) in [(0, 0, 0), (5, 1, 1), (7, 1, 3), (11, 2, 3)] {
-        let cut = (2, [(3, low), (7, high)]);
-        let words = [u64::from(low), 0, u64::from(high)];
-        expect(
-            &rt,
-            n,
-            numbered_of(&rt, &TWO_LINES, n)?,
-            (cut, words, Some(cut)),
+        let claim = match count_cuts(&steps[..moment]) {
+            Some(count) => Claim::Count(count),
+            None => Claim::TooMany,
+        };
+        assert!(rt;
+            holds(&rt, 0, MANY, moment as u32, claim)?,
+            "moment {moment}"
         );
-    }
-    Ok(())
-}
-
-const NINES: u64 = 0x0909_0909_0909_0909;
-
-#[test]
-fn images_of_cuts(rt: HostRuntime) -> Result<(), Fail> {
-    for (entries, words) in [
-        ([(3, 2), (7, 0)].as_slice(), Some([2, 0, NINES])),
-        (&[(3, 0), (7, 2)], Some([0, 0, 2])),
-        (&[(3, 2), (7, 4)], None),
-        (&[(3, 2)], None),
-        (&[(7, 0), (3, 2)], None),
-        (&[(3, 2), (8, 0)], None),
-        (&[(3, 2), (7, 0), (8, 0)], None),
-    ] {
-        expect(
-            &rt,
-            entries,
-            imaged_of(&rt, &TWO_LINES, entries)?,
-            (words.is_some(), words),
-        );
-    }
-    Ok(())
-}
-
-/// Lines 3, 5 and 7 of the image of the cut, over a medium whose line 7 is of nines.
-fn three_lines(
-    rt: &(impl AllocGlobal + Abort),
-    entries: &[(u32, u32)],
-) -> Result<[[u8; 64]; 3], Fail> {
-    let mut medium = Medium::zero(rt.alloc(), 512)?;
-    medium.write_line(7, &[9; 64]);
-    let trace = trace_of(rt, &TWO_LINES)?;
-    let cuts = cuts_of(rt, &medium, &trace)?;
-    let cut = Cut::from_entries(entries.to_vec(rt.alloc())?);
-    assert!(rt; cuts.contains(&cut));
-    assert!(rt; cuts.lines() == 512);
-    Ok([cuts.line(&cut, 3), cuts.line(&cut, 5), cuts.line(&cut, 7)])
-}
-
-#[test]
-fn lines_of_an_image(rt: HostRuntime) -> Result<(), Fail> {
-    let [first, unstored, last] = three_lines(&rt, &[(3, 1), (7, 2)])?;
-    assert_eq!(rt; &first[..9], [1, 0, 0, 0, 0, 0, 0, 0, 0].as_slice());
-    assert!(rt; unstored == [0; 64]);
-    assert_eq!(rt; &last[..9], [2, 0, 0, 0, 0, 0, 0, 0, 9].as_slice());
-    Ok(())
-}
-
-#[test]
-fn below_the_floor(rt: HostRuntime) -> Result<(), Fail> {
-    let events = [
-        Made::Store(5, 7),
-        Made::Clean(1, 5),
-        Made::Store(5, 8),
-        Made::Fence(1),
-    ];
-    let below = imaged_of(&rt, &events, &[(5, 0)])?;
-    expect(&rt, "a cut below the floor", below, (false, None));
-    let at = imaged_of(&rt, &events, &[(5, 1)])?;
-    expect(&rt, "the cut at the floor", at, (true, Some([0, 7, NINES])));
-    let start = found_of(&rt, &events, 512, (5, 0))?;
-    expect(&rt, "the start is below the floor", start, None);
-    Ok(())
-}
-
-#[test]
-fn one_value_twice(rt: HostRuntime) -> Result<(), Fail> {
-    let events = [Made::Store(4, 7), Made::Store(4, 7)];
-    expect(&rt, "one value twice", count_at(&rt, &events, 2)?, Some(3));
-    for (lines, value, number) in [
-        (512, 0, Some(0)),
-        (512, 7, Some(1)),
-        (512, 8, None),
-        (513, 0, None),
-    ] {
-        let found = found_of(&rt, &events, lines, (4, value))?;
-        let expected = number.map(|number| (1, [(4, number), (0, 0)]));
-        expect(&rt, (value, lines), found, expected);
     }
     Ok(())
 }

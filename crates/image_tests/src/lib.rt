@@ -3,7 +3,7 @@
 #![tactic(auto)]
 
 #[cfg(test)]
-mod expecting;
+mod events;
 #[cfg(test)]
 mod images;
 #[cfg(test)]

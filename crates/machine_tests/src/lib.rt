@@ -1,8 +1,13 @@
-//! Tests of `schedule`, `shared_memory`, `machine`, `recording`, `rounds` and `cut_schedule`: short programs that are stepped,
-//! run, recorded and explained. They stand apart, so that those crates aren't proved a second time for them. The crate has tests
+//! Tests of `shared_memory`, `machine`, `recording`, `rounds` and `cut_schedule`: short programs that are stepped, run, recorded
+//! and explained. They stand apart, so that those crates aren't proved a second time for them. The crate has tests
 //! alone.
+//!
+//! What is tested stands in tables. A test asks for the first place of a table whose call comes to something else than is said
+//! there, and machines and memory stay in functions that give back plain data.
 #![tactic(auto)]
 
+#[cfg(test)]
+mod cuts;
 #[cfg(test)]
 mod explanations;
 #[cfg(test)]
@@ -13,7 +18,5 @@ mod programs;
 mod recordings;
 #[cfg(test)]
 mod requests;
-#[cfg(test)]
-mod schedules;
 #[cfg(test)]
 mod turns;

@@ -1,42 +1,209 @@
 //! Short programs, stepped and run.
 
-ghost use Rattle.std.specs.Prelude.{◌<◌, length};
+use crate::programs::{FIRST_RUN, machine_of};
+use hart::{Need, Request, Status, Trap};
+use machine::{Machine, Outcome, RunStop, Schedule, Step, StepFault};
+use std::alloc::Global;
 
-use crate::programs::{FENCE, FIRST_RUN, machine_with, program_of};
-use crash_model::{PersistenceStep, floor, stores, written_back};
-use hart::{Need, Request, Status};
-use line_memory::Medium;
-use machine::{Item, Machine, Outcome, RunStop, Schedule, Step, StepFault};
-use std::process::Abort;
-use std::test::Fail;
-use store_trace::{Event, Trace};
-
-/// What a power cut leaves. This says nothing of it: the tests look at the outcome alone.
-fn left_by(machine: Machine) -> (Medium, Trace) {
-    machine.power_cut()
+/// A program, how it is run, and what comes of it.
+pub(crate) struct Run {
+    pub(crate) words: &'static [u32],
+    pub(crate) harts: u32,
+    pub(crate) capacity: u32,
+    pub(crate) schedule: &'static str,
+    pub(crate) stop: Option<RunStop>,
+    pub(crate) seen: Seen,
 }
 
-// One step, and a run. These say nothing of what they do either.
-
-fn step(machine: &mut Machine, step: Step) -> Result<Outcome, StepFault> {
-    machine.step(step)
+/// What is seen of a machine: the pc and the status of a hart, the number of events, and the first doubleword of persistent
+/// memory.
+pub(crate) struct Seen {
+    pub(crate) hart: u32,
+    pub(crate) pc: u64,
+    pub(crate) status: Status,
+    pub(crate) events: usize,
+    pub(crate) first: u64,
 }
 
-fn run(machine: &mut Machine, schedule: &Schedule) -> Result<(), RunStop> {
-    machine.run(schedule)
-}
+/// `lui x5, 0x80000`; `addiw x5, x5, -1`; `sw x5, 0(x11)`; `addi x6, x0, 1`; `amoadd.w x7, x6, (x11)`;
+/// `amoswap.w x8, x0, (x11)`.
+const SUM_AND_SWAP: [u32; 6] = [
+    0x800002b7, 0xfff2829b, 0x0055a023, 0x00100313, 0x0065a3af, 0x0805a42f,
+];
 
-fn schedule_of(rt: &impl AllocGlobal, items: &[Item]) -> Result<Schedule, Fail> {
-    let mut schedule = Schedule::new(rt.alloc());
-    for item in items {
-        schedule.push(*item)?;
-    }
-    Ok(schedule)
-}
+/// `lr.d x5, (x11)`; `addi x6, x0, 5`; `sc.d x7, x6, (x11)` on hart 0; the store of hart 1, which comes by
+/// `bne x10, x0, .+16` first, is `sd x10, 8(x11)`.
+const RESERVED: [u32; 5] = [0x00051863, 0x1005b2af, 0x00500313, 0x1865b3af, 0x00a5b423];
 
-fn steps(hart: u32, count: u32) -> Item {
-    Item::Steps { hart, count }
-}
+/// `auipc x5, 0`; `addi x5, x5, 28`; `auipc x6, 0`; `addi x6, x6, 32`; `lw x7, 0(x6)`; `sw x7, 0(x5)`; `fence.i`;
+/// `addi x10, x0, 1`; `addi x17, x0, 93`; `ecall`; and the word of `addi x10, x0, 2`.
+const REWRITTEN: [u32; 11] = [
+    0x00000297, 0x01c28293, 0x00000317, 0x02030313, 0x00032383, 0x0072a023, 0x0000100f, 0x00100513,
+    0x05d00893, 0x00000073, 0x00200513,
+];
+
+/// The same with `addi x0, x0, 0` in place of the FENCE.I: the old word is run.
+const REWRITTEN_UNSEEN: [u32; 11] = [
+    0x00000297, 0x01c28293, 0x00000317, 0x02030313, 0x00032383, 0x0072a023, 0x00000013, 0x00100513,
+    0x05d00893, 0x00000073, 0x00200513,
+];
+
+static RUNS: [Run; 10] = [
+    Run {
+        words: &FIRST_RUN,
+        harts: 1,
+        capacity: 1,
+        schedule: "h0*8",
+        stop: None,
+        seen: Seen {
+            hart: 0,
+            pc: 0x1_0020,
+            status: Status::Exited(0),
+            events: 3,
+            first: 7,
+        },
+    },
+    Run {
+        words: &FIRST_RUN,
+        harts: 1,
+        capacity: 512,
+        schedule: "h0*8",
+        stop: None,
+        seen: Seen {
+            hart: 0,
+            pc: 0x1_0020,
+            status: Status::Exited(0),
+            events: 3,
+            first: 7,
+        },
+    },
+    // a line past the end
+    Run {
+        words: &FIRST_RUN,
+        harts: 1,
+        capacity: 512,
+        schedule: "h0*3 e512",
+        stop: Some(RunStop {
+            item: 1,
+            steps: 0,
+            fault: StepFault::NoSuchLine,
+        }),
+        seen: Seen {
+            hart: 0,
+            pc: 0x1_000c,
+            status: Status::Running,
+            events: 1,
+            first: 7,
+        },
+    },
+    // a hart that isn't there
+    Run {
+        words: &FIRST_RUN,
+        harts: 1,
+        capacity: 512,
+        schedule: "h1",
+        stop: Some(RunStop {
+            item: 0,
+            steps: 0,
+            fault: StepFault::NoSuchHart,
+        }),
+        seen: Seen {
+            hart: 0,
+            pc: 0x1_0000,
+            status: Status::Running,
+            events: 0,
+            first: 0,
+        },
+    },
+    // the sum wraps
+    Run {
+        words: &SUM_AND_SWAP,
+        harts: 1,
+        capacity: 1,
+        schedule: "h0*5",
+        stop: None,
+        seen: Seen {
+            hart: 0,
+            pc: 0x1_0014,
+            status: Status::Running,
+            events: 2,
+            first: 0x8000_0000,
+        },
+    },
+    // what was swapped in
+    Run {
+        words: &SUM_AND_SWAP,
+        harts: 1,
+        capacity: 1,
+        schedule: "h0*6",
+        stop: None,
+        seen: Seen {
+            hart: 0,
+            pc: 0x1_0018,
+            status: Status::Running,
+            events: 3,
+            first: 0,
+        },
+    },
+    // a reservation that stands
+    Run {
+        words: &RESERVED,
+        harts: 2,
+        capacity: 512,
+        schedule: "h0*4",
+        stop: None,
+        seen: Seen {
+            hart: 0,
+            pc: 0x1_0010,
+            status: Status::Running,
+            events: 1,
+            first: 5,
+        },
+    },
+    // a store of the other hart between
+    Run {
+        words: &RESERVED,
+        harts: 2,
+        capacity: 512,
+        schedule: "h0*3 h1*2 h0*1",
+        stop: None,
+        seen: Seen {
+            hart: 0,
+            pc: 0x1_0010,
+            status: Status::Running,
+            events: 1,
+            first: 0,
+        },
+    },
+    Run {
+        words: &REWRITTEN,
+        harts: 1,
+        capacity: 512,
+        schedule: "h0*10",
+        stop: None,
+        seen: Seen {
+            hart: 0,
+            pc: 0x1_0028,
+            status: Status::Exited(2),
+            events: 0,
+            first: 0,
+        },
+    },
+    Run {
+        words: &REWRITTEN_UNSEEN,
+        harts: 1,
+        capacity: 512,
+        schedule: "h0*10",
+        stop: None,
+        seen: Seen {
+            hart: 0,
+            pc: 0x1_0028,
+            status: Status::Exited(1),
+            events: 0,
+            first: 0,
+        },
+    },
+];
 
 /// The number of the eight bytes at an address.
 fn doubleword_at(machine: &Machine, address: u64) -> Option<u64> {
@@ -48,286 +215,116 @@ fn doubleword_at(machine: &Machine, address: u64) -> Option<u64> {
     Some(number)
 }
 
-/// What can be seen of a machine after a run: where it stopped, a hart's pc and status, the number of events, and the first
-/// doubleword of persistent memory.
-type Seen = (Option<RunStop>, Option<(u64, Status)>, usize, Option<u64>);
+pub(crate) fn shows(machine: &Machine, seen: &Seen) -> bool {
+    if seen.hart >= machine.harts() {
+        return false;
+    }
+    let state = machine.hart(seen.hart);
+    state.pc == seen.pc
+        && state.status == seen.status
+        && machine.events().len() == seen.events
+        && doubleword_at(machine, 0x4000_0000) == Some(seen.first)
+}
 
-fn place_of(machine: &Machine, hart: u32) -> Option<(u64, Status)> {
-    if hart >= machine.harts() {
+/// Where the text of a schedule stops; None at its end. This says nothing of what it does: the tests look at the outcome alone.
+fn stop_of(machine: &mut Machine, schedule: &Schedule) -> Option<RunStop> {
+    machine.run(schedule).err()
+}
+
+/// Whether this comes of a run.
+pub(crate) fn ends_so(alloc: Global, run: &Run) -> bool {
+    let Ok(schedule) = Schedule::read(alloc, run.schedule.as_bytes()) else {
+        return false;
+    };
+    match machine_of(alloc, run.words, run.harts, run.capacity) {
+        Ok(mut machine) => {
+            stop_of(&mut machine, &schedule) == run.stop && shows(&machine, &run.seen)
+        }
+        Err(_) => false,
+    }
+}
+
+#[test]
+fn runs_end_so(rt: HostRuntime) {
+    let differing = RUNS.iter().position(|run| !ends_so(rt.alloc(), run));
+    assert_eq!(rt; differing, None);
+}
+
+static LIMITS: [(u32, u32, StepFault); 4] = [
+    (0, 512, StepFault::NoSuchHart),
+    (9, 0, StepFault::NoSuchHart),
+    (1, 0, StepFault::OutOfLimits),
+    (8, 16_385, StepFault::OutOfLimits),
+];
+
+/// Whether there is no machine of so many harts and lines of cache, for this reason.
+fn is_refused_so(alloc: Global, (harts, capacity, fault): (u32, u32, StepFault)) -> bool {
+    machine_of(alloc, &FIRST_RUN, harts, capacity).err() == Some(fault)
+}
+
+#[test]
+fn numbers_out_of_limits(rt: HostRuntime) {
+    let differing = LIMITS
+        .iter()
+        .position(|limits| !is_refused_so(rt.alloc(), *limits));
+    assert_eq!(rt; differing, None);
+}
+
+fn is_stepped(machine: &mut Machine, hart: u32) -> bool {
+    matches!(machine.step(Step::Hart(hart)), Ok(Outcome::Done))
+}
+
+/// What the second hart asks for after two steps.
+fn request_of_second(machine: &mut Machine) -> Option<Request> {
+    let are_stepped = is_stepped(machine, 1) && is_stepped(machine, 1);
+    if !are_stepped || machine.harts() < 2 || machine.hart(1).status != Status::Running {
         return None;
     }
-    let state = machine.hart(hart);
-    Some((state.pc, state.status))
-}
-
-/// Runs words by the text of a schedule, and looks at one hart.
-fn seen_of(
-    rt: &(impl AllocGlobal + Abort),
-    words: &[u32],
-    harts: u32,
-    capacity: u32,
-    text: &str,
-    hart: u32,
-) -> Result<Seen, Fail> {
-    let schedule = Schedule::read(rt.alloc(), text.as_bytes())?;
-    let mut machine = machine_with(rt, words, harts, capacity)?;
-    let stop = run(&mut machine, &schedule).err();
-    let events = machine.events().len();
-    let first = doubleword_at(&machine, 0x4000_0000);
-    Ok((stop, place_of(&machine, hart), events, first))
-}
-
-#[test]
-fn numbers_out_of_limits(rt: HostRuntime) -> Result<(), Fail> {
-    let cases = [
-        (0, 512, StepFault::NoSuchHart),
-        (9, 0, StepFault::NoSuchHart),
-        (1, 0, StepFault::OutOfLimits),
-        (8, 16_385, StepFault::OutOfLimits),
-    ];
-    for (harts, capacity, fault) in cases {
-        let program = program_of(&rt, &FIRST_RUN)?;
-        let medium = Medium::zero(rt.alloc(), 512)?;
-        let refused = Machine::new(rt.alloc(), program, medium, harts, capacity).err();
-        assert_eq!(rt; refused, Some(fault), "{harts} harts, {capacity} lines");
+    match machine.need(1) {
+        Need::Ask(request) => Some(request),
+        Need::Local(_) | Need::Stop(_) => None,
     }
-    Ok(())
 }
 
 #[test]
-fn first_run(rt: HostRuntime) -> Result<(), Fail> {
-    for capacity in [1, 512] {
-        let seen = seen_of(&rt, &FIRST_RUN, 1, capacity, "h0*8", 0)?;
-        let ended = Some((0x1_0020, Status::Exited(0)));
-        assert_eq!(rt; seen, (None, ended, 3, Some(7)), "with {capacity} lines");
-    }
-    Ok(())
-}
-
-#[test]
-fn runs_stop_where_a_step_is_refused(rt: HostRuntime) -> Result<(), Fail> {
-    let stop = RunStop {
-        item: 1,
-        steps: 0,
-        fault: StepFault::NoSuchLine,
-    };
-    let seen = seen_of(&rt, &FIRST_RUN, 1, 512, "h0*3 e512", 0)?;
-    let there = Some((0x1_000c, Status::Running));
-    assert_eq!(rt;
-        seen,
-        (Some(stop), there, 1, Some(7)),
-        "a line past the end"
-    );
-    let stop = RunStop {
-        item: 0,
-        steps: 0,
-        fault: StepFault::NoSuchHart,
-    };
-    let seen = seen_of(&rt, &FIRST_RUN, 1, 512, "h1", 0)?;
-    let start = Some((0x1_0000, Status::Running));
-    assert_eq!(rt;
-        seen,
-        (Some(stop), start, 0, Some(0)),
-        "a hart that isn't there"
-    );
-    Ok(())
-}
-
-/// `lui x5, 0x80000`; `addiw x5, x5, -1`; `sw x5, 0(x11)`; `addi x6, x0, 1`; `amoadd.w x7, x6, (x11)`;
-/// `amoswap.w x8, x0, (x11)`.
-#[test]
-fn amo_wraps(rt: HostRuntime) -> Result<(), Fail> {
-    let words = [
-        0x800002b7, 0xfff2829b, 0x0055a023, 0x00100313, 0x0065a3af, 0x0805a42f,
-    ];
-    let seen = seen_of(&rt, &words, 1, 1, "h0*5", 0)?;
-    assert_eq!(rt; seen.3, Some(0x8000_0000), "the sum");
-    let seen = seen_of(&rt, &words, 1, 1, "h0*6", 0)?;
-    assert_eq!(rt; seen.3, Some(0), "what was swapped in");
-    assert_eq!(rt; seen.2, 3, "the events");
-    Ok(())
-}
-
-/// `lr.d x5, (x11)`; `addi x6, x0, 5`; `sc.d x7, x6, (x11)` on hart 0; the store of hart 1, which comes by
-/// `bne x10, x0, .+16` first, is `sd x10, 8(x11)`.
-#[test]
-fn reservations(rt: HostRuntime) -> Result<(), Fail> {
-    let words = [0x00051863, 0x1005b2af, 0x00500313, 0x1865b3af, 0x00a5b423];
-    let seen = seen_of(&rt, &words, 2, 512, "h0*4", 0)?;
-    assert_eq!(rt; (seen.2, seen.3), (1, Some(5)), "a reservation that stands");
-    let seen = seen_of(&rt, &words, 2, 512, "h0*3 h1*2 h0*1", 0)?;
-    assert_eq!(rt;
-        (seen.2, seen.3),
-        (1, Some(0)),
-        "a store of the other hart between"
-    );
-    Ok(())
-}
-
-/// `auipc x5, 0`; `addi x5, x5, 28`; `auipc x6, 0`; `addi x6, x6, 32`; `lw x7, 0(x6)`; `sw x7, 0(x5)`; `fence.i`;
-/// `addi x10, x0, 1`; `addi x17, x0, 93`; `ecall`; and the word of `addi x10, x0, 2`. Without the FENCE.I the old word is run.
-#[test]
-fn rewritten_text(rt: HostRuntime) -> Result<(), Fail> {
-    let mut words = [
-        0x00000297, 0x01c28293, 0x00000317, 0x02030313, 0x00032383, 0x0072a023, 0x0000100f,
-        0x00100513, 0x05d00893, 0x00000073, 0x00200513,
-    ];
-    let seen = seen_of(&rt, &words, 1, 512, "h0*10", 0)?;
-    assert_eq!(rt;
-        seen.1,
-        Some((0x1_0028, Status::Exited(2))),
-        "with a FENCE.I"
-    );
-    words[6] = 0x0000_0013;
-    let seen = seen_of(&rt, &words, 1, 512, "h0*10", 0)?;
-    assert_eq!(rt; seen.1, Some((0x1_0028, Status::Exited(1))), "without one");
-    Ok(())
-}
-
-/// What the second hart needs after two steps, where it runs.
-fn need_of(rt: &(impl AllocGlobal + Abort)) -> Result<Option<Need>, Fail> {
-    let mut machine = machine_with(rt, &FIRST_RUN, 2, 512)?;
-    let _ = step(&mut machine, Step::Hart(1));
-    let _ = step(&mut machine, Step::Hart(1));
-    if machine.harts() < 2 || machine.hart(1).status != Status::Running {
-        return Ok(None);
-    }
-    Ok(Some(machine.need(1)))
-}
-
-#[test]
-fn a_store_is_needed(rt: HostRuntime) -> Result<(), Fail> {
-    let asked = Request::Store {
+fn a_store_is_needed(rt: HostRuntime) {
+    let stored = Request::Store {
         address: 0x4000_0000,
         width: 8,
         value: 7,
     };
-    let need = need_of(&rt)?;
-    assert!(rt;
-        matches!(need, Some(Need::Ask(request)) if request == asked),
-        "the need of a store"
-    );
-    Ok(())
+    let asked = match machine_of(rt.alloc(), &FIRST_RUN, 2, 512) {
+        Ok(mut machine) => request_of_second(&mut machine),
+        Err(_) => None,
+    };
+    assert!(rt; asked == Some(stored));
 }
 
-/// `addi x5, x0, 1`; `addi x12, x11, 64`; `sd x5, 0(x11)`; `sd x5, 64(x11)`; `addi x5, x5, 1`; `cbo.clean (x11)`;
-/// `sd x5, 0(x11)`; `sd x5, 128(x11)`; `fence w, w`; `cbo.flush (x12)`; `addi x5, x5, 1`; `amoadd.d x9, x5, (x11)`;
-/// `ld x8, 64(x11)`; `fence w, w`; `sd x5, 64(x11)`; `cbo.clean (x11)`; `fence w, w`.
-const THREE_LINES: [u32; 17] = [
-    0x00100293, 0x04058613, 0x0055b023, 0x0455b023, 0x00128293, 0x0015a00f, 0x0055b023, 0x0855b023,
-    FENCE, 0x0026200f, 0x00128293, 0x0055b4af, 0x0405b403, FENCE, 0x0455b023, 0x0015a00f, FENCE,
+/// Programs, how many steps are made first, what comes of the next one, and whether the hart has stopped then.
+static OUTCOMES: [(&[u32], u32, Outcome, bool); 4] = [
+    (&FIRST_RUN, 6, Outcome::Done, false),
+    (&FIRST_RUN, 7, Outcome::Exited(0), true),
+    (&FIRST_RUN, 8, Outcome::Stopped, true),
+    // the word 0 is no instruction
+    (&[0], 0, Outcome::Trapped(Trap::NoInstruction), true),
 ];
 
-fn persistence_steps(
-    rt: &impl AllocGlobal,
-    events: &[Event],
-) -> Result<Vec<PersistenceStep>, Fail> {
-    let mut made = Vec::new(rt.alloc());
-    for event in events {
-        match *event {
-            Event::Store {
-                line,
-                offset,
-                width,
-                value,
-                ..
-            } => made.push(PersistenceStep::Store {
-                line,
-                offset,
-                width,
-                value,
-            })?,
-            Event::Clean { hart, line } => made.push(PersistenceStep::Clean { hart, line })?,
-            Event::Fence { hart } => made.push(PersistenceStep::Fence { hart })?,
-            Event::Begin { .. } | Event::End { .. } => {}
-        }
+/// What comes of the step after so many, and whether the hart has stopped then.
+fn outcome_after(alloc: Global, words: &[u32], count: u32) -> Result<(Outcome, bool), StepFault> {
+    let mut machine = machine_of(alloc, words, 1, 512)?;
+    for _ in 0..count {
+        machine.step(Step::Hart(0))?;
     }
-    Ok(made)
-}
-
-/// The first doubleword of a line after so many of its stores, each of eight bytes there.
-fn value_after(made: &[PersistenceStep], line: u32, number: u32) -> u64 {
-    let mut left = number;
-    let mut last = 0;
-    for step in made {
-        if let PersistenceStep::Store {
-            line: stored,
-            value,
-            ..
-        } = *step
-            && stored == line
-            && left > 0
-        {
-            last = value;
-            left -= 1;
-        }
-    }
-    last
-}
-
-/// Whether a power cut may leave the value in the line: after some number of its stores, from its floor upwards.
-fn is_left(made: &[PersistenceStep], line: u32, value: u64) -> bool
-    requires { length made.now < 1000 }
-{
-    for number in floor(made, line)..stores(made, line) + 1 {
-        if value_after(made, line, number) == value {
-            return true;
-        }
-    }
-    false
-}
-
-/// What a power cut leaves after a number of steps of `THREE_LINES`, and one eviction where it is said.
-fn cut_after(
-    rt: &(impl AllocGlobal + Abort),
-    capacity: u32,
-    count: u32,
-    evicted: bool,
-) -> Result<(Medium, Trace), Fail> {
-    let mut schedule = schedule_of(rt, &[steps(0, count)])?;
-    if evicted {
-        schedule.push(Item::Evict { line: 1 })?;
-    }
-    let mut machine = machine_with(rt, &THREE_LINES, 1, capacity)?;
-    let _ = run(&mut machine, &schedule);
-    Ok(left_by(machine))
-}
-
-/// Compares what is left of the first four lines with what the plain program allows, and with what it has written back.
-fn compare(rt: &impl Abort, made: &[PersistenceStep], medium: &Medium, capacity: u32) {
-    assert!(rt; medium.lines() == 512 && made.len() < 1_000);
-    for line in 0..4 {
-        let left = medium.load(64 * line, 8);
-        assert!(rt; is_left(made, line, left), "line {line} is left so");
-        if capacity >= 3 {
-            let wanted = value_after(made, line, written_back(made, line));
-            assert_eq!(rt; left, wanted, "line {line} is written back");
-        }
-    }
-}
-
-fn check_cut(
-    rt: &(impl AllocGlobal + Abort),
-    capacity: u32,
-    count: u32,
-    evicted: bool,
-) -> Result<(), Fail> {
-    let (medium, trace) = cut_after(rt, capacity, count, evicted)?;
-    let mut made = persistence_steps(rt, trace.events())?;
-    if evicted {
-        made.push(PersistenceStep::Evict { line: 1 })?;
-    }
-    compare(rt, &made, &medium, capacity);
-    Ok(())
+    let outcome = machine.step(Step::Hart(0))?;
+    Ok((outcome, machine.has_stopped(0)))
 }
 
 #[test]
-fn every_leaving_is_a_cut(rt: HostRuntime) -> Result<(), Fail> {
-    for capacity in [1, 2, 7, 512] {
-        for count in 1..18 {
-            check_cut(&rt, capacity, count, false)?;
-            check_cut(&rt, capacity, count, true)?;
-        }
-    }
-    Ok(())
+fn steps_come_to_outcomes(rt: HostRuntime) {
+    let differing = OUTCOMES.iter().position(|(words, count, outcome, has_stopped)| outcome_after(
+        rt.alloc(),
+        words,
+        *count,
+    ) != Ok((*outcome, *has_stopped)));
+    assert_eq!(rt; differing, None);
 }

@@ -4,9 +4,10 @@ use line_memory::Medium;
 use machine::Machine;
 use object::Object;
 use program::{Program, load};
-use std::process::Abort;
-use std::test::Fail;
-use store_trace::Event;
+use schedule::Schedule;
+use shared_memory::StepFault;
+use std::alloc::{AllocError, Global};
+use store_trace::Trace;
 
 /// `addi x5, x0, 7`; `lui x6, 0x40000`; `sd x5, 0(x6)`; `cbo.clean (x6)`; `fence w, w`; `addi x17, x0, 93`;
 /// `addi x10, x0, 0`; `ecall`.
@@ -21,34 +22,89 @@ pub(crate) const TWO_IMAGES: [u32; 9] = [
     FENCE,
 ];
 
+/// Stores of 1 and 2 to line 0 and of 3 and 4 to line 1, in turn, and loads of both: `addi x5, x0, 1`; `sd x5, 0(x11)`;
+/// `addi x5, x0, 3`; `sd x5, 64(x11)`; `addi x5, x0, 2`; `sd x5, 0(x11)`; `addi x5, x0, 4`; `sd x5, 64(x11)`;
+/// `ld x6, 0(x11)`; `ld x7, 64(x11)`.
+pub(crate) const TWO_LINES: [u32; 10] = [
+    0x00100293, 0x0055b023, 0x00300293, 0x0455b023, 0x00200293, 0x0055b023, 0x00400293, 0x0455b023,
+    0x0005b303, 0x0405b383,
+];
+
+/// An entry of three stores to line 5, and a store of its log's tail to line 1: `addi x5, x0, 7`; `addi x6, x11, 320`;
+/// `addi x7, x11, 64`; `sd x5, 0(x6)`; `sd x5, 8(x6)`; `sd x5, 16(x6)`; `cbo.clean (x6)`; `fence w, w`;
+/// `addi x5, x5, 1`; `sd x5, 0(x7)`; `cbo.clean (x7)`; `fence w, w`.
+pub(crate) const ENTRY_AND_TAIL: [u32; 12] = [
+    0x00700293, 0x14058313, 0x04058393, 0x00533023, 0x00533423, 0x00533823, 0x0013200f, FENCE,
+    0x00128293, 0x0053b023, 0x0013a00f, FENCE,
+];
+
+/// `fence w, w`; `jal x0, .-4`.
+pub(crate) const FENCES: [u32; 2] = [FENCE, 0xffdff06f];
+
 pub(crate) const FENCE: u32 = 0x0110_000f;
 
-pub(crate) fn program_of(rt: &(impl AllocGlobal + Abort), words: &[u32]) -> Result<Program, Fail> {
-    let mut text = vec![in rt.alloc()]?;
+/// The bytes of words, the least significant of each first.
+fn bytes_of(alloc: Global, words: &[u32]) -> Result<Vec<u8>, AllocError> {
+    let mut bytes = Vec::new(alloc);
     for word in words {
-        text.extend_from_slice(&word.to_le_bytes())?;
+        bytes.extend_from_slice(&word.to_le_bytes())?;
     }
-    assert!(rt; text.len() % 4 == 0 && text.len() <= 65_536);
-    Ok(load(Object::new(text, vec![in rt.alloc()]?))?)
+    Ok(bytes)
 }
 
-pub(crate) fn machine_with(
-    rt: &(impl AllocGlobal + Abort),
+pub(crate) fn program_of(alloc: Global, words: &[u32]) -> Option<Program> {
+    let text = bytes_of(alloc, words).ok()?;
+    if text.len() % 4 == 0 && text.len() <= 65_536 {
+        load(Object::new(text, Vec::new(alloc))).ok()
+    } else {
+        None
+    }
+}
+
+/// A program, and 512 lines of zeros for it.
+pub(crate) fn start_of(alloc: Global, words: &[u32]) -> Option<(Program, Medium)> {
+    let program = program_of(alloc, words)?;
+    let medium = Medium::zero(alloc, 512).ok()?;
+    Some((program, medium))
+}
+
+pub(crate) fn machine_of(
+    alloc: Global,
     words: &[u32],
     harts: u32,
     capacity: u32,
-) -> Result<Machine, Fail> {
-    let program = program_of(rt, words)?;
-    let medium = Medium::zero(rt.alloc(), 512)?;
-    Ok(Machine::new(rt.alloc(), program, medium, harts, capacity)?)
+) -> Result<Machine, StepFault> {
+    match start_of(alloc, words) {
+        Some((program, medium)) => Machine::new(alloc, program, medium, harts, capacity),
+        None => Err(StepFault::Memory),
+    }
 }
 
-pub(crate) fn stored(hart: u32, line: u32, offset: u32, width: u32, value: u64) -> Event {
-    Event::Store {
-        hart,
-        line,
-        offset,
-        width,
-        value,
+/// What a power cut leaves of a run, beside its trace; None where a step is refused.
+pub(crate) fn left_by(
+    alloc: Global,
+    words: &[u32],
+    harts: u32,
+    capacity: u32,
+    schedule: &Schedule,
+) -> Option<(Medium, Trace)> {
+    let mut machine = machine_of(alloc, words, harts, capacity).ok()?;
+    machine.run(schedule).ok()?;
+    Some(machine.power_cut())
+}
+
+/// The first doubleword of a line; None where there is no such line.
+pub(crate) fn first_of_line(medium: &Medium, line: u32) -> Option<u64> {
+    if line < medium.lines() {
+        Some(medium.load(64 * line, 8))
+    } else {
+        None
+    }
+}
+
+pub(crate) fn is_written_so(alloc: Global, schedule: &Schedule, text: &str) -> bool {
+    match schedule.write(alloc) {
+        Ok(written) => written.as_str() == text,
+        Err(_) => false,
     }
 }

@@ -1,6 +1,6 @@
 -- What is ahead of an input, as bytes are read and taken.
 use Rattle.std.proofs.Common.{◌≡◌, ◌∙◌, ◌<◌, ◌≤◌, ◌+◌, ◌-◌, ◌++◌, ◌∷◌, ℕ, suc, List, [], Option, ap, sym, arith, length, get_or, take, drop}
-use Rattle.std.proofs.lemmas.List.{append-nil}
+use Rattle.std.proofs.lemmas.List.{append-nil, length-take}
 use Rattle.std.proofs.Math.Seq.{drop-cons}
 use Rattle.std.proofs.KnownBytes.{Consumes-kept, Consumes-nil}
 use Rattle.std.specs.Io.KnownBytes.{Consumes, IsAtEnd, Keeps}
@@ -16,6 +16,11 @@ none_ahead chunk taken filled e =
 
 pub nothing_ahead : (input : Input) → input.taken ≡ 0 → input.filled ≡ 0 → ahead_of input ≡ []
 nothing_ahead input front none = none_ahead input.chunk input.taken input.filled (front ∙ sym none)
+
+-- no more is ahead than a chunk holds
+pub near_ahead : (input : Input) → length (ahead_of input) ≤ 1024
+near_ahead input =
+    omega (arith, length-take (input.filled - input.taken) (drop input.taken input.chunk), input.within)
 
 pub first_ahead : (chunk : List ℕ) (taken filled : ℕ) → taken < filled → filled ≤ length chunk
     → slice_range chunk taken filled ≡ get_or chunk taken 0 ∷ slice_range chunk (taken + 1) filled

@@ -1,5 +1,5 @@
 -- A session underway: the lines that were taken so far were answered.
-use Rattle.std.proofs.Common.{◌≡◌, ◌∙◌, ◌+◌, ◌++◌, ◌∷◌, ◌⊎◌, inl, inr, ℕ, List, [], Bool, true, false, Option, Some, None, ap, sym, refl, arith}
+use Rattle.std.proofs.Common.{◌≡◌, ◌∙◌, ◌++◌, ◌∷◌, ◌⊎◌, inl, inr, ℕ, List, [], Bool, true, false, Option, Some, None, ap, sym, refl, arith, ◌≤◌, ◌<◌, length}
 use Rattle.std.proofs.lemmas.List.{append_assoc, append-nil, length-append}
 use Rattle.std.specs.Io.KnownBytes.{Appends, Consumes}
 use Rattle.debugger.specs.Points.{DebuggerView}
@@ -13,6 +13,7 @@ use Rattle.session.specs.Turns.{ComesOut, IsAnswered, LineOutcome, Turns, beginn
 use Rattle.session.specs.declared.input.Input.{Input}
 use Rattle.session.specs.declared.carrying.Progress.{Progress}
 use Rattle.session.specs.declared.input.ReadLine.{ReadLine}
+use Rattle.session.proofs.Ahead.{near_ahead}
 use Rattle.session.proofs.Taking.{takes_more, takes_none}
 
 abbrev pub state_of : DebuggerView → Option Progress → SessionState
@@ -70,24 +71,50 @@ answered_more old state after fresh input further s t u k l m read held goes_on 
       writes = appends_more k l m so_far.answered said.0 so_far.writes said.2;
     }
 
+-- what is taken stays within the limit of an input
+within : (fresh input : Input) (s t : Option (List ℕ)) (taken : List ℕ) → fresh.left ≡ 4294967295 → Takes fresh input s t taken
+    → length taken ≤ 4294967295
+within fresh input s t taken all takes = omega (arith, takes.left, all)
+
 -- the end of an input, by its limit
 limit_reached : (fresh input : Input) (s t : Option (List ℕ)) (taken line : List ℕ) → fresh.left ≡ 4294967295 → Takes fresh input s t (taken ++ (line ++ []))
     → IsOver input t → IsInputEnd (taken ++ line) (ahead_of input) t
-limit_reached fresh input s t taken line all takes (inl over) = inl over
-limit_reached fresh input s t taken line all takes (inr empty) =
-    inr (omega (arith, length-append taken line, simp (length-append, append-nil) at takes.left, all, empty))
+limit_reached fresh input s t taken line all takes over =
+    let most : length (taken ++ line) ≤ 4294967295 =
+    omega (arith, length-append taken line, simp (length-append, append-nil) at takes.left, all) in
+    elim over [
+      | inl ended ↦ (most, inl ended)
+      | inr empty ↦ (most, inr (omega (arith, length-append taken line, simp (length-append, append-nil) at takes.left, all, empty)))
+    ]
 
--- the session ends by `quit`
+-- a line that its line end ends, with which it stays within the limit
+below_limit : (fresh input : Input) (s t : Option (List ℕ)) (taken line : List ℕ) → fresh.left ≡ 4294967295
+    → Takes fresh input s t (taken ++ (line ++ 10 ∷ [])) → length (taken ++ line) < 4294967295
+below_limit fresh input s t taken line all takes =
+    omega (arith, length-append taken line, length-append taken (line ++ 10 ∷ []), length-append line (10 ∷ []), takes.left, all)
+
+-- the bytes of the line that was read last, behind those that were taken before
+line_bytes : (fresh input : Input) (s t : Option (List ℕ)) (taken line : List ℕ) (is_last : Bool) → fresh.left ≡ 4294967295
+    → Takes fresh input s t (taken ++ (line ++ line_end is_last)) → OverIf is_last input t
+    → IsLastLine (taken ++ ((line ++ line_end is_last) ++ ahead_of input)) taken line (ahead_of input) t
+line_bytes fresh input s t taken line false all takes over = inl (
+  ap (λ (l : List ℕ). taken ++ l) (append_assoc line (10 ∷ []) (ahead_of input)),
+  below_limit fresh input s t taken line all takes,
+)
+line_bytes fresh input s t taken line true all takes over = inr (
+  ap (λ (l : List ℕ). taken ++ l) (append_assoc line [] (ahead_of input)),
+  limit_reached fresh input s t taken line all takes over,
+)
+
+-- those of a session that ends by `quit`
 quit_bytes : (fresh input : Input) (s t : Option (List ℕ)) (taken line : List ℕ) (is_last : Bool) → ahead_of fresh ≡ [] → fresh.left ≡ 4294967295
     → (takes : Takes fresh input s t (taken ++ (line ++ line_end is_last))) → OverIf is_last input t
     → IsLastLine takes.read taken line (ahead_of input) t
-quit_bytes fresh input s t taken line false empty all takes over =
-    inl (read_is fresh input s t (taken ++ (line ++ 10 ∷ [])) empty takes ∙ regroup taken line (10 ∷ []) (ahead_of input))
-quit_bytes fresh input s t taken line true empty all takes over =
-    inr (
-      read_is fresh input s t (taken ++ (line ++ [])) empty takes ∙ regroup taken line [] (ahead_of input),
-      limit_reached fresh input s t taken line all takes over,
-    )
+quit_bytes fresh input s t taken line is_last empty all takes over =
+    let e : takes.read ≡ taken ++ ((line ++ line_end is_last) ++ ahead_of input) =
+    read_is fresh input s t (taken ++ (line ++ line_end is_last)) empty takes ∙ append_assoc taken (line ++ line_end is_last) (ahead_of input) in
+    let same = sym e in
+    rw same at (line_bytes fresh input s t taken line is_last all takes over)
 
 kept_appends : (k l m : Option (List ℕ)) (answered : List ℕ) → Appends k l answered → m ≡ l → Appends k m answered
 kept_appends k l m answered writes e = rw e writes
@@ -115,6 +142,7 @@ ended_by_quit old state after fresh input further s t u k l m read held empty al
         quits = quits.0;
         debugger = refl;
         bytes = quit_bytes fresh further s u so_far.taken line.whole read.is_last empty all takes line.over;
+        near = near_ahead further;
       });
     }
 
@@ -172,43 +200,46 @@ further_read fresh input s t taken part empty takes =
     rw e at takes.reads
 
 unread : (old : DebuggerView) (state : SessionState) (fresh input further : Input) (s t u k l : Option (List ℕ)) (part : List ℕ)
-    → ahead_of fresh ≡ [] → (so_far : IsUnderway old state fresh input s t k l) → Takes input further t u part
+    → ahead_of fresh ≡ [] → fresh.left ≡ 4294967295 → (so_far : IsUnderway old state fresh input s t k l) → Takes input further t u part
     → BreaksOff old state.debugger s u so_far.answered
-unread old state fresh input further s t u k l part empty so_far takes = record {
+unread old state fresh input further s t u k l part empty all so_far takes = record {
   taken = so_far.taken;
   further = part ++ ahead_of further;
   state = state;
   reads = further_read fresh further s u so_far.taken part empty (takes_more fresh input further s t u so_far.taken part so_far.takes takes);
+  within = within fresh input s t so_far.taken all so_far.takes;
   turns = so_far.turns;
   stands = inl refl;
 }
 
 pub failed_read : (old debugger : DebuggerView) (last : Option Progress) (fresh input further : Input) (s t u k l : Option (List ℕ)) (n m a b : ℕ)
-    (fault : DebugFault) → ahead_of fresh ≡ [] → IsUnderway old (state_of debugger last) fresh input s t k l
+    (fault : DebugFault) → ahead_of fresh ≡ [] → fresh.left ≡ 4294967295 → IsUnderway old (state_of debugger last) fresh input s t k l
     → ((part : List ℕ) × Takes input further t u part) → FailsBy a b fault → Fails old debugger s u k l n m fault
-failed_read old debugger last fresh input further s t u k l n m a b faults.Memory empty so_far takes by =
-    (so_far.answered, unread old (state_of debugger last) fresh input further s t u k l takes.0 empty so_far takes.1, so_far.writes)
-failed_read old debugger last fresh input further s t u k l n m a b faults.InputOutput empty so_far takes by =
-    (so_far.answered, unread old (state_of debugger last) fresh input further s t u k l takes.0 empty so_far takes.1, inl so_far.writes)
-failed_read old debugger last fresh input further s t u k l n m a b fault empty so_far takes by = absurd by
+failed_read old debugger last fresh input further s t u k l n m a b faults.Memory empty all so_far takes by =
+    (so_far.answered, unread old (state_of debugger last) fresh input further s t u k l takes.0 empty all so_far takes.1, so_far.writes)
+failed_read old debugger last fresh input further s t u k l n m a b faults.InputOutput empty all so_far takes by =
+    (so_far.answered, unread old (state_of debugger last) fresh input further s t u k l takes.0 empty all so_far takes.1, inl so_far.writes)
+failed_read old debugger last fresh input further s t u k l n m a b fault empty all so_far takes by = absurd by
 
 -- and while it is answered
 unanswered : (old : DebuggerView) (state after : SessionState) (fresh input further : Input) (s t u k l : Option (List ℕ))
-    (read : ReadLine) (held : List ℕ) → ahead_of fresh ≡ [] → (so_far : IsUnderway old state fresh input s t k l)
-    → (line : ReadsLine input further t u read held) → ((outcome : LineOutcome) × ComesOut state after line.whole outcome)
+    (read : ReadLine) (held : List ℕ) → ahead_of fresh ≡ [] → fresh.left ≡ 4294967295
+    → (so_far : IsUnderway old state fresh input s t k l) → (line : ReadsLine input further t u read held) → ((outcome : LineOutcome) × ComesOut state after line.whole outcome)
     → BreaksOff old after.debugger s u so_far.answered
-unanswered old state after fresh input further s t u k l read held empty so_far line out =
+unanswered old state after fresh input further s t u k l read held empty all so_far line out =
     let part : List ℕ = line.whole ++ line_end read.is_last in
+    let takes : Takes fresh further s u (so_far.taken ++ part) = takes_more fresh input further s t u so_far.taken part so_far.takes line.takes in
     record {
       taken = so_far.taken;
       further = part ++ ahead_of further;
       state = state;
-      reads = further_read fresh further s u so_far.taken part empty (takes_more fresh input further s t u so_far.taken part so_far.takes line.takes);
+      reads = further_read fresh further s u so_far.taken part empty takes;
+      within = within fresh input s t so_far.taken all so_far.takes;
       turns = so_far.turns;
       stands = inr (record {
         line = line.whole;
-        behind = line_end read.is_last ++ ahead_of further;
-        bytes = append_assoc line.whole (line_end read.is_last) (ahead_of further);
+        behind = ahead_of further;
+        bytes = line_bytes fresh further s u so_far.taken line.whole read.is_last all takes line.over;
         line_of = line.is_line;
         outcome = out.0;
         after = after;
@@ -218,15 +249,15 @@ unanswered old state after fresh input further s t u k l read held empty so_far 
     }
 
 pub failed_answer : (old : DebuggerView) (state : SessionState) (debugger : DebuggerView) (last : Option Progress) (fresh input further : Input) (s t u k l m : Option (List ℕ)) (a b : ℕ)
-    (read : ReadLine) (held : List ℕ) (fault : DebugFault) → ahead_of fresh ≡ [] → IsUnderway old state fresh input s t k l
-    → ReadsLine input further t u read held
+    (read : ReadLine) (held : List ℕ) (fault : DebugFault) → ahead_of fresh ≡ [] → fresh.left ≡ 4294967295
+    → IsUnderway old state fresh input s t k l → ReadsLine input further t u read held
     → ((whole : List ℕ) → IsHeld read.line held whole → (outcome : LineOutcome) × ComesOut state (state_of debugger last) whole outcome)
     → (fault ≡ faults.Memory → m ≡ l) → FailsBy a b fault → Fails old debugger s u k m a b fault
-failed_answer old state debugger last fresh input further s t u k l m a b read held faults.Memory empty so_far line out kept by = (
+failed_answer old state debugger last fresh input further s t u k l m a b read held faults.Memory empty all so_far line out kept by = (
   so_far.answered,
-  unanswered old state (state_of debugger last) fresh input further s t u k l read held empty so_far line (out line.whole line.held),
+  unanswered old state (state_of debugger last) fresh input further s t u k l read held empty all so_far line (out line.whole line.held),
   kept_appends k l m so_far.answered so_far.writes (kept refl),
 )
-failed_answer old state debugger last fresh input further s t u k l m a b read held faults.InputOutput empty so_far line out kept by =
-    (so_far.answered, unanswered old state (state_of debugger last) fresh input further s t u k l read held empty so_far line (out line.whole line.held), inr by)
-failed_answer old state debugger last fresh input further s t u k l m a b read held fault empty so_far line out kept by = absurd by
+failed_answer old state debugger last fresh input further s t u k l m a b read held faults.InputOutput empty all so_far line out kept by =
+    (so_far.answered, unanswered old state (state_of debugger last) fresh input further s t u k l read held empty all so_far line (out line.whole line.held), inr by)
+failed_answer old state debugger last fresh input further s t u k l m a b read held fault empty all so_far line out kept by = absurd by

@@ -50,9 +50,13 @@ abbrev pub register_line : ℕ → ℕ → List ℕ
 register_line number value = line_of (codes "x" ++ (decimal number ++ (codes "=0x" ++ hexadecimal value)))
 
 -- `pc=0xH`, and then x0 to x31
-abbrev pub state_text : HartState → List ℕ
+unfoldable pub state_text : HartState → List ℕ
 state_text state = line_of (codes "pc=0x" ++ hexadecimal state.pc)
     ++ flat_map (λ number. register_line number (register state.registers number)) (range_with_len 0 32)
+
+-- the line of a hart
+unfoldable pub hart_text : ℕ → HartState → List ℕ
+hart_text hart state = line_of (hart_line hart state)
 
 -- the text of what is there
 abbrev pub text_of : {A : Type 0} → (A → List ℕ) → Option A → List ℕ
@@ -75,7 +79,7 @@ bytes_text machine address count =
 -- what a command that was carried out is answered with
 abbrev pub answer_text : MachineView → Answer → List ℕ
 answer_text machine answers.Done = line_of (codes "ok")
-answer_text machine (answers.Hart hart) = text_of (λ state. line_of (hart_line hart state)) (slice_get machine.harts hart)
+answer_text machine (answers.Hart hart) = text_of (hart_text hart) (slice_get machine.harts hart)
 answer_text machine (answers.Stop cause) = stop_text cause
 answer_text machine (answers.Registers hart) = text_of state_text (slice_get machine.harts hart)
 answer_text machine (answers.Bytes address count) = bytes_text machine address count

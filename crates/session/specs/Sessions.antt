@@ -1,5 +1,5 @@
 -- What a whole session does: which bytes it reads and writes, and what becomes of the debugger.
-use Rattle.std.specs.Prelude.{◌≡◌, ◌++◌, ◌∷◌, ◌⊎◌, ℕ, List, [], Option, length}
+use Rattle.std.specs.Prelude.{◌≡◌, ◌<◌, ◌≤◌, ◌++◌, ◌∷◌, ◌⊎◌, ℕ, List, [], Option, length}
 use Rattle.std.specs.Io.KnownBytes.{Appends, Consumes, IsAtEnd}
 use Rattle.debugger.specs.Points.{DebuggerView}
 use Rattle.debugger.specs.declared.fault.DebugFault.{DebugFault}
@@ -8,17 +8,20 @@ use Rattle.session.specs.Doing.{SessionState}
 use Rattle.session.specs.Failing.{one_more}
 use Rattle.session.specs.Turns.{ComesOut, IsLine, LineOutcome, Quits, Turn, Turns, beginning}
 
--- an input ends at this many bytes at the latest
+-- an input ends at this many bytes at the latest, and no more than this many are read ahead of a line
 abbrev pub most_input : ℕ
 most_input = 4294967295
 
+abbrev pub most_ahead : ℕ
+most_ahead = 1024
+
 -- nothing is left behind what was taken: the source is at its end and gave no more, or the input is at its limit
 abbrev pub IsInputEnd : List ℕ → List ℕ → Option (List ℕ) → Type 0
-IsInputEnd taken ahead left = ((ahead ≡ []) × IsAtEnd left) ⊎ (length taken ≡ most_input)
+IsInputEnd taken ahead left = (length taken ≤ most_input) × (((ahead ≡ []) × IsAtEnd left) ⊎ (length taken ≡ most_input))
 
 -- the bytes of the last line that is read: it lacks a line end only at the end of the input
 abbrev pub IsLastLine : List ℕ → List ℕ → List ℕ → List ℕ → Option (List ℕ) → Type 0
-IsLastLine read taken line ahead left = (read ≡ taken ++ (line ++ 10 ∷ ahead))
+IsLastLine read taken line ahead left = ((read ≡ taken ++ (line ++ 10 ∷ ahead)) × (length (taken ++ line) < most_input))
     ⊎ ((read ≡ taken ++ (line ++ ahead)) × IsInputEnd (taken ++ line) ahead left)
 
 -- the session ends by a line that says `quit`; what was read ahead of it is no part of any turn
@@ -33,6 +36,7 @@ pub record EndsByQuit (old new : DebuggerView) (read answered : List ℕ) (left 
   pub quits : Quits before after line
   pub debugger : after.debugger ≡ new
   pub bytes : IsLastLine read taken line ahead left
+  pub near : length ahead ≤ most_ahead
 
 -- it ends at the end of the input: the last line lacks its line end, and may be empty
 pub record EndsWithInput (old new : DebuggerView) (read answered : List ℕ) (left : Option (List ℕ)) : Type 0 where
@@ -59,11 +63,11 @@ pub record Session (old new : DebuggerView) (source source_then sink sink_then :
   pub writes : Appends sink sink_then answered
   pub ends : EndsByQuit old new read answered source_then ⊎ EndsWithInput old new read answered source_then
 
--- the first line of these bytes was carried out, but its answer wasn't written
-pub record IsUnanswered (before : SessionState) (new : DebuggerView) (further : List ℕ) : Type 0 where
+-- the first line of the further bytes was carried out, but its answer wasn't written
+pub record IsUnanswered (before : SessionState) (new : DebuggerView) (taken further : List ℕ) (left : Option (List ℕ)) : Type 0 where
   pub line : List ℕ
   pub behind : List ℕ
-  pub bytes : further ≡ line ++ behind
+  pub bytes : IsLastLine (taken ++ further) taken line behind left
   pub line_of : IsLine line
   pub outcome : LineOutcome
   pub after : SessionState
@@ -76,8 +80,9 @@ pub record BreaksOff (old new : DebuggerView) (source source_then : Option (List
   pub further : List ℕ
   pub state : SessionState
   pub reads : Consumes source source_then (taken ++ further)
+  pub within : length taken ≤ most_input
   pub turns : Turns (beginning old) state taken answered
-  pub stands : (state.debugger ≡ new) ⊎ IsUnanswered state new further
+  pub stands : (state.debugger ≡ new) ⊎ IsUnanswered state new taken further source_then
 
 -- nothing more is written, but for what a write that failed may have written
 abbrev pub Fails : DebuggerView → DebuggerView → Option (List ℕ) → Option (List ℕ) → Option (List ℕ) → Option (List ℕ) → ℕ → ℕ → DebugFault → Type 0

@@ -1,4 +1,4 @@
--- The turns of the lines of an input: each line's command is carried out and answered before the next is read.
+-- The turns of the lines of an input: each line's command is carried out and answered before the next is asked for.
 use Rattle.std.specs.Prelude.{◌≡◌, ◌≢◌, ◌<◌, ◌≤◌, ◌++◌, ◌∷◌, ◌⊎◌, ⊤, ℕ, All, Bool, true, false, List, [], Option, Some, None, Result, Ok, Err, length}
 use Rattle.std.specs.Io.KnownBytes.{Appends}
 use Rattle.debugger.specs.Points.{DebuggerView}

@@ -1,8 +1,7 @@
 //! The text that answers a command.
 
 ghost use Rattle.std.specs.Prelude.{◌≡◌, ◌++◌, IfOk, OnOk, string_bytes, slice_get};
-ghost use Rattle.session.specs.Answers.{answer_text, bytes_text, code, fault_text, line_of, parted_byte, register_line, state_text, step_code, stop_text, text_of};
-ghost use Rattle.hart_line.specs.HartLines.{hart_line};
+ghost use Rattle.session.specs.Answers.{answer_text, bytes_text, code, fault_text, hart_text, parted_byte, register_line, state_text, step_code, stop_text, text_of};
 
 use crate::carrying::{Answer, byte_at};
 use debugger::{Cause, DebugFault, Debugger, StepFault};
@@ -65,15 +64,19 @@ fn step_code(fault: StepFault) -> &'static str
 
 fn hart_text(alloc: Global, debugger: &Debugger, hart: u32) -> Result<String, AllocError>
     ensures { IfOk result (λ text. string_bytes text
-        ≡ text_of (λ state. line_of (hart_line hart state)) (slice_get debugger.now.machine.harts hart)) }
+        ≡ text_of (hart_text hart) (slice_get debugger.now.machine.harts hart)) }
 {
     match debugger.regs(hart) {
-        Ok(state) => {
-            let state = *state;
-            format!(in alloc; "{}\n", HartLine { hart, state })
-        }
+        Ok(state) => line_text(alloc, hart, *state),
         Err(_) => Ok(String::new(alloc)),
     }
+}
+
+#[tactic(auto, unfolding(crate::specs::Answers::hart_text))]
+fn line_text(alloc: Global, hart: u32, state: HartState) -> Result<String, AllocError>
+    ensures { IfOk result (λ text. string_bytes text ≡ hart_text hart state) }
+{
+    format!(in alloc; "{}\n", HartLine { hart, state })
 }
 
 fn stop_text(alloc: Global, cause: Cause) -> Result<String, AllocError>
@@ -96,7 +99,7 @@ fn registers_text(alloc: Global, debugger: &Debugger, hart: u32) -> Result<Strin
 }
 
 /// `pc=0xH`, and a line `xN=0xH` for each register.
-#[tactic(auto, using(crate::proofs::Texts::registers_more))]
+#[tactic(auto, unfolding(crate::specs::Answers::state_text), using(crate::proofs::Texts::registers_more))]
 fn state_text(alloc: Global, state: &HartState) -> Result<String, AllocError>
     ensures { IfOk result (λ text. string_bytes text ≡ state_text state.now) }
 {

@@ -16,8 +16,12 @@ pub trait Source {
     /// The bytes that it will still give, where they are known.
     ghost remaining_of: { Self → Option (List ℕ) } = { λ _. None };
 
+    /// Which source it is: a reader that is lent stays the one that it was.
+    ghost name_of: { Self → ℕ } = { λ _. 0 };
+
     /// Reads into the front of a buffer, and gives the number of bytes: 0 where the input has ended.
     fn read(&mut self, buffer: &mut [u8]) -> Result<usize, Failed>
+        ensures same { name_of self.new ≡ name_of self.old }
         ensures fits { IfOk result (λ count. count ≤ length buffer.new) }
         ensures bytes { ReadConsumes (remaining_of self.old) (remaining_of self.new) result buffer.new }
         ensures ok { OnOk result (failures_of self.new ≡ failures_of self.old) }
@@ -36,8 +40,12 @@ pub trait Sink {
     /// The bytes that it holds, where they are known.
     ghost contents_of: { Self → Option (List ℕ) } = { λ _. None };
 
+    /// Which sink it is: a writer that is lent stays the one that it was.
+    ghost name_of: { Self → ℕ } = { λ _. 0 };
+
     /// Writes all of the bytes. Where it fails, some of them may be written.
     fn write(&mut self, bytes: &[u8]) -> Result<(), Failed>
+        ensures same { name_of self.new ≡ name_of self.old }
         ensures bytes { OnOk result (Appends (contents_of self.old) (contents_of self.new) bytes.now) }
         ensures ok { OnOk result (failures_of self.new ≡ failures_of self.old) }
         ensures err { OnErr result (failures_of self.new ≡ one_more (failures_of self.old)) };

@@ -38,6 +38,7 @@ impl Input {
         source: &mut S,
         line: &mut Vec<u8>,
     ) -> Result<ReadLine, DebugFault>
+        ensures same { S.name_of source.new ≡ S.name_of source.old }
         ensures line { IfOk result (λ read. ReadsLine self.old self.new (S.remaining_of source.old) (S.remaining_of source.new)
             read line.new.items) }
         ensures part { IfErr result (λ _. (taken : List ℕ)
@@ -73,6 +74,7 @@ impl Input {
     /// Takes the next byte; None where the input has ended, or as many bytes as may be were taken.
     #[tactic(auto, using(crate::proofs::Ahead::byte_taken, crate::proofs::Ahead::nothing_ahead, crate::proofs::Taking::takes_none))]
     fn next_byte<S: Source>(&mut self, source: &mut S) -> Result<Option<u8>, DebugFault>
+        ensures same { S.name_of source.new ≡ S.name_of source.old }
         ensures byte { IfOk result (λ byte. MatchOption byte
             (Takes self.old self.new (S.remaining_of source.old) (S.remaining_of source.new) []
             × IsOver self.new (S.remaining_of source.new))
@@ -103,6 +105,7 @@ impl Input {
     #[tactic(auto, using(crate::proofs::Ahead::filled, crate::proofs::Ahead::not_filled, crate::proofs::Ahead::at_end))]
     fn fill<S: Source>(&mut self, source: &mut S) -> Result<(), DebugFault>
         requires { self.old.taken ≡ self.old.filled }
+        ensures same { S.name_of source.new ≡ S.name_of source.old }
         ensures takes { Takes self.old self.new (S.remaining_of source.old) (S.remaining_of source.new) [] }
         ensures end { OnOk result (self.new.filled ≡ 0 → IsAtEnd (S.remaining_of source.new)) }
         ensures front { self.new.taken ≡ 0 }

@@ -16,7 +16,7 @@ use debugger::{DebugFault, Debugger};
 use std::alloc::{AllocError, Global};
 
 /// Reads commands line by line, up to `quit` or the end of the input, carries each out, and answers it before the next is
-/// read. A line of more than 65,536 bytes is no command, and an input ends after 4,294,967,295 bytes at the latest.
+/// asked for. A line of more than 65,536 bytes is no command, and an input ends after 4,294,967,295 bytes at the latest.
 ///
 /// Whatever is read, the debugger's machine is brought by steps of a schedule from where it stood to where it stands.
 ///
@@ -31,6 +31,7 @@ pub fn session<S: Source, K: Sink>(
     sink: &mut K,
 ) -> Result<(), DebugFault>
     ensures runs { SomeRun debugger.old.machine debugger.new.machine }
+    ensures same { (S.name_of source.new ≡ S.name_of source.old) × (K.name_of sink.new ≡ K.name_of sink.old) }
     ensures session { OnOk result (Session debugger.old debugger.new (S.remaining_of source.old) (S.remaining_of source.new)
         (K.contents_of sink.old) (K.contents_of sink.new)) }
     ensures fails { IfErr result (Fails debugger.old debugger.new (S.remaining_of source.old) (S.remaining_of source.new)
@@ -69,6 +70,7 @@ fn answer_line<K: Sink>(
     sink: &mut K,
 ) -> Result<bool, DebugFault>
     ensures runs { SomeRun debugger.old.machine debugger.new.machine }
+    ensures same { K.name_of sink.new ≡ K.name_of sink.old }
     ensures answered { IfOk result (λ goes_on. (whole : List ℕ) → IsHeld read line.now whole
         → IsAnswered (record { debugger = debugger.old; last = last.old }) (record { debugger = debugger.new; last = last.new })
         whole goes_on (K.contents_of sink.old) (K.contents_of sink.new)) }
@@ -116,6 +118,7 @@ fn carried(
 
 /// Writes an answer, after which the session goes on.
 fn say<K: Sink>(text: Result<String, AllocError>, sink: &mut K) -> Result<bool, DebugFault>
+    ensures same { K.name_of sink.new ≡ K.name_of sink.old }
     ensures goes_on { IfOk result (λ goes_on. goes_on ≡ true) }
     ensures written { OnOk result (MatchResult text
         (λ said. Appends (K.contents_of sink.old) (K.contents_of sink.new) (string_bytes said)) (λ _. ⊥)) }

@@ -3,7 +3,7 @@
 #![tactic(auto)]
 
 #[cfg(test)]
-mod expecting;
+mod logs;
 #[cfg(test)]
 mod plans;
 #[cfg(test)]

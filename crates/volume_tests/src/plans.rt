@@ -1,178 +1,202 @@
 //! Texts that are plans, and texts that are none.
 
-use crate::expecting::expect;
 use nova_log::Layout;
 use plan::{Action, Operation, Plan, PlanCode, PlanFault};
 use std::alloc::{AllocError, Global};
-use std::process::Abort;
-use std::test::Fail;
 use volume::{Entry, EntryKind, Name};
 
-/// Each text is read as this.
-fn expect_readings(
-    rt: &(impl AllocGlobal + Abort),
-    texts: &[(&[u8], &str)],
-) -> Result<(), AllocError> {
-    for (text, expected) in texts {
-        let shown = read(rt.alloc(), *text)?;
-        expect(rt, "the reading of a text", shown.as_str(), *expected);
-    }
-    Ok(())
+/// What a plan counts.
+struct Counts {
+    layout: Layout,
+    inodes: u32,
+    pages: u32,
+    journals: u32,
+    operations: usize,
 }
 
-/// What a text is read as: the counts of the plan and of its operations, or the fault with its line.
-fn read(alloc: Global, text: &[u8]) -> Result<String, AllocError> {
-    match Plan::read(alloc, text) {
-        Ok(plan) => {
-            let layout = match plan.layout() {
-                Layout::One => 1,
-                Layout::Two => 2,
-            };
-            let (inodes, pages, journals) = (plan.inodes(), plan.pages(), plan.journals());
-            let operations = plan.operations().len();
-            format!(in alloc; "layout {layout} {inodes} {pages} {journals}, {operations}")
-        }
-        Err(fault) => format!(in alloc; "{fault}"),
-    }
-}
-
-/// The layout, inodes, pages and journals of a plan, how many operations it has, and the first two.
-type Contents = (Layout, [u32; 3], usize, [Option<Operation>; 2]);
-
-fn contents(plan: &Plan) -> Contents {
-    let counts = [plan.inodes(), plan.pages(), plan.journals()];
-    let operations = plan.operations();
-    let first = [operations.first().copied(), operations.get(1).copied()];
-    (plan.layout(), counts, operations.len(), first)
-}
-
-fn contents_of(alloc: Global, text: &[u8]) -> Result<Contents, Fail> {
-    Ok(contents(&Plan::read(alloc, text)?))
-}
-
-#[test]
-fn a_plan_is_read(rt: HostRuntime) -> Result<(), Fail> {
-    let text = b"inodes 2\npages 3\njournals 4\nop 1 rename 0 1 a 9\nop 7 append 1 77\n";
-    let rename = Operation {
-        number: 1,
-        action: Action::Rename {
-            from: 0,
-            to: 1,
-            name: Name::from_bytes(b"a"),
-            value: 9,
+/// Texts, and what the plans that they are count.
+static PLANS: [(&[u8], Counts); 14] = [
+    (
+        b"inodes 2\npages 3\njournals 4\nop 1 rename 0 1 a 9\nop 7 append 1 77\n",
+        Counts {
+            layout: Layout::One,
+            inodes: 2,
+            pages: 3,
+            journals: 4,
+            operations: 2,
         },
-    };
-    let append = Operation {
-        number: 7,
-        action: Action::Append {
-            inode: 1,
-            value: 77,
+    ),
+    (
+        b"inodes 1\npages 1\njournals 1",
+        Counts {
+            layout: Layout::One,
+            inodes: 1,
+            pages: 1,
+            journals: 1,
+            operations: 0,
         },
-    };
-    let (layout, counts, length, operations) = contents_of(rt.alloc(), text)?;
-    expect(&rt, "the layout", layout, Layout::One);
-    expect(&rt, "inodes, pages and journals", counts, [2, 3, 4]);
-    expect(&rt, "the number of operations", length, 2);
-    expect(
-        &rt,
-        "the operations",
-        operations,
-        [Some(rename), Some(append)],
-    );
-    Ok(())
-}
-
-#[test]
-fn operations_plan_entries(rt: HostRuntime) {
-    let append = Operation {
-        number: 1,
-        action: Action::Append {
-            inode: 0,
-            value: 77,
+    ),
+    (
+        b"inodes 64\npages 64\njournals 8\n",
+        Counts {
+            layout: Layout::One,
+            inodes: 64,
+            pages: 64,
+            journals: 8,
+            operations: 0,
         },
-    };
-    let written = Entry {
-        operation: 1,
-        kind: EntryKind::Write,
-        name: Name::empty(),
-        value: 77,
-    };
-    expect(&rt, "an append", append.entries(), ((0, written), None));
-    let name = Name::from_bytes(b"a");
-    let rename = Operation {
-        number: 1,
-        action: Action::Rename {
-            from: 0,
-            to: 1,
-            name,
-            value: 9,
+    ),
+    (
+        b"inodes 1\npages 240\njournals 1\n",
+        Counts {
+            layout: Layout::One,
+            inodes: 1,
+            pages: 240,
+            journals: 1,
+            operations: 0,
         },
-    };
-    let removed = Entry {
-        operation: 1,
-        kind: EntryKind::RemoveName,
-        name,
-        value: 9,
-    };
-    let added = Entry {
-        operation: 1,
-        kind: EntryKind::AddName,
-        name,
-        value: 9,
-    };
-    let entries = ((0, removed), Some((1, added)));
-    expect(&rt, "a rename", rename.entries(), entries);
-}
-
-static PLANS: [(&[u8], &str); 12] = [
-    (b"inodes 1\npages 1\njournals 1", "layout 1 1 1 1, 0"),
-    (b"inodes 64\npages 64\njournals 8\n", "layout 1 64 64 8, 0"),
-    (b"inodes 1\npages 240\njournals 1\n", "layout 1 1 240 1, 0"),
+    ),
     (
         b"layout 2\ninodes 1\npages 1\njournals 1\n",
-        "layout 2 1 1 1, 0",
+        Counts {
+            layout: Layout::Two,
+            inodes: 1,
+            pages: 1,
+            journals: 1,
+            operations: 0,
+        },
     ),
     (
         b"layout 02\ninodes 001\npages 01\njournals 08\n",
-        "layout 2 1 1 8, 0",
+        Counts {
+            layout: Layout::Two,
+            inodes: 1,
+            pages: 1,
+            journals: 8,
+            operations: 0,
+        },
     ),
     (
         b"\n  \nlayout 1 # first\n\ninodes 1\npages 1\njournals 1",
-        "layout 1 1 1 1, 0",
+        Counts {
+            layout: Layout::One,
+            inodes: 1,
+            pages: 1,
+            journals: 1,
+            operations: 0,
+        },
     ),
     (
         b"# \xff\ninodes 1#5\n  pages   2  # x y\njournals 1\n#op 1\n  \n",
-        "layout 1 1 2 1, 0",
+        Counts {
+            layout: Layout::One,
+            inodes: 1,
+            pages: 2,
+            journals: 1,
+            operations: 0,
+        },
     ),
     (
         b"inodes 1\npages 1\njournals 1\nop 1 append 0 77\nop 2 append 00 1#9",
-        "layout 1 1 1 1, 2",
+        Counts {
+            layout: Layout::One,
+            inodes: 1,
+            pages: 1,
+            journals: 1,
+            operations: 2,
+        },
     ),
     (
         b"inodes 1\npages 1\njournals 1\nop 18446744073709551615 append 0 18446744073709551615",
-        "layout 1 1 1 1, 1",
+        Counts {
+            layout: Layout::One,
+            inodes: 1,
+            pages: 1,
+            journals: 1,
+            operations: 1,
+        },
     ),
     (
         b"inodes 2\npages 2\njournals 1\nop 1 rename 1 0 azAZ09._-01234567890123456789012 0",
-        "layout 1 2 2 1, 1",
+        Counts {
+            layout: Layout::One,
+            inodes: 2,
+            pages: 2,
+            journals: 1,
+            operations: 1,
+        },
     ),
     (
         b"layout 2\ninodes 2\npages 2\njournals 1\nop 1 rename 0 1 abcdefghijklmnopqrstuvwxyzabcdefghijklmnopqrstuvwxyzabcdefghijklmnopqrstuvwxyzabcdefghijklmnopqr 0",
-        "layout 2 2 2 1, 1",
+        Counts {
+            layout: Layout::Two,
+            inodes: 2,
+            pages: 2,
+            journals: 1,
+            operations: 1,
+        },
     ),
     (
         b"inodes 2\npages 2\njournals 1\nop 0 append 0 0\nop 1 append 0 0\nop 2 append 1 0",
-        "layout 1 2 2 1, 3",
+        Counts {
+            layout: Layout::One,
+            inodes: 2,
+            pages: 2,
+            journals: 1,
+            operations: 3,
+        },
+    ),
+    (
+        b"inodes 2\npages 2\njournals 1\nop 1 append 0 1\nop 2 append 0 1\nop 3 append 0 1\nop 4 append 0 1\nop 5 append 0 1\nop 6 append 1 1\nop 7 append 1 1\nop 8 append 1 1\nop 9 append 1 1\n",
+        Counts {
+            layout: Layout::One,
+            inodes: 2,
+            pages: 2,
+            journals: 1,
+            operations: 9,
+        },
     ),
 ];
 
-#[test]
-fn plans_are_read(rt: HostRuntime) -> Result<(), Fail> {
-    expect_readings(&rt, &PLANS)?;
-    Ok(())
+/// What a text is read as. A call that is refused memory is made again.
+fn read(alloc: Global, text: &[u8]) -> Result<Plan, PlanFault> {
+    match Plan::read(alloc, text) {
+        Err(
+            PlanFault {
+                code: PlanCode::Memory,
+                ..
+            },
+        ) => Plan::read(alloc, text),
+        outcome => outcome,
+    }
 }
 
-static LACKING_LINES: [(&[u8], &str); 8] = [
+fn counts_so(plan: &Plan, counts: &Counts) -> bool {
+    plan.layout() == counts.layout
+        && plan.inodes() == counts.inodes
+        && plan.pages() == counts.pages
+        && plan.journals() == counts.journals
+        && plan.operations().len() == counts.operations
+}
+
+fn is_read_so(alloc: Global, text: &[u8], counts: &Counts) -> bool {
+    match read(alloc, text) {
+        Ok(plan) => counts_so(&plan, counts),
+        Err(_) => false,
+    }
+}
+
+#[test]
+fn plans_are_read(rt: HostRuntime) {
+    let differing = PLANS
+        .iter()
+        .position(|(text, counts)| !is_read_so(rt.alloc(), *text, counts));
+    assert_eq!(rt; differing, None);
+}
+
+/// Texts that are refused, and the code and the line of the fault.
+static OTHER_TEXTS: [(&[u8], &str); 29] = [
+    // lines are missing
     (b"", "L1 line 1"),
     (b"inodes 1", "L1 line 2"),
     (b"inodes 1\n", "L1 line 2"),
@@ -181,15 +205,7 @@ static LACKING_LINES: [(&[u8], &str); 8] = [
     (b"inodes 1\npages 1\n", "L1 line 3"),
     (b"inodes 1\npages 1\n#journals 1", "L1 line 4"),
     (b"layout 1\ninodes 1\npages 1\n", "L1 line 4"),
-];
-
-#[test]
-fn lines_are_missing(rt: HostRuntime) -> Result<(), Fail> {
-    expect_readings(&rt, &LACKING_LINES)?;
-    Ok(())
-}
-
-static OTHER_COUNTS: [(&[u8], &str); 20] = [
+    // other counts
     (b"inodes 0\n", "L1 line 1"),
     (b"inodes 65\n", "L1 line 1"),
     (b"inodes 4294967297\n", "L1 line 1"),
@@ -210,21 +226,14 @@ static OTHER_COUNTS: [(&[u8], &str); 20] = [
     (b"inodes 1\npages 1\njournals 0\n", "L1 line 3"),
     (b"inodes 1\npages 1\njournals 9\n", "L1 line 3"),
     (b"inodes 1\npages 1\nop 1 append 0 1\n", "L1 line 3"),
+    // a name of 97 bytes
+    (
+        b"layout 2\ninodes 2\npages 2\njournals 1\nop 1 rename 0 1 abcdefghijklmnopqrstuvwxyzabcdefghijklmnopqrstuvwxyzabcdefghijklmnopqrstuvwxyzabcdefghijklmnopqrs 0",
+        "L4 line 5",
+    ),
 ];
 
-#[test]
-fn other_counts_are_refused(rt: HostRuntime) -> Result<(), Fail> {
-    expect_readings(&rt, &OTHER_COUNTS)?;
-    Ok(())
-}
-
-/// What a text is read as that has two inodes and an operation of number 1, and then this line, the fifth.
-fn fifth_line(alloc: Global, line: &[u8]) -> Result<String, AllocError> {
-    let mut text = b"inodes 2\npages 2\njournals 1\nop 1 append 0 1\n".to_vec(alloc)?;
-    text.extend_from_slice(line)?;
-    read(alloc, text.as_slice())
-}
-
+/// Fifth lines that are refused, after those of two inodes and an operation of number 1.
 static OTHER_OPERATIONS: [(&[u8], &str); 27] = [
     (b"op 2 append 0", "L1 line 5"),
     (b"op 2 append 0 1 2", "L1 line 5"),
@@ -258,37 +267,99 @@ static OTHER_OPERATIONS: [(&[u8], &str); 27] = [
     (b"op 2 rename 0 1 a\r 9\nop 2", "L4 line 5"),
 ];
 
-#[test]
-fn other_operations_are_refused(rt: HostRuntime) -> Result<(), Fail> {
-    for (line, expected) in &OTHER_OPERATIONS {
-        let shown = fifth_line(rt.alloc(), *line)?;
-        expect(&rt, "the reading of a line", shown.as_str(), *expected);
+/// The fault with its line; empty where the text is a plan.
+fn fault_of(alloc: Global, text: &[u8]) -> Result<String, AllocError> {
+    match read(alloc, text) {
+        Ok(_) => Ok(String::new(alloc)),
+        Err(fault) => format!(in alloc; "{fault}"),
     }
-    let long =
-        b"layout 2\ninodes 2\npages 2\njournals 1\nop 1 rename 0 1 abcdefghijklmnopqrstuvwxyzabcdefghijklmnopqrstuvwxyzabcdefghijklmnopqrstuvwxyzabcdefghijklmnopqrs 0";
-    expect_readings(&rt, &[(long, "L4 line 5")])?;
-    Ok(())
 }
 
-/// A call that is refused memory says so, and gives its answer when it is made again.
-fn operations_after_refusals(alloc: Global, text: &[u8]) -> Result<usize, PlanFault> {
-    let plan = match Plan::read(alloc, text) {
-        Err(
-            PlanFault {
-                code: PlanCode::Memory,
-                ..
-            },
-        ) => Plan::read(alloc, text)?,
-        read => read?,
-    };
-    Ok(plan.operations().len())
+fn is_refused_so(alloc: Global, text: &[u8], expected: &str) -> bool {
+    match fault_of(alloc, text) {
+        Ok(fault) => fault.as_str() == expected,
+        Err(_) => false,
+    }
 }
 
 #[test]
-fn refused_growth(rt: HostRuntime) -> Result<(), Fail> {
-    let text =
-        b"inodes 2\npages 2\njournals 1\nop 1 append 0 1\nop 2 append 0 1\nop 3 append 0 1\nop 4 append 0 1\nop 5 append 0 1\nop 6 append 1 1\nop 7 append 1 1\nop 8 append 1 1\nop 9 append 1 1\n";
-    let found = operations_after_refusals(rt.alloc(), text)?;
-    expect(&rt, "the operations", found, 9);
-    Ok(())
+fn other_texts_are_refused(rt: HostRuntime) {
+    let differing = OTHER_TEXTS
+        .iter()
+        .position(|(text, fault)| !is_refused_so(rt.alloc(), *text, *fault));
+    assert_eq!(rt; differing, None);
+}
+
+/// The text of the first lines and a fifth.
+fn with_fifth(alloc: Global, line: &[u8]) -> Result<Vec<u8>, AllocError> {
+    let mut text = b"inodes 2\npages 2\njournals 1\nop 1 append 0 1\n".to_vec(alloc)?;
+    text.extend_from_slice(line)?;
+    Ok(text)
+}
+
+fn is_fifth_refused_so(alloc: Global, line: &[u8], expected: &str) -> bool {
+    match with_fifth(alloc, line) {
+        Ok(text) => is_refused_so(alloc, text.as_slice(), expected),
+        Err(_) => false,
+    }
+}
+
+#[test]
+fn other_operations_are_refused(rt: HostRuntime) {
+    let differing = OTHER_OPERATIONS.iter().position(|(line, fault)| !is_fifth_refused_so(
+        rt.alloc(),
+        *line,
+        *fault,
+    ));
+    assert_eq!(rt; differing, None);
+}
+
+/// The rename of `a` from inode 0 to inode 1.
+fn rename() -> Operation {
+    Operation {
+        number: 1,
+        action: Action::Rename {
+            from: 0,
+            to: 1,
+            name: Name::from_bytes(b"a"),
+            value: 9,
+        },
+    }
+}
+
+fn append(number: u64, inode: u32) -> Operation {
+    Operation {
+        number,
+        action: Action::Append { inode, value: 77 },
+    }
+}
+
+/// Whether a text is a plan of these operations.
+fn has_operations(alloc: Global, text: &[u8], operations: &[Operation]) -> bool {
+    match read(alloc, text) {
+        Ok(plan) => plan.operations() == operations,
+        Err(_) => false,
+    }
+}
+
+/// The entry of operation 1 of this kind.
+fn entry(kind: EntryKind, name: Name, value: u64) -> Entry {
+    Entry {
+        operation: 1,
+        kind,
+        name,
+        value,
+    }
+}
+
+#[test]
+fn operations_are_read_and_plan_entries(rt: HostRuntime) {
+    let text = b"inodes 2\npages 3\njournals 4\nop 1 rename 0 1 a 9\nop 7 append 1 77\n";
+    assert!(rt; has_operations(rt.alloc(), text, &[rename(), append(7, 1)]));
+    let written = entry(EntryKind::Write, Name::empty(), 77);
+    assert!(rt; append(1, 0).entries() == ((0, written), None));
+    let name = Name::from_bytes(b"a");
+    let removed = entry(EntryKind::RemoveName, name, 9);
+    let added = entry(EntryKind::AddName, name, 9);
+    assert!(rt; rename().entries() == ((0, removed), Some((1, added))));
 }

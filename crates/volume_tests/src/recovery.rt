@@ -3,121 +3,167 @@
 //! Media and volumes stay in functions that give back plain data: a test that holds one proves at each of its exits that it is
 //! let go whole.
 
-use crate::expecting::expect;
+use crate::logs::{EMPTY, ExpectedEntry, ExpectedLog, has_logs};
 use line_memory::Medium;
 use nova_log::{Layout, MediumLines, Shape, VolumeFault, mkfs, recover, recover_from};
-use std::alloc::Global;
-use std::test::Fail;
-use volume::{Entry, EntryKind, Name, Volume};
+use std::alloc::{AllocError, Global};
+use volume::{EntryKind, Volume};
 
-/// The lines of a new volume of 512 lines, and its numbers of eight bytes that aren't zero, with their offsets.
-fn new_volume(
+/// Numbers of eight bytes, with their offsets.
+type Numbers = &'static [(u32, u64)];
+
+/// Counts of inodes, pages, journals and lines.
+type Counts = (u32, u32, u32, u32);
+
+/// What is made of these counts: the numbers of the medium that aren't zero.
+static NEW_VOLUMES: [(Layout, Counts, Numbers); 2] = [
+    (
+        Layout::One,
+        (2, 3, 1, 512),
+        &[
+            (0, 0x3147_4f4c_4156_4f4e), // NOVALOG1
+            (8, 2),
+            (16, 3),
+            (24, 1),
+            (64, 16_384),
+            (72, 16_384),
+            (128, 20_480),
+            (136, 20_480),
+        ],
+    ),
+    (
+        Layout::Two,
+        (1, 1, 1, 512),
+        &[
+            (0, 0x3247_4f4c_4156_4f4e), // NOVALOG2
+            (8, 1),
+            (16, 1),
+            (24, 1),
+            (64, 16_384),
+            (72, 16_384),
+        ],
+    ),
+];
+
+/// A new volume. A call that is refused memory is made again.
+fn made(
     alloc: Global,
     layout: Layout,
-    inodes: u32,
-    pages: u32,
-) -> Result<(u32, Vec<(u32, u64)>), VolumeFault> {
-    let medium = mkfs(alloc, layout, inodes, pages, 1, 512)?;
-    let mut numbers = Vec::new(alloc);
-    for k in 0..8 * 512 {
-        let number = medium.load(8 * k, 8);
-        if number != 0 {
-            numbers
-                .push((8 * k, number))
-                .map_err(|_| VolumeFault::Memory)?;
+    (inodes, pages, journals, lines): Counts,
+) -> Result<Medium, VolumeFault> {
+    match mkfs(alloc, layout, inodes, pages, journals, lines) {
+        Err(VolumeFault::Memory) => mkfs(alloc, layout, inodes, pages, journals, lines),
+        outcome => outcome,
+    }
+}
+
+/// The number that is expected at an offset.
+fn number_at(numbers: &[(u32, u64)], offset: u32) -> u64 {
+    for (place, number) in numbers {
+        if *place == offset {
+            return *number;
         }
     }
-    Ok((medium.lines(), numbers))
+    0
+}
+
+/// Whether a medium of 512 lines has these numbers, and else zeros.
+fn holds_only(medium: &Medium, numbers: &[(u32, u64)]) -> bool {
+    if medium.lines() != 512 {
+        return false;
+    }
+    for place in 0..8 * 512 {
+        if medium.load(8 * place, 8) != number_at(numbers, 8 * place) {
+            return false;
+        }
+    }
+    true
+}
+
+fn is_made_so(alloc: Global, (layout, counts, numbers): (Layout, Counts, Numbers)) -> bool {
+    match made(alloc, layout, counts) {
+        Ok(medium) => holds_only(&medium, numbers),
+        Err(_) => false,
+    }
 }
 
 #[test]
-fn a_new_volume(rt: HostRuntime) -> Result<(), Fail> {
-    let (lines, numbers) = new_volume(rt.alloc(), Layout::One, 2, 3)?;
-    let expected = [
-        (0, u64::from_le_bytes(*b"NOVALOG1")),
-        (8, 2),
-        (16, 3),
-        (24, 1),
-        (64, 16_384),
-        (72, 16_384),
-        (128, 20_480),
-        (136, 20_480),
-    ];
-    expect(&rt, "the lines", lines, 512);
-    expect(&rt, "the numbers", numbers.as_slice(), expected.as_slice());
-    Ok(())
+fn new_volumes(rt: HostRuntime) {
+    let differing = NEW_VOLUMES
+        .iter()
+        .position(|volume| !is_made_so(rt.alloc(), *volume));
+    assert_eq!(rt; differing, None);
 }
 
-#[test]
-fn the_second_layout_has_its_own_magic(rt: HostRuntime) -> Result<(), Fail> {
-    let (_, numbers) = new_volume(rt.alloc(), Layout::Two, 1, 1)?;
-    let magic = u64::from_le_bytes(*b"NOVALOG2");
-    let first = numbers.first().copied();
-    expect(&rt, "the magic", first, Some((0, magic)));
-    Ok(())
-}
-
-/// Why no volume of these counts of inodes, pages, journals and lines is made.
-fn refusal(
-    alloc: Global,
-    layout: Layout,
-    (inodes, pages, journals, lines): (u32, u32, u32, u32),
-) -> Option<VolumeFault> {
-    mkfs(alloc, layout, inodes, pages, journals, lines).err()
-}
-
-#[test]
-fn counts_outside_their_limits(rt: HostRuntime) {
-    for counts in [
-        (0, 1, 1, 512),
-        (65, 65, 1, 16_384),
-        (2, 1, 1, 512),
-        (1, 241, 1, 16_384),
-        (1, 1, 0, 512),
-        (1, 1, 9, 512),
-        (1, 1, 1, 511),
-        (1, 1, 1, 16_385),
+/// Counts outside their limits, and at them.
+static LIMITS: [(Layout, Counts, Option<VolumeFault>); 15] = [
+    (Layout::One, (0, 1, 1, 512), Some(VolumeFault::Counts)),
+    (Layout::One, (65, 65, 1, 16_384), Some(VolumeFault::Counts)),
+    (Layout::One, (2, 1, 1, 512), Some(VolumeFault::Counts)),
+    (Layout::One, (1, 241, 1, 16_384), Some(VolumeFault::Counts)),
+    (Layout::One, (1, 1, 0, 512), Some(VolumeFault::Counts)),
+    (Layout::One, (1, 1, 9, 512), Some(VolumeFault::Counts)),
+    (Layout::One, (1, 1, 1, 511), Some(VolumeFault::Counts)),
+    (Layout::One, (1, 1, 1, 16_385), Some(VolumeFault::Counts)),
+    (
+        Layout::One,
         (1, 1, 1, 4_294_967_295),
-        (1, 5, 1, 575),
-    ] {
-        let found = refusal(rt.alloc(), Layout::One, counts);
-        expect(&rt, counts, found, Some(VolumeFault::Counts));
+        Some(VolumeFault::Counts),
+    ),
+    (Layout::One, (1, 5, 1, 575), Some(VolumeFault::Counts)),
+    (Layout::Two, (1, 1, 1, 512), None),
+    (Layout::Two, (64, 64, 8, 4352), None),
+    (Layout::Two, (1, 240, 1, 15_616), None),
+    (Layout::Two, (1, 5, 1, 576), None),
+    (Layout::Two, (1, 1, 1, 16_384), None),
+];
+
+/// Whether no volume of these counts is made for this reason, or one is made.
+fn is_limited_so(
+    alloc: Global,
+    (layout, counts, fault): (Layout, Counts, Option<VolumeFault>),
+) -> bool {
+    made(alloc, layout, counts).err() == fault
+}
+
+#[test]
+fn counts_have_limits(rt: HostRuntime) {
+    let differing = LIMITS
+        .iter()
+        .position(|limit| !is_limited_so(rt.alloc(), *limit));
+    assert_eq!(rt; differing, None);
+}
+
+static CODES: [(VolumeFault, &str); 10] = [
+    (VolumeFault::Magic, "N1"),
+    (VolumeFault::Counts, "N2"),
+    (VolumeFault::JournalNumbers, "N3"),
+    (VolumeFault::RecordInode, "N4"),
+    (VolumeFault::Head, "N5"),
+    (VolumeFault::TailNotReached, "N6"),
+    (VolumeFault::Link, "N7"),
+    (VolumeFault::Kind, "N8"),
+    (VolumeFault::Name, "N9"),
+    (VolumeFault::Memory, "N10"),
+];
+
+fn code_of(alloc: Global, fault: VolumeFault) -> Result<String, AllocError> {
+    format!(in alloc; "{fault}")
+}
+
+fn has_code(alloc: Global, fault: VolumeFault, code: &str) -> bool {
+    match code_of(alloc, fault) {
+        Ok(shown) => shown.as_str() == code,
+        Err(_) => false,
     }
 }
 
 #[test]
-fn counts_at_their_limits(rt: HostRuntime) {
-    for counts in [
-        (1, 1, 1, 512),
-        (64, 64, 8, 4352),
-        (1, 240, 1, 15_616),
-        (1, 5, 1, 576),
-        (1, 1, 1, 16_384),
-    ] {
-        let found = refusal(rt.alloc(), Layout::Two, counts);
-        expect(&rt, counts, found, None);
-    }
-}
-
-#[test]
-fn codes_name_the_faults(rt: HostRuntime) -> Result<(), Fail> {
-    let codes = [
-        (VolumeFault::Magic, "N1"),
-        (VolumeFault::Counts, "N2"),
-        (VolumeFault::JournalNumbers, "N3"),
-        (VolumeFault::RecordInode, "N4"),
-        (VolumeFault::Head, "N5"),
-        (VolumeFault::TailNotReached, "N6"),
-        (VolumeFault::Link, "N7"),
-        (VolumeFault::Kind, "N8"),
-        (VolumeFault::Name, "N9"),
-        (VolumeFault::Memory, "N10"),
-    ];
-    for (fault, code) in codes {
-        let shown = format!(in rt.alloc(); "{fault}")?;
-        expect(&rt, "the code", shown.as_str(), code);
-    }
-    Ok(())
+fn codes_name_the_faults(rt: HostRuntime) {
+    let differing = CODES
+        .iter()
+        .position(|(fault, code)| !has_code(rt.alloc(), *fault, *code));
+    assert_eq!(rt; differing, None);
 }
 
 #[test]
@@ -134,74 +180,52 @@ fn a_shape_for_each_layout(rt: HostRuntime) {
         page_entries: 31,
         longest_name: 96,
     };
-    expect(&rt, "layout 1", Layout::One.shape(), one);
-    expect(&rt, "layout 2", Layout::Two.shape(), two);
+    assert!(rt; Layout::One.shape() == one && Layout::Two.shape() == two);
 }
 
-/// Writes numbers of eight bytes at these offsets.
-fn put(medium: &mut Medium, numbers: &[(u32, u64)]) {
+/// Writes a number of eight bytes at an offset.
+fn put(medium: &mut Medium, offset: u32, number: u64) {
+    if offset % 8 == 0 && offset < 64 * medium.lines() {
+        medium.store(offset, 8, number);
+    }
+}
+
+fn put_all(medium: &mut Medium, numbers: &[(u32, u64)]) {
     for (offset, number) in numbers {
-        let offset = *offset;
-        if offset % 8 == 0 && offset < 64 * medium.lines() {
-            medium.store(offset, 8, *number);
-        }
+        put(medium, *offset, *number);
     }
 }
 
-/// What recovery shows: the number of logs, and of logs 0 and 1 the length and the last entry.
-#[derive(Clone, Copy, Drop)]
-struct Shown {
-    inodes: u32,
-    lengths: [usize; 2],
-    last: [Option<Entry>; 2],
-}
-
-/// The plain data of a volume.
-fn outline(volume: &Volume) -> Shown {
-    let mut shown = Shown {
-        inodes: volume.inodes(),
-        lengths: [0; 2],
-        last: [None; 2],
-    };
-    for inode in 0..2 {
-        if inode < volume.inodes() {
-            let log = volume.log(inode);
-            shown.lengths[inode as usize] = log.len();
-            shown.last[inode as usize] = log.last().copied();
-        }
+/// Writes entries of 64 bytes from an offset on, each a write of the operation of its place.
+fn put_entries(medium: &mut Medium, (offset, count): (u32, u32)) {
+    let mut offset = offset;
+    for operation in 0..count {
+        put(medium, offset, 1);
+        put(medium, offset.saturating_add(8), u64::from(operation));
+        offset = offset.saturating_add(64);
     }
-    shown
 }
 
-/// What recovery shows of a new volume of layout 1 with these numbers written over it.
-fn recovered(
-    alloc: Global,
-    (inodes, pages, journals): (u32, u32, u32),
-    numbers: &[&[(u32, u64)]],
-) -> Result<Shown, VolumeFault> {
-    let mut medium = mkfs(alloc, Layout::One, inodes, pages, journals, 512)?;
-    for numbers in numbers {
-        put(&mut medium, numbers);
-    }
-    Ok(outline(&recover(alloc, &medium)?))
-}
-
-/// What recovery shows of such a medium, and the lines that it asks for.
-fn recovered_asking(
-    alloc: Global,
+/// A new volume of 512 lines, what is written over it, and what recovery finds.
+struct Recovery {
     layout: Layout,
-    (inodes, pages): (u32, u32),
-    numbers: &[(u32, u64)],
-) -> Result<(Result<Shown, VolumeFault>, Vec<u32>), VolumeFault> {
-    let mut medium = mkfs(alloc, layout, inodes, pages, 1, 512)?;
-    put(&mut medium, numbers);
-    let mut source = MediumLines::new(alloc, &medium);
-    let found = recover_from(alloc, &mut source).map(|volume| outline(&volume));
-    Ok((found, source.asked().to_vec(alloc)?))
+    counts: Counts,
+    numbers: &'static [Numbers],
+    /// The offset and the count of entries in a row.
+    entries: (u32, u32),
+    found: Result<&'static [ExpectedLog], VolumeFault>,
+    asked: Option<Asked>,
+}
+
+/// The lines that recovery asks for: how many, and which are first and last.
+struct Asked {
+    count: usize,
+    first: &'static [u32],
+    last: u32,
 }
 
 /// The rename of `a` from inode 0 to inode 1, with these numbers of the journal's head and of both tails.
-const RENAMED: [(u32, u64); 13] = [
+const RENAMED: Numbers = &[
     (8200, 2),
     (8264, 16_384),
     (8320, 1),
@@ -217,65 +241,288 @@ const RENAMED: [(u32, u64); 13] = [
     (72, 16_448),
 ];
 
-fn renamed(kind: EntryKind) -> Entry {
-    Entry {
+const REMOVED: ExpectedLog = ExpectedLog {
+    length: 1,
+    last: Some(ExpectedEntry {
         operation: 1,
-        kind,
-        name: Name::from_bytes(b"a"),
+        kind: EntryKind::RemoveName,
+        name: b"a",
         value: 9,
+    }),
+};
+
+const ADDED: ExpectedLog = ExpectedLog {
+    length: 1,
+    last: Some(ExpectedEntry {
+        operation: 1,
+        kind: EntryKind::AddName,
+        name: b"a",
+        value: 9,
+    }),
+};
+
+/// An entry of operation 1 that adds a name, with its second line: first the name's length and all after it.
+const LONG_NAME: Numbers = &[
+    (72, 16_512),
+    (16_392, 1),
+    (16_400, 9),
+    (16_408, 0x6161_6161_6161_6161),
+    (16_416, 0x6161_6161_6161_6161),
+    (16_424, 0x6161_6161_6161_6161),
+    (16_432, 0x6161_6161_6161_6161),
+    (16_440, 0x6161_6161_6161_6161),
+    (16_448, 0x6262),
+];
+
+static RECOVERIES: [Recovery; 10] = [
+    // a pending rename is undone
+    Recovery {
+        layout: Layout::One,
+        counts: (2, 2, 1, 512),
+        numbers: &[RENAMED],
+        entries: (0, 0),
+        found: Ok(&[EMPTY, EMPTY]),
+        asked: None,
+    },
+    // a committed rename stands
+    Recovery {
+        layout: Layout::One,
+        counts: (2, 2, 1, 512),
+        numbers: &[RENAMED, &[(8192, 2), (136, 20_544)]],
+        entries: (0, 0),
+        found: Ok(&[REMOVED, ADDED]),
+        asked: None,
+    },
+    // Journal 0: old tail 16384. Journal 1: record 3 with 16512, and then record 4 with 16448. The oldest record of the
+    // highest journal decides.
+    Recovery {
+        layout: Layout::One,
+        counts: (1, 1, 2, 512),
+        numbers: &[
+            &[(16_384, 1), (16_448, 1), (16_512, 1), (72, 16_384)],
+            &[(8200, 1), (8264, 16_384)],
+            &[(8704, 3), (8712, 5), (8968, 16_512), (8776, 16_448)],
+        ],
+        entries: (0, 0),
+        found: Ok(&[ExpectedLog {
+            length: 2,
+            last: Some(ExpectedEntry {
+                operation: 0,
+                kind: EntryKind::Write,
+                name: b"",
+                value: 0,
+            }),
+        }]),
+        asked: None,
+    },
+    // an empty journal of the greatest number
+    Recovery {
+        layout: Layout::One,
+        counts: (1, 1, 1, 512),
+        numbers: &[&[
+            (8192, 18_446_744_073_709_551_615),
+            (8200, 18_446_744_073_709_551_615),
+        ]],
+        entries: (0, 0),
+        found: Ok(&[EMPTY]),
+        asked: None,
+    },
+    // a full page ends at its link line
+    Recovery {
+        layout: Layout::One,
+        counts: (1, 1, 1, 512),
+        numbers: &[&[(72, 20_416)]],
+        entries: (16_384, 63),
+        found: Ok(&[ExpectedLog {
+            length: 63,
+            last: Some(ExpectedEntry {
+                operation: 62,
+                kind: EntryKind::Write,
+                name: b"",
+                value: 0,
+            }),
+        }]),
+        asked: Some(Asked {
+            count: 66,
+            first: &[0, 128, 1, 256],
+            last: 318,
+        }),
+    },
+    // The pending rename with the journal emptied, where inode 1 goes on in page 2 with one entry.
+    Recovery {
+        layout: Layout::One,
+        counts: (2, 3, 1, 512),
+        numbers: &[
+            RENAMED,
+            &[(8192, 1), (136, 24_640), (24_512, 24_576), (8328, 24_640)],
+            &[(24_576, 1)],
+        ],
+        entries: (20_544, 62),
+        found: Ok(&[
+            REMOVED,
+            ExpectedLog {
+                length: 64,
+                last: Some(ExpectedEntry {
+                    operation: 0,
+                    kind: EntryKind::Write,
+                    name: b"",
+                    value: 0,
+                }),
+            },
+        ]),
+        asked: Some(Asked {
+            count: 71,
+            first: &[0, 128, 130, 1, 2, 256, 383, 320, 321],
+            last: 384,
+        }),
+    },
+    // a fault ends the asking, at a link that is zero
+    Recovery {
+        layout: Layout::One,
+        counts: (1, 2, 1, 512),
+        numbers: &[&[(72, 20_480)]],
+        entries: (0, 0),
+        found: Err(VolumeFault::TailNotReached),
+        asked: Some(Asked {
+            count: 4,
+            first: &[0, 128, 1, 319],
+            last: 319,
+        }),
+    },
+    // a name of 40 bytes ends in the first line
+    Recovery {
+        layout: Layout::Two,
+        counts: (1, 1, 1, 512),
+        numbers: &[LONG_NAME, &[(16_384, 0x2802)]],
+        entries: (0, 0),
+        found: Ok(&[ExpectedLog {
+            length: 1,
+            last: Some(ExpectedEntry {
+                operation: 1,
+                kind: EntryKind::AddName,
+                name: b"aaaaaaaaaaaaaaaaaaaaaaaaaaaaaaaaaaaaaaaa",
+                value: 9,
+            }),
+        }]),
+        asked: Some(Asked {
+            count: 4,
+            first: &[0, 128, 1, 256],
+            last: 256,
+        }),
+    },
+    // and one of 41 bytes in the second
+    Recovery {
+        layout: Layout::Two,
+        counts: (1, 1, 1, 512),
+        numbers: &[LONG_NAME, &[(16_384, 0x2902)]],
+        entries: (0, 0),
+        found: Ok(&[ExpectedLog {
+            length: 1,
+            last: Some(ExpectedEntry {
+                operation: 1,
+                kind: EntryKind::AddName,
+                name: b"aaaaaaaaaaaaaaaaaaaaaaaaaaaaaaaaaaaaaaaab",
+                value: 9,
+            }),
+        }]),
+        asked: Some(Asked {
+            count: 5,
+            first: &[0, 128, 1, 256, 257],
+            last: 257,
+        }),
+    },
+    // one entry with a value
+    Recovery {
+        layout: Layout::One,
+        counts: (1, 1, 1, 512),
+        numbers: &[&[(8200, 1), (8264, 16_448), (16_384, 1), (16_400, 77)]],
+        entries: (0, 0),
+        found: Ok(&[ExpectedLog {
+            length: 1,
+            last: Some(ExpectedEntry {
+                operation: 0,
+                kind: EntryKind::Write,
+                name: b"",
+                value: 77,
+            }),
+        }]),
+        asked: None,
+    },
+];
+
+fn written_over(alloc: Global, recovery: &Recovery) -> Result<Medium, VolumeFault> {
+    let mut medium = made(alloc, recovery.layout, recovery.counts)?;
+    for numbers in recovery.numbers {
+        put_all(&mut medium, *numbers);
+    }
+    put_entries(&mut medium, recovery.entries);
+    Ok(medium)
+}
+
+/// What recovery finds. A call that is refused memory is made again.
+fn recovered(alloc: Global, medium: &Medium) -> Result<Volume, VolumeFault> {
+    match recover(alloc, medium) {
+        Err(VolumeFault::Memory) => recover(alloc, medium),
+        outcome => outcome,
+    }
+}
+
+fn is_found_so(
+    found: Result<Volume, VolumeFault>,
+    expected: Result<&[ExpectedLog], VolumeFault>,
+) -> bool {
+    match (found, expected) {
+        (Ok(volume), Ok(logs)) => has_logs(&volume, logs),
+        (Err(fault), Err(expected)) => fault == expected,
+        _ => false,
+    }
+}
+
+fn are_asked_so(lines: &[u32], asked: &Asked) -> bool {
+    lines.len() == asked.count
+        && lines.get(..asked.first.len()) == Some(asked.first)
+        && lines.last() == Some(&asked.last)
+}
+
+/// Whether recovery line by line finds this, and asks for these lines where they are expected.
+fn is_asked_so(alloc: Global, medium: &Medium, recovery: &Recovery) -> bool {
+    let mut source = MediumLines::new(alloc, medium);
+    let is_found = is_found_so(recover_from(alloc, &mut source), recovery.found);
+    match &recovery.asked {
+        Some(asked) => is_found && are_asked_so(source.asked(), asked),
+        None => is_found,
+    }
+}
+
+fn is_recovered_so(alloc: Global, recovery: &Recovery) -> bool {
+    match written_over(alloc, recovery) {
+        Ok(medium) => {
+            is_found_so(recovered(alloc, &medium), recovery.found)
+                && is_asked_so(alloc, &medium, recovery)
+        }
+        Err(_) => false,
     }
 }
 
 #[test]
-fn a_pending_rename_is_undone(rt: HostRuntime) -> Result<(), Fail> {
-    let shown = recovered(rt.alloc(), (2, 2, 1), &[&RENAMED])?;
-    expect(&rt, "inodes of the pending rename", shown.inodes, 2);
-    expect(&rt, "the logs before the rename", shown.lengths, [0, 0]);
-    expect(
-        &rt,
-        "no entries before the rename",
-        shown.last,
-        [None, None],
-    );
-    Ok(())
+fn volumes_are_recovered(rt: HostRuntime) {
+    let differing = RECOVERIES
+        .iter()
+        .position(|recovery| !is_recovered_so(rt.alloc(), recovery));
+    assert_eq!(rt; differing, None);
 }
 
-#[test]
-fn a_committed_rename_stands(rt: HostRuntime) -> Result<(), Fail> {
-    let committed = [(8192, 2), (136, 20_544)];
-    let shown = recovered(rt.alloc(), (2, 2, 1), &[&RENAMED, &committed])?;
-    let entries = [EntryKind::RemoveName, EntryKind::AddName].map(|kind| Some(renamed(kind)));
-    expect(&rt, "inodes of the rename", shown.inodes, 2);
-    expect(&rt, "the lengths of both logs", shown.lengths, [1, 1]);
-    expect(&rt, "the entries of both logs", shown.last, entries);
-    Ok(())
-}
-
-#[test]
-fn the_oldest_record_of_the_highest_journal_decides(rt: HostRuntime) -> Result<(), Fail> {
-    let entries = [(16_384, 1), (16_448, 1), (16_512, 1), (72, 16_384)];
-    // Journal 0: old tail 16384. Journal 1: record 3 with 16512, and then record 4 with 16448.
-    let first = [(8200, 1), (8264, 16_384)];
-    let second = [(8704, 3), (8712, 5), (8968, 16_512), (8776, 16_448)];
-    let shown = recovered(rt.alloc(), (1, 1, 2), &[&entries, &first, &second])?;
-    expect(&rt, "inodes of two journals", shown.inodes, 1);
-    expect(
-        &rt,
-        "the entries before the tail of record 3",
-        shown.lengths[0],
-        2,
-    );
-    Ok(())
-}
-
-static FAULTS: [(&[(u32, u64)], VolumeFault); 24] = [
+static FAULTS: [(Numbers, VolumeFault); 24] = [
     (&[(0, 0)], VolumeFault::Magic),
     (&[(8, 0)], VolumeFault::Counts),
     (&[(16, 5)], VolumeFault::Counts),
     (&[(24, 9)], VolumeFault::Counts),
     (&[(8192, 5), (8200, 3)], VolumeFault::JournalNumbers),
     (&[(8200, 5)], VolumeFault::JournalNumbers),
-    (&[(8192, u64::MAX), (8200, 2)], VolumeFault::JournalNumbers),
+    (
+        &[(8192, 18_446_744_073_709_551_615), (8200, 2)],
+        VolumeFault::JournalNumbers,
+    ),
     (&[(8200, 1), (8256, 1)], VolumeFault::RecordInode),
     (&[(64, 0)], VolumeFault::Head),
     (&[(64, 16_448)], VolumeFault::Head),
@@ -298,157 +545,22 @@ static FAULTS: [(&[(u32, u64)], VolumeFault); 24] = [
     (&[(72, 16_512), (16_384, 0x0101)], VolumeFault::Name),
 ];
 
-/// Why a new volume of one inode, two pages and one journal isn't recovered with these numbers written over it.
-fn fault_of(alloc: Global, numbers: &[(u32, u64)]) -> Option<VolumeFault> {
-    match mkfs(alloc, Layout::One, 1, 2, 1, 512) {
+/// Whether a new volume of one inode, two pages and one journal isn't recovered for this reason with these numbers written over
+/// it.
+fn is_refused_so(alloc: Global, (numbers, fault): (Numbers, VolumeFault)) -> bool {
+    match made(alloc, Layout::One, (1, 2, 1, 512)) {
         Ok(mut medium) => {
-            put(&mut medium, numbers);
-            recover(alloc, &medium).err()
+            put_all(&mut medium, numbers);
+            is_found_so(recovered(alloc, &medium), Err(fault))
         }
-        Err(fault) => Some(fault),
+        Err(_) => false,
     }
 }
 
 #[test]
 fn one_fault_each(rt: HostRuntime) {
-    for (numbers, fault) in &FAULTS {
-        let found = fault_of(rt.alloc(), *numbers);
-        expect(&rt, *numbers, found, Some(*fault));
-    }
-}
-
-#[test]
-fn an_empty_journal_of_the_greatest_number(rt: HostRuntime) -> Result<(), Fail> {
-    let numbers = [(8192, u64::MAX), (8200, u64::MAX)];
-    let shown = recovered(rt.alloc(), (1, 1, 1), &[&numbers])?;
-    expect(&rt, "an empty journal", shown.inodes, 1);
-    expect(&rt, "no entries", shown.last, [None, None]);
-    Ok(())
-}
-
-/// The entries of a full page: each a write of the operation of its place.
-fn full_page() -> [(u32, u64); 127] {
-    let mut numbers = [(72, 20_416); 127];
-    for k in 0..63 {
-        numbers[2 * k] = (16_384 + 64 * k as u32, 1);
-        numbers[2 * k + 1] = (16_392 + 64 * k as u32, k as u64);
-    }
-    numbers
-}
-
-#[test]
-fn a_full_page_ends_at_its_link_line(rt: HostRuntime) -> Result<(), Fail> {
-    let (found, asked) = recovered_asking(rt.alloc(), Layout::One, (1, 1), &full_page())?;
-    let shown = found?;
-    let last = shown.last[0].map(|entry| entry.operation);
-    expect(&rt, "inodes of a full page", shown.inodes, 1);
-    expect(&rt, "the entries of a full page", shown.lengths[0], 63);
-    expect(&rt, "the last entry of a full page", last, Some(62));
-    expect(&rt, "the lines asked of a full page", asked.len(), 66);
-    Ok(())
-}
-
-/// The pending rename with the journal emptied, where inode 1 goes on in page 2 with one entry.
-fn three_pages() -> [(u32, u64); 80] {
-    let mut numbers = [(24_576, 1); 80];
-    numbers[..13].copy_from_slice(&RENAMED);
-    numbers[13..17].copy_from_slice(&[(8192, 1), (136, 24_640), (24_512, 24_576), (8328, 24_640)]);
-    for k in 1..63 {
-        numbers[16 + k] = (20_480 + 64 * k as u32, 1);
-    }
-    numbers
-}
-
-#[test]
-fn lines_are_asked_in_order(rt: HostRuntime) -> Result<(), Fail> {
-    let (found, asked) = recovered_asking(rt.alloc(), Layout::One, (2, 3), &three_pages())?;
-    let shown = found?;
-    expect(&rt, "inodes of three pages", shown.inodes, 2);
-    expect(&rt, "the entries of two pages", shown.lengths[1], 64);
-    expect(&rt, "the number of lines asked", asked.len(), 71);
-    expect(
-        &rt,
-        "the first lines asked",
-        asked.get(..9),
-        Some([0, 128, 130, 1, 2, 256, 383, 320, 321].as_slice()),
-    );
-    expect(&rt, "the last line asked", asked.last().copied(), Some(384));
-    Ok(())
-}
-
-#[test]
-fn a_fault_ends_the_asking(rt: HostRuntime) -> Result<(), Fail> {
-    let numbers = [(72, 20_480)];
-    let (found, asked) = recovered_asking(rt.alloc(), Layout::One, (1, 2), &numbers)?;
-    expect(
-        &rt,
-        "a link that is zero",
-        matches!(found, Err(VolumeFault::TailNotReached)),
-        true,
-    );
-    expect(
-        &rt,
-        "the lines up to the link",
-        asked.as_slice(),
-        [0, 128, 1, 319].as_slice(),
-    );
-    Ok(())
-}
-
-#[test]
-fn a_long_name_goes_on_in_the_second_line(rt: HostRuntime) -> Result<(), Fail> {
-    let bytes = b"aaaaaaaaaaaaaaaaaaaaaaaaaaaaaaaaaaaaaaaab";
-    for (length, lines) in [
-        (40, [0, 128, 1, 256].as_slice()),
-        (41, [0, 128, 1, 256, 257].as_slice()),
-    ] {
-        let numbers = [
-            (72, 16_512),
-            (16_384, 2 + 256 * length as u64),
-            (16_392, 1),
-            (16_400, 9),
-            (16_408, 0x6161_6161_6161_6161),
-            (16_416, 0x6161_6161_6161_6161),
-            (16_424, 0x6161_6161_6161_6161),
-            (16_432, 0x6161_6161_6161_6161),
-            (16_440, 0x6161_6161_6161_6161),
-            (16_448, 0x6262),
-        ];
-        let (found, asked) = recovered_asking(rt.alloc(), Layout::Two, (1, 1), &numbers)?;
-        let shown = found?;
-        let expected = Some(Name::from_bytes(&bytes[..length]));
-        expect(&rt, "inodes of layout 2", shown.inodes, 1);
-        expect(&rt, "entries of layout 2", shown.lengths[0], 1);
-        let name = shown.last[0].map(|entry| entry.name);
-        expect(&rt, length, name, expected);
-        expect(&rt, length, asked.as_slice(), lines);
-    }
-    Ok(())
-}
-
-/// What recovery shows of a new volume with one entry. A call that is refused memory is made again.
-fn recovered_after_refusals(alloc: Global) -> Result<Shown, VolumeFault> {
-    let mut medium = match mkfs(alloc, Layout::One, 1, 1, 1, 512) {
-        Err(VolumeFault::Memory) => mkfs(alloc, Layout::One, 1, 1, 1, 512)?,
-        made => made?,
-    };
-    put(
-        &mut medium,
-        &[(8200, 1), (8264, 16_448), (16_384, 1), (16_400, 77)],
-    );
-    let volume = match recover(alloc, &medium) {
-        Err(VolumeFault::Memory) => recover(alloc, &medium)?,
-        found => found?,
-    };
-    Ok(outline(&volume))
-}
-
-#[test]
-fn refused_growth(rt: HostRuntime) -> Result<(), Fail> {
-    let shown = recovered_after_refusals(rt.alloc())?;
-    let last = shown.last[0].map(|entry| entry.value);
-    expect(&rt, "inodes after a refusal", shown.inodes, 1);
-    expect(&rt, "entries after a refusal", shown.lengths[0], 1);
-    expect(&rt, "the value after a refusal", last, Some(77));
-    Ok(())
+    let differing = FAULTS
+        .iter()
+        .position(|written| !is_refused_so(rt.alloc(), *written));
+    assert_eq!(rt; differing, None);
 }

@@ -1,8 +1,7 @@
 //! Volumes that grow, are compared and copied.
 
-use crate::expecting::expect;
+use crate::logs::{ExpectedEntry, ExpectedLog, has_logs};
 use std::alloc::{AllocError, Global};
-use std::test::Fail;
 use volume::{Entry, EntryKind, Log, Name, Volume};
 
 fn appended(operation: u64, value: u64) -> Entry {
@@ -36,27 +35,16 @@ fn after_rename(alloc: Global) -> Result<Volume, AllocError> {
     Ok(volume)
 }
 
+/// Whether there are up to 96 bytes, and their name holds them.
+fn holds(bytes: &[u8]) -> bool {
+    bytes.len() <= 96 && Name::from_bytes(bytes).as_bytes() == bytes
+}
+
 #[test]
 fn names_hold_up_to_96_bytes(rt: HostRuntime) {
-    let longest = [b'n'; 96];
+    assert!(rt; Name::empty().as_bytes().is_empty() && holds(b"a") && holds(&[b'n'; 96]));
     let short = Name::from_bytes(b"a");
-    for (name, bytes) in [
-        (Name::empty(), b"".as_slice()),
-        (short, b"a"),
-        (Name::from_bytes(&longest), &longest),
-    ] {
-        expect(&rt, "the bytes of a name", name.as_bytes(), bytes);
-    }
-    let equal = [
-        short.equals(&Name::from_bytes(b"a")),
-        short.equals(&Name::from_bytes(b"a\0")),
-    ];
-    expect(
-        &rt,
-        "equal to a, and to a with a zero byte",
-        equal,
-        [true, false],
-    );
+    assert!(rt; short.equals(&Name::from_bytes(b"a")) && !short.equals(&Name::from_bytes(b"a\0")));
 }
 
 #[test]
@@ -66,7 +54,7 @@ fn kinds_have_their_numbers(rt: HostRuntime) {
         EntryKind::AddName as u8,
         EntryKind::RemoveName as u8,
     ];
-    expect(&rt, "write, add name, remove name", numbers, [1, 2, 3]);
+    assert!(rt; numbers == [1, 2, 3]);
 }
 
 #[test]
@@ -76,110 +64,129 @@ fn entries_differ_by_each_part(rt: HostRuntime) {
         name: Name::from_bytes(b"b"),
         ..entry
     };
-    for (what, other, is_equal) in [
-        ("the same entry", renamed(1, EntryKind::AddName, 9), true),
-        (
-            "another operation",
-            renamed(2, EntryKind::AddName, 9),
-            false,
-        ),
-        ("another kind", renamed(1, EntryKind::RemoveName, 9), false),
-        ("another name", other_name, false),
-        ("another value", renamed(1, EntryKind::AddName, 8), false),
-    ] {
-        expect(&rt, what, entry.equals(&other), is_equal);
+    let others = [
+        renamed(2, EntryKind::AddName, 9),
+        renamed(1, EntryKind::RemoveName, 9),
+        other_name,
+        renamed(1, EntryKind::AddName, 8),
+    ];
+    assert!(rt; entry.equals(&renamed(1, EntryKind::AddName, 9)));
+    let equal = others.iter().position(|other| entry.equals(other));
+    assert_eq!(rt; equal, None);
+}
+
+/// The logs of `after_rename`.
+static LOGS: [ExpectedLog; 2] = [
+    ExpectedLog {
+        length: 1,
+        last: Some(ExpectedEntry {
+            operation: 1,
+            kind: EntryKind::RemoveName,
+            name: b"a",
+            value: 9,
+        }),
+    },
+    ExpectedLog {
+        length: 1,
+        last: Some(ExpectedEntry {
+            operation: 1,
+            kind: EntryKind::AddName,
+            name: b"a",
+            value: 9,
+        }),
+    },
+];
+
+/// The same with a write after the first.
+static LOGS_AND_A_WRITE: [ExpectedLog; 2] = [
+    ExpectedLog {
+        length: 2,
+        last: Some(ExpectedEntry {
+            operation: 2,
+            kind: EntryKind::Write,
+            name: b"",
+            value: 77,
+        }),
+    },
+    ExpectedLog {
+        length: 1,
+        last: Some(ExpectedEntry {
+            operation: 1,
+            kind: EntryKind::AddName,
+            name: b"a",
+            value: 9,
+        }),
+    },
+];
+
+/// The volume after the rename. A call that is refused memory is made again.
+fn made(alloc: Global) -> Result<Volume, AllocError> {
+    match after_rename(alloc) {
+        Ok(volume) => Ok(volume),
+        Err(_) => after_rename(alloc),
     }
 }
 
-/// The number of logs, and of logs 0 and 1 the length and the last entry.
-type Outline = (u32, [usize; 2], [Option<Entry>; 2]);
+/// The copy of a volume. A call that is refused memory is made again.
+fn copied(alloc: Global, volume: &Volume) -> Result<Volume, AllocError> {
+    match volume.copy(alloc) {
+        Ok(copy) => Ok(copy),
+        Err(_) => volume.copy(alloc),
+    }
+}
 
-fn outline(volume: &Volume) -> Outline {
-    let (mut lengths, mut last) = ([0; 2], [None; 2]);
-    for inode in 0..2 {
-        if inode < volume.inodes() {
-            let log = volume.log(inode);
-            lengths[inode as usize] = log.len();
-            last[inode as usize] = log.last().copied();
+fn equals_its_copy(alloc: Global, volume: &Volume) -> bool {
+    match copied(alloc, volume) {
+        Ok(copy) => volume.equals(&copy) && has_logs(&copy, &LOGS),
+        Err(_) => false,
+    }
+}
+
+/// Adds an empty log, and says whether it was added.
+fn push_empty(alloc: Global, volume: &mut Volume) -> bool {
+    volume.inodes() < 64 && volume.push_log(Log::new(alloc)).is_ok()
+}
+
+fn differs_by_an_inode(alloc: Global, volume: &Volume) -> bool {
+    match copied(alloc, volume) {
+        Ok(mut longer) => {
+            push_empty(alloc, &mut longer) && !volume.equals(&longer) && longer.inodes() == 3
         }
+        Err(_) => false,
     }
-    (volume.inodes(), lengths, last)
 }
 
-fn outline_after_rename(alloc: Global) -> Result<Outline, AllocError> {
-    Ok(outline(&after_rename(alloc)?))
+/// Adds a write to the first log, and says whether it was added.
+fn append(volume: &mut Volume) -> bool {
+    volume.inodes() > 0 && volume.append(0, appended(2, 77)).is_ok()
 }
 
-#[test]
-fn logs_are_kept_by_inode(rt: HostRuntime) -> Result<(), Fail> {
-    let (inodes, lengths, last) = outline_after_rename(rt.alloc())?;
-    let removed = renamed(1, EntryKind::RemoveName, 9);
-    let added = renamed(1, EntryKind::AddName, 9);
-    expect(&rt, "the number of inodes", inodes, 2);
-    expect(&rt, "the lengths of both logs", lengths, [1, 1]);
-    expect(&rt, "both logs", last, [Some(removed), Some(added)]);
-    Ok(())
-}
-
-/// Whether a volume equals its copy, the copy with an inode more, and the copy with an entry more; and the inodes of the three.
-fn compared(alloc: Global, volume: &Volume) -> Result<([bool; 3], [u32; 3]), AllocError> {
-    let mut longer = volume.copy(alloc)?;
-    let same = (volume.equals(&longer), longer.inodes());
-    if longer.inodes() < 64 {
-        longer.push_log(Log::new(alloc))?;
-    }
-    let more = (volume.equals(&longer), longer.inodes());
-    let mut fuller = volume.copy(alloc)?;
-    let inodes = fuller.inodes();
-    if inodes > 0 {
-        fuller.append(0, appended(2, 77))?;
-    }
-    let equal = [same.0, more.0, volume.equals(&fuller)];
-    Ok((equal, [same.1, more.1, inodes]))
-}
-
-fn compared_after_rename(alloc: Global) -> Result<([bool; 3], [u32; 3]), AllocError> {
-    compared(alloc, &after_rename(alloc)?)
-}
-
-#[test]
-fn volumes_are_equal_as_maps(rt: HostRuntime) -> Result<(), Fail> {
-    let (equal, inodes) = compared_after_rename(rt.alloc())?;
-    expect(
-        &rt,
-        "a copy, an inode more, an entry more",
-        equal,
-        [true, false, false],
-    );
-    expect(&rt, "the inodes of the three", inodes, [2, 3, 2]);
-    Ok(())
-}
-
-/// What a volume holds after an append, and whether a refused one left it as it was. A call that is refused memory is made again.
-fn appended_after_refusals(alloc: Global) -> Result<(Outline, bool), AllocError> {
-    let mut volume = match after_rename(alloc) {
-        Err(_) => after_rename(alloc)?,
-        Ok(volume) => volume,
-    };
-    let copy = match volume.copy(alloc) {
-        Err(_) => volume.copy(alloc)?,
-        Ok(copy) => copy,
-    };
-    let mut is_left = true;
-    if volume.inodes() == 2 && volume.append(0, appended(2, 77)).is_err() {
-        is_left = volume.equals(&copy) && volume.inodes() == 2;
-        if volume.inodes() == 2 {
-            volume.append(0, appended(2, 77))?;
+/// The same with an entry more. An entry that is refused leaves the volume as it was, and is appended again.
+fn differs_by_an_entry(alloc: Global, volume: &Volume) -> bool {
+    match copied(alloc, volume) {
+        Ok(mut fuller) => {
+            let is_appended = append(&mut fuller)
+                || (volume.equals(&fuller) && append(&mut fuller));
+            is_appended && !volume.equals(&fuller) && has_logs(&fuller, &LOGS_AND_A_WRITE)
         }
+        Err(_) => false,
     }
-    Ok((outline(&volume), is_left))
+}
+
+/// Whether the volume after the rename has its logs, equals its copy, and differs by an inode and by an entry.
+fn comparisons(alloc: Global) -> [bool; 4] {
+    match made(alloc) {
+        Ok(volume) => [
+            has_logs(&volume, &LOGS),
+            equals_its_copy(alloc, &volume),
+            differs_by_an_inode(alloc, &volume),
+            differs_by_an_entry(alloc, &volume),
+        ],
+        Err(_) => [false; 4],
+    }
 }
 
 #[test]
-fn refused_growth(rt: HostRuntime) -> Result<(), Fail> {
-    let ((inodes, lengths, _), is_left) = appended_after_refusals(rt.alloc())?;
-    expect(&rt, "left by a refused entry", is_left, true);
-    expect(&rt, "the inodes after the growth", inodes, 2);
-    expect(&rt, "the entries of the first inode", lengths[0], 2);
-    Ok(())
+fn volumes_are_equal_as_maps(rt: HostRuntime) {
+    assert_eq!(rt; comparisons(rt.alloc()), [true; 4]);
 }

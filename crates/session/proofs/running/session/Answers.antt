@@ -9,7 +9,7 @@ returns-in-Err-clause-fails g c =
     let sink = g.K.Sink.failures_of in
     let source = g.S.Source.failures_of in
     failed_read _ _ c.lines.last c.new-input.result c.lines.input c.read_line.new.self _ _ _ _ _ (sink c.args.sink.now) (sink c.lines.sink)
-    (source c.lines.source) (source c.read_line.new.source) c.in-Err.fault c.new-input.ensures.ahead c.lines.invariant.underway
+    (source c.lines.source) (source c.read_line.new.source) c.in-Err.fault c.new-input.ensures.ahead c.new-input.ensures.left c.lines.invariant.underway
     c.in-Err.ensures.part c.in-Err.ensures.err
 
 pub returns-then-not-goes_on-clause-session : goal.returns-then-not-goes_on-clause-session
@@ -31,7 +31,7 @@ returns-in-Err-answer_line-clause-fails g c =
     let out = rw c.deref.ensures.value at arm.ensures.unanswered in
     let by = rw c.lines.invariant.sink at arm.ensures.err in
     failed_answer _ _ c.answer_line.new.debugger c.answer_line.new.last c.new-input.result c.lines.input c.read_line.new.self _ _ _ _ _ _
-    (sink c.args.sink.now) (sink c.answer_line.new.sink) c.in-Ok.read c.read_line.new.line.items arm.fault c.new-input.ensures.ahead
+    (sink c.args.sink.now) (sink c.answer_line.new.sink) c.in-Ok.read c.read_line.new.line.items arm.fault c.new-input.ensures.ahead c.new-input.ensures.left
     c.lines.invariant.underway c.in-Ok.ensures.line out arm.ensures.unwritten by
 
 pub lines-preserved : goal.lines-preserved
@@ -43,6 +43,8 @@ lines-preserved g c =
       runs = run_joined _ _ _ c.lines.invariant.runs c.answer_line.ensures.runs;
       underway = answered_more _ _ _ c.new-input.result c.lines.input c.read_line.new.self _ _ _ _ _ _ c.in-Ok.read c.read_line.new.line.items
           c.in-Ok-answer_line.goes_on c.lines.invariant.underway c.in-Ok.ensures.line answered on further;
+      same_source = c.read_line.ensures.same ∙ c.lines.invariant.same_source;
+      same_sink = c.answer_line.ensures.same ∙ c.lines.invariant.same_sink;
       source = c.in-Ok.ensures.ok ∙ c.lines.invariant.source;
       sink = c.in-Ok-answer_line.ensures.ok ∙ c.lines.invariant.sink;
     }

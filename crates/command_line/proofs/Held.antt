@@ -1,0 +1,39 @@
+-- What a session leaves, by its outcome.
+use Rattle.std.proofs.Common.{◌≡◌, ◌∙◌, ℕ, List, [], Option, Result, Ok, Err, ap}
+use Rattle.std.specs.Prelude.{IfErr, MatchResult, OnOk}
+use Rattle.debugger.specs.Points.{DebuggerView}
+use Rattle.debugger.specs.declared.fault.DebugFault.{DebugFault}
+use Rattle.debugger.specs.declared.fault.DebugFault.TheVariants as faults
+use Rattle.debugger.specs.declared.points.Point.{Point}
+use Rattle.machine.specs.Stands.{MachineView}
+use Rattle.session.specs.Sessions.{Fails, Session}
+use Rattle.command_line.specs.Debugging.{IsBrokenOff, debugger_of}
+
+-- a new debugger is that of its machine
+pub new_debugger : (debugger : DebuggerView) (machine : MachineView) → debugger.machine ≡ machine → debugger.points ≡ []
+    → debugger ≡ debugger_of machine
+new_debugger debugger machine same none =
+    let with_machine : MachineView → DebuggerView = λ m. record { machine = m; points = debugger.points } in
+    let with_points : List Point → DebuggerView = λ ps. record { machine = machine; points = ps } in
+    ap with_machine same ∙ ap with_points none
+
+-- a session that fails is broken off
+pub broken_off : (old new : DebuggerView) (input input' output output' : Option (List ℕ)) (failures failures' : ℕ) (fault : DebugFault)
+    → Fails old new input input' output output' failures failures' fault → IsBrokenOff old new input input' output output' fault
+broken_off old new input input' output output' failures failures' faults.Memory fails = fails
+broken_off old new input input' output output' failures failures' faults.InputOutput fails = (fails.0, fails.1)
+broken_off old new input input' output output' failures failures' faults.Command fails = absurd fails
+broken_off old new input input' output output' failures failures' faults.Address fails = absurd fails
+broken_off old new input input' output output' failures failures' faults.PointsFull fails = absurd fails
+broken_off old new input input' output output' failures failures' (faults.Step fault) fails = absurd fails
+broken_off old new input input' output output' failures failures' (faults.Stopped place fault) fails = absurd fails
+
+-- both outcomes of a session, over the debugger of its machine
+pub held : (machine : MachineView) (debugger left : DebuggerView) (input input' output output' : Option (List ℕ))
+    (outcome : Result (Unit {0}) DebugFault) → debugger ≡ debugger_of machine
+    → OnOk outcome (Session debugger left input input' output output')
+    → IfErr outcome (IsBrokenOff debugger left input input' output output')
+    → MatchResult outcome (λ _. Session (debugger_of machine) left input input' output output')
+    (IsBrokenOff (debugger_of machine) left input input' output output')
+held machine debugger left input input' output output' (Ok done) new session broken = rw new at session
+held machine debugger left input input' output output' (Err fault) new session broken = rw new at broken
