@@ -12,7 +12,7 @@ use store_trace::{Event, Trace, TraceFault};
 
 /// What a round does.
 #[derive(Clone, Copy)]
-pub enum Kind {
+pub(crate) enum Kind {
     /// Takes the last moment of the trace, and counts its images.
     Count,
     /// Makes the cut of a number.
@@ -60,7 +60,7 @@ fn event(number: u32, lines: u32) -> Event
 }
 
 /// A full trace over a medium of so many lines, which ends with a whole turn: the free lines alone have two numbers each.
-pub fn trace_of(alloc: Global, lines: u32) -> Result<Trace, TraceFault> {
+pub(crate) fn trace_of(alloc: Global, lines: u32) -> Result<Trace, TraceFault> {
     let mut trace = Trace::new(alloc);
     for number in 0..EVENTS {
         trace.push(event(number, lines))?;
@@ -127,7 +127,7 @@ fn sum_of_counts(
 }
 
 /// The sum, modulo 2^64, of what the rounds find.
-pub fn sum_of(
+pub(crate) fn sum_of(
     alloc: Global,
     medium: &Medium,
     trace: &Trace,
