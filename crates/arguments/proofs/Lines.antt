@@ -1,19 +1,23 @@
 -- What clap's errors and values say of a line.
 use Rattle.std.proofs.Common.{◌≡◌, ◌∙◌, List, [], ◌∷◌, Option, Some, None, refl, subst, sym, true, inl, inr, option_map}
-use Rattle.std.specs.Prelude.{◌≢◌, ◌⊎◌, MatchOption}
+use Rattle.std.specs.Prelude.{◌≢◌, ◌⊎◌, Box, MatchOption, Result, Ok, Err, IfOk, IfErr}
 use Rattle.std.specs.Borrow.{Bor}
+use Rattle.std.specs.Box.{box_value}
 use Rattle.clap.specs.Kinds.{HasKind, IsAmong, Kinds}
 use Rattle.clap.specs.Words.{App, HasMatchesOf, Text, app_of, fault_of, first_of, first_value, is_simple}
-use Rattle.clap.specs.Words.{is_simple_and_free, kind_of, rows_of, subcommand_of, subcommand_rows_of}
+use Rattle.clap.specs.Words.{is_simple_and_free, kind_of, rows_of, subcommand_of, subcommand_rows, subcommand_rows_of, found_of, Row}
 use Rattle.clap.specs.declared.builder.command.Command.{Command as Clap}
 use Rattle.clap.specs.declared.error.Error.{Error}
 use Rattle.clap.specs.declared.error.ErrorKind.{ErrorKind}
 use Rattle.clap.specs.declared.error.ErrorKind.TheVariants as kinds
 use Rattle.clap.specs.declared.parser.matches.ArgMatches.{ArgMatches}
 use Rattle.clap.specs.declared.parser.matches.Found.{Found}
+use Rattle.clap.specs.declared.parser.matches.SubCommand.{SubCommand}
+use Rattle.clap.specs.declared.parser.matches.ArgMatches.TheViews.{out-SubCommand}
 use Rattle.clap.proofs.WalkLemmas.{first_value-rows}
 use Rattle.arguments.specs.Grammar.{IsGrammar, novacrash, assemble_shape, make_volume_shape, run_shape, replay_shape, debug_shape, images_shape, explain_shape, check_shape}
-use Rattle.arguments.specs.Line.{IsKindOf, Refuses}
+use Rattle.arguments.specs.Line.{IsAsked, IsCommand, IsFault, IsKindOf, IsOf, OnFault, Refuses}
+use Rattle.arguments.specs.declared.asked.Command.{Command}
 use Rattle.arguments.specs.declared.asked.LineFault.{LineFault}
 use Rattle.arguments.specs.declared.asked.LineFault.TheVariants.{Help, Fault, Memory}
 
@@ -73,3 +77,41 @@ pub entered : (command : Clap) (words : List Text) (found : ArgMatches) → IsGr
 entered command words found by has =
     let P : App → Type 0 = λ app. HasMatchesOf app words found in
     (subst P by.shape has simple).1
+
+-- the subcommand that was used, by the row that clap's specification has for it
+pub used : {Z : Type 0} (found : Option (Box SubCommand Z)) (given : Option (Bor Text × Bor ArgMatches))
+    → option_map (λ p. p.0.now) given ≡ option_map (λ b. (out-SubCommand (box_value b)).name.now) found
+    → option_map (λ p. rows_of (found_of p.1.now)) given ≡ option_map (λ p. p.1) (subcommand_rows found)
+    → MatchOption given (subcommand_rows found ≡ None) (λ p. subcommand_rows found ≡ Some (p.0.now, rows_of (found_of p.1.now)))
+used None None names rows = refl
+used None (Some p) names rows = absurd cc
+used (Some b) None names rows = absurd cc
+used (Some b) (Some p) names rows = cc
+
+-- a command of the subcommand that a line without a fault has is the line's
+pub is_command : (words : List Text) (name : Text) (rows : List Row) (result : Result Command LineFault) → fault_of novacrash words ≡ []
+    → subcommand_of novacrash words ≡ Some (name, rows) → IfOk result (IsOf name rows) → IfOk result (IsCommand words)
+is_command words name rows (Ok command) grammatical used is =
+    let P : Option (Text × List Row) → Type 0 = λ sub. IsAsked sub command in
+    record { grammatical = grammatical; asked = subst P (sym used) is }
+is_command words name rows (Err fault) grammatical used is = tt
+
+-- a line without a fault asks for no command, where its subcommand asks for none
+pub asks_none : (words : List Text) (name : Text) (rows : List Row) (result : Result Command LineFault) → fault_of novacrash words ≡ []
+    → subcommand_of novacrash words ≡ Some (name, rows) → IfErr result (OnFault ((command : Command) → ¬ (IsOf name rows command)))
+    → IfErr result (Refuses words)
+asks_none words name rows (Ok command) grammatical used none = tt
+asks_none words name rows (Err (Help text)) grammatical used none = absurd none
+asks_none words name rows (Err (Fault text)) grammatical used none =
+    let P : (c : Command) → Option (Text × List Row) → Type 0 = λ c sub. IsAsked sub c in
+    (λ e. absurd cc, λ command line. none command (subst (P command) used line.asked))
+asks_none words name rows (Err Memory) grammatical used none = tt
+
+-- nor where it has no subcommand
+pub has_none : (words : List Text) (fault : LineFault) → fault_of novacrash words ≡ [] → subcommand_of novacrash words ≡ None
+    → IsFault fault → Refuses words fault
+has_none words (Help text) grammatical used is = absurd is
+has_none words (Fault text) grammatical used is =
+    let P : (c : Command) → Option (Text × List Row) → Type 0 = λ c sub. IsAsked sub c in
+    (λ e. absurd cc, λ command line. absurd (subst (P command) used line.asked))
+has_none words Memory grammatical used is = absurd is

@@ -1,10 +1,13 @@
 -- The grammar of the command line, as clap's specification takes a command.
-use Rattle.std.specs.Prelude.{◌≡◌, List, [], ◌∷◌, Some, codes, true, false}
-use Rattle.clap.specs.Words.{App, Rule, Shape, Text, app_of, new_rule, with_rule}
+use Rattle.std.specs.Prelude.{◌≡◌, Bool, List, [], ◌∷◌, ◌++◌, Some, codes, map, true, false}
+use Rattle.clap.specs.Words.{App, Rule, Shape, Text, app_of, new_rule}
 use Rattle.clap.specs.Simple.{new_shape}
 use Rattle.clap.specs.declared.builder.action.ArgAction.TheVariants.{Help}
 use Rattle.clap.specs.declared.builder.command.Command.{Command}
 use Rattle.clap.specs.declared.builder.command.Command.TheViews.{out-Command}
+use Rattle.arguments.specs.declared.grammar.Argument.{Argument}
+use Rattle.arguments.specs.declared.grammar.Argument.TheVariants.{Word, Valued}
+use Rattle.arguments.specs.declared.grammar.Subcommand.{Subcommand}
 
 -- `--help`, with no short form
 abbrev pub help_option : Rule
@@ -87,42 +90,31 @@ bare = record (new_shape (codes "novacrash")) {
   subcommand_required = true;
 }
 
+abbrev pub is_none : List Shape → Bool
+is_none [] = true
+is_none (s ∷ shapes) = false
+
 -- a line with these subcommands
 abbrev pub line : List Shape → App
-line shapes = record { top = record bare { is_leaf = false }; subs = shapes }
+line shapes = record { top = record bare { is_leaf = is_none shapes }; subs = shapes }
 
 -- the whole line
 abbrev pub novacrash : App
 novacrash = line (assemble_shape ∷ make_volume_shape ∷ run_shape ∷ replay_shape ∷ debug_shape ∷ images_shape
     ∷ explain_shape ∷ check_shape ∷ [])
 
--- the command with a program and a schedule
-abbrev pub with_run : App → App
-with_run app = with_rule (with_rule app (needed_word (codes "PROGRAM"))) (needed_word (codes "SCHEDULE"))
+-- the rule of an argument of the table
+abbrev pub rule : Argument → Rule
+rule (Word name about) = needed_word name.now
+rule (Valued name value about) = valued_option name.now
 
--- the command with a program, a schedule and a moment
-abbrev pub with_moment : App → App
-with_moment app = with_rule (with_run app) (needed_word (codes "MOMENT"))
+-- the shape of a subcommand with these arguments alone
+abbrev pub shape_with : Text → List Argument → Shape
+shape_with name arguments = record (new_shape name) { rules = map rule arguments }
 
--- the command with the options of a machine
-abbrev pub with_machine : App → App
-with_machine app = with_rule (with_rule app (valued_option (codes "medium"))) (valued_option (codes "harts"))
-
--- the command with the options of a machine and of its cache
-abbrev pub with_cached_machine : App → App
-with_cached_machine app = with_rule (with_machine app) (valued_option (codes "capacity"))
-
--- the command with the limit and the record of a run
-abbrev pub with_recording : App → App
-with_recording app = with_rule (with_rule app (valued_option (codes "steps"))) (valued_option (codes "record"))
-
--- the command with a number of lines and the file of a new medium
-abbrev pub with_new_medium : App → App
-with_new_medium app = with_rule (with_rule app (needed_word (codes "LINES"))) (needed_word (codes "MEDIUM"))
-
--- the command with the option of the medium at the end, and `--help`
-abbrev pub with_end : App → App
-with_end app = with_rule (with_rule app (valued_option (codes "out"))) help_option
+-- the shape of a subcommand of the table, with `--help` at the end
+abbrev pub shape : Subcommand → Shape
+shape s = record (new_shape s.name.now) { rules = map rule s.arguments.now ++ help_option ∷ [] }
 
 -- no option of the command holds at every level
 abbrev pub IsLocal : Command → Type 0

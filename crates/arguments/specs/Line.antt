@@ -140,6 +140,12 @@ OnFault P (Help text) = ⊥
 OnFault P (Fault text) = P
 OnFault P Memory = ⊤
 
+-- a fault of the line, and neither help nor want of memory
+abbrev pub IsFault : LineFault → Type 0
+IsFault (Help text) = ⊥
+IsFault (Fault text) = ⊤
+IsFault Memory = ⊥
+
 -- the fault for an error of clap of this kind
 abbrev pub IsKindOf : ErrorKind → LineFault → Type 0
 IsKindOf kind (Help text) = kind ≡ kinds.DisplayHelp

@@ -1,9 +1,10 @@
 //! Reading a command line.
 
-ghost use Rattle.std.specs.Prelude.{◌≡◌, IfOk, IfErr, [], map, string_bytes};
-ghost use Rattle.clap.specs.Words.{fault_of, kind_of, subcommand_of, subcommand_rows_of};
+ghost use Rattle.std.specs.Prelude.{◌≡◌, IfOk, IfErr, MatchOption, [], None, Some, map, string_bytes};
+ghost use Rattle.clap.specs.Words.{fault_of, found_of, kind_of, rows_of, subcommand_of, subcommand_rows_of};
 ghost use Rattle.arguments.specs.Grammar.{novacrash};
-ghost use Rattle.arguments.specs.Line.{IsCommand, IsKindOf, IsWithinLimits, Refuses};
+ghost use Rattle.arguments.specs.Line.{IsCommand, IsFault, IsKindOf, IsOf, IsWithinLimits, OnFault, Refuses};
+ghost use Rattle.arguments.specs.declared.asked.Command.{Command as ACommand};
 
 use crate::asked::{Command, LineFault};
 use crate::commands::{assemble, check, debug, explain, images, make_volume, replay, run};
@@ -41,6 +42,43 @@ fn matches<'a>(alloc: Global, words: &'a [String]) -> Result<ArgMatches<'a>, Lin
     }
 }
 
+/// What a line gives that has no subcommand of the grammar.
+fn unknown(alloc: Global) -> Result<LineFault, AllocError>
+    ensures { IfOk result (λ fault. IsFault fault) }
+{
+    let text = format!(in alloc; "error: there is no such command\n")?;
+    Ok(LineFault::Fault(text))
+}
+
+/// The subcommand of a line, and what clap found for it.
+#[tactic(auto, using(crate::proofs::Lines::used))]
+fn subcommand<'a, 'm>(found: &'m ArgMatches<'a>) -> Option<(&'a str, &'m ArgMatches<'a>)>
+    ensures { MatchOption result (subcommand_rows_of found.now ≡ None)
+        (λ p. subcommand_rows_of found.now ≡ Some (p.0.now, rows_of (found_of p.1.now))) }
+{
+    found.subcommand()
+}
+
+/// The command of a subcommand, by the values found for its words and options.
+fn asked(alloc: Global, name: &str, found: &ArgMatches<'_>) -> Result<Command, LineFault>
+    ensures ok { IfOk result (IsOf name.now (rows_of (found_of found.now))) }
+    ensures within { IfOk result IsWithinLimits }
+    ensures err { IfErr result (OnFault ((command : ACommand)
+        → ¬ (IsOf name.now (rows_of (found_of found.now)) command))) }
+{
+    Ok(match name {
+        "asm" => Command::Assemble(assemble(alloc, found)?),
+        "mkfs" => Command::MakeVolume(make_volume(alloc, found)?),
+        "run" => Command::Run(run(alloc, found)?),
+        "replay" => Command::Replay(replay(alloc, found)?),
+        "debug" => Command::Debug(debug(alloc, found)?),
+        "images" => Command::Images(images(alloc, found)?),
+        "explain" => Command::Explain(explain(alloc, found)?),
+        "check" => Command::Check(check(alloc, found)?),
+        _ => return Err(unknown(alloc)?),
+    })
+}
+
 /// The command that a line asks for. `words` begins with the program's name.
 ///
 /// # Errors
@@ -56,22 +94,15 @@ fn matches<'a>(alloc: Global, words: &'a [String]) -> Result<ArgMatches<'a>, Lin
 /// - `images PROGRAM SCHEDULE MOMENT [--medium FILE --harts N]`
 /// - `explain PROGRAM SCHEDULE MOMENT IMAGE [--medium FILE --harts N]`
 /// - `check PLAN PROGRAM SCHEDULE [--medium FILE --harts N]`
-#[tactic(auto, unfolding(crate::specs::Grammar::assemble_shape, crate::specs::Grammar::make_volume_shape, crate::specs::Grammar::run_shape, crate::specs::Grammar::replay_shape, crate::specs::Grammar::debug_shape, crate::specs::Grammar::images_shape, crate::specs::Grammar::explain_shape, crate::specs::Grammar::check_shape))]
+#[tactic(auto, using(crate::proofs::Lines::has_none))]
 pub fn command(alloc: Global, words: &[String]) -> Result<Command, LineFault>
     ensures ok { IfOk result (IsCommand (map string_bytes words.now)) }
     ensures within { IfOk result IsWithinLimits }
     ensures err { IfErr result (Refuses (map string_bytes words.now)) }
 {
     let found = matches(alloc, words)?;
-    match found.subcommand() {
-        Some(("asm", found)) => Ok(Command::Assemble(assemble(alloc, found)?)),
-        Some(("mkfs", found)) => Ok(Command::MakeVolume(make_volume(alloc, found)?)),
-        Some(("run", found)) => Ok(Command::Run(run(alloc, found)?)),
-        Some(("replay", found)) => Ok(Command::Replay(replay(alloc, found)?)),
-        Some(("debug", found)) => Ok(Command::Debug(debug(alloc, found)?)),
-        Some(("images", found)) => Ok(Command::Images(images(alloc, found)?)),
-        Some(("explain", found)) => Ok(Command::Explain(explain(alloc, found)?)),
-        Some(("check", found)) => Ok(Command::Check(check(alloc, found)?)),
-        _ => Err(LineFault::Fault(format!(in alloc; "error: there is no such command\n")?)),
+    match subcommand(&found) {
+        Some((name, found)) => asked(alloc, name, found),
+        None => Err(unknown(alloc)?),
     }
 }
