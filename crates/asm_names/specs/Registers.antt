@@ -1,9 +1,10 @@
 -- The names of registers and of sets of accesses.
 -- Source: RISC-V Unprivileged ISA 20191213, chapter 25 ("RISC-V Assembly Programmer's Handbook"), and chapter 2 ("Memory
 -- Ordering Instructions") for the sets.
-use Rattle.std.specs.Prelude.{◌≡◌, ℕ, zero, suc, ◌/◌, ◌%◌, Bool, true, false, ◌&&◌, List, [], ◌∷◌, ◌++◌, Option, Some, None, nat_eq, nat_lt, nat_le, length, ◌==◌, if◌then◌else◌, codes, find, refl}
+use Rattle.std.specs.Prelude.{◌≡◌, ℕ, zero, suc, ◌/◌, ◌%◌, Bool, true, false, ◌&&◌, List, [], ◌∷◌, ◌++◌, Option, Some, None, nat_eq, nat_lt, nat_le, length, ◌==◌, if◌then◌else◌, codes, find, map, refl}
 use Rattle.std.proofs.Common.{ltb-true}
 use Rattle.std.specs.Option.{option_or, option_and_then}
+use Rattle.std.specs.Borrow.{Bor}
 use Rattle.std.specs.Cmp.Lexicographic.{pointwise}
 use Rattle.std.specs.Str.Parse.{digits_value}
 use Rattle.asm_lex.specs.Kinds.{is_decimal}
@@ -22,6 +23,10 @@ row name value = record { name = name; value = value }
 abbrev pub named : {A : Type 0} → List (Row A) → List ℕ → Option A
 named [] text = None
 named (r ∷ rows) text = if pointwise nat_eq text r.name then Some r.value else named rows text
+
+-- the rows of a table of the code
+abbrev pub rows_of : {A : Type 0} → List (Bor (List ℕ) × A) → List (Row A)
+rows_of rows = map (λ r. row r.0.now r.1) rows
 
 -- the numbers of the registers that the calling convention names
 unfoldable pub convention_number : List ℕ → Option ℕ

@@ -7,6 +7,7 @@ mod kinds;
 mod lookup;
 mod mnemonic;
 mod registers;
+mod tables;
 
 pub use kinds::{NumberWidth, Section};
 pub use lookup::mnemonic_of;

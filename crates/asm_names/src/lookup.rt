@@ -14,6 +14,7 @@ ghost use Rattle.std.specs.Prelude.{◌≡◌, ◌≤◌, length};
 
 use crate::kinds::{NumberWidth, Section};
 use crate::mnemonic::{AtomicForm, ExchangedBranchOp, Mnemonic, UnaryOp, ZeroBranchOp};
+use crate::tables::named;
 use isa_table::{
     AtomicOp, AtomicWidth, BranchOp, CacheOp, ImmediateOp, LoadOp, RegisterOp, ShiftOp, StoreOp,
     SystemOp, UpperOp,
@@ -82,41 +83,43 @@ fn pseudo_of(text: &[u8]) -> Option<Mnemonic>
         .or_else(|| exchanged_branch_of(text).map(Mnemonic::ExchangedBranch))
 }
 
+static SINGLES: [(&[u8], Mnemonic); 10] = [
+    (b"jal", Mnemonic::Jump),
+    (b"jalr", Mnemonic::JumpRegister),
+    (b"fence", Mnemonic::Fence),
+    (b"fence.i", Mnemonic::FenceI),
+    (b"nop", Mnemonic::Nop),
+    (b"ret", Mnemonic::Return),
+    (b"j", Mnemonic::PlainJump),
+    (b"jr", Mnemonic::PlainJumpRegister),
+    (b"li", Mnemonic::LoadNumber),
+    (b"la", Mnemonic::LoadAddress),
+];
+
 /// The mnemonics and pseudo-instructions with a shape of their own.
 #[tactic(auto, unfolding(crate::specs::Mnemonics::single_of))]
 fn single_of(text: &[u8]) -> Option<Mnemonic>
     ensures { result ≡ single_of text.now }
 {
-    match text {
-        b"jal" => Some(Mnemonic::Jump),
-        b"jalr" => Some(Mnemonic::JumpRegister),
-        b"fence" => Some(Mnemonic::Fence),
-        b"fence.i" => Some(Mnemonic::FenceI),
-        b"nop" => Some(Mnemonic::Nop),
-        b"ret" => Some(Mnemonic::Return),
-        b"j" => Some(Mnemonic::PlainJump),
-        b"jr" => Some(Mnemonic::PlainJumpRegister),
-        b"li" => Some(Mnemonic::LoadNumber),
-        b"la" => Some(Mnemonic::LoadAddress),
-        _ => None,
-    }
+    named(&SINGLES, text)
 }
+
+static DIRECTIVES: [(&[u8], Mnemonic); 8] = [
+    (b".text", Mnemonic::Section(Section::Text)),
+    (b".data", Mnemonic::Section(Section::Data)),
+    (b".byte", Mnemonic::Numbers(NumberWidth::Byte)),
+    (b".half", Mnemonic::Numbers(NumberWidth::Half)),
+    (b".word", Mnemonic::Numbers(NumberWidth::Word)),
+    (b".dword", Mnemonic::Numbers(NumberWidth::Doubleword)),
+    (b".zero", Mnemonic::Zeros),
+    (b".balign", Mnemonic::Align),
+];
 
 #[tactic(auto, unfolding(crate::specs::Mnemonics::directive_of))]
 fn directive_of(text: &[u8]) -> Option<Mnemonic>
     ensures { result ≡ directive_of text.now }
 {
-    match text {
-        b".text" => Some(Mnemonic::Section(Section::Text)),
-        b".data" => Some(Mnemonic::Section(Section::Data)),
-        b".byte" => Some(Mnemonic::Numbers(NumberWidth::Byte)),
-        b".half" => Some(Mnemonic::Numbers(NumberWidth::Half)),
-        b".word" => Some(Mnemonic::Numbers(NumberWidth::Word)),
-        b".dword" => Some(Mnemonic::Numbers(NumberWidth::Doubleword)),
-        b".zero" => Some(Mnemonic::Zeros),
-        b".balign" => Some(Mnemonic::Align),
-        _ => None,
-    }
+    named(&DIRECTIVES, text)
 }
 
 /// How many bytes stand before the first dot.
@@ -146,229 +149,241 @@ fn formed(stem: &[u8], form: AtomicForm) -> Option<Mnemonic>
     }
 }
 
+/// A form, by its width and whether it acquires and releases.
+macro_rules! form {
+    ($width:ident, $acquire:expr, $release:expr) => {
+        AtomicForm {
+            width: AtomicWidth::$width,
+            acquire: $acquire,
+            release: $release,
+        }
+    };
+}
+
+static FORMS: [(&[u8], AtomicForm); 8] = [
+    (b".w", form!(Word, false, false)),
+    (b".w.aq", form!(Word, true, false)),
+    (b".w.rl", form!(Word, false, true)),
+    (b".w.aqrl", form!(Word, true, true)),
+    (b".d", form!(Doubleword, false, false)),
+    (b".d.aq", form!(Doubleword, true, false)),
+    (b".d.rl", form!(Doubleword, false, true)),
+    (b".d.aqrl", form!(Doubleword, true, true)),
+];
+
 /// The width and the ordering at the end of an atomic instruction's name.
 #[tactic(auto, unfolding(crate::specs::Mnemonics::form_of))]
 fn form_of(suffix: &[u8]) -> Option<AtomicForm>
     ensures { result ≡ form_of suffix.now }
 {
-    match suffix {
-        b".w" => Some(form(AtomicWidth::Word, false, false)),
-        b".w.aq" => Some(form(AtomicWidth::Word, true, false)),
-        b".w.rl" => Some(form(AtomicWidth::Word, false, true)),
-        b".w.aqrl" => Some(form(AtomicWidth::Word, true, true)),
-        b".d" => Some(form(AtomicWidth::Doubleword, false, false)),
-        b".d.aq" => Some(form(AtomicWidth::Doubleword, true, false)),
-        b".d.rl" => Some(form(AtomicWidth::Doubleword, false, true)),
-        b".d.aqrl" => Some(form(AtomicWidth::Doubleword, true, true)),
-        _ => None,
-    }
+    named(&FORMS, suffix)
 }
 
-fn form(width: AtomicWidth, acquire: bool, release: bool) -> AtomicForm
-    ensures { result ≡ record { width = width; acquire = acquire; release = release } }
-{
-    AtomicForm {
-        width,
-        acquire,
-        release,
-    }
-}
+static UPPERS: [(&[u8], UpperOp); 2] = [(b"lui", UpperOp::Lui), (b"auipc", UpperOp::Auipc)];
 
 #[tactic(auto, unfolding(crate::specs::Mnemonics::upper_of))]
 fn upper_of(text: &[u8]) -> Option<UpperOp>
     ensures { result ≡ upper_of text.now }
 {
-    match text {
-        b"lui" => Some(UpperOp::Lui),
-        b"auipc" => Some(UpperOp::Auipc),
-        _ => None,
-    }
+    named(&UPPERS, text)
 }
+
+static BRANCHES: [(&[u8], BranchOp); 6] = [
+    (b"beq", BranchOp::Beq),
+    (b"bne", BranchOp::Bne),
+    (b"blt", BranchOp::Blt),
+    (b"bge", BranchOp::Bge),
+    (b"bltu", BranchOp::Bltu),
+    (b"bgeu", BranchOp::Bgeu),
+];
 
 #[tactic(auto, unfolding(crate::specs::Mnemonics::branch_of))]
 fn branch_of(text: &[u8]) -> Option<BranchOp>
     ensures { result ≡ branch_of text.now }
 {
-    match text {
-        b"beq" => Some(BranchOp::Beq),
-        b"bne" => Some(BranchOp::Bne),
-        b"blt" => Some(BranchOp::Blt),
-        b"bge" => Some(BranchOp::Bge),
-        b"bltu" => Some(BranchOp::Bltu),
-        b"bgeu" => Some(BranchOp::Bgeu),
-        _ => None,
-    }
+    named(&BRANCHES, text)
 }
+
+static LOADS: [(&[u8], LoadOp); 7] = [
+    (b"lb", LoadOp::Lb),
+    (b"lh", LoadOp::Lh),
+    (b"lw", LoadOp::Lw),
+    (b"ld", LoadOp::Ld),
+    (b"lbu", LoadOp::Lbu),
+    (b"lhu", LoadOp::Lhu),
+    (b"lwu", LoadOp::Lwu),
+];
 
 #[tactic(auto, unfolding(crate::specs::Mnemonics::load_of))]
 fn load_of(text: &[u8]) -> Option<LoadOp>
     ensures { result ≡ load_of text.now }
 {
-    match text {
-        b"lb" => Some(LoadOp::Lb),
-        b"lh" => Some(LoadOp::Lh),
-        b"lw" => Some(LoadOp::Lw),
-        b"ld" => Some(LoadOp::Ld),
-        b"lbu" => Some(LoadOp::Lbu),
-        b"lhu" => Some(LoadOp::Lhu),
-        b"lwu" => Some(LoadOp::Lwu),
-        _ => None,
-    }
+    named(&LOADS, text)
 }
+
+static STORES: [(&[u8], StoreOp); 4] = [
+    (b"sb", StoreOp::Sb),
+    (b"sh", StoreOp::Sh),
+    (b"sw", StoreOp::Sw),
+    (b"sd", StoreOp::Sd),
+];
 
 #[tactic(auto, unfolding(crate::specs::Mnemonics::store_of))]
 fn store_of(text: &[u8]) -> Option<StoreOp>
     ensures { result ≡ store_of text.now }
 {
-    match text {
-        b"sb" => Some(StoreOp::Sb),
-        b"sh" => Some(StoreOp::Sh),
-        b"sw" => Some(StoreOp::Sw),
-        b"sd" => Some(StoreOp::Sd),
-        _ => None,
-    }
+    named(&STORES, text)
 }
+
+static IMMEDIATES: [(&[u8], ImmediateOp); 7] = [
+    (b"addi", ImmediateOp::Addi),
+    (b"slti", ImmediateOp::Slti),
+    (b"sltiu", ImmediateOp::Sltiu),
+    (b"xori", ImmediateOp::Xori),
+    (b"ori", ImmediateOp::Ori),
+    (b"andi", ImmediateOp::Andi),
+    (b"addiw", ImmediateOp::Addiw),
+];
 
 #[tactic(auto, unfolding(crate::specs::Mnemonics::immediate_of))]
 fn immediate_of(text: &[u8]) -> Option<ImmediateOp>
     ensures { result ≡ immediate_of text.now }
 {
-    match text {
-        b"addi" => Some(ImmediateOp::Addi),
-        b"slti" => Some(ImmediateOp::Slti),
-        b"sltiu" => Some(ImmediateOp::Sltiu),
-        b"xori" => Some(ImmediateOp::Xori),
-        b"ori" => Some(ImmediateOp::Ori),
-        b"andi" => Some(ImmediateOp::Andi),
-        b"addiw" => Some(ImmediateOp::Addiw),
-        _ => None,
-    }
+    named(&IMMEDIATES, text)
 }
+
+static SHIFTS: [(&[u8], ShiftOp); 6] = [
+    (b"slli", ShiftOp::Slli),
+    (b"srli", ShiftOp::Srli),
+    (b"srai", ShiftOp::Srai),
+    (b"slliw", ShiftOp::Slliw),
+    (b"srliw", ShiftOp::Srliw),
+    (b"sraiw", ShiftOp::Sraiw),
+];
 
 #[tactic(auto, unfolding(crate::specs::Mnemonics::shift_of))]
 fn shift_of(text: &[u8]) -> Option<ShiftOp>
     ensures { result ≡ shift_of text.now }
 {
-    match text {
-        b"slli" => Some(ShiftOp::Slli),
-        b"srli" => Some(ShiftOp::Srli),
-        b"srai" => Some(ShiftOp::Srai),
-        b"slliw" => Some(ShiftOp::Slliw),
-        b"srliw" => Some(ShiftOp::Srliw),
-        b"sraiw" => Some(ShiftOp::Sraiw),
-        _ => None,
-    }
+    named(&SHIFTS, text)
 }
+
+static REGISTERS: [(&[u8], RegisterOp); 15] = [
+    (b"add", RegisterOp::Add),
+    (b"sub", RegisterOp::Sub),
+    (b"sll", RegisterOp::Sll),
+    (b"slt", RegisterOp::Slt),
+    (b"sltu", RegisterOp::Sltu),
+    (b"xor", RegisterOp::Xor),
+    (b"srl", RegisterOp::Srl),
+    (b"sra", RegisterOp::Sra),
+    (b"or", RegisterOp::Or),
+    (b"and", RegisterOp::And),
+    (b"addw", RegisterOp::Addw),
+    (b"subw", RegisterOp::Subw),
+    (b"sllw", RegisterOp::Sllw),
+    (b"srlw", RegisterOp::Srlw),
+    (b"sraw", RegisterOp::Sraw),
+];
 
 #[tactic(auto, unfolding(crate::specs::Mnemonics::register_op_of))]
 fn register_op_of(text: &[u8]) -> Option<RegisterOp>
     ensures { result ≡ register_op_of text.now }
 {
-    match text {
-        b"add" => Some(RegisterOp::Add),
-        b"sub" => Some(RegisterOp::Sub),
-        b"sll" => Some(RegisterOp::Sll),
-        b"slt" => Some(RegisterOp::Slt),
-        b"sltu" => Some(RegisterOp::Sltu),
-        b"xor" => Some(RegisterOp::Xor),
-        b"srl" => Some(RegisterOp::Srl),
-        b"sra" => Some(RegisterOp::Sra),
-        b"or" => Some(RegisterOp::Or),
-        b"and" => Some(RegisterOp::And),
-        b"addw" => Some(RegisterOp::Addw),
-        b"subw" => Some(RegisterOp::Subw),
-        b"sllw" => Some(RegisterOp::Sllw),
-        b"srlw" => Some(RegisterOp::Srlw),
-        b"sraw" => Some(RegisterOp::Sraw),
-        _ => None,
-    }
+    named(&REGISTERS, text)
 }
+
+static CACHES: [(&[u8], CacheOp); 3] = [
+    (b"cbo.inval", CacheOp::Inval),
+    (b"cbo.clean", CacheOp::Clean),
+    (b"cbo.flush", CacheOp::Flush),
+];
 
 #[tactic(auto, unfolding(crate::specs::Mnemonics::cache_of))]
 fn cache_of(text: &[u8]) -> Option<CacheOp>
     ensures { result ≡ cache_of text.now }
 {
-    match text {
-        b"cbo.inval" => Some(CacheOp::Inval),
-        b"cbo.clean" => Some(CacheOp::Clean),
-        b"cbo.flush" => Some(CacheOp::Flush),
-        _ => None,
-    }
+    named(&CACHES, text)
 }
+
+static SYSTEMS: [(&[u8], SystemOp); 2] = [
+    (b"ecall", SystemOp::Ecall),
+    (b"ebreak", SystemOp::Ebreak),
+];
 
 #[tactic(auto, unfolding(crate::specs::Mnemonics::system_of))]
 fn system_of(text: &[u8]) -> Option<SystemOp>
     ensures { result ≡ system_of text.now }
 {
-    match text {
-        b"ecall" => Some(SystemOp::Ecall),
-        b"ebreak" => Some(SystemOp::Ebreak),
-        _ => None,
-    }
+    named(&SYSTEMS, text)
 }
+
+static ATOMICS: [(&[u8], AtomicOp); 10] = [
+    (b"sc", AtomicOp::Sc),
+    (b"amoswap", AtomicOp::Amoswap),
+    (b"amoadd", AtomicOp::Amoadd),
+    (b"amoxor", AtomicOp::Amoxor),
+    (b"amoand", AtomicOp::Amoand),
+    (b"amoor", AtomicOp::Amoor),
+    (b"amomin", AtomicOp::Amomin),
+    (b"amomax", AtomicOp::Amomax),
+    (b"amominu", AtomicOp::Amominu),
+    (b"amomaxu", AtomicOp::Amomaxu),
+];
 
 /// The atomic instruction of a name without its width and its ordering.
 #[tactic(auto, unfolding(crate::specs::Mnemonics::atomic_of))]
 fn atomic_of(text: &[u8]) -> Option<AtomicOp>
     ensures { result ≡ atomic_of text.now }
 {
-    match text {
-        b"sc" => Some(AtomicOp::Sc),
-        b"amoswap" => Some(AtomicOp::Amoswap),
-        b"amoadd" => Some(AtomicOp::Amoadd),
-        b"amoxor" => Some(AtomicOp::Amoxor),
-        b"amoand" => Some(AtomicOp::Amoand),
-        b"amoor" => Some(AtomicOp::Amoor),
-        b"amomin" => Some(AtomicOp::Amomin),
-        b"amomax" => Some(AtomicOp::Amomax),
-        b"amominu" => Some(AtomicOp::Amominu),
-        b"amomaxu" => Some(AtomicOp::Amomaxu),
-        _ => None,
-    }
+    named(&ATOMICS, text)
 }
+
+static UNARIES: [(&[u8], UnaryOp); 9] = [
+    (b"mv", UnaryOp::Mv),
+    (b"not", UnaryOp::Not),
+    (b"neg", UnaryOp::Neg),
+    (b"negw", UnaryOp::Negw),
+    (b"sext.w", UnaryOp::SextW),
+    (b"seqz", UnaryOp::Seqz),
+    (b"snez", UnaryOp::Snez),
+    (b"sltz", UnaryOp::Sltz),
+    (b"sgtz", UnaryOp::Sgtz),
+];
 
 #[tactic(auto, unfolding(crate::specs::Mnemonics::unary_of))]
 fn unary_of(text: &[u8]) -> Option<UnaryOp>
     ensures { result ≡ unary_of text.now }
 {
-    match text {
-        b"mv" => Some(UnaryOp::Mv),
-        b"not" => Some(UnaryOp::Not),
-        b"neg" => Some(UnaryOp::Neg),
-        b"negw" => Some(UnaryOp::Negw),
-        b"sext.w" => Some(UnaryOp::SextW),
-        b"seqz" => Some(UnaryOp::Seqz),
-        b"snez" => Some(UnaryOp::Snez),
-        b"sltz" => Some(UnaryOp::Sltz),
-        b"sgtz" => Some(UnaryOp::Sgtz),
-        _ => None,
-    }
+    named(&UNARIES, text)
 }
+
+static ZERO_BRANCHES: [(&[u8], ZeroBranchOp); 6] = [
+    (b"beqz", ZeroBranchOp::Beqz),
+    (b"bnez", ZeroBranchOp::Bnez),
+    (b"blez", ZeroBranchOp::Blez),
+    (b"bgez", ZeroBranchOp::Bgez),
+    (b"bltz", ZeroBranchOp::Bltz),
+    (b"bgtz", ZeroBranchOp::Bgtz),
+];
 
 #[tactic(auto, unfolding(crate::specs::Mnemonics::zero_branch_of))]
 fn zero_branch_of(text: &[u8]) -> Option<ZeroBranchOp>
     ensures { result ≡ zero_branch_of text.now }
 {
-    match text {
-        b"beqz" => Some(ZeroBranchOp::Beqz),
-        b"bnez" => Some(ZeroBranchOp::Bnez),
-        b"blez" => Some(ZeroBranchOp::Blez),
-        b"bgez" => Some(ZeroBranchOp::Bgez),
-        b"bltz" => Some(ZeroBranchOp::Bltz),
-        b"bgtz" => Some(ZeroBranchOp::Bgtz),
-        _ => None,
-    }
+    named(&ZERO_BRANCHES, text)
 }
+
+static EXCHANGED_BRANCHES: [(&[u8], ExchangedBranchOp); 4] = [
+    (b"bgt", ExchangedBranchOp::Bgt),
+    (b"ble", ExchangedBranchOp::Ble),
+    (b"bgtu", ExchangedBranchOp::Bgtu),
+    (b"bleu", ExchangedBranchOp::Bleu),
+];
 
 #[tactic(auto, unfolding(crate::specs::Mnemonics::exchanged_branch_of))]
 fn exchanged_branch_of(text: &[u8]) -> Option<ExchangedBranchOp>
     ensures { result ≡ exchanged_branch_of text.now }
 {
-    match text {
-        b"bgt" => Some(ExchangedBranchOp::Bgt),
-        b"ble" => Some(ExchangedBranchOp::Ble),
-        b"bgtu" => Some(ExchangedBranchOp::Bgtu),
-        b"bleu" => Some(ExchangedBranchOp::Bleu),
-        _ => None,
-    }
+    named(&EXCHANGED_BRANCHES, text)
 }

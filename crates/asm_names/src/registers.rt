@@ -9,6 +9,7 @@ ghost use Rattle.asm_names.specs.Registers.{return_register, all_accesses};
 ghost use Rattle.std.specs.Char.{is_digit, digit_value};
 ghost use Rattle.std.specs.Prelude.{◌≡◌, ◌<◌, Some, None, IfSome, if◌then◌else◌};
 
+use crate::tables::named;
 use isa_table::{AccessSet, Reg};
 
 /// The register that a name stands for.
@@ -74,100 +75,90 @@ fn digit(byte: u8) -> Option<u8>
     }
 }
 
+/// The registers that the calling convention names.
+static CONVENTION: [(&[u8], u8); 33] = [
+    (b"zero", 0),
+    (b"ra", 1),
+    (b"sp", 2),
+    (b"gp", 3),
+    (b"tp", 4),
+    (b"t0", 5),
+    (b"t1", 6),
+    (b"t2", 7),
+    (b"s0", 8),
+    (b"fp", 8),
+    (b"s1", 9),
+    (b"a0", 10),
+    (b"a1", 11),
+    (b"a2", 12),
+    (b"a3", 13),
+    (b"a4", 14),
+    (b"a5", 15),
+    (b"a6", 16),
+    (b"a7", 17),
+    (b"s2", 18),
+    (b"s3", 19),
+    (b"s4", 20),
+    (b"s5", 21),
+    (b"s6", 22),
+    (b"s7", 23),
+    (b"s8", 24),
+    (b"s9", 25),
+    (b"s10", 26),
+    (b"s11", 27),
+    (b"t3", 28),
+    (b"t4", 29),
+    (b"t5", 30),
+    (b"t6", 31),
+];
+
 /// The number of a register that the calling convention names.
 #[tactic(auto, unfolding(crate::specs::Registers::convention_number))]
 fn convention_number(text: &[u8]) -> Option<u8>
     ensures { result ≡ convention_number text.now }
 {
-    match text {
-        b"zero" => Some(0),
-        b"ra" => Some(1),
-        b"sp" => Some(2),
-        b"gp" => Some(3),
-        b"tp" => Some(4),
-        b"t0" => Some(5),
-        b"t1" => Some(6),
-        b"t2" => Some(7),
-        b"s0" => Some(8),
-        b"fp" => Some(8),
-        b"s1" => Some(9),
-        b"a0" => Some(10),
-        b"a1" => Some(11),
-        b"a2" => Some(12),
-        b"a3" => Some(13),
-        b"a4" => Some(14),
-        b"a5" => Some(15),
-        b"a6" => Some(16),
-        b"a7" => Some(17),
-        b"s2" => Some(18),
-        b"s3" => Some(19),
-        b"s4" => Some(20),
-        b"s5" => Some(21),
-        b"s6" => Some(22),
-        b"s7" => Some(23),
-        b"s8" => Some(24),
-        b"s9" => Some(25),
-        b"s10" => Some(26),
-        b"s11" => Some(27),
-        b"t3" => Some(28),
-        b"t4" => Some(29),
-        b"t5" => Some(30),
-        b"t6" => Some(31),
-        _ => None,
-    }
+    named(&CONVENTION, text)
 }
 
-/// The set that a text stands for: letters of `iorw` in that order, or `0` for none.
+/// A set, by whether it has each of its accesses.
+macro_rules! access_set {
+    ($input:expr, $output:expr, $reads:expr, $writes:expr) => {
+        AccessSet {
+            device_input: $input,
+            device_output: $output,
+            memory_reads: $reads,
+            memory_writes: $writes,
+        }
+    };
+}
+
+/// The sets by their texts: letters of `iorw` in that order, or `0` for none.
+static SETS: [(&[u8], AccessSet); 16] = [
+    (b"0", access_set!(false, false, false, false)),
+    (b"w", access_set!(false, false, false, true)),
+    (b"r", access_set!(false, false, true, false)),
+    (b"rw", access_set!(false, false, true, true)),
+    (b"o", access_set!(false, true, false, false)),
+    (b"ow", access_set!(false, true, false, true)),
+    (b"or", access_set!(false, true, true, false)),
+    (b"orw", access_set!(false, true, true, true)),
+    (b"i", access_set!(true, false, false, false)),
+    (b"iw", access_set!(true, false, false, true)),
+    (b"ir", access_set!(true, false, true, false)),
+    (b"irw", access_set!(true, false, true, true)),
+    (b"io", access_set!(true, true, false, false)),
+    (b"iow", access_set!(true, true, false, true)),
+    (b"ior", access_set!(true, true, true, false)),
+    (b"iorw", access_set!(true, true, true, true)),
+];
+
+/// The set that a text stands for.
 #[tactic(auto, unfolding(crate::specs::Registers::set_of))]
 pub fn set_of(text: &[u8]) -> Option<AccessSet>
     ensures { result ≡ set_of text.now }
 {
-    match text {
-        b"0" => Some(access_set(false, false, false, false)),
-        b"w" => Some(access_set(false, false, false, true)),
-        b"r" => Some(access_set(false, false, true, false)),
-        b"rw" => Some(access_set(false, false, true, true)),
-        b"o" => Some(access_set(false, true, false, false)),
-        b"ow" => Some(access_set(false, true, false, true)),
-        b"or" => Some(access_set(false, true, true, false)),
-        b"orw" => Some(access_set(false, true, true, true)),
-        b"i" => Some(access_set(true, false, false, false)),
-        b"iw" => Some(access_set(true, false, false, true)),
-        b"ir" => Some(access_set(true, false, true, false)),
-        b"irw" => Some(access_set(true, false, true, true)),
-        b"io" => Some(access_set(true, true, false, false)),
-        b"iow" => Some(access_set(true, true, false, true)),
-        b"ior" => Some(access_set(true, true, true, false)),
-        b"iorw" => Some(access_set(true, true, true, true)),
-        _ => None,
-    }
-}
-
-fn access_set(
-    device_input: bool,
-    device_output: bool,
-    memory_reads: bool,
-    memory_writes: bool,
-) -> AccessSet
-    ensures { result ≡ record {
-      device_input = device_input;
-      device_output = device_output;
-      memory_reads = memory_reads;
-      memory_writes = memory_writes;
-    } }
-{
-    AccessSet {
-        device_input,
-        device_output,
-        memory_reads,
-        memory_writes,
-    }
+    named(&SETS, text)
 }
 
 /// All accesses, as a fence without sets orders them.
-pub const ALL_ACCESSES: AccessSet = AccessSet {
-    device_input: true,
-    device_output: true,
-    memory_reads: true,
-    memory_writes: true,
-};
+pub const ALL_ACCESSES: AccessSet = access_set!(true, true, true, true);
