@@ -6,7 +6,8 @@ ghost use Rattle.asm_line.specs.Lines.{body_of, label_of, labelled, label_first,
 ghost use Rattle.asm_line.specs.Meanings.{instruction, line_meaning, meaning_of, IsInRange};
 ghost use Rattle.asm_line.specs.Steps.{all_seen, Gives};
 ghost use Rattle.isa_table.specs.Ranges.{IsChecked};
-ghost use Rattle.std.specs.Prelude.{◌≡◌, ◌≢◌, Ok, IfOk, IfErr, MatchResult, option_map};
+ghost use Rattle.asm_line.specs.declared.line.Statement.TheVariants.{Instruction};
+ghost use Rattle.std.specs.Prelude.{◌≡◌, ◌≢◌, Ok, Err, IfOk, IfErr, MatchResult, option_map};
 
 use crate::directives::{align, numbers, section, zeros};
 use crate::fault::AsmCode;
@@ -22,6 +23,7 @@ use crate::pseudo::{
     return_jump, unary, zero_branch,
 };
 use asm_names::{Mnemonic, mnemonic_of, register_of};
+use isa_table::Instr;
 use std::alloc::Global;
 
 /// A line of lexemes: `name:`, a statement, or both.
@@ -141,6 +143,13 @@ fn body<'a>(alloc: Global, lexemes: &[Lexeme<'a>]) -> Result<Statement<'a>, AsmC
     }
 }
 
+/// The statement of an instruction that names no place.
+fn plain<'a>(instruction: Result<Instr, AsmCode>) -> Result<Statement<'a>, AsmCode>
+    ensures { MatchResult instruction (λ instr. result ≡ Ok (Instruction instr)) (λ code. result ≡ Err code) }
+{
+    Ok(Statement::Instruction(instruction?))
+}
+
 /// The statement of a mnemonic, pseudo-instruction or directive with these operands.
 fn statement<'a>(
     alloc: Global,
@@ -154,28 +163,28 @@ fn statement<'a>(
     ensures in_range { IfOk result (λ s. IsInRange (meaning_of s)) }
 {
     match mnemonic {
-        Mnemonic::Upper(op) => Ok(Statement::Instruction(upper(op, operands)?)),
+        Mnemonic::Upper(op) => plain(upper(op, operands)),
         Mnemonic::Jump => jump(operands),
-        Mnemonic::JumpRegister => Ok(Statement::Instruction(jump_register(operands)?)),
+        Mnemonic::JumpRegister => plain(jump_register(operands)),
         Mnemonic::Branch(op) => branch(op, operands),
-        Mnemonic::Load(op) => Ok(Statement::Instruction(load(op, operands)?)),
-        Mnemonic::Store(op) => Ok(Statement::Instruction(store(op, operands)?)),
-        Mnemonic::Immediate(op) => Ok(Statement::Instruction(immediate(op, operands)?)),
-        Mnemonic::Shift(op) => Ok(Statement::Instruction(shift(op, operands)?)),
-        Mnemonic::Register(op) => Ok(Statement::Instruction(register(op, operands)?)),
-        Mnemonic::Fence => Ok(Statement::Instruction(fence(operands)?)),
-        Mnemonic::FenceI => Ok(Statement::Instruction(fence_i(operands)?)),
-        Mnemonic::Cache(op) => Ok(Statement::Instruction(cache(op, operands)?)),
-        Mnemonic::LoadReserved(form) => Ok(Statement::Instruction(load_reserved(form, operands)?)),
-        Mnemonic::Atomic(op, form) => Ok(Statement::Instruction(atomic(op, form, operands)?)),
-        Mnemonic::System(op) => Ok(Statement::Instruction(system(op, operands)?)),
-        Mnemonic::Nop => Ok(Statement::Instruction(no_operation(operands)?)),
-        Mnemonic::Return => Ok(Statement::Instruction(return_jump(operands)?)),
-        Mnemonic::Unary(op) => Ok(Statement::Instruction(unary(op, operands)?)),
+        Mnemonic::Load(op) => plain(load(op, operands)),
+        Mnemonic::Store(op) => plain(store(op, operands)),
+        Mnemonic::Immediate(op) => plain(immediate(op, operands)),
+        Mnemonic::Shift(op) => plain(shift(op, operands)),
+        Mnemonic::Register(op) => plain(register(op, operands)),
+        Mnemonic::Fence => plain(fence(operands)),
+        Mnemonic::FenceI => plain(fence_i(operands)),
+        Mnemonic::Cache(op) => plain(cache(op, operands)),
+        Mnemonic::LoadReserved(form) => plain(load_reserved(form, operands)),
+        Mnemonic::Atomic(op, form) => plain(atomic(op, form, operands)),
+        Mnemonic::System(op) => plain(system(op, operands)),
+        Mnemonic::Nop => plain(no_operation(operands)),
+        Mnemonic::Return => plain(return_jump(operands)),
+        Mnemonic::Unary(op) => plain(unary(op, operands)),
         Mnemonic::ZeroBranch(op) => zero_branch(op, operands),
         Mnemonic::ExchangedBranch(op) => exchanged_branch(op, operands),
         Mnemonic::PlainJump => plain_jump(operands),
-        Mnemonic::PlainJumpRegister => Ok(Statement::Instruction(plain_jump_register(operands)?)),
+        Mnemonic::PlainJumpRegister => plain(plain_jump_register(operands)),
         Mnemonic::LoadNumber => load_number(operands),
         Mnemonic::LoadAddress => load_address(operands),
         Mnemonic::Section(which) => section(which, operands),
