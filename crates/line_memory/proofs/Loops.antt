@@ -42,21 +42,18 @@ zero_medium lines count e least most =
 pub from_medium : (lines : List (List ℕ)) (count : ℕ) → AreLines lines → length lines ≡ count → 512 ≤ count → count ≤ 16384 → IsMedium lines
 from_medium lines count each e least most = record { least = omega arith; most = omega arith; each = each }
 
--- one more line of zeros, of a copy, of bytes
-pub zero_more : (count : ℕ) → zero_lines count ++ replicate {A = ℕ} 64 0 ∷ [] ≡ zero_lines (count + 1)
+-- lines of zeros, as they are made
+pub zeros_made : (count : ℕ) → replicate count (replicate {A = ℕ} 64 0) ≡ zero_lines count
 unfolding zero_lines
-zero_more count = replicate-append-replicate count 1 (replicate {A = ℕ} 64 0)
+zeros_made count = refl
 
+-- one more line of bytes
 pub concat_push : (lines : List (List ℕ)) (bytes : List ℕ) → concat (lines ++ bytes ∷ []) ≡ concat lines ++ bytes
 concat_push lines bytes = concat-append lines (bytes ∷ []) ∙ ap (λ (end : List ℕ). concat lines ++ end) (append-nil bytes)
 
 pub concat_more : (lines : List (List ℕ)) (i : ℕ) (d : List ℕ) → i < length lines
     → concat (take (i + 1) lines) ≡ concat (take i lines) ++ get_or lines i d
 concat_more lines i d h = rw (take_more lines i d h) (concat_push (take i lines) (get_or lines i d))
-
-pub zero_none : zero_lines 0 ≡ []
-unfolding zero_lines
-zero_none = refl
 
 pub joined_more : (lines : List (List ℕ)) (bytes line : List ℕ) (i : ℕ) → concat lines ≡ take (64 * i) bytes
     → line ≡ take (64 * i + 64 - 64 * i) (drop (64 * i) bytes) → concat (lines ++ line ∷ []) ≡ take (64 * (i + 1)) bytes

@@ -27,7 +27,7 @@ impl Model for Medium {
 
 impl Medium {
     /// A medium of zeros. Size outside 512 to 16,384 lines.
-    #[tactic(auto, using(crate::proofs::Loops::zero_medium, crate::proofs::Loops::zero_more, crate::proofs::Loops::zero_none))]
+    #[tactic(auto, using(crate::proofs::Loops::zero_medium, crate::proofs::Loops::zeros_made))]
     pub fn zero(alloc: Global, lines: u32) -> Result<Medium, MediumFault>
         ensures ok { IfOk result (λ m. m ≡ zero_lines lines) }
         ensures whole { IfOk result (λ m. IsMedium m) }
@@ -36,10 +36,8 @@ impl Medium {
         if lines < MIN_LINES || lines > MAX_LINES {
             return Err(MediumFault::Size);
         }
-        let mut made = Vec::with_capacity(alloc, lines as usize)?;
-        for _ in 0..lines {
-            push_line(&mut made, [0; LINE_SIZE])?;
-        }
+        let mut made = Vec::new(alloc);
+        made.resize(lines as usize, [0; LINE_SIZE])?;
         Ok(Medium { lines: made })
     }
 
@@ -85,10 +83,7 @@ impl Medium {
         ensures whole { IfOk result (λ m. IsMedium m) }
         ensures err { IfErr result (λ fault. fault ≡ MediumFault.Memory) }
     {
-        let mut lines = Vec::with_capacity(alloc, self.lines.len())?;
-        for line in &self.lines {
-            push_line(&mut lines, *line)?;
-        }
+        let lines = Vec::from_slice(alloc, &self.lines)?;
         Ok(Medium { lines })
     }
 
