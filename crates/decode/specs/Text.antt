@@ -1,7 +1,7 @@
 -- The text of an instruction.
 -- Source: RISC-V Unprivileged ISA 20191213, chapter 25 ("RISC-V Assembly Programmer's Handbook"); RISC-V Cache Management
 -- Operations 1.0 for the `cbo` instructions. Registers are written by their numbers and offsets always.
-use Rattle.std.specs.Prelude.{ℕ, suc, ◌+◌, ℤ, pos, negsuc, Bool, true, false, List, [], ◌∷◌, ◌++◌, codes, decimal}
+use Rattle.std.specs.Prelude.{ℕ, ◌+◌, ℤ, pos, negsuc, Bool, true, false, List, [], ◌∷◌, ◌++◌, codes, decimal}
 use Rattle.std.specs.Fmt.{signed_decimal}
 use Rattle.isa_table.specs.Names.{mnemonic}
 use Rattle.isa_table.specs.declared.access.AccessSet.{AccessSet}

@@ -2,7 +2,9 @@
 //!
 //! Source: RISC-V Unprivileged ISA 20191213, chapter 25; CMO 1.0 for `cbo`.
 
-ghost use Rattle.decode.specs.Text.{text_if, text_of};
+ghost use Rattle.decode.specs.Text.{operand_texts, text_if, text_of};
+ghost use Rattle.decode.specs.Written.{name_text, texts_of};
+ghost use Rattle.isa_table.specs.Names.{mnemonic};
 ghost use Rattle.std.specs.Prelude.{◌≡◌, IfOk, string_bytes};
 
 use isa_table::{AccessSet, Instr, Reg, ordering_suffix};
@@ -15,213 +17,197 @@ use std::fmt;
 pub fn show(alloc: Global, instr: Instr) -> Result<String, AllocError>
     ensures { IfOk result (λ text. string_bytes text ≡ text_of instr) }
 {
-    format!(in alloc; "{}{}", Mnemonic { instr }, Operands { instr })
+    format!(in alloc; "{}{}", mnemonic_of(instr), operands_of(instr))
 }
 
-/// The name of an instruction.
+/// The name of an instruction: that of its operation, and what an atomic adds to it.
 #[derive(Clone, Copy)]
 struct Mnemonic {
-    instr: Instr,
+    name: &'static str,
+    width: &'static str,
+    ordering: &'static str,
 }
 
 impl fmt::Display for Mnemonic {
     ghost use Rattle.std.specs.Prelude.{Some};
-    ghost use Rattle.isa_table.specs.Names.{mnemonic};
+    ghost use Rattle.decode.specs.Written.{name_text};
 
-    ghost output = { λ shown. Some (mnemonic shown.instr) };
+    ghost output = { λ shown. Some (name_text shown) };
 
     fn fmt<W: fmt::Write>(&self, f: &mut fmt::Formatter<W>) -> fmt::Result {
-        match self.instr {
-            Instr::Upper { op, .. } => write!(f, "{}", op.name()),
-            Instr::Jump { .. } => write!(f, "jal"),
-            Instr::JumpRegister { .. } => write!(f, "jalr"),
-            Instr::Branch { op, .. } => write!(f, "{}", op.name()),
-            Instr::Load { op, .. } => write!(f, "{}", op.name()),
-            Instr::Store { op, .. } => write!(f, "{}", op.name()),
-            Instr::Immediate { op, .. } => write!(f, "{}", op.name()),
-            Instr::Shift { op, .. } => write!(f, "{}", op.name()),
-            Instr::Register { op, .. } => write!(f, "{}", op.name()),
-            Instr::Fence { .. } => write!(f, "fence"),
-            Instr::FenceI => write!(f, "fence.i"),
-            Instr::Cache { op, .. } => write!(f, "{}", op.name()),
-            Instr::LoadReserved {
-                width,
-                acquire,
-                release,
-                ..
-            } => write!(
-                f,
-                "lr{}{}",
-                width.suffix(),
-                ordering_suffix(acquire, release)
-            ),
-            Instr::Atomic {
-                op,
-                width,
-                acquire,
-                release,
-                ..
-            } => {
-                write!(
-                    f,
-                    "{}{}{}",
-                    op.name(),
-                    width.suffix(),
-                    ordering_suffix(acquire, release)
-                )
-            }
-            Instr::System { op } => write!(f, "{}", op.name()),
-        }
+        write!(f, "{}{}{}", self.name, self.width, self.ordering)
     }
 }
 
-/// The operands of an instruction, after a space.
+/// The mnemonic of an instruction.
+fn mnemonic_of(instr: Instr) -> Mnemonic
+    ensures { name_text result ≡ mnemonic instr }
+{
+    match instr {
+        Instr::Upper { op, .. } => alone(op.name()),
+        Instr::Jump { .. } => alone("jal"),
+        Instr::JumpRegister { .. } => alone("jalr"),
+        Instr::Branch { op, .. } => alone(op.name()),
+        Instr::Load { op, .. } => alone(op.name()),
+        Instr::Store { op, .. } => alone(op.name()),
+        Instr::Immediate { op, .. } => alone(op.name()),
+        Instr::Shift { op, .. } => alone(op.name()),
+        Instr::Register { op, .. } => alone(op.name()),
+        Instr::Fence { .. } => alone("fence"),
+        Instr::FenceI => alone("fence.i"),
+        Instr::Cache { op, .. } => alone(op.name()),
+        Instr::LoadReserved {
+            width,
+            acquire,
+            release,
+            ..
+        } => Mnemonic {
+            name: "lr",
+            width: width.suffix(),
+            ordering: ordering_suffix(acquire, release),
+        },
+        Instr::Atomic {
+            op,
+            width,
+            acquire,
+            release,
+            ..
+        } => Mnemonic {
+            name: op.name(),
+            width: width.suffix(),
+            ordering: ordering_suffix(acquire, release),
+        },
+        Instr::System { op } => alone(op.name()),
+    }
+}
+
+/// A name to which nothing is added.
+#[tactic(auto, using(crate::proofs::Texts::nothing_added))]
+fn alone(name: &'static str) -> Mnemonic
+    ensures { name_text result ≡ name.now }
+{
+    Mnemonic {
+        name,
+        width: "",
+        ordering: "",
+    }
+}
+
+/// The operands of an instruction, in their order.
 #[derive(Clone, Copy)]
-struct Operands {
-    instr: Instr,
+enum Operands {
+    None,
+    One(Operand),
+    Two(Operand, Operand),
+    Three(Operand, Operand, Operand),
 }
 
 impl fmt::Display for Operands {
     ghost use Rattle.std.specs.Prelude.{Some};
-    ghost use Rattle.decode.specs.Text.{operand_texts, operands_text};
+    ghost use Rattle.decode.specs.Text.{operands_text};
+    ghost use Rattle.decode.specs.Written.{texts_of};
 
-    ghost output = { λ shown. Some (operands_text (operand_texts shown.instr)) };
+    ghost output = { λ shown. Some (operands_text (texts_of shown)) };
 
     fn fmt<W: fmt::Write>(&self, f: &mut fmt::Formatter<W>) -> fmt::Result {
-        match self.instr {
-            Instr::Upper { rd, immediate, .. } => write!(f, " {}, {immediate}", Name { reg: rd }),
-            Instr::Jump { rd, distance } => {
-                write!(f, " {}, {}", Name { reg: rd }, Distance { bytes: distance })
-            }
-            Instr::JumpRegister { rd, rs1, offset }
-            | Instr::Load {
-                rd,
-                rs1,
-                offset,
-                ..
-            } => {
-                write!(
-                    f,
-                    " {}, {offset}{}",
-                    Name { reg: rd },
-                    Address { base: rs1 }
-                )
-            }
-            Instr::Store {
-                rs2,
-                rs1,
-                offset,
-                ..
-            } => {
-                write!(
-                    f,
-                    " {}, {offset}{}",
-                    Name { reg: rs2 },
-                    Address { base: rs1 }
-                )
-            }
-            Instr::Branch {
-                rs1,
-                rs2,
-                distance,
-                ..
-            } => {
-                write!(
-                    f,
-                    " {}, {}, {}",
-                    Name { reg: rs1 },
-                    Name { reg: rs2 },
-                    Distance { bytes: distance }
-                )
-            }
-            Instr::Immediate {
-                rd,
-                rs1,
-                immediate,
-                ..
-            } => {
-                write!(
-                    f,
-                    " {}, {}, {immediate}",
-                    Name { reg: rd },
-                    Name { reg: rs1 }
-                )
-            }
-            Instr::Shift {
-                rd,
-                rs1,
-                amount,
-                ..
-            } => { write!(f, " {}, {}, {amount}", Name { reg: rd }, Name { reg: rs1 }) }
-            Instr::Register { rd, rs1, rs2, .. } => {
-                write!(
-                    f,
-                    " {}, {}, {}",
-                    Name { reg: rd },
-                    Name { reg: rs1 },
-                    Name { reg: rs2 }
-                )
-            }
-            Instr::Fence {
-                predecessor,
-                successor,
-            } => {
-                write!(
-                    f,
-                    " {}, {}",
-                    Letters { set: predecessor },
-                    Letters { set: successor }
-                )
-            }
-            Instr::Cache { rs1, .. } => write!(f, " {}", Address { base: rs1 }),
-            Instr::LoadReserved { rd, rs1, .. } => {
-                write!(f, " {}, {}", Name { reg: rd }, Address { base: rs1 })
-            }
-            Instr::Atomic { rd, rs1, rs2, .. } => {
-                write!(
-                    f,
-                    " {}, {}, {}",
-                    Name { reg: rd },
-                    Name { reg: rs2 },
-                    Address { base: rs1 }
-                )
-            }
-            Instr::FenceI | Instr::System { .. } => Ok(()),
+        match self {
+            Operands::None => Ok(()),
+            Operands::One(first) => write!(f, " {first}"),
+            Operands::Two(first, second) => write!(f, " {first}, {second}"),
+            Operands::Three(first, second, third) => write!(f, " {first}, {second}, {third}"),
         }
     }
 }
 
-/// A register, as `xN`.
-#[derive(Clone, Copy)]
-struct Name {
-    reg: Reg,
-}
-
-impl fmt::Display for Name {
-    ghost use Rattle.std.specs.Prelude.{Some};
-    ghost use Rattle.decode.specs.Text.{register_text};
-
-    ghost output = { λ shown. Some (register_text shown.reg) };
-
-    fn fmt<W: fmt::Write>(&self, f: &mut fmt::Formatter<W>) -> fmt::Result {
-        write!(f, "x{}", self.reg.number)
+/// The operands as they are written: a fence's sets in full, an atomic's address last.
+fn operands_of(instr: Instr) -> Operands
+    ensures { texts_of result ≡ operand_texts instr }
+{
+    use Operand::{Accesses, Address, Place, Register, Signed, Target, Unsigned};
+    match instr {
+        Instr::Upper { rd, immediate, .. } => Operands::Two(Register(rd), Unsigned(immediate)),
+        Instr::Jump { rd, distance } => Operands::Two(Register(rd), Target(distance)),
+        Instr::JumpRegister { rd, rs1, offset } => {
+            Operands::Two(Register(rd), Place(offset, rs1))
+        }
+        Instr::Branch {
+            rs1,
+            rs2,
+            distance,
+            ..
+        } => Operands::Three(Register(rs1), Register(rs2), Target(distance)),
+        Instr::Load {
+            rd,
+            rs1,
+            offset,
+            ..
+        } => Operands::Two(Register(rd), Place(offset, rs1)),
+        Instr::Store {
+            rs2,
+            rs1,
+            offset,
+            ..
+        } => Operands::Two(Register(rs2), Place(offset, rs1)),
+        Instr::Immediate {
+            rd,
+            rs1,
+            immediate,
+            ..
+        } => Operands::Three(Register(rd), Register(rs1), Signed(immediate)),
+        Instr::Shift {
+            rd,
+            rs1,
+            amount,
+            ..
+        } => Operands::Three(Register(rd), Register(rs1), Unsigned(amount)),
+        Instr::Register { rd, rs1, rs2, .. } => {
+            Operands::Three(Register(rd), Register(rs1), Register(rs2))
+        }
+        Instr::Fence {
+            predecessor,
+            successor,
+        } => Operands::Two(Accesses(predecessor), Accesses(successor)),
+        Instr::Cache { rs1, .. } => Operands::One(Address(rs1)),
+        Instr::LoadReserved { rd, rs1, .. } => Operands::Two(Register(rd), Address(rs1)),
+        Instr::Atomic { rd, rs1, rs2, .. } => {
+            Operands::Three(Register(rd), Register(rs2), Address(rs1))
+        }
+        Instr::FenceI | Instr::System { .. } => Operands::None,
     }
 }
 
-/// The address in a register, as `(xN)`.
+/// One operand.
 #[derive(Clone, Copy)]
-struct Address {
-    base: Reg,
+enum Operand {
+    /// A register, as `xN`.
+    Register(Reg),
+    Signed(i32),
+    Unsigned(u32),
+    /// An offset and the register that it is added to, as `N(xN)`.
+    Place(i32, Reg),
+    /// The address in a register, as `(xN)`.
+    Address(Reg),
+    /// A target by its distance in bytes.
+    Target(i32),
+    Accesses(AccessSet),
 }
 
-impl fmt::Display for Address {
+impl fmt::Display for Operand {
     ghost use Rattle.std.specs.Prelude.{Some};
-    ghost use Rattle.decode.specs.Text.{address_text};
+    ghost use Rattle.decode.specs.Written.{operand_text};
 
-    ghost output = { λ shown. Some (address_text shown.base) };
+    ghost output = { λ shown. Some (operand_text shown) };
 
     fn fmt<W: fmt::Write>(&self, f: &mut fmt::Formatter<W>) -> fmt::Result {
-        write!(f, "({})", Name { reg: self.base })
+        match self {
+            Operand::Register(reg) => write!(f, "x{}", reg.number),
+            Operand::Signed(number) => write!(f, "{number}"),
+            Operand::Unsigned(number) => write!(f, "{number}"),
+            Operand::Place(offset, base) => write!(f, "{offset}(x{})", base.number),
+            Operand::Address(base) => write!(f, "(x{})", base.number),
+            Operand::Target(bytes) => write!(f, "{}", Distance { bytes: *bytes }),
+            Operand::Accesses(set) => write!(f, "{}", Letters { set: *set }),
+        }
     }
 }
 
