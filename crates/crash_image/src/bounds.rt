@@ -105,13 +105,12 @@ pub fn line_bounds(
 fn no_tallies(alloc: Global, lines: u32) -> Result<Vec<Tally>, AllocError>
     ensures { IfOk result (λ made. made.items ≡ replicate lines (record { stores = 0; free = None })) }
 {
-    let mut tallies = Vec::with_capacity(alloc, lines as usize)?;
-    for _ in 0..lines {
-        tallies.push(Tally {
-            stores: 0,
-            free: None,
-        })?;
-    }
+    let mut tallies = Vec::new(alloc);
+    let none = Tally {
+        stores: 0,
+        free: None,
+    };
+    tallies.resize(lines as usize, none)?;
     Ok(tallies)
 }
 
@@ -175,9 +174,8 @@ pub fn product(bounds: &[LineBounds]) -> Option<u32>
 pub fn floors(alloc: Global, bounds: &[LineBounds]) -> Result<Vec<(u32, u32)>, AllocError>
     ensures { IfOk result (λ found. found.items ≡ map (λ (b : OneLine). (b.line, b.floor)) bounds.now) }
 {
-    let mut found = Vec::with_capacity(alloc, bounds.len())?;
-    for line in bounds {
-        found.push((line.line, line.floor))?;
-    }
-    Ok(found)
+    bounds
+        .iter()
+        .map(|line| (line.line, line.floor))
+        .collect(alloc)
 }
