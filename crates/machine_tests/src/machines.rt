@@ -312,11 +312,15 @@ static OUTCOMES: [(&[u32], u32, Outcome, bool); 4] = [
 /// What comes of the step after so many, and whether the hart has stopped then.
 fn outcome_after(alloc: Global, words: &[u32], count: u32) -> Result<(Outcome, bool), StepFault> {
     let mut machine = machine_of(alloc, words, 1, 512)?;
+    let outcome = last_outcome(&mut machine, count);
+    outcome.map(|outcome| (outcome, machine.has_stopped(0)))
+}
+
+fn last_outcome(machine: &mut Machine, count: u32) -> Result<Outcome, StepFault> {
     for _ in 0..count {
         machine.step(Step::Hart(0))?;
     }
-    let outcome = machine.step(Step::Hart(0))?;
-    Ok((outcome, machine.has_stopped(0)))
+    machine.step(Step::Hart(0))
 }
 
 #[test]

@@ -3,6 +3,7 @@
 use crate::machines::{Run, Seen, ends_so, shows};
 use crate::programs::{FENCES, FIRST_RUN, is_written_so, machine_of};
 use hart::{Status, Trap};
+use machine::Machine;
 use rounds::{RoundFault, run_rounds};
 use std::alloc::Global;
 
@@ -225,14 +226,26 @@ static ROUNDS: [Rounds; 11] = [
 /// How many items the schedule of the rounds has; None where this isn't its text, or something else is seen of the machine.
 fn items_of(alloc: Global, steps: u32, run: &Run) -> Option<Result<usize, RoundFault>> {
     let mut machine = machine_of(alloc, run.words, run.harts, run.capacity).ok()?;
-    let rounds = run_rounds(alloc, &mut machine, steps);
-    let is_shown = shows(&machine, &run.seen);
-    match rounds {
-        Ok(schedule) if is_shown && is_written_so(alloc, &schedule, run.schedule) => {
-            Some(Ok(schedule.items().len()))
+    let items = items_after(alloc, &mut machine, steps, run.schedule);
+    if items == Some(Err(RoundFault::Memory)) || shows(&machine, &run.seen) {
+        items
+    } else {
+        None
+    }
+}
+
+/// How many items the schedule of this machine's rounds has; None where this isn't its text.
+fn items_after(
+    alloc: Global,
+    machine: &mut Machine,
+    steps: u32,
+    text: &str,
+) -> Option<Result<usize, RoundFault>> {
+    match run_rounds(alloc, machine, steps) {
+        Ok(schedule) => {
+            is_written_so(alloc, &schedule, text).then_some(Ok(schedule.items().len()))
         }
-        Err(fault) if is_shown || fault == RoundFault::Memory => Some(Err(fault)),
-        _ => None,
+        Err(fault) => Some(Err(fault)),
     }
 }
 
