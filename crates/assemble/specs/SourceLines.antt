@@ -34,12 +34,16 @@ distance values place label = ok_or (option_map (λ value. pos value -ℤ pos pl
 abbrev pub reached : ℤ → ℤ → ℤ → Result ℤ AsmCode
 reached low high z = in_range z low high >>= even
 
+-- a distance that was found and is so
+abbrev pub in_reach : ℤ → ℤ → Result ℤ AsmCode → Result ℤ AsmCode
+in_reach low high found = found >>= reached low high
+
 -- the distance of a branch, of 13 bits, and that of a jump, of 21 bits
 abbrev pub branch_distance : Values → ℕ → List ℕ → Result ℤ AsmCode
-branch_distance values place label = distance values place label >>= reached (negsuc 4095) (pos 4095)
+branch_distance values place label = in_reach (negsuc 4095) (pos 4095) (distance values place label)
 
 abbrev pub jump_distance : Values → ℕ → List ℕ → Result ℤ AsmCode
-jump_distance values place label = distance values place label >>= reached (negsuc 1048575) (pos 1048575)
+jump_distance values place label = in_reach (negsuc 1048575) (pos 1048575) (distance values place label)
 
 -- the canonical word of an instruction whose operands it holds, the least significant byte first
 pub record HasWord (instr : Instr) (bytes : List ℕ) : Type 0 where

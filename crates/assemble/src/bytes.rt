@@ -4,16 +4,17 @@ ghost use Rattle.asm_line.specs.Meanings.{meaning_of, IsInRange};
 ghost use Rattle.assemble.specs.Appending.{Appends, AreNear};
 ghost use Rattle.assemble.specs.Faults.{code_of_label};
 ghost use Rattle.assemble.specs.Labels.{place_at};
-ghost use Rattle.assemble.specs.SourceLines.{distance, HasAddress, HasBytes, HasWord, HaveWords, number_bytes, reached};
+ghost use Rattle.assemble.specs.SourceLines.{distance, in_reach, HasAddress, HasBytes, HasWord, HaveWords, number_bytes, reached};
 ghost use Rattle.isa_table.specs.Ranges.{IsChecked};
+ghost use Rattle.isa_table.specs.declared.instruction.Instr.TheVariants.{Branch, Jump};
 ghost use Rattle.std.specs.List.{flat_map};
 ghost use Rattle.std.specs.Result.{result_err};
-ghost use Rattle.std.specs.Prelude.{◌≡◌, ◌≢◌, ◌≤◌, ◌<ℤ◌, ◌≤ℤ◌, ◌^◌, ◌++◌, pos, Some, IfErr, OnOk, replicate};
+ghost use Rattle.std.specs.Prelude.{◌≡◌, ◌≢◌, ◌≤◌, ◌<ℤ◌, ◌≤ℤ◌, ◌^◌, ◌++◌, ℤ, pos, negsuc, Ok, Some, IfErr, OnOk, replicate};
 
 use crate::labels::Labels;
 use crate::position::padding_to;
 use asm_line::{AsmCode, NumberWidth, Statement, halves};
-use isa_table::{ImmediateOp, Instr, Reg, UpperOp, encode};
+use isa_table::{BranchOp, ImmediateOp, Instr, Reg, UpperOp, encode};
 
 /// Adds the bytes of a statement at this place.
 ///
@@ -39,27 +40,47 @@ pub(crate) fn append(
             rs1,
             rs2,
             label,
-        } => {
-            let distance = within(labels.distance(place, label)?, -4096, 4095)?;
-            append_word(
-                bytes,
-                Instr::Branch {
-                    op: *op,
-                    rs1: *rs1,
-                    rs2: *rs2,
-                    distance,
-                },
-            )
-        }
-        Statement::Jump { rd, label } => {
-            let distance = within(labels.distance(place, label)?, -1_048_576, 1_048_575)?;
-            append_word(bytes, Instr::Jump { rd: *rd, distance })
-        }
+        } => append_branch(bytes, labels.distance(place, label), *op, *rs1, *rs2),
+        Statement::Jump { rd, label } => append_jump(bytes, labels.distance(place, label), *rd),
         Statement::Address { rd, label } => append_address(bytes, labels, place, *rd, label),
         Statement::Numbers { width, values } => append_numbers(bytes, *width, values),
         Statement::Zeros(count) => append_zeros(bytes, *count),
         Statement::Align(boundary) => append_zeros(bytes, padding_to(place, *boundary)),
     }
+}
+
+/// Adds a branch by this distance, where it is even and has 13 bits.
+fn append_branch(
+    bytes: &mut Vec<u8>,
+    found: Result<i32, AsmCode>,
+    op: BranchOp,
+    rs1: Reg,
+    rs2: Reg,
+) -> Result<(), AsmCode>
+    ensures ok { OnOk result (Appends bytes.old.items bytes.new.items (λ added.
+        (z : ℤ) × (in_reach (negsuc 4095) (pos 4095) found ≡ Ok z) × HasWord (Branch op rs1 rs2 z) added)) }
+    ensures err { IfErr result (λ code. code ≢ AsmCode.Memory → result_err (in_reach (negsuc 4095) (pos 4095) found) ≡ Some code) }
+{
+    let distance = within(found?, -4096, 4095)?;
+    append_word(
+        bytes,
+        Instr::Branch {
+            op,
+            rs1,
+            rs2,
+            distance,
+        },
+    )
+}
+
+/// Adds a jump by this distance, where it is even and has 21 bits.
+fn append_jump(bytes: &mut Vec<u8>, found: Result<i32, AsmCode>, rd: Reg) -> Result<(), AsmCode>
+    ensures ok { OnOk result (Appends bytes.old.items bytes.new.items (λ added.
+        (z : ℤ) × (in_reach (negsuc 1048575) (pos 1048575) found ≡ Ok z) × HasWord (Jump rd z) added)) }
+    ensures err { IfErr result (λ code. code ≢ AsmCode.Memory → result_err (in_reach (negsuc 1048575) (pos 1048575) found) ≡ Some code) }
+{
+    let distance = within(found?, -1_048_576, 1_048_575)?;
+    append_word(bytes, Instr::Jump { rd, distance })
 }
 
 /// A distance that is even and in this range.
