@@ -13,6 +13,4 @@ mod explaining;
 mod images;
 mod loading;
 mod runs;
-#[cfg(test)]
-mod tests;
 mod volumes;
