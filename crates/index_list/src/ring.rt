@@ -121,10 +121,5 @@ fn own_numbers(alloc: Global, n: u32) -> Result<Vec<u32>, AllocError>
     ensures len { IfOk result (λ v. length v.items ≡ n + 1) }
     ensures own { IfOk result (λ v. (j : ℕ) → j < n + 1 → slice_index v.items j ≡ j) }
 {
-    let mut numbers = Vec::with_capacity(alloc, n as usize + 1)?;
-    for i in 0..n {
-        numbers.push(i)?;
-    }
-    numbers.push(n)?;
-    Ok(numbers)
+    (0..=n).collect(alloc)
 }
