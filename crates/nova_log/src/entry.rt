@@ -18,7 +18,7 @@ const NAME_AT: usize = 24;
 const FIRST_BYTES: u8 = 40;
 
 /// The kind of an entry, and how many bytes its name has.
-#[derive(Clone, Copy, Debug, Drop)]
+#[derive(Clone, Copy, Drop)]
 struct Header {
     kind: EntryKind,
     name_length: u8,

@@ -20,7 +20,7 @@ use line_memory::{LINE_SIZE, load_bytes};
 use std::alloc::Global;
 
 /// The offsets where the log of an inode begins and ends.
-#[derive(Clone, Copy, Debug, Drop)]
+#[derive(Clone, Copy, Drop)]
 pub struct Inode {
     /// The offset of the first page.
     pub head: u64,

@@ -26,7 +26,7 @@ const RECORDS: u64 = 4;
 pub(crate) type Restored = [Option<u64>; 64];
 
 /// A record of a journal.
-#[derive(Clone, Copy, Debug, Drop)]
+#[derive(Clone, Copy, Drop)]
 pub struct Record {
     /// The inode that it names.
     pub inode: u64,

@@ -10,7 +10,7 @@ use crate::{Layout, Shape, VolumeFault};
 use line_memory::{LINE_SIZE, load_bytes};
 
 /// How a volume is laid out, and its counts.
-#[derive(Clone, Copy, Debug, Drop, PartialEq, Eq)]
+#[derive(Clone, Copy, Drop)]
 pub struct Geometry {
     /// What its layout has of its own.
     pub shape: Shape,
