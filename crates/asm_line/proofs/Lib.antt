@@ -1,3 +1,2 @@
-pub mod ShapeLemmas
 pub mod NumberLists
 pub mod LineWords

@@ -1,5 +1,5 @@
 -- What the steps of reading a line find.
-use Rattle.std.specs.Prelude.{◌≡◌, ℕ, ◌+◌, length, List, [], ◌∷◌, Option, Some, None, Result, Ok, Err, map}
+use Rattle.std.specs.Prelude.{◌≡◌, ℕ, Bool, true, false, ◌+◌, length, List, [], ◌∷◌, Option, Some, None, Result, Ok, Err, map, ℤ}
 use Rattle.asm_lex.specs.declared.Token.{Token}
 use Rattle.asm_lex.specs.declared.Kind.{Kind}
 use Rattle.asm_lex.specs.declared.Kind.TheVariants as kinds
@@ -9,7 +9,29 @@ use Rattle.asm_line.specs.declared.lexeme.Lexeme.TheVariants as found
 use Rattle.asm_line.specs.declared.operands.SignedNumber.{SignedNumber}
 use Rattle.asm_line.specs.declared.operands.Target.{Target as FoundTarget}
 use Rattle.asm_line.specs.declared.operands.Target.TheVariants as targets
-use Rattle.asm_line.specs.Grammar.{Slot, Operands, Target, to_label, by_distance, Interval, Parts, fit, checked, number_range}
+use Rattle.asm_line.specs.declared.operands.Given.{Given}
+use Rattle.asm_line.specs.declared.operands.Given.TheVariants as given
+use Rattle.asm_line.specs.declared.operands.Names.{Names}
+use Rattle.asm_line.specs.declared.operands.Names.TheVariants as names
+use Rattle.asm_line.specs.declared.operands.Operands.{Operands as FoundOperands}
+use Rattle.asm_line.specs.declared.parts.Parts.{Parts as FoundParts}
+use Rattle.asm_line.specs.declared.parts.Registers.{Registers}
+use Rattle.asm_line.specs.declared.parts.Registers.TheVariants as registers
+use Rattle.asm_line.specs.declared.parts.Value.{Value}
+use Rattle.asm_line.specs.declared.parts.Value.TheVariants as value
+use Rattle.asm_line.specs.declared.shapes.Before.{Before}
+use Rattle.asm_line.specs.declared.shapes.Before.TheVariants as before
+use Rattle.asm_line.specs.declared.shapes.Last.{Last}
+use Rattle.asm_line.specs.declared.shapes.Last.TheVariants as last
+use Rattle.asm_line.specs.declared.shapes.Shape.{Shape}
+use Rattle.asm_line.specs.declared.shapes.Form.{Form}
+use Rattle.asm_line.specs.declared.range.Range.{Range}
+use Rattle.asm_line.specs.Grammar.{Slot, Operands, Target, to_label, by_distance, Interval, from_to, Parts, parts, number_range}
+use Rattle.asm_line.specs.Grammar.{register_then, register_name, signed_number, memory_place, access_set, comma_mark, label_name, target}
+use Rattle.asm_names.specs.declared.mnemonic.Mnemonic.{Mnemonic}
+use Rattle.asm_names.specs.declared.mnemonic.Mnemonic.TheVariants as mnemonics
+use Rattle.isa_table.specs.declared.access.AccessSet.{AccessSet}
+use Rattle.isa_table.specs.declared.register.Reg.{Reg}
 use Rattle.asm_line.specs.Lexemes.{Lexeme, name, number, comma, opening, closing, colon, plus, minus}
 use Rattle.asm_line.specs.Faults.{◌>>=◌}
 use Rattle.asm_line.specs.Meanings.{width_of}
@@ -55,34 +77,116 @@ abbrev pub Gives : {A B : Type 0} → (A → B) → Result A AsmCode → Result 
 Gives view (Ok a) r = r ≡ Ok (view a)
 Gives view (Err e) r = r ≡ Err e
 
--- the parts of lexemes that fit a shape
-abbrev pub shaped : Interval → List Slot → List Lexeme → Result Parts AsmCode
-shaped range shape ls = checked range (fit shape ls)
+-- the places of a shape, and the shapes of a form
+abbrev pub last_slots : Last → List Slot
+last_slots last.Nothing = []
+last_slots last.Register = register_name ∷ []
+last_slots last.Number = signed_number ∷ []
+last_slots last.Place = memory_place
+last_slots last.Sets = access_set ∷ comma_mark ∷ access_set ∷ []
+last_slots last.Label = label_name ∷ []
+last_slots last.Target = target ∷ []
 
--- a number alone; a number and one to three names; a name alone; a target alone, and after one name or two
-abbrev pub of_number : SignedNumber → Operands
-of_number n = record { names = []; numbers = n ∷ []; sets = []; targets = [] }
+abbrev pub slots_after : Before → List Slot → List Slot
+slots_after before.Nothing slots = slots
+slots_after before.One slots = register_then slots
+slots_after before.Two slots = register_then (register_then slots)
 
-abbrev pub of_place : SignedNumber → List ℕ → Operands
-of_place n text = record { names = text ∷ []; numbers = n ∷ []; sets = []; targets = [] }
+abbrev pub slots_of : Shape → List Slot
+slots_of shape = slots_after shape.before (last_slots shape.last)
 
-abbrev pub of_names : SignedNumber → List ℕ → List ℕ → Operands
-of_names n first second = record { names = first ∷ second ∷ []; numbers = n ∷ []; sets = []; targets = [] }
+abbrev pub with_second : Option Shape → List (List Slot)
+with_second None = []
+with_second (Some shape) = slots_of shape ∷ []
 
-abbrev pub of_three_names : SignedNumber → List ℕ → List ℕ → List ℕ → Operands
-of_three_names n first second third = record { names = first ∷ second ∷ third ∷ []; numbers = n ∷ []; sets = []; targets = [] }
+abbrev pub form_shapes : Form → List (List Slot)
+form_shapes form = slots_of form.first ∷ with_second form.second
 
-abbrev pub of_name : List ℕ → Operands
-of_name text = record { names = text ∷ []; numbers = []; sets = []; targets = [] }
+abbrev pub interval : Range → Interval
+interval range = from_to range.low range.high
 
-abbrev pub of_target : Target → Operands
-of_target place = record { names = []; numbers = []; sets = []; targets = place ∷ [] }
+-- operands that were found
+abbrev pub names_seen : Names → List (List ℕ)
+names_seen names.Nothing = []
+names_seen (names.One a) = a.now ∷ []
+names_seen (names.Two a b) = a.now ∷ b.now ∷ []
+names_seen (names.Three a b c) = a.now ∷ b.now ∷ c.now ∷ []
 
-abbrev pub of_name_and_target : List ℕ → Target → Operands
-of_name_and_target text place = record { names = text ∷ []; numbers = []; sets = []; targets = place ∷ [] }
+abbrev pub given_numbers : Given → List SignedNumber
+given_numbers (given.Number n) = n ∷ []
+given_numbers g = []
 
-abbrev pub of_names_and_target : List ℕ → List ℕ → Target → Operands
-of_names_and_target first second place = record { names = first ∷ second ∷ []; numbers = []; sets = []; targets = place ∷ [] }
+abbrev pub given_sets : Given → List AccessSet
+given_sets (given.Sets a b) = a ∷ b ∷ []
+given_sets g = []
+
+abbrev pub given_targets : Given → List Target
+given_targets (given.Target t) = target_seen t ∷ []
+given_targets g = []
+
+abbrev pub operands_seen : FoundOperands → Operands
+operands_seen found = record {
+  names = names_seen found.names;
+  numbers = given_numbers found.given;
+  sets = given_sets found.given;
+  targets = given_targets found.given;
+}
+
+-- operands that were checked
+abbrev pub registers_seen : Registers → List Reg
+registers_seen registers.Nothing = []
+registers_seen (registers.One a) = a ∷ []
+registers_seen (registers.Two a b) = a ∷ b ∷ []
+registers_seen (registers.Three a b c) = a ∷ b ∷ c ∷ []
+
+abbrev pub value_integers : Value → List ℤ
+value_integers (value.Number z) = z ∷ []
+value_integers v = []
+
+abbrev pub value_sets : Value → List AccessSet
+value_sets (value.Sets a b) = a ∷ b ∷ []
+value_sets v = []
+
+abbrev pub value_targets : Value → List Target
+value_targets (value.Target t) = target_seen t ∷ []
+value_targets v = []
+
+abbrev pub parts_seen : FoundParts → Parts
+parts_seen found = parts (registers_seen found.registers) (value_integers found.value) (value_sets found.value) (value_targets found.value)
+
+abbrev pub listed : {A B : Type 0} → (A → B) → Option A → List B
+listed view None = []
+listed view (Some a) = view a ∷ []
+
+-- the mnemonics whose operands are few: all but those of number lists
+abbrev pub has_few : Mnemonic → Bool
+has_few (mnemonics.Numbers width) = false
+has_few m = true
+
+-- the instructions that take an address from a register
+abbrev pub takes_address : Mnemonic → Bool
+takes_address mnemonics.JumpRegister = true
+takes_address mnemonics.PlainJumpRegister = true
+takes_address mnemonics.Return = true
+takes_address (mnemonics.Load op) = true
+takes_address (mnemonics.Store op) = true
+takes_address (mnemonics.Cache op) = true
+takes_address (mnemonics.LoadReserved f) = true
+takes_address (mnemonics.Atomic op f) = true
+takes_address m = false
+
+-- the other instructions without a target
+abbrev pub is_plain : Mnemonic → Bool
+is_plain (mnemonics.Upper op) = true
+is_plain (mnemonics.Immediate op) = true
+is_plain (mnemonics.Shift op) = true
+is_plain (mnemonics.Register op) = true
+is_plain mnemonics.Fence = true
+is_plain mnemonics.FenceI = true
+is_plain (mnemonics.System op) = true
+is_plain mnemonics.Nop = true
+is_plain (mnemonics.Unary op) = true
+is_plain m = false
 
 -- the numbers that are left to read: none after the last one
 abbrev pub numbers_left : Option (Bor (List Found)) → Option (List SignedNumber)

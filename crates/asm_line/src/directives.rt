@@ -1,54 +1,29 @@
 //! The directives, each with its numbers.
 
 ghost use Rattle.asm_names.specs.declared.mnemonic.Mnemonic.{Mnemonic};
-ghost use Rattle.asm_line.specs.Grammar.{statement_of};
+ghost use Rattle.asm_line.specs.Grammar.{aligned, statement_of};
 ghost use Rattle.asm_line.specs.Faults.{Fails};
 ghost use Rattle.asm_line.specs.Meanings.{meaning_of, width_bytes, IsInRange};
 ghost use Rattle.asm_line.specs.Numbers.{numbers_of, with_first};
 ghost use Rattle.asm_line.specs.Steps.{all_seen, numbers_left, left_len, numbers_after, stored};
 ghost use Rattle.asm_line.specs.Steps.{stored_all, Gives};
-ghost use Rattle.std.specs.Prelude.{◌≡◌, ◌≢◌, ◌+◌, ◌*◌, ◌-◌, ◌^◌, ◌<◌, length, All, Some, None, Ok};
+ghost use Rattle.std.specs.Prelude.{◌≡◌, ◌≢◌, ◌+◌, ◌*◌, ◌-◌, ◌^◌, ◌<◌, ◌≤◌, length, All, Some, None, Ok};
 ghost use Rattle.std.specs.Prelude.{IfOk, IfErr, IfSome, MatchOption, option_and_then};
 
 use crate::fault::AsmCode;
 use crate::lexeme::Lexeme;
 use crate::line::Statement;
 use crate::operands::{SignedNumber, number_then};
-use crate::shapes::{nothing, one_number};
-use asm_names::{NumberWidth, Section};
+use asm_names::NumberWidth;
 use std::alloc::Global;
 
-/// `.text` and `.data` have no operands.
-#[tactic(auto, unfolding(crate::specs::Grammar::statement_of))]
-pub(crate) fn section<'a>(
-    section: Section,
-    operands: &[Lexeme<'a>],
-) -> Result<Statement<'a>, AsmCode>
-    ensures value { Gives meaning_of result
-        (statement_of (Mnemonic.Section section) (all_seen operands.now)) }
+/// An alignment, which is a power of two.
+#[tactic(auto, using(crate::proofs::NumberLists::some_power))]
+pub(crate) fn aligned<'a>(boundary: u32) -> Result<Statement<'a>, AsmCode>
+    requires { boundary ≤ 4096 }
+    ensures value { Gives meaning_of result (aligned boundary) }
     ensures in_range { IfOk result (λ s. IsInRange (meaning_of s)) }
 {
-    nothing(operands)?;
-    Ok(Statement::Section(section))
-}
-
-/// `.zero number`
-#[tactic(auto, unfolding(crate::specs::Grammar::statement_of))]
-pub(crate) fn zeros<'a>(operands: &[Lexeme<'a>]) -> Result<Statement<'a>, AsmCode>
-    ensures value { Gives meaning_of result (statement_of Mnemonic.Zeros (all_seen operands.now)) }
-    ensures in_range { IfOk result (λ s. IsInRange (meaning_of s)) }
-{
-    let count = one_number(operands, 0, 1_048_576)?;
-    Ok(Statement::Zeros(count.unsigned_abs() as u32))
-}
-
-/// `.balign number`, where the number is a power of two.
-#[tactic(auto, unfolding(crate::specs::Grammar::statement_of), using(crate::proofs::NumberLists::some_power))]
-pub(crate) fn align<'a>(operands: &[Lexeme<'a>]) -> Result<Statement<'a>, AsmCode>
-    ensures value { Gives meaning_of result (statement_of Mnemonic.Align (all_seen operands.now)) }
-    ensures in_range { IfOk result (λ s. IsInRange (meaning_of s)) }
-{
-    let boundary = one_number(operands, 0, 4096)?.unsigned_abs() as u32;
     if boundary.is_power_of_two() {
         Ok(Statement::Align(boundary))
     } else {

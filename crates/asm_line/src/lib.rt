@@ -20,7 +20,9 @@ mod instructions;
 mod lexeme;
 mod line;
 mod operands;
+mod parts;
 mod pseudo;
+mod range;
 mod shapes;
 mod statement;
 

@@ -1,20 +1,19 @@
 //! The operands of statements: numbers with a sign, places of memory, sets, labels and targets.
 
-ghost use Rattle.asm_line.specs.Grammar.{fit, memory_place, base_place, is_dot, set_at};
-ghost use Rattle.asm_line.specs.Grammar.{register_then, signed_number, target, and_then};
+ghost use Rattle.asm_line.specs.Grammar.{fit, fit_one, memory_place, is_dot, set_at, Slot};
+ghost use Rattle.asm_line.specs.Grammar.{register_then, register_name, signed_number, access_set};
+ghost use Rattle.asm_line.specs.Grammar.{comma_mark, label_name, target, and_then, with_name};
 ghost use Rattle.asm_line.specs.Grammar.{with_target, distance_then};
-ghost use Rattle.asm_line.specs.Numbers.{number_then, within, even};
-ghost use Rattle.asm_names.specs.Registers.{register_of};
-ghost use Rattle.asm_line.specs.Steps.{all_seen, seen, target_seen, of_number, of_names, of_place};
-ghost use Rattle.asm_line.specs.Steps.{of_name, of_name_and_target, of_names_and_target, of_target, of_three_names};
-ghost use Rattle.std.specs.Prelude.{◌≡◌, ◌^◌, ◌≤ℤ◌, pos, negsuc, neg_ℤ, int_le, if◌then◌else◌};
-ghost use Rattle.std.specs.Prelude.{◌∷◌, [], Some, None, Ok, Err, MatchOption, IfOk, IfSome, ok_or};
-ghost use Rattle.std.specs.Prelude.{option_map, length, ◌<◌};
+ghost use Rattle.asm_line.specs.Numbers.{number_then};
+ghost use Rattle.asm_line.specs.Steps.{all_seen, seen, form_shapes, last_slots, names_seen};
+ghost use Rattle.asm_line.specs.Steps.{operands_seen, slots_of, target_seen};
+ghost use Rattle.std.specs.Prelude.{◌≡◌, ◌+◌, ◌<◌, ◌∷◌, [], length, List, Some, None, IfSome};
+ghost use Rattle.std.specs.Prelude.{MatchOption, option_map, option_and_then};
 
-use crate::fault::AsmCode;
 use crate::lexeme::Lexeme;
-use asm_names::{register_of, set_of};
-use isa_table::{AccessSet, Reg};
+use crate::shapes::{Before, Form, Last, Shape};
+use asm_names::set_of;
+use isa_table::AccessSet;
 
 /// A number with its sign. The size is None from 2^64 on.
 #[derive(Clone, Copy)]
@@ -47,51 +46,169 @@ pub(crate) fn number_then<'s, 'a>(
     Some((SignedNumber { is_negative, size }, rest))
 }
 
+/// The names of registers among operands.
+#[derive(Clone, Copy)]
+pub(crate) enum Names<'a> {
+    Nothing,
+    One(&'a [u8]),
+    Two(&'a [u8], &'a [u8]),
+    Three(&'a [u8], &'a [u8], &'a [u8]),
+}
+
+/// What stands among operands beside names.
+#[derive(Clone, Copy)]
+pub(crate) enum Given<'a> {
+    Nothing,
+    Number(SignedNumber),
+    Sets(AccessSet, AccessSet),
+    Target(Target<'a>),
+}
+
+/// What stands in the places of a shape.
+#[derive(Clone, Copy)]
+pub(crate) struct Operands<'a> {
+    pub(crate) names: Names<'a>,
+    pub(crate) given: Given<'a>,
+}
+
+/// The operands of the first of a form's shapes that lexemes fit.
+pub(crate) fn fit_one<'a>(form: Form, lexemes: &[Lexeme<'a>]) -> Option<Operands<'a>>
+    ensures { fit_one (form_shapes form) (all_seen lexemes.now) ≡ option_map operands_seen result }
+{
+    match (fit(form.first, lexemes), form.second) {
+        (None, Some(second)) => fit(second, lexemes),
+        (found, _) => found,
+    }
+}
+
+/// The operands of lexemes that fit a shape from end to end.
+fn fit<'a>(shape: Shape, lexemes: &[Lexeme<'a>]) -> Option<Operands<'a>>
+    ensures { fit (slots_of shape) (all_seen lexemes.now) ≡ option_map operands_seen result }
+{
+    match shape.before {
+        Before::Nothing => last(shape.last, lexemes),
+        Before::One => after_one(shape.last, lexemes),
+        Before::Two => after_two(shape.last, lexemes),
+    }
+}
+
+/// Two names, each with a comma, and the last operand.
+fn after_two<'a>(kind: Last, lexemes: &[Lexeme<'a>]) -> Option<Operands<'a>>
+    ensures { fit (register_then (register_then (last_slots kind))) (all_seen lexemes.now)
+        ≡ option_map operands_seen result }
+{
+    let (name, rest) = name_then(lexemes)?;
+    Some(after_one(kind, rest)?.after(name))
+}
+
+/// One name, a comma and the last operand.
+fn after_one<'a>(kind: Last, lexemes: &[Lexeme<'a>]) -> Option<Operands<'a>>
+    ensures value { fit (register_then (last_slots kind)) (all_seen lexemes.now)
+        ≡ option_map operands_seen result }
+    ensures few { IfSome result (λ found. length (names_seen found.names) < 3) }
+{
+    let (name, rest) = name_then(lexemes)?;
+    Some(last(kind, rest)?.after(name))
+}
+
+/// The name before a comma that lexemes begin with, and what follows the comma.
+fn name_then<'s, 'a>(lexemes: &'s [Lexeme<'a>]) -> Option<(&'a [u8], &'s [Lexeme<'a>])>
+    ensures { (slots : List Slot) → fit (register_then slots) (all_seen lexemes.now)
+        ≡ option_and_then (λ (name, rest). option_map (with_name name.now) (fit slots (all_seen rest.now))) result }
+{
+    match lexemes {
+        [Lexeme::Name(name), Lexeme::Comma, rest @ ..] => Some((*name, rest)),
+        _ => None,
+    }
+}
+
+impl<'a> Operands<'a> {
+    /// The same with a name before the others.
+    fn after(self, name: &'a [u8]) -> Operands<'a>
+        requires { length (names_seen self.names) < 3 }
+        ensures value { operands_seen result ≡ with_name name.now (operands_seen self.entry) }
+        ensures more { length (names_seen result.names) ≡ 1 + length (names_seen self.entry.names) }
+    {
+        let names = match self.names {
+            Names::Nothing => Names::One(name),
+            Names::One(first) => Names::Two(name, first),
+            Names::Two(first, second) => Names::Three(name, first, second),
+            Names::Three(_, _, _) => unreachable!(),
+        };
+        Operands { names, ..self }
+    }
+}
+
+/// The last operand, alone.
+fn last<'a>(kind: Last, lexemes: &[Lexeme<'a>]) -> Option<Operands<'a>>
+    ensures value { fit (last_slots kind) (all_seen lexemes.now) ≡ option_map operands_seen result }
+    ensures few { IfSome result (λ found. length (names_seen found.names) < 2) }
+{
+    match kind {
+        Last::Nothing => nothing(lexemes),
+        Last::Register => name(lexemes),
+        Last::Number => number(lexemes),
+        Last::Place => place(lexemes),
+        Last::Sets => sets(lexemes),
+        Last::Label => label(lexemes),
+        Last::Target => target_of(lexemes),
+    }
+}
+
+/// No operands.
+fn nothing<'a>(lexemes: &[Lexeme<'a>]) -> Option<Operands<'a>>
+    ensures value { fit ([]) (all_seen lexemes.now) ≡ option_map operands_seen result }
+    ensures few { IfSome result (λ found. length (names_seen found.names) < 2) }
+{
+    match lexemes {
+        [] => Some(Operands {
+            names: Names::Nothing,
+            given: Given::Nothing,
+        }),
+        _ => None,
+    }
+}
+
+/// A name alone.
+fn name<'a>(lexemes: &[Lexeme<'a>]) -> Option<Operands<'a>>
+    ensures value { fit (register_name ∷ []) (all_seen lexemes.now) ≡ option_map operands_seen result }
+    ensures few { IfSome result (λ found. length (names_seen found.names) < 2) }
+{
+    match lexemes {
+        [Lexeme::Name(name)] => Some(Operands {
+            names: Names::One(*name),
+            given: Given::Nothing,
+        }),
+        _ => None,
+    }
+}
+
 /// A number alone.
-pub(crate) fn number(lexemes: &[Lexeme]) -> Option<SignedNumber>
-    ensures { fit (signed_number ∷ []) (all_seen lexemes.now) ≡ option_map of_number result }
+fn number<'a>(lexemes: &[Lexeme<'a>]) -> Option<Operands<'a>>
+    ensures value { fit (signed_number ∷ []) (all_seen lexemes.now) ≡ option_map operands_seen result }
+    ensures few { IfSome result (λ found. length (names_seen found.names) < 2) }
 {
     match number_then(lexemes)? {
-        (number, []) => Some(number),
-        _ => None,
-    }
-}
-
-/// A name and a number, between them a comma.
-pub(crate) fn name_and_number<'a>(lexemes: &[Lexeme<'a>]) -> Option<(&'a [u8], SignedNumber)>
-    ensures { fit (register_then (signed_number ∷ [])) (all_seen lexemes.now)
-        ≡ option_map (λ (name, n). of_place n name.now) result }
-{
-    match lexemes {
-        [Lexeme::Name(name), Lexeme::Comma, rest @ ..] => Some((*name, number(rest)?)),
-        _ => None,
-    }
-}
-
-/// Two names and a number, between them commas.
-pub(crate) fn names_and_number<'a>(
-    lexemes: &[Lexeme<'a>],
-) -> Option<(&'a [u8], &'a [u8], SignedNumber)>
-    ensures { fit (register_then (register_then (signed_number ∷ []))) (all_seen lexemes.now)
-        ≡ option_map (λ (first, second, n). of_names n first.now second.now) result }
-{
-    match lexemes {
-        [Lexeme::Name(first), Lexeme::Comma, rest @ ..] => {
-            let (second, number) = name_and_number(rest)?;
-            Some((*first, second, number))
-        }
+        (number, []) => Some(Operands {
+            names: Names::Nothing,
+            given: Given::Number(number),
+        }),
         _ => None,
     }
 }
 
 /// An offset, which may be missing, and a name in parentheses.
-pub(crate) fn place<'a>(lexemes: &[Lexeme<'a>]) -> Option<(SignedNumber, &'a [u8])>
-    ensures { fit memory_place (all_seen lexemes.now) ≡ option_map
-        (λ (n, name). of_place n name.now) result }
+fn place<'a>(lexemes: &[Lexeme<'a>]) -> Option<Operands<'a>>
+    ensures value { fit (memory_place) (all_seen lexemes.now) ≡ option_map operands_seen result }
+    ensures few { IfSome result (λ found. length (names_seen found.names) < 2) }
 {
-    match number_then(lexemes) {
-        Some((offset, rest)) => Some((offset, base(rest)?)),
-        None => Some((ZERO, base(lexemes)?)),
+    let (offset, rest) = number_then(lexemes).unwrap_or((ZERO, lexemes));
+    match rest {
+        [Lexeme::Open, Lexeme::Name(base), Lexeme::Close] => Some(Operands {
+            names: Names::One(*base),
+            given: Given::Number(offset),
+        }),
+        _ => None,
     }
 }
 
@@ -100,107 +217,63 @@ const ZERO: SignedNumber = SignedNumber {
     size: Some(0),
 };
 
-/// A name in parentheses.
-fn base<'a>(lexemes: &[Lexeme<'a>]) -> Option<&'a [u8]>
-    ensures { fit base_place (all_seen lexemes.now) ≡ option_map (λ name. of_name name.now) result }
+/// Two sets, between them a comma.
+fn sets<'a>(lexemes: &[Lexeme<'a>]) -> Option<Operands<'a>>
+    ensures value { fit (access_set ∷ comma_mark ∷ access_set ∷ []) (all_seen lexemes.now) ≡ option_map operands_seen result }
+    ensures few { IfSome result (λ found. length (names_seen found.names) < 2) }
 {
     match lexemes {
-        [Lexeme::Open, Lexeme::Name(name), Lexeme::Close] => Some(*name),
+        [before, Lexeme::Comma, after] => Some(Operands {
+            names: Names::Nothing,
+            given: Given::Sets(set(*before)?, set(*after)?),
+        }),
         _ => None,
     }
 }
 
-/// A name and a place, between them a comma.
-pub(crate) fn name_and_place<'a>(
-    lexemes: &[Lexeme<'a>],
-) -> Option<(&'a [u8], SignedNumber, &'a [u8])>
-    ensures { fit (register_then memory_place) (all_seen lexemes.now)
-        ≡ option_map (λ (name, n, base). of_names n name.now base.now) result }
+/// A label alone.
+fn label<'a>(lexemes: &[Lexeme<'a>]) -> Option<Operands<'a>>
+    ensures value { fit (label_name ∷ []) (all_seen lexemes.now) ≡ option_map operands_seen result }
+    ensures few { IfSome result (λ found. length (names_seen found.names) < 2) }
 {
     match lexemes {
-        [Lexeme::Name(name), Lexeme::Comma, rest @ ..] => {
-            let (offset, base) = place(rest)?;
-            Some((*name, offset, base))
-        }
-        _ => None,
-    }
-}
-
-/// Two names, and the place after them.
-#[derive(Clone, Copy)]
-pub(crate) struct NamesAndPlace<'a> {
-    pub(crate) first: &'a [u8],
-    pub(crate) second: &'a [u8],
-    pub(crate) offset: SignedNumber,
-    pub(crate) base: &'a [u8],
-}
-
-/// Two names and a place, between them commas.
-pub(crate) fn names_and_place<'a>(lexemes: &[Lexeme<'a>]) -> Option<NamesAndPlace<'a>>
-    ensures { fit (register_then (register_then memory_place)) (all_seen lexemes.now)
-        ≡ option_map (λ found. of_three_names found.offset found.first.now found.second.now found.base.now) result }
-{
-    match lexemes {
-        [Lexeme::Name(first), Lexeme::Comma, rest @ ..] => {
-            let (second, offset, base) = name_and_place(rest)?;
-            Some(NamesAndPlace {
-                first: *first,
-                second,
-                offset,
-                base,
-            })
-        }
-        _ => None,
-    }
-}
-
-/// A name and a target, between them a comma.
-pub(crate) fn name_and_target<'a>(lexemes: &[Lexeme<'a>]) -> Option<(&'a [u8], Target<'a>)>
-    ensures { fit (register_then (target ∷ [])) (all_seen lexemes.now)
-        ≡ option_map (λ (name, t). of_name_and_target name.now (target_seen t)) result }
-{
-    match lexemes {
-        [Lexeme::Name(name), Lexeme::Comma, rest @ ..] => Some((*name, target_of(rest)?)),
-        _ => None,
-    }
-}
-
-/// Two names and a target, between them commas.
-pub(crate) fn names_and_target<'a>(
-    lexemes: &[Lexeme<'a>],
-) -> Option<(&'a [u8], &'a [u8], Target<'a>)>
-    ensures { fit (register_then (register_then (target ∷ []))) (all_seen lexemes.now)
-        ≡ option_map (λ (first, second, t). of_names_and_target first.now second.now (target_seen t)) result }
-{
-    match lexemes {
-        [Lexeme::Name(first), Lexeme::Comma, rest @ ..] => {
-            let (second, target) = name_and_target(rest)?;
-            Some((*first, second, target))
-        }
+        [Lexeme::Name(label)] if !is_dot(*label) => Some(to(Target::Label(*label))),
         _ => None,
     }
 }
 
 /// A label, or `.` with a sign and a number, alone.
-pub(crate) fn target_of<'a>(lexemes: &[Lexeme<'a>]) -> Option<Target<'a>>
-    ensures { fit (target ∷ []) (all_seen lexemes.now) ≡ option_map
-        (λ t. of_target (target_seen t)) result }
+fn target_of<'a>(lexemes: &[Lexeme<'a>]) -> Option<Operands<'a>>
+    ensures value { fit (target ∷ []) (all_seen lexemes.now) ≡ option_map operands_seen result }
+    ensures few { IfSome result (λ found. length (names_seen found.names) < 2) }
 {
     match lexemes {
         [Lexeme::Name(name), rest @ ..] if is_dot(*name) => distance(rest),
-        [Lexeme::Name(name)] => Some(Target::Label(*name)),
-        _ => None,
+        _ => label(lexemes),
     }
 }
 
 /// A sign and a number, alone.
-fn distance<'a>(lexemes: &[Lexeme<'a>]) -> Option<Target<'a>>
-    ensures { and_then with_target (distance_then (all_seen lexemes.now)) (λ rest. fit [] rest)
-        ≡ option_map (λ t. of_target (target_seen t)) result }
+fn distance<'a>(lexemes: &[Lexeme<'a>]) -> Option<Operands<'a>>
+    ensures value { and_then with_target (distance_then (all_seen lexemes.now)) (λ rest. fit [] rest)
+        ≡ option_map operands_seen result }
+    ensures few { IfSome result (λ found. length (names_seen found.names) < 2) }
 {
-    match lexemes {
-        [Lexeme::Plus | Lexeme::Minus, ..] => Some(Target::Distance(number(lexemes)?)),
+    match (lexemes, number_then(lexemes)?) {
+        ([Lexeme::Plus | Lexeme::Minus, ..], (number, [])) => Some(to(Target::Distance(number))),
         _ => None,
+    }
+}
+
+/// A target alone.
+fn to<'a>(target: Target<'a>) -> Operands<'a>
+    ensures value { operands_seen result
+        ≡ record { names = []; numbers = []; sets = []; targets = target_seen target.entry ∷ [] } }
+    ensures few { names_seen result.names ≡ [] }
+{
+    Operands {
+        names: Names::Nothing,
+        given: Given::Target(target),
     }
 }
 
@@ -214,13 +287,6 @@ pub(crate) fn is_dot(name: &[u8]) -> bool
     }
 }
 
-/// A register's name.
-pub(crate) fn register(name: &[u8]) -> Result<Reg, AsmCode>
-    ensures { result ≡ ok_or (register_of name.now) AsmCode.Register }
-{
-    register_of(name).ok_or(AsmCode::Register)
-}
-
 /// The set that a token stands for.
 pub(crate) fn set(lexeme: Lexeme) -> Option<AccessSet>
     ensures { result ≡ set_at (seen lexeme.entry) }
@@ -228,47 +294,5 @@ pub(crate) fn set(lexeme: Lexeme) -> Option<AccessSet>
     match lexeme {
         Lexeme::Name(text) | Lexeme::Number { text, .. } => set_of(text),
         _ => None,
-    }
-}
-
-/// The integer that a number is, where it is in a range, which holds 0.
-pub(crate) fn within(number: SignedNumber, low: i64, high: i64) -> Result<i64, AsmCode>
-    requires least { negsuc (2 ^ 62) ≤ℤ low }
-    requires low { low ≤ℤ pos 0 }
-    requires high { pos 0 ≤ℤ high }
-    ensures value { result ≡ within number low high }
-    ensures range { IfOk result (λ z. (low ≤ℤ z) × (z ≤ℤ high)) }
-{
-    match number.size {
-        Some(size) if number.is_negative => negative(size, low),
-        Some(size) => positive(size, high),
-        None => Err(AsmCode::Range),
-    }
-}
-
-fn negative(size: u64, low: i64) -> Result<i64, AsmCode>
-    requires least { negsuc (2 ^ 62) ≤ℤ low }
-    requires low { low ≤ℤ pos 0 }
-    ensures value { result
-        ≡ (if int_le low (neg_ℤ (pos size)) then Ok (neg_ℤ (pos size)) else Err AsmCode.Range) }
-    ensures range { IfOk result (λ z. (low ≤ℤ z) × (z ≤ℤ pos 0)) }
-{
-    if size <= low.unsigned_abs() {
-        Ok(-(size as i64))
-    } else {
-        Err(AsmCode::Range)
-    }
-}
-
-fn positive(size: u64, high: i64) -> Result<i64, AsmCode>
-    requires { pos 0 ≤ℤ high }
-    ensures value { result
-        ≡ (if int_le (pos size) high then Ok (pos size) else Err AsmCode.Range) }
-    ensures range { IfOk result (λ z. (pos 0 ≤ℤ z) × (z ≤ℤ high)) }
-{
-    if size <= high.unsigned_abs() {
-        Ok(size as i64)
-    } else {
-        Err(AsmCode::Range)
     }
 }

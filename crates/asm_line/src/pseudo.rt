@@ -2,66 +2,23 @@
 //!
 //! Source: RISC-V Unprivileged ISA 20191213, chapter 25. A long `li` is always LUI and ADDIW.
 
-ghost use Rattle.asm_names.specs.declared.mnemonic.Mnemonic.{Mnemonic};
-ghost use Rattle.asm_line.specs.Grammar.{statement_of, unary, zero_branch, exchanged};
-ghost use Rattle.asm_line.specs.Grammar.{loaded_number};
-ghost use Rattle.asm_line.specs.Meanings.{instruction, meaning_of, IsInRange};
+ghost use Rattle.asm_line.specs.Grammar.{addressed, exchanged, loaded_number, unary, zero_branch};
+ghost use Rattle.asm_line.specs.Meanings.{meaning_of, IsInRange};
 ghost use Rattle.asm_line.specs.Numbers.{upper_half, lower_half};
-ghost use Rattle.asm_line.specs.Steps.{all_seen, target_seen, Gives};
+ghost use Rattle.asm_line.specs.Steps.{listed, target_seen, Gives};
 ghost use Rattle.isa_table.specs.Ranges.{FitsBits, IsChecked};
-ghost use Rattle.std.specs.Prelude.{◌≡◌, ◌^◌, ◌<◌, [], ◌∷◌, IfOk};
+ghost use Rattle.std.specs.Prelude.{◌≡◌, ◌^◌, ◌<◌, ◌≤ℤ◌, negsuc, pos, IfOk};
 ghost use Rattle.word_bits.specs.Numbers.{signed};
 
 use crate::fault::AsmCode;
-use crate::instructions::{branch_to, jump_to};
-use crate::lexeme::Lexeme;
+use crate::instructions::branch_to;
 use crate::line::Statement;
-use crate::operands::{Target, is_dot};
-use crate::shapes::{
-    nothing, one_register, one_target, register_and_number, register_and_target, two_registers,
-    two_registers_and_target,
-};
-use asm_names::{ExchangedBranchOp, UnaryOp, ZeroBranchOp, return_register, zero_register};
+use crate::operands::Target;
+use asm_names::{ExchangedBranchOp, UnaryOp, ZeroBranchOp, zero_register};
 use isa_table::{BranchOp, ImmediateOp, Instr, Reg, RegisterOp, UpperOp};
 
-/// `nop` is `addi x0, x0, 0`.
-#[tactic(auto, unfolding(crate::specs::Grammar::statement_of))]
-pub(crate) fn no_operation(operands: &[Lexeme]) -> Result<Instr, AsmCode>
-    ensures value { Gives instruction result (statement_of Mnemonic.Nop (all_seen operands.now)) }
-    ensures checked { IfOk result IsChecked }
-{
-    nothing(operands)?;
-    let zero = zero_register();
-    Ok(immediate(ImmediateOp::Addi, zero, zero, 0))
-}
-
-/// `ret` is `jalr x0, 0(x1)`.
-#[tactic(auto, unfolding(crate::specs::Grammar::statement_of))]
-pub(crate) fn return_jump(operands: &[Lexeme]) -> Result<Instr, AsmCode>
-    ensures value { Gives instruction result
-        (statement_of Mnemonic.Return (all_seen operands.now)) }
-    ensures checked { IfOk result IsChecked }
-{
-    nothing(operands)?;
-    Ok(Instr::JumpRegister {
-        rd: zero_register(),
-        rs1: return_register(),
-        offset: 0,
-    })
-}
-
-/// `rd, rs`
-#[tactic(auto, unfolding(crate::specs::Grammar::statement_of))]
-pub(crate) fn unary(op: UnaryOp, operands: &[Lexeme]) -> Result<Instr, AsmCode>
-    ensures value { Gives instruction result
-        (statement_of (Mnemonic.Unary op) (all_seen operands.now)) }
-    ensures checked { IfOk result IsChecked }
-{
-    let (rd, rs) = two_registers(operands)?;
-    Ok(unary_instruction(op, rd, rs))
-}
-
-fn unary_instruction(op: UnaryOp, rd: Reg, rs: Reg) -> Instr
+/// The instruction of a pseudo-instruction on two registers.
+pub(crate) fn unary(op: UnaryOp, rd: Reg, rs: Reg) -> Instr
     ensures value { result ≡ unary op rd rs }
     ensures checked { IsChecked result }
 {
@@ -79,7 +36,7 @@ fn unary_instruction(op: UnaryOp, rd: Reg, rs: Reg) -> Instr
     }
 }
 
-fn immediate(op: ImmediateOp, rd: Reg, rs1: Reg, immediate: i32) -> Instr
+pub(crate) fn immediate(op: ImmediateOp, rd: Reg, rs1: Reg, immediate: i32) -> Instr
     ensures { result ≡ Instr.Immediate op rd rs1 immediate }
 {
     Instr::Immediate {
@@ -90,32 +47,19 @@ fn immediate(op: ImmediateOp, rd: Reg, rs1: Reg, immediate: i32) -> Instr
     }
 }
 
-fn registers(op: RegisterOp, rd: Reg, rs1: Reg, rs2: Reg) -> Instr
+pub(crate) fn registers(op: RegisterOp, rd: Reg, rs1: Reg, rs2: Reg) -> Instr
     ensures { result ≡ Instr.Register op rd rs1 rs2 }
 {
     Instr::Register { op, rd, rs1, rs2 }
 }
 
-/// `rs, target`
-#[tactic(auto, unfolding(crate::specs::Grammar::statement_of))]
-pub(crate) fn zero_branch<'a>(
-    op: ZeroBranchOp,
-    operands: &[Lexeme<'a>],
-) -> Result<Statement<'a>, AsmCode>
-    ensures value { Gives meaning_of result
-        (statement_of (Mnemonic.ZeroBranch op) (all_seen operands.now)) }
-    ensures in_range { IfOk result (λ s. IsInRange (meaning_of s)) }
-{
-    let (rs, target) = register_and_target(operands)?;
-    zero_branch_to(op, rs, target)
-}
-
-fn zero_branch_to<'a>(
+/// A branch that compares a register with zero.
+pub(crate) fn zero_branch_to<'a>(
     op: ZeroBranchOp,
     rs: Reg,
-    target: Target<'a>,
+    target: Option<Target<'a>>,
 ) -> Result<Statement<'a>, AsmCode>
-    ensures value { Gives meaning_of result (zero_branch op rs (target_seen target.entry ∷ [])) }
+    ensures value { Gives meaning_of result (zero_branch op rs (listed target_seen target.entry)) }
     ensures in_range { IfOk result (λ s. IsInRange (meaning_of s)) }
 {
     let zero = zero_register();
@@ -129,22 +73,8 @@ fn zero_branch_to<'a>(
     }
 }
 
-/// `rs1, rs2, target`
-#[tactic(auto, unfolding(crate::specs::Grammar::statement_of))]
-pub(crate) fn exchanged_branch<'a>(
-    op: ExchangedBranchOp,
-    operands: &[Lexeme<'a>],
-) -> Result<Statement<'a>, AsmCode>
-    ensures value { Gives meaning_of result
-        (statement_of (Mnemonic.ExchangedBranch op) (all_seen operands.now)) }
-    ensures in_range { IfOk result (λ s. IsInRange (meaning_of s)) }
-{
-    let (rs1, rs2, target) = two_registers_and_target(operands)?;
-    branch_to(exchanged(op), rs2, rs1, target)
-}
-
 /// The comparison that gives the answer when the registers are exchanged.
-fn exchanged(op: ExchangedBranchOp) -> BranchOp
+pub(crate) fn exchanged(op: ExchangedBranchOp) -> BranchOp
     ensures { result ≡ exchanged op }
 {
     match op {
@@ -155,52 +85,18 @@ fn exchanged(op: ExchangedBranchOp) -> BranchOp
     }
 }
 
-/// `j` jumps to a target and keeps no return address.
-#[tactic(auto, unfolding(crate::specs::Grammar::statement_of))]
-pub(crate) fn plain_jump<'a>(operands: &[Lexeme<'a>]) -> Result<Statement<'a>, AsmCode>
-    ensures value { Gives meaning_of result
-        (statement_of Mnemonic.PlainJump (all_seen operands.now)) }
-    ensures in_range { IfOk result (λ s. IsInRange (meaning_of s)) }
-{
-    jump_to(zero_register(), one_target(operands)?)
-}
-
-/// `jr` jumps to the address in a register and keeps no return address.
-#[tactic(auto, unfolding(crate::specs::Grammar::statement_of))]
-pub(crate) fn plain_jump_register(operands: &[Lexeme]) -> Result<Instr, AsmCode>
-    ensures value { Gives instruction result
-        (statement_of Mnemonic.PlainJumpRegister (all_seen operands.now)) }
-    ensures checked { IfOk result IsChecked }
-{
-    let rs1 = one_register(operands)?;
-    Ok(Instr::JumpRegister {
-        rd: zero_register(),
-        rs1,
-        offset: 0,
-    })
-}
-
-/// `li rd, number`, where the number has 32 bits with its sign.
-#[tactic(auto, unfolding(crate::specs::Grammar::statement_of))]
-pub(crate) fn load_number<'a>(operands: &[Lexeme<'a>]) -> Result<Statement<'a>, AsmCode>
-    ensures value { Gives meaning_of result
-        (statement_of Mnemonic.LoadNumber (all_seen operands.now)) }
-    ensures in_range { IfOk result (λ s. IsInRange (meaning_of s)) }
-{
-    let (rd, number) = register_and_number(operands, -2_147_483_648, 2_147_483_647)?;
-    Ok(number_into(rd, number as i32))
-}
-
 /// ADDI where the number has 12 bits, and else LUI and ADDIW.
-fn number_into<'a>(rd: Reg, number: i32) -> Statement<'a>
+pub(crate) fn number_into<'a>(rd: Reg, number: i64) -> Statement<'a>
+    requires low { negsuc 2147483647 ≤ℤ number }
+    requires high { number ≤ℤ pos 2147483647 }
     ensures value { meaning_of result ≡ loaded_number rd number }
     ensures in_range { IsInRange (meaning_of result) }
 {
     if number >= -2048 && number <= 2047 {
         let zero = zero_register();
-        return Statement::Instruction(immediate(ImmediateOp::Addi, rd, zero, number));
+        return Statement::Instruction(immediate(ImmediateOp::Addi, rd, zero, number as i32));
     }
-    let (upper, lower) = halves(number);
+    let (upper, lower) = halves(number as i32);
     let first = Instr::Upper {
         op: UpperOp::Lui,
         rd,
@@ -237,18 +133,13 @@ fn low_part(bits: u32) -> i32
     }
 }
 
-/// `la rd, label`
-#[tactic(auto, unfolding(crate::specs::Grammar::statement_of))]
-pub(crate) fn load_address<'a>(operands: &[Lexeme<'a>]) -> Result<Statement<'a>, AsmCode>
-    ensures value { Gives meaning_of result
-        (statement_of Mnemonic.LoadAddress (all_seen operands.now)) }
+/// `la` of a label.
+pub(crate) fn address_of<'a>(rd: Reg, target: Option<Target<'a>>) -> Result<Statement<'a>, AsmCode>
+    ensures value { Gives meaning_of result (addressed rd (listed target_seen target.entry)) }
     ensures in_range { IfOk result (λ s. IsInRange (meaning_of s)) }
 {
-    match operands {
-        [Lexeme::Name(rd), Lexeme::Comma, Lexeme::Name(label)] if !is_dot(label) => {
-            let rd = crate::operands::register(rd)?;
-            Ok(Statement::Address { rd, label: *label })
-        }
+    match target {
+        Some(Target::Label(label)) => Ok(Statement::Address { rd, label }),
         _ => Err(AsmCode::Operands),
     }
 }

@@ -1,193 +1,142 @@
-//! The shapes of operands, each with what stands in its places.
-//!
-//! Of a shape's faults the lowest is answered: the operands don't fit it, a name is no register, a
-//! number is out of range.
+//! The shapes of operands.
 
-ghost use Rattle.asm_line.specs.Grammar.{from_to, parts, signed_12, up_to, register_then};
-ghost use Rattle.asm_line.specs.Grammar.{register_name, signed_number, memory_place};
-ghost use Rattle.asm_line.specs.Grammar.{target};
-ghost use Rattle.asm_line.specs.Steps.{all_seen, target_seen, Gives, shaped};
-ghost use Rattle.std.specs.Prelude.{◌≡◌, ◌^◌, ◌≤ℤ◌, [], ◌∷◌, pos, negsuc, IfOk};
+ghost use Rattle.asm_names.specs.declared.mnemonic.Mnemonic.{Mnemonic};
+ghost use Rattle.asm_line.specs.Grammar.{shapes_of, range_of, from_to, signed_12};
+ghost use Rattle.asm_line.specs.Grammar.{register_then, signed_number};
+ghost use Rattle.asm_line.specs.Steps.{form_shapes, has_few, interval, last_slots, slots_after};
+ghost use Rattle.std.specs.Prelude.{◌≡◌, ◌≤ℤ◌, [], ◌∷◌, pos, negsuc, true};
 
-use crate::fault::AsmCode;
-use crate::lexeme::Lexeme;
-use crate::operands::{
-    Target, name_and_number, name_and_place, name_and_target, names_and_number, names_and_place,
-    names_and_target, number, place, register, target_of, within,
-};
-use isa_table::Reg;
+use crate::range::Range;
+use asm_names::Mnemonic;
 
-/// `rd, rs`
-pub(crate) fn two_registers(operands: &[Lexeme]) -> Result<(Reg, Reg), AsmCode>
-    ensures { Gives (λ (a, b). parts (a ∷ b ∷ []) [] [] []) result
-        (shaped signed_12 (register_then (register_name ∷ [])) (all_seen operands.now)) }
+/// How many registers stand before the last operand, each with a comma after it.
+#[derive(Clone, Copy)]
+pub(crate) enum Before {
+    Nothing,
+    One,
+    Two,
+}
+
+/// What stands last.
+#[derive(Clone, Copy)]
+pub(crate) enum Last {
+    Nothing,
+    Register,
+    Number,
+    /// `offset(register)`, where the offset may be missing.
+    Place,
+    /// `set, set`
+    Sets,
+    Label,
+    /// A label or a distance.
+    Target,
+}
+
+/// The places that operands have.
+#[derive(Clone, Copy)]
+pub(crate) struct Shape {
+    pub(crate) before: Before,
+    pub(crate) last: Last,
+}
+
+/// How a mnemonic's operands are read: the first of its shapes that they fit, and their range.
+#[derive(Clone, Copy)]
+pub(crate) struct Form {
+    pub(crate) first: Shape,
+    pub(crate) second: Option<Shape>,
+    pub(crate) range: Range,
+}
+
+/// The form of each mnemonic whose operands are few.
+pub(crate) fn form_of(mnemonic: Mnemonic) -> Form
+    requires { has_few mnemonic ≡ true }
+    ensures shapes { shapes_of mnemonic ≡ form_shapes result }
+    ensures range { range_of mnemonic ≡ interval result.range }
 {
-    match operands {
-        [Lexeme::Name(first), Lexeme::Comma, Lexeme::Name(second)] => {
-            Ok((register(first)?, register(second)?))
+    match mnemonic {
+        Mnemonic::FenceI
+        | Mnemonic::System(_)
+        | Mnemonic::Nop
+        | Mnemonic::Return
+        | Mnemonic::Section(_) => one_form(Before::Nothing, Last::Nothing),
+        Mnemonic::PlainJumpRegister => one_form(Before::Nothing, Last::Register),
+        Mnemonic::Unary(_) => one_form(Before::One, Last::Register),
+        Mnemonic::Register(_) => one_form(Before::Two, Last::Register),
+        Mnemonic::Load(_) | Mnemonic::Store(_) => one_form(Before::One, Last::Place),
+        Mnemonic::Immediate(_) => one_form(Before::Two, Last::Number),
+        Mnemonic::PlainJump => one_form(Before::Nothing, Last::Target),
+        Mnemonic::ZeroBranch(_) => one_form(Before::One, Last::Target),
+        Mnemonic::Branch(_) | Mnemonic::ExchangedBranch(_) => one_form(Before::Two, Last::Target),
+        Mnemonic::LoadAddress => one_form(Before::One, Last::Label),
+        Mnemonic::Jump => either(Before::One, Last::Target, Last::Target),
+        Mnemonic::JumpRegister => either(Before::One, Last::Place, Last::Register),
+        Mnemonic::Fence => either(Before::Nothing, Last::Nothing, Last::Sets),
+        Mnemonic::Upper(_) => up_to(Before::One, Last::Number, 1_048_575),
+        Mnemonic::Shift(op) => {
+            up_to(Before::Two, Last::Number, i64::from(op.bits_shifted()) - 1)
         }
-        _ => Err(AsmCode::Operands),
+        Mnemonic::Cache(_) => up_to(Before::Nothing, Last::Place, 0),
+        Mnemonic::LoadReserved(_) => up_to(Before::One, Last::Place, 0),
+        Mnemonic::Atomic(_, _) => up_to(Before::Two, Last::Place, 0),
+        Mnemonic::LoadNumber => long_number(),
+        Mnemonic::Zeros => up_to(Before::Nothing, Last::Number, 1_048_576),
+        Mnemonic::Align => up_to(Before::Nothing, Last::Number, 4096),
+        Mnemonic::Numbers(_) => unreachable!(),
     }
 }
 
-/// `rd, rs1, rs2`
-pub(crate) fn three_registers(operands: &[Lexeme]) -> Result<(Reg, Reg, Reg), AsmCode>
-    ensures { Gives (λ (a, b, c). parts (a ∷ b ∷ c ∷ []) [] [] []) result
-        (shaped signed_12 (register_then (register_then (register_name ∷ []))) (all_seen operands.now)) }
+/// One shape, whose number has 12 bits with its sign.
+fn one_form(before: Before, last: Last) -> Form
+    ensures shapes { form_shapes result ≡ slots_after before (last_slots last) ∷ [] }
+    ensures range { interval result.range ≡ signed_12 }
 {
-    match operands {
-        [
-            Lexeme::Name(first),
-            Lexeme::Comma,
-            Lexeme::Name(second),
-            Lexeme::Comma,
-            Lexeme::Name(third),
-        ] => Ok((register(first)?, register(second)?, register(third)?)),
-        _ => Err(AsmCode::Operands),
+    let range = Range {
+        low: -2048,
+        high: 2047,
+    };
+    Form {
+        first: Shape { before, last },
+        second: None,
+        range,
     }
 }
 
-/// A register alone.
-pub(crate) fn one_register(operands: &[Lexeme]) -> Result<Reg, AsmCode>
-    ensures { Gives (λ r. parts (r ∷ []) [] [] []) result
-        (shaped signed_12 (register_name ∷ []) (all_seen operands.now)) }
+/// A shape, or another operand alone.
+fn either(before: Before, last: Last, alone: Last) -> Form
+    ensures shapes { form_shapes result ≡ slots_after before (last_slots last) ∷ last_slots alone ∷ [] }
+    ensures range { interval result.range ≡ signed_12 }
 {
-    match operands {
-        [Lexeme::Name(name)] => register(name),
-        _ => Err(AsmCode::Operands),
+    Form {
+        second: Some(Shape {
+            before: Before::Nothing,
+            last: alone,
+        }),
+        ..one_form(before, last)
     }
 }
 
-/// A number alone, in a range that holds 0.
-pub(crate) fn one_number(operands: &[Lexeme], low: i64, high: i64) -> Result<i64, AsmCode>
-    requires least { negsuc (2 ^ 62) ≤ℤ low }
-    requires low { low ≤ℤ pos 0 }
-    requires high { pos 0 ≤ℤ high }
-    ensures value { Gives (λ z. parts [] (z ∷ []) [] []) result
-        (shaped (from_to low high) (signed_number ∷ []) (all_seen operands.now)) }
-    ensures range { IfOk result (λ z. (low ≤ℤ z) × (z ≤ℤ high)) }
+/// One shape, whose number is from 0 to a greatest one.
+fn up_to(before: Before, last: Last, high: i64) -> Form
+    requires { pos 0 ≤ℤ high }
+    ensures shapes { form_shapes result ≡ slots_after before (last_slots last) ∷ [] }
+    ensures range { interval result.range ≡ from_to (pos 0) high }
 {
-    let number = number(operands).ok_or(AsmCode::Operands)?;
-    within(number, low, high)
+    Form {
+        range: Range { low: 0, high },
+        ..one_form(before, last)
+    }
 }
 
-/// `rd, number`, in a range that holds 0.
-pub(crate) fn register_and_number(
-    operands: &[Lexeme],
-    low: i64,
-    high: i64,
-) -> Result<(Reg, i64), AsmCode>
-    requires least { negsuc (2 ^ 62) ≤ℤ low }
-    requires low { low ≤ℤ pos 0 }
-    requires high { pos 0 ≤ℤ high }
-    ensures value { Gives (λ (r, z). parts (r ∷ []) (z ∷ []) [] []) result
-        (shaped (from_to low high) (register_then (signed_number ∷ [])) (all_seen operands.now)) }
-    ensures range { IfOk result (λ (r, z). (low ≤ℤ z) × (z ≤ℤ high)) }
+/// `rd, number`, where the number has 32 bits with its sign.
+fn long_number() -> Form
+    ensures shapes { form_shapes result ≡ register_then (signed_number ∷ []) ∷ [] }
+    ensures range { interval result.range ≡ from_to (negsuc 2147483647) (pos 2147483647) }
 {
-    let (name, number) = name_and_number(operands).ok_or(AsmCode::Operands)?;
-    let register = register(name)?;
-    Ok((register, within(number, low, high)?))
-}
-
-/// `rd, rs1, number`, in a range that holds 0.
-pub(crate) fn two_registers_and_number(
-    operands: &[Lexeme],
-    low: i64,
-    high: i64,
-) -> Result<(Reg, Reg, i64), AsmCode>
-    requires least { negsuc (2 ^ 62) ≤ℤ low }
-    requires low { low ≤ℤ pos 0 }
-    requires high { pos 0 ≤ℤ high }
-    ensures value { Gives (λ (a, b, z). parts (a ∷ b ∷ []) (z ∷ []) [] []) result
-        (shaped (from_to low high) (register_then (register_then (signed_number ∷ []))) (all_seen operands.now)) }
-    ensures range { IfOk result (λ (a, b, z). (low ≤ℤ z) × (z ≤ℤ high)) }
-{
-    let (first, second, number) = names_and_number(operands).ok_or(AsmCode::Operands)?;
-    let first = register(first)?;
-    let second = register(second)?;
-    Ok((first, second, within(number, low, high)?))
-}
-
-/// `offset(rs1)`, where the offset may be missing, in a range that holds 0.
-pub(crate) fn memory(operands: &[Lexeme], low: i64, high: i64) -> Result<(Reg, i64), AsmCode>
-    requires least { negsuc (2 ^ 62) ≤ℤ low }
-    requires low { low ≤ℤ pos 0 }
-    requires high { pos 0 ≤ℤ high }
-    ensures value { Gives (λ (r, z). parts (r ∷ []) (z ∷ []) [] []) result
-        (shaped (from_to low high) memory_place (all_seen operands.now)) }
-    ensures range { IfOk result (λ (r, z). (low ≤ℤ z) × (z ≤ℤ high)) }
-{
-    let (offset, base) = place(operands).ok_or(AsmCode::Operands)?;
-    let base = register(base)?;
-    Ok((base, within(offset, low, high)?))
-}
-
-/// `rd, offset(rs1)`, where the offset may be missing, in a range that holds 0.
-pub(crate) fn register_and_memory(
-    operands: &[Lexeme],
-    low: i64,
-    high: i64,
-) -> Result<(Reg, Reg, i64), AsmCode>
-    requires least { negsuc (2 ^ 62) ≤ℤ low }
-    requires low { low ≤ℤ pos 0 }
-    requires high { pos 0 ≤ℤ high }
-    ensures value { Gives (λ (a, b, z). parts (a ∷ b ∷ []) (z ∷ []) [] []) result
-        (shaped (from_to low high) (register_then memory_place) (all_seen operands.now)) }
-    ensures range { IfOk result (λ (a, b, z). (low ≤ℤ z) × (z ≤ℤ high)) }
-{
-    let (name, offset, base) = name_and_place(operands).ok_or(AsmCode::Operands)?;
-    let first = register(name)?;
-    let base = register(base)?;
-    Ok((first, base, within(offset, low, high)?))
-}
-
-/// `rd, rs2, (rs1)`, where an offset of 0 may stand.
-pub(crate) fn two_registers_and_memory(operands: &[Lexeme]) -> Result<(Reg, Reg, Reg), AsmCode>
-    ensures { Gives (λ (a, b, c). parts (a ∷ b ∷ c ∷ []) (pos 0 ∷ []) [] []) result
-        (shaped (up_to 0) (register_then (register_then memory_place)) (all_seen operands.now)) }
-{
-    let found = names_and_place(operands).ok_or(AsmCode::Operands)?;
-    let first = register(found.first)?;
-    let second = register(found.second)?;
-    let base = register(found.base)?;
-    within(found.offset, 0, 0)?;
-    Ok((first, second, base))
-}
-
-/// A target alone.
-pub(crate) fn one_target<'a>(operands: &[Lexeme<'a>]) -> Result<Target<'a>, AsmCode>
-    ensures { Gives (λ t. parts [] [] [] (target_seen t ∷ [])) result
-        (shaped signed_12 (target ∷ []) (all_seen operands.now)) }
-{
-    target_of(operands).ok_or(AsmCode::Operands)
-}
-
-/// `rs, target`
-pub(crate) fn register_and_target<'a>(operands: &[Lexeme<'a>]) -> Result<(Reg, Target<'a>), AsmCode>
-    ensures { Gives (λ (r, t). parts (r ∷ []) [] [] (target_seen t ∷ [])) result
-        (shaped signed_12 (register_then (target ∷ [])) (all_seen operands.now)) }
-{
-    let (name, target) = name_and_target(operands).ok_or(AsmCode::Operands)?;
-    Ok((register(name)?, target))
-}
-
-/// `rs1, rs2, target`
-pub(crate) fn two_registers_and_target<'a>(
-    operands: &[Lexeme<'a>],
-) -> Result<(Reg, Reg, Target<'a>), AsmCode>
-    ensures { Gives (λ (a, b, t). parts (a ∷ b ∷ []) [] [] (target_seen t ∷ [])) result
-        (shaped signed_12 (register_then (register_then (target ∷ []))) (all_seen operands.now)) }
-{
-    let (first, second, target) = names_and_target(operands).ok_or(AsmCode::Operands)?;
-    Ok((register(first)?, register(second)?, target))
-}
-
-/// No operands.
-pub(crate) fn nothing(operands: &[Lexeme]) -> Result<(), AsmCode>
-    ensures { Gives (λ _. parts [] [] [] []) result (shaped signed_12 [] (all_seen operands.now)) }
-{
-    match operands {
-        [] => Ok(()),
-        _ => Err(AsmCode::Operands),
+    Form {
+        range: Range {
+            low: -2_147_483_648,
+            high: 2_147_483_647,
+        },
+        ..one_form(Before::One, Last::Number)
     }
 }

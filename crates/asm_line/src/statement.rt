@@ -1,29 +1,22 @@
 //! The statement and the label of a line.
 
 ghost use Rattle.asm_line.specs.Faults.{both, code_number, lower, Fails};
-ghost use Rattle.asm_line.specs.Grammar.{statement_of};
+ghost use Rattle.asm_line.specs.Grammar.{built, int, range_of, statement_of};
 ghost use Rattle.asm_line.specs.Lines.{body_of, label_of, labelled, label_first, lexemes_line};
-ghost use Rattle.asm_line.specs.Meanings.{instruction, line_meaning, meaning_of, IsInRange};
-ghost use Rattle.asm_line.specs.Steps.{all_seen, Gives};
-ghost use Rattle.isa_table.specs.Ranges.{IsChecked};
-ghost use Rattle.asm_line.specs.declared.line.Statement.TheVariants.{Instruction};
-ghost use Rattle.std.specs.Prelude.{◌≡◌, ◌≢◌, Ok, Err, IfOk, IfErr, MatchResult, option_map};
+ghost use Rattle.asm_line.specs.Meanings.{line_meaning, meaning_of, IsInRange};
+ghost use Rattle.asm_line.specs.Steps.{all_seen, has_few, parts_seen, Gives};
+ghost use Rattle.std.specs.Prelude.{◌≡◌, ◌≤ℤ◌, true, Ok, IfOk, IfErr, MatchResult, option_map};
 
-use crate::directives::{align, numbers, section, zeros};
+use crate::directives::{aligned, numbers};
 use crate::fault::AsmCode;
-use crate::instructions::{
-    atomic, branch, cache, fence, fence_i, immediate, jump, jump_register, load, load_reserved,
-    register, shift, store, system, upper,
-};
+use crate::instructions::{addressing, branch_to, jump_to, plain};
 use crate::lexeme::Lexeme;
 use crate::line::{Line, Statement};
 use crate::operands::is_dot;
-use crate::pseudo::{
-    exchanged_branch, load_address, load_number, no_operation, plain_jump, plain_jump_register,
-    return_jump, unary, zero_branch,
-};
-use asm_names::{Mnemonic, mnemonic_of, register_of};
-use isa_table::Instr;
+use crate::parts::{Parts, read};
+use crate::pseudo::{address_of, exchanged, number_into, zero_branch_to};
+use crate::shapes::form_of;
+use asm_names::{Mnemonic, mnemonic_of, register_of, return_register, zero_register};
 use std::alloc::Global;
 
 /// A line of lexemes: `name:`, a statement, or both.
@@ -143,14 +136,8 @@ fn body<'a>(alloc: Global, lexemes: &[Lexeme<'a>]) -> Result<Statement<'a>, AsmC
     }
 }
 
-/// The statement of an instruction that names no place.
-fn plain<'a>(instruction: Result<Instr, AsmCode>) -> Result<Statement<'a>, AsmCode>
-    ensures { MatchResult instruction (λ instr. result ≡ Ok (Instruction instr)) (λ code. result ≡ Err code) }
-{
-    Ok(Statement::Instruction(instruction?))
-}
-
 /// The statement of a mnemonic, pseudo-instruction or directive with these operands.
+#[tactic(auto, unfolding(crate::specs::Grammar::statement_of))]
 fn statement<'a>(
     alloc: Global,
     mnemonic: Mnemonic,
@@ -162,34 +149,45 @@ fn statement<'a>(
         (statement_of mnemonic (all_seen operands.now))) }
     ensures in_range { IfOk result (λ s. IsInRange (meaning_of s)) }
 {
+    if let Mnemonic::Numbers(width) = mnemonic {
+        return numbers(alloc, width, operands);
+    }
+    let parts = read(form_of(mnemonic), operands)?;
+    built(mnemonic, parts)
+}
+
+/// What a statement says with its operands.
+fn built<'a>(mnemonic: Mnemonic, parts: Parts<'a>) -> Result<Statement<'a>, AsmCode>
+    requires few { has_few mnemonic ≡ true }
+    requires low { (range_of mnemonic).low ≤ℤ int (parts_seen parts) 0 }
+    requires high { int (parts_seen parts) 0 ≤ℤ (range_of mnemonic).high }
+    ensures value { Gives meaning_of result (built mnemonic (parts_seen parts.entry)) }
+    ensures in_range { IfOk result (λ s. IsInRange (meaning_of s)) }
+{
+    let first = parts.registers.first_or(zero_register());
+    let second = parts.registers.second();
+    let (number, target) = (parts.number(), parts.target());
     match mnemonic {
-        Mnemonic::Upper(op) => plain(upper(op, operands)),
-        Mnemonic::Jump => jump(operands),
-        Mnemonic::JumpRegister => plain(jump_register(operands)),
-        Mnemonic::Branch(op) => branch(op, operands),
-        Mnemonic::Load(op) => plain(load(op, operands)),
-        Mnemonic::Store(op) => plain(store(op, operands)),
-        Mnemonic::Immediate(op) => plain(immediate(op, operands)),
-        Mnemonic::Shift(op) => plain(shift(op, operands)),
-        Mnemonic::Register(op) => plain(register(op, operands)),
-        Mnemonic::Fence => plain(fence(operands)),
-        Mnemonic::FenceI => plain(fence_i(operands)),
-        Mnemonic::Cache(op) => plain(cache(op, operands)),
-        Mnemonic::LoadReserved(form) => plain(load_reserved(form, operands)),
-        Mnemonic::Atomic(op, form) => plain(atomic(op, form, operands)),
-        Mnemonic::System(op) => plain(system(op, operands)),
-        Mnemonic::Nop => plain(no_operation(operands)),
-        Mnemonic::Return => plain(return_jump(operands)),
-        Mnemonic::Unary(op) => plain(unary(op, operands)),
-        Mnemonic::ZeroBranch(op) => zero_branch(op, operands),
-        Mnemonic::ExchangedBranch(op) => exchanged_branch(op, operands),
-        Mnemonic::PlainJump => plain_jump(operands),
-        Mnemonic::PlainJumpRegister => plain(plain_jump_register(operands)),
-        Mnemonic::LoadNumber => load_number(operands),
-        Mnemonic::LoadAddress => load_address(operands),
-        Mnemonic::Section(which) => section(which, operands),
-        Mnemonic::Numbers(width) => numbers(alloc, width, operands),
-        Mnemonic::Zeros => zeros(operands),
-        Mnemonic::Align => align(operands),
+        Mnemonic::Jump => jump_to(parts.registers.first_or(return_register()), target),
+        Mnemonic::PlainJump => jump_to(zero_register(), target),
+        Mnemonic::Branch(op) => branch_to(op, first, second, target),
+        Mnemonic::ZeroBranch(op) => zero_branch_to(op, first, target),
+        Mnemonic::ExchangedBranch(op) => branch_to(exchanged(op), second, first, target),
+        Mnemonic::LoadAddress => address_of(first, target),
+        Mnemonic::LoadNumber => Ok(number_into(first, number)),
+        Mnemonic::Section(section) => Ok(Statement::Section(section)),
+        Mnemonic::Zeros => Ok(Statement::Zeros(number.unsigned_abs() as u32)),
+        Mnemonic::Align => aligned(number.unsigned_abs() as u32),
+        Mnemonic::Numbers(_) => unreachable!(),
+        Mnemonic::Upper(_)
+        | Mnemonic::Immediate(_)
+        | Mnemonic::Shift(_)
+        | Mnemonic::Register(_)
+        | Mnemonic::Fence
+        | Mnemonic::FenceI
+        | Mnemonic::System(_)
+        | Mnemonic::Nop
+        | Mnemonic::Unary(_) => Ok(Statement::Instruction(plain(mnemonic, parts))),
+        _ => Ok(Statement::Instruction(addressing(mnemonic, parts))),
     }
 }
