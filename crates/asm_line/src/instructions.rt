@@ -4,15 +4,14 @@
 
 ghost use Rattle.asm_line.specs.Grammar.{branched, built, int, jumped, range_of, register_jump};
 ghost use Rattle.asm_line.specs.Meanings.{instruction, meaning_of, IsInRange};
-ghost use Rattle.asm_line.specs.Numbers.{even};
-ghost use Rattle.asm_line.specs.Steps.{is_plain, listed, parts_seen, registers_seen, takes_address};
-ghost use Rattle.asm_line.specs.Steps.{target_seen, Gives};
+ghost use Rattle.asm_line.specs.Steps.{even_within, is_plain, listed, parts_seen, registers_seen};
+ghost use Rattle.asm_line.specs.Steps.{takes_address, target_seen, Gives};
 ghost use Rattle.isa_table.specs.Ranges.{FitsBits, IsChecked, IsEven};
 ghost use Rattle.std.specs.Prelude.{◌≡◌, ◌^◌, ◌≤ℤ◌, negsuc, pos, true, Ok, IfOk};
 
 use crate::fault::AsmCode;
 use crate::line::Statement;
-use crate::operands::Target;
+use crate::operands::{SignedNumber, Target};
 use crate::parts::{Parts, Registers, within};
 use crate::pseudo::{immediate, registers, unary};
 use asm_names::{Mnemonic, return_register, zero_register};
@@ -132,15 +131,15 @@ pub(crate) fn branch_to<'a>(
     ensures value { Gives meaning_of result (branched op rs1 rs2 (listed target_seen target.entry)) }
     ensures in_range { IfOk result (λ s. IsInRange (meaning_of s)) }
 {
-    match target.ok_or(AsmCode::Operands)? {
-        Target::Label(label) => Ok(Statement::Branch {
+    match target {
+        Some(Target::Label(label)) => Ok(Statement::Branch {
             op,
             rs1,
             rs2,
             label,
         }),
-        Target::Distance(number) => {
-            let distance = even(within(number, -4096, 4095)?)? as i32;
+        Some(Target::Distance(number)) => {
+            let distance = even_within(number, -4096, 4095)? as i32;
             Ok(Statement::Instruction(Instr::Branch {
                 op,
                 rs1,
@@ -148,6 +147,7 @@ pub(crate) fn branch_to<'a>(
                 distance,
             }))
         }
+        None => Err(AsmCode::Operands),
     }
 }
 
@@ -156,20 +156,26 @@ pub(crate) fn jump_to<'a>(rd: Reg, target: Option<Target<'a>>) -> Result<Stateme
     ensures value { Gives meaning_of result (jumped rd (listed target_seen target.entry)) }
     ensures in_range { IfOk result (λ s. IsInRange (meaning_of s)) }
 {
-    match target.ok_or(AsmCode::Operands)? {
-        Target::Label(label) => Ok(Statement::Jump { rd, label }),
-        Target::Distance(number) => {
-            let distance = even(within(number, -1_048_576, 1_048_575)?)? as i32;
+    match target {
+        Some(Target::Label(label)) => Ok(Statement::Jump { rd, label }),
+        Some(Target::Distance(number)) => {
+            let distance = even_within(number, -1_048_576, 1_048_575)? as i32;
             Ok(Statement::Instruction(Instr::Jump { rd, distance }))
         }
+        None => Err(AsmCode::Operands),
     }
 }
 
-/// A distance, which has to be even.
-fn even(distance: i64) -> Result<i64, AsmCode>
-    ensures value { result ≡ even distance }
-    ensures even { IfOk result (λ z. (z ≡ distance) × IsEven z) }
+/// A distance in a range that holds 0, which has to be even.
+fn even_within(number: SignedNumber, low: i64, high: i64) -> Result<i64, AsmCode>
+    requires least { negsuc (2 ^ 62) ≤ℤ low }
+    requires low { low ≤ℤ pos 0 }
+    requires high { pos 0 ≤ℤ high }
+    ensures value { result ≡ even_within number low high }
+    ensures even { IfOk result IsEven }
+    ensures range { IfOk result (λ z. (low ≤ℤ z) × (z ≤ℤ high)) }
 {
+    let distance = within(number, low, high)?;
     if distance.unsigned_abs() % 2 == 0 {
         Ok(distance)
     } else {
