@@ -7,7 +7,7 @@ ghost use Rattle.asm_line.specs.Meanings.{meaning_of, IsInRange};
 ghost use Rattle.asm_line.specs.Numbers.{upper_half, lower_half};
 ghost use Rattle.asm_line.specs.Steps.{listed, target_seen, Gives};
 ghost use Rattle.isa_table.specs.Ranges.{FitsBits, IsChecked};
-ghost use Rattle.std.specs.Prelude.{◌≡◌, ◌^◌, ◌<◌, ◌≤ℤ◌, negsuc, pos, IfOk};
+ghost use Rattle.std.specs.Prelude.{◌≡◌, ◌+◌, ◌/◌, ◌%◌, ◌^◌, ◌<◌, ◌≤ℤ◌, negsuc, pos, IfOk};
 ghost use Rattle.word_bits.specs.Numbers.{signed};
 
 use crate::fault::AsmCode;
@@ -116,8 +116,15 @@ pub fn halves(number: i32) -> (u32, i32)
     ensures lower_in_range { FitsBits 12 result.1 }
 {
     let word = number.cast_unsigned();
-    let upper = ((u64::from(word) + 0x800) / 0x1000 % 0x10_0000) as u32;
-    (upper, low_part(word % 0x1000))
+    (upper_part(word), low_part(word % 0x1000))
+}
+
+/// The upper 20 bits of a word, rounded to the nearest multiple of 2^12.
+fn upper_part(word: u32) -> u32
+    ensures value { result ≡ (word + 0x800) / 2 ^ 12 % 2 ^ 20 }
+    ensures in_range { result < 2 ^ 20 }
+{
+    ((u64::from(word) + 0x800) / 0x1000 % 0x10_0000) as u32
 }
 
 /// The two's complement value of 12 bits.
