@@ -6,7 +6,7 @@ use Rattle.debugger.specs.Points.{DebuggerView}
 use Rattle.debugger.specs.declared.fault.DebugFault.{DebugFault}
 use Rattle.debugger.specs.declared.fault.DebugFault.TheVariants as faults
 use Rattle.session.specs.Doing.{SessionState}
-use Rattle.session.specs.Failing.{FailsBy}
+use Rattle.session.specs.Failing.{EndsBy, FailsBy}
 use Rattle.session.specs.Reading.{IsHeld, IsOver, OverIf, ReadsLine, Takes, ahead_of, line_end}
 use Rattle.session.specs.Sessions.{BreaksOff, Fails, IsInputEnd, IsLastLine, Session}
 use Rattle.session.specs.Turns.{ComesOut, IsAnswered, LineOutcome, Turns, beginning, none, more}
@@ -261,3 +261,14 @@ failed_answer old state debugger last fresh input further s t u k l m a b read h
 failed_answer old state debugger last fresh input further s t u k l m a b read held faults.InputOutput empty all so_far line out kept by =
     (so_far.answered, unanswered old state (state_of debugger last) fresh input further s t u k l read held empty all so_far line (out line.whole line.held), inr by)
 failed_answer old state debugger last fresh input further s t u k l m a b read held fault empty all so_far line out kept by = absurd by
+
+-- why the session ends by a line that wasn't read, and by one that wasn't answered
+pub ends_by_read : (s t u k l : ℕ) (fault : DebugFault) → FailsBy t u fault → t ≡ s → l ≡ k → EndsBy s u k l fault
+ends_by_read s t u k l faults.Memory by source sink = (by ∙ source, sink)
+ends_by_read s t u k l faults.InputOutput by source sink = inl (rw (← source) by, sink)
+ends_by_read s t u k l fault by source sink = absurd by
+
+pub ends_by_write : (s t k l m : ℕ) (fault : DebugFault) → FailsBy l m fault → l ≡ k → t ≡ s → EndsBy s t k m fault
+ends_by_write s t k l m faults.Memory by sink source = (source, by ∙ sink)
+ends_by_write s t k l m faults.InputOutput by sink source = inr (source, rw (← sink) by)
+ends_by_write s t k l m fault by sink source = absurd by

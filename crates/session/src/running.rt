@@ -23,7 +23,6 @@ use std::alloc::{AllocError, Global};
 /// # Errors
 /// Memory where a growth is refused, InputOutput where a read or a write failed; nothing is written of them. The machine
 /// stands as after the last command that was carried out.
-#[tactic(auto, using(crate::proofs::Runs::no_run, crate::proofs::Runs::run_joined, crate::proofs::Underway::begun, crate::proofs::Underway::answered_more))]
 pub fn session<S: Source, K: Sink>(
     alloc: Global,
     debugger: &mut Debugger,
