@@ -13,7 +13,6 @@ use Rattle.machine.proofs.Evicting.{alike_itself, runs_alike}
 use Rattle.machine.proofs.RunParts.{run_grows, run_parted}
 use Rattle.machine.specs.Evicting.{hart_steps}
 use Rattle.machine.specs.Run.{Config, RunsTo}
-use Rattle.machine.specs.Stands.{MachineView, Stands}
 use Rattle.plan.specs.declared.operation.Operation.{Operation}
 use Rattle.schedule.specs.Steps.{all_steps}
 use Rattle.schedule.specs.declared.items.Item.{Item}

@@ -52,7 +52,6 @@ impl From<StepFault> for ExplainFault {
 /// fewer than 2^32 steps of harts, as one that was read has.
 ///
 /// The run by it makes the events before the moment and no others, and a power cut at its end leaves the image.
-#[tactic(auto, using(crate::proofs::Leaving::explains_image, crate::proofs::Leaving::lacks_image))]
 pub fn explain_image(
     alloc: Global,
     program: Program,

@@ -1,6 +1,6 @@
 //! From a program's file to the program.
 
-ghost use Rattle.std.specs.Prelude.{IfErr, IfOk};
+ghost use Rattle.std.specs.Prelude.{◌≡◌, IfErr, IfOk, false, true};
 ghost use Rattle.tester.specs.Programs.{IsLoadFault, IsObjectOf, IsProgramOf, begins_as_object};
 
 use assemble::{AsmCode, AsmFault, assemble};
@@ -41,12 +41,31 @@ fn object_of(alloc: Global, file: &[u8]) -> Result<Object, ProgramFault>
     ensures err { IfErr result (IsLoadFault file.now) }
 {
     if file.starts_with(&MAGIC) {
-        return match Object::read(alloc, file) {
-            Ok(object) => Ok(object),
-            Err(LoadFault::Memory) => Err(ProgramFault::Memory),
-            Err(fault) => Err(ProgramFault::Object(fault)),
-        };
+        read_object(alloc, file)
+    } else {
+        assemble_source(alloc, file)
     }
+}
+
+/// The object that a file which begins as one holds.
+fn read_object(alloc: Global, file: &[u8]) -> Result<Object, ProgramFault>
+    requires { begins_as_object file.now ≡ true }
+    ensures ok { IfOk result (λ object. IsObjectOf true file.now object) }
+    ensures err { IfErr result (IsLoadFault file.now) }
+{
+    match Object::read(alloc, file) {
+        Ok(object) => Ok(object),
+        Err(LoadFault::Memory) => Err(ProgramFault::Memory),
+        Err(fault) => Err(ProgramFault::Object(fault)),
+    }
+}
+
+/// The object of a source.
+fn assemble_source(alloc: Global, file: &[u8]) -> Result<Object, ProgramFault>
+    requires { begins_as_object file.now ≡ false }
+    ensures ok { IfOk result (λ object. IsObjectOf false file.now object) }
+    ensures err { IfErr result (IsLoadFault file.now) }
+{
     match assemble(alloc, file) {
         Ok(object) => Ok(object),
         Err(fault) if fault.code == AsmCode::Memory => Err(ProgramFault::Memory),

@@ -19,7 +19,7 @@ use store_trace::Trace;
 /// # Errors
 /// NoSuchHart where `harts` isn't from 1 to 8, and else OutOfLimits where `capacity` is outside its limits; else TraceFull
 /// where a step's event finds the trace full. Memory where a growth is refused.
-#[tactic(auto, using(crate::proofs::Making::has_run, crate::proofs::Turning::takes_turns, crate::proofs::Turning::refuses_turn))]
+#[tactic(auto, using(crate::proofs::Turning::takes_turns, crate::proofs::Turning::refuses_turn))]
 pub fn run_program(
     alloc: Global,
     program: Program,
@@ -46,7 +46,7 @@ pub fn run_program(
 /// # Errors
 /// NoSuchHart where `harts` isn't from 1 to 8, and else OutOfLimits where `capacity` is outside its limits; else why the
 /// first step that is refused is so. Memory where a growth is refused.
-#[tactic(auto, using(crate::proofs::Making::has_run, crate::proofs::Making::stops_at))]
+#[tactic(auto, using(crate::proofs::Making::stops_at))]
 pub fn replay(
     alloc: Global,
     program: Program,
