@@ -1,6 +1,10 @@
+use Rattle.std.proofs.Common.{rules}
 use Rattle.tester.proofs.Judging.{always_passes}
 use Rattle.tester.proofs.Surviving.{survives}
 use Rattle.tester.proofs.checking.check_program.Goals as goal
+
+pub returns-in-Ok-clause-ok : goal.returns-in-Ok-clause-ok
+returns-in-Ok-clause-ok c = search rules
 
 pub returns-in-Ok-clause-pass : goal.returns-in-Ok-clause-pass
 returns-in-Ok-clause-pass c = λ moments images passed.
