@@ -46,7 +46,7 @@ pub fn session<S: Source, K: Sink>(
     'lines: loop {
         let read = match input.read_line(source, &mut line) {
             Ok(read) => read,
-            Err(fault) => return Err(fault),
+            Err(unread) => return Err(unread),
         };
         match answer_line(alloc, debugger, &mut last, read.line, &line, sink) {
             Ok(goes_on) => {

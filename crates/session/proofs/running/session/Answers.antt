@@ -22,14 +22,14 @@ returns-in-Err-clause-same g c = (c.read_line.ensures.same ∙ c.lines.invariant
 
 pub returns-in-Err-clause-err : goal.returns-in-Err-clause-err
 returns-in-Err-clause-err g c =
-    ends_by_read _ _ _ _ _ c.in-Err.fault c.in-Err.ensures.err c.lines.invariant.source c.lines.invariant.sink
+    ends_by_read _ _ _ _ _ c.in-Err.unread c.in-Err.ensures.err c.lines.invariant.source c.lines.invariant.sink
 
 pub returns-in-Err-clause-fails : goal.returns-in-Err-clause-fails
 returns-in-Err-clause-fails g c =
     let sink = g.K.Sink.failures_of in
     let source = g.S.Source.failures_of in
     failed_read _ _ c.lines.last c.new-input.result c.lines.input c.read_line.new.self _ _ _ _ _ (sink c.args.sink.now) (sink c.lines.sink)
-    (source c.lines.source) (source c.read_line.new.source) c.in-Err.fault c.new-input.ensures.ahead c.new-input.ensures.left c.lines.invariant.underway
+    (source c.lines.source) (source c.read_line.new.source) c.in-Err.unread c.new-input.ensures.ahead c.new-input.ensures.left c.lines.invariant.underway
     c.in-Err.ensures.part c.in-Err.ensures.err
 
 pub returns-then-not-goes_on-clause-runs : goal.returns-then-not-goes_on-clause-runs
