@@ -90,6 +90,7 @@ bare = record (new_shape (codes "novacrash")) {
   subcommand_required = true;
 }
 
+-- the line has no subcommands
 abbrev pub is_none : List Shape → Bool
 is_none [] = true
 is_none (s ∷ shapes) = false

@@ -1,3 +1,4 @@
 pub mod Grammar
 pub mod Line
+pub mod Started
 pub mod Values

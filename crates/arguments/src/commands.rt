@@ -1,9 +1,12 @@
 //! What each subcommand asks for, by the values found for its words and options.
 
-ghost use Rattle.std.specs.Prelude.{◌<◌, ◌^◌, IfOk, IfErr};
+ghost use Rattle.std.specs.Prelude.{◌<◌, ◌^◌, IfOk, IfErr, String, codes};
+ghost use Rattle.std.specs.declared.alloc.Global.{Global as AGlobal};
 ghost use Rattle.clap.specs.Words.{found_of, rows_of};
 ghost use Rattle.arguments.specs.Line.{IsAssemble, IsCheck, IsDebug, IsExplain, IsImages, IsMakeVolume, IsReplay, IsRun};
-ghost use Rattle.arguments.specs.Line.{IsMachineWithin, IsWithin, OnFault};
+ghost use Rattle.arguments.specs.Line.{IsCachedMachine, IsMachineWithin, IsWholeMachine, IsWithin, OnFault};
+ghost use Rattle.arguments.specs.Started.{IsRecorded, IsStarted};
+ghost use Rattle.arguments.specs.Values.{IsWord};
 ghost use Rattle.arguments.specs.declared.asked.AssembleCommand.{AssembleCommand as AAssembleCommand};
 ghost use Rattle.arguments.specs.declared.asked.MakeVolumeCommand.{MakeVolumeCommand as AMakeVolumeCommand};
 ghost use Rattle.arguments.specs.declared.asked.RunCommand.{RunCommand as ARunCommand};
@@ -12,10 +15,11 @@ ghost use Rattle.arguments.specs.declared.asked.DebugCommand.{DebugCommand as AD
 ghost use Rattle.arguments.specs.declared.asked.ImagesCommand.{ImagesCommand as AImagesCommand};
 ghost use Rattle.arguments.specs.declared.asked.ExplainCommand.{ExplainCommand as AExplainCommand};
 ghost use Rattle.arguments.specs.declared.asked.CheckCommand.{CheckCommand as ACheckCommand};
+ghost use Rattle.arguments.specs.declared.asked.MachineOptions.{MachineOptions as AMachine};
 
 use crate::asked::{
     AssembleCommand, CheckCommand, DebugCommand, ExplainCommand, ImagesCommand, LineFault,
-    MakeVolumeCommand, ReplayCommand, RunCommand,
+    MachineOptions, MakeVolumeCommand, ReplayCommand, RunCommand,
 };
 use crate::machine::{cached_machine, whole_machine};
 use crate::values::{NumberOption, number, number_word, optional, word};
@@ -29,6 +33,51 @@ const STEPS: NumberOption = NumberOption {
     low: 1,
     high: 500_000_000,
 };
+
+/// A program and the machine that it starts on, whose cache is limited.
+#[derive(Drop)]
+pub(crate) struct Started {
+    program: String,
+    machine: MachineOptions,
+}
+
+/// A run by a schedule, whose cache holds the whole medium.
+#[derive(Drop)]
+pub(crate) struct Recorded {
+    program: String,
+    schedule: String,
+    machine: MachineOptions,
+}
+
+/// The program of a command with `--capacity`, and its machine.
+fn start_of(alloc: Global, found: &ArgMatches<'_>) -> Result<Started, LineFault>
+    ensures ok { IfOk result (IsStarted (rows_of (found_of found.now))) }
+    ensures within { IfOk result (λ started. IsMachineWithin started.machine) }
+    ensures err { IfErr result (OnFault ((program : String AGlobal) (machine : AMachine)
+        → IsWord (codes "PROGRAM") (rows_of (found_of found.now)) program
+        → ¬ (IsCachedMachine (rows_of (found_of found.now)) machine))) }
+{
+    Ok(Started {
+        machine: cached_machine(alloc, found)?,
+        program: word(alloc, found, "PROGRAM")?,
+    })
+}
+
+/// The run of a command without `--capacity`.
+fn recorded_of(alloc: Global, found: &ArgMatches<'_>) -> Result<Recorded, LineFault>
+    ensures ok { IfOk result (IsRecorded (rows_of (found_of found.now))) }
+    ensures within { IfOk result (λ recorded. IsMachineWithin recorded.machine) }
+    ensures err { IfErr result (OnFault ((program schedule : String AGlobal) (machine : AMachine)
+        → IsWord (codes "PROGRAM") (rows_of (found_of found.now)) program
+        → IsWord (codes "SCHEDULE") (rows_of (found_of found.now)) schedule
+        → ¬ (IsWholeMachine (rows_of (found_of found.now)) machine))) }
+{
+    Ok(Recorded {
+        machine: whole_machine(alloc, found)?,
+        program: word(alloc, found, "PROGRAM")?,
+        schedule: word(alloc, found, "SCHEDULE")?,
+    })
+}
 
 /// What `asm` is to do.
 pub(crate) fn assemble(alloc: Global, found: &ArgMatches<'_>) -> Result<AssembleCommand, LineFault>
@@ -53,8 +102,8 @@ pub(crate) fn make_volume(
         → ¬ (IsMakeVolume (rows_of (found_of found.now)) command))) }
 {
     Ok(MakeVolumeCommand {
-        plan: word(alloc, found, "PLAN")?,
         lines: number_word(alloc, found, "LINES")?,
+        plan: word(alloc, found, "PLAN")?,
         medium: word(alloc, found, "MEDIUM")?,
     })
 }
@@ -67,12 +116,16 @@ pub(crate) fn run(alloc: Global, found: &ArgMatches<'_>) -> Result<RunCommand, L
     ensures err { IfErr result (OnFault ((command : ARunCommand)
         → ¬ (IsRun (rows_of (found_of found.now)) command))) }
 {
+    let started = start_of(alloc, found)?;
+    let steps = number(alloc, found, &STEPS)?;
+    let record = optional(alloc, found, "record")?;
+    let out = optional(alloc, found, "out")?;
     Ok(RunCommand {
-        program: word(alloc, found, "PROGRAM")?,
-        machine: cached_machine(alloc, found)?,
-        steps: number(alloc, found, &STEPS)?,
-        record: optional(alloc, found, "record")?,
-        out: optional(alloc, found, "out")?,
+        program: started.program,
+        machine: started.machine,
+        steps,
+        record,
+        out,
     })
 }
 
@@ -83,11 +136,14 @@ pub(crate) fn replay(alloc: Global, found: &ArgMatches<'_>) -> Result<ReplayComm
     ensures err { IfErr result (OnFault ((command : AReplayCommand)
         → ¬ (IsReplay (rows_of (found_of found.now)) command))) }
 {
+    let started = start_of(alloc, found)?;
+    let schedule = word(alloc, found, "SCHEDULE")?;
+    let out = optional(alloc, found, "out")?;
     Ok(ReplayCommand {
-        program: word(alloc, found, "PROGRAM")?,
-        schedule: word(alloc, found, "SCHEDULE")?,
-        machine: cached_machine(alloc, found)?,
-        out: optional(alloc, found, "out")?,
+        program: started.program,
+        schedule,
+        machine: started.machine,
+        out,
     })
 }
 
@@ -98,10 +154,8 @@ pub(crate) fn debug(alloc: Global, found: &ArgMatches<'_>) -> Result<DebugComman
     ensures err { IfErr result (OnFault ((command : ADebugCommand)
         → ¬ (IsDebug (rows_of (found_of found.now)) command))) }
 {
-    Ok(DebugCommand {
-        program: word(alloc, found, "PROGRAM")?,
-        machine: cached_machine(alloc, found)?,
-    })
+    let Started { program, machine } = start_of(alloc, found)?;
+    Ok(DebugCommand { program, machine })
 }
 
 /// What `images` is to do.
@@ -111,11 +165,13 @@ pub(crate) fn images(alloc: Global, found: &ArgMatches<'_>) -> Result<ImagesComm
     ensures err { IfErr result (OnFault ((command : AImagesCommand)
         → ¬ (IsImages (rows_of (found_of found.now)) command))) }
 {
+    let moment = number_word(alloc, found, "MOMENT")?;
+    let recorded = recorded_of(alloc, found)?;
     Ok(ImagesCommand {
-        program: word(alloc, found, "PROGRAM")?,
-        schedule: word(alloc, found, "SCHEDULE")?,
-        moment: number_word(alloc, found, "MOMENT")?,
-        machine: whole_machine(alloc, found)?,
+        program: recorded.program,
+        schedule: recorded.schedule,
+        moment,
+        machine: recorded.machine,
     })
 }
 
@@ -127,12 +183,15 @@ pub(crate) fn explain(alloc: Global, found: &ArgMatches<'_>) -> Result<ExplainCo
     ensures err { IfErr result (OnFault ((command : AExplainCommand)
         → ¬ (IsExplain (rows_of (found_of found.now)) command))) }
 {
+    let moment = number_word(alloc, found, "MOMENT")?;
+    let image = number_word(alloc, found, "IMAGE")?;
+    let recorded = recorded_of(alloc, found)?;
     Ok(ExplainCommand {
-        program: word(alloc, found, "PROGRAM")?,
-        schedule: word(alloc, found, "SCHEDULE")?,
-        moment: number_word(alloc, found, "MOMENT")?,
-        image: number_word(alloc, found, "IMAGE")?,
-        machine: whole_machine(alloc, found)?,
+        program: recorded.program,
+        schedule: recorded.schedule,
+        moment,
+        image,
+        machine: recorded.machine,
     })
 }
 
@@ -143,10 +202,11 @@ pub(crate) fn check(alloc: Global, found: &ArgMatches<'_>) -> Result<CheckComman
     ensures err { IfErr result (OnFault ((command : ACheckCommand)
         → ¬ (IsCheck (rows_of (found_of found.now)) command))) }
 {
+    let recorded = recorded_of(alloc, found)?;
     Ok(CheckCommand {
         plan: word(alloc, found, "PLAN")?,
-        program: word(alloc, found, "PROGRAM")?,
-        schedule: word(alloc, found, "SCHEDULE")?,
-        machine: whole_machine(alloc, found)?,
+        program: recorded.program,
+        schedule: recorded.schedule,
+        machine: recorded.machine,
     })
 }

@@ -63,9 +63,9 @@ pub(crate) fn whole_machine(
         → ¬ (IsWholeMachine (rows_of (found_of found.now)) machine))) }
 {
     Ok(MachineOptions {
-        medium: medium(alloc, found)?,
         harts: harts(alloc, found)?,
         capacity: None,
+        medium: medium(alloc, found)?,
     })
 }
 
@@ -80,8 +80,8 @@ pub(crate) fn cached_machine(
         → ¬ (IsCachedMachine (rows_of (found_of found.now)) machine))) }
 {
     Ok(MachineOptions {
-        medium: medium(alloc, found)?,
         harts: harts(alloc, found)?,
         capacity: Some(capacity(alloc, found)?),
+        medium: medium(alloc, found)?,
     })
 }
