@@ -1,8 +1,8 @@
 //! The grammar of the command line, as clap takes it.
 
-ghost use Rattle.std.specs.Prelude.{◌≡◌, IfOk, [], false, map};
+ghost use Rattle.std.specs.Prelude.{◌≡◌, IfOk, false, map};
 ghost use Rattle.clap.specs.Words.{rule_of};
-ghost use Rattle.arguments.specs.Grammar.{IsGrammar, help_option, leaf, line, novacrash, rule, shape};
+ghost use Rattle.arguments.specs.Grammar.{IsGrammar, help_option, leaf, line, rule, shape};
 
 use clap::{Arg, ArgAction};
 use std::alloc::{AllocError, Global};
@@ -112,7 +112,7 @@ const OUT: Argument = Argument::Valued {
 };
 
 /// The subcommands, in the order in which help tells them.
-static SUBCOMMANDS: [Subcommand; 8] = [
+pub(crate) static SUBCOMMANDS: [Subcommand; 8] = [
     Subcommand {
         name: "asm",
         about: "Assemble a source and write its object",
@@ -195,37 +195,21 @@ impl Subcommand {
     }
 }
 
-/// The line before it has a subcommand.
-fn bare<'a>(alloc: Global) -> Result<clap::Command<'a>, AllocError>
-    ensures { IfOk result (IsGrammar (line [])) }
-{
-    clap::Command::new(alloc, "novacrash")
-        .about("A crash tester for persistent-memory routines")
-        .disable_help_flag(true)
-        .disable_help_subcommand(true)
-        .subcommand_required(true)
-        .arg(help_flag(alloc))
-}
-
-/// The line with these subcommands.
-#[tactic(auto, using(crate::proofs::Tables::subcommand_more))]
-fn with_subcommands<'a>(
+/// The line with these subcommands, and `--help` anywhere.
+pub(crate) fn grammar<'a>(
     alloc: Global,
     subcommands: &[Subcommand],
 ) -> Result<clap::Command<'a>, AllocError>
     ensures { IfOk result (IsGrammar (line (map shape subcommands.now))) }
 {
-    let mut command = bare(alloc)?;
+    let mut command = clap::Command::new(alloc, "novacrash")
+        .about("A crash tester for persistent-memory routines")
+        .disable_help_flag(true)
+        .disable_help_subcommand(true)
+        .subcommand_required(true)
+        .arg(help_flag(alloc))?;
     for subcommand in subcommands {
         command = command.subcommand(subcommand.to_clap(alloc)?)?;
     }
     Ok(command)
-}
-
-/// The whole line: a subcommand with its words and options, and `--help` anywhere.
-#[tactic(auto, unfolding(crate::specs::Grammar::assemble_shape, crate::specs::Grammar::make_volume_shape, crate::specs::Grammar::run_shape, crate::specs::Grammar::replay_shape, crate::specs::Grammar::debug_shape, crate::specs::Grammar::images_shape, crate::specs::Grammar::explain_shape, crate::specs::Grammar::check_shape))]
-pub(crate) fn grammar<'a>(alloc: Global) -> Result<clap::Command<'a>, AllocError>
-    ensures { IfOk result (IsGrammar novacrash) }
-{
-    with_subcommands(alloc, &SUBCOMMANDS)
 }

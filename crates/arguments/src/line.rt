@@ -8,7 +8,7 @@ ghost use Rattle.arguments.specs.declared.asked.Command.{Command as ACommand};
 
 use crate::asked::{Command, LineFault};
 use crate::commands::{assemble, check, debug, explain, images, make_volume, replay, run};
-use crate::grammar::grammar;
+use crate::grammar::{SUBCOMMANDS, grammar};
 use clap::ArgMatches;
 use clap::error::ErrorKind;
 use std::alloc::{AllocError, Global};
@@ -36,7 +36,7 @@ fn matches<'a>(alloc: Global, words: &'a [String]) -> Result<ArgMatches<'a>, Lin
         ≡ subcommand_of novacrash (map string_bytes words.now)) }
     ensures err { IfErr result (Refuses (map string_bytes words.now)) }
 {
-    match grammar(alloc)?.try_get_matches_from(words) {
+    match grammar(alloc, &SUBCOMMANDS)?.try_get_matches_from(words) {
         Ok(found) => Ok(found),
         Err(error) => Err(refusal(alloc, &error)?),
     }
