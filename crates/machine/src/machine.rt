@@ -1,6 +1,6 @@
 //! A machine of one to eight harts, and one step of it.
 
-ghost use Rattle.std.specs.Prelude.{◌≡◌, ◌+◌, ◌<◌, ◌≤◌, ◌↔◌, ◌⊎◌, ℕ, List, [], ◌∷◌, Some, length, slice_get, slice_set, map, IfOk, IfErr, OnOk, OnErr, All};
+ghost use Rattle.std.specs.Prelude.{◌≡◌, ◌+◌, ◌<◌, ◌≤◌, ◌↔◌, ◌⊎◌, ℕ, List, [], ◌∷◌, Some, length, replicate, slice_get, slice_set, map, IfOk, IfErr, OnOk, OnErr, All};
 ghost use Rattle.crash_model.specs.Cut.{IsCutImage};
 ghost use Rattle.crash_model.specs.Image.{image};
 ghost use Rattle.crash_model.specs.WrittenBack.{back};
@@ -86,6 +86,21 @@ impl Machine {
             Ok(shared) => shared,
             Err(fault) => return Err(fault),
         };
+        let machine = Machine::over(alloc, shared, harts)?;
+        Ok(machine)
+    }
+
+    /// The harts at their start, each with a copy of the text, over what they share.
+    fn over(alloc: Global, shared: Shared, harts: u32) -> Result<Machine, StepFault>
+        requires few { harts ≤ 8 }
+        requires empty { shared.trace ≡ [] }
+        ensures ok { IfOk result (λ machine. machine ≡ record {
+          harts = map start (range_with_len 0 harts);
+          copies = replicate harts shared.ram.text;
+          shared = shared;
+        }) }
+        ensures err { IfErr result (λ fault. fault ≡ StepFault.Memory) }
+    {
         let states = starting_harts(alloc, harts)?;
         let copies = starting_copies(alloc, harts, shared.text())?;
         Ok(Machine {

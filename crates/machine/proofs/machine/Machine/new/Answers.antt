@@ -1,4 +1,6 @@
-use Rattle.std.proofs.Common.{◌<◌, ap, ◌∙◌}
+use Rattle.std.proofs.Common.{◌<◌, ◌∙◌, ap, refl}
+use Rattle.std.proofs.lemmas.List.FromFn.{length-map-range_with_len}
+use Rattle.hart.specs.Effect.{start}
 use Rattle.line_memory.specs.Lines.{line_bytes}
 use Rattle.line_memory.specs.Memory.{Memory}
 use Rattle.shared_memory.specs.Histories.{text_of}
@@ -9,11 +11,12 @@ use Rattle.machine.proofs.machine.Machine.new.Goals as goal
 pub returns-clause-ok : goal.returns-clause-ok
 returns-clause-ok c =
     let shared = c.in-Ok.shared in
-    let shows = c.in-Ok.ensures.ok in record {
-      harts = c.in_ok-states.ensures.ok;
+    let shows = c.in-Ok.ensures.ok in
+    rw c.in_ok-machine.ensures.ok (record {
+      harts = refl;
       shared = shows;
       copies = λ h inside.
-          let few : h < c.args.harts = rw c.in_ok-states.ensures.count at inside in
+          let few : h < c.args.harts = rw (length-map-range_with_len start 0 c.args.harts) at inside in
           let same = text_there shared.ram (line_bytes (lines_shown shared)) ∙ ap (λ (memory : Memory). text_of memory) shows.memory in
-          rw (c.in_ok-copies.ensures.ok, c.text.ensures.value) (copies_at_start shared.ram.text _ c.args.harts h few same);
-    }
+          copies_at_start shared.ram.text _ c.args.harts h few same;
+    })
