@@ -304,6 +304,17 @@ memory_stops c lines items stop item steps memory = record {
   reason = inl memory;
 }
 
+-- a machine that was made has harts and a capacity within the limits
+pub no_such_hart : (harts capacity : ℕ) → (1 ≤ harts) × (harts ≤ 8) × (1 ≤ capacity) × (capacity ≤ 16384)
+    → ¬ ((harts < 1) ⊎ (8 < harts))
+no_such_hart harts capacity (some, few, room, bounded) (inl low) = omega arith
+no_such_hart harts capacity (some, few, room, bounded) (inr high) = omega arith
+
+pub out_of_limits : (harts capacity : ℕ) → (1 ≤ harts) × (harts ≤ 8) × (1 ≤ capacity) × (capacity ≤ 16384)
+    → ¬ ((capacity < 1) ⊎ (16384 < capacity))
+out_of_limits harts capacity (some, few, room, bounded) (inl low) = omega arith
+out_of_limits harts capacity (some, few, room, bounded) (inr high) = omega arith
+
 pub take_with : (xs : List HartState) (i : ℕ) (x : HartState) → slice_get xs i ≡ Some x → take (i + 1) xs ≡ take i xs ++ x ∷ []
 take_with xs i x got =
     let inside : i < length xs = slice_get_within xs i x got in

@@ -133,14 +133,14 @@ impl Recorder {
         alloc: Global,
         start: Medium,
         capacity: u32,
-        schedule: Schedule,
+        schedule: &Schedule,
     ) -> Result<Recorded, StepFault>
         requires lines { length self.machine.shared.cache.lines ≡ length start }
         requires each { length self.numbers ≡ length self.machine.shared.trace }
         ensures ok { IfOk result (λ recorded. recorded ≡ record {
           start = start;
           capacity = capacity;
-          items = schedule;
+          items = schedule.now;
           trace = self.machine.shared.trace;
           harts = self.machine.harts;
           left = self.machine.shared.cache.lines;
@@ -148,12 +148,12 @@ impl Recorder {
         }) }
         ensures err { IfErr result (λ fault. fault ≡ StepFault.Memory) }
     {
+        let (harts, schedule) = copies_of(alloc, &self.machine, schedule)?;
         let Recorder {
             machine,
             numbers,
             ..
         } = self;
-        let harts = states_of(alloc, &machine)?;
         let (left, trace) = machine.power_cut();
         Ok(Recorded {
             start,
@@ -165,6 +165,21 @@ impl Recorder {
             steps: numbers,
         })
     }
+}
+
+/// The states of a machine's harts, and the schedule that it ran.
+fn copies_of(
+    alloc: Global,
+    machine: &Machine,
+    schedule: &Schedule,
+) -> Result<(Vec<HartState>, Schedule), StepFault>
+    ensures harts { IfOk result (λ copies. copies.0.items ≡ machine.now.harts) }
+    ensures schedule { IfOk result (λ copies. copies.1 ≡ schedule.now) }
+    ensures err { IfErr result (λ fault. fault ≡ StepFault.Memory) }
+{
+    let harts = states_of(alloc, machine)?;
+    let schedule = copy_of(alloc, schedule)?;
+    Ok((harts, schedule))
 }
 
 /// The states of a machine's harts, by their number.
@@ -185,6 +200,28 @@ fn push_state(states: &mut Vec<HartState>, state: HartState) -> Result<(), StepF
     ensures err { IfErr result (λ fault. fault ≡ StepFault.Memory) }
 {
     match states.push(state) {
+        Ok(()) => Ok(()),
+        Err(_) => Err(StepFault::Memory),
+    }
+}
+
+/// The items of a schedule once more.
+fn copy_of(alloc: Global, schedule: &Schedule) -> Result<Schedule, StepFault>
+    ensures ok { IfOk result (λ copy. copy ≡ schedule.now) }
+    ensures err { IfErr result (λ fault. fault ≡ StepFault.Memory) }
+{
+    let mut copy = Schedule::new(alloc);
+    for item in schedule.items() {
+        push_item(&mut copy, *item)?;
+    }
+    Ok(copy)
+}
+
+fn push_item(schedule: &mut Schedule, item: Item) -> Result<(), StepFault>
+    ensures ok { IfOk result (λ _. schedule.new ≡ schedule.old ++ item ∷ []) }
+    ensures err { IfErr result (λ fault. fault ≡ StepFault.Memory) }
+{
+    match schedule.push(item) {
         Ok(()) => Ok(()),
         Err(_) => Err(StepFault::Memory),
     }

@@ -5,14 +5,14 @@ ghost use Rattle.machine.specs.Stands.{Stands};
 ghost use Rattle.recording.specs.Recorded.{Records, StopsRecording};
 ghost use Rattle.recording.specs.Recorders.{HasRecorded};
 ghost use Rattle.schedule.specs.Grammar.{hart_steps as count_of_hart_steps};
-ghost use Rattle.std.specs.Prelude.{◌≡◌, ◌^◌, ◌<◌, ◌≤◌, ◌⊎◌, [], ◌∷◌, ◌++◌, IfErr, IfOk, length};
+ghost use Rattle.std.specs.Prelude.{◌≡◌, ◌^◌, ◌<◌, ◌≤◌, ◌⊎◌, [], IfErr, IfOk, length};
 
 use crate::recorded::Recorded;
 use crate::recorder::Recorder;
 use line_memory::Medium;
 use machine::{Machine, RunStop};
 use program::Program;
-use schedule::{Item, Schedule};
+use schedule::Schedule;
 use shared_memory::StepFault;
 use std::alloc::Global;
 
@@ -41,14 +41,14 @@ pub fn record(
     ensures err { IfErr result (λ stop. (1 ≤ harts) × (harts ≤ 8) → (1 ≤ capacity) × (capacity ≤ 16384) →
         StopsRecording (started program medium harts) (length medium) schedule.now stop) }
 {
-    let (mut recorder, kept) = match prepare(alloc, program, &medium, harts, capacity, schedule) {
-        Ok(prepared) => prepared,
+    let mut recorder = match prepare(alloc, program, &medium, harts, capacity) {
+        Ok(recorder) => recorder,
         Err(fault) => return Err(before_all(fault)),
     };
     if let Err(stop) = recorder.run(schedule.items()) {
         return Err(stop);
     }
-    match recorder.finish(alloc, medium, capacity, kept) {
+    match recorder.finish(alloc, medium, capacity, schedule) {
         Ok(recorded) => Ok(recorded),
         Err(fault) => Err(before_all(fault)),
     }
@@ -65,20 +65,19 @@ fn before_all(fault: StepFault) -> RunStop
     }
 }
 
-/// A recorder at its start, and a copy of the schedule.
+/// A recorder at its start.
 fn prepare(
     alloc: Global,
     program: Program,
     medium: &Medium,
     harts: u32,
     capacity: u32,
-    schedule: &Schedule,
-) -> Result<(Recorder, Schedule), StepFault>
-    ensures ok { IfOk result (λ made. HasRecorded (started program medium.now harts) [] made.0) }
-    ensures lines { IfOk result (λ made. made.0.machine.shared.cache.lines ≡ medium.now) }
-    ensures capacity { IfOk result (λ made. made.0.machine.shared.cache.cache.capacity ≡ capacity) }
-    ensures made { IfOk result (λ made. made.0.made ≡ 0) }
-    ensures items { IfOk result (λ made. made.1 ≡ schedule.now) }
+) -> Result<Recorder, StepFault>
+    ensures ok { IfOk result (HasRecorded (started program medium.now harts) []) }
+    ensures lines { IfOk result (λ recorder. recorder.machine.shared.cache.lines ≡ medium.now) }
+    ensures capacity { IfOk result (λ recorder. recorder.machine.shared.cache.cache.capacity ≡ capacity) }
+    ensures made { IfOk result (λ recorder. recorder.made ≡ 0) }
+    ensures within { IfOk result (λ _. (1 ≤ harts) × (harts ≤ 8) × (1 ≤ capacity) × (capacity ≤ 16384)) }
     ensures harts { ((harts < 1) ⊎ (8 < harts)) → result ≡ Err StepFault.NoSuchHart }
     ensures limits { (1 ≤ harts) × (harts ≤ 8) → ((capacity < 1) ⊎ (16384 < capacity)) → result ≡ Err StepFault.OutOfLimits }
     ensures err { IfErr result (λ fault. (1 ≤ harts) × (harts ≤ 8) → (1 ≤ capacity) × (capacity ≤ 16384) → fault ≡ StepFault.Memory) }
@@ -89,14 +88,11 @@ fn prepare(
     if capacity < 1 || capacity > 16_384 {
         return Err(StepFault::OutOfLimits);
     }
-    let machine = machine_over(alloc, program, medium, harts, capacity)?;
-    let copy = copy_of(alloc, schedule)?;
-    let recorder = Recorder {
-        machine,
+    Ok(Recorder {
+        machine: machine_over(alloc, program, medium, harts, capacity)?,
         made: 0,
         numbers: Vec::new(alloc),
-    };
-    Ok((recorder, copy))
+    })
 }
 
 /// A machine over a copy of the medium.
@@ -122,28 +118,6 @@ fn machine_over(
     };
     match Machine::new(alloc, program, copy, harts, capacity) {
         Ok(machine) => Ok(machine),
-        Err(_) => Err(StepFault::Memory),
-    }
-}
-
-/// The items of a schedule once more.
-fn copy_of(alloc: Global, schedule: &Schedule) -> Result<Schedule, StepFault>
-    ensures ok { IfOk result (λ copy. copy ≡ schedule.now) }
-    ensures err { IfErr result (λ fault. fault ≡ StepFault.Memory) }
-{
-    let mut copy = Schedule::new(alloc);
-    for item in schedule.items() {
-        push_item(&mut copy, *item)?;
-    }
-    Ok(copy)
-}
-
-fn push_item(schedule: &mut Schedule, item: Item) -> Result<(), StepFault>
-    ensures ok { IfOk result (λ _. schedule.new ≡ schedule.old ++ item ∷ []) }
-    ensures err { IfErr result (λ fault. fault ≡ StepFault.Memory) }
-{
-    match schedule.push(item) {
-        Ok(()) => Ok(()),
         Err(_) => Err(StepFault::Memory),
     }
 }
