@@ -148,12 +148,12 @@ impl Recorder {
         }) }
         ensures err { IfErr result (λ fault. fault ≡ StepFault.Memory) }
     {
-        let (harts, schedule) = copies_of(alloc, &self.machine, schedule)?;
         let Recorder {
             machine,
             numbers,
             ..
         } = self;
+        let (harts, schedule) = copies_of(alloc, &machine, schedule)?;
         let (left, trace) = machine.power_cut();
         Ok(Recorded {
             start,
