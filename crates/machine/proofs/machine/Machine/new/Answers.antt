@@ -20,3 +20,10 @@ returns-clause-ok c =
           let same = text_there shared.ram (line_bytes (lines_shown shared)) ∙ ap (λ (memory : Memory). text_of memory) shows.memory in
           copies_at_start shared.ram.text _ c.args.harts h few same;
     })
+
+pub returns-clause-capacity : goal.returns-clause-capacity
+returns-clause-capacity c = rw c.in_ok-machine.ensures.ok c.in-Ok.ensures.capacity
+
+pub returns-in-Err-clause-limits : goal.returns-in-Err-clause-limits
+returns-in-Err-clause-limits c =
+    (λ e. c.in-Err.ensures.limits.0 (cc), λ wrong. let e = c.in-Err.ensures.limits.1 wrong in cc)
