@@ -1,12 +1,18 @@
 -- What a running hart needs, by the word that it fetches: None where pc is outside the text region.
 use Rattle.std.specs.Prelude.{◌≡◌, ℕ, Option, Some, None}
 use Rattle.decode.specs.Decoding.{Decodes}
+use Rattle.isa_table.specs.Table.{Spells}
 use Rattle.isa_table.specs.declared.instruction.Instr.{Instr}
 use Rattle.hart.specs.declared.state.HartState.{HartState}
 use Rattle.hart.specs.declared.state.Trap.TheVariants.{NoInstruction, OutsideText}
 use Rattle.hart.specs.declared.need.Need.{Need}
 use Rattle.hart.specs.declared.need.Need.TheVariants.{Stop}
 use Rattle.hart.specs.Effect.{effect}
+
+-- the word that was fetched spells the instruction
+abbrev pub IsSpelledBy : Option ℕ → Instr → Type 0
+IsSpelledBy None i = ⊥
+IsSpelledBy (Some word) i = Spells word i
 
 -- by the instruction that the word spells: its effect, or a trap where there is none
 abbrev pub need_of : HartState → Option Instr → Need

@@ -3,10 +3,11 @@
 ghost use Rattle.std.specs.Prelude.{◌≡◌};
 ghost use Rattle.hart.specs.Effect.{address_of, atomic_request, fences, value_of};
 ghost use Rattle.hart.specs.Memory.{atomic_width, load_width, store_width};
+ghost use Rattle.hart.specs.InPlace.{IsKept, need_after};
 ghost use Rattle.hart.specs.Requests.{AsksRequest, IsAtomicWidth, IsRequest, IsWidth};
 
 use crate::advancing::{address_at, go_on};
-use crate::need::{Need, Request};
+use crate::need::{Advance, Request};
 use crate::state::HartState;
 use isa_table::{AccessSet, AtomicOp, AtomicWidth, CacheOp, LoadOp, Reg, StoreOp};
 
@@ -80,15 +81,16 @@ pub(crate) fn atomic(
 }
 
 /// A FENCE, by its predecessor set.
-pub(crate) fn fence(state: &HartState, predecessor: AccessSet) -> Need
-    ensures effect { result ≡ fences state.now predecessor }
-    ensures request { AsksRequest result }
+pub(crate) fn fence(state: &mut HartState, predecessor: AccessSet) -> Advance
+    ensures effect { need_after state.new result ≡ fences state.old predecessor }
+    ensures request { AsksRequest (need_after state.new result) }
+    ensures kept { IsKept result state.old state.new }
 {
     if predecessor.memory_writes {
-        Need::Ask(Request::Fence)
-    } else {
-        Need::Local(go_on(state))
+        return Advance::Ask(Request::Fence);
     }
+    go_on(state);
+    Advance::Done
 }
 
 fn width_of_load(op: LoadOp) -> u32

@@ -2,28 +2,31 @@
 
 ghost use Rattle.std.specs.Prelude.{◌≡◌, pos, ◌+ℤ◌};
 ghost use Rattle.word_bits.specs.Numbers.{wrap};
-ghost use Rattle.hart.specs.Effect.{address_of, goes_on, place_of, writes};
+ghost use Rattle.hart.specs.Effect.{address_of, goes_on, next_pc, place_of, writes};
 
 use crate::state::HartState;
 use isa_table::Reg;
 
-/// The hart at the instruction after this one.
-pub(crate) fn go_on(state: &HartState) -> HartState
-    ensures { result ≡ goes_on state.now }
+/// The address of the instruction after this one.
+pub(crate) fn next_pc(state: &HartState) -> u64
+    ensures { result ≡ next_pc state.now }
 {
-    HartState {
-        pc: state.pc.wrapping_add(4),
-        ..*state
-    }
+    state.pc.wrapping_add(4)
 }
 
-/// The hart at the instruction after this one, with a register written.
-pub(crate) fn write_to(state: &HartState, reg: Reg, value: u64) -> HartState
-    ensures { result ≡ writes state.now reg.number value }
+/// Goes on to the instruction after this one.
+pub(crate) fn go_on(state: &mut HartState)
+    ensures { state.new ≡ goes_on state.old }
 {
-    let mut after = go_on(state);
-    after.registers.set(reg, value);
-    after
+    state.pc = next_pc(state);
+}
+
+/// Writes a register and goes on.
+pub(crate) fn write_to(state: &mut HartState, reg: Reg, value: u64)
+    ensures { state.new ≡ writes state.old reg.number value }
+{
+    state.registers.set(reg, value);
+    go_on(state);
 }
 
 /// The address at an offset from the value of a register.

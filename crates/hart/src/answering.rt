@@ -18,18 +18,24 @@ use word_bits::sign_extend;
 pub fn answer(state: &HartState, instr: Instr, reply: Reply) -> HartState
     ensures { result ≡ answered state.now instr reply }
 {
+    let mut after = *state;
+    take_reply(&mut after, instr, reply);
+    after
+}
+
+/// Takes the reply in place: the hart becomes what `answer` gives, without a copy.
+pub fn take_reply(state: &mut HartState, instr: Instr, reply: Reply)
+    ensures { state.new ≡ answered state.old instr reply }
+{
     match reply {
-        Reply::Fault(fault) => HartState {
-            status: Status::Trapped(trap_by(fault)),
-            ..*state
-        },
+        Reply::Fault(fault) => state.status = Status::Trapped(trap_by(fault)),
         Reply::Value(value) => take(state, instr, value),
         Reply::Done => go_on(state),
     }
 }
 
-fn take(state: &HartState, instr: Instr, value: u64) -> HartState
-    ensures { result ≡ takes state.now instr value }
+fn take(state: &mut HartState, instr: Instr, value: u64)
+    ensures { state.new ≡ takes state.old instr value }
 {
     match instr {
         Instr::Load { op, rd, .. } => write_to(state, rd, loaded(op, value)),

@@ -5,10 +5,11 @@
 
 ghost use Rattle.std.specs.Prelude.{◌≡◌, ◌%◌};
 ghost use Rattle.hart.specs.Effect.{calls, effect, next_pc};
+ghost use Rattle.hart.specs.InPlace.{IsKept, need_after};
 ghost use Rattle.hart.specs.Requests.{AsksRequest};
 
 use crate::advancing::go_on;
-use crate::need::{Need, Request};
+use crate::need::{Advance, Request};
 use crate::state::{HartState, Status, Trap};
 use isa_table::{Instr, Reg, SystemOp};
 
@@ -24,36 +25,39 @@ const ARGUMENT: Reg = Reg { number: 10 };
 /// Register a7, in which a call has its number.
 const CALL_NUMBER: Reg = Reg { number: 17 };
 
-pub(crate) fn system(state: &HartState, op: SystemOp) -> Need
-    ensures effect { result ≡ effect state.now (Instr.System op) }
-    ensures request { AsksRequest result }
+pub(crate) fn system(state: &mut HartState, op: SystemOp) -> Advance
+    ensures effect { need_after state.new result ≡ effect state.old (Instr.System op) }
+    ensures request { AsksRequest (need_after state.new result) }
+    ensures kept { IsKept result state.old state.new }
 {
     let argument = state.registers.get(ARGUMENT);
+    let number = state.registers.get(CALL_NUMBER);
     match op {
-        SystemOp::Ecall => call(state, state.registers.get(CALL_NUMBER), argument),
-        SystemOp::Ebreak => Need::Stop(Trap::Breakpoint),
+        SystemOp::Ecall => call(state, number, argument),
+        SystemOp::Ebreak => Advance::Stop(Trap::Breakpoint),
     }
 }
 
-fn call(state: &HartState, number: u64, argument: u64) -> Need
-    ensures effect { result ≡ calls state.now number argument }
-    ensures request { AsksRequest result }
+fn call(state: &mut HartState, number: u64, argument: u64) -> Advance
+    ensures effect { need_after state.new result ≡ calls state.old number argument }
+    ensures request { AsksRequest (need_after state.new result) }
+    ensures kept { IsKept result state.old state.new }
 {
     match number {
-        CALL_EXIT => Need::Local(exit(state, argument)),
-        CALL_BEGIN => Need::Ask(Request::Begin { op: argument }),
-        CALL_END => Need::Ask(Request::End { op: argument }),
-        _ => Need::Stop(Trap::UnknownCall),
+        CALL_EXIT => exit(state, argument),
+        CALL_BEGIN => Advance::Ask(Request::Begin { op: argument }),
+        CALL_END => Advance::Ask(Request::End { op: argument }),
+        _ => Advance::Stop(Trap::UnknownCall),
     }
 }
 
-fn exit(state: &HartState, argument: u64) -> HartState
-    ensures { result
-        ≡ record state.now { pc = next_pc state.now; status = Status.Exited (argument % 256) } }
+fn exit(state: &mut HartState, argument: u64) -> Advance
+    ensures effect { state.new
+        ≡ record state.old { pc = next_pc state.old; status = Status.Exited (argument % 256) } }
+    ensures done { result ≡ Advance.Done }
 {
     let code = (argument % 256) as u8;
-    HartState {
-        status: Status::Exited(code),
-        ..go_on(state)
-    }
+    go_on(state);
+    state.status = Status::Exited(code);
+    Advance::Done
 }

@@ -4,38 +4,47 @@
 
 ghost use Rattle.std.specs.Prelude.{◌≡◌};
 ghost use Rattle.hart.specs.Effect.{effect, goes_to, is_taken as is_taken_by, jumps};
+ghost use Rattle.hart.specs.InPlace.{IsKept, need_after};
 ghost use Rattle.hart.specs.Requests.{AsksRequest};
 
-use crate::advancing::{address_at, go_on, place_at};
+use crate::advancing::{address_at, go_on, next_pc, place_at};
 use crate::arithmetic::{is_below, is_less};
-use crate::need::Need;
+use crate::need::Advance;
 use crate::state::{HartState, Trap};
 use isa_table::{BranchOp, Instr, Reg};
 
-pub(crate) fn jump(state: &HartState, rd: Reg, distance: i32) -> Need
-    ensures effect { result ≡ effect state.now (Instr.Jump rd distance) }
-    ensures request { AsksRequest result }
+pub(crate) fn jump(state: &mut HartState, rd: Reg, distance: i32) -> Advance
+    ensures effect { need_after state.new result ≡ effect state.old (Instr.Jump rd distance) }
+    ensures kept { IsKept result state.old state.new }
 {
-    link(state, rd, place_at(state, distance))
+    let target = place_at(state, distance);
+    link(state, rd, target)
 }
 
-pub(crate) fn jump_register(state: &HartState, rd: Reg, rs1: Reg, offset: i32) -> Need
-    ensures effect { result ≡ effect state.now (Instr.JumpRegister rd rs1 offset) }
-    ensures request { AsksRequest result }
+pub(crate) fn jump_register(state: &mut HartState, rd: Reg, rs1: Reg, offset: i32) -> Advance
+    ensures effect { need_after state.new result ≡ effect state.old (Instr.JumpRegister rd rs1 offset) }
+    ensures kept { IsKept result state.old state.new }
 {
     let address = address_at(state, rs1, offset);
     link(state, rd, address - address % 2)
 }
 
-pub(crate) fn branch(state: &HartState, op: BranchOp, rs1: Reg, rs2: Reg, distance: i32) -> Need
-    ensures effect { result ≡ effect state.now (Instr.Branch op rs1 rs2 distance) }
-    ensures request { AsksRequest result }
+pub(crate) fn branch(
+    state: &mut HartState,
+    op: BranchOp,
+    rs1: Reg,
+    rs2: Reg,
+    distance: i32,
+) -> Advance
+    ensures effect { need_after state.new result ≡ effect state.old (Instr.Branch op rs1 rs2 distance) }
+    ensures kept { IsKept result state.old state.new }
 {
-    if is_taken(op, state.registers.get(rs1), state.registers.get(rs2)) {
-        go_to(state, place_at(state, distance))
-    } else {
-        Need::Local(go_on(state))
+    if !is_taken(op, state.registers.get(rs1), state.registers.get(rs2)) {
+        go_on(state);
+        return Advance::Done;
     }
+    let target = place_at(state, distance);
+    go_to(state, target)
 }
 
 fn is_taken(op: BranchOp, a: u64, b: u64) -> bool
@@ -52,26 +61,26 @@ fn is_taken(op: BranchOp, a: u64, b: u64) -> bool
 }
 
 /// A jump that leaves the address of the instruction after it in `rd`.
-fn link(state: &HartState, rd: Reg, target: u64) -> Need
-    ensures effect { result ≡ jumps state.now rd.number target }
-    ensures request { AsksRequest result }
+fn link(state: &mut HartState, rd: Reg, target: u64) -> Advance
+    ensures effect { need_after state.new result ≡ jumps state.old rd.number target }
+    ensures kept { IsKept result state.old state.new }
 {
-    let mut after = *state;
-    after.registers.set(rd, state.pc.wrapping_add(4));
-    go_to(&after, target)
+    let after = next_pc(state);
+    let went = go_to(state, target);
+    if let Advance::Done = went {
+        state.registers.set(rd, after);
+    }
+    went
 }
 
 /// The hart at a target, or the trap of one that is no multiple of four.
-fn go_to(state: &HartState, target: u64) -> Need
-    ensures effect { result ≡ goes_to state.now target }
-    ensures request { AsksRequest result }
+fn go_to(state: &mut HartState, target: u64) -> Advance
+    ensures effect { need_after state.new result ≡ goes_to state.old target }
+    ensures kept { IsKept result state.old state.new }
 {
-    if target % 4 == 0 {
-        Need::Local(HartState {
-            pc: target,
-            ..*state
-        })
-    } else {
-        Need::Stop(Trap::MisalignedTarget)
+    if target % 4 != 0 {
+        return Advance::Stop(Trap::MisalignedTarget);
     }
+    state.pc = target;
+    Advance::Done
 }

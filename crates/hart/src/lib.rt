@@ -13,8 +13,8 @@ mod need;
 mod state;
 mod stepping;
 
-pub use answering::answer;
+pub use answering::{answer, take_reply};
 pub use atomics::amo_result;
-pub use need::{AccessFault, Need, Reply, Request};
+pub use need::{AccessFault, Advance, Need, Reply, Request};
 pub use state::{HartState, Registers, Status, Trap};
-pub use stepping::next;
+pub use stepping::{advance, instruction, next};

@@ -84,3 +84,14 @@ pub enum Need {
     /// The hart traps.
     Stop(Trap),
 }
+
+/// What a hart's next instruction came to, made in place.
+#[derive(Clone, Copy, Debug, PartialEq, Eq)]
+pub enum Advance {
+    /// The instruction is done.
+    Done,
+    /// It needs a reply to this request; nothing changed.
+    Ask(Request),
+    /// It traps; nothing changed.
+    Stop(Trap),
+}

@@ -1,15 +1,16 @@
 //! What the next instruction of a hart needs.
 
-ghost use Rattle.std.specs.Prelude.{◌≡◌};
+ghost use Rattle.std.specs.Prelude.{◌≡◌, IfOk, IfErr};
 ghost use Rattle.hart.specs.Effect.{effect};
-ghost use Rattle.hart.specs.Needs.{Needs};
+ghost use Rattle.hart.specs.InPlace.{IsKept, need_after};
+ghost use Rattle.hart.specs.Needs.{IsSpelledBy, Needs};
 ghost use Rattle.hart.specs.Requests.{AsksRequest};
 
 use crate::accessing::{atomic, clean, fence, load, load_reserved, store};
 use crate::calling::system;
 use crate::computing::{compute, compute_immediate, compute_shift, compute_upper};
 use crate::jumping::{branch, jump, jump_register};
-use crate::need::{Need, Request};
+use crate::need::{Advance, Need, Request};
 use crate::state::{HartState, Status, Trap};
 use decode::decode;
 use isa_table::Instr;
@@ -23,21 +24,39 @@ pub fn next(state: &HartState, fetched: Option<u32>) -> Need
     ensures needs { Needs state.now fetched result }
     ensures request { AsksRequest result }
 {
-    match fetched {
-        None => Need::Stop(Trap::OutsideText),
-        Some(word) => match decode(word) {
-            None => Need::Stop(Trap::NoInstruction),
-            Some(instr) => need_of(state, instr),
-        },
+    let instr = match instruction(fetched) {
+        Ok(instr) => instr,
+        Err(trap) => return Need::Stop(trap),
+    };
+    let mut after = *state;
+    match advance(&mut after, instr) {
+        Advance::Done => Need::Local(after),
+        Advance::Ask(request) => Need::Ask(request),
+        Advance::Stop(trap) => Need::Stop(trap),
     }
 }
 
-fn need_of(state: &HartState, instr: Instr) -> Need
-    ensures effect { result ≡ effect state.now instr }
-    ensures request { AsksRequest result }
+/// The next instruction of a hart, or the trap where there is none. `fetched` is the word at its pc, or None where pc is
+/// outside the text region.
+pub fn instruction(fetched: Option<u32>) -> Result<Instr, Trap>
+    ensures spelled { IfOk result (IsSpelledBy fetched) }
+    ensures ok { IfOk result (λ instr. (state : HartState) → Needs state fetched (effect state instr)) }
+    ensures err { IfErr result (λ trap. (state : HartState) → Needs state fetched (Need.Stop trap)) }
+{
+    match fetched {
+        None => Err(Trap::OutsideText),
+        Some(word) => decode(word).ok_or(Trap::NoInstruction),
+    }
+}
+
+/// Makes an instruction of a running hart in place, as far as it needs nothing: what `next` gives, without a copy of
+/// the hart.
+pub fn advance(state: &mut HartState, instr: Instr) -> Advance
+    ensures effect { need_after state.new result ≡ effect state.old instr }
+    ensures request { AsksRequest (need_after state.new result) }
+    ensures kept { IsKept result state.old state.new }
 {
     match instr {
-        Instr::Upper { op, rd, immediate } => compute_upper(state, op, rd, immediate),
         Instr::Jump { rd, distance } => jump(state, rd, distance),
         Instr::JumpRegister { rd, rs1, offset } => jump_register(state, rd, rs1, offset),
         Instr::Branch {
@@ -46,18 +65,9 @@ fn need_of(state: &HartState, instr: Instr) -> Need
             rs2,
             distance,
         } => branch(state, op, rs1, rs2, distance),
-        Instr::Load {
-            op,
-            rs1,
-            offset,
-            ..
-        } => Need::Ask(load(state, op, rs1, offset)),
-        Instr::Store {
-            op,
-            rs2,
-            rs1,
-            offset,
-        } => Need::Ask(store(state, op, rs2, rs1, offset)),
+        Instr::Fence { predecessor, .. } => fence(state, predecessor),
+        Instr::System { op } => system(state, op),
+        Instr::Upper { op, rd, immediate } => compute_upper(state, op, rd, immediate),
         Instr::Immediate {
             op,
             rd,
@@ -71,17 +81,27 @@ fn need_of(state: &HartState, instr: Instr) -> Need
             amount,
         } => compute_shift(state, op, rd, rs1, amount),
         Instr::Register { op, rd, rs1, rs2 } => compute(state, op, rd, rs1, rs2),
-        Instr::Fence { predecessor, .. } => fence(state, predecessor),
-        Instr::FenceI => Need::Ask(Request::FenceI),
-        Instr::Cache { op, rs1 } => Need::Ask(clean(state, op, rs1)),
-        Instr::LoadReserved { width, rs1, .. } => Need::Ask(load_reserved(state, width, rs1)),
+        Instr::Load {
+            op,
+            rs1,
+            offset,
+            ..
+        } => Advance::Ask(load(state, op, rs1, offset)),
+        Instr::Store {
+            op,
+            rs2,
+            rs1,
+            offset,
+        } => Advance::Ask(store(state, op, rs2, rs1, offset)),
+        Instr::FenceI => Advance::Ask(Request::FenceI),
+        Instr::Cache { op, rs1 } => Advance::Ask(clean(state, op, rs1)),
+        Instr::LoadReserved { width, rs1, .. } => Advance::Ask(load_reserved(state, width, rs1)),
         Instr::Atomic {
             op,
             width,
             rs1,
             rs2,
             ..
-        } => Need::Ask(atomic(state, op, width, rs1, rs2)),
-        Instr::System { op } => system(state, op),
+        } => Advance::Ask(atomic(state, op, width, rs1, rs2)),
     }
 }

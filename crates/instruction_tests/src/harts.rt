@@ -3,7 +3,10 @@
 ghost use Rattle.std.specs.Prelude.{◌<◌};
 
 use decode::decode;
-use hart::{AccessFault, HartState, Need, Registers, Reply, Request, Status, Trap, answer, next};
+use hart::{
+    AccessFault, Advance, HartState, Need, Registers, Reply, Request, Status, Trap, advance,
+    answer, instruction, next, take_reply,
+};
 use isa_table::{CacheOp, Reg};
 use std::process::Abort;
 
@@ -38,6 +41,13 @@ pub(crate) fn expect_step(
 ) {
     let found = step(state, word, reply);
     assert_eq!(rt; found, (*after, asked), "at {word}");
+    let mut changed = *state;
+    let asked_in_place = step_in_place(&mut changed, word, reply);
+    assert_eq!(rt;
+        (changed, asked_in_place),
+        (*after, asked),
+        "in place, at {word}"
+    );
 }
 
 /// The hart after one instruction, with what it asked, where every request is answered in this way.
@@ -53,6 +63,28 @@ fn step(state: &HartState, word: u32, reply: Reply) -> (HartState, Option<Reques
             None,
         ),
         _ => (*state, None),
+    }
+}
+
+/// The same in place.
+fn step_in_place(state: &mut HartState, word: u32, reply: Reply) -> Option<Request> {
+    let instr = match instruction(Some(word)) {
+        Ok(instr) => instr,
+        Err(trap) => {
+            state.status = Status::Trapped(trap);
+            return None;
+        }
+    };
+    match advance(state, instr) {
+        Advance::Done => None,
+        Advance::Stop(trap) => {
+            state.status = Status::Trapped(trap);
+            None
+        }
+        Advance::Ask(request) => {
+            take_reply(state, instr, reply);
+            Some(request)
+        }
     }
 }
 

@@ -3,7 +3,7 @@ use Rattle.std.proofs.Common.{◌≡◌, ℕ, List, [], ◌∷◌, Option, Some,
 use Rattle.isa_table.specs.Table.{Spells}
 use Rattle.isa_table.specs.declared.instruction.Instr.{Instr}
 use Rattle.decode.specs.Decoding.{Decodes}
-use Rattle.hart.specs.Needs.{Needs, need_of}
+use Rattle.hart.specs.Needs.{IsSpelledBy, Needs, need_of}
 use Rattle.hart.specs.declared.state.HartState.{HartState}
 use Rattle.hart.specs.declared.state.Status.{Status}
 use Rattle.hart.specs.declared.state.Status.TheVariants.{Running, Exited, Trapped}
@@ -11,7 +11,7 @@ use Rattle.hart.specs.declared.need.Need.{Need}
 use Rattle.hart.specs.declared.need.Need.TheVariants.{Local, Ask, Stop}
 use Rattle.schedule.specs.declared.items.Step.{Step}
 use Rattle.schedule.specs.declared.items.Step.TheVariants.{Hart, Evict}
-use Rattle.machine.specs.Run.{Config, Executes, HartSteps, HartStepsIfThere, IsSpelledBy, Meets, RunsTo, StepsTo, after_request, fetched_by}
+use Rattle.machine.specs.Run.{Config, Executes, HartSteps, HartStepsIfThere, Meets, RunsTo, StepsTo, after_request, fetched_by}
 
 -- no word spells two instructions
 spells_one : (w : ℕ) (o : Option Instr) (i j : Instr) → Decodes w o → Spells w i → Spells w j → i ≡ j

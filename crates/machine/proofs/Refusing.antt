@@ -4,7 +4,7 @@ use Rattle.std.proofs.lemmas.List.{length-append}
 use Rattle.std.proofs.lemmas.Option.{slice_get_past, slice_get_within}
 use Rattle.isa_table.specs.declared.instruction.Instr.{Instr}
 use Rattle.store_trace.specs.declared.event.Event.{Event}
-use Rattle.hart.specs.Needs.{Needs, need_of}
+use Rattle.hart.specs.Needs.{IsSpelledBy, Needs, need_of}
 use Rattle.hart.specs.declared.state.HartState.{HartState}
 use Rattle.hart.specs.declared.state.Status.TheVariants.{Running}
 use Rattle.hart.specs.declared.state.Trap.{Trap}
@@ -21,7 +21,7 @@ use Rattle.schedule.specs.declared.items.Step.TheVariants.{Hart, Evict}
 use Rattle.machine.specs.Outcomes.{HartMakesEvent, MakesEvent}
 use Rattle.machine.specs.Refusals.{LacksHart, LacksLine, Refuses}
 use Rattle.shared_memory.specs.Refusals.{IsEventFault, RefusesRequest}
-use Rattle.machine.specs.Run.{Config, Executes, IsSpelledBy, StepsTo, after_request, fetched, fetched_by}
+use Rattle.machine.specs.Run.{Config, Executes, StepsTo, after_request, fetched, fetched_by}
 use Rattle.shared_memory.specs.Served.{events_of, reply_after}
 use Rattle.machine.specs.Stands.{IsThere, MachineView, Stands, copy_of}
 use Rattle.shared_memory.specs.SharedView.{Serves, SharedView, reply_to}

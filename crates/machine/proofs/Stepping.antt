@@ -1,13 +1,12 @@
 -- One step of a machine is one step of what it stands for.
-use Rattle.std.proofs.Common.{◌≡◌, ℕ, List, [], ◌∷◌, length, All, Option, Some, None, slice_get, slice_set, ◌<◌, get_or-set_same, refl, ap, ◌∙◌}
+use Rattle.std.proofs.Common.{◌≡◌, ℕ, List, [], ◌∷◌, length, All, Some, slice_get, slice_set, ◌<◌, get_or, get_or-set_same, refl, ap, ◌∙◌}
 use Rattle.std.proofs.Math.ListN.{length-set}
 use Rattle.std.proofs.lemmas.List.Elements.{All-nil, All-push}
 use Rattle.std.proofs.lemmas.Option.{slice_get-get_or, slice_get_within}
 use Rattle.line_memory.specs.Lines.{line_bytes}
 use Rattle.isa_table.specs.declared.instruction.Instr.{Instr}
-use Rattle.decode.specs.Decoding.{Decodes}
 use Rattle.hart.specs.Effect.{answered}
-use Rattle.hart.specs.Needs.{Needs, need_of}
+use Rattle.hart.specs.Needs.{IsSpelledBy, Needs}
 use Rattle.hart.specs.declared.state.HartState.{HartState}
 use Rattle.hart.specs.declared.state.Status.{Status}
 use Rattle.hart.specs.declared.state.Status.TheVariants.{Running, Trapped}
@@ -28,15 +27,6 @@ use Rattle.shared_memory.specs.SharedView.{Evicts, SharedView, Shows, lines_show
 use Rattle.clean_fence.specs.Rules.{PmView, SameSizes}
 use Rattle.shared_memory.proofs.Shown.{evicted_shows, reply_stands, served_shows}
 use Rattle.machine.proofs.Copying.{copied_more, text_there}
-
--- a hart asks only by an instruction that its word spells
-asks_spelled : (s : HartState) (word : ℕ) (request : Request) (spelled : Option Instr)
-    → Decodes word spelled → Ask request ≡ need_of s spelled → Decodes word None → ⊥
-asks_spelled s word request None decodes e none = cc
-asks_spelled s word request (Some i) decodes e none = let f : None ≡ Some i = none.all i (decodes.some i refl) in cc
-
-pub asked_by_instruction : (s : HartState) (word : ℕ) (request : Request) → Needs s (Some word) (Ask request) → Decodes word None → ⊥
-asked_by_instruction s word request needs none = asks_spelled s word request needs.0 needs.1 needs.2 none
 
 -- one step as a run
 one_step : (c d : Config) (step : Step) → StepsTo c step d → RunsTo c (step ∷ []) d
@@ -108,6 +98,10 @@ copies_kept : (m : MachineView) (c : Config) (h k : ℕ) (after : HartState) →
     → copy_of m k ≡ copied c.common.initial k c.common.history
 copies_kept m c h k after stands inside = stands.copies k (simp length-set at inside)
 
+-- what stands in the place of a hart that is there is its state
+pub put_there : (harts : List HartState) (h : ℕ) (s t : HartState) → slice_get harts h ≡ Some s → t ≡ get_or harts h t → slice_get harts h ≡ Some t
+put_there harts h s t there e = rw (← e) at (slice_get-get_or harts h t (slice_get_within harts h s there))
+
 -- the three ways of a step
 pub goes_on_alone : (old new : MachineView) (h : ℕ) (s after : HartState) → slice_get old.harts h ≡ Some s → s.status ≡ Running
     → Needs s (fetched (copy_of old h) s.pc) (Local after) → new ≡ with_state old h after → Runs old new (Hart h ∷ [])
@@ -134,14 +128,13 @@ traps old new h s after trap there running needs stopped e = executes old new h 
   },
 ))
 
-pub goes_on_answered : (old new : MachineView) (shared : SharedView) (h : ℕ) (s after : HartState) (request : Request)
+pub goes_on_answered : (old new : MachineView) (shared : SharedView) (h : ℕ) (s after : HartState) (i : Instr) (request : Request)
     → h < 8 → length old.copies ≡ length old.harts → slice_get old.harts h ≡ Some s → s.status ≡ Running
-    → Needs s (fetched (copy_of old h) s.pc) (Ask request) → Answers old.shared shared h s (fetched (copy_of old h) s.pc) request after
+    → Needs s (fetched (copy_of old h) s.pc) (Ask request) → IsSpelledBy (fetched (copy_of old h) s.pc) i → Answers old.shared shared h s i request after
     → new ≡ record { harts = slice_set old.harts h after; copies = copies_after old.copies h request shared.ram.text; shared = shared }
     → Runs old new (Hart h ∷ [])
-goes_on_answered old new shared h s after request few each there running needs a e =
+goes_on_answered old new shared h s after i request few each there running needs spelled a e =
     executes old new h s after there running (rw e refl) (rw e a.serves.steps.sizes) (λ c stands.
-    let i : Instr = a.instruction in
     let reply : Reply = reply_after c.common h request in
     let told : after ≡ answered s i reply =
     a.answered ∙ ap (λ (r : Reply). answered s i r) (a.serves.reply ∙ reply_stands old.shared h request c.common few stands.shared) in
@@ -150,7 +143,7 @@ goes_on_answered old new shared h s after request few each there running needs a
     let now : text_bytes shared.ram.text ≡ text_of (replayed c.common.initial (Asked h request reply ∷ c.common.history)) =
     text_there shared.ram (line_bytes (lines_shown shared)) ∙ ap (λ (memory : Memory). text_of memory) (shows.memory ∙ shows.replays) in (
       after_request c h s i request,
-      (Ask request, needs, (i, a.spelled, refl)),
+      (Ask request, needs, (i, spelled, refl)),
       record {
         harts = rw (e, told) (ap (λ (harts : List HartState). slice_set harts h (answered s i reply)) stands.harts);
         shared = rw e shows;

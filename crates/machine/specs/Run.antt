@@ -3,7 +3,6 @@
 -- ("Zifencei"); harts interleave one instruction at a time.
 use Rattle.std.specs.Prelude.{◌≡◌, ℕ, ◌+◌, ◌&&◌, List, [], ◌∷◌, Option, Some, None, map, nat_le, if◌then◌else◌, slice_get, slice_set}
 use Rattle.std.specs.List.{range_with_len}
-use Rattle.isa_table.specs.Table.{Spells}
 use Rattle.isa_table.specs.declared.instruction.Instr.{Instr}
 use Rattle.line_memory.specs.Memory.{Memory, loaded_from}
 use Rattle.line_memory.specs.declared.TheConstants.{TEXT_BASE, TEXT_SIZE}
@@ -15,7 +14,7 @@ use Rattle.hart.specs.declared.need.Need.{Need}
 use Rattle.hart.specs.declared.need.Need.TheVariants.{Local, Ask, Stop}
 use Rattle.hart.specs.declared.need.Request.{Request}
 use Rattle.hart.specs.Effect.{answered, start}
-use Rattle.hart.specs.Needs.{Needs}
+use Rattle.hart.specs.Needs.{IsSpelledBy, Needs}
 use Rattle.shared_memory.specs.declared.history.Entry.TheVariants.{Evicted}
 use Rattle.schedule.specs.declared.items.Step.{Step}
 use Rattle.schedule.specs.declared.items.Step.TheVariants.{Hart, Evict}
@@ -45,11 +44,6 @@ fetched_by c h pc = fetched (copied c.common.initial h c.common.history) pc
 -- hart h as it is after a step of its own
 abbrev pub with_hart : Config → ℕ → HartState → Config
 with_hart c h s = record c { harts = slice_set c.harts h s }
-
--- the word that was fetched spells the instruction
-abbrev pub IsSpelledBy : Option ℕ → Instr → Type 0
-IsSpelledBy None i = ⊥
-IsSpelledBy (Some word) i = Spells word i
 
 -- hart h, whose instruction is i, after the reply of memory to its request
 abbrev pub after_request : Config → ℕ → HartState → Instr → Request → Config

@@ -14,7 +14,7 @@ use Rattle.hart.specs.declared.need.Reply.{Reply}
 use Rattle.schedule.specs.declared.items.Step.{Step}
 use Rattle.schedule.specs.declared.items.Step.TheVariants.{Hart, Evict}
 use Rattle.shared_memory.specs.Histories.{copied, is_renewing}
-use Rattle.machine.specs.Run.{Config, IsSpelledBy, RunsTo, fetched}
+use Rattle.machine.specs.Run.{Config, RunsTo, fetched}
 use Rattle.shared_memory.specs.SharedView.{Serves, SharedView, Shows}
 
 -- what a contract sees of a machine: the harts, the text that each of them fetches, and what they share
@@ -39,13 +39,11 @@ pub record Stands (machine : MachineView) (c : Config) : Type 0 where
   pub shared : Shows machine.shared c.common
   pub copies : (h : ℕ) → h < length machine.harts → copy_of machine h ≡ copied c.common.initial h c.common.history
 
--- hart h, whose state is s, after the reply to the request of the instruction that its word spells
-pub record Answers (old new : SharedView) (h : ℕ) (s : HartState) (word : Option ℕ) (request : Request) (after : HartState) : Type 0 where
-  pub instruction : Instr
+-- hart h, whose state is s, after the reply to the request of its instruction i
+pub record Answers (old new : SharedView) (h : ℕ) (s : HartState) (i : Instr) (request : Request) (after : HartState) : Type 0 where
   pub reply : Reply
-  pub spelled : IsSpelledBy word instruction
   pub serves : Serves old new h request reply
-  pub answered : after ≡ answered s instruction reply
+  pub answered : after ≡ answered s i reply
 
 -- there is such a hart, and it runs
 abbrev pub IsRunning : Option HartState → Type 0

@@ -20,8 +20,10 @@ ghost use Rattle.machine.specs.Stands.{Answers, IsRunning, NeedsAt, Runs, Stands
 ghost use Rattle.shared_memory.specs.SharedView.{Evicts, memory_of};
 
 use crate::text_copy::{TextCopy, renew_after, starting_copies};
-use decode::decode;
-use hart::{HartState, Need, Request, Status, Trap, answer, next};
+use hart::{
+    Advance, HartState, Need, Request, Status, Trap, advance, instruction, next, take_reply,
+};
+use isa_table::Instr;
 use line_memory::Medium;
 use program::Program;
 use schedule::Step;
@@ -212,12 +214,11 @@ impl Machine {
         ensures err { OnErr result (self.new ≡ self.old) }
         ensures refused { IfErr result (Refuses self.old (Step.Hart hart)) }
     {
-        let state = match self.harts.get(hart as usize) {
-            Some(state) => *state,
-            None => return Err(StepFault::NoSuchHart),
+        let Some(state) = self.harts.get(hart as usize) else {
+            return Err(StepFault::NoSuchHart);
         };
         match state.status {
-            Status::Running => self.execute(hart, state),
+            Status::Running => self.execute(hart),
             Status::Exited(_) | Status::Trapped(_) => Ok(Outcome::Stopped),
         }
     }
@@ -239,9 +240,8 @@ impl Machine {
     }
 
     /// Makes the next instruction of a running hart.
-    fn execute(&mut self, hart: u32, state: HartState) -> Result<Outcome, StepFault>
-        requires there { slice_get self.old.harts hart ≡ Some state }
-        requires running { state.status ≡ Status.Running }
+    fn execute(&mut self, hart: u32) -> Result<Outcome, StepFault>
+        requires running { IsRunning (slice_get self.old.harts hart) }
         ensures ok { IfOk result (λ outcome. outcome ≡ outcome_after self.old.harts self.new.harts (Step.Hart hart)) }
         ensures runs { OnOk result (Runs self.old self.new (Step.Hart hart ∷ [])) }
         ensures event { OnOk result (MakesEvent self.old (Step.Hart hart) → length self.new.shared.trace ≡ length self.old.shared.trace + 1) }
@@ -250,30 +250,25 @@ impl Machine {
         ensures err { OnErr result (self.new ≡ self.old) }
         ensures refused { IfErr result (Refuses self.old (Step.Hart hart)) }
     {
-        let fetched = self.fetch(hart, state.pc);
-        match next(&state, fetched) {
-            Need::Local(after) => Ok(self.replace(hart, after)),
-            Need::Stop(trap) => Ok(self.replace(hart, trapped(state, trap))),
-            Need::Ask(request) => {
-                let after = ask(&mut self.shared, hart, &state, fetched, request)?;
+        let fetched = self.fetch(hart, self.hart(hart).pc);
+        let harts = &mut self.harts;
+        let state = &mut harts[hart as usize];
+        let instr = match instruction(fetched) {
+            Ok(instr) => instr,
+            Err(trap) => {
+                state.status = Status::Trapped(trap);
+                return Ok(Outcome::Trapped(trap));
+            }
+        };
+        match advance(state, instr) {
+            Advance::Done => {}
+            Advance::Stop(trap) => state.status = Status::Trapped(trap),
+            Advance::Ask(request) => {
+                ask(&mut self.shared, hart, state, instr, request)?;
                 renew_after(&mut self.copies, hart, request, self.shared.text());
-                Ok(self.replace(hart, after))
             }
         }
-    }
-
-    /// Puts a hart's state in the place of its old one.
-    fn replace(&mut self, hart: u32, after: HartState) -> Outcome
-        requires { hart < length self.old.harts }
-        ensures replaced { self.new ≡ record self.old { harts = slice_set self.old.harts hart after } }
-        ensures outcome { result ≡ outcome_of after.status }
-        ensures limit { length self.new.shared.trace ≤ 65536 }
-        ensures named { All (NamesLine (length self.new.shared.cache.lines)) self.new.shared.trace }
-    {
-        let outcome = outcome_of(after.status);
-        let harts = &mut self.harts;
-        harts[hart as usize] = after;
-        outcome
+        Ok(outcome_of(state.status))
     }
 
     /// The word of a hart's copy of the text at `pc`; None where it doesn't lie in the text region.
@@ -286,31 +281,27 @@ impl Machine {
     }
 }
 
-/// Has a request served, and gives the hart that is told the reply.
+/// Has a request served, and tells the hart the reply. A refusal leaves both as they were.
 #[tactic(auto, using(shared_memory::proofs::Naming::served_named))]
 fn ask(
     shared: &mut Shared,
     hart: u32,
-    state: &HartState,
-    fetched: Option<u32>,
+    state: &mut HartState,
+    instr: Instr,
     request: Request,
-) -> Result<HartState, StepFault>
+) -> Result<(), StepFault>
     requires hart { hart < 8 }
     requires width { IsRequest request }
-    requires needs { Needs state.now fetched (Need.Ask request) }
     requires named { All (NamesLine (length shared.old.cache.lines)) shared.old.trace }
-    ensures ok { IfOk result (λ after. Answers shared.old shared.new hart state.now fetched request after) }
+    ensures ok { OnOk result (Answers shared.old shared.new hart state.old instr request state.new) }
     ensures limit { length shared.new.trace ≤ 65536 }
     ensures named { All (NamesLine (length shared.new.cache.lines)) shared.new.trace }
-    ensures err { OnErr result (shared.new ≡ shared.old) }
+    ensures err { OnErr result ((shared.new ≡ shared.old) × (state.new ≡ state.old)) }
     ensures refused { IfErr result (RefusesRequest shared.old hart request) }
 {
-    let Some(word) = fetched else { unreachable!() };
-    let Some(instr) = decode(word) else {
-        unreachable!()
-    };
     let reply = shared.request(hart, request)?;
-    Ok(answer(state, instr, reply))
+    take_reply(state, instr, reply);
+    Ok(())
 }
 
 #[tactic(auto, using(shared_memory::proofs::Naming::evicted_named))]
@@ -338,15 +329,6 @@ fn starting_harts(alloc: Global, harts: u32) -> Result<Vec<HartState>, StepFault
     match (0..harts).map(HartState::start).collect(alloc) {
         Ok(made) => Ok(made),
         Err(_) => Err(StepFault::Memory),
-    }
-}
-
-fn trapped(state: HartState, trap: Trap) -> HartState
-    ensures { result ≡ record state { status = Status.Trapped trap } }
-{
-    HartState {
-        status: Status::Trapped(trap),
-        ..state
     }
 }
 
