@@ -11,6 +11,7 @@
 
 ghost use Rattle.assemble.specs.Assembly.{Assembles, IsFirstFault};
 ghost use Rattle.assemble.specs.Faults.{early_code};
+ghost use Rattle.assemble.specs.declared.TheConstants.{SOURCE_LIMIT};
 ghost use Rattle.object.specs.Sections.{Sections};
 ghost use Rattle.std.specs.Prelude.{◌≡◌, ◌≢◌, ◌<◌, ℕ, List, [], Some, length, IfOk, IfErr};
 
@@ -33,6 +34,11 @@ use std::alloc::Global;
 
 /// The most bytes that a source has.
 pub const SOURCE_LIMIT: usize = 4_194_304;
+
+/// The limit in numbers: a law, with nothing to run.
+pub fn limits()
+    ensures source { SOURCE_LIMIT ≡ 4194304 }
+{}
 
 /// What the bytes of a source say, they say alone: a law, with nothing to run.
 ///
