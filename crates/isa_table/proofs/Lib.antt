@@ -6,3 +6,4 @@ pub mod Shapes
 pub mod Shifts
 pub mod Signs
 pub mod Unique
+pub mod OneWord

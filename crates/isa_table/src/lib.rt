@@ -5,6 +5,10 @@
 //! Operations (CMO) 1.0.
 #![tactic(auto)]
 
+ghost use Rattle.isa_table.specs.Table.{IsCanonical};
+ghost use Rattle.isa_table.specs.declared.instruction.Instr.{Instr as AnInstr};
+ghost use Rattle.std.specs.Prelude.{◌≡◌, ℕ, ◌^◌, ◌<◌};
+
 mod access;
 mod checking;
 mod encoding;
@@ -23,3 +27,9 @@ pub use instruction::{
 };
 pub use names::ordering_suffix;
 pub use register::Reg;
+
+/// No instruction has two canonical words: a law of the table, with nothing to run.
+#[tactic(auto, using(crate::proofs::OneWord::one_word))]
+pub fn one_word()
+    ensures { (i : AnInstr) (word other : ℕ) → word < 2 ^ 32 → other < 2 ^ 32 → IsCanonical word i → IsCanonical other i → word ≡ other }
+{}
