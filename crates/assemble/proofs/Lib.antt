@@ -4,3 +4,4 @@ pub mod FirstPass
 pub mod ByteSteps
 pub mod SecondPass
 pub mod OneAnswer
+pub mod OneObject

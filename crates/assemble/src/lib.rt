@@ -42,11 +42,14 @@ pub fn limits()
 
 /// What the bytes of a source say, they say alone: a law, with nothing to run.
 ///
-/// No source that is assembled has a fault, and no source has two first faults.
+/// No source has two objects, none that is assembled has a fault, and none has two first faults.
 pub fn one_answer()
+    ensures object { (source : List ℕ) (object other : Sections) → Assembles source object → Assembles source other → object ≡ other }
     ensures no_fault { (source : List ℕ) (object : Sections) (fault : AsmFault) → Assembles source object → ¬ IsFirstFault source fault }
     ensures fault { (source : List ℕ) (fault other : AsmFault) → IsFirstFault source fault → IsFirstFault source other → fault ≡ other }
-{}
+{
+    isa_table::one_word();
+}
 
 /// The object of a source, or its first line at fault.
 ///
