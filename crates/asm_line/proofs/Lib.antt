@@ -1,2 +1,3 @@
 pub mod NumberLists
 pub mod LineWords
+pub mod WholeNumbers

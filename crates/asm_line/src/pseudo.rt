@@ -7,7 +7,8 @@ ghost use Rattle.asm_line.specs.Meanings.{meaning_of, IsInRange};
 ghost use Rattle.asm_line.specs.Numbers.{upper_half, lower_half};
 ghost use Rattle.asm_line.specs.Steps.{listed, target_seen, Gives};
 ghost use Rattle.isa_table.specs.Ranges.{FitsBits, IsChecked};
-ghost use Rattle.std.specs.Prelude.{◌≡◌, ◌+◌, ◌/◌, ◌%◌, ◌^◌, ◌<◌, ◌≤ℤ◌, negsuc, pos, IfOk};
+ghost use Rattle.std.specs.Int.{int_wrap, w32};
+ghost use Rattle.std.specs.Prelude.{◌≡◌, ◌+◌, ◌+ℤ◌, ◌*◌, ◌/◌, ◌%◌, ◌^◌, ◌<◌, ◌≤ℤ◌, negsuc, pos, IfOk};
 ghost use Rattle.word_bits.specs.Numbers.{signed};
 
 use crate::fault::AsmCode;
@@ -106,12 +107,14 @@ pub(crate) fn number_into<'a>(rd: Reg, number: i64) -> Statement<'a>
 }
 
 /// The halves of a number, as a pair of instructions makes it: the upper 20 bits, rounded to the
-/// nearest multiple of 2^12, and what is left, from -2,048 to 2,047.
+/// nearest multiple of 2^12, and what is left, from -2,048 to 2,047. The first times 2^12 and the
+/// second make the number, in 32 bits.
 ///
 /// The first is the immediate of LUI or AUIPC, the second that of ADDIW or ADDI.
 pub fn halves(number: i32) -> (u32, i32)
     ensures upper { result.0 ≡ upper_half number }
     ensures lower { result.1 ≡ lower_half number }
+    ensures whole { int_wrap w32 (pos (2 ^ 12 * result.0) +ℤ result.1) ≡ number }
     ensures upper_in_range { result.0 < 2 ^ 20 }
     ensures lower_in_range { FitsBits 12 result.1 }
 {
