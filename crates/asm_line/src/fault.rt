@@ -11,7 +11,7 @@ use thiserror::Error;
 /// What is wrong with a line. Of several codes of one line the first in this order is answered.
 ///
 /// The message is the code's name, A1 to A10. The grammar of a line finds A1 to A5.
-#[derive(Clone, Copy, Debug, PartialEq, Eq, Error)]
+#[derive(Clone, Copy, Debug, PartialEq, Eq, PartialOrd, Ord, Error)]
 pub enum AsmCode {
     /// A byte or a run outside comments is no token, or a label is `.`.
     #[error("A1")]

@@ -14,8 +14,8 @@ use crate::line::Statement;
 use crate::operands::{SignedNumber, Target};
 use crate::parts::{Parts, Registers, within};
 use crate::pseudo::{immediate, registers, unary};
-use asm_names::{Mnemonic, return_register, zero_register};
-use isa_table::{BranchOp, ImmediateOp, Instr, Reg};
+use asm_names::{AtomicForm, Mnemonic, return_register, zero_register};
+use isa_table::{AtomicOp, BranchOp, ImmediateOp, Instr, Reg};
 
 /// An instruction on registers and numbers alone.
 pub(crate) fn plain(mnemonic: Mnemonic, parts: Parts) -> Instr
@@ -83,22 +83,8 @@ pub(crate) fn addressing(mnemonic: Mnemonic, parts: Parts) -> Instr
             offset,
         },
         Mnemonic::Cache(op) => Instr::Cache { op, rs1: rd },
-        Mnemonic::LoadReserved(form) => Instr::LoadReserved {
-            width: form.width,
-            rd,
-            rs1,
-            acquire: form.acquire,
-            release: form.release,
-        },
-        Mnemonic::Atomic(op, form) => Instr::Atomic {
-            op,
-            width: form.width,
-            rd,
-            rs1: parts.registers.third(),
-            rs2: rs1,
-            acquire: form.acquire,
-            release: form.release,
-        },
+        Mnemonic::LoadReserved(form) => load_reserved(form, rd, rs1),
+        Mnemonic::Atomic(op, form) => atomic(op, form, rd, parts.registers.third(), rs1),
         _ => unreachable!(),
     }
 }
@@ -119,6 +105,32 @@ fn jump_register(rd: Reg, rs1: Reg, offset: i32) -> Instr
     ensures { result ≡ Instr.JumpRegister rd rs1 offset }
 {
     Instr::JumpRegister { rd, rs1, offset }
+}
+
+fn load_reserved(form: AtomicForm, rd: Reg, rs1: Reg) -> Instr
+    ensures { result ≡ Instr.LoadReserved form.width rd rs1 form.acquire form.release }
+{
+    Instr::LoadReserved {
+        width: form.width,
+        rd,
+        rs1,
+        acquire: form.acquire,
+        release: form.release,
+    }
+}
+
+fn atomic(op: AtomicOp, form: AtomicForm, rd: Reg, rs1: Reg, rs2: Reg) -> Instr
+    ensures { result ≡ Instr.Atomic op form.width rd rs1 rs2 form.acquire form.release }
+{
+    Instr::Atomic {
+        op,
+        width: form.width,
+        rd,
+        rs1,
+        rs2,
+        acquire: form.acquire,
+        release: form.release,
+    }
 }
 
 /// A branch to a label, or by a distance that is even and has 13 bits.

@@ -35,17 +35,17 @@ pub use pseudo::halves;
 use statement::line_at;
 use std::alloc::{AllocError, Global};
 
-/// What a source line says. `line` is the line's bytes without its end, and `number` its number.
+/// What a source line says. `line` is the line's bytes without its end.
 ///
 /// A line is refused with the lowest code, A1 to A5, of its label and its statement together.
 /// `AsmCode::Memory` is answered only where a growth was refused, and says nothing of the line.
 #[tactic(auto, using(crate::proofs::LineWords::line_bad))]
-pub fn read_line<'a>(alloc: Global, line: &'a [u8], number: u32) -> Result<Line<'a>, AsmCode>
+pub fn read_line<'a>(alloc: Global, line: &'a [u8]) -> Result<Line<'a>, AsmCode>
     ensures ok { IfOk result (λ read. line_of line.now ≡ Ok (line_meaning read)) }
     ensures err { IfErr result (λ code. Fails code (line_of line.now)) }
     ensures in_range { IfOk result (λ read. IsInRange (meaning_of read.statement)) }
 {
-    let tokens = tokens(alloc, line, number)?;
+    let tokens = tokens(alloc, line, 1)?;
     let lexemes = lexemes(alloc, &tokens)?;
     line_at(alloc, &lexemes)
 }

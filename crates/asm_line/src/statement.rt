@@ -1,6 +1,6 @@
 //! The statement and the label of a line.
 
-ghost use Rattle.asm_line.specs.Faults.{both, code_number, lower, Fails};
+ghost use Rattle.asm_line.specs.Faults.{both, lower, Fails};
 ghost use Rattle.asm_line.specs.Grammar.{built, int, range_of, statement_of};
 ghost use Rattle.asm_line.specs.Lines.{body_of, label_of, labelled, label_first, lexemes_line};
 ghost use Rattle.asm_line.specs.Meanings.{line_meaning, meaning_of, IsInRange};
@@ -74,36 +74,7 @@ fn lowest(label: Result<&[u8], AsmCode>, code: AsmCode) -> AsmCode
 {
     match label {
         Ok(_) => code,
-        Err(first) => lower(first, code),
-    }
-}
-
-/// The code with the lower number.
-fn lower(first: AsmCode, second: AsmCode) -> AsmCode
-    ensures { result ≡ lower first second }
-{
-    if code_number(first) <= code_number(second) {
-        first
-    } else {
-        second
-    }
-}
-
-/// The number in a code's name.
-fn code_number(code: AsmCode) -> u32
-    ensures { result ≡ code_number code }
-{
-    match code {
-        AsmCode::BadToken => 1,
-        AsmCode::Mnemonic => 2,
-        AsmCode::Operands => 3,
-        AsmCode::Register => 4,
-        AsmCode::Range => 5,
-        AsmCode::UnknownLabel => 6,
-        AsmCode::LabelTwice => 7,
-        AsmCode::WrongSection => 8,
-        AsmCode::TooLarge => 9,
-        AsmCode::Memory => 10,
+        Err(first) => first.min(code),
     }
 }
 

@@ -50,13 +50,7 @@ impl Emission {
     }
 
     /// Adds the bytes of the next line, which has no fault but that of a label.
-    fn emit_line(
-        &mut self,
-        alloc: Global,
-        labels: &Labels,
-        text: &[u8],
-        number: u32,
-    ) -> Result<(), AsmCode>
+    fn emit_line(&mut self, alloc: Global, labels: &Labels, text: &[u8]) -> Result<(), AsmCode>
         requires room { HasRoom self.old }
         requires labels_near { AreNear (place_at labels.now) }
         ensures ok { OnOk result ((size : ℕ) (earlier : List (List ℕ)) → IsEmitted (place_at labels.now) earlier self.old
@@ -66,7 +60,7 @@ impl Emission {
         ensures err { IfErr result (λ code. code ≢ AsmCode.Memory → (size : ℕ) (earlier : List (List ℕ)) → IsEmitted (place_at labels.now) earlier self.old
             → early_code size earlier text.now ≡ None → late_code (place_at labels.now) earlier text.now ≡ Some code) }
     {
-        let line = read_line(alloc, text, number)?;
+        let line = read_line(alloc, text)?;
         self.emit(labels, &line.statement)
     }
 
@@ -121,7 +115,7 @@ pub(crate) fn sections_of(
     let mut rest = source;
     let mut number = 1;
     while let Some((line, after)) = next_line(rest) {
-        if let Err(code) = emission.emit_line(alloc, labels, line, number) {
+        if let Err(code) = emission.emit_line(alloc, labels, line) {
             return Err(AsmFault { line: number, code });
         }
         number += 1;

@@ -83,7 +83,7 @@ fn too_long(alloc: Global, source: &[u8]) -> AsmFault
 {
     let code = match next_line(source) {
         Some((first, _)) => code_of_first(alloc, first),
-        None => AsmCode::TooLarge,
+        None => unreachable!(),
     };
     AsmFault { line: 1, code }
 }
@@ -94,7 +94,7 @@ fn code_of_first(alloc: Global, line: &[u8]) -> AsmCode
 {
     let mut labels = Labels::new(alloc);
     let mut position = Position::start();
-    match place_line(alloc, &mut labels, &mut position, line, 1) {
+    match place_line(alloc, &mut labels, &mut position, line) {
         Ok(()) => AsmCode::TooLarge,
         Err(code) => code,
     }

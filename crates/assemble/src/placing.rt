@@ -31,7 +31,7 @@ pub(crate) fn labels_of<'a>(alloc: Global, source: &'a [u8]) -> Result<Labels<'a
     let mut rest = source;
     let mut number = 1;
     while let Some((line, after)) = next_line(rest) {
-        if let Err(code) = place_line(alloc, &mut labels, &mut position, line, number) {
+        if let Err(code) = place_line(alloc, &mut labels, &mut position, line) {
             return Err(AsmFault { line: number, code });
         }
         number += 1;
@@ -46,7 +46,6 @@ pub(crate) fn place_line<'a>(
     labels: &mut Labels<'a>,
     position: &mut Position,
     text: &'a [u8],
-    number: u32,
 ) -> Result<(), AsmCode>
     requires { IsWithin position.old }
     ensures ok { OnOk result ((earlier : List (List ℕ)) → IsPlaced earlier position.old labels.old → IsPlaced (text.now ∷ earlier) position.new labels.new) }
@@ -55,7 +54,7 @@ pub(crate) fn place_line<'a>(
     ensures err { IfErr result (λ code. code ≢ AsmCode.Memory
         → (earlier : List (List ℕ)) → IsPlaced earlier position.old labels.old → code_of_said earlier (line_of text.now) ≡ Some code) }
 {
-    let line = read_line(alloc, text, number)?;
+    let line = read_line(alloc, text)?;
     labels.note(line.label, position.place())?;
     *position = position.after(&line.statement)?;
     Ok(())

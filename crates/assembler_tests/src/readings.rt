@@ -72,7 +72,7 @@ fn line_tokens(alloc: Global, line: &[u8]) -> Result<String, AllocError> {
 /// The label that a line defines, and its statement; or the code of its fault.
 fn line_statement(alloc: Global, line: &[u8]) -> Result<String, AllocError> {
     let mut answer = String::new(alloc);
-    match read_line(alloc, line, 1) {
+    match read_line(alloc, line) {
         Ok(Line { label, statement }) => {
             push_label(alloc, &mut answer, label)?;
             match statement {
@@ -138,7 +138,7 @@ fn push_statement(
 
 /// The word of a line's instruction, and the text of the instruction that the word is decoded to.
 fn shown_again(alloc: Global, line: &[u8]) -> Result<String, AllocError> {
-    let word = match read_line(alloc, line, 1) {
+    let word = match read_line(alloc, line) {
         Ok(
             Line {
                 label: None,

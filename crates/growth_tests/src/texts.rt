@@ -53,7 +53,7 @@ fn are_five_words(line: &Line) -> bool {
 
 #[test]
 fn line_of_numbers(rt: HostRuntime) -> Result<(), Refused> {
-    let answer = match read_line(rt.alloc(), b".word 1, 2, 3, 4, 5", 1) {
+    let answer = match read_line(rt.alloc(), b".word 1, 2, 3, 4, 5") {
         Ok(line) => Ok(are_five_words(&line)),
         Err(fault) => refusal(matches!(fault, AsmCode::Memory)),
     };
