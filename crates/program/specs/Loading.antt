@@ -1,5 +1,5 @@
 -- What loading makes of an object: a text region filled with zeros past the object's text.
-use Rattle.std.specs.Prelude.{ℕ, ◌≡◌, ◌-◌, ◌<◌, ◌≤◌, List, ◌++◌, length, replicate, slice_index}
+use Rattle.std.specs.Prelude.{ℕ, ◌≡◌, ◌-◌, ◌<◌, ◌≤◌, List, ◌++◌, length, replicate, slice_get, Some}
 use Rattle.object.specs.Sections.{Sections}
 use Rattle.object.specs.declared.TheConstants.{TEXT_LIMIT}
 
@@ -12,7 +12,7 @@ pub record Loads (program object : Sections) : Type 0 where
   pub text : program.text ≡ zero_filled object.text TEXT_LIMIT
   pub static_data : program.static_data ≡ object.static_data
 
--- each byte of a section stands in its region at its own distance from the base, and zeros stand past the section
-pub record IsPlaced (section region : List ℕ) : Type 0 where
-  pub bytes : (at : ℕ) → at < length section → slice_index region at ≡ slice_index section at
-  pub zeros : (at : ℕ) → length section ≤ at → slice_index region at ≡ 0
+-- each byte of a section stands in a region of this size at its own distance from the base, and zeros stand in the rest
+pub record IsPlaced (section : List ℕ) (size : ℕ) (region : List ℕ) : Type 0 where
+  pub bytes : (at : ℕ) → at < length section → slice_get region at ≡ slice_get section at
+  pub zeros : (at : ℕ) → length section ≤ at → at < size → slice_get region at ≡ Some 0

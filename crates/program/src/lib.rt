@@ -48,11 +48,11 @@ impl Program {
 
 /// Where each byte of a loaded program stands: a law, with nothing to run.
 ///
-/// A byte of text stands as far from the base of the text region as from the start of the object's text, and a byte of
-/// data likewise. Zeros stand in the rest of both regions.
+/// A byte of text stands as far from the base of the text region as from the start of the object's text, and zeros stand
+/// in the rest of the region. Of the data region a program holds the object's data alone, from its base on.
 pub fn places()
-    ensures text { (program object : Sections) → Loads program object → IsPlaced object.text program.text }
-    ensures static_data { (program object : Sections) → Loads program object → IsPlaced object.static_data program.static_data }
+    ensures text { (program object : Sections) → Loads program object → IsPlaced object.text TEXT_LIMIT program.text }
+    ensures static_data { (program object : Sections) → Loads program object → program.static_data ≡ object.static_data }
 {}
 
 /// Loads an object: its text from the base of the text region on, with zeros in the rest of the region, and its data.
