@@ -6,7 +6,7 @@ use asm_lex::{LexFault, Token, tokens};
 use asm_line::{AsmCode, Line, Statement, read_line};
 use assemble::{AsmFault, SOURCE_LIMIT, assemble};
 use decode::{decode, show};
-use object::{LoadFault, Object};
+use object::{LoadFault, Object, TEXT_LIMIT};
 use program::load;
 use std::alloc::Global;
 
@@ -161,10 +161,15 @@ fn object_to_bytes(rt: HostRuntime) -> Result<(), Refused> {
     ended(&rt, written(rt.alloc(), &object))
 }
 
-/// Whether the program's text is that of the file, behind its sixteen bytes of a head, and then zeros.
-fn begins_as(text: &[u8], file: &[u8]) -> bool {
-    match file.split_at_checked(16) {
-        Some((_, words)) => text.starts_with(words),
+/// Whether the program's text is that of the file, behind its sixteen bytes of a head, and then zeros to the region's end.
+fn is_filled(text: &[u8], file: &[u8]) -> bool {
+    let Some((_, words)) = file.split_at_checked(16) else {
+        return false;
+    };
+    match text.split_at_checked(words.len()) {
+        Some((first, rest)) => {
+            first == words && rest.iter().all(|byte| *byte == 0) && text.len() == TEXT_LIMIT
+        }
         None => false,
     }
 }
@@ -173,7 +178,7 @@ fn begins_as(text: &[u8], file: &[u8]) -> bool {
 fn load_an_object(rt: HostRuntime) -> Result<(), Refused> {
     let object = ready(Object::read(rt.alloc(), TWO_IMAGES))?;
     let answer = match load(object) {
-        Ok(program) => Ok(begins_as(program.text_bytes(), TWO_IMAGES)),
+        Ok(program) => Ok(is_filled(program.text_bytes(), TWO_IMAGES)),
         Err(fault) => refusal(matches!(fault, LoadFault::Memory)),
     };
     ended(&rt, answer)
