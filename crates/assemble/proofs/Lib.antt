@@ -5,3 +5,4 @@ pub mod ByteSteps
 pub mod SecondPass
 pub mod OneAnswer
 pub mod OneObject
+pub mod Standing

@@ -2,6 +2,7 @@ pub mod Places
 pub mod SourceLines
 pub mod Faults
 pub mod Assembly
+pub mod Standing
 pub mod Labels
 pub mod Positions
 pub mod Passes

@@ -9,11 +9,14 @@
 //! (CMO) 1.0.
 #![tactic(auto)]
 
-ghost use Rattle.assemble.specs.Assembly.{Assembles, IsFirstFault};
+ghost use Rattle.asm_names.specs.declared.kinds.Section.{Section};
+ghost use Rattle.assemble.specs.Assembly.{Assembles, IsFirstFault, bytes_in, lines_back, values_of};
 ghost use Rattle.assemble.specs.Faults.{early_code};
 ghost use Rattle.assemble.specs.declared.TheConstants.{SOURCE_LIMIT};
+ghost use Rattle.assemble.specs.Places.{size_of};
+ghost use Rattle.assemble.specs.Standing.{LineStands};
 ghost use Rattle.object.specs.Sections.{Sections};
-ghost use Rattle.std.specs.Prelude.{◌≡◌, ◌≢◌, ◌<◌, ℕ, List, [], Some, length, IfOk, IfErr};
+ghost use Rattle.std.specs.Prelude.{◌≡◌, ◌≢◌, ◌<◌, ℕ, List, [], ◌∷◌, ◌++◌, Some, length, IfOk, IfErr};
 
 mod bytes;
 mod emission;
@@ -50,6 +53,17 @@ pub fn one_answer()
 {
     isa_table::one_word();
 }
+
+/// Where the bytes of a source's lines stand in its object: a law, with nothing to run.
+///
+/// The bytes of each line stand in its section as far from the start as its place is from the section's base, and a section
+/// has as many bytes as its lines take.
+pub fn lines_stand()
+    ensures lines { (source : List ℕ) (object : Sections) (later earlier : List (List ℕ)) (line : List ℕ) → Assembles source object →
+        lines_back source ≡ later ++ line ∷ earlier → LineStands (values_of source) earlier line object }
+    ensures sizes { (source : List ℕ) (object : Sections) (section : Section) → Assembles source object →
+        length (bytes_in section object) ≡ size_of section (lines_back source) }
+{}
 
 /// The object of a source, or its first line at fault.
 ///

@@ -1,4 +1,5 @@
 pub mod Programs
+pub mod Places
 pub mod Runs
 pub mod Images
 pub mod Explaining

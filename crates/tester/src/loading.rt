@@ -1,6 +1,8 @@
 //! From a program's file to the program.
 
-ghost use Rattle.std.specs.Prelude.{◌≡◌, IfErr, IfOk, false, true};
+ghost use Rattle.shared_memory.specs.Served.{starting_memory};
+ghost use Rattle.std.specs.Prelude.{◌≡◌, IfErr, IfOk, List, false, true, ℕ};
+ghost use Rattle.tester.specs.Places.{HoldsSource};
 ghost use Rattle.tester.specs.Programs.{IsLoadFault, IsObjectOf, IsProgramOf, begins_as_object};
 
 use assemble::{AsmCode, AsmFault, assemble};
@@ -26,6 +28,10 @@ pub enum ProgramFault {
 /// The program of a file, loaded: the file is an object's where it begins with `RVXPROG1`, and else a source.
 pub fn load_program(alloc: Global, file: &[u8]) -> Result<Program, ProgramFault>
     ensures ok { IfOk result (λ program. IsProgramOf file.now program) }
+
+    // each line of a source stands at its place, in the memory that a run begins with, whatever its medium
+    ensures places { IfOk result (λ program. begins_as_object file.now ≡ false →
+        (medium : List (List ℕ)) → HoldsSource file.now (starting_memory program medium)) }
     ensures err { IfErr result (IsLoadFault file.now) }
 {
     let object = object_of(alloc, file)?;
