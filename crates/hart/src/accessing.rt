@@ -6,8 +6,8 @@ ghost use Rattle.hart.specs.Memory.{atomic_width, load_width, store_width};
 ghost use Rattle.hart.specs.InPlace.{IsKept, need_after};
 ghost use Rattle.hart.specs.Requests.{AsksRequest, IsAtomicWidth, IsRequest, IsWidth};
 
-use crate::advancing::{address_at, go_on};
 use crate::need::{Advance, Request};
+use crate::places::{address_at, go_on};
 use crate::state::HartState;
 use isa_table::{AccessSet, AtomicOp, AtomicWidth, CacheOp, LoadOp, Reg, StoreOp};
 

@@ -6,9 +6,9 @@ ghost use Rattle.hart.specs.Effect.{answered, takes, trap_of};
 ghost use Rattle.hart.specs.Memory.{atomic_result, atomic_width, load_result};
 
 use crate::accessing::width_of_atomic;
-use crate::advancing::{go_on, write_to};
 use crate::arithmetic::low;
 use crate::need::{AccessFault, Reply};
+use crate::places::{go_on, write_to};
 use crate::state::{HartState, Status, Trap};
 use isa_table::{AtomicOp, AtomicWidth, Instr, LoadOp};
 use word_bits::sign_extend;

@@ -8,8 +8,8 @@ ghost use Rattle.hart.specs.Effect.{calls, effect, next_pc};
 ghost use Rattle.hart.specs.InPlace.{IsKept, need_after};
 ghost use Rattle.hart.specs.Requests.{AsksRequest};
 
-use crate::advancing::go_on;
 use crate::need::{Advance, Request};
+use crate::places::go_on;
 use crate::state::{HartState, Status, Trap};
 use isa_table::{Instr, Reg, SystemOp};
 

@@ -5,9 +5,9 @@ ghost use Rattle.hart.specs.Arithmetic.{result_of};
 ghost use Rattle.hart.specs.Effect.{effect, value_of, writes};
 ghost use Rattle.hart.specs.InPlace.{IsKept, need_after};
 
-use crate::advancing::{place_at, plus, write_to};
 use crate::arithmetic::{combine, operation_of_immediate, operation_of_shift};
 use crate::need::Advance;
+use crate::places::{place_at, plus, write_to};
 use crate::state::HartState;
 use isa_table::{ImmediateOp, Instr, Reg, RegisterOp, ShiftOp, UpperOp};
 

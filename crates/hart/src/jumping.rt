@@ -7,9 +7,9 @@ ghost use Rattle.hart.specs.Effect.{effect, goes_to, is_taken as is_taken_by, ju
 ghost use Rattle.hart.specs.InPlace.{IsKept, need_after};
 ghost use Rattle.hart.specs.Requests.{AsksRequest};
 
-use crate::advancing::{address_at, go_on, next_pc, place_at};
 use crate::arithmetic::{is_below, is_less};
 use crate::need::Advance;
+use crate::places::{address_at, go_on, next_pc, place_at};
 use crate::state::{HartState, Trap};
 use isa_table::{BranchOp, Instr, Reg};
 

@@ -2,7 +2,6 @@
 #![tactic(auto)]
 
 mod accessing;
-mod advancing;
 mod answering;
 mod arithmetic;
 mod atomics;
@@ -10,6 +9,7 @@ mod calling;
 mod computing;
 mod jumping;
 mod need;
+mod places;
 mod state;
 mod stepping;
 

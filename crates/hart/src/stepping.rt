@@ -1,6 +1,6 @@
-//! What the next instruction of a hart needs.
+//! The next instruction of a hart: which it is, what it needs, and how far it is made without a reply.
 
-ghost use Rattle.std.specs.Prelude.{◌≡◌, IfOk, IfErr};
+ghost use Rattle.std.specs.Prelude.{◌≡◌, ◌⊎◌, IfOk, IfErr};
 ghost use Rattle.hart.specs.Effect.{effect};
 ghost use Rattle.hart.specs.InPlace.{IsKept, need_after};
 ghost use Rattle.hart.specs.Needs.{IsSpelledBy, Needs};
@@ -18,7 +18,7 @@ use isa_table::Instr;
 /// What the next instruction of a running hart needs. `fetched` is the word at its pc, or None where pc is outside
 /// the text region.
 ///
-/// Source: RISC-V Unprivileged ISA 20191213, chapters 2 and 5; RISC-V Cache Management Operations 1.0.
+/// Source: RISC-V Unprivileged ISA 20191213, chapters 2, 3, 5 and 8; RISC-V Cache Management Operations 1.0.
 pub fn next(state: &HartState, fetched: Option<u32>) -> Need
     requires { state.now.status ≡ Status.Running }
     ensures needs { Needs state.now fetched result }
@@ -36,12 +36,13 @@ pub fn next(state: &HartState, fetched: Option<u32>) -> Need
     }
 }
 
-/// The next instruction of a hart, or the trap where there is none. `fetched` is the word at its pc, or None where pc is
-/// outside the text region.
+/// The next instruction of a hart. `fetched` is the word at its pc, or None where pc is outside the text region; then the
+/// trap is OutsideText, and NoInstruction where the word spells none.
 pub fn instruction(fetched: Option<u32>) -> Result<Instr, Trap>
     ensures spelled { IfOk result (IsSpelledBy fetched) }
     ensures ok { IfOk result (λ instr. (state : HartState) → Needs state fetched (effect state instr)) }
     ensures err { IfErr result (λ trap. (state : HartState) → Needs state fetched (Need.Stop trap)) }
+    ensures cause { IfErr result (λ trap. (trap ≡ Trap.OutsideText) ⊎ (trap ≡ Trap.NoInstruction)) }
 {
     match fetched {
         None => Err(Trap::OutsideText),
@@ -51,6 +52,7 @@ pub fn instruction(fetched: Option<u32>) -> Result<Instr, Trap>
 
 /// Makes an instruction of a running hart in place, as far as it needs nothing: what `next` gives, without a copy of
 /// the hart.
+#[rattlefmt::skip]
 pub fn advance(state: &mut HartState, instr: Instr) -> Advance
     ensures effect { need_after state.new result ≡ effect state.old instr }
     ensures request { AsksRequest (need_after state.new result) }
@@ -59,49 +61,18 @@ pub fn advance(state: &mut HartState, instr: Instr) -> Advance
     match instr {
         Instr::Jump { rd, distance } => jump(state, rd, distance),
         Instr::JumpRegister { rd, rs1, offset } => jump_register(state, rd, rs1, offset),
-        Instr::Branch {
-            op,
-            rs1,
-            rs2,
-            distance,
-        } => branch(state, op, rs1, rs2, distance),
+        Instr::Branch { op, rs1, rs2, distance } => branch(state, op, rs1, rs2, distance),
         Instr::Fence { predecessor, .. } => fence(state, predecessor),
         Instr::System { op } => system(state, op),
         Instr::Upper { op, rd, immediate } => compute_upper(state, op, rd, immediate),
-        Instr::Immediate {
-            op,
-            rd,
-            rs1,
-            immediate,
-        } => compute_immediate(state, op, rd, rs1, immediate),
-        Instr::Shift {
-            op,
-            rd,
-            rs1,
-            amount,
-        } => compute_shift(state, op, rd, rs1, amount),
+        Instr::Immediate { op, rd, rs1, immediate } => compute_immediate(state, op, rd, rs1, immediate),
+        Instr::Shift { op, rd, rs1, amount } => compute_shift(state, op, rd, rs1, amount),
         Instr::Register { op, rd, rs1, rs2 } => compute(state, op, rd, rs1, rs2),
-        Instr::Load {
-            op,
-            rs1,
-            offset,
-            ..
-        } => Advance::Ask(load(state, op, rs1, offset)),
-        Instr::Store {
-            op,
-            rs2,
-            rs1,
-            offset,
-        } => Advance::Ask(store(state, op, rs2, rs1, offset)),
+        Instr::Load { op, rs1, offset, .. } => Advance::Ask(load(state, op, rs1, offset)),
+        Instr::Store { op, rs2, rs1, offset } => Advance::Ask(store(state, op, rs2, rs1, offset)),
         Instr::FenceI => Advance::Ask(Request::FenceI),
         Instr::Cache { op, rs1 } => Advance::Ask(clean(state, op, rs1)),
         Instr::LoadReserved { width, rs1, .. } => Advance::Ask(load_reserved(state, width, rs1)),
-        Instr::Atomic {
-            op,
-            width,
-            rs1,
-            rs2,
-            ..
-        } => Advance::Ask(atomic(state, op, width, rs1, rs2)),
+        Instr::Atomic { op, width, rs1, rs2, .. } => Advance::Ask(atomic(state, op, width, rs1, rs2)),
     }
 }
