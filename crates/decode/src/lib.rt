@@ -1,6 +1,6 @@
 //! The decoder: from a word to the instruction that it spells.
 //!
-//! Source: RISC-V Unprivileged ISA 20191213, chapters 2, 5 and 24; RISC-V Cache Management
+//! Source: RISC-V Unprivileged ISA 20191213, chapters 2, 3, 5, 8 and 24; RISC-V Cache Management
 //! Operations (CMO) 1.0.
 #![tactic(auto)]
 

@@ -1,7 +1,7 @@
-//! The instruction table: the instructions of RV64I and of cache-block management, their check and
-//! their canonical words.
+//! The instruction table: the instructions of RV64I, of its extensions A and Zifencei and of cache-block management, their
+//! check and their canonical words.
 //!
-//! Source: RISC-V Unprivileged ISA 20191213, chapters 2, 3, 5 and 24; RISC-V Cache Management
+//! Source: RISC-V Unprivileged ISA 20191213, chapters 2, 3, 5, 8 and 24; RISC-V Cache Management
 //! Operations (CMO) 1.0.
 #![tactic(auto)]
 

@@ -1,11 +1,11 @@
 -- One step more at the end of a schedule.
-use Rattle.std.proofs.Common.{◌≡◌, ℕ, zero, suc, ◌+◌, List, [], ◌∷◌, ◌++◌, Option, Some, length, slice_set, replicate, refl, sym, ap, ◌∙◌, append_assoc, arith, rules}
+use Rattle.std.proofs.Common.{◌≡◌, ℕ, zero, suc, ◌+◌, List, [], ◌∷◌, ◌++◌, Some, length, slice_set, replicate, refl, sym, ap, ◌∙◌, append_assoc, arith, rules}
 use Rattle.std.specs.List.{slice_get}
 use Rattle.schedule.specs.Steps.{all_steps, steps_of}
 use Rattle.schedule.specs.declared.items.Step.{Step}
 use Rattle.schedule.specs.declared.items.Step.TheVariants.{Hart}
 use Rattle.schedule.specs.declared.items.Item.{Item}
-use Rattle.schedule.specs.declared.items.Item.TheVariants.{Steps, Evict}
+use Rattle.schedule.specs.declared.items.Item.TheVariants.{Steps}
 
 append_none : (xs : List Step) → xs ++ [] ≡ xs
 append_none xs = search rules
@@ -19,7 +19,7 @@ replicate_more h count =
     let e : count + 1 ≡ suc count = omega arith in
     ap (λ (n : ℕ). replicate n (Hart h)) e ∙ replicate_suc h count
 
-some_is : (a b : Item) → Some a ≡ Some b → a ≡ b
+pub some_is : (a b : Item) → Some a ≡ Some b → a ≡ b
 some_is a b e = cc
 
 last_one : (item : Item) (h count : ℕ) → item ≡ Steps h count → all_steps (Steps h (count + 1) ∷ []) ≡ all_steps (item ∷ []) ++ Hart h ∷ []

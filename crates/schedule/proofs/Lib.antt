@@ -1,4 +1,5 @@
 pub mod Growing
+pub mod GrowingJoined
 pub mod JoinedLemmas
 pub mod OneReading
 pub mod RunLemmas

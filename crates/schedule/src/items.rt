@@ -1,6 +1,8 @@
 //! The items of a schedule.
 
-ghost use Rattle.std.specs.Prelude.{◌≡◌, [], ◌∷◌, ◌++◌, OnOk, OnErr};
+ghost use Rattle.std.specs.Prelude.{◌≡◌, ◌<◌, ◌+◌, ◌^◌, [], ◌∷◌, ◌++◌, OnOk, OnErr};
+ghost use Rattle.schedule.specs.Grammar.{hart_steps};
+ghost use Rattle.schedule.specs.Joined.{AreJoined};
 ghost use Rattle.schedule.specs.Steps.{all_steps};
 
 use std::alloc::{AllocError, Global};
@@ -60,9 +62,10 @@ impl Schedule {
 
     /// Adds one step of a hart at the end, to the last item where that is steps of this hart. A refused growth leaves the
     /// schedule as it was.
-    #[tactic(auto, using(crate::proofs::Growing::one_more, crate::proofs::Growing::one_first))]
+    #[tactic(auto, using(crate::proofs::Growing::one_more, crate::proofs::Growing::one_first, crate::proofs::GrowingJoined::more_joined))]
     pub fn push_step(&mut self, hart: u32) -> Result<(), AllocError>
         ensures ok { OnOk result (all_steps self.new ≡ all_steps self.old ++ Step.Hart hart ∷ []) }
+        ensures joined { OnOk result (AreJoined self.old → hart_steps self.old + 1 < 2 ^ 32 → AreJoined self.new) }
         ensures err { OnErr result (self.new ≡ self.old) }
     {
         match self.items.last().copied() {
