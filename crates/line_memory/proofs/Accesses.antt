@@ -1,14 +1,16 @@
 -- Loads, stores and refusals of text, data and lines, as those of the memory that they are.
-use Rattle.std.proofs.Common.{◌≡◌, ◌≢◌, ◌⊎◌, ℕ, ◌+◌, ◌-◌, ◌*◌, ◌/◌, ◌%◌, ◌^◌, ◌<◌, ◌≤◌, List, [], length, slice_index, slice_index_or, slice_get, slice_set, nat_lt, nat_le, Some, None, refl, sym, ◌∙◌, arith, inl, inr}
+use Rattle.std.proofs.Common.{◌≡◌, ◌≢◌, ◌⊎◌, ℕ, ◌+◌, ◌-◌, ◌*◌, ◌/◌, ◌%◌, ◌^◌, ◌<◌, ◌≤◌, List, [], length, slice_index, slice_index_or, slice_get, slice_set, nat_lt, nat_le, Option, Some, None, refl, sym, ◌∙◌, arith, inl, inr}
 use Rattle.std.proofs.lemmas.Bool.{cases_lt, lt-ltb, le-ltb, le-leb, lt-leb, eq-eqb, ne_eqb, and_right}
 use Rattle.std.proofs.lemmas.List.{get_or-set_same, get_or-set_other}
 use Rattle.std.proofs.lemmas.Option.{slice_get-get_or, slice_get_read}
 use Rattle.word_bits.specs.Bytes.{loaded, stored}
 use Rattle.line_memory.specs.Lines.{line_at, line_bytes, AreLines}
 use Rattle.line_memory.specs.Memory.{Memory, IsWidth, loaded_from, stored_to, fault_of}
-use Rattle.line_memory.specs.Places.{IsOutside, IsRefused}
+use Rattle.line_memory.specs.Places.{IsOutside, IsPlace, IsRefused}
 use Rattle.line_memory.specs.Regions.{RamView, IsRam, region, ram_bytes}
 use Rattle.line_memory.specs.declared.TheConstants.{TEXT_BASE, TEXT_SIZE, DATA_BASE, DATA_SIZE}
+use Rattle.line_memory.specs.declared.ram.RamPlace.{RamPlace}
+use Rattle.line_memory.specs.declared.ram.RamPlace.TheVariants.{Text, Data}
 use Rattle.line_memory.specs.declared.MemFault.{MemFault}
 use Rattle.line_memory.specs.declared.MemFault.TheVariants.{Misaligned, Outside}
 use Rattle.line_memory.proofs.Maps.{loaded_shown, loaded_none, stored_before, stored_within, stored_after}
@@ -247,6 +249,11 @@ pub data_unfaulted : (ram : RamView) → IsRam ram → (address width at : ℕ) 
 data_unfaulted ram sound address width at aligned e fits =
     fault_none (ram_bytes ram) address width (loaded ram.bytes at width) aligned (data_loaded ram sound address width at e fits)
 
+pub ram_unfaulted : (ram : RamView) → IsRam ram → (address width : ℕ) (place : RamPlace) → IsPlace address width place
+    → fault_of (ram_bytes ram) address width ≡ None
+ram_unfaulted ram sound address width (Text at) h = text_unfaulted ram sound address width at h.0 h.1 h.2
+ram_unfaulted ram sound address width (Data at) h = data_unfaulted ram sound address width at h.0 h.1 h.2
+
 pub text_peeked : (ram : RamView) → IsRam ram → (address at : ℕ) → address ≡ TEXT_BASE + at → at + 1 ≤ TEXT_SIZE
     → (byte : ℕ) → byte ≡ slice_index_or ram.text at byte → Some byte ≡ ram_bytes ram address
 text_peeked ram sound address at e fits byte read =
@@ -259,6 +266,13 @@ data_peeked ram sound address at e fits byte read =
     let same = slice_get_read ram.bytes (length ram.bytes) at byte refl (omega (arith, sound.bytes)) read in
     rw e (sym (data_byte ram at (omega arith) ∙ same))
 
-pub none_peeked : (ram : RamView) (address : ℕ) (fault : MemFault) → IsRefused address 1 fault → ram_bytes ram address ≡ None
-none_peeked ram address Misaligned h = absurd (h (omega arith))
-none_peeked ram address Outside h = no_byte ram address h.1
+unread : (memory : Memory) (address : ℕ) (fault : MemFault) (found : Option ℕ) → memory address ≡ found
+    → fault_of memory address 1 ≡ Some fault → memory address ≡ None
+unfolding loaded_from
+unread memory address fault None e h = e
+unread memory address fault (Some byte) e h =
+    let none : fault_of memory address 1 ≡ None = fault_none memory address 1 (byte + 256 * 0) (omega arith) (rw e refl) in absurd cc
+
+-- a byte that can't be loaded is in no region
+pub none_peeked : (memory : Memory) (address : ℕ) (fault : MemFault) → fault_of memory address 1 ≡ Some fault → memory address ≡ None
+none_peeked memory address fault h = unread memory address fault (memory address) refl h

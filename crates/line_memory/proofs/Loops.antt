@@ -1,7 +1,7 @@
 -- The lines that the loops make: of zeros, of a copy, of bytes, and the bytes of lines.
 use Rattle.std.proofs.Common.{◌≡◌, ℕ, ◌+◌, ◌-◌, ◌*◌, ◌<◌, ◌≤◌, List, [], ◌∷◌, ◌++◌, length, get_or, take, drop, replicate, refl, sym, ap, ◌∙◌, arith, inl, inr}
 use Rattle.std.proofs.lemmas.Bool.{cases_lt}
-use Rattle.std.proofs.lemmas.List.{append-nil, drop-replicate, length-replicate, get_or-replicate, length-append, get_or_append_left, get_or_at, take_more, replicate-append-replicate}
+use Rattle.std.proofs.lemmas.List.{append-nil, drop-replicate, length-replicate, get_or-replicate, length-append, get_or_append_left, get_or_at, take_more}
 use Rattle.std.proofs.lemmas.List.Folds.{concat-append}
 use Rattle.std.proofs.Math.Seq.{take-add}
 use Rattle.std.specs.List.{concat}

@@ -7,7 +7,7 @@ ghost use Rattle.std.specs.Prelude.{◌≡◌};
 
 pub use bytes::{load_bytes, store_bytes};
 pub use medium::Medium;
-pub use ram::Ram;
+pub use ram::{Ram, RamPlace};
 use std::alloc::AllocError;
 use thiserror::Error;
 
@@ -41,11 +41,13 @@ pub fn regions()
 {}
 
 /// Why an access to memory is refused. Misaligned comes before Outside.
-#[derive(Clone, Copy, Debug, PartialEq, Eq)]
+#[derive(Clone, Copy, Debug, PartialEq, Eq, Error)]
 pub enum MemFault {
     /// The address isn't a multiple of the width.
+    #[error("not a multiple of the width")]
     Misaligned,
     /// The bytes lie in no region.
+    #[error("in no region")]
     Outside,
 }
 

@@ -1,9 +1,9 @@
 //! Text and data: the memory of a program that a power cut loses.
 
-ghost use Rattle.std.specs.Prelude.{◌≡◌, ◌≤◌, Some, None, length, IfOk, IfErr, IsOk};
+ghost use Rattle.std.specs.Prelude.{◌≡◌, ◌≤◌, Some, None, length, IfOk, IfErr, IsOk, OnOk};
 ghost use Rattle.line_memory.specs.Memory.{IsWidth, loaded_from, stored_to, fault_of};
 ghost use Rattle.line_memory.specs.Regions.{RamView, IsRam, padded, ram_bytes};
-ghost use Rattle.line_memory.specs.Places.{IsPlace, IsRefused};
+ghost use Rattle.line_memory.specs.Places.{IsPlace, IsRefused, IsWithin, address_of};
 
 use crate::bytes::{load_bytes, store_bytes};
 use crate::{DATA_BASE, DATA_SIZE, MediumFault, MemFault, TEXT_BASE, TEXT_SIZE};
@@ -28,8 +28,9 @@ impl Model for Ram {
     ghost invariant = { λ r. IsRam (record { text = r.text.items; bytes = r.bytes.items }) };
 }
 
-/// Where an access begins: a place of the text or of the data.
-enum Place {
+/// Where an access to text or data begins, counted in bytes from the base of its region.
+#[derive(Clone, Copy, Debug, PartialEq, Eq)]
+pub enum RamPlace {
     Text(usize),
     Data(usize),
 }
@@ -51,23 +52,65 @@ impl Ram {
         Ok(Ram { text, bytes })
     }
 
+    /// Where an access of `width` bytes at an address begins. Misaligned comes before Outside. A region's size is a multiple
+    /// of each width, so the end of an aligned access need not be looked at.
+    #[tactic(auto, using(crate::proofs::Accesses::ram_refused, crate::proofs::Accesses::ram_unfaulted))]
+    pub fn place(&self, addr: u64, width: u32) -> Result<RamPlace, MemFault>
+        requires { IsWidth width }
+        ensures ok { IfOk result (λ found. IsPlace addr width found) }
+        ensures no_fault { OnOk result (fault_of (ram_bytes self.now) addr width ≡ None) }
+        ensures err { IfErr result (λ fault. fault_of (ram_bytes self.now) addr width ≡ Some fault) }
+    {
+        let text_end = TEXT_BASE + self.text.len() as u64;
+        let data_end = DATA_BASE + self.bytes.len() as u64;
+        if addr % u64::from(width) != 0 {
+            Err(MemFault::Misaligned)
+        } else if (TEXT_BASE..text_end).contains(&addr) {
+            Ok(RamPlace::Text((addr - TEXT_BASE) as usize))
+        } else if (DATA_BASE..data_end).contains(&addr) {
+            Ok(RamPlace::Data((addr - DATA_BASE) as usize))
+        } else {
+            Err(MemFault::Outside)
+        }
+    }
+
+    /// The number of the `width` bytes from a place on.
+    pub fn load_at(&self, place: RamPlace, width: u32) -> u64
+        requires width { IsWidth width }
+        requires within { IsWithin width place }
+        ensures { loaded_from (ram_bytes self.now) (address_of place) width ≡ Some result }
+    {
+        match place {
+            RamPlace::Text(at) => load_bytes(&self.text, at, width as usize),
+            RamPlace::Data(at) => load_bytes(&self.bytes, at, width as usize),
+        }
+    }
+
+    /// Writes the low `width` bytes of `value` from a place on.
+    pub fn store_at(&mut self, place: RamPlace, width: u32, value: u64)
+        requires width { IsWidth width }
+        requires within { IsWithin width place }
+        ensures bytes { ram_bytes self.new ≡ stored_to (ram_bytes self.old) (address_of place) width value }
+        ensures sound { IsRam self.new }
+    {
+        match place {
+            RamPlace::Text(at) => store_bytes(&mut self.text, at, width as usize, value),
+            RamPlace::Data(at) => store_bytes(&mut self.bytes, at, width as usize, value),
+        }
+    }
+
     /// The number of the `width` bytes at an address. Misaligned comes before Outside.
-    #[tactic(auto, using(crate::proofs::Accesses::ram_refused))]
     pub fn load(&self, addr: u64, width: u32) -> Result<u64, MemFault>
         requires { IsWidth width }
         ensures ok { IfOk result (λ value. (fault_of (ram_bytes self.now) addr width ≡ None)
             × (loaded_from (ram_bytes self.now) addr width ≡ Some value)) }
         ensures err { IfErr result (λ fault. fault_of (ram_bytes self.now) addr width ≡ Some fault) }
     {
-        match place_of(addr, width) {
-            Ok(Place::Text(at)) => Ok(load_bytes(&self.text, at, width as usize)),
-            Ok(Place::Data(at)) => Ok(load_bytes(&self.bytes, at, width as usize)),
-            Err(fault) => Err(fault),
-        }
+        let place = self.place(addr, width)?;
+        Ok(self.load_at(place, width))
     }
 
     /// Writes the low `width` bytes of `value` at an address. A refused store changes nothing.
-    #[tactic(auto, using(crate::proofs::Accesses::ram_refused))]
     pub fn store(&mut self, addr: u64, width: u32, value: u64) -> Result<(), MemFault>
         requires { IsWidth width }
         ensures ok { IfOk result (λ _. (fault_of (ram_bytes self.old) addr width ≡ None)
@@ -76,11 +119,8 @@ impl Ram {
             × (self.new ≡ self.old)) }
         ensures sound { IsOk result → IsRam self.new }
     {
-        match place_of(addr, width) {
-            Ok(Place::Text(at)) => store_bytes(&mut self.text, at, width as usize, value),
-            Ok(Place::Data(at)) => store_bytes(&mut self.bytes, at, width as usize, value),
-            Err(fault) => return Err(fault),
-        }
+        let place = self.place(addr, width)?;
+        self.store_at(place, width, value);
         Ok(())
     }
 
@@ -89,9 +129,9 @@ impl Ram {
     pub fn peek(&self, addr: u64) -> Option<u8>
         ensures { result ≡ ram_bytes self.now addr }
     {
-        match place_of(addr, 1) {
-            Ok(Place::Text(at)) => Some(self.text[at]),
-            Ok(Place::Data(at)) => Some(self.bytes[at]),
+        match self.place(addr, 1) {
+            Ok(RamPlace::Text(at)) => Some(self.text[at]),
+            Ok(RamPlace::Data(at)) => Some(self.bytes[at]),
             Err(_) => None,
         }
     }
@@ -116,21 +156,4 @@ fn region(alloc: Global, bytes: &[u8], size: usize) -> Result<Vec<u8>, MediumFau
     let mut made = vec![in alloc; 0u8; size]?;
     replace_bytes(&mut made, 0, bytes);
     Ok(made)
-}
-
-/// The place of an aligned access. A region's size is a multiple of each width, so its end need not be looked at.
-fn place_of(addr: u64, width: u32) -> Result<Place, MemFault>
-    requires { IsWidth width }
-    ensures ok { IfOk result (λ found. IsPlace addr width found) }
-    ensures err { IfErr result (λ fault. IsRefused addr width fault) }
-{
-    if addr % u64::from(width) != 0 {
-        Err(MemFault::Misaligned)
-    } else if (TEXT_BASE..TEXT_BASE + TEXT_SIZE).contains(&addr) {
-        Ok(Place::Text((addr - TEXT_BASE) as usize))
-    } else if (DATA_BASE..DATA_BASE + DATA_SIZE).contains(&addr) {
-        Ok(Place::Data((addr - DATA_BASE) as usize))
-    } else {
-        Err(MemFault::Outside)
-    }
 }
