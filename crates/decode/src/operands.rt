@@ -9,7 +9,7 @@ ghost use Rattle.std.specs.Prelude.{◌≡◌, ◌+◌, ◌^◌, ◌<◌, ◌≤
 ghost use Rattle.word_bits.specs.Numbers.{field as field_of, signed as signed_of};
 
 use isa_table::{AccessSet, Reg};
-use word_bits::field;
+use word_bits::{field, power_of_two};
 
 /// The destination register.
 pub fn rd(word: u32) -> Reg
@@ -75,26 +75,17 @@ pub fn j_immediate(word: u32) -> i32
 }
 
 /// The two's complement value of `n` bits.
-#[tactic(auto, using(isa_table::proofs::Signs::signed_low, isa_table::proofs::Signs::signed_high))]
+#[tactic(auto, using(isa_table::proofs::Signs::power_below, isa_table::proofs::Signs::signed_low, isa_table::proofs::Signs::signed_high))]
 fn signed(bits: u32, n: u32) -> i32
     requires n { (1 ≤ n) × (n < 31) }
     requires bits { bits < 2 ^ n }
     ensures { result ≡ signed_of bits n }
 {
-    if bits < power_of_two(n - 1) {
+    if u64::from(bits) < power_of_two(n - 1) {
         bits as i32
     } else {
         bits as i32 - power_of_two(n) as i32
     }
-}
-
-#[tactic(auto, using(isa_table::proofs::Signs::power_fits, isa_table::proofs::Signs::power_below))]
-fn power_of_two(exponent: u32) -> u32
-    requires { exponent < 31 }
-    ensures value { result ≡ 2 ^ exponent }
-    ensures below { result < 2 ^ 31 }
-{
-    1 << exponent
 }
 
 /// The set of a fence that stands in four bits from bit `lo` upwards.

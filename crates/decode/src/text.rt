@@ -120,6 +120,7 @@ impl fmt::Display for Operands {
 }
 
 /// The operands as they are written: a fence's sets in full, an atomic's address last.
+#[rattlefmt::skip]
 fn operands_of(instr: Instr) -> Operands
     ensures { texts_of result ≡ operand_texts instr }
 {
@@ -127,51 +128,17 @@ fn operands_of(instr: Instr) -> Operands
     match instr {
         Instr::Upper { rd, immediate, .. } => Operands::Two(Register(rd), Unsigned(immediate)),
         Instr::Jump { rd, distance } => Operands::Two(Register(rd), Target(distance)),
-        Instr::JumpRegister { rd, rs1, offset } => {
-            Operands::Two(Register(rd), Place(offset, rs1))
-        }
-        Instr::Branch {
-            rs1,
-            rs2,
-            distance,
-            ..
-        } => Operands::Three(Register(rs1), Register(rs2), Target(distance)),
-        Instr::Load {
-            rd,
-            rs1,
-            offset,
-            ..
-        } => Operands::Two(Register(rd), Place(offset, rs1)),
-        Instr::Store {
-            rs2,
-            rs1,
-            offset,
-            ..
-        } => Operands::Two(Register(rs2), Place(offset, rs1)),
-        Instr::Immediate {
-            rd,
-            rs1,
-            immediate,
-            ..
-        } => Operands::Three(Register(rd), Register(rs1), Signed(immediate)),
-        Instr::Shift {
-            rd,
-            rs1,
-            amount,
-            ..
-        } => Operands::Three(Register(rd), Register(rs1), Unsigned(amount)),
-        Instr::Register { rd, rs1, rs2, .. } => {
-            Operands::Three(Register(rd), Register(rs1), Register(rs2))
-        }
-        Instr::Fence {
-            predecessor,
-            successor,
-        } => Operands::Two(Accesses(predecessor), Accesses(successor)),
+        Instr::JumpRegister { rd, rs1, offset } => Operands::Two(Register(rd), Place(offset, rs1)),
+        Instr::Branch { rs1, rs2, distance, .. } => Operands::Three(Register(rs1), Register(rs2), Target(distance)),
+        Instr::Load { rd, rs1, offset, .. } => Operands::Two(Register(rd), Place(offset, rs1)),
+        Instr::Store { rs2, rs1, offset, .. } => Operands::Two(Register(rs2), Place(offset, rs1)),
+        Instr::Immediate { rd, rs1, immediate, .. } => Operands::Three(Register(rd), Register(rs1), Signed(immediate)),
+        Instr::Shift { rd, rs1, amount, .. } => Operands::Three(Register(rd), Register(rs1), Unsigned(amount)),
+        Instr::Register { rd, rs1, rs2, .. } => Operands::Three(Register(rd), Register(rs1), Register(rs2)),
+        Instr::Fence { predecessor, successor } => Operands::Two(Accesses(predecessor), Accesses(successor)),
         Instr::Cache { rs1, .. } => Operands::One(Address(rs1)),
         Instr::LoadReserved { rd, rs1, .. } => Operands::Two(Register(rd), Address(rs1)),
-        Instr::Atomic { rd, rs1, rs2, .. } => {
-            Operands::Three(Register(rd), Register(rs2), Address(rs1))
-        }
+        Instr::Atomic { rd, rs1, rs2, .. } => Operands::Three(Register(rd), Register(rs2), Address(rs1)),
         Instr::FenceI | Instr::System { .. } => Operands::None,
     }
 }

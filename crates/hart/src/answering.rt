@@ -6,12 +6,11 @@ ghost use Rattle.hart.specs.Effect.{answered, takes, trap_of};
 ghost use Rattle.hart.specs.Memory.{atomic_result, atomic_width, load_result};
 
 use crate::accessing::width_of_atomic;
-use crate::arithmetic::low;
 use crate::need::{AccessFault, Reply};
 use crate::places::{go_on, write_to};
 use crate::state::{HartState, Status, Trap};
 use isa_table::{AtomicOp, AtomicWidth, Instr, LoadOp};
-use word_bits::sign_extend;
+use word_bits::{low_bits, sign_extend};
 
 /// The hart after the reply to the request of its instruction: it goes on, with the value that it asked for in a
 /// register, or traps where its access met a fault.
@@ -53,9 +52,9 @@ fn loaded(op: LoadOp, value: u64) -> u64
         LoadOp::Lh => sign_extend(value, 16),
         LoadOp::Lw => sign_extend(value, 32),
         LoadOp::Ld => value,
-        LoadOp::Lbu => low(value, 8),
-        LoadOp::Lhu => low(value, 16),
-        LoadOp::Lwu => low(value, 32),
+        LoadOp::Lbu => low_bits(value, 8),
+        LoadOp::Lhu => low_bits(value, 16),
+        LoadOp::Lwu => low_bits(value, 32),
     }
 }
 

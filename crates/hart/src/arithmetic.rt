@@ -19,7 +19,7 @@ ghost use Rattle.hart.specs.Arithmetic.{
 };
 
 use isa_table::{ImmediateOp, RegisterOp, ShiftOp};
-use word_bits::sign_extend;
+use word_bits::{low_bits, sign_extend};
 
 /// The operation that an immediate takes part in as a second register.
 pub(crate) fn operation_of_immediate(op: ImmediateOp) -> RegisterOp
@@ -100,7 +100,7 @@ fn logical_shift(a: u64, b: u64, bits: u32) -> u64
     requires { IsSize bits }
     ensures { result ≡ logical_shift_of bits a b }
 {
-    sign_extend(low(a, bits) >> (b % u64::from(bits)), bits)
+    sign_extend(low_bits(a, bits) >> (b % u64::from(bits)), bits)
 }
 
 fn arithmetic_shift(a: u64, b: u64, bits: u32) -> u64
@@ -123,7 +123,7 @@ pub(crate) fn is_below(a: u64, b: u64, bits: u32) -> bool
     requires { IsSize bits }
     ensures { result ≡ is_below_of bits a b }
 {
-    low(a, bits) < low(b, bits)
+    low_bits(a, bits) < low_bits(b, bits)
 }
 
 fn as_signed(value: u64, bits: u32) -> i64
@@ -131,16 +131,4 @@ fn as_signed(value: u64, bits: u32) -> i64
     ensures { result ≡ signed value bits }
 {
     sign_extend(value, bits).cast_signed()
-}
-
-/// The low bits of a value.
-pub(crate) fn low(value: u64, bits: u32) -> u64
-    requires { bits ≤ 64 }
-    ensures { result ≡ value % 2 ^ bits }
-{
-    if bits < 64 {
-        value % (1 << bits)
-    } else {
-        value
-    }
 }

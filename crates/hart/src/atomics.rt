@@ -7,8 +7,9 @@ ghost use Rattle.hart.specs.Arithmetic.{IsSize};
 ghost use Rattle.hart.specs.Memory.{amo_result as stored_by, combination_of};
 ghost use Rattle.hart.specs.Requests.{IsAtomicWidth};
 
-use crate::arithmetic::{is_below, is_less, low};
+use crate::arithmetic::{is_below, is_less};
 use isa_table::AtomicOp;
+use word_bits::low_bits;
 
 /// What an atomic operation on `width` bytes, 4 or 8, stores there: `old` is the number that the bytes spelled before,
 /// and `operand` the value of the register. Of SC it is what the instruction stores where it succeeds.
@@ -18,7 +19,7 @@ pub fn amo_result(op: AtomicOp, width: u32, old: u64, operand: u64) -> u64
     ensures fits { result < 2 ^ (8 * width) }
 {
     let bits = 8 * width;
-    low(combination(op, old, operand, bits), bits)
+    low_bits(combination(op, old, operand, bits), bits)
 }
 
 fn combination(op: AtomicOp, old: u64, operand: u64, bits: u32) -> u64

@@ -11,11 +11,8 @@ halves : (n : ℕ) → 1 ≤ n → 2 ^ n ≡ 2 * 2 ^ (n - 1)
 halves zero h = omega arith
 halves (suc n) h = let e : suc n - 1 ≡ n = omega arith in rw e (omega (arith, pow-succ' 2 n))
 
-pub power_fits : (n : ℕ) → n < 32 → 1 * 2 ^ n % 2 ^ 32 ≡ 2 ^ n
-power_fits n h = let e : 2 ^ n < 2 ^ 32 = pow_below n 32 h in omega arith
-
-pub power_below : (n : ℕ) → n < 31 → 1 * 2 ^ n % 2 ^ 32 < 2 ^ 31
-power_below n h = let e : 2 ^ n < 2 ^ 31 = pow_below n 31 h in omega arith
+pub power_below : (n : ℕ) → n < 31 → 2 ^ n < 2 ^ 31
+power_below n h = pow_below n 31 h
 
 pub signed_low : (x n : ℕ) → 1 ≤ n → x < 2 ^ (n - 1) → signed x n ≡ pos x
 signed_low x n s h =

@@ -16,6 +16,7 @@ use crate::instruction::{
 };
 use crate::keys;
 use crate::register::Reg;
+use word_bits::power_of_two;
 
 /// The canonical word of a checked instruction: the one that has zeros in the ignored fields.
 #[rattlefmt::skip]
@@ -254,7 +255,7 @@ fn system(op: SystemOp) -> u32
 }
 
 /// The low `n` bits of the two's complement form of `z`.
-#[tactic(auto, using(crate::proofs::Signs::signed_low, crate::proofs::Signs::signed_negative))]
+#[tactic(auto, using(crate::proofs::Signs::power_below, crate::proofs::Signs::signed_low, crate::proofs::Signs::signed_negative))]
 fn low_bits(z: i32, n: u32) -> u32
     requires bits { (1 ≤ n) × (n < 31) }
     requires fits { FitsBits n z }
@@ -262,18 +263,10 @@ fn low_bits(z: i32, n: u32) -> u32
     ensures below { result < 2 ^ n }
 {
     if z < 0 {
-        power_of_two(n) - z.unsigned_abs()
+        power_of_two(n) as u32 - z.unsigned_abs()
     } else {
         z as u32
     }
-}
-
-#[tactic(auto, using(crate::proofs::Signs::power_fits))]
-fn power_of_two(exponent: u32) -> u32
-    requires { exponent < 32 }
-    ensures { result ≡ 2 ^ exponent }
-{
-    1 << exponent
 }
 
 /// The word with a 12-bit number in the places of rs2 and funct7.

@@ -31,7 +31,8 @@ pub fn sign_extend(value: u64, bits: u32) -> u64
     }
 }
 
-fn low_bits(value: u64, bits: u32) -> u64
+/// The low `bits` bits of `value`, of which there are at most 64.
+pub fn low_bits(value: u64, bits: u32) -> u64
     requires { bits ≤ 64 }
     ensures { result ≡ value % 2 ^ bits }
 {
@@ -42,8 +43,9 @@ fn low_bits(value: u64, bits: u32) -> u64
     }
 }
 
+/// `2^exponent`, of an exponent below 64.
 #[tactic(auto, using(crate::proofs::Signs::power_fits))]
-fn power_of_two(exponent: u32) -> u64
+pub fn power_of_two(exponent: u32) -> u64
     requires { exponent < 64 }
     ensures value { result ≡ 2 ^ exponent }
     ensures some { 0 < result }
