@@ -1,5 +1,5 @@
 -- The superblock: a layout's magic, and the counts of inodes, pages and journals.
-use Rattle.std.specs.Prelude.{ℕ, ◌*◌, Bool, ◌&&◌, leb, eqb, List, [], Option, Some, None, codes, cond, length}
+use Rattle.std.specs.Prelude.{ℕ, ◌*◌, Bool, ◌&&◌, leb, eqb, List, Option, Some, None, codes, cond, length}
 use Rattle.std.specs.Option.{unwrap_or}
 use Rattle.std.specs.List.{starts_with}
 use Rattle.line_memory.specs.Lines.{line_at}

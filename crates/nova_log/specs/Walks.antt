@@ -1,6 +1,6 @@
 -- What a chain of positions is, step by step. Source: NOVA, FAST 2016: a log is followed from its head to its tail.
 use Rattle.std.specs.Prelude.{ℕ, suc, ◌≡◌, ◌≢◌, ◌+◌, ◌*◌, ◌<◌, ◌≤◌, true, List, [], ◌∷◌}
-use Rattle.nova_log.specs.Chains.{is_page, link_of, link_position}
+use Rattle.nova_log.specs.Chains.{is_page, link_of}
 use Rattle.nova_log.specs.declared.layout.Shape.{Shape}
 
 -- the position of line k of a page's lines: an entry, or after all entries the link

@@ -72,8 +72,8 @@ fn read_link<S: LineSource>(
         (link_fault geometry.now.pages more (line_at (S.medium source.old) (link_position geometry.now.shape page / 64))) ∷ [])
         fault (S.asked source.old) (S.asked source.new)) }
 {
-    let position = page + geometry.shape.entry_size * geometry.shape.page_entries;
-    let line = source.line((position / 64) as u32)?;
+    let position = link_position(&geometry.shape, page);
+    let line = source.line((position / LINE_SIZE as u64) as u32)?;
     next_page(&line, geometry.pages, more)
 }
 
@@ -129,13 +129,20 @@ fn count_before(shape: &Shape, page: u64, tail: u64) -> u64
     }
 }
 
+/// The position of a page's link line, after all of its entries.
+fn link_position(shape: &Shape, page: u64) -> u64
+    requires shape { IsShape shape.now }
+    requires page { page < 2 ^ 32 }
+    ensures { result ≡ link_position shape.now page }
+{
+    page + shape.entry_size * shape.page_entries
+}
+
 /// Whether a chain ends in this page.
 fn is_ended(shape: &Shape, page: u64, tail: u64) -> bool
     requires shape { IsShape shape.now }
     requires page { page < 2 ^ 32 }
     ensures { result ≡ ends_in shape.now tail page }
 {
-    page <= tail
-        && tail <= page + shape.entry_size * shape.page_entries
-        && (tail - page) % shape.entry_size == 0
+    page <= tail && tail <= link_position(shape, page) && (tail - page) % shape.entry_size == 0
 }

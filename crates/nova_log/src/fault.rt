@@ -8,7 +8,8 @@ use thiserror::Error;
 
 /// What recovery finds wrong first, the counts that no volume has, or want of memory.
 ///
-/// The message is the fault's code, N1 to N10. Recovery looks for N1 to N9 in the order of their codes.
+/// The message is the fault's code, N1 to N10. Recovery answers the first of N1 to N9 that it meets: in the superblock,
+/// in the journals upwards, in the inodes upwards, then in the logs, inode by inode.
 #[derive(Clone, Copy, Debug, PartialEq, Eq, Error)]
 pub enum VolumeFault {
     /// The first line begins with no layout's magic.

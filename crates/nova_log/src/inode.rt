@@ -13,7 +13,7 @@ ghost use Rattle.nova_log.specs.Superblocks.{IsGeometry};
 
 use crate::VolumeFault;
 use crate::journal::Restored;
-use crate::make::{FIRST_PAGE, PAGE_SIZE};
+use crate::limits::{FIRST_PAGE, PAGE_SIZE};
 use crate::source::{LineSource, push_item};
 use crate::superblock::Geometry;
 use line_memory::{LINE_SIZE, load_bytes};

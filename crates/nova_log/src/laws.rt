@@ -17,10 +17,13 @@ pub fn asked_lines_decide()
         (asked_lines other ≡ asked_lines lines) × (volume_of other ≡ volume_of lines) }
 {}
 
-/// The chain of a log whose links have no fault is a walk from the head to the tail, step by step, that enters at most so many
-/// pages, counting those that it enters again.
+/// The links of a log have no fault just where there is a walk from the head to the tail, step by step, that enters at most so many
+/// pages, counting those that it enters again; and what the walk comes to is the chain.
 pub fn chains_are_walks()
-    ensures { (shape : Shape) (pages : ℕ) (lines : List (List ℕ)) (tail more head : ℕ) → 1 ≤ shape.entry_size →
+    ensures walk { (shape : Shape) (pages : ℕ) (lines : List (List ℕ)) (tail more head : ℕ) → 1 ≤ shape.entry_size →
         first_fault (link_questions shape pages lines tail (more + 1) head) ≡ None →
         IsWalk shape pages lines tail more head 0 (chain shape lines tail (more + 1) head) }
+    ensures only { (shape : Shape) (pages : ℕ) (lines : List (List ℕ)) (tail more head : ℕ) (entries : List ℕ) → 1 ≤ shape.entry_size →
+        IsWalk shape pages lines tail more head 0 entries →
+        (first_fault (link_questions shape pages lines tail (more + 1) head) ≡ None) × (entries ≡ chain shape lines tail (more + 1) head) }
 {}

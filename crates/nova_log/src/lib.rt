@@ -6,6 +6,7 @@
 pub use fault::VolumeFault;
 pub use laws::{asked_lines_decide, chains_are_walks};
 pub use layout::{Layout, Shape};
+pub use limits::{MAX_INODES, MAX_JOURNALS, MAX_PAGES};
 pub use make::mkfs;
 pub use recovery::{recover, recover_from};
 pub use source::{LineSource, MediumLines};
@@ -17,6 +18,7 @@ mod inode;
 mod journal;
 mod laws;
 mod layout;
+mod limits;
 mod make;
 mod recovery;
 mod source;

@@ -5,21 +5,11 @@ ghost use Rattle.line_memory.specs.Lines.{IsMedium, zero_lines};
 ghost use Rattle.nova_log.specs.Fresh.{HasInodes, IsFresh, inode_line, superblock_line};
 ghost use Rattle.nova_log.specs.Layouts.{AreCounts, page_at};
 
+use crate::limits::{FIRST_PAGE, MAX_INODES, MAX_JOURNALS, MAX_PAGES, PAGE_SIZE};
 use crate::{Layout, VolumeFault};
 use line_memory::{LINE_SIZE, MAX_LINES, MIN_LINES, Medium, store_bytes};
 use std::alloc::Global;
 use word_bits::replace_bytes;
-
-/// The offset of the first page, in bytes from the start of the medium.
-pub(crate) const FIRST_PAGE: u64 = 16_384;
-/// The bytes of a page.
-pub(crate) const PAGE_SIZE: u64 = 4096;
-/// The most inodes of a volume.
-pub(crate) const MAX_INODES: u64 = 64;
-/// The most pages of a volume.
-pub(crate) const MAX_PAGES: u64 = 240;
-/// The most journals of a volume.
-pub(crate) const MAX_JOURNALS: u64 = 8;
 
 /// A medium of `lines` lines with a new volume: superblock, inode n with page n, and no entry and no record.
 ///
@@ -51,9 +41,9 @@ pub fn mkfs(
 pub(crate) fn are_counts(inodes: u64, pages: u64, journals: u64, lines: u32) -> bool
     ensures { IsTrue result ↔ AreCounts inodes pages journals lines }
 {
-    (1..=MAX_INODES).contains(&inodes)
-        && (inodes..=MAX_PAGES).contains(&pages)
-        && (1..=MAX_JOURNALS).contains(&journals)
+    (1..=MAX_INODES as u64).contains(&inodes)
+        && (inodes..=MAX_PAGES as u64).contains(&pages)
+        && (1..=MAX_JOURNALS as u64).contains(&journals)
         && (MIN_LINES..=MAX_LINES).contains(&lines)
         && FIRST_PAGE + PAGE_SIZE * pages <= LINE_SIZE as u64 * lines as u64
 }

@@ -10,14 +10,8 @@ use crate::lines::uncommented;
 use crate::numbers::{count_line, layout_line};
 use crate::plan::Plan;
 use crate::words::is_blank;
-use nova_log::Layout;
+use nova_log::{Layout, MAX_INODES, MAX_JOURNALS, MAX_PAGES};
 use std::alloc::Global;
-
-const MAX_INODES: u32 = 64;
-
-const MAX_PAGES: u32 = 240;
-
-const MAX_JOURNALS: u32 = 8;
 
 /// What the lines so far give.
 #[derive(Drop)]
