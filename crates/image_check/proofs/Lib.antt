@@ -1,4 +1,5 @@
 mod Apart
+mod Beginning
 mod Faulting
 mod Growing
 mod Judging

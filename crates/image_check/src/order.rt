@@ -15,7 +15,7 @@ use store_trace::{Event, Trace};
 
 /// Whether the marks of the trace fit the plan and each other. Else it answers the first event at fault by its lowest
 /// fault. It takes no memory, and looks back over the trace at each mark.
-#[tactic(auto, using(crate::proofs::Faulting::sound_more, crate::proofs::Faulting::first_fault))]
+#[tactic(auto, using(crate::proofs::Faulting::sound_more, crate::proofs::Faulting::first_fault, crate::proofs::Beginning::sound_front))]
 pub fn check_trace(plan: &Plan, trace: &Trace) -> Result<(), OpFault>
     ensures ok { OnOk result (AreSound plan.now.operations trace.now.events (length trace.now.events)) }
     ensures err { IfErr result (λ fault. IsFirstFault plan.now.operations trace.now.events fault) }
@@ -27,23 +27,25 @@ pub fn check_trace(plan: &Plan, trace: &Trace) -> Result<(), OpFault>
     Ok(())
 }
 
-/// Whether the event fits the plan and the events before it.
+/// Whether the event fits the plan and the events before it, which fit.
 #[tactic(auto, using(crate::proofs::Faulting::store_faultless, crate::proofs::Faulting::clean_faultless, crate::proofs::Faulting::fence_faultless))]
 fn check_event(plan: &Plan, before: &[Event], event: Event) -> Result<(), OpFault>
+    requires sound { AreSound plan.now.operations before.now (length before.now) }
     ensures ok { OnOk result ((fault : AFault) → ¬ HasFault plan.now.operations before.now event fault) }
     ensures err { IfErr result (λ fault. IsLowestFault plan.now.operations before.now event fault) }
 {
     match event {
-        Event::Begin { hart, op } => check_begin(plan, before, hart, op),
+        Event::Begin { op, .. } => check_begin(plan, before, op),
         Event::End { hart, op } => check_end(plan, before, hart, op),
         Event::Store { .. } | Event::Clean { .. } | Event::Fence { .. } => Ok(()),
     }
 }
 
 #[tactic(auto, using(crate::proofs::Planning::found_planned, crate::proofs::Planning::lost_unplanned, crate::proofs::Faulting::begin_unknown, crate::proofs::Faulting::begin_twice, crate::proofs::Faulting::begin_sharing, crate::proofs::Faulting::begin_faultless))]
-fn check_begin(plan: &Plan, before: &[Event], _hart: u32, op: u64) -> Result<(), OpFault>
-    ensures ok { OnOk result ((fault : AFault) → ¬ HasFault plan.now.operations before.now (Event.Begin _hart op) fault) }
-    ensures err { IfErr result (λ fault. IsLowestFault plan.now.operations before.now (Event.Begin _hart op) fault) }
+fn check_begin(plan: &Plan, before: &[Event], op: u64) -> Result<(), OpFault>
+    requires sound { AreSound plan.now.operations before.now (length before.now) }
+    ensures ok { OnOk result ((hart : ℕ) (fault : AFault) → ¬ HasFault plan.now.operations before.now (Event.Begin hart op) fault) }
+    ensures err { IfErr result (λ fault. (hart : ℕ) → IsLowestFault plan.now.operations before.now (Event.Begin hart op) fault) }
 {
     let Some(operation) = find_operation(plan, op) else {
         return Err(OpFault::Unknown);
@@ -74,21 +76,21 @@ fn check_end(plan: &Plan, before: &[Event], hart: u32, op: u64) -> Result<(), Op
     Ok(())
 }
 
-/// Whether an operation that is pending after the events adds to an inode of this one.
-#[tactic(auto, using(crate::proofs::Sharing::shared_here, crate::proofs::Sharing::all_shared))]
+/// Whether an operation that is pending after the events, which fit, adds to an inode of this one. It ends after it begins.
 fn shares_pending(plan: &Plan, before: &[Event], op: u64, operation: &Operation) -> bool
-    requires { operation_of plan.now.operations op ≡ Some operation.now }
+    requires found { operation_of plan.now.operations op ≡ Some operation.now }
+    requires sound { AreSound plan.now.operations before.now (length before.now) }
     ensures { IsTrue result ↔ ((other : ℕ) × Contains (pending before.now) other × ShareInode plan.now.operations other op) }
 {
-    for event in before {
-        if opens_sharer(plan, before, *event, op, operation) {
+    for index in 0..before.len() {
+        if opens_sharer(plan, &before[index..], before[index], op, operation) {
             return true;
         }
     }
     false
 }
 
-/// Whether the event begins an operation that doesn't end, and that adds to an inode of this one.
+/// Whether the event begins an operation that doesn't end in these events, and that adds to an inode of this one.
 #[tactic(auto, using(crate::proofs::Sharing::sharer_shares, crate::proofs::Sharing::shares_sharer, crate::proofs::Sharing::ended_shares_not, crate::proofs::Sharing::other_shares_not, crate::proofs::Sharing::unplanned_shares_not))]
 fn opens_sharer(plan: &Plan, events: &[Event], event: Event, op: u64, operation: &Operation) -> bool
     requires { operation_of plan.now.operations op ≡ Some operation.now }
