@@ -291,7 +291,8 @@ stops_recording c lines old new items stop r same h =
           new = new.machine;
           stands = at_start c old r;
           lines = ap (λ (l : List (List ℕ)). length l) same;
-          stops = record { item = h.item; steps = h.steps; runs = h.continues.runs; refused = refused };
+          few = refused.0;
+          stops = record { item = h.item; steps = h.steps; runs = h.continues.runs; refused = refused.1 };
         })
       ];
     }

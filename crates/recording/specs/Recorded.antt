@@ -1,5 +1,5 @@
 -- What is kept of a run: from where, by which schedule and to where it went, and which hart step made each event.
-use Rattle.std.specs.Prelude.{◌≡◌, ◌⊎◌, ℕ, ◌+◌, ◌<◌, List, ◌∷◌, ◌++◌, All, length, slice_get, Some}
+use Rattle.std.specs.Prelude.{◌≡◌, ◌⊎◌, ℕ, ◌+◌, ◌<◌, ◌≤◌, List, ◌∷◌, ◌++◌, All, length, slice_get, Some}
 use Rattle.hart.specs.declared.state.HartState.{HartState}
 use Rattle.schedule.specs.Steps.{all_steps}
 use Rattle.schedule.specs.declared.items.Item.{Item}
@@ -9,7 +9,7 @@ use Rattle.store_trace.specs.declared.event.Event.{Event}
 use Rattle.machine.specs.Evicting.{hart_steps}
 use Rattle.machine.specs.Run.{Config, RunsTo, StepsTo}
 use Rattle.machine.specs.Stands.{MachineView, Stands}
-use Rattle.machine.specs.Stops.{StopsAt, steps_before}
+use Rattle.machine.specs.Stops.{StopsAt, steps_before, steps_of_item}
 use Rattle.machine.specs.declared.fault.RunStop.{RunStop}
 use Rattle.shared_memory.specs.declared.fault.StepFault.TheVariants.{Memory}
 
@@ -66,12 +66,13 @@ pub record Records (c : Config) (recorded : RecordedView) : Type 0 where
   pub left : IsLeftAt end recorded.capacity recorded.left
 
 -- a machine at the start c, with this number of lines, stops in the schedule: the steps before the stop are carried
--- out, and the next one is refused
+-- out, by 65,536 events at most, and the next one is refused
 pub record IsRefused (c : Config) (count : ℕ) (items : List Item) (stop : RunStop) : Type 0 where
   pub old : MachineView
   pub new : MachineView
   pub stands : Stands old c
   pub lines : length old.shared.cache.lines ≡ count
+  pub few : length new.shared.trace ≤ 65536
   pub stops : StopsAt old new items stop
 
 -- a run from c is recorded up to the stop, and no further: memory was refused, or the machine refuses the next step
@@ -79,3 +80,8 @@ pub record StopsRecording (c : Config) (lines : ℕ) (items : List Item) (stop :
   pub reached : Config
   pub runs : RunsTo c (steps_before items stop.item stop.steps) reached
   pub reason : (stop.fault ≡ Memory) ⊎ IsRefused c lines items stop
+
+-- a stop is before the first step, or before one of the schedule's
+abbrev pub IsAtStep : List Item → RunStop → Type 0
+IsAtStep items stop = ((stop.item ≡ 0) × (stop.steps ≡ 0))
+    ⊎ ((stop.item < length items) × (stop.steps < length (steps_of_item (slice_get items stop.item))))

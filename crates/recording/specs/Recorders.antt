@@ -1,5 +1,5 @@
 -- A recorder: a machine that makes the steps of a schedule, and what it has recorded of them so far.
-use Rattle.std.specs.Prelude.{◌≡◌, ◌⊎◌, ◌<◌, ℕ, List, ◌++◌, Option, length, slice_get, take}
+use Rattle.std.specs.Prelude.{◌≡◌, ◌⊎◌, ◌<◌, ◌≤◌, ℕ, List, ◌++◌, Option, length, slice_get, take}
 use Rattle.schedule.specs.declared.items.Item.{Item}
 use Rattle.schedule.specs.declared.items.Step.{Step}
 use Rattle.machine.specs.Evicting.{hart_steps}
@@ -33,9 +33,9 @@ pub record Continues (old new : RecorderView) (steps : List Step) : Type 0 where
   pub runs : Runs old.machine new.machine steps
   pub records : (c : Config) (past : List Step) → HasRecorded c past old → HasRecorded c (past ++ steps) new
 
--- it goes no further: memory was refused, or the machine refuses the next step
+-- it goes no further: memory was refused, or the machine, with 65,536 events at most, refuses the next step
 abbrev pub IsHeld : MachineView → Option Step → StepFault → Type 0
-IsHeld machine next fault = (fault ≡ Memory) ⊎ RefusesNext machine next fault
+IsHeld machine next fault = (fault ≡ Memory) ⊎ ((length machine.shared.trace ≤ 65536) × RefusesNext machine next fault)
 
 -- of a list of steps it has recorded as many as `made`, and goes no further
 pub record HoldsAfter (old new : RecorderView) (steps : List Step) (made : ℕ) (fault : StepFault) : Type 0 where

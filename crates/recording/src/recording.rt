@@ -2,7 +2,7 @@
 
 ghost use Rattle.machine.specs.Run.{started};
 ghost use Rattle.machine.specs.Stands.{Stands};
-ghost use Rattle.recording.specs.Recorded.{Records, StopsRecording};
+ghost use Rattle.recording.specs.Recorded.{IsAtStep, Records, StopsRecording};
 ghost use Rattle.recording.specs.Recorders.{HasRecorded};
 ghost use Rattle.schedule.specs.Grammar.{hart_steps as count_of_hart_steps};
 ghost use Rattle.std.specs.Prelude.{◌≡◌, ◌^◌, ◌<◌, ◌≤◌, ◌⊎◌, [], IfErr, IfOk, length};
@@ -40,6 +40,7 @@ pub fn record(
         result ≡ Err (record { item = 0; steps = 0; fault = StepFault.OutOfLimits }) }
     ensures err { IfErr result (λ stop. (1 ≤ harts) × (harts ≤ 8) → (1 ≤ capacity) × (capacity ≤ 16384) →
         StopsRecording (started program medium harts) (length medium) schedule.now stop) }
+    ensures place { IfErr result (IsAtStep schedule.now) }
 {
     let mut recorder = match prepare(alloc, program, &medium, harts, capacity) {
         Ok(recorder) => recorder,

@@ -60,6 +60,7 @@ has_trace s schedule recorded is =
       end = is.records.end;
       run = rw is.items at is.records.runs;
       trace_is = is.records.trace;
+      few = is.few;
     }
 
 pub explains_image : (s : Setup) (schedule : List Item) (moment number : ℕ) (recorded : RecordedView) (cut : List (ℕ × ℕ))

@@ -34,8 +34,9 @@ pub are_there : (s : Setup) (machine : MachineView) (steps : List Step) → Stan
 are_there s machine steps stands lines there =
     all_among machine s.harts (length s.medium) steps (sym (harts_of s machine stands)) (sym lines) there
 
-has_made : (s : Setup) (steps : List Step) (old new : MachineView) → IsAtStart s old → Runs old new steps → HasMade s steps new
-has_made s steps old new at runs =
+has_made : (s : Setup) (steps : List Step) (old new : MachineView) → IsAtStart s old → Runs old new steps
+    → length new.shared.trace ≤ 65536 → HasMade s steps new
+has_made s steps old new at runs few =
     let made = runs.stands (start_of s) at.stands in
     record {
       within = at.within;
@@ -44,18 +45,20 @@ has_made s steps old new at runs =
       run = made.1;
       stands = made.2;
       lines = runs.lines ∙ ap length at.lines;
+      few = few;
     }
 
-pub has_run : (s : Setup) (schedule : List Item) (old new : MachineView) → IsAtStart s old → Runs old new (all_steps schedule) → HasRun s schedule new
-has_run s schedule old new at runs =
-    record { has_made = has_made s (all_steps schedule) old new at runs; capacity = runs.capacity ∙ at.capacity }
+pub has_run : (s : Setup) (schedule : List Item) (old new : MachineView) → IsAtStart s old → Runs old new (all_steps schedule)
+    → length new.shared.trace ≤ 65536 → HasRun s schedule new
+has_run s schedule old new at runs few =
+    record { has_made = has_made s (all_steps schedule) old new at runs few; capacity = runs.capacity ∙ at.capacity }
 
 pub stops_at : (s : Setup) (schedule : List Item) (old new : MachineView) (stop : RunStop) → IsAtStart s old
-    → StopsAt old new schedule stop → FailsToRun s schedule stop.fault
-stops_at s schedule old new stop at stops = inr (inr (record {
+    → StopsAt old new schedule stop → length new.shared.trace ≤ 65536 → FailsToRun s schedule stop.fault
+stops_at s schedule old new stop at stops few = inr (inr (record {
   machine = new;
   item = stop.item;
   steps = stop.steps;
-  has_made = has_made s _ old new at stops.runs;
+  has_made = has_made s _ old new at stops.runs few;
   refused = stops.refused;
 }))

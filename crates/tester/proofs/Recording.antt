@@ -30,6 +30,7 @@ refuses_step s schedule stop within stops =
         run = made.1;
         stands = made.2;
         lines = stops.stops.runs.lines ∙ stops.lines;
+        few = stops.few;
       };
       refused = stops.stops.refused;
     }

@@ -35,12 +35,13 @@ LacksImage trace moment number NoSuchImage = (moment ≤ length trace)
     × ((65536 < cut_count (at_moment trace moment)) ⊎ (cut_count (at_moment trace moment) ≤ number))
 LacksImage trace moment number Memory = Unit {0}
 
--- the run by a schedule, recorded
+-- the run by a schedule, recorded: 65,536 events at most
 pub record IsRecorded (s : Setup) (schedule : List Item) (recorded : RecordedView) : Type 0 where
   pub within : IsWithin s
   pub records : Records (start_of s) recorded
   pub start : recorded.start ≡ s.medium
   pub items : recorded.items ≡ schedule
+  pub few : length recorded.trace ≤ 65536
 
 -- Where a run from the start has come to `end`, and the cache had room for every line that was loaded or stored, a power
 -- cut leaves these lines.

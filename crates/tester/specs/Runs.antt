@@ -63,7 +63,7 @@ FailsToStart s fault = (fault ≡ Memory) ⊎ IsOutside s fault
 abbrev pub AreThere : Setup → List Step → Type 0
 AreThere s steps = All (IsAmong s.harts (length s.medium)) steps
 
--- a machine that stands for what these steps, each of which is there, make of the start
+-- a machine that stands for what these steps, each of which is there, make of the start: 65,536 events at most
 pub record HasMade (s : Setup) (steps : List Step) (machine : MachineView) : Type 0 where
   pub within : IsWithin s
   pub there : AreThere s steps
@@ -71,19 +71,21 @@ pub record HasMade (s : Setup) (steps : List Step) (machine : MachineView) : Typ
   pub run : RunsTo (start_of s) steps end
   pub stands : Stands machine end
   pub lines : length machine.shared.cache.lines ≡ length s.medium
+  pub few : length machine.shared.trace ≤ 65536
 
 -- the machine of a setup that has carried out a schedule
 pub record HasRun (s : Setup) (schedule : List Item) (machine : MachineView) : Type 0 where
   pub has_made : HasMade s (all_steps schedule) machine
   pub capacity : machine.shared.cache.cache.capacity ≡ s.capacity
 
--- the events of the run by a schedule, each step of which is there
+-- the events of the run by a schedule, each step of which is there: 65,536 at most
 pub record HasTrace (s : Setup) (schedule : List Item) (trace : List Event) : Type 0 where
   pub within : IsWithin s
   pub there : AreThere s (all_steps schedule)
   pub end : Config
   pub run : RunsTo (start_of s) (all_steps schedule) end
   pub trace_is : trace ≡ end.common.trace
+  pub few : length trace ≤ 65536
 
 -- a machine that has made the steps before one of the schedule's refuses that step, for this reason
 pub record RefusesStep (s : Setup) (schedule : List Item) (fault : StepFault) : Type 0 where

@@ -34,7 +34,9 @@ pub fn run_program(
     ensures err { IfErr result (FailsInRounds (setup program medium harts capacity) steps) }
 {
     let mut machine = start_program(alloc, program, medium, harts, capacity)?;
-    match run_rounds(alloc, &mut machine, steps) {
+    let ended = run_rounds(alloc, &mut machine, steps);
+    prove!(machine.events().len() <= 65_536);
+    match ended {
         Ok(schedule) => Ok((machine, schedule)),
         Err(RoundFault::TraceFull) => Err(StepFault::TraceFull),
         Err(RoundFault::Memory) => Err(StepFault::Memory),
@@ -59,10 +61,12 @@ pub fn replay(
     ensures err { IfErr result (FailsToRun (setup program medium harts capacity) schedule.now) }
 {
     let mut machine = start_program(alloc, program, medium, harts, capacity)?;
-    if let Err(stop) = machine.run(schedule) {
-        return Err(stop.fault);
+    let ended = machine.run(schedule);
+    prove!(machine.events().len() <= 65_536);
+    match ended {
+        Ok(()) => Ok(machine),
+        Err(stop) => Err(stop.fault),
     }
-    Ok(machine)
 }
 
 /// A machine of one to eight harts that has made no step of a program, over the medium behind an empty cache of 1 to
