@@ -21,7 +21,7 @@ new_debugger debugger machine same none =
 pub broken_off : (old new : DebuggerView) (input input' output output' : Option (List ℕ)) (failures failures' : ℕ) (fault : DebugFault)
     → Fails old new input input' output output' failures failures' fault → IsBrokenOff old new input input' output output' fault
 broken_off old new input input' output output' failures failures' faults.Memory fails = fails
-broken_off old new input input' output output' failures failures' faults.InputOutput fails = (fails.0, fails.1)
+broken_off old new input input' output output' failures failures' faults.InputOutput fails = (fails.0, fails.1, fails.2, fails.3)
 broken_off old new input input' output output' failures failures' faults.Command fails = absurd fails
 broken_off old new input input' output output' failures failures' faults.Address fails = absurd fails
 broken_off old new input input' output output' failures failures' faults.PointsFull fails = absurd fails

@@ -1,3 +1,4 @@
 mod Held
 mod Kept
 mod Loops
+pub mod Written

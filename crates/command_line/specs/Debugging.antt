@@ -1,5 +1,5 @@
 -- What `debug` comes to: the machine that a session is held on, and the session.
-use Rattle.std.specs.Prelude.{◌≡◌, ℕ, List, [], Option, Result, MatchResult, option_map, string_bytes}
+use Rattle.std.specs.Prelude.{◌≡◌, ◌++◌, ℕ, List, [], Option, Result, MatchResult, option_map, string_bytes}
 use Rattle.std.specs.Io.KnownBytes.{Appends}
 use Rattle.std.specs.Result.{result_map_both}
 use Rattle.arguments.specs.declared.asked.DebugCommand.{DebugCommand}
@@ -31,12 +31,14 @@ abbrev pub debugger_of : MachineView → DebuggerView
 debugger_of machine = record { machine = machine; points = [] }
 
 -- a session that was broken off by this fault, by what was known of standard input and of standard output before and after
--- it: memory was refused, or a read or a write failed, which may have written some bytes more
+-- it: memory was refused, and the answers alone were written, or a read or a write failed, and behind the answers there may be
+-- a part of the one that wasn't written to its end
 abbrev pub IsBrokenOff : DebuggerView → DebuggerView → Option (List ℕ) → Option (List ℕ) → Option (List ℕ) → Option (List ℕ)
     → DebugFault → Type 0
 IsBrokenOff old new input input' output output' Memory =
-    (answered : List ℕ) × BreaksOff old new input input' answered × Appends output output' answered
-IsBrokenOff old new input input' output output' InputOutput = (answered : List ℕ) × BreaksOff old new input input' answered
+    (answered : List ℕ) × BreaksOff old new input input' answered [] × Appends output output' answered
+IsBrokenOff old new input input' output output' InputOutput =
+    (answered part : List ℕ) × BreaksOff old new input input' answered part × Appends output output' (answered ++ part)
 IsBrokenOff old new input input' output output' fault = ⊥
 
 -- a session on a machine that has made no step; the status of one that ended well is 0

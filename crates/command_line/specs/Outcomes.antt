@@ -7,6 +7,7 @@ use Rattle.arguments.specs.declared.asked.Command.{Command}
 use Rattle.arguments.specs.declared.asked.Command.TheVariants.{Assemble, Check, Debug, Explain, Images, MakeVolume, Replay, Run}
 use Rattle.arguments.specs.declared.asked.LineFault.{LineFault}
 use Rattle.arguments.specs.declared.asked.LineFault.TheVariants as line_faults
+use Rattle.session.specs.Failing.{AppendsFront}
 use Rattle.command_line.specs.Assembling.{AssemblesFile}
 use Rattle.command_line.specs.Checking.{ChecksFile}
 use Rattle.command_line.specs.Debugging.{HoldsSession, OpensFile}
@@ -61,11 +62,12 @@ abbrev pub ComesTo : {F : Type 0} → Reads F → Writes F → List (List ℕ) �
 ComesTo reads writes words old new outcome = ((command : Command) × IsCarriedOut reads writes words old new outcome command)
     ⊎ ((fault : LineFault) × IsTurnedAway words old new outcome fault)
 
--- an answer goes to standard output, and its status is the program's, or else standard output couldn't be written.
+-- an answer goes to standard output, and its status is the program's, or else standard output couldn't be written, and holds a
+-- front of the answer.
 -- `contents` is what is known of the bytes that a writer holds
 abbrev pub IsPrinted : {W : Type 0} → (W → Option (List ℕ)) → W → W → Answer → Result ℕ Failure → Type 0
 IsPrinted contents old new answer (Ok status) = (status ≡ answer.status) × Appends (contents old) (contents new) (string_bytes answer.text)
-IsPrinted contents old new answer (Err failure) = failure ≡ File
+IsPrinted contents old new answer (Err failure) = (failure ≡ File) × AppendsFront (contents old) (contents new) (string_bytes answer.text)
 
 -- what is done on standard input and standard output, a pair: an answer is printed, or a session is held; nothing else
 -- reads standard input, and a failure of a command leaves both as they are. `remaining` is what is known of the bytes that a

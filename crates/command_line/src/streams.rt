@@ -1,10 +1,10 @@
 //! The standard streams as a session reads and writes them.
 
-ghost use Rattle.std.specs.Prelude.{◌≤◌, IfOk, OnOk, length};
+ghost use Rattle.std.specs.Prelude.{◌≤◌, IfOk, OnErr, OnOk, length};
+ghost use Rattle.session.specs.Failing.{AppendsFront};
 ghost use Rattle.std.specs.Io.KnownBytes.{Appends, ReadConsumes};
 
 use session::{Failed, Sink, Source};
-use std::io;
 use std::io::{ErrorKind, Read, Write};
 
 /// Standard input, and how many of its reads have failed.
@@ -53,9 +53,9 @@ impl<W: Write> Sink for StandardOutput<'_, W> {
     fn write(&mut self, bytes: &[u8]) -> Result<(), Failed> {
         match print(bytes, self.output) {
             Ok(()) => Ok(()),
-            Err(_) => {
+            Err(failed) => {
                 self.failures = self.failures.saturating_add(1);
-                Err(Failed)
+                Err(failed)
             }
         }
     }
@@ -81,10 +81,36 @@ fn read_uninterrupted<R: Read>(input: &mut R, buffer: &mut [u8]) -> Result<usize
     Err(Failed)
 }
 
-/// Writes all of a text, and flushes it.
-pub(crate) fn print<W: Write>(text: &[u8], output: &mut W) -> io::Result<()>
-    ensures { OnOk result (Appends (W.contents output.old) (W.contents output.new) text.now) }
+/// Writes all of a text, and flushes it. Where it fails, it may have written a front of the text.
+#[tactic(auto, using(crate::proofs::Written::front_all, crate::proofs::Written::part_kept))]
+pub(crate) fn print<W: Write>(text: &[u8], output: &mut W) -> Result<(), Failed>
+    ensures ok { OnOk result (Appends (W.contents output.old) (W.contents output.new) text.now) }
+    ensures front { OnErr result (AppendsFront (W.contents output.old) (W.contents output.new) text.now) }
 {
-    output.write_all(text)?;
-    output.flush()
+    write_uninterrupted(text, output)?;
+    match output.flush() {
+        Ok(()) => Ok(()),
+        Err(_) => Err(Failed),
+    }
+}
+
+/// Writes all of a text. A write that a signal interrupts is made again.
+#[tactic(auto, using(crate::proofs::Written::part_none, crate::proofs::Written::part_more, crate::proofs::Written::part_kept, crate::proofs::Written::part_all, crate::proofs::Written::front_of))]
+fn write_uninterrupted<W: Write>(text: &[u8], output: &mut W) -> Result<(), Failed>
+    ensures ok { OnOk result (Appends (W.contents output.old) (W.contents output.new) text.now) }
+    ensures front { OnErr result (AppendsFront (W.contents output.old) (W.contents output.new) text.now) }
+{
+    let mut written = 0;
+    for _ in 0..u64::MAX {
+        if written == text.len() {
+            return Ok(());
+        }
+        match output.write(&text[written..]) {
+            Ok(0) => return Err(Failed),
+            Ok(count) => written += count,
+            Err(error) if error.kind() == ErrorKind::Interrupted => {}
+            Err(_) => return Err(Failed),
+        }
+    }
+    Err(Failed)
 }

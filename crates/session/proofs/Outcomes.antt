@@ -1,13 +1,14 @@
 -- How lines come out, and how they are answered.
-use Rattle.std.proofs.Common.{◌≡◌, ◌≢◌, ◌∙◌, inl, inr, ℕ, List, [], Bool, true, Option, Some, None, Result, Ok, Err, IfOk, MatchResult, OnOk, ap, refl}
+use Rattle.std.proofs.Common.{◌≡◌, ◌≢◌, ◌∙◌, inl, inr, ℕ, List, [], Bool, true, Option, Some, None, Result, Ok, Err, IfErr, IfOk, MatchResult, OnOk, ap, refl}
 use Rattle.std.specs.Io.KnownBytes.{Appends}
 use Rattle.debugger.specs.declared.fault.DebugFault.{DebugFault}
 use Rattle.debugger.specs.declared.fault.DebugFault.TheVariants as faults
 use Rattle.session.specs.Answers.{fault_text, outcome_text}
 use Rattle.session.specs.Doing.{Does, SessionState}
+use Rattle.session.specs.Failing.{AppendsFront, FailsBy}
 use Rattle.session.specs.Grammar.{OnAsked, Says, meant}
 use Rattle.session.specs.Reading.{IsHeld}
-use Rattle.session.specs.Turns.{CarriesOut, ComesOut, GoesOn, IsAnswered, LineOutcome}
+use Rattle.session.specs.Turns.{CarriesOut, ComesOut, GoesOn, IsAnswered, LacksAnswer, LineOutcome}
 use Rattle.session.specs.Words.{words}
 use Rattle.session.specs.declared.carrying.Answer.{Answer}
 use Rattle.session.specs.declared.carrying.Answer.TheVariants as answers
@@ -82,3 +83,42 @@ says_fault bytes old new kind held fault text (Err why) s t other is on appends 
 says_fault bytes old new kind held fault (Err why) (Ok goes_on) s t other is on appends out = absurd appends
 says_fault bytes old new kind held fault (Ok said) (Ok goes_on) s t other is on appends out =
     λ whole h. answered_refused old new whole (bytes said) fault goes_on s t on other is appends (out whole h)
+
+-- want of memory leaves nothing of an answer
+pub lacks_all : (old new : SessionState) (line : List ℕ) (outcome : LineOutcome) (s t : Option (List ℕ)) (fault : DebugFault) → t ≡ s
+    → ComesOut old new line outcome → LacksAnswer old new line s t fault
+lacks_all old new line outcome s t fault same out = record {
+  outcome = outcome;
+  part = [];
+  comes_out = out;
+  begun = (outcome_text new.debugger.machine outcome, refl);
+  writes = rw same (appends_none s);
+  none = λ want. refl;
+}
+
+-- a failed write leaves a front of what was to be said
+lacks_rest : (old new : SessionState) (line text : List ℕ) (outcome : LineOutcome) (s t : Option (List ℕ)) → text ≡ outcome_text new.debugger.machine outcome
+    → AppendsFront s t text → ComesOut old new line outcome → LacksAnswer old new line s t faults.InputOutput
+lacks_rest old new line text outcome s t is begins out = record {
+  outcome = outcome;
+  part = begins.front;
+  comes_out = out;
+  begun = rw is at begins.begins;
+  writes = begins.writes;
+  none = λ want. absurd (cc);
+}
+
+-- an answer that isn't written
+pub says_part : {A E : Type 0} (bytes : A → List ℕ) (old new : SessionState) (kind : Line) (held : List ℕ) (outcome : LineOutcome) (text : Result A E)
+    (result : Result Bool DebugFault) (s t : Option (List ℕ)) (a b : ℕ) → IfOk text (λ said. bytes said ≡ outcome_text new.debugger.machine outcome)
+    → IfErr result (λ fault. fault ≡ faults.Memory → t ≡ s)
+    → IfErr result (λ fault. fault ≡ faults.InputOutput → MatchResult text (λ said. AppendsFront s t (bytes said)) (λ _. ⊥))
+    → IfErr result (FailsBy a b) → ((whole : List ℕ) → IsHeld kind held whole → ComesOut old new whole outcome)
+    → IfErr result (λ fault. (whole : List ℕ) → IsHeld kind held whole → LacksAnswer old new whole s t fault)
+says_part bytes old new kind held outcome text (Ok goes_on) s t a b is unwritten front by out = tt
+says_part bytes old new kind held outcome text (Err faults.Memory) s t a b is unwritten front by out =
+    λ whole h. lacks_all old new whole outcome s t faults.Memory (unwritten refl) (out whole h)
+says_part bytes old new kind held outcome (Err why) (Err faults.InputOutput) s t a b is unwritten front by out = absurd (front refl)
+says_part bytes old new kind held outcome (Ok said) (Err faults.InputOutput) s t a b is unwritten front by out =
+    λ whole h. lacks_rest old new whole (bytes said) outcome s t is (front refl) (out whole h)
+says_part bytes old new kind held outcome text (Err fault) s t a b is unwritten front by out = absurd by

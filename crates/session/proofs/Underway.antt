@@ -9,7 +9,7 @@ use Rattle.session.specs.Doing.{SessionState}
 use Rattle.session.specs.Failing.{EndsBy, FailsBy}
 use Rattle.session.specs.Reading.{IsHeld, IsOver, OverIf, ReadsLine, Takes, ahead_of, line_end}
 use Rattle.session.specs.Sessions.{BreaksOff, Fails, IsInputEnd, IsLastLine, Session}
-use Rattle.session.specs.Turns.{ComesOut, IsAnswered, LineOutcome, Turns, beginning, none, more}
+use Rattle.session.specs.Turns.{IsAnswered, LacksAnswer, Turns, beginning, none, more}
 use Rattle.session.specs.declared.input.Input.{Input}
 use Rattle.session.specs.declared.carrying.Progress.{Progress}
 use Rattle.session.specs.declared.input.ReadLine.{ReadLine}
@@ -201,7 +201,7 @@ further_read fresh input s t taken part empty takes =
 
 unread : (old : DebuggerView) (state : SessionState) (fresh input further : Input) (s t u k l : Option (List ℕ)) (part : List ℕ)
     → ahead_of fresh ≡ [] → fresh.left ≡ 4294967295 → (so_far : IsUnderway old state fresh input s t k l) → Takes input further t u part
-    → BreaksOff old state.debugger s u so_far.answered
+    → BreaksOff old state.debugger s u so_far.answered []
 unread old state fresh input further s t u k l part empty all so_far takes = record {
   taken = so_far.taken;
   further = part ++ ahead_of further;
@@ -209,7 +209,7 @@ unread old state fresh input further s t u k l part empty all so_far takes = rec
   reads = further_read fresh further s u so_far.taken part empty (takes_more fresh input further s t u so_far.taken part so_far.takes takes);
   within = within fresh input s t so_far.taken all so_far.takes;
   turns = so_far.turns;
-  stands = inl refl;
+  stands = inl (refl, refl);
 }
 
 pub failed_read : (old debugger : DebuggerView) (last : Option Progress) (fresh input further : Input) (s t u k l : Option (List ℕ)) (n m a b : ℕ)
@@ -217,16 +217,21 @@ pub failed_read : (old debugger : DebuggerView) (last : Option Progress) (fresh 
     → ((part : List ℕ) × Takes input further t u part) → FailsBy a b fault → Fails old debugger s u k l n m fault
 failed_read old debugger last fresh input further s t u k l n m a b faults.Memory empty all so_far takes by =
     (so_far.answered, unread old (state_of debugger last) fresh input further s t u k l takes.0 empty all so_far takes.1, so_far.writes)
-failed_read old debugger last fresh input further s t u k l n m a b faults.InputOutput empty all so_far takes by =
-    (so_far.answered, unread old (state_of debugger last) fresh input further s t u k l takes.0 empty all so_far takes.1, inl so_far.writes)
+failed_read old debugger last fresh input further s t u k l n m a b faults.InputOutput empty all so_far takes by = (
+  so_far.answered,
+  [],
+  unread old (state_of debugger last) fresh input further s t u k l takes.0 empty all so_far takes.1,
+  rw append-nil so_far.writes,
+  inl refl,
+)
 failed_read old debugger last fresh input further s t u k l n m a b fault empty all so_far takes by = absurd by
 
 -- and while it is answered
-unanswered : (old : DebuggerView) (state after : SessionState) (fresh input further : Input) (s t u k l : Option (List ℕ))
-    (read : ReadLine) (held : List ℕ) → ahead_of fresh ≡ [] → fresh.left ≡ 4294967295
-    → (so_far : IsUnderway old state fresh input s t k l) → (line : ReadsLine input further t u read held) → ((outcome : LineOutcome) × ComesOut state after line.whole outcome)
-    → BreaksOff old after.debugger s u so_far.answered
-unanswered old state after fresh input further s t u k l read held empty all so_far line out =
+unanswered : (old : DebuggerView) (state after : SessionState) (fresh input further : Input) (s t u k l m : Option (List ℕ))
+    (read : ReadLine) (held : List ℕ) (fault : DebugFault) → ahead_of fresh ≡ [] → fresh.left ≡ 4294967295
+    → (so_far : IsUnderway old state fresh input s t k l) → (line : ReadsLine input further t u read held)
+    → (out : LacksAnswer state after line.whole l m fault) → BreaksOff old after.debugger s u so_far.answered out.part
+unanswered old state after fresh input further s t u k l m read held fault empty all so_far line out =
     let part : List ℕ = line.whole ++ line_end read.is_last in
     let takes : Takes fresh further s u (so_far.taken ++ part) = takes_more fresh input further s t u so_far.taken part so_far.takes line.takes in
     record {
@@ -241,9 +246,10 @@ unanswered old state after fresh input further s t u k l read held empty all so_
         behind = ahead_of further;
         bytes = line_bytes fresh further s u so_far.taken line.whole read.is_last all takes line.over;
         line_of = line.is_line;
-        outcome = out.0;
+        outcome = out.outcome;
         after = after;
-        comes_out = out.1;
+        comes_out = out.comes_out;
+        begun = out.begun;
         debugger = refl;
       });
     }
@@ -251,16 +257,23 @@ unanswered old state after fresh input further s t u k l read held empty all so_
 pub failed_answer : (old : DebuggerView) (state : SessionState) (debugger : DebuggerView) (last : Option Progress) (fresh input further : Input) (s t u k l m : Option (List ℕ)) (a b : ℕ)
     (read : ReadLine) (held : List ℕ) (fault : DebugFault) → ahead_of fresh ≡ [] → fresh.left ≡ 4294967295
     → IsUnderway old state fresh input s t k l → ReadsLine input further t u read held
-    → ((whole : List ℕ) → IsHeld read.line held whole → (outcome : LineOutcome) × ComesOut state (state_of debugger last) whole outcome)
-    → (fault ≡ faults.Memory → m ≡ l) → FailsBy a b fault → Fails old debugger s u k m a b fault
-failed_answer old state debugger last fresh input further s t u k l m a b read held faults.Memory empty all so_far line out kept by = (
-  so_far.answered,
-  unanswered old state (state_of debugger last) fresh input further s t u k l read held empty all so_far line (out line.whole line.held),
-  kept_appends k l m so_far.answered so_far.writes (kept refl),
-)
-failed_answer old state debugger last fresh input further s t u k l m a b read held faults.InputOutput empty all so_far line out kept by =
-    (so_far.answered, unanswered old state (state_of debugger last) fresh input further s t u k l read held empty all so_far line (out line.whole line.held), inr by)
-failed_answer old state debugger last fresh input further s t u k l m a b read held fault empty all so_far line out kept by = absurd by
+    → ((whole : List ℕ) → IsHeld read.line held whole → LacksAnswer state (state_of debugger last) whole l m fault)
+    → FailsBy a b fault → Fails old debugger s u k m a b fault
+failed_answer old state debugger last fresh input further s t u k l m a b read held faults.Memory empty all so_far line out by =
+    let lacks = out line.whole line.held in
+    let none = lacks.none refl in
+    let broken = unanswered old state (state_of debugger last) fresh input further s t u k l m read held faults.Memory empty all so_far line lacks in
+    let writes = appends_more k l m so_far.answered lacks.part so_far.writes lacks.writes in
+    (so_far.answered, rw none at broken, rw (none, append-nil) at writes)
+failed_answer old state debugger last fresh input further s t u k l m a b read held faults.InputOutput empty all so_far line out by =
+    let lacks = out line.whole line.held in (
+      so_far.answered,
+      lacks.part,
+      unanswered old state (state_of debugger last) fresh input further s t u k l m read held faults.InputOutput empty all so_far line lacks,
+      appends_more k l m so_far.answered lacks.part so_far.writes lacks.writes,
+      inr by,
+    )
+failed_answer old state debugger last fresh input further s t u k l m a b read held fault empty all so_far line out by = absurd by
 
 -- why the session ends by a line that wasn't read, and by one that wasn't answered
 pub ends_by_read : (s t u k l : ℕ) (fault : DebugFault) → FailsBy t u fault → t ≡ s → l ≡ k → EndsBy s u k l fault

@@ -5,7 +5,8 @@ use Rattle.debugger.specs.Points.{DebuggerView}
 use Rattle.debugger.specs.declared.fault.DebugFault.{DebugFault}
 use Rattle.debugger.specs.declared.fault.DebugFault.TheVariants.{Memory, InputOutput}
 use Rattle.session.specs.Doing.{SessionState}
-use Rattle.session.specs.Failing.{one_more}
+use Rattle.session.specs.Answers.{outcome_text}
+use Rattle.session.specs.Failing.{BeginsWith, one_more}
 use Rattle.session.specs.Turns.{ComesOut, IsLine, LineOutcome, Quits, Turn, Turns, beginning}
 
 -- an input ends at this many bytes at the latest, and no more than this many are read ahead of a line
@@ -63,8 +64,8 @@ pub record Session (old new : DebuggerView) (source source_then sink sink_then :
   pub writes : Appends sink sink_then answered
   pub ends : EndsByQuit old new read answered source_then ⊎ EndsWithInput old new read answered source_then
 
--- the first line of the further bytes was carried out, but its answer wasn't written
-pub record IsUnanswered (before : SessionState) (new : DebuggerView) (taken further : List ℕ) (left : Option (List ℕ)) : Type 0 where
+-- the first line of the further bytes was carried out, but of its answer only this part was written
+pub record IsUnanswered (before : SessionState) (new : DebuggerView) (taken further part : List ℕ) (left : Option (List ℕ)) : Type 0 where
   pub line : List ℕ
   pub behind : List ℕ
   pub bytes : IsLastLine (taken ++ further) taken line behind left
@@ -72,23 +73,25 @@ pub record IsUnanswered (before : SessionState) (new : DebuggerView) (taken furt
   pub outcome : LineOutcome
   pub after : SessionState
   pub comes_out : ComesOut before after line outcome
+  pub begun : BeginsWith part (outcome_text after.debugger.machine outcome)
   pub debugger : after.debugger ≡ new
 
--- a session that is broken off: these lines were answered, and the debugger stands as after the last command that was carried out
-pub record BreaksOff (old new : DebuggerView) (source source_then : Option (List ℕ)) (answered : List ℕ) : Type 0 where
+-- a session that is broken off: lines were answered, and of the answer to the next one this part was written; the debugger stands as
+-- after the last command that was carried out
+pub record BreaksOff (old new : DebuggerView) (source source_then : Option (List ℕ)) (answered part : List ℕ) : Type 0 where
   pub taken : List ℕ
   pub further : List ℕ
   pub state : SessionState
   pub reads : Consumes source source_then (taken ++ further)
   pub within : length taken ≤ most_input
   pub turns : Turns (beginning old) state taken answered
-  pub stands : (state.debugger ≡ new) ⊎ IsUnanswered state new taken further source_then
+  pub stands : ((state.debugger ≡ new) × (part ≡ [])) ⊎ IsUnanswered state new taken further part source_then
 
--- nothing more is written, but for what a write that failed may have written
+-- nothing is written but the answers, and, where a write failed, a part of the next one
 abbrev pub Fails : DebuggerView → DebuggerView → Option (List ℕ) → Option (List ℕ) → Option (List ℕ) → Option (List ℕ) → ℕ → ℕ → DebugFault → Type 0
 Fails old new source source_then sink sink_then failures failures_then Memory =
-    (answered : List ℕ) × BreaksOff old new source source_then answered × Appends sink sink_then answered
+    (answered : List ℕ) × BreaksOff old new source source_then answered [] × Appends sink sink_then answered
 Fails old new source source_then sink sink_then failures failures_then InputOutput =
-    (answered : List ℕ) × BreaksOff old new source source_then answered
-    × (Appends sink sink_then answered ⊎ (failures_then ≡ one_more failures))
+    (answered part : List ℕ) × BreaksOff old new source source_then answered part × Appends sink sink_then (answered ++ part)
+    × ((part ≡ []) ⊎ (failures_then ≡ one_more failures))
 Fails old new source source_then sink sink_then failures failures_then fault = ⊥

@@ -6,6 +6,7 @@ use Rattle.debugger.specs.declared.fault.DebugFault.{DebugFault}
 use Rattle.debugger.specs.declared.fault.DebugFault.TheVariants as faults
 use Rattle.session.specs.Answers.{outcome_text}
 use Rattle.session.specs.Doing.{Does, SessionState}
+use Rattle.session.specs.Failing.{BeginsWith}
 use Rattle.session.specs.Grammar.{OnAsked, Says, meant}
 use Rattle.session.specs.Words.{words}
 use Rattle.session.specs.declared.carrying.Answer.{Answer}
@@ -61,6 +62,15 @@ Quits old new line = ComesOut old new line (Ok (Some answers.Quit))
 abbrev pub IsAnswered : SessionState → SessionState → List ℕ → Bool → Option (List ℕ) → Option (List ℕ) → Type 0
 IsAnswered old new line true sink sink_then = (answer : List ℕ) × Turn old new line answer × Appends sink sink_then answer
 IsAnswered old new line false sink sink_then = Quits old new line × (sink_then ≡ sink)
+
+-- the line is carried out, and a front of its answer is written; nothing where memory was refused
+pub record LacksAnswer (old new : SessionState) (line : List ℕ) (sink sink_then : Option (List ℕ)) (fault : DebugFault) : Type 0 where
+  pub outcome : LineOutcome
+  pub part : List ℕ
+  pub comes_out : ComesOut old new line outcome
+  pub begun : BeginsWith part (outcome_text new.debugger.machine outcome)
+  pub writes : Appends sink sink_then part
+  pub none : fault ≡ faults.Memory → part ≡ []
 
 -- no byte of a line is a line end
 abbrev pub IsLine : List ℕ → Type 0

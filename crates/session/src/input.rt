@@ -2,7 +2,7 @@
 
 ghost use Rattle.std.specs.Prelude.{◌≡◌, ◌≤◌, ℕ, List, Option, None, IfOk, OnOk, OnErr, length};
 ghost use Rattle.std.specs.Io.KnownBytes.{Appends, ReadConsumes};
-ghost use Rattle.session.specs.Failing.{one_more};
+ghost use Rattle.session.specs.Failing.{AppendsFront, one_more};
 
 /// A read or a write failed.
 #[derive(Clone, Copy, Debug, PartialEq, Eq)]
@@ -43,10 +43,11 @@ pub trait Sink {
     /// Which sink it is: a writer that is lent stays the one that it was.
     ghost name_of: { Self → ℕ } = { λ _. 0 };
 
-    /// Writes all of the bytes. Where it fails, some of them may be written.
+    /// Writes all of the bytes. Where it fails, it may have written a front of them.
     fn write(&mut self, bytes: &[u8]) -> Result<(), Failed>
         ensures same { name_of self.new ≡ name_of self.old }
         ensures bytes { OnOk result (Appends (contents_of self.old) (contents_of self.new) bytes.now) }
+        ensures front { OnErr result (AppendsFront (contents_of self.old) (contents_of self.new) bytes.now) }
         ensures ok { OnOk result (failures_of self.new ≡ failures_of self.old) }
         ensures err { OnErr result (failures_of self.new ≡ one_more (failures_of self.old)) };
 

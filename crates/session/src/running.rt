@@ -2,11 +2,11 @@
 
 ghost use Rattle.std.specs.Prelude.{◌≡◌, ℕ, List, true, IfErr, IfOk, MatchResult, OnErr, OnOk, string_bytes};
 ghost use Rattle.std.specs.Io.KnownBytes.{Appends};
-ghost use Rattle.session.specs.Failing.{EndsBy, FailsBy};
+ghost use Rattle.session.specs.Failing.{AppendsFront, EndsBy, FailsBy};
 ghost use Rattle.session.specs.Reading.{IsHeld};
 ghost use Rattle.session.specs.Running.{SomeRun};
 ghost use Rattle.session.specs.Sessions.{Fails, Session};
-ghost use Rattle.session.specs.Turns.{ComesOut, IsAnswered, LineOutcome};
+ghost use Rattle.session.specs.Turns.{ComesOut, IsAnswered, LacksAnswer};
 
 use crate::answering::{answer_text, fault_text};
 use crate::carrying::{Answer, Progress, carry_out};
@@ -73,10 +73,9 @@ fn answer_line<K: Sink>(
     ensures answered { IfOk result (λ goes_on. (whole : List ℕ) → IsHeld read line.now whole
         → IsAnswered (record { debugger = debugger.old; last = last.old }) (record { debugger = debugger.new; last = last.new })
         whole goes_on (K.contents_of sink.old) (K.contents_of sink.new)) }
-    ensures unanswered { OnErr result ((whole : List ℕ) → IsHeld read line.now whole → (outcome : LineOutcome)
-        × ComesOut (record { debugger = debugger.old; last = last.old }) (record { debugger = debugger.new; last = last.new })
-        whole outcome) }
-    ensures unwritten { IfErr result (λ fault. fault ≡ DebugFault.Memory → K.contents_of sink.new ≡ K.contents_of sink.old) }
+    ensures unanswered { IfErr result (λ fault. (whole : List ℕ) → IsHeld read line.now whole
+        → LacksAnswer (record { debugger = debugger.old; last = last.old }) (record { debugger = debugger.new; last = last.new })
+        whole (K.contents_of sink.old) (K.contents_of sink.new) fault) }
     ensures ok { OnOk result (K.failures_of sink.new ≡ K.failures_of sink.old) }
     ensures err { IfErr result (FailsBy (K.failures_of sink.old) (K.failures_of sink.new)) }
 {
@@ -122,6 +121,8 @@ fn say<K: Sink>(text: Result<String, AllocError>, sink: &mut K) -> Result<bool, 
     ensures written { OnOk result (MatchResult text
         (λ said. Appends (K.contents_of sink.old) (K.contents_of sink.new) (string_bytes said)) (λ _. ⊥)) }
     ensures unwritten { IfErr result (λ fault. fault ≡ DebugFault.Memory → K.contents_of sink.new ≡ K.contents_of sink.old) }
+    ensures front { IfErr result (λ fault. fault ≡ DebugFault.InputOutput → MatchResult text
+        (λ said. AppendsFront (K.contents_of sink.old) (K.contents_of sink.new) (string_bytes said)) (λ _. ⊥)) }
     ensures ok { OnOk result (K.failures_of sink.new ≡ K.failures_of sink.old) }
     ensures err { IfErr result (FailsBy (K.failures_of sink.old) (K.failures_of sink.new)) }
 {

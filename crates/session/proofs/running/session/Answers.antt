@@ -77,7 +77,7 @@ returns-in-Err-answer_line-clause-fails g c =
     let by = rw c.lines.invariant.sink at arm.ensures.err in
     failed_answer _ _ c.answer_line.new.debugger c.answer_line.new.last c.new-input.result c.lines.input c.read_line.new.self _ _ _ _ _ _
     (sink c.args.sink.now) (sink c.answer_line.new.sink) c.in-Ok.read c.read_line.new.line.items arm.fault c.new-input.ensures.ahead c.new-input.ensures.left
-    c.lines.invariant.underway c.in-Ok.ensures.line out arm.ensures.unwritten by
+    c.lines.invariant.underway c.in-Ok.ensures.line out by
 
 pub lines-preserved : goal.lines-preserved
 lines-preserved g c =

@@ -1,0 +1,47 @@
+-- What is known of a stream to which a text is written part by part.
+use Rattle.std.proofs.Common.{◌≡◌, ◌∙◌, ◌+◌, ◌++◌, ℕ, List, [], Option, Some, None, ap, sym, length, take, drop}
+use Rattle.std.proofs.Math.Seq.{take-add, take-length}
+use Rattle.std.proofs.lemmas.List.{append_assoc, append-nil, take-append-drop}
+use Rattle.std.specs.Io.KnownBytes.{Appends, Keeps}
+use Rattle.session.specs.Failing.{AppendsFront}
+
+pub part_none : (stream : Option (List ℕ)) (text : List ℕ) → Appends stream stream (take 0 text)
+part_none None text = tt
+part_none (Some xs) text = sym (append-nil xs)
+
+joined : (first second third : Option (List ℕ)) (xs ys : List ℕ) → Appends first second xs → Appends second third ys → Appends first third (xs ++ ys)
+joined None second third xs ys p q = tt
+joined (Some x) None third xs ys p q = absurd p
+joined (Some x) (Some y) None xs ys p q = absurd q
+joined (Some x) (Some y) (Some z) xs ys p q = q ∙ ap (λ (l : List ℕ). l ++ ys) p ∙ append_assoc x xs ys
+
+pub part_more : (first second third : Option (List ℕ)) (text : List ℕ) (written count : ℕ) → Appends first second (take written text)
+    → Appends second third (take count (drop written text)) → Appends first third (take (written + count) text)
+part_more first second third text written count before more =
+    rw take-add (joined first second third (take written text) (take count (drop written text)) before more)
+
+pub part_kept : (first second third : Option (List ℕ)) (part : List ℕ) → Appends first second part → Keeps second third → Appends first third part
+part_kept None second third part before kept = tt
+part_kept (Some x) None third part before kept = absurd before
+part_kept (Some x) (Some y) None part before kept = absurd kept
+part_kept (Some x) (Some y) (Some z) part before kept = kept ∙ before
+
+pub part_all : (first second : Option (List ℕ)) (text : List ℕ) (written : ℕ) → written ≡ length text → Appends first second (take written text)
+    → Appends first second text
+part_all first second text written all part = rw (all, take-length) at part
+
+pub front_of : (first second : Option (List ℕ)) (text : List ℕ) (written : ℕ) → Appends first second (take written text) → AppendsFront first second text
+front_of first second text written part = record {
+  front = take written text;
+  begins = (drop written text, sym (take-append-drop written text));
+  writes = part;
+}
+
+-- a write that took nothing
+pub front_none : (first second third : Option (List ℕ)) (text : List ℕ) (written : ℕ) → Appends first second (take written text)
+    → Appends second third [] → AppendsFront first third text
+front_none first second third text written part none =
+    front_of first third text written (rw append-nil at (joined first second third (take written text) [] part none))
+
+pub front_all : (first second : Option (List ℕ)) (text : List ℕ) → Appends first second text → AppendsFront first second text
+front_all first second text whole = record { front = text; begins = ([], sym (append-nil text)); writes = whole }
