@@ -1,5 +1,5 @@
 -- What the values found for words and options say: names of files, and numbers within their limits.
-use Rattle.std.specs.Prelude.{◌≡◌, ◌≤◌, ℕ, List, Option, Some, None, String, codes, option_map, string_bytes}
+use Rattle.std.specs.Prelude.{◌≡◌, ◌≢◌, ◌≤◌, ℕ, List, [], ◌∷◌, IfSome, Option, Some, None, String, codes, option_map, string_bytes}
 use Rattle.std.specs.declared.alloc.Global.{Global}
 use Rattle.std.specs.Str.Parse.{IsNumeral, digits_value}
 use Rattle.clap.specs.Words.{Row, Text, first_of}
@@ -8,9 +8,15 @@ use Rattle.clap.specs.Words.{Row, Text, first_of}
 abbrev pub IsWord : Text → List Row → String Global → Type 0
 IsWord name rows word = first_of name rows ≡ Some (string_bytes word)
 
--- the value of an option that may be left out
-abbrev pub IsOptional : Text → List Row → Option (String Global) → Type 0
-IsOptional name rows value = first_of name rows ≡ option_map string_bytes value
+-- a text that an option takes as a file's name: it has a first character, which isn't `-`
+abbrev pub IsFileName : Text → Type 0
+IsFileName [] = ⊥
+IsFileName (first ∷ rest) = first ≢ 45
+
+-- the name of a file, the value of an option that may be left out
+pub record IsOptional (name : Text) (rows : List Row) (value : Option (String Global)) : Type 0 where
+  pub found : first_of name rows ≡ option_map string_bytes value
+  pub names : IfSome (first_of name rows) IsFileName
 
 -- the number that a text writes in decimal digits, within limits
 abbrev pub IsDecimal : ℕ → ℕ → Text → ℕ → Type 0

@@ -63,7 +63,7 @@ pub struct RunCommand {
     pub program: String,
     /// The machine, whose capacity is Some.
     pub machine: MachineOptions,
-    /// The most steps, from 1 to 500,000,000; 1,000,000 where the line doesn't say.
+    /// The most steps of each hart, from 1 to 500,000,000; 1,000,000 where the line doesn't say.
     pub steps: u32,
     /// The name of the file that gets the schedule of the run, where the line has `--record`.
     pub record: Option<String>,

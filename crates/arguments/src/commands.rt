@@ -26,7 +26,7 @@ use crate::values::{NumberOption, number, number_word, optional, word};
 use clap::ArgMatches;
 use std::alloc::Global;
 
-/// The most steps of `run`.
+/// The most steps of each hart that `run` makes.
 const STEPS: NumberOption = NumberOption {
     name: "steps",
     default: 1_000_000,

@@ -96,7 +96,7 @@ const CAPACITY: Argument = Argument::Valued {
 const STEPS: Argument = Argument::Valued {
     name: "steps",
     value: "N",
-    about: "The most steps, from 1 to 500000000 [default: 1000000]",
+    about: "The most steps of each hart, from 1 to 500000000 [default: 1000000]",
 };
 
 const RECORD: Argument = Argument::Valued {

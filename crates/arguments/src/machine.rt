@@ -1,6 +1,7 @@
 //! The machine that a line's options ask for.
 
-ghost use Rattle.std.specs.Prelude.{ℕ, IfOk, IfErr, codes};
+ghost use Rattle.std.specs.Prelude.{ℕ, IfOk, IfErr, Option, String as AString, codes};
+ghost use Rattle.std.specs.declared.alloc.Global.{Global as AGlobal};
 ghost use Rattle.clap.specs.Words.{found_of, rows_of};
 ghost use Rattle.arguments.specs.Line.{IsCachedMachine, IsMachineWithin, IsWholeMachine, IsWithin, OnFault};
 ghost use Rattle.arguments.specs.Values.{IsCapacity, IsHarts, IsOptional};
@@ -9,7 +10,7 @@ ghost use Rattle.arguments.specs.declared.asked.MachineOptions.{MachineOptions a
 use crate::asked::{LineFault, MachineOptions};
 use crate::values::{NumberOption, number, optional};
 use clap::ArgMatches;
-use std::alloc::{AllocError, Global};
+use std::alloc::Global;
 
 /// The harts of a machine.
 const HARTS: NumberOption = NumberOption {
@@ -28,8 +29,10 @@ const CAPACITY: NumberOption = NumberOption {
 };
 
 /// The name of the medium's file.
-fn medium(alloc: Global, found: &ArgMatches<'_>) -> Result<Option<String>, AllocError>
-    ensures { IfOk result (IsOptional (codes "medium") (rows_of (found_of found.now))) }
+fn medium(alloc: Global, found: &ArgMatches<'_>) -> Result<Option<String>, LineFault>
+    ensures ok { IfOk result (IsOptional (codes "medium") (rows_of (found_of found.now))) }
+    ensures err { IfErr result (OnFault ((value : Option (AString AGlobal))
+        → ¬ (IsOptional (codes "medium") (rows_of (found_of found.now)) value))) }
 {
     optional(alloc, found, "medium")
 }

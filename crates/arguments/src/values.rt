@@ -1,6 +1,7 @@
 //! The values that clap found for a subcommand's words and options.
 
-ghost use Rattle.std.specs.Prelude.{◌≡◌, ◌≤◌, ℕ, IfOk, IfErr, MatchOption};
+ghost use Rattle.std.specs.Prelude.{◌≡◌, ◌≤◌, ℕ, IfOk, IfErr, MatchOption, Option, String as AString};
+ghost use Rattle.std.specs.declared.alloc.Global.{Global as AGlobal};
 ghost use Rattle.clap.specs.Words.{first_of, found_of, rows_of};
 ghost use Rattle.arguments.specs.Line.{OnFault};
 ghost use Rattle.arguments.specs.Values.{IsNumber, IsNumberWord, IsOptional, IsWord};
@@ -8,7 +9,7 @@ ghost use Rattle.arguments.specs.Values.{IsNumber, IsNumberWord, IsOptional, IsW
 use crate::asked::LineFault;
 use clap::ArgMatches;
 use decimal::{decimal, decimal_within};
-use std::alloc::{AllocError, Global};
+use std::alloc::Global;
 
 /// The value of an option or a word, where the line has it.
 #[tactic(auto, using(crate::proofs::Lines::value_found))]
@@ -30,17 +31,24 @@ pub(crate) fn word(alloc: Global, found: &ArgMatches<'_>, name: &str) -> Result<
     }
 }
 
-/// The value of an option that may be left out.
+/// The name of a file, the value of an option that may be left out. It isn't empty and doesn't begin with `-`.
 pub(crate) fn optional(
     alloc: Global,
     found: &ArgMatches<'_>,
     name: &str,
-) -> Result<Option<String>, AllocError>
-    ensures { IfOk result (IsOptional name.now (rows_of (found_of found.now))) }
+) -> Result<Option<String>, LineFault>
+    ensures ok { IfOk result (IsOptional name.now (rows_of (found_of found.now))) }
+    ensures err { IfErr result (OnFault ((value : Option (AString AGlobal))
+        → ¬ (IsOptional name.now (rows_of (found_of found.now)) value))) }
 {
-    match value(found, name) {
-        Some(value) => Ok(Some(String::from_str(alloc, value)?)),
-        None => Ok(None),
+    let Some(file) = value(found, name) else {
+        return Ok(None);
+    };
+    match file.as_bytes() {
+        [] | [b'-', ..] => Err(LineFault::Fault(format!(in alloc;
+            "error: --{name} takes the name of a file\n"
+        )?)),
+        _ => Ok(Some(String::from_str(alloc, file)?)),
     }
 }
 

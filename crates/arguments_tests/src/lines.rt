@@ -342,6 +342,11 @@ fn options_out_of_place_are_faults(rt: HostRuntime) -> Result<(), Fail> {
         "novacrash run a.s --medium",
         "novacrash run a.s --medium --harts 2",
         "novacrash run a.s --medium -m",
+        "novacrash run a.s --medium=-m",
+        "novacrash run a.s --record=-",
+        "novacrash run a.s --out -",
+        "novacrash replay a.s s --out=--",
+        "novacrash check p a.s s --medium=",
         "novacrash run a.s --steps 5 --steps 5",
         "novacrash run a.s --medium m --medium=m",
         "novacrash check p a.s s --harts 2 --harts 2",
@@ -399,7 +404,7 @@ fn text_of(alloc: Global, line: &str) -> Result<Option<String>, AllocError> {
 }
 
 /// Lines that are refused, and the texts that they are refused with.
-const TEXTS: [(&str, &str); 5] = [
+const TEXTS: [(&str, &str); 6] = [
     (
         "novacrash run a.s --steps 0",
         "error: --steps takes a decimal number from 1 to 500000000\n",
@@ -407,6 +412,10 @@ const TEXTS: [(&str, &str); 5] = [
     (
         "novacrash replay a.s s --harts 9",
         "error: --harts takes a decimal number from 1 to 8\n",
+    ),
+    (
+        "novacrash run a.s --medium=-m",
+        "error: --medium takes the name of a file\n",
     ),
     (
         "novacrash explain a.s s 0 x",
