@@ -1,10 +1,11 @@
 -- Numbers in a statement, with at most one sign.
-use Rattle.std.specs.Prelude.{ℕ, ◌+◌, ◌/◌, ◌%◌, ◌^◌, Bool, true, false, ◌&&◌, List, [], ◌∷◌, Option, Some, None, Result, Ok, Err, ℤ, pos, neg_ℤ, int_le, unsigned_abs, ◌==◌, option_map, if◌then◌else◌}
+use Rattle.std.specs.Prelude.{ℕ, ◌+◌, ◌/◌, ◌%◌, ◌^◌, Bool, true, false, ◌&&◌, List, [], ◌∷◌, Option, Some, None, Result, Ok, Err, ℤ, pos, negsuc, neg_ℤ, int_le, unsigned_abs, ◌==◌, option_map, if◌then◌else◌}
 use Rattle.std.specs.Int.{w32, cast_unsigned}
 use Rattle.word_bits.specs.Numbers.{signed}
 use Rattle.asm_line.specs.declared.fault.AsmCode.{AsmCode}
 use Rattle.asm_line.specs.declared.fault.AsmCode.TheVariants.{Range}
 use Rattle.asm_line.specs.declared.operands.SignedNumber.{SignedNumber}
+use Rattle.asm_line.specs.Faults.{◌>>=◌}
 use Rattle.asm_line.specs.Lexemes.{Lexeme, number, comma, plus, minus}
 
 -- a number with a sign
@@ -50,9 +51,31 @@ within_by is_negative (Some n) low high = in_range (integer is_negative n) low h
 abbrev pub within : SignedNumber → ℤ → ℤ → Result ℤ AsmCode
 within n low high = within_by n.is_negative n.size low high
 
+-- the integer that a number is, in no range
+abbrev pub exact_by : Bool → Option ℕ → Result ℤ AsmCode
+exact_by is_negative None = Err Range
+exact_by is_negative (Some n) = Ok (integer is_negative n)
+
+abbrev pub exact : SignedNumber → Result ℤ AsmCode
+exact n = exact_by n.is_negative n.size
+
 -- an even integer
 abbrev pub even : ℤ → Result ℤ AsmCode
 even z = if unsigned_abs z % 2 == 0 then Ok z else Err Range
+
+-- the distance of a branch, even and of 13 bits, and that of a jump, even and of 21 bits
+abbrev pub branch_reach : ℤ → Result ℤ AsmCode
+branch_reach z = in_range z (negsuc 4095) (pos 4095) >>= even
+
+abbrev pub jump_reach : ℤ → Result ℤ AsmCode
+jump_reach z = in_range z (negsuc 1048575) (pos 1048575) >>= even
+
+-- the same distances, of a number
+abbrev pub branch_by : SignedNumber → Result ℤ AsmCode
+branch_by n = exact n >>= branch_reach
+
+abbrev pub jump_by : SignedNumber → Result ℤ AsmCode
+jump_by n = exact n >>= jump_reach
 
 -- the halves of a number of 32 bits: its upper 20 bits, rounded to the nearest multiple of 2^12, and what is left, which
 -- is signed

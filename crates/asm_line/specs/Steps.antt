@@ -35,7 +35,7 @@ use Rattle.isa_table.specs.declared.register.Reg.{Reg}
 use Rattle.asm_line.specs.Lexemes.{Lexeme, name, number, comma, opening, closing, colon, plus, minus}
 use Rattle.asm_line.specs.Faults.{◌>>=◌}
 use Rattle.asm_line.specs.Meanings.{width_of}
-use Rattle.asm_line.specs.Numbers.{numbers_of, with_first, within, even}
+use Rattle.asm_line.specs.Numbers.{numbers_of, with_first, within}
 use Rattle.asm_names.specs.declared.kinds.NumberWidth.{NumberWidth}
 use Rattle.std.specs.Borrow.{Bor}
 use Rattle.std.specs.Int.{cast_unsigned}
@@ -207,10 +207,6 @@ numbers_from (Some (n, ls)) = numbers_after n ls
 abbrev pub left_len : Option (Bor (List Found)) → ℕ
 left_len None = 0
 left_len (Some rest) = 1 + length rest.now
-
--- an even integer in a range
-abbrev pub even_within : SignedNumber → ℤ → ℤ → Result ℤ AsmCode
-even_within n low high = within n low high >>= even
 
 -- a number of a directive, modulo its width
 abbrev pub stored : NumberWidth → SignedNumber → Result ℕ AsmCode

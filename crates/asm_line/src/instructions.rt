@@ -4,10 +4,11 @@
 
 ghost use Rattle.asm_line.specs.Grammar.{branched, built, int, jumped, range_of, register_jump};
 ghost use Rattle.asm_line.specs.Meanings.{instruction, meaning_of, IsInRange};
-ghost use Rattle.asm_line.specs.Steps.{even_within, is_plain, listed, parts_seen, registers_seen};
+ghost use Rattle.asm_line.specs.Numbers.{exact, branch_by, jump_by};
+ghost use Rattle.asm_line.specs.Steps.{is_plain, listed, parts_seen, registers_seen};
 ghost use Rattle.asm_line.specs.Steps.{takes_address, target_seen, Gives};
-ghost use Rattle.isa_table.specs.Ranges.{FitsBits, IsChecked, IsEven};
-ghost use Rattle.std.specs.Prelude.{◌≡◌, ◌^◌, ◌≤ℤ◌, negsuc, pos, true, Ok, IfOk};
+ghost use Rattle.isa_table.specs.Ranges.{FitsBits, IsChecked};
+ghost use Rattle.std.specs.Prelude.{◌≡◌, ◌^◌, ◌≤ℤ◌, negsuc, pos, true, Err, Ok, IfErr, IfOk};
 
 use crate::fault::AsmCode;
 use crate::line::Statement;
@@ -133,7 +134,7 @@ fn atomic(op: AtomicOp, form: AtomicForm, rd: Reg, rs1: Reg, rs2: Reg) -> Instr
     }
 }
 
-/// A branch to a label, or by a distance that is even and has 13 bits.
+/// A branch to a label, or by a distance that its word can hold.
 pub(crate) fn branch_to<'a>(
     op: BranchOp,
     rs1: Reg,
@@ -151,19 +152,20 @@ pub(crate) fn branch_to<'a>(
             label,
         }),
         Some(Target::Distance(number)) => {
-            let distance = even_within(number, -4096, 4095)? as i32;
-            Ok(Statement::Instruction(Instr::Branch {
+            let distance = near(number)?;
+            let instr = Instr::Branch {
                 op,
                 rs1,
                 rs2,
                 distance,
-            }))
+            };
+            Ok(Statement::Instruction(reaching(instr)?))
         }
         None => Err(AsmCode::Operands),
     }
 }
 
-/// A jump to a label, or by a distance that is even and has 21 bits.
+/// A jump to a label, or by a distance that its word can hold.
 pub(crate) fn jump_to<'a>(rd: Reg, target: Option<Target<'a>>) -> Result<Statement<'a>, AsmCode>
     ensures value { Gives meaning_of result (jumped rd (listed target_seen target.entry)) }
     ensures in_range { IfOk result (λ s. IsInRange (meaning_of s)) }
@@ -171,26 +173,27 @@ pub(crate) fn jump_to<'a>(rd: Reg, target: Option<Target<'a>>) -> Result<Stateme
     match target {
         Some(Target::Label(label)) => Ok(Statement::Jump { rd, label }),
         Some(Target::Distance(number)) => {
-            let distance = even_within(number, -1_048_576, 1_048_575)? as i32;
-            Ok(Statement::Instruction(Instr::Jump { rd, distance }))
+            let distance = near(number)?;
+            Ok(Statement::Instruction(reaching(Instr::Jump { rd, distance })?))
         }
         None => Err(AsmCode::Operands),
     }
 }
 
-/// A distance in a range that holds 0, which has to be even.
-fn even_within(number: SignedNumber, low: i64, high: i64) -> Result<i64, AsmCode>
-    requires least { negsuc (2 ^ 62) ≤ℤ low }
-    requires low { low ≤ℤ pos 0 }
-    requires high { pos 0 ≤ℤ high }
-    ensures value { result ≡ even_within number low high }
-    ensures even { IfOk result IsEven }
-    ensures range { IfOk result (λ z. (low ≤ℤ z) × (z ≤ℤ high)) }
+/// A distance of 32 bits; with more no instruction reaches it.
+fn near(number: SignedNumber) -> Result<i32, AsmCode>
+    ensures ok { IfOk result (λ z. exact number ≡ Ok z) }
+    ensures branch { IfErr result (λ code. branch_by number ≡ Err code) }
+    ensures jump { IfErr result (λ code. jump_by number ≡ Err code) }
 {
-    let distance = within(number, low, high)?;
-    if distance.unsigned_abs() % 2 == 0 {
-        Ok(distance)
-    } else {
-        Err(AsmCode::Range)
-    }
+    let distance = within(number, i64::from(i32::MIN), i64::from(i32::MAX))?;
+    Ok(distance as i32)
+}
+
+/// A branch or a jump, where its word can hold its distance.
+fn reaching(instr: Instr) -> Result<Instr, AsmCode>
+    ensures ok { IfOk result (λ found. (found ≡ instr) × IsChecked instr) }
+    ensures err { IfErr result (λ code. (code ≡ AsmCode.Range) × (¬ IsChecked instr)) }
+{
+    instr.check().map_err(|_fault| AsmCode::Range)
 }

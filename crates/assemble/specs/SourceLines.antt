@@ -1,6 +1,6 @@
 -- Which bytes a source line has, at a place and with these values of labels.
 -- Source: RISC-V Unprivileged ISA 20191213, chapters 24 and 25.
-use Rattle.std.specs.Prelude.{◌≡◌, ℕ, ◌^◌, ◌<◌, Bool, true, false, List, [], ◌++◌, take, Option, Result, Ok, ℤ, pos, negsuc, ◌-ℤ◌, ok_or, option_map, replicate}
+use Rattle.std.specs.Prelude.{◌≡◌, ℕ, ◌^◌, ◌<◌, Bool, true, false, List, [], ◌++◌, take, Option, Result, Ok, ℤ, pos, ◌-ℤ◌, ok_or, option_map, replicate}
 use Rattle.std.specs.Int.{w32, w64, to_le_bytes}
 use Rattle.std.specs.List.{flat_map}
 use Rattle.isa_table.specs.declared.instruction.Instr.{Instr}
@@ -19,7 +19,7 @@ use Rattle.asm_names.specs.declared.kinds.Section.TheVariants.{Text, Data}
 use Rattle.asm_line.specs.Faults.{◌>>=◌}
 use Rattle.asm_line.specs.Lines.{line_of}
 use Rattle.asm_line.specs.Meanings.{Meaning, LineMeaning, nothing, instruction, pair, branch, jump, address, section, numbers, zeros, align, width_bytes}
-use Rattle.asm_line.specs.Numbers.{in_range, even, upper_half, lower_half}
+use Rattle.asm_line.specs.Numbers.{branch_reach, jump_reach, upper_half, lower_half}
 use Rattle.assemble.specs.Places.{padding}
 
 -- the values of labels: None of one that no line defines
@@ -30,20 +30,16 @@ Values = List ℕ → Option ℕ
 abbrev pub distance : Values → ℕ → List ℕ → Result ℤ AsmCode
 distance values place label = ok_or (option_map (λ value. pos value -ℤ pos place) (values label)) UnknownLabel
 
--- an even distance from low to high
-abbrev pub reached : ℤ → ℤ → ℤ → Result ℤ AsmCode
-reached low high z = in_range z low high >>= even
+-- a distance that was found and is in reach
+abbrev pub reached : (ℤ → Result ℤ AsmCode) → Result ℤ AsmCode → Result ℤ AsmCode
+reached reach found = found >>= reach
 
--- a distance that was found and is so
-abbrev pub in_reach : ℤ → ℤ → Result ℤ AsmCode → Result ℤ AsmCode
-in_reach low high found = found >>= reached low high
-
--- the distance of a branch, of 13 bits, and that of a jump, of 21 bits
+-- the distance of a branch, and that of a jump
 abbrev pub branch_distance : Values → ℕ → List ℕ → Result ℤ AsmCode
-branch_distance values place label = in_reach (negsuc 4095) (pos 4095) (distance values place label)
+branch_distance values place label = reached branch_reach (distance values place label)
 
 abbrev pub jump_distance : Values → ℕ → List ℕ → Result ℤ AsmCode
-jump_distance values place label = in_reach (negsuc 1048575) (pos 1048575) (distance values place label)
+jump_distance values place label = reached jump_reach (distance values place label)
 
 -- the canonical word of an instruction whose operands it holds, the least significant byte first
 pub record HasWord (instr : Instr) (bytes : List ℕ) : Type 0 where

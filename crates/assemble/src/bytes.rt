@@ -1,10 +1,11 @@
 //! The bytes of a statement.
 
 ghost use Rattle.asm_line.specs.Meanings.{meaning_of, IsInRange};
+ghost use Rattle.asm_line.specs.Numbers.{branch_reach, jump_reach};
 ghost use Rattle.assemble.specs.Appending.{Appends, AreNear};
 ghost use Rattle.assemble.specs.Faults.{code_of_label};
 ghost use Rattle.assemble.specs.Labels.{place_at};
-ghost use Rattle.assemble.specs.SourceLines.{distance, in_reach, HasAddress, HasBytes, HasWord, HaveWords, number_bytes, reached};
+ghost use Rattle.assemble.specs.SourceLines.{distance, HasAddress, HasBytes, HasWord, HaveWords, number_bytes, reached};
 ghost use Rattle.isa_table.specs.Ranges.{IsChecked};
 ghost use Rattle.isa_table.specs.declared.instruction.Instr.TheVariants.{Branch, Jump};
 ghost use Rattle.std.specs.List.{flat_map};
@@ -49,7 +50,7 @@ pub(crate) fn append(
     }
 }
 
-/// Adds a branch by this distance, where it is even and has 13 bits.
+/// Adds a branch by this distance, where its word can hold it.
 fn append_branch(
     bytes: &mut Vec<u8>,
     found: Result<i32, AsmCode>,
@@ -58,11 +59,11 @@ fn append_branch(
     rs2: Reg,
 ) -> Result<(), AsmCode>
     ensures ok { OnOk result (Appends bytes.old.items bytes.new.items (λ added.
-        (z : ℤ) × (in_reach (negsuc 4095) (pos 4095) found ≡ Ok z) × HasWord (Branch op rs1 rs2 z) added)) }
-    ensures err { IfErr result (λ code. code ≢ AsmCode.Memory → result_err (in_reach (negsuc 4095) (pos 4095) found) ≡ Some code) }
+        (z : ℤ) × (reached branch_reach found ≡ Ok z) × HasWord (Branch op rs1 rs2 z) added)) }
+    ensures err { IfErr result (λ code. code ≢ AsmCode.Memory → result_err (reached branch_reach found) ≡ Some code) }
 {
-    let distance = within(found?, -4096, 4095)?;
-    append_word(
+    let distance = found?;
+    append_reaching(
         bytes,
         Instr::Branch {
             op,
@@ -73,24 +74,24 @@ fn append_branch(
     )
 }
 
-/// Adds a jump by this distance, where it is even and has 21 bits.
+/// Adds a jump by this distance, where its word can hold it.
 fn append_jump(bytes: &mut Vec<u8>, found: Result<i32, AsmCode>, rd: Reg) -> Result<(), AsmCode>
     ensures ok { OnOk result (Appends bytes.old.items bytes.new.items (λ added.
-        (z : ℤ) × (in_reach (negsuc 1048575) (pos 1048575) found ≡ Ok z) × HasWord (Jump rd z) added)) }
-    ensures err { IfErr result (λ code. code ≢ AsmCode.Memory → result_err (in_reach (negsuc 1048575) (pos 1048575) found) ≡ Some code) }
+        (z : ℤ) × (reached jump_reach found ≡ Ok z) × HasWord (Jump rd z) added)) }
+    ensures err { IfErr result (λ code. code ≢ AsmCode.Memory → result_err (reached jump_reach found) ≡ Some code) }
 {
-    let distance = within(found?, -1_048_576, 1_048_575)?;
-    append_word(bytes, Instr::Jump { rd, distance })
+    let distance = found?;
+    append_reaching(bytes, Instr::Jump { rd, distance })
 }
 
-/// A distance that is even and in this range.
-fn within(distance: i32, low: i32, high: i32) -> Result<i32, AsmCode>
-    ensures { result ≡ reached low high distance }
+/// Adds a branch or a jump, where its word can hold its distance.
+fn append_reaching(bytes: &mut Vec<u8>, instr: Instr) -> Result<(), AsmCode>
+    ensures ok { OnOk result (Appends bytes.old.items bytes.new.items (HasWord instr)) }
+    ensures checked { OnOk result (IsChecked instr) }
+    ensures err { IfErr result (λ code. code ≢ AsmCode.Memory → (code ≡ AsmCode.Range) × (¬ IsChecked instr)) }
 {
-    if distance < low || distance > high || distance.unsigned_abs() % 2 != 0 {
-        return Err(AsmCode::Range);
-    }
-    Ok(distance)
+    let instr = instr.check().map_err(|_fault| AsmCode::Range)?;
+    append_word(bytes, instr)
 }
 
 /// Adds the canonical word of an instruction.

@@ -16,7 +16,7 @@ use Rattle.isa_table.specs.declared.access.AccessSet.{AccessSet}
 use Rattle.isa_table.specs.declared.register.Reg.{Reg}
 use Rattle.asm_line.specs.Grammar.{by_distance, set_then, target_then}
 use Rattle.asm_line.specs.Lexemes.{Lexeme, name, number, opening, closing, colon, plus, minus, lexeme_of}
-use Rattle.asm_line.specs.Numbers.{unsigned, negated, number_then, within}
+use Rattle.asm_line.specs.Numbers.{unsigned, negated, number_then, within, exact}
 use Rattle.asm_names.specs.Registers.{register_of, register_number, plain_number, short_number, set_of}
 use Rattle.asm_names.proofs.RegisterLemmas.{same_register}
 use Rattle.decode.specs.Text.{register_text, address_text, place_text, distance_text, letters, set_text}
@@ -79,6 +79,10 @@ number_ends (negsuc n) = refl
 pub within_reads : (z low high : ℤ) → int_le low z ≡ true → int_le z high ≡ true → within (by_sign (λ n. unsigned (Some n)) (λ n. negated (Some n)) z) low high ≡ Ok z
 within_reads (pos n) low high l h = rw (l, h) refl
 within_reads (negsuc n) low high l h = rw (l, h) refl
+
+pub exact_reads : (z : ℤ) → exact (by_sign (λ n. unsigned (Some n)) (λ n. negated (Some n)) z) ≡ Ok z
+exact_reads (pos n) = refl
+exact_reads (negsuc n) = refl
 
 -- registers
 digits_are : (ds : List ℕ) → AllDigits 10 ds → are_digits 10 ds ≡ true

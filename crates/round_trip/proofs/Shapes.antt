@@ -34,7 +34,7 @@ use Rattle.decode.specs.Text.{register_text, operand_texts, text_of}
 use Rattle.asm_lex.specs.declared.Kind.TheVariants.{Name}
 use Rattle.round_trip.proofs.Names.{named}
 use Rattle.round_trip.proofs.Tokens.{WriteAll, between, tokens_of, text_tokens}
-use Rattle.round_trip.proofs.Operands.{is_colon, by_sign, signed_lexemes, address_lexemes, distance_lexemes, set_lexeme, number_reads, number_ends, within_reads, register_reads, target_reads, set_reads, signed_writes, register_writes, address_writes, place_writes, distance_writes, set_writes}
+use Rattle.round_trip.proofs.Operands.{is_colon, by_sign, signed_lexemes, address_lexemes, distance_lexemes, set_lexeme, number_reads, number_ends, within_reads, exact_reads, register_reads, target_reads, set_reads, signed_writes, register_writes, address_writes, place_writes, distance_writes, set_writes}
 
 -- an integer between these, with a size that a word holds
 pub record IsBetween (low high z : ℤ) : Type 0 where
@@ -130,10 +130,10 @@ says : (i : Instr) → IsChecked i → said (mnemonic i) (between (operand_lexem
 unfolding said
 says (Upper Lui rd n) h = rw (register_reads rd, between_reads _ _ (pos n) (upper_between n h.in_range)) refl
 says (Upper op rd n) h = rw (register_reads rd, between_reads _ _ (pos n) (upper_between n h.in_range)) refl
-says (Jump rd z) h = rw (target_reads z, register_reads rd, between_reads _ _ z (between_21 z h.in_range), h.even) refl
+says (Jump rd z) h = rw (target_reads z, register_reads rd, exact_reads z, (between_21 z h.in_range).above, (between_21 z h.in_range).below, h.even) refl
 says (JumpRegister rd rs1 z) h = rw (number_reads z (address_lexemes rs1), register_reads rd, register_reads rs1, between_reads _ _ z (between_12 z h.in_range)) refl
-says (Branch Beq rs1 rs2 z) h = rw (target_reads z, register_reads rs1, register_reads rs2, between_reads _ _ z (between_13 z h.in_range), h.even) refl
-says (Branch op rs1 rs2 z) h = rw (target_reads z, register_reads rs1, register_reads rs2, between_reads _ _ z (between_13 z h.in_range), h.even) refl
+says (Branch Beq rs1 rs2 z) h = rw (target_reads z, register_reads rs1, register_reads rs2, exact_reads z, (between_13 z h.in_range).above, (between_13 z h.in_range).below, h.even) refl
+says (Branch op rs1 rs2 z) h = rw (target_reads z, register_reads rs1, register_reads rs2, exact_reads z, (between_13 z h.in_range).above, (between_13 z h.in_range).below, h.even) refl
 says (Load Lb rd rs1 z) h = rw (number_reads z (address_lexemes rs1), register_reads rd, register_reads rs1, between_reads _ _ z (between_12 z h.in_range)) refl
 says (Load op rd rs1 z) h = rw (number_reads z (address_lexemes rs1), register_reads rd, register_reads rs1, between_reads _ _ z (between_12 z h.in_range)) refl
 says (Store Sb rs2 rs1 z) h = rw (number_reads z (address_lexemes rs1), register_reads rs2, register_reads rs1, between_reads _ _ z (between_12 z h.in_range)) refl
