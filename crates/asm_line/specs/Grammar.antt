@@ -31,7 +31,7 @@ use Rattle.asm_line.specs.declared.operands.SignedNumber.{SignedNumber}
 use Rattle.asm_line.specs.Faults.{◌>>=◌}
 use Rattle.asm_line.specs.Lexemes.{Lexeme, name, number, comma, opening, closing, plus, minus}
 use Rattle.asm_line.specs.Meanings.{Meaning, instruction, pair, branch, jump, address, section, numbers, zeros, align, width_bytes, width_of}
-use Rattle.asm_line.specs.Numbers.{unsigned, negated, number_then, numbers_of, within, branch_by, jump_by, upper_half, lower_half}
+use Rattle.asm_line.specs.Numbers.{unsigned, negated, number_then, numbers_of, within, exact, branch_reach, jump_reach, reached, upper_half, lower_half}
 use Rattle.asm_names.specs.Registers.{register_of, set_of, zero_register, return_register, all_accesses}
 
 -- a place in a shape: for a register's name, a number with at most one sign, a number that may be missing, numbers between
@@ -252,7 +252,7 @@ checked range found = do
 abbrev pub branched : BranchOp → Reg → Reg → List Target → Result Meaning AsmCode
 branched op rs1 rs2 (to_label text ∷ targets) = Ok (branch op rs1 rs2 text)
 branched op rs1 rs2 (by_distance n ∷ targets) = do
-  distance ← branch_by n
+  distance ← reached branch_reach (exact n)
   Ok (instruction (instrs.Branch op rs1 rs2 distance))
 branched op rs1 rs2 [] = Err code.Operands
 
@@ -260,7 +260,7 @@ branched op rs1 rs2 [] = Err code.Operands
 abbrev pub jumped : Reg → List Target → Result Meaning AsmCode
 jumped rd (to_label text ∷ targets) = Ok (jump rd text)
 jumped rd (by_distance n ∷ targets) = do
-  distance ← jump_by n
+  distance ← reached jump_reach (exact n)
   Ok (instruction (instrs.Jump rd distance))
 jumped rd [] = Err code.Operands
 

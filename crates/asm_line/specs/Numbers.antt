@@ -40,24 +40,20 @@ abbrev pub integer : Bool → ℕ → ℤ
 integer true n = neg_ℤ (pos n)
 integer false n = pos n
 
--- the integer, where it is in a range
-abbrev pub in_range : ℤ → ℤ → ℤ → Result ℤ AsmCode
-in_range z low high = if int_le low z && int_le z high then Ok z else Err Range
-
-abbrev pub within_by : Bool → Option ℕ → ℤ → ℤ → Result ℤ AsmCode
-within_by is_negative None low high = Err Range
-within_by is_negative (Some n) low high = in_range (integer is_negative n) low high
-
-abbrev pub within : SignedNumber → ℤ → ℤ → Result ℤ AsmCode
-within n low high = within_by n.is_negative n.size low high
-
--- the integer that a number is, in no range
+-- the integer that a number is
 abbrev pub exact_by : Bool → Option ℕ → Result ℤ AsmCode
 exact_by is_negative None = Err Range
 exact_by is_negative (Some n) = Ok (integer is_negative n)
 
 abbrev pub exact : SignedNumber → Result ℤ AsmCode
 exact n = exact_by n.is_negative n.size
+
+-- the same, where it is in a range
+abbrev pub in_range : ℤ → ℤ → ℤ → Result ℤ AsmCode
+in_range z low high = if int_le low z && int_le z high then Ok z else Err Range
+
+abbrev pub within : SignedNumber → ℤ → ℤ → Result ℤ AsmCode
+within n low high = exact n >>= λ z. in_range z low high
 
 -- an even integer
 abbrev pub even : ℤ → Result ℤ AsmCode
@@ -70,12 +66,9 @@ branch_reach z = in_range z (negsuc 4095) (pos 4095) >>= even
 abbrev pub jump_reach : ℤ → Result ℤ AsmCode
 jump_reach z = in_range z (negsuc 1048575) (pos 1048575) >>= even
 
--- the same distances, of a number
-abbrev pub branch_by : SignedNumber → Result ℤ AsmCode
-branch_by n = exact n >>= branch_reach
-
-abbrev pub jump_by : SignedNumber → Result ℤ AsmCode
-jump_by n = exact n >>= jump_reach
+-- a distance that was found, where it is in reach
+abbrev pub reached : (ℤ → Result ℤ AsmCode) → Result ℤ AsmCode → Result ℤ AsmCode
+reached reach found = found >>= reach
 
 -- the halves of a number of 32 bits: its upper 20 bits, rounded to the nearest multiple of 2^12, and what is left, which
 -- is signed

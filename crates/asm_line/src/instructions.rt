@@ -4,7 +4,7 @@
 
 ghost use Rattle.asm_line.specs.Grammar.{branched, built, int, jumped, range_of, register_jump};
 ghost use Rattle.asm_line.specs.Meanings.{instruction, meaning_of, IsInRange};
-ghost use Rattle.asm_line.specs.Numbers.{exact, branch_by, jump_by};
+ghost use Rattle.asm_line.specs.Numbers.{exact, branch_reach, jump_reach, reached};
 ghost use Rattle.asm_line.specs.Steps.{is_plain, listed, parts_seen, registers_seen};
 ghost use Rattle.asm_line.specs.Steps.{takes_address, target_seen, Gives};
 ghost use Rattle.isa_table.specs.Ranges.{FitsBits, IsChecked};
@@ -183,8 +183,8 @@ pub(crate) fn jump_to<'a>(rd: Reg, target: Option<Target<'a>>) -> Result<Stateme
 /// A distance of 32 bits; with more no instruction reaches it.
 fn near(number: SignedNumber) -> Result<i32, AsmCode>
     ensures ok { IfOk result (λ z. exact number ≡ Ok z) }
-    ensures branch { IfErr result (λ code. branch_by number ≡ Err code) }
-    ensures jump { IfErr result (λ code. jump_by number ≡ Err code) }
+    ensures branch { IfErr result (λ code. reached branch_reach (exact number) ≡ Err code) }
+    ensures jump { IfErr result (λ code. reached jump_reach (exact number) ≡ Err code) }
 {
     let distance = within(number, i64::from(i32::MIN), i64::from(i32::MAX))?;
     Ok(distance as i32)

@@ -19,7 +19,7 @@ use Rattle.asm_names.specs.declared.kinds.Section.TheVariants.{Text, Data}
 use Rattle.asm_line.specs.Faults.{◌>>=◌}
 use Rattle.asm_line.specs.Lines.{line_of}
 use Rattle.asm_line.specs.Meanings.{Meaning, LineMeaning, nothing, instruction, pair, branch, jump, address, section, numbers, zeros, align, width_bytes}
-use Rattle.asm_line.specs.Numbers.{branch_reach, jump_reach, upper_half, lower_half}
+use Rattle.asm_line.specs.Numbers.{branch_reach, jump_reach, reached, upper_half, lower_half}
 use Rattle.assemble.specs.Places.{padding}
 
 -- the values of labels: None of one that no line defines
@@ -29,10 +29,6 @@ Values = List ℕ → Option ℕ
 -- the distance from a place to a label
 abbrev pub distance : Values → ℕ → List ℕ → Result ℤ AsmCode
 distance values place label = ok_or (option_map (λ value. pos value -ℤ pos place) (values label)) UnknownLabel
-
--- a distance that was found and is in reach
-abbrev pub reached : (ℤ → Result ℤ AsmCode) → Result ℤ AsmCode → Result ℤ AsmCode
-reached reach found = found >>= reach
 
 -- the distance of a branch, and that of a jump
 abbrev pub branch_distance : Values → ℕ → List ℕ → Result ℤ AsmCode

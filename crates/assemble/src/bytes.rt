@@ -1,11 +1,11 @@
 //! The bytes of a statement.
 
 ghost use Rattle.asm_line.specs.Meanings.{meaning_of, IsInRange};
-ghost use Rattle.asm_line.specs.Numbers.{branch_reach, jump_reach};
+ghost use Rattle.asm_line.specs.Numbers.{branch_reach, jump_reach, reached};
 ghost use Rattle.assemble.specs.Appending.{Appends, AreNear};
 ghost use Rattle.assemble.specs.Faults.{code_of_label};
 ghost use Rattle.assemble.specs.Labels.{place_at};
-ghost use Rattle.assemble.specs.SourceLines.{distance, HasAddress, HasBytes, HasWord, HaveWords, number_bytes, reached};
+ghost use Rattle.assemble.specs.SourceLines.{distance, HasAddress, HasBytes, HasWord, HaveWords, number_bytes};
 ghost use Rattle.isa_table.specs.Ranges.{IsChecked};
 ghost use Rattle.isa_table.specs.declared.instruction.Instr.TheVariants.{Branch, Jump};
 ghost use Rattle.std.specs.List.{flat_map};
