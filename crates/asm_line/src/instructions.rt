@@ -8,7 +8,7 @@ ghost use Rattle.asm_line.specs.Numbers.{exact, branch_reach, jump_reach, reache
 ghost use Rattle.asm_line.specs.Steps.{is_plain, listed, parts_seen, registers_seen};
 ghost use Rattle.asm_line.specs.Steps.{takes_address, target_seen, Gives};
 ghost use Rattle.isa_table.specs.Ranges.{FitsBits, IsChecked};
-ghost use Rattle.std.specs.Prelude.{◌≡◌, ◌^◌, ◌≤ℤ◌, negsuc, pos, true, Err, Ok, IfErr, IfOk};
+ghost use Rattle.std.specs.Prelude.{◌≡◌, ◌≤ℤ◌, true, Err, Ok, IfErr, IfOk};
 
 use crate::fault::AsmCode;
 use crate::line::Statement;

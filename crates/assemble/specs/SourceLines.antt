@@ -16,7 +16,6 @@ use Rattle.asm_names.specs.declared.kinds.NumberWidth.{NumberWidth}
 use Rattle.asm_names.specs.declared.kinds.NumberWidth.TheVariants.{Word}
 use Rattle.asm_names.specs.declared.kinds.Section.{Section}
 use Rattle.asm_names.specs.declared.kinds.Section.TheVariants.{Text, Data}
-use Rattle.asm_line.specs.Faults.{◌>>=◌}
 use Rattle.asm_line.specs.Lines.{line_of}
 use Rattle.asm_line.specs.Meanings.{Meaning, LineMeaning, nothing, instruction, pair, branch, jump, address, section, numbers, zeros, align, width_bytes}
 use Rattle.asm_line.specs.Numbers.{branch_reach, jump_reach, reached, upper_half, lower_half}

@@ -10,7 +10,7 @@ ghost use Rattle.isa_table.specs.Ranges.{IsChecked};
 ghost use Rattle.isa_table.specs.declared.instruction.Instr.TheVariants.{Branch, Jump};
 ghost use Rattle.std.specs.List.{flat_map};
 ghost use Rattle.std.specs.Result.{result_err};
-ghost use Rattle.std.specs.Prelude.{◌≡◌, ◌≢◌, ◌≤◌, ◌<ℤ◌, ◌≤ℤ◌, ◌^◌, ◌++◌, ℤ, pos, negsuc, Ok, Some, IfErr, OnOk, replicate};
+ghost use Rattle.std.specs.Prelude.{◌≡◌, ◌≢◌, ◌≤◌, ◌^◌, ◌++◌, ℤ, Ok, Some, IfErr, OnOk, replicate};
 
 use crate::labels::Labels;
 use crate::position::padding_to;
