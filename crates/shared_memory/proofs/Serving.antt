@@ -14,7 +14,10 @@ use Rattle.isa_table.specs.declared.instruction.AtomicOp.{AtomicOp}
 use Rattle.isa_table.specs.declared.instruction.CacheOp.{CacheOp}
 use Rattle.line_memory.specs.Lines.{AreLines, line_at, line_bytes}
 use Rattle.line_memory.specs.Memory.{IsWidth, Memory, fault_of, loaded_from, stored_to}
+use Rattle.line_memory.specs.Places.{IsPlace}
 use Rattle.line_memory.specs.Regions.{RamView, flat, ram_bytes}
+use Rattle.line_memory.specs.declared.ram.RamPlace.{RamPlace}
+use Rattle.line_memory.specs.declared.ram.RamPlace.TheVariants.{Text, Data}
 use Rattle.line_memory.specs.declared.TheConstants.{PERSISTENT_BASE}
 use Rattle.line_memory.specs.declared.MemFault.{MemFault}
 use Rattle.line_memory.specs.declared.MemFault.TheVariants as faults
@@ -65,6 +68,11 @@ aligned_of memory address width none = elim (cases_eq (address % width) 0) [
 ends_below : (memory : Memory) (address width : ℕ) → IsWidth width → fault_of memory address width ≡ None → address < PERSISTENT_BASE
     → address + width ≤ PERSISTENT_BASE
 ends_below memory address width w none low = aligned_below address width w (aligned_of memory address width none) low
+
+-- text and data lie below persistent memory
+pub ram_below : (address width : ℕ) (place : RamPlace) → IsWidth width → IsPlace address width place → address < PERSISTENT_BASE
+ram_below address width (Text at) w h = let place = h.1 in let fits = h.2 in omega arith
+ram_below address width (Data at) w h = let place = h.1 in let fits = h.2 in omega arith
 
 -- what an access of text or data finds
 pub fault_in_ram : (shared : SharedView) (address width : ℕ) (fault : Option MemFault) → IsWidth width → address < PERSISTENT_BASE

@@ -28,7 +28,6 @@ pub fn start(alloc: Global, medium: Medium, capacity: u32) -> Result<PmCache, St
     ensures ready { IfOk result (λ cache. IsReady cache) }
     ensures err { IfErr result (λ fault. fault ≡ StepFault.Memory) }
 {
-    let _lines = medium.lines();
     match PmCache::new(alloc, medium, capacity, HARTS) {
         Ok(cache) => Ok(cache),
         Err(_) => Err(StepFault::Memory),

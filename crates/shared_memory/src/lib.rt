@@ -5,8 +5,10 @@
 mod caching;
 mod fault;
 mod history;
+mod limits;
 mod shared;
 
 pub use fault::StepFault;
 pub use history::Entry;
+pub use limits::check_limits;
 pub use shared::Shared;

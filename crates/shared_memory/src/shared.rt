@@ -13,24 +13,32 @@ ghost use Rattle.hart.specs.Memory.{amo_result};
 ghost use Rattle.hart.specs.Requests.{IsAtomicWidth, IsRequest};
 ghost use Rattle.line_memory.specs.Lines.{AreLines};
 ghost use Rattle.shared_memory.specs.Persisted.{AreAmong, persisted, touched};
+ghost use Rattle.shared_memory.specs.Placed.{IsPlaced};
 ghost use Rattle.shared_memory.specs.Refusals.{IsEventFault, RefusesRequest, RefusesWrite};
 ghost use Rattle.shared_memory.specs.Served.{access_fault, store_event};
 ghost use Rattle.shared_memory.specs.SharedView.{Evicts, Finds, IsMark, IsPlaceIn, Reads, Serves, Writes, lines_shown, memory_of};
 
 use crate::caching;
 use crate::fault::StepFault;
+use crate::limits::check_limits;
 use clean_fence::PmCache;
 use hart::{AccessFault, Reply, Request, amo_result};
 use isa_table::{AtomicOp, CacheOp};
-use line_memory::{Medium, MemFault, PERSISTENT_BASE, Ram};
+use line_memory::{Medium, MemFault, PERSISTENT_BASE, Ram, RamPlace};
 use program::Program;
 use reservation::Reservations;
 use std::alloc::Global;
 use std::marker::Model;
 use store_trace::{Event, Trace};
 
-/// The most lines that a cache can have room for.
-const MAX_CAPACITY: u32 = 16_384;
+/// Where an access begins that can be made.
+#[derive(Clone, Copy)]
+enum Place {
+    /// In text or data.
+    Ram(RamPlace),
+    /// In persistent memory, counted in bytes from its base.
+    Persistent(u32),
+}
 
 /// Text, data, persistent memory behind its cache, the harts' reservations, and the trace of what is done to persistent
 /// memory.
@@ -83,12 +91,7 @@ impl Shared {
         ensures err { IfErr result (λ fault.
             (fault ≡ StepFault.NoSuchHart) ⊎ (fault ≡ StepFault.OutOfLimits) ⊎ (fault ≡ StepFault.Memory)) }
     {
-        if harts < 1 || harts > 8 {
-            return Err(StepFault::NoSuchHart);
-        }
-        if capacity < 1 || capacity > MAX_CAPACITY {
-            return Err(StepFault::OutOfLimits);
-        }
+        check_limits(harts, capacity)?;
         Shared::made(alloc, program, medium, capacity)
     }
 
@@ -109,10 +112,7 @@ impl Shared {
             Ok(ram) => ram,
             Err(_) => return Err(StepFault::Memory),
         };
-        let cache = match caching::start(alloc, medium, capacity) {
-            Ok(cache) => cache,
-            Err(fault) => return Err(fault),
-        };
+        let cache = caching::start(alloc, medium, capacity)?;
         Ok(Shared {
             ram,
             cache,
@@ -162,6 +162,7 @@ impl Shared {
         ensures serves { Serves self.now self.now hart Request.FenceI result }
         ensures limit { length self.now.trace ≤ 65536 }
     {
+        // a look at the trace, for its limit to be known
         let _ = &self.trace;
         Reply::Done
     }
@@ -185,10 +186,10 @@ impl Shared {
         ensures err { OnErr result (self.new ≡ self.old) }
         ensures refused { IfErr result (RefusesRequest self.old hart (Request.Store address width value)) }
     {
-        if let Err(fault) = self.check(address, width) {
-            return Ok(Reply::Fault(access_fault(fault)));
+        match self.place(address, width) {
+            Ok(place) => self.write(hart, address, place, width, value)?,
+            Err(fault) => return Ok(Reply::Fault(access_fault(fault))),
         }
-        self.write(hart, address, width, value)?;
         Ok(Reply::Done)
     }
 
@@ -221,14 +222,15 @@ impl Shared {
         ensures err { OnErr result (self.new ≡ self.old) }
         ensures refused { IfErr result (RefusesRequest self.old hart (Request.Sc address width value)) }
     {
-        if let Err(fault) = self.check(address, width) {
-            return Ok(Reply::Fault(access_fault(fault)));
-        }
+        let place = match self.place(address, width) {
+            Ok(place) => place,
+            Err(fault) => return Ok(Reply::Fault(access_fault(fault))),
+        };
         let line = reserved_line(address);
         if !self.reservations.take(hart, line) {
             return Ok(Reply::Value(1));
         }
-        if let Err(fault) = self.write(hart, address, width, value) {
+        if let Err(fault) = self.write(hart, address, place, width, value) {
             // A refused step changes nothing: the reservation stands again.
             self.reservations.reserve(hart, line);
             return Err(fault);
@@ -252,11 +254,13 @@ impl Shared {
         ensures err { OnErr result (self.new ≡ self.old) }
         ensures refused { IfErr result (RefusesRequest self.old hart (Request.Amo op address width operand)) }
     {
-        if address < PERSISTENT_BASE {
-            return Ok(self.combine_in_ram(hart, op, address, width, operand));
-        }
         match self.place(address, width) {
-            Ok(offset) => self.combine_in_cache(hart, op, address, offset, width, operand),
+            Ok(Place::Ram(place)) => {
+                Ok(self.combine_in_ram(hart, op, address, place, width, operand))
+            }
+            Ok(Place::Persistent(offset)) => {
+                self.combine_in_cache(hart, op, address, offset, width, operand)
+            }
             Err(fault) => Ok(Reply::Fault(access_fault(fault))),
         }
     }
@@ -266,22 +270,20 @@ impl Shared {
         hart: u32,
         op: AtomicOp,
         address: u64,
+        place: RamPlace,
         width: u32,
         operand: u64,
     ) -> Reply
         requires hart { hart < 8 }
         requires width { IsAtomicWidth width }
-        requires below { address < PERSISTENT_BASE }
+        requires placed { IsPlaced self.old address width (Place.Ram place) }
         ensures serves { Serves self.old self.new hart (Request.Amo op address width operand) result }
         ensures limit { length self.new.trace ≤ 65536 }
     {
-        match self.read_ram(address, width) {
-            Ok(old) => {
-                self.write_to_ram(hart, address, width, amo_result(op, width, old, operand));
-                Reply::Value(old)
-            }
-            Err(fault) => Reply::Fault(access_fault(fault)),
-        }
+        let old = self.read_ram(address, place, width);
+        let value = amo_result(op, width, old, operand);
+        self.write_to_ram(hart, address, place, width, value);
+        Reply::Value(old)
     }
 
     /// The room for the event is made before the cache is touched, so that a refusal leaves the cache as it was.
@@ -347,26 +349,31 @@ impl Shared {
         ensures same { OnErr result (self.new ≡ self.old) }
         ensures limit { length self.new.trace ≤ 65536 }
     {
-        if address < PERSISTENT_BASE {
-            return self.read_ram(address, width);
-        }
-        match self.place(address, width) {
-            Ok(offset) => Ok(self.read_cache(address, offset, width)),
-            Err(fault) => Err(fault),
+        let place = self.place(address, width)?;
+        Ok(self.read_at(address, place, width))
+    }
+
+    fn read_at(&mut self, address: u64, place: Place, width: u32) -> u64
+        requires width { IsWidth width }
+        requires placed { IsPlaced self.old address width place }
+        ensures value { Finds (memory_of self.old) address width result }
+        ensures reads { Reads self.old self.new address }
+        ensures limit { length self.new.trace ≤ 65536 }
+    {
+        match place {
+            Place::Ram(place) => self.read_ram(address, place, width),
+            Place::Persistent(offset) => self.read_cache(address, offset, width),
         }
     }
 
-    fn read_ram(&self, address: u64, width: u32) -> Result<u64, MemFault>
+    fn read_ram(&self, address: u64, place: RamPlace, width: u32) -> u64
         requires width { IsWidth width }
-        requires below { address < PERSISTENT_BASE }
-        ensures ok { IfOk result (λ value. Finds (memory_of self.now) address width value) }
-        ensures err { IfErr result (λ fault. fault_of (memory_of self.now) address width ≡ Some fault) }
+        requires placed { IsPlaced self.now address width (Place.Ram place) }
+        ensures value { Finds (memory_of self.now) address width result }
+        ensures reads { Reads self.now self.now address }
         ensures limit { length self.now.trace ≤ 65536 }
     {
-        match self.ram.load(address, width) {
-            Ok(value) => Ok(value),
-            Err(fault) => Err(fault),
-        }
+        self.ram.load_at(place, width)
     }
 
     fn read_cache(&mut self, address: u64, offset: u32, width: u32) -> u64
@@ -379,28 +386,23 @@ impl Shared {
         caching::load(&mut self.cache, offset, width)
     }
 
-    /// Whether an access can be made.
-    fn check(&self, address: u64, width: u32) -> Result<(), MemFault>
+    /// Where an access begins; the fault of one that can't be made.
+    fn place(&self, address: u64, width: u32) -> Result<Place, MemFault>
         requires { IsWidth width }
-        ensures ok { OnOk result (fault_of (memory_of self.now) address width ≡ None) }
+        ensures ok { IfOk result (λ place. IsPlaced self.now address width place) }
+        ensures no_fault { OnOk result (fault_of (memory_of self.now) address width ≡ None) }
         ensures low { OnOk result (address < 2 ^ 38) }
         ensures err { IfErr result (λ fault. fault_of (memory_of self.now) address width ≡ Some fault) }
         ensures limit { length self.now.trace ≤ 65536 }
     {
         if address < PERSISTENT_BASE {
-            return match self.ram.load(address, width) {
-                Ok(_) => Ok(()),
-                Err(fault) => Err(fault),
-            };
+            return Ok(Place::Ram(self.ram.place(address, width)?));
         }
-        match self.place(address, width) {
-            Ok(_) => Ok(()),
-            Err(fault) => Err(fault),
-        }
+        Ok(Place::Persistent(self.place_in_lines(address, width)?))
     }
 
     /// Where an access to persistent memory begins, counted from its base.
-    fn place(&self, address: u64, width: u32) -> Result<u32, MemFault>
+    fn place_in_lines(&self, address: u64, width: u32) -> Result<u32, MemFault>
         requires width { IsWidth width }
         requires above { PERSISTENT_BASE ≤ address }
         ensures limit { length self.now.trace ≤ 65536 }
@@ -418,39 +420,42 @@ impl Shared {
         Ok(offset as u32)
     }
 
-    /// Makes a write that can be made, and the event of one to persistent memory. A refused write changes nothing.
-    fn write(&mut self, hart: u32, address: u64, width: u32, value: u64) -> Result<(), StepFault>
+    /// Makes a write, and the event of one to persistent memory. A refused write changes nothing.
+    fn write(
+        &mut self,
+        hart: u32,
+        address: u64,
+        place: Place,
+        width: u32,
+        value: u64,
+    ) -> Result<(), StepFault>
         requires hart { hart < 8 }
         requires width { IsWidth width }
-        requires low { address < 2 ^ 38 }
-        requires no_fault { fault_of (memory_of self.old) address width ≡ None }
+        requires placed { IsPlaced self.old address width place }
         ensures ok { OnOk result (Writes self.old self.new hart address width value) }
         ensures limit { length self.new.trace ≤ 65536 }
         ensures err { OnErr result (self.new ≡ self.old) }
         ensures refused { IfErr result (RefusesWrite self.old address) }
     {
-        if address < PERSISTENT_BASE {
-            self.write_to_ram(hart, address, width, value);
-            return Ok(());
+        match place {
+            Place::Ram(place) => self.write_to_ram(hart, address, place, width, value),
+            Place::Persistent(offset) => {
+                return self.write_to_cache(hart, address, offset, width, value);
+            }
         }
-        match self.place(address, width) {
-            Ok(offset) => self.write_to_cache(hart, address, offset, width, value),
-            Err(_) => unreachable!(),
-        }
+        Ok(())
     }
 
-    fn write_to_ram(&mut self, hart: u32, address: u64, width: u32, value: u64)
+    fn write_to_ram(&mut self, hart: u32, address: u64, place: RamPlace, width: u32, value: u64)
         requires hart { hart < 8 }
         requires width { IsWidth width }
-        requires below { address < PERSISTENT_BASE }
-        requires no_fault { fault_of (memory_of self.old) address width ≡ None }
+        requires placed { IsPlaced self.old address width (Place.Ram place) }
         ensures writes { Writes self.old self.new hart address width value }
         ensures limit { length self.new.trace ≤ 65536 }
     {
-        match self.ram.store(address, width, value) {
-            Ok(()) => self.reservations.stored(hart, reserved_line(address)),
-            Err(_) => unreachable!(),
-        }
+        let written_line = reserved_line(address);
+        self.ram.store_at(place, width, value);
+        self.reservations.stored(hart, written_line);
     }
 
     fn write_to_cache(

@@ -1,16 +1,15 @@
-use Rattle.std.proofs.Common.{Some, ap}
+use Rattle.std.proofs.Common.{ap}
 use Rattle.shared_memory.specs.SharedView.{SharedView}
-use Rattle.shared_memory.proofs.Serving.{fault_in_ram, found_in_ram}
+use Rattle.shared_memory.proofs.Serving.{found_in_ram, read_in_ram, ram_below}
 use Rattle.shared_memory.proofs.shared.Shared.read_ram.Goals as goal
 
-pub returns-in-Ok-clause-ok : goal.returns-in-Ok-clause-ok
-returns-in-Ok-clause-ok c =
+pub returns-clause-value : goal.returns-clause-value
+returns-clause-value c =
     let ram = ap (λ (s : SharedView). s.ram) c.self.view_is in
-    found_in_ram c.args.self.now c.args.address c.args.width c.in-Ok.value c.requires.width c.requires.below
-    (rw ram at c.in-Ok.ensures.ok.0) (rw ram at c.in-Ok.ensures.ok.1)
+    let below = ram_below c.args.address c.args.width c.args.place c.requires.width c.requires.placed.1 in
+    found_in_ram c.args.self.now c.args.address c.args.width c.load_at.result c.requires.width below
+    c.requires.placed.0 (rw (ram, ← c.requires.placed.1.1) at c.load_at.ensures)
 
-pub returns-in-Err-clause-err : goal.returns-in-Err-clause-err
-returns-in-Err-clause-err c =
-    let ram = ap (λ (s : SharedView). s.ram) c.self.view_is in
-    fault_in_ram c.args.self.now c.args.address c.args.width (Some c.in-Err.fault) c.requires.width c.requires.below
-    (rw ram at c.in-Err.ensures.err)
+pub returns-clause-reads : goal.returns-clause-reads
+returns-clause-reads c =
+    read_in_ram c.args.self.now c.args.address (ram_below c.args.address c.args.width c.args.place c.requires.width c.requires.placed.1)

@@ -10,7 +10,7 @@ returns-then-not-take-clause-ok c =
     let told = told_line c.self.inside.reservations c.args.hart c.reserved_line-line.result c.take.result c.take.ensures.reserved in
     let free : holds c.args.self.now c.args.hart (c.args.address / 64) ≡ false =
     rw (was, ← c.reserved_line-line.ensures) (sym told ∙ c.if-not-take.true) in
-    fails c.args.self.now _ c.args.hart c.args.address c.args.width c.args.value c.in_default.ensures.ok free
+    fails c.args.self.now _ c.args.hart c.args.address c.args.width c.args.value c.in-Ok.ensures.no_fault free
     (ends c.args.self.now _ c.self.inside.reservations c.take.new.self c.args.hart was (rw (← c.self.view_is) refl) c.take.ensures.ended)
 
 pub returns-in-Err-write-clause-err : goal.returns-in-Err-write-clause-err
@@ -31,7 +31,7 @@ returns-in-Err-write-clause-refused c =
     let told = told_line c.self.inside.reservations c.args.hart c.reserved_line-line.result c.take.result c.take.ensures.reserved in
     let held : holds c.args.self.now c.args.hart (c.args.address / 64) ≡ true =
     rw (was, ← c.reserved_line-line.ensures) (sym told ∙ c.if-not-take.false) in
-    sc_refused c.args.self.now _ c.args.hart c.args.address c.args.width c.args.value c.in-Err-write.fault c.in_default.ensures.ok held
+    sc_refused c.args.self.now _ c.args.hart c.args.address c.args.width c.args.value c.in-Err-write.fault c.in-Ok.ensures.no_fault held
     (ap (λ (s : SharedView). s.trace) c.self.view_is) c.in-Err-write.ensures.refused
 
 pub returns-clause-ok : goal.returns-clause-ok
@@ -40,6 +40,6 @@ returns-clause-ok c =
     let told = told_line c.self.inside.reservations c.args.hart c.reserved_line-line.result c.take.result c.take.ensures.reserved in
     let held : holds c.args.self.now c.args.hart (c.args.address / 64) ≡ true =
     rw (was, ← c.reserved_line-line.ensures) (sym told ∙ c.if-not-take.false) in
-    succeeds c.args.self.now _ c.write.new.self c.args.hart c.args.address c.args.width c.args.value c.in_default.ensures.ok held
+    succeeds c.args.self.now _ c.write.new.self c.args.hart c.args.address c.args.width c.args.value c.in-Ok.ensures.no_fault held
     (ends c.args.self.now _ c.self.inside.reservations c.take.new.self c.args.hart was (rw (← c.self.view_is) refl) c.take.ensures.ended)
-    c.in_default-write.ensures.ok
+    c.in_default.ensures.ok
