@@ -1,9 +1,11 @@
 //! Where a run is refused a step.
 
 use shared_memory::StepFault;
+use thiserror::Error;
 
 /// Where a run stopped. The steps before it stand.
-#[derive(Clone, Copy, Debug, PartialEq, Eq)]
+#[derive(Clone, Copy, Debug, PartialEq, Eq, Error)]
+#[error("{fault}")]
 pub struct RunStop {
     /// The number of the item, from 0.
     pub item: usize,

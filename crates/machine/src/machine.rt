@@ -84,12 +84,8 @@ impl Machine {
         ensures err { IfErr result (λ fault.
             (fault ≡ StepFault.NoSuchHart) ⊎ (fault ≡ StepFault.OutOfLimits) ⊎ (fault ≡ StepFault.Memory)) }
     {
-        let shared = match Shared::new(alloc, &program, medium, harts, capacity) {
-            Ok(shared) => shared,
-            Err(fault) => return Err(fault),
-        };
-        let machine = Machine::over(alloc, shared, harts)?;
-        Ok(machine)
+        let shared = Shared::new(alloc, &program, medium, harts, capacity)?;
+        Machine::over(alloc, shared, harts)
     }
 
     /// The harts at their start, each with a copy of the text, over what they share.
@@ -233,9 +229,7 @@ impl Machine {
         ensures err { OnErr result (self.new ≡ self.old) }
         ensures refused { IfErr result (Refuses self.old (Step.Evict line)) }
     {
-        if let Err(fault) = evict_line(&mut self.shared, line) {
-            return Err(fault);
-        }
+        evict_line(&mut self.shared, line)?;
         Ok(Outcome::Done)
     }
 
@@ -314,10 +308,7 @@ fn evict_line(shared: &mut Shared, line: u32) -> Result<(), StepFault>
     ensures err { OnErr result (shared.new ≡ shared.old) }
     ensures no_line { IfErr result (λ fault. (fault ≡ StepFault.NoSuchLine) × (length shared.old.cache.lines ≤ line)) }
 {
-    match shared.evict(line) {
-        Ok(()) => Ok(()),
-        Err(fault) => Err(fault),
-    }
+    shared.evict(line)
 }
 
 fn starting_harts(alloc: Global, harts: u32) -> Result<Vec<HartState>, StepFault>

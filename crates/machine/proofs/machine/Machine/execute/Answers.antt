@@ -55,14 +55,14 @@ returns-clause-runs c =
     let running : s.status ≡ Running = rw there at c.requires.running in
     let needs = rw (c.fetch-fetched.ensures, same) at (c.in-Ok.ensures.ok s) in
     elim c.match-advance.branch [
-      in-Done w ↦
+      | in-Done w ↦
           goes_on_alone c.args.self.now _ c.args.hart s c.advance.new.state there running (rw (← w.in-Done.ensures.effect) at needs)
           (rw (w.self-inside-is, w.state-is, ← c.self.view_is) refl)
-    | in-Stop w ↦
+      | in-Stop w ↦
           traps c.args.self.now _ c.args.hart s c.match-advance.state w.in-Stop.trap there running (rw (← w.in-Stop.ensures.effect) at needs)
           (rw w.in-Stop.ensures.kept at w.state-is)
           (rw (w.self-inside-is, ← c.self.view_is) refl)
-    | in-Ask+in_ok-ask-in-Ask w ↦
+      | in-Ask+in_ok-ask-in-Ask w ↦
           let copies = ap (λ (m : MachineView). m.copies) c.self.view_is in
           let shared = ap (λ (m : MachineView). m.shared) c.self.view_is in
           let each = rw (copies, harts) at c.self.invariant.1 in
@@ -84,11 +84,11 @@ returns-clause-event c =
     let same : c.hart.result.now ≡ s = search rules in
     let needs = rw (c.fetch-fetched.ensures, same) at (c.in-Ok.ensures.ok s) in
     elim c.match-advance.branch [
-      in-Done w ↦ λ makes.
+      | in-Done w ↦ λ makes.
           absurd (silent_alone c.args.self.now c.args.hart s c.advance.new.state there (rw (← w.in-Done.ensures.effect) at needs) makes)
-    | in-Stop w ↦ λ makes.
+      | in-Stop w ↦ λ makes.
           absurd (silent_trap c.args.self.now c.args.hart s w.in-Stop.trap there (rw (← w.in-Stop.ensures.effect) at needs) makes)
-    | in-Ask+in_ok-ask-in-Ask w ↦ λ makes.
+      | in-Ask+in_ok-ask-in-Ask w ↦ λ makes.
           let shared = ap (λ (m : MachineView). m.shared) c.self.view_is in
           let serves = rw shared at w.in_ok-ask-in-Ask.ensures.ok.serves in
           rw w.self-inside-is
