@@ -27,11 +27,10 @@ pub fn run_rounds(alloc: Global, machine: &mut Machine, steps: u32) -> Result<Sc
     let harts = machine.harts();
     let mut schedule = Schedule::new(alloc);
     for _ in 0..steps {
-        match make_round(machine, harts, &mut schedule) {
-            Ok(true) => {}
+        let made = make_round(machine, harts, &mut schedule)?;
+        if !made {
             // every hart has stopped
-            Ok(false) => return Ok(schedule),
-            Err(fault) => return Err(fault),
+            return Ok(schedule);
         }
     }
     Ok(schedule)
@@ -50,10 +49,8 @@ fn make_round(
 {
     let mut made = false;
     for hart in 0..harts {
-        match take_turn(machine, hart, schedule) {
-            Ok(stepped) => made = made || stepped,
-            Err(fault) => return Err(fault),
-        }
+        let stepped = take_turn(machine, hart, schedule)?;
+        made = made || stepped;
     }
     Ok(made)
 }
