@@ -1,5 +1,5 @@
 -- Where the marks are right, an operation ends only after it begins, so its End is looked for from its Begin on.
-use Rattle.std.proofs.Common.{◌≡◌, ℕ, ◌+◌, ◌-◌, ◌<◌, ◌≤◌, true, inl, inr, List, ◌∷◌, ◌++◌, length, get_or, take, drop, sym, ap, ◌∙◌, subst, arith, Some, take-append-drop}
+use Rattle.std.proofs.Common.{◌≡◌, ℕ, ◌+◌, ◌-◌, ◌<◌, ◌≤◌, inl, inr, List, ◌++◌, length, get_or, take, drop, sym, ap, ◌∙◌, subst, arith, Some, take-append-drop}
 use Rattle.std.specs.Prelude.{slice_index_or}
 use Rattle.std.specs.List.{Contains}
 use Rattle.std.proofs.lemmas.Bool.{cases_lt}
@@ -11,7 +11,6 @@ use Rattle.store_trace.specs.declared.event.Event.{Event}
 use Rattle.store_trace.specs.declared.event.Event.TheVariants.{Store, Clean, Fence, Begin, End}
 use Rattle.image_check.specs.Marks.{begun, begun_by, ended, ended_by, pending}
 use Rattle.image_check.specs.OrderFaults.{AreSound, HasFault, IsBegunTwice, IsNotPending, OpensSharer, ShareInode}
-use Rattle.image_check.specs.declared.fault.OpFault.{OpFault}
 use Rattle.image_check.specs.declared.fault.OpFault.TheVariants.{BegunTwice, NotPending}
 use Rattle.image_check.proofs.Marking.{open_true, open_unended}
 use Rattle.image_check.proofs.Members.{from_mapped, mapped_here}
@@ -30,6 +29,10 @@ sound_front plan events i h s j event fault l at f =
     let here : get_or events j event ≡ event = sym (get_or-take i events j event inside) ∙ get_or_from_slice_get (take i events) j event event at in
     s j event fault inside (slice_get-get_or events j event there ∙ ap (λ (e : Event). Some e) here)
     (subst (λ (es : List Event). HasFault plan es event fault) same f)
+
+pub sound_first : (plan : List Operation) (events : List Event) (i : ℕ) → i ≤ length events → AreSound plan events (length events) →
+    AreSound plan (take i events) (length (take i events))
+sound_first plan events i h s = sound_front plan events i h (λ j event fault l. s j event fault (omega arith))
 
 twice_from : (before : List Event) (event : Event) (op : ℕ) → begun_by event ≡ Some op → Contains (begun before) op → IsBegunTwice before event
 twice_from before (Store hart line offset width value) op e c = absurd cc
@@ -75,7 +78,7 @@ opens_whole plan events i d op l s o = record {
       elim (Contains-append_cases (ended (take i events)) (ended (drop i events)) o.other (subst (λ (ops : List ℕ). Contains ops o.other) (ended_parts events i) c)) [
         | inl a ↦
             unended plan (take i events) (get_or events i d) o.other
-            (sound_front plan events i (omega arith) (λ j event fault h. s j event fault (omega arith)))
+            (sound_first plan events i (omega arith) s)
             (s i (get_or events i d) BegunTwice l (slice_get-get_or events i d l)) o.begins a
         | inr b ↦ open_unended (drop i events) o.other o.open_still b
       ]);

@@ -6,6 +6,7 @@ mod Judging
 mod Looping
 mod Marking
 mod Members
+mod Noting
 mod Passing
 mod Planning
 mod Refusing

@@ -1,61 +1,19 @@
 -- One step further in the loops over events and operations.
-use Rattle.std.proofs.Common.{◌≡◌, ℕ, ◌+◌, ◌<◌, Bool, true, false, cond, ◌&&◌, List, [], ◌∷◌, ◌++◌, length, get_or, take, drop, refl, sym, ap, ◌∙◌, subst, Option, Some, None, take-append-drop, append-nil}
+use Rattle.std.proofs.Common.{◌≡◌, ℕ, ◌+◌, ◌<◌, Bool, true, false, cond, ◌&&◌, List, [], ◌∷◌, ◌++◌, length, get_or, take, refl, sym, ap, ◌∙◌, subst, Option, Some, None, append-nil}
 use Rattle.std.specs.Prelude.{filter, option_and_then, IsTrue}
 use Rattle.std.specs.List.{flat_map}
-use Rattle.std.specs.Option.{option_map_or, option_to_list}
+use Rattle.std.specs.Option.{option_map_or}
 use Rattle.std.proofs.lemmas.Grind.{flat_map-append}
 use Rattle.std.proofs.lemmas.List.{take_more}
-use Rattle.std.proofs.lemmas.List.Elements.{filter_map-append, filter-append}
+use Rattle.std.proofs.lemmas.List.Elements.{filter-append}
 use Rattle.plan.specs.Entries.{entries_of}
 use Rattle.plan.specs.declared.operation.Operation.{Operation}
-use Rattle.store_trace.specs.declared.event.Event.{Event}
-use Rattle.store_trace.specs.declared.event.Event.TheVariants.{End}
 use Rattle.volume.specs.declared.entry.Entry.{Entry}
 use Rattle.image_check.specs.Growth.{are_within, is_longer, is_shown}
 use Rattle.image_check.specs.Legal.{with_entries}
-use Rattle.image_check.specs.Marks.{begun, begun_by, ended, ended_by, is_open}
 use Rattle.image_check.specs.Planned.{operation_of, planned}
 use Rattle.image_check.proofs.Growing.{grown, none_fits, with_append}
-use Rattle.image_check.proofs.Judging.{flat_cond, joined}
-
-ended_more : (events : List Event) (i : ℕ) (d : Event) → i < length events →
-    ended (take (i + 1) events) ≡ ended (take i events) ++ ended (get_or events i d ∷ [])
-ended_more events i d h =
-    ap (λ (es : List Event). ended es) (take_more events i d h) ∙ filter_map-append ended_by (take i events) (get_or events i d ∷ [])
-
--- the entries of the operation that ends in the next event go to the volume so far
-pub settled_more : (plan : List Operation) (events : List Event) (i : ℕ) (d : Event) (before v : List (List Entry)) (o : Option (List (List Entry))) → i < length events →
-    with_entries before (flat_map (planned plan) (ended (take i events))) ≡ Some v →
-    with_entries v (flat_map (planned plan) (ended (get_or events i d ∷ []))) ≡ o →
-    with_entries before (flat_map (planned plan) (ended (take (i + 1) events))) ≡ o
-settled_more plan events i d before v o h s n =
-    ap (λ (ops : List ℕ). with_entries before (flat_map (planned plan) ops)) (ended_more events i d h)
-    ∙ joined (planned plan) before (Some v) (ended (take i events)) (ended (get_or events i d ∷ [])) s
-    ∙ n
-
--- where they can't, no later event helps
-pub settled_none : (plan : List Operation) (events : List Event) (i : ℕ) (d : Event) (before v : List (List Entry)) → i < length events →
-    with_entries before (flat_map (planned plan) (ended (take i events))) ≡ Some v →
-    with_entries v (flat_map (planned plan) (ended (get_or events i d ∷ []))) ≡ None →
-    with_entries before (flat_map (planned plan) (ended events)) ≡ None
-settled_none plan events i d before v h s n =
-    let parts : ended events ≡ ended (take (i + 1) events) ++ ended (drop (i + 1) events) =
-    ap (λ (es : List Event). ended es) (sym (take-append-drop (i + 1) events)) ∙ filter_map-append ended_by (take (i + 1) events) (drop (i + 1) events) in
-    ap (λ (ops : List ℕ). with_entries before (flat_map (planned plan) ops)) parts
-    ∙ joined (planned plan) before None (ended (take (i + 1) events)) (ended (drop (i + 1) events)) (settled_more plan events i d before v None h s n)
-
--- the operation that begins in the next event joins the pending ones
-pub pending_more : (events : List Event) (i : ℕ) (d : Event) (found : List ℕ) (o : Option ℕ) → i < length events →
-    found ≡ filter (is_open events) (begun (take i events)) →
-    option_to_list o ≡ filter (is_open events) (begun (get_or events i d ∷ [])) →
-    found ++ option_to_list o ≡ filter (is_open events) (begun (take (i + 1) events))
-pending_more events i d found o h s n =
-    let parts : begun (take (i + 1) events) ≡ begun (take i events) ++ begun (get_or events i d ∷ []) =
-    ap (λ (es : List Event). begun es) (take_more events i d h) ∙ filter_map-append begun_by (take i events) (get_or events i d ∷ []) in
-    ap (λ (ops : List ℕ). ops ++ option_to_list o) s
-    ∙ ap (λ (ops : List ℕ). filter (is_open events) (begun (take i events)) ++ ops) n
-    ∙ sym (filter-append (is_open events) (begun (take i events)) (begun (get_or events i d ∷ [])))
-    ∙ ap (λ (ops : List ℕ). filter (is_open events) ops) (sym parts)
+use Rattle.image_check.proofs.Judging.{flat_cond}
 
 -- what one operation adds, where it ends
 planned_some : (plan : List Operation) (op : ℕ) (o : Operation) → operation_of plan op ≡ Some o → planned plan op ≡ entries_of o
@@ -64,19 +22,16 @@ planned_some plan op o e = ap (λ (p : Option Operation). option_map_or entries_
 planned_none : (plan : List Operation) (op : ℕ) → operation_of plan op ≡ None → planned plan op ≡ []
 planned_none plan op e = ap (λ (p : Option Operation). option_map_or entries_of p []) e
 
-pub settled_planned : (plan : List Operation) (hart op : ℕ) (o : Operation) (v w : List (List Entry)) → operation_of plan op ≡ Some o →
-    with_entries v (entries_of o) ≡ Some w → with_entries v (flat_map (planned plan) (ended (End hart op ∷ []))) ≡ Some w
-settled_planned plan hart op o v w e g =
-    ap (λ (es : List (ℕ × Entry)). with_entries v es) (append-nil (planned plan op) ∙ planned_some plan op o e) ∙ g
+pub settled_planned : (plan : List Operation) (op : ℕ) (o : Operation) (v w : List (List Entry)) → operation_of plan op ≡ Some o →
+    with_entries v (entries_of o) ≡ Some w → with_entries v (planned plan op) ≡ Some w
+settled_planned plan op o v w e g = ap (λ (es : List (ℕ × Entry)). with_entries v es) (planned_some plan op o e) ∙ g
 
-pub settled_unplanned : (plan : List Operation) (hart op : ℕ) (v : List (List Entry)) → operation_of plan op ≡ None →
-    with_entries v (flat_map (planned plan) (ended (End hart op ∷ []))) ≡ Some v
-settled_unplanned plan hart op v e = ap (λ (es : List (ℕ × Entry)). with_entries v es) (append-nil (planned plan op) ∙ planned_none plan op e)
+pub settled_unplanned : (plan : List Operation) (op : ℕ) (v : List (List Entry)) → operation_of plan op ≡ None → with_entries v (planned plan op) ≡ Some v
+settled_unplanned plan op v e = ap (λ (es : List (ℕ × Entry)). with_entries v es) (planned_none plan op e)
 
-pub settled_unfit : (plan : List Operation) (hart op : ℕ) (o : Operation) (v : List (List Entry)) → operation_of plan op ≡ Some o →
-    are_within (length v) (entries_of o) ≡ false → with_entries v (flat_map (planned plan) (ended (End hart op ∷ []))) ≡ None
-settled_unfit plan hart op o v e f =
-    ap (λ (es : List (ℕ × Entry)). with_entries v es) (append-nil (planned plan op) ∙ planned_some plan op o e) ∙ none_fits v (entries_of o) f
+pub settled_unfit : (plan : List Operation) (op : ℕ) (o : Operation) (v : List (List Entry)) → operation_of plan op ≡ Some o →
+    are_within (length v) (entries_of o) ≡ false → with_entries v (planned plan op) ≡ None
+settled_unfit plan op o v e f = ap (λ (es : List (ℕ × Entry)). with_entries v es) (planned_some plan op o e) ∙ none_fits v (entries_of o) f
 
 -- the next operation adds its entries where it is shown
 shown_entries_more : (f : ℕ → List (ℕ × Entry)) (p : ℕ → Bool) (ops : List ℕ) (i d : ℕ) → i < length ops →

@@ -1,5 +1,5 @@
 -- From a volume to its image, and from the images by their numbers to the moment.
-use Rattle.std.proofs.Common.{◌≡◌, ℕ, ◌<◌, ◌≤◌, List, [], take, sym, ap, ◌∙◌, subst, Option, Some, None}
+use Rattle.std.proofs.Common.{◌≡◌, ℕ, ◌<◌, ◌≤◌, List, [], length, take, refl, sym, ap, ◌∙◌, subst, Option, Some, None}
 use Rattle.std.specs.Prelude.{slice_index_or, Ok, Err}
 use Rattle.crash_model.specs.Cut.{cut_count, cuts, number_in}
 use Rattle.crash_model.specs.Image.{image}
@@ -12,11 +12,13 @@ use Rattle.store_trace.specs.declared.event.Event.{Event}
 use Rattle.volume.specs.declared.entry.Entry.{Entry}
 use Rattle.std.specs.Result.{result_ok}
 use Rattle.image_check.specs.Growth.{AreApart, AreOutcomes}
-use Rattle.image_check.specs.Verdicts.{IsJudged, IsMomentVerdict, IsVolumeJudged, Passes, cut_at, image_after}
+use Rattle.image_check.specs.OrderFaults.{AreSound}
+use Rattle.image_check.specs.Verdicts.{AreJudged, ArePassed, IsJudged, IsLeastBad, IsMomentVerdict, IsVolumeJudged, Passes, cut_at, image_after}
+use Rattle.image_check.specs.declared.moment.BadImage.{BadImage}
 use Rattle.image_check.specs.declared.verdict.Cause.{Cause}
 use Rattle.image_check.specs.declared.verdict.Cause.TheVariants.{Fault, Illegal}
-use Rattle.image_check.specs.declared.verdict.MomentVerdict.{MomentVerdict}
 use Rattle.image_check.specs.declared.verdict.MomentVerdict.TheVariants as moments
+use Rattle.image_check.proofs.Apart.{sound_apart}
 use Rattle.image_check.proofs.Passing.{all_numbers}
 
 -- the image of number n, by the steps that the cuts were made from
@@ -51,40 +53,67 @@ pub faulty_image : (plan : List Operation) (start medium : List (List ℕ)) (ste
 faulty_image plan start medium steps events n fault e m v =
     ap (λ (x : List (List ℕ)). volume_of x) (sym (image_numbered start medium steps events n e m)) ∙ v
 
--- the verdict where every number passes, and where one is the first that doesn't
-pub moment_passes : (plan : List Operation) (start : List (List ℕ)) (steps : List PersistenceStep) (events : List Event) (count : ℕ) →
-    steps ≡ history events → count ≡ cut_count steps → count ≤ 65536 →
-    ((n : ℕ) → n < count → Passes plan start events (cut_at events n)) → IsMomentVerdict plan start events moments.Pass
-moment_passes plan start steps events count e c few h =
+-- the images where every number passes, and where one is the first that doesn't
+pub images_pass : (plan : List Operation) (start : List (List ℕ)) (steps : List PersistenceStep) (events : List Event) (count : ℕ) →
+    steps ≡ history events → count ≡ cut_count steps →
+    ((n : ℕ) → n < count → Passes plan start events (cut_at events n)) → ArePassed plan start events
+images_pass plan start steps events count e c h =
     let whole : cut_count (history events) ≡ count = ap (λ (p : List PersistenceStep). cut_count p) (sym e) ∙ sym c in
-    (subst (λ (k : ℕ). k ≤ 65536) (sym whole) few, all_numbers plan start events (λ n l. h n (subst (λ (k : ℕ). n < k) whole l)))
+    all_numbers plan start events (λ n l. h n (subst (λ (k : ℕ). n < k) whole l))
 
-pub moment_fails : (plan : List Operation) (start : List (List ℕ)) (steps : List PersistenceStep) (events : List Event) (count number : ℕ) (cause : Cause) →
-    steps ≡ history events → count ≡ cut_count steps → count ≤ 65536 → number < count →
+pub least_bad : (plan : List Operation) (start : List (List ℕ)) (steps : List PersistenceStep) (events : List Event) (count number : ℕ) (cause : Cause) →
+    steps ≡ history events → count ≡ cut_count steps → number < count →
     IsJudged plan start events (cut_at events number) (Some cause) →
-    ((n : ℕ) → n < number → Passes plan start events (cut_at events n)) → IsMomentVerdict plan start events (moments.Fail number cause)
-moment_fails plan start steps events count number cause e c few l j h =
-    let whole : cut_count (history events) ≡ count = ap (λ (p : List PersistenceStep). cut_count p) (sym e) ∙ sym c in (
-      subst (λ (k : ℕ). k ≤ 65536) (sym whole) few,
-      record {
-        there = subst (λ (k : ℕ). number < k) (sym whole) l;
-        bad = j;
-        least = h;
-      },
-    )
+    ((n : ℕ) → n < number → Passes plan start events (cut_at events n)) → IsLeastBad plan start events number cause
+least_bad plan start steps events count number cause e c l j h =
+    let whole : cut_count (history events) ≡ count = ap (λ (p : List PersistenceStep). cut_count p) (sym e) ∙ sym c in
+    record { there = subst (λ (k : ℕ). number < k) (sym whole) l; bad = j; least = h }
 
--- the verdict on the images is that on the moment
-pub moment_judged : (plan : List Operation) (medium start : List (List ℕ)) (events all : List Event) (moment : ℕ) (steps : List PersistenceStep)
-    (first : Option (List (List Entry))) (settled : Option (List (List Entry))) (under_way : List ℕ) (verdict : MomentVerdict) →
-    start ≡ medium → steps ≡ history (take moment all) → events ≡ take moment all → first ≡ result_ok (volume_of medium) →
-    AreOutcomes plan first events settled under_way → AreApart plan (take moment all) →
+-- what was found of the images is the verdict on the moment
+few_cuts : (steps : List PersistenceStep) (events : List Event) (count : ℕ) → steps ≡ history events → count ≡ cut_count steps → count ≤ 65536 →
+    cut_count (history events) ≤ 65536
+few_cuts steps events count e c few =
+    let whole : count ≡ cut_count (history events) = c ∙ ap (λ (p : List PersistenceStep). cut_count p) e in
+    subst (λ (k : ℕ). k ≤ 65536) whole few
+
+pub pass_judged : (plan : List Operation) (medium : List (List ℕ)) (events : List Event) (steps : List PersistenceStep) (count : ℕ) →
+    steps ≡ history events → count ≡ cut_count steps → count ≤ 65536 → AreJudged plan medium events None → IsMomentVerdict plan medium events moments.Pass
+pass_judged plan medium events steps count e c few h = (few_cuts steps events count e c few, h)
+
+pub fail_judged : (plan : List Operation) (medium : List (List ℕ)) (events : List Event) (steps : List PersistenceStep) (count : ℕ) (bad : BadImage) →
+    steps ≡ history events → count ≡ cut_count steps → count ≤ 65536 → AreJudged plan medium events (Some bad) →
+    IsMomentVerdict plan medium events (moments.Fail bad.number bad.cause)
+fail_judged plan medium events steps count bad e c few h = (few_cuts steps events count e c few, h)
+
+pub none_found : (found : Option BadImage) → ((bad : BadImage) → ¬ (found ≡ Some bad)) → found ≡ None
+none_found None n = refl
+none_found (Some bad) n = absurd (n bad refl)
+
+pub too_many : (plan : List Operation) (medium : List (List ℕ)) (events : List Event) (steps : List PersistenceStep) →
+    steps ≡ history events → 65536 < cut_count steps → IsMomentVerdict plan medium events moments.TooMany
+too_many plan medium events steps e many = subst (λ (p : List PersistenceStep). 65536 < cut_count p) e many
+
+pub images_judged : (plan : List Operation) (medium start : List (List ℕ)) (all : List Event) (moment : ℕ) (steps : List PersistenceStep)
+    (settled : Option (List (List Entry))) (under_way : List ℕ) (found : Option BadImage) →
+    start ≡ medium → steps ≡ history (take moment all) → moment ≤ length all → AreSound plan all (length all) →
+    AreOutcomes plan (result_ok (volume_of medium)) (take moment all) settled under_way →
     ((es : List Event) → steps ≡ history es → AreOutcomes plan (result_ok (volume_of start)) es settled under_way → AreApart plan es →
-    IsMomentVerdict plan start es verdict) →
-    IsMomentVerdict plan medium (take moment all) verdict
-moment_judged plan medium start events all moment steps first settled under_way verdict s p q f o a h =
-    let volume_is : first ≡ result_ok (volume_of start) = f ∙ ap (λ (x : List (List ℕ)). result_ok (volume_of x)) (sym s) in
-    let at_first : AreOutcomes plan (result_ok (volume_of start)) events settled under_way =
-    subst (λ (x : Option (List (List Entry))). AreOutcomes plan x events settled under_way) volume_is o in
-    let at_moment : AreOutcomes plan (result_ok (volume_of start)) (take moment all) settled under_way =
-    subst (λ (es : List Event). AreOutcomes plan (result_ok (volume_of start)) es settled under_way) q at_first in
-    subst (λ (x : List (List ℕ)). IsMomentVerdict plan x (take moment all) verdict) s (h (take moment all) p at_moment a)
+    AreJudged plan start es found) →
+    AreJudged plan medium (take moment all) found
+images_judged plan medium start all moment steps settled under_way found s p inside sound o h =
+    let here : AreOutcomes plan (result_ok (volume_of start)) (take moment all) settled under_way =
+    subst (λ (x : List (List ℕ)). AreOutcomes plan (result_ok (volume_of x)) (take moment all) settled under_way) (sym s) o in
+    subst (λ (x : List (List ℕ)). AreJudged plan x (take moment all) found) s (h (take moment all) p here (sound_apart plan all moment inside sound))
+
+-- the same from the starting volume and the events that a moment's outcomes were made of
+pub started_judged : (plan : List Operation) (medium start : List (List ℕ)) (all events : List Event) (moment : ℕ) (steps : List PersistenceStep)
+    (first settled : Option (List (List Entry))) (under_way : List ℕ) (found : Option BadImage) →
+    start ≡ medium → steps ≡ history (take moment all) → events ≡ take moment all → first ≡ result_ok (volume_of medium) →
+    moment ≤ length all → AreSound plan all (length all) → AreOutcomes plan first events settled under_way →
+    ((es : List Event) → steps ≡ history es → AreOutcomes plan (result_ok (volume_of start)) es settled under_way → AreApart plan es →
+    AreJudged plan start es found) →
+    AreJudged plan medium (take moment all) found
+started_judged plan medium start all events moment steps first settled under_way found s p e f inside sound o h =
+    images_judged plan medium start all moment steps settled under_way found s p inside sound
+    (subst (λ (es : List Event). AreOutcomes plan (result_ok (volume_of medium)) es settled under_way) e
+    (subst (λ (x : Option (List (List Entry))). AreOutcomes plan x events settled under_way) f o)) h

@@ -12,6 +12,7 @@ use Rattle.image_check.specs.Legal.{IsLegal}
 use Rattle.image_check.specs.OrderFaults.{AreSound, IsFirstFault}
 use Rattle.image_check.specs.declared.fault.CheckFault.{CheckFault}
 use Rattle.image_check.specs.declared.fault.CheckFault.TheVariants as refused
+use Rattle.image_check.specs.declared.moment.BadImage.{BadImage}
 use Rattle.image_check.specs.declared.verdict.Cause.{Cause}
 use Rattle.image_check.specs.declared.verdict.Cause.TheVariants.{Fault, Illegal}
 use Rattle.image_check.specs.declared.verdict.MomentVerdict.{MomentVerdict}
@@ -59,6 +60,11 @@ pub record IsLeastBad (plan : List Operation) (start : List (List ℕ)) (events 
   pub there : number < cut_count (history events)
   pub bad : IsBad plan start events (cut_at events number) cause
   pub least : (n : ℕ) → n < number → Passes plan start events (cut_at events n)
+
+-- what was found of the images of all cuts of these events: that they pass, or the least bad one
+abbrev pub AreJudged : List Operation → List (List ℕ) → List Event → Option BadImage → Type 0
+AreJudged plan start events None = ArePassed plan start events
+AreJudged plan start events (Some bad) = IsLeastBad plan start events bad.number bad.cause
 
 -- the verdict on the moment after these events
 abbrev pub IsMomentVerdict : List Operation → List (List ℕ) → List Event → MomentVerdict → Type 0

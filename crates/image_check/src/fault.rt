@@ -1,5 +1,6 @@
 //! Why a trace isn't checked.
 
+use std::alloc::AllocError;
 use thiserror::Error;
 
 /// What is wrong with the mark of an operation. The message is the fault's code; of the faults of one event the
@@ -32,4 +33,15 @@ pub enum CheckFault {
     /// A growth was refused.
     #[error("C3")]
     Memory,
+}
+
+impl From<AllocError> for CheckFault {
+    ghost use Rattle.std.specs.Prelude.{◌≡◌};
+    ghost use Rattle.image_check.specs.declared.fault.CheckFault.TheVariants.{Memory};
+
+    ghost from_gives = { λ _ fault. fault ≡ Memory };
+
+    fn from(_refused: AllocError) -> CheckFault {
+        CheckFault::Memory
+    }
 }

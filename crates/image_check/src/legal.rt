@@ -2,17 +2,17 @@
 
 ghost use Rattle.image_check.specs.Growth.{AreApart, AreOutcomes, is_shown};
 ghost use Rattle.image_check.specs.Legal.{IsLegal, with_entries};
-ghost use Rattle.image_check.specs.Marks.{begun, ended, is_open, pending};
+ghost use Rattle.image_check.specs.Marks.{begun_by, ended};
+ghost use Rattle.image_check.specs.OrderFaults.{AreSound};
 ghost use Rattle.image_check.specs.Planned.{planned};
 ghost use Rattle.nova_log.specs.declared.fault.VolumeFault.{VolumeFault as AFault};
 ghost use Rattle.store_trace.specs.declared.event.Event.{Event as AnEvent};
 ghost use Rattle.volume.specs.declared.entry.Entry.{Entry as AnEntry};
-ghost use Rattle.std.specs.List.{flat_map};
-ghost use Rattle.std.specs.Prelude.{◌≡◌, ◌↔◌, List, [], ◌∷◌, ◌++◌, Result, filter, length, option_and_then, IfOk, IsTrue, OnOk, if◌then◌else◌};
-ghost use Rattle.std.specs.Option.{option_to_list};
+ghost use Rattle.plan.specs.declared.operation.Operation.{Operation as AnOperation};
+ghost use Rattle.std.specs.List.{Contains, flat_map};
+ghost use Rattle.std.specs.Prelude.{◌≡◌, ◌↔◌, ◌==◌, ℕ, not, List, [], ◌∷◌, ◌++◌, Option, Some, Result, filter, length, option_and_then, IfOk, IsTrue, OnOk, if◌then◌else◌};
 ghost use Rattle.std.specs.Result.{result_ok};
 
-use crate::marks::has_ended;
 use crate::operations::{append, find_operation, fits, shows};
 use plan::Plan;
 use std::alloc::{AllocError, Global};
@@ -29,19 +29,66 @@ pub struct Outcomes {
 }
 
 impl Outcomes {
-    /// What the volumes after these events may be, over this starting volume.
+    /// What the volumes may be over this starting volume, before any event.
+    pub fn new(alloc: Global, start: Option<Volume>) -> Outcomes
+        ensures { (plan : List AnOperation) → AreOutcomes plan start [] result.settled result.under_way.items }
+    {
+        Outcomes {
+            settled: start,
+            under_way: Vec::new(alloc),
+        }
+    }
+
+    /// What the volumes after these events may be, which fit the plan.
     pub fn after(
         alloc: Global,
         plan: &Plan,
-        start: &Option<Volume>,
+        start: Option<Volume>,
         events: &[Event],
     ) -> Result<Outcomes, AllocError>
+        requires { AreSound plan.now.operations events.now (length events.now) }
         ensures { IfOk result (λ outcomes.
-            AreOutcomes plan.now.operations start.now events.now outcomes.settled outcomes.under_way.items) }
+            AreOutcomes plan.now.operations start events.now outcomes.settled outcomes.under_way.items) }
     {
-        let settled = settled_from(alloc, plan, start, events)?;
-        let under_way = pending_after(alloc, events)?;
-        Ok(Outcomes { settled, under_way })
+        let mut outcomes = Outcomes::new(alloc, start);
+        for event in events {
+            outcomes.note(plan, *event)?;
+        }
+        Ok(outcomes)
+    }
+
+    /// Takes in the event after those so far. An operation that begins in it hasn't ended.
+    pub fn note(&mut self, plan: &Plan, event: Event) -> Result<(), AllocError>
+        ensures { OnOk result ((start : Option (List (List AnEntry))) (before : List AnEvent) →
+            AreOutcomes plan.now.operations start before self.old.settled self.old.under_way.items →
+            ((op : ℕ) → begun_by event ≡ Some op → ¬ Contains (ended before) op) →
+            AreOutcomes plan.now.operations start (before ++ event ∷ []) self.new.settled self.new.under_way.items) }
+    {
+        match event {
+            Event::Begin { op, .. } => self.begin(op),
+            Event::End { op, .. } => self.end(plan, op),
+            Event::Store { .. } | Event::Clean { .. } | Event::Fence { .. } => Ok(()),
+        }
+    }
+
+    fn begin(&mut self, op: u64) -> Result<(), AllocError>
+        ensures settled { self.new.settled ≡ self.old.settled }
+        ensures under_way { OnOk result (self.new.under_way.items ≡ self.old.under_way.items ++ op ∷ []) }
+    {
+        self.under_way.push(op)?;
+        Ok(())
+    }
+
+    fn end(&mut self, plan: &Plan, op: u64) -> Result<(), AllocError>
+        ensures settled { OnOk result (self.new.settled
+            ≡ option_and_then (λ volume. with_entries volume (planned plan.now.operations op)) self.old.settled) }
+        ensures under_way { self.new.under_way.items ≡ filter (λ other. not (op == other)) self.old.under_way.items }
+    {
+        remove(&mut self.under_way, op);
+        if let Some(volume) = self.settled.take() {
+            self.settled = settled(volume, plan, op)?;
+        }
+        Ok(())
     }
 
     /// Whether the volume is legal. No two pending operations add to one inode, so the logs of its inodes tell of each
@@ -60,96 +107,25 @@ impl Outcomes {
     }
 }
 
-fn settled_from(
-    alloc: Global,
-    plan: &Plan,
-    start: &Option<Volume>,
-    events: &[Event],
-) -> Result<Option<Volume>, AllocError>
-    ensures { IfOk result (λ settled. settled
-        ≡ option_and_then (λ before. with_entries before (flat_map (planned plan.now.operations) (ended events.now))) start.now) }
+fn remove(ops: &mut Vec<u64>, op: u64)
+    ensures { ops.new.items ≡ filter (λ other. not (op == other)) ops.old.items }
 {
-    match start {
-        Some(before) => settled_after(alloc, plan, before, events),
-        None => Ok(None),
-    }
+    ops.retain(|other| op != *other);
 }
 
-/// The volume with the entries of the operations that ended. None where it lacks one of their inodes.
-#[tactic(auto, using(crate::proofs::Looping::settled_none))]
-fn settled_after(
-    alloc: Global,
-    plan: &Plan,
-    before: &Volume,
-    events: &[Event],
-) -> Result<Option<Volume>, AllocError>
-    ensures { IfOk result (λ settled.
-        with_entries before.now (flat_map (planned plan.now.operations) (ended events.now)) ≡ settled) }
-{
-    let mut settled = before.copy(alloc)?;
-    for event in events {
-        if !settle(&mut settled, plan, *event)? {
-            return Ok(None);
-        }
-    }
-    Ok(Some(settled))
-}
-
-/// Adds the entries of the operation that ends in the event, if one does. False where the volume lacks one of its inodes.
+/// The volume with the entries of the operation. None where it lacks one of its inodes.
 #[tactic(auto, using(crate::proofs::Looping::settled_planned, crate::proofs::Looping::settled_unplanned, crate::proofs::Looping::settled_unfit))]
-fn settle(volume: &mut Volume, plan: &Plan, event: Event) -> Result<bool, AllocError>
-    ensures { IfOk result (λ fits. with_entries volume.old (flat_map (planned plan.now.operations) (ended (event ∷ [])))
-        ≡ (if fits then Some volume.new else None)) }
+fn settled(mut volume: Volume, plan: &Plan, op: u64) -> Result<Option<Volume>, AllocError>
+    ensures { IfOk result (λ settled. with_entries volume (planned plan.now.operations op) ≡ settled) }
 {
-    let Event::End { op, .. } = event else {
-        return Ok(true);
-    };
     let Some(operation) = find_operation(plan, op) else {
-        return Ok(true);
+        return Ok(Some(volume));
     };
-    if !fits(volume, &operation) {
-        return Ok(false);
+    if !fits(&volume, &operation) {
+        return Ok(None);
     }
-    append(volume, &operation)?;
-    Ok(true)
-}
-
-/// The pending operations.
-fn pending_after(alloc: Global, events: &[Event]) -> Result<Vec<u64>, AllocError>
-    ensures { IfOk result (λ found. found.items ≡ pending events.now) }
-{
-    let mut found = Vec::new(alloc);
-    for event in events {
-        push_opened(&mut found, opened(events, *event))?;
-    }
-    Ok(found)
-}
-
-fn push_opened(found: &mut Vec<u64>, opened: Option<u64>) -> Result<(), AllocError>
-    ensures { OnOk result (found.new.items ≡ found.old.items ++ option_to_list opened) }
-{
-    match opened {
-        Some(op) => {
-            found.push(op)?;
-            Ok(())
-        }
-        None => Ok(()),
-    }
-}
-
-/// The operation that begins in the event and doesn't end.
-#[tactic(auto, using(crate::proofs::Marking::open_true, crate::proofs::Marking::open_false))]
-fn opened(events: &[Event], event: Event) -> Option<u64>
-    ensures { option_to_list result ≡ filter (is_open events.now) (begun (event ∷ [])) }
-{
-    let Event::Begin { op, .. } = event else {
-        return None;
-    };
-    if has_ended(events, op) {
-        None
-    } else {
-        Some(op)
-    }
+    append(&mut volume, &operation)?;
+    Ok(Some(volume))
 }
 
 /// The volume with the entries of those operations that the other volume shows.

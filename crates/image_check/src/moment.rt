@@ -4,7 +4,7 @@ ghost use Rattle.crash_image.specs.View.{HasLines};
 ghost use Rattle.crash_model.specs.Cut.{cut_count};
 ghost use Rattle.image_check.specs.Growth.{AreApart, AreOutcomes};
 ghost use Rattle.image_check.specs.OrderFaults.{AreSound};
-ghost use Rattle.image_check.specs.Verdicts.{IsJudged, IsMomentVerdict, IsRefusal, IsVolumeJudged, cut_at};
+ghost use Rattle.image_check.specs.Verdicts.{AreJudged, IsJudged, IsMomentVerdict, IsRefusal, IsVolumeJudged, cut_at};
 ghost use Rattle.nova_log.specs.Volumes.{volume_of};
 ghost use Rattle.store_trace.specs.History.{at_moment, history};
 ghost use Rattle.store_trace.specs.declared.event.Event.{Event as AnEvent};
@@ -22,6 +22,13 @@ use plan::Plan;
 use std::alloc::Global;
 use store_trace::{Event, Trace};
 use volume::Volume;
+
+/// An image that doesn't recover to a legal volume, by the number of its cut.
+#[derive(Clone, Copy, Drop)]
+pub struct BadImage {
+    pub number: u32,
+    pub cause: Cause,
+}
 
 /// The verdict on the state after the first `moment` events of the trace, which started from the medium: every image
 /// of it is recovered and judged by the plan. The medium has every line that the trace names.
@@ -49,7 +56,7 @@ pub fn check_moment(
         return Err(CheckFault::NoSuchMoment);
     }
     let start = starting_volume(alloc, medium)?;
-    judge_moment(alloc, plan, medium, &start, trace, moment)
+    judge_moment(alloc, plan, medium, start, trace, moment)
 }
 
 /// The volume of the starting medium, if it has one.
@@ -64,36 +71,20 @@ pub fn starting_volume(alloc: Global, medium: &Medium) -> Result<Option<Volume>,
     }
 }
 
-/// How many images the moment has, as far as they are counted.
-pub fn count_images(
-    alloc: Global,
-    medium: &Medium,
-    trace: &Trace,
-    moment: u32,
-) -> Result<u32, CheckFault>
-    requires lines { HasLines medium.now trace.now.events }
-    requires there { moment ≤ length trace.now.events }
-    ensures ok { IfOk result (λ count. cut_count (at_moment trace.now.events moment) ≤ 65536 →
-        count ≡ cut_count (at_moment trace.now.events moment)) }
-    ensures err { IfErr result (λ fault. fault ≡ CheckFault.Memory) }
-{
-    let cuts = cuts_at(alloc, medium, trace, moment)?;
-    Ok(cuts.count().unwrap_or(0))
-}
-
 /// The verdict on a moment of a trace whose marks are right, over this volume of the starting medium.
-pub fn judge_moment(
+#[tactic(auto, using(crate::proofs::Beginning::sound_first, crate::proofs::Weighing::too_many))]
+fn judge_moment(
     alloc: Global,
     plan: &Plan,
     medium: &Medium,
-    start: &Option<Volume>,
+    start: Option<Volume>,
     trace: &Trace,
     moment: u32,
 ) -> Result<MomentVerdict, CheckFault>
     requires lines { HasLines medium.now trace.now.events }
     requires there { moment ≤ length trace.now.events }
     requires sound { AreSound plan.now.operations trace.now.events (length trace.now.events) }
-    requires start { start.now ≡ result_ok (volume_of medium.now) }
+    requires start { start ≡ result_ok (volume_of medium.now) }
     ensures ok { IfOk result (λ verdict.
         IsMomentVerdict plan.now.operations medium.now (take moment trace.now.events) verdict) }
     ensures err { IfErr result (λ fault. fault ≡ CheckFault.Memory) }
@@ -102,9 +93,14 @@ pub fn judge_moment(
     let Some(count) = cuts.count() else {
         return Ok(MomentVerdict::TooMany);
     };
-    let events = first_events(trace, moment);
-    let outcomes = outcomes_after(alloc, plan, start, events)?;
-    judge_images(alloc, plan, &cuts, &outcomes, count)
+    let outcomes = Outcomes::after(alloc, plan, start, first_events(trace, moment))?;
+    match find_bad(alloc, plan, &cuts, &outcomes, count)? {
+        Some(bad) => Ok(MomentVerdict::Fail {
+            image: bad.number,
+            cause: bad.cause,
+        }),
+        None => Ok(MomentVerdict::Pass),
+    }
 }
 
 fn first_events(trace: &Trace, moment: u32) -> &[Event]
@@ -114,7 +110,8 @@ fn first_events(trace: &Trace, moment: u32) -> &[Event]
     &trace.events()[..moment as usize]
 }
 
-fn cuts_at<'a>(
+/// The cuts of a moment that is there.
+pub fn cuts_at<'a>(
     alloc: Global,
     medium: &'a Medium,
     trace: &'a Trace,
@@ -132,46 +129,29 @@ fn cuts_at<'a>(
     }
 }
 
-fn outcomes_after(
-    alloc: Global,
-    plan: &Plan,
-    start: &Option<Volume>,
-    events: &[Event],
-) -> Result<Outcomes, CheckFault>
-    ensures ok { IfOk result (λ outcomes.
-        AreOutcomes plan.now.operations start.now events.now outcomes.settled outcomes.under_way.items) }
-    ensures err { IfErr result (λ fault. fault ≡ CheckFault.Memory) }
-{
-    match Outcomes::after(alloc, plan, start, events) {
-        Ok(outcomes) => Ok(outcomes),
-        Err(_refused) => Err(CheckFault::Memory),
-    }
-}
-
-/// The verdict on the images of these cuts, of which there are `count`.
-#[tactic(auto, using(crate::proofs::Weighing::moment_fails))]
-fn judge_images(
+/// The least bad image of these cuts, of which there are `count`. None where each recovers to a legal volume.
+#[tactic(auto, using(crate::proofs::Weighing::least_bad))]
+pub fn find_bad(
     alloc: Global,
     plan: &Plan,
     cuts: &Cuts,
     outcomes: &Outcomes,
     count: u32,
-) -> Result<MomentVerdict, CheckFault>
-    requires count { count ≡ cut_count cuts.now.steps }
-    requires few { count ≤ 65536 }
-    ensures ok { IfOk result (λ verdict. (events : List AnEvent) →
+) -> Result<Option<BadImage>, CheckFault>
+    requires { count ≡ cut_count cuts.now.steps }
+    ensures ok { IfOk result (λ found. (events : List AnEvent) →
         cuts.now.steps ≡ history events →
         AreOutcomes plan.now.operations (result_ok (volume_of cuts.now.start)) events outcomes.now.settled outcomes.now.under_way.items →
         AreApart plan.now.operations events →
-        IsMomentVerdict plan.now.operations cuts.now.start events verdict) }
+        AreJudged plan.now.operations cuts.now.start events found) }
     ensures err { IfErr result (λ fault. fault ≡ CheckFault.Memory) }
 {
-    for image in 0..count {
-        if let Some(cause) = judge_image(alloc, plan, cuts, outcomes, image)? {
-            return Ok(MomentVerdict::Fail { image, cause });
+    for number in 0..count {
+        if let Some(cause) = judge_image(alloc, plan, cuts, outcomes, number)? {
+            return Ok(Some(BadImage { number, cause }));
         }
     }
-    Ok(MomentVerdict::Pass)
+    Ok(None)
 }
 
 /// Why the image of this number is bad, if it is.
@@ -217,9 +197,9 @@ fn judge_volume(
         IsVolumeJudged plan.now.operations start events volume.now found) }
     ensures err { IfErr result (λ fault. fault ≡ CheckFault.Memory) }
 {
-    match outcomes.has(alloc, plan, volume) {
-        Ok(true) => Ok(None),
-        Ok(false) => Ok(Some(Cause::Illegal)),
-        Err(_refused) => Err(CheckFault::Memory),
+    if outcomes.has(alloc, plan, volume)? {
+        Ok(None)
+    } else {
+        Ok(Some(Cause::Illegal))
     }
 }

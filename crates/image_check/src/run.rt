@@ -3,21 +3,23 @@
 ghost use Rattle.crash_image.specs.View.{HasLines};
 ghost use Rattle.crash_model.specs.Cut.{IsCut, number_in};
 ghost use Rattle.crash_model.specs.Image.{image};
+ghost use Rattle.image_check.specs.Growth.{AreOutcomes};
 ghost use Rattle.image_check.specs.Legal.{IsLegal};
 ghost use Rattle.image_check.specs.OrderFaults.{AreSound};
 ghost use Rattle.image_check.specs.Verdicts.{IsRefusal, IsVerdict};
 ghost use Rattle.nova_log.specs.Volumes.{volume_of};
 ghost use Rattle.store_trace.specs.History.{at_moment};
 ghost use Rattle.volume.specs.declared.entry.Entry.{Entry as AnEntry};
-ghost use Rattle.std.specs.Prelude.{◌≡◌, ℕ, ◌≤◌, List, length, take, IfErr, IfOk};
+ghost use Rattle.std.specs.Prelude.{◌≡◌, ℕ, ◌+◌, ◌≤◌, List, Option, length, take, IfErr, IfOk, OnOk};
 ghost use Rattle.std.specs.Result.{result_ok};
 
-use crate::moment::{count_images, judge_moment, starting_volume};
+use crate::legal::Outcomes;
+use crate::moment::{cuts_at, find_bad, starting_volume};
 use crate::order::check_trace;
-use crate::{CheckFault, MomentVerdict, Verdict};
+use crate::{CheckFault, Verdict};
 use line_memory::Medium;
 use plan::Plan;
-use std::alloc::Global;
+use std::alloc::{AllocError, Global};
 use store_trace::Trace;
 use volume::Volume;
 
@@ -49,42 +51,63 @@ pub fn check_run(
         return Err(CheckFault::Operation(fault));
     }
     let start = starting_volume(alloc, medium)?;
-    judge_run(alloc, plan, medium, &start, trace)
+    judge_run(alloc, plan, medium, start, trace)
 }
 
 /// The verdict on a trace whose marks are right, over this volume of the starting medium.
+#[tactic(auto, using(crate::proofs::Weighing::too_many))]
 fn judge_run(
     alloc: Global,
     plan: &Plan,
     medium: &Medium,
-    start: &Option<Volume>,
+    start: Option<Volume>,
     trace: &Trace,
 ) -> Result<Verdict, CheckFault>
     requires lines { HasLines medium.now trace.now.events }
     requires sound { AreSound plan.now.operations trace.now.events (length trace.now.events) }
-    requires start { start.now ≡ result_ok (volume_of medium.now) }
+    requires start { start ≡ result_ok (volume_of medium.now) }
     ensures ok { IfOk result (λ verdict. IsVerdict plan.now.operations medium.now trace.now.events verdict) }
     ensures err { IfErr result (λ fault. fault ≡ CheckFault.Memory) }
 {
     let moments = trace.events().len() as u32 + 1;
+    let mut outcomes = Outcomes::new(alloc, start);
     let mut images = 0;
     for moment in 0..moments {
-        match judge_moment(alloc, plan, medium, start, trace, moment)? {
-            MomentVerdict::Pass => {
-                images += u64::from(count_images(alloc, medium, trace, moment)?);
-            }
-            MomentVerdict::Fail { image, cause } => {
-                return Ok(Verdict::Fail {
-                    moment,
-                    image,
-                    cause,
-                });
-            }
-            MomentVerdict::TooMany => return Ok(Verdict::TooMany { moment }),
+        let cuts = cuts_at(alloc, medium, trace, moment)?;
+        let Some(count) = cuts.count() else {
+            return Ok(Verdict::TooMany { moment });
+        };
+        if let Some(bad) = find_bad(alloc, plan, &cuts, &outcomes, count)? {
+            return Ok(Verdict::Fail {
+                moment,
+                image: bad.number,
+                cause: bad.cause,
+            });
         }
+        images += u64::from(count);
+        note_next(&mut outcomes, plan, trace, moment)?;
     }
     Ok(Verdict::Pass {
         moments: u64::from(moments),
         images,
     })
+}
+
+/// Takes in the event after the moment, if there is one.
+#[tactic(auto, using(crate::proofs::Noting::note_last))]
+fn note_next(
+    outcomes: &mut Outcomes,
+    plan: &Plan,
+    trace: &Trace,
+    moment: u32,
+) -> Result<(), AllocError>
+    requires { AreSound plan.now.operations trace.now.events (length trace.now.events) }
+    ensures { OnOk result ((start : Option (List (List AnEntry))) →
+        AreOutcomes plan.now.operations start (take moment trace.now.events) outcomes.old.settled outcomes.old.under_way.items →
+        AreOutcomes plan.now.operations start (take (moment + 1) trace.now.events) outcomes.new.settled outcomes.new.under_way.items) }
+{
+    match trace.events().get(moment as usize) {
+        Some(event) => outcomes.note(plan, *event),
+        None => Ok(()),
+    }
 }

@@ -1,4 +1,7 @@
-use Rattle.std.proofs.Common.{◌≡◌, ◌*◌, ◌≤◌}
+use Rattle.std.proofs.Common.{◌≡◌, ◌*◌, ◌≤◌, take}
+use Rattle.std.specs.Result.{result_ok}
+use Rattle.nova_log.specs.Volumes.{volume_of}
+use Rattle.image_check.specs.Growth.{AreOutcomes}
 use Rattle.image_check.specs.Verdicts.{PassBelow, images_below}
 use Rattle.image_check.proofs.run.judge_run.Given as goal
 
@@ -7,3 +10,4 @@ invariant-loop-moment l =
     PassBelow l.plan.operations l.medium l.trace.events l.moment
     × (l.images ≡ images_below l.trace.events l.moment)
     × (l.images ≤ 65536 * l.moment)
+    × AreOutcomes l.plan.operations (result_ok (volume_of l.medium)) (take l.moment l.trace.events) l.outcomes.settled l.outcomes.under_way.items

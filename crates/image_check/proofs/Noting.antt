@@ -1,0 +1,185 @@
+-- The legal outcomes, one event further.
+use Rattle.std.proofs.Common.{◌≡◌, ◌⊎◌, ℕ, inl, inr, Bool, true, false, not, cond, ◌&&◌, ◌||◌, List, [], ◌∷◌, ◌++◌, length, get_or, take, refl, sym, ap, ◌∙◌, subst, arith, Option, Some, None, append-nil, ◌<◌, ◌≤◌, ◌+◌}
+use Rattle.std.specs.Prelude.{◌==◌, filter, option_and_then}
+use Rattle.std.specs.List.{Contains, cons_option, flat_map, list_any}
+use Rattle.std.proofs.lemmas.List.{take_all, take_more}
+use Rattle.std.proofs.lemmas.List.Elements.{filter_map-append, filter-append}
+use Rattle.std.proofs.lemmas.List.Folds.{list_any-append}
+use Rattle.std.proofs.lemmas.Option.{slice_get-get_or}
+use Rattle.plan.specs.declared.operation.Operation.{Operation}
+use Rattle.store_trace.specs.declared.event.Event.{Event}
+use Rattle.store_trace.specs.declared.event.Event.TheVariants.{Store, Clean, Fence, Begin, End}
+use Rattle.volume.specs.declared.entry.Entry.{Entry}
+use Rattle.image_check.specs.Growth.{AreOutcomes}
+use Rattle.image_check.specs.Legal.{with_entries}
+use Rattle.image_check.specs.Marks.{begun, begun_by, ended, ended_by, is_open, pending}
+use Rattle.image_check.specs.OrderFaults.{AreSound}
+use Rattle.image_check.specs.Planned.{planned}
+use Rattle.image_check.specs.declared.fault.OpFault.TheVariants.{BegunTwice}
+use Rattle.image_check.proofs.Beginning.{sound_first, unended}
+use Rattle.image_check.proofs.Judging.{joined}
+use Rattle.image_check.proofs.Marking.{open_true}
+
+ended_step : (before : List Event) (event : Event) → ended (before ++ event ∷ []) ≡ ended before ++ cons_option (ended_by event) []
+ended_step before event = filter_map-append ended_by before (event ∷ [])
+
+begun_step : (before : List Event) (event : Event) → begun (before ++ event ∷ []) ≡ begun before ++ cons_option (begun_by event) []
+begun_step before event = filter_map-append begun_by before (event ∷ [])
+
+ended_kept : (before : List Event) (event : Event) → ended_by event ≡ None → ended (before ++ event ∷ []) ≡ ended before
+ended_kept before event e = ended_step before event ∙ ap (λ (o : Option ℕ). ended before ++ cons_option o []) e ∙ append-nil (ended before)
+
+begun_kept : (before : List Event) (event : Event) → begun_by event ≡ None → begun (before ++ event ∷ []) ≡ begun before
+begun_kept before event e = begun_step before event ∙ ap (λ (o : Option ℕ). begun before ++ cons_option o []) e ∙ append-nil (begun before)
+
+abbrev still_open : List ℕ → ℕ → Bool
+still_open over op = not (list_any (λ other. other == op) over)
+
+-- an event that neither begins nor ends anything
+other_noted : (plan : List Operation) (start settled : Option (List (List Entry))) (before : List Event) (event : Event) (ops : List ℕ) →
+    begun_by event ≡ None → ended_by event ≡ None → AreOutcomes plan start before settled ops → AreOutcomes plan start (before ++ event ∷ []) settled ops
+other_noted plan start settled before event ops b e h = record {
+  settled_is =
+      h.settled_is
+      ∙ ap (λ (over : List ℕ). option_and_then (λ v. with_entries v (flat_map (planned plan) over)) start) (sym (ended_kept before event e));
+  under_way_is =
+      h.under_way_is
+      ∙ ap (λ (over : List ℕ). filter (still_open over) (begun before)) (sym (ended_kept before event e))
+      ∙ ap (λ (ops : List ℕ). filter (is_open (before ++ event ∷ [])) ops) (sym (begun_kept before event b));
+}
+
+one_kept : (p : ℕ → Bool) (op : ℕ) → p op ≡ true → filter p (op ∷ []) ≡ op ∷ []
+one_kept p op e = rw e refl
+
+begin_noted : (plan : List Operation) (start settled new : Option (List (List Entry))) (before : List Event) (hart op : ℕ) (ops more : List ℕ) →
+    ¬ Contains (ended before) op → new ≡ settled → more ≡ ops ++ op ∷ [] → AreOutcomes plan start before settled ops →
+    AreOutcomes plan start (before ++ Begin hart op ∷ []) new more
+begin_noted plan start settled new before hart op ops more n s m h = record {
+  settled_is =
+      s
+      ∙ h.settled_is
+      ∙ ap (λ (over : List ℕ). option_and_then (λ v. with_entries v (flat_map (planned plan) over)) start) (sym (ended_kept before (Begin hart op) refl));
+  under_way_is =
+      m
+      ∙ ap (λ (ops : List ℕ). ops ++ op ∷ []) h.under_way_is
+      ∙ ap (λ (last : List ℕ). pending before ++ last) (sym (one_kept (is_open before) op (open_true before op n)))
+      ∙ sym (filter-append (is_open before) (begun before) (op ∷ []))
+      ∙ ap (λ (over : List ℕ). filter (still_open over) (begun before ++ op ∷ [])) (sym (ended_kept before (Begin hart op) refl))
+      ∙ ap (λ (ops : List ℕ). filter (is_open (before ++ Begin hart op ∷ [])) ops) (sym (begun_step before (Begin hart op)));
+}
+
+both_tests : (a b : Bool) → not (a || (b || false)) ≡ (not a && not b)
+both_tests true b = refl
+both_tests false true = refl
+both_tests false false = refl
+
+kept_twice : (a b : Bool) (q : ℕ → Bool) (x : ℕ) (xs : List ℕ) → q x ≡ b → cond (a && b) (x ∷ filter q xs) (filter q xs) ≡ filter q (cond a (x ∷ xs) xs)
+kept_twice true true q x xs e = rw e refl
+kept_twice true false q x xs e = rw e refl
+kept_twice false b q x xs e = refl
+
+-- a test and then another
+filter_twice : (p q r : ℕ → Bool) → ((x : ℕ) → r x ≡ (p x && q x)) → (xs : List ℕ) → filter r xs ≡ filter q (filter p xs)
+filter_twice p q r h [] = refl
+filter_twice p q r h (x ∷ xs) =
+    ap (λ (b : Bool). cond b (x ∷ filter r xs) (filter r xs)) (h x)
+    ∙ ap (λ (rest : List ℕ). cond (p x && q x) (x ∷ rest) rest) (filter_twice p q r h xs)
+    ∙ kept_twice (p x) (q x) q x (filter p xs) refl
+
+open_after : (before : List Event) (hart op x : ℕ) → is_open (before ++ End hart op ∷ []) x ≡ (is_open before x && not (op == x))
+open_after before hart op x =
+    ap (λ (over : List ℕ). still_open over x) (ended_step before (End hart op))
+    ∙ ap not (list_any-append (λ other. other == x) (ended before) (op ∷ []))
+    ∙ both_tests (list_any (λ other. other == x) (ended before)) (op == x)
+
+settled_later : (plan : List Operation) (start : Option (List (List Entry))) (over : List ℕ) (op : ℕ) →
+    option_and_then (λ v. with_entries v (planned plan op)) (option_and_then (λ v. with_entries v (flat_map (planned plan) over)) start)
+    ≡ option_and_then (λ v. with_entries v (flat_map (planned plan) (over ++ op ∷ []))) start
+settled_later plan None over op = refl
+settled_later plan (Some v) over op =
+    ap (λ (es : List (ℕ × Entry)). option_and_then (λ w. with_entries w es) (with_entries v (flat_map (planned plan) over))) (sym (append-nil (planned plan op)))
+    ∙ sym (joined (planned plan) v (with_entries v (flat_map (planned plan) over)) over (op ∷ []) refl)
+
+end_noted : (plan : List Operation) (start settled new : Option (List (List Entry))) (before : List Event) (hart op : ℕ) (ops fewer : List ℕ) →
+    new ≡ option_and_then (λ v. with_entries v (planned plan op)) settled → fewer ≡ filter (λ other. not (op == other)) ops →
+    AreOutcomes plan start before settled ops → AreOutcomes plan start (before ++ End hart op ∷ []) new fewer
+end_noted plan start settled new before hart op ops fewer s m h = record {
+  settled_is =
+      s
+      ∙ ap (λ (o : Option (List (List Entry))). option_and_then (λ v. with_entries v (planned plan op)) o) h.settled_is
+      ∙ settled_later plan start (ended before) op
+      ∙ ap (λ (over : List ℕ). option_and_then (λ v. with_entries v (flat_map (planned plan) over)) start) (sym (ended_step before (End hart op)));
+  under_way_is =
+      m
+      ∙ ap (λ (ops : List ℕ). filter (λ other. not (op == other)) ops) h.under_way_is
+      ∙ sym (filter_twice (is_open before) (λ other. not (op == other)) (is_open (before ++ End hart op ∷ [])) (open_after before hart op) (begun before))
+      ∙ ap (λ (ops : List ℕ). filter (is_open (before ++ End hart op ∷ [])) ops) (sym (begun_kept before (End hart op) refl));
+}
+
+-- by what an event is
+pub begins_noted : (plan : List Operation) (start settled new : Option (List (List Entry))) (before : List Event) (event : Event) (hart op : ℕ) (ops more : List ℕ) →
+    event ≡ Begin hart op → new ≡ settled → more ≡ ops ++ op ∷ [] → AreOutcomes plan start before settled ops →
+    ((other : ℕ) → begun_by event ≡ Some other → ¬ Contains (ended before) other) → AreOutcomes plan start (before ++ event ∷ []) new more
+begins_noted plan start settled new before event hart op ops more e s m h n =
+    subst (λ (x : Event). AreOutcomes plan start (before ++ x ∷ []) new more) (sym e)
+    (begin_noted plan start settled new before hart op ops more (n op (ap (λ (x : Event). begun_by x) e)) s m h)
+
+pub ends_noted : (plan : List Operation) (start settled new : Option (List (List Entry))) (before : List Event) (event : Event) (hart op : ℕ) (ops fewer : List ℕ) →
+    event ≡ End hart op → new ≡ option_and_then (λ v. with_entries v (planned plan op)) settled → fewer ≡ filter (λ other. not (op == other)) ops →
+    AreOutcomes plan start before settled ops → AreOutcomes plan start (before ++ event ∷ []) new fewer
+ends_noted plan start settled new before event hart op ops fewer e s m h =
+    subst (λ (x : Event). AreOutcomes plan start (before ++ x ∷ []) new fewer) (sym e)
+    (end_noted plan start settled new before hart op ops fewer s m h)
+
+abbrev IsOther : Event → Type 0
+IsOther event =
+    ((hart : ℕ) × (line : ℕ) × (offset : ℕ) × (width : ℕ) × (value : ℕ) × (event ≡ Store hart line offset width value))
+    ⊎ (((hart : ℕ) × (line : ℕ) × (event ≡ Clean hart line)) ⊎ ((hart : ℕ) × (event ≡ Fence hart)))
+
+no_mark : (event : Event) → IsOther event → (begun_by event ≡ None) × (ended_by event ≡ None)
+no_mark event o = elim o [
+  | inl s ↦ let e = s.5 in (ap (λ (x : Event). begun_by x) e, ap (λ (x : Event). ended_by x) e)
+  | inr r ↦ elim r [
+    | inl c ↦ let e = c.2 in (ap (λ (x : Event). begun_by x) e, ap (λ (x : Event). ended_by x) e)
+    | inr f ↦ let e = f.1 in (ap (λ (x : Event). begun_by x) e, ap (λ (x : Event). ended_by x) e)
+  ]
+]
+
+pub others_noted : (plan : List Operation) (start settled : Option (List (List Entry))) (before : List Event) (event : Event) (ops : List ℕ) →
+    IsOther event → AreOutcomes plan start before settled ops → AreOutcomes plan start (before ++ event ∷ []) settled ops
+others_noted plan start settled before event ops is h =
+    let none = no_mark event is in
+    other_noted plan start settled before event ops none.0 none.1 h
+
+-- the next event of a sound trace
+pub note_next : (plan : List Operation) (start settled new : Option (List (List Entry))) (events : List Event) (i : ℕ) (d : Event) (ops more : List ℕ) →
+    i < length events → AreSound plan events (length events) → AreOutcomes plan start (take i events) settled ops →
+    ((first : Option (List (List Entry))) (before : List Event) → AreOutcomes plan first before settled ops →
+    ((op : ℕ) → begun_by (get_or events i d) ≡ Some op → ¬ Contains (ended before) op) →
+    AreOutcomes plan first (before ++ get_or events i d ∷ []) new more) →
+    AreOutcomes plan start (take (i + 1) events) new more
+note_next plan start settled new events i d ops more l s h next =
+    subst (λ (es : List Event). AreOutcomes plan start es new more) (sym (take_more events i d l))
+    (next start (take i events) h (λ op b.
+    unended plan (take i events) (get_or events i d) op
+    (sound_first plan events i (omega arith) s)
+    (s i (get_or events i d) BegunTwice l (slice_get-get_or events i d l)) b))
+
+pub note_at : (plan : List Operation) (settled new : Option (List (List Entry))) (events all : List Event) (i : ℕ) (event : Event) (ops more : List ℕ) →
+    all ≡ events → i < length all → event ≡ get_or all i event → AreSound plan events (length events) →
+    ((first : Option (List (List Entry))) (before : List Event) → AreOutcomes plan first before settled ops →
+    ((op : ℕ) → begun_by event ≡ Some op → ¬ Contains (ended before) op) → AreOutcomes plan first (before ++ event ∷ []) new more) →
+    (start : Option (List (List Entry))) → AreOutcomes plan start (take i events) settled ops → AreOutcomes plan start (take (i + 1) events) new more
+note_at plan settled new events all i event ops more same l at s next start h =
+    note_next plan start settled new events i event ops more (subst (λ (es : List Event). i < length es) same l) s h
+    (subst
+    (λ (x : Event). (first : Option (List (List Entry))) (before : List Event) → AreOutcomes plan first before settled ops →
+    ((op : ℕ) → begun_by x ≡ Some op → ¬ Contains (ended before) op) → AreOutcomes plan first (before ++ x ∷ []) new more)
+    (at ∙ ap (λ (es : List Event). get_or es i event) same) next)
+
+pub note_last : (plan : List Operation) (start settled : Option (List (List Entry))) (events : List Event) (i : ℕ) (ops : List ℕ) →
+    length events ≤ i → AreOutcomes plan start (take i events) settled ops → AreOutcomes plan start (take (i + 1) events) settled ops
+note_last plan start settled events i ops l h =
+    let whole : take i events ≡ events = take_all i events l in
+    let more : take (i + 1) events ≡ events = take_all (i + 1) events (omega arith) in
+    subst (λ (es : List Event). AreOutcomes plan start es settled ops) (whole ∙ sym more) h
