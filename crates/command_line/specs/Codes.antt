@@ -10,8 +10,6 @@ use Rattle.object.specs.declared.fault.LoadFault.{LoadFault}
 use Rattle.object.specs.declared.fault.LoadFault.TheVariants as loads
 use Rattle.plan.specs.declared.fault.PlanCode.{PlanCode}
 use Rattle.plan.specs.declared.fault.PlanCode.TheVariants as plans
-use Rattle.shared_memory.specs.declared.fault.StepFault.{StepFault}
-use Rattle.shared_memory.specs.declared.fault.StepFault.TheVariants as steps
 
 -- of a line of a source
 abbrev pub assembly_code : AsmCode → List ℕ
@@ -42,14 +40,6 @@ plan_code plans.Twice = codes "L2"
 plan_code plans.Inode = codes "L3"
 plan_code plans.Name = codes "L4"
 plan_code plans.Memory = codes "L5"
-
--- of a step of a run
-abbrev pub step_code : StepFault → List ℕ
-step_code steps.NoSuchHart = codes "G1"
-step_code steps.NoSuchLine = codes "G2"
-step_code steps.TraceFull = codes "G4"
-step_code steps.Memory = codes "G5"
-step_code steps.OutOfLimits = codes "G6"
 
 -- of a volume
 abbrev pub volume_code : VolumeFault → List ℕ

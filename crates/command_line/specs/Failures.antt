@@ -25,7 +25,8 @@ use Rattle.tester.specs.declared.images.CountFault.{CountFault}
 use Rattle.tester.specs.declared.images.CountFault.TheVariants as counts
 use Rattle.tester.specs.declared.loading.ProgramFault.{ProgramFault}
 use Rattle.tester.specs.declared.loading.ProgramFault.TheVariants as programs
-use Rattle.command_line.specs.Codes.{assembly_code, load_code, operation_code, plan_code, step_code, volume_code}
+use Rattle.command_line.specs.Codes.{assembly_code, load_code, operation_code, plan_code, volume_code}
+use Rattle.session.specs.Answers.{step_code}
 use Rattle.command_line.specs.Reports.{line_end}
 use Rattle.command_line.specs.declared.failure.Failure.{Failure}
 use Rattle.command_line.specs.declared.failure.Failure.TheVariants.{Line, Refused, Memory, File}

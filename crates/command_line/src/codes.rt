@@ -1,11 +1,10 @@
 //! The names that faults are known by.
 
 ghost use Rattle.std.specs.Prelude.{◌≡◌};
-ghost use Rattle.command_line.specs.Codes.{assembly_code, load_code, operation_code, plan_code, step_code, volume_code};
+ghost use Rattle.command_line.specs.Codes.{assembly_code, load_code, operation_code, plan_code, volume_code};
 
 use assemble::AsmCode;
 use image_check::OpFault;
-use machine::StepFault;
 use nova_log::VolumeFault;
 use object::LoadFault;
 use plan::PlanCode;
@@ -52,19 +51,6 @@ pub(crate) fn plan_code(code: PlanCode) -> &'static str
         PlanCode::Inode => "L3",
         PlanCode::Name => "L4",
         PlanCode::Memory => "L5",
-    }
-}
-
-/// Of a step of a run.
-pub(crate) fn step_code(fault: StepFault) -> &'static str
-    ensures { result.now ≡ step_code fault }
-{
-    match fault {
-        StepFault::NoSuchHart => "G1",
-        StepFault::NoSuchLine => "G2",
-        StepFault::TraceFull => "G4",
-        StepFault::Memory => "G5",
-        StepFault::OutOfLimits => "G6",
     }
 }
 

@@ -2,13 +2,14 @@
 
 ghost use Rattle.std.specs.Prelude.{◌≡◌};
 
-use crate::codes::{assembly_code, load_code, operation_code, plan_code, step_code, volume_code};
+use crate::codes::{assembly_code, load_code, operation_code, plan_code, volume_code};
 use assemble::AsmFault;
 use image_check::OpFault;
 use machine::StepFault;
 use nova_log::VolumeFault;
 use object::LoadFault;
 use plan::PlanFault;
+use session::step_code;
 use std::fmt;
 
 /// Input that is refused, by the fault that was found in it.

@@ -1,6 +1,6 @@
 //! Going on by a schedule.
 
-ghost use Rattle.std.specs.Prelude.{◌≡◌, ◌<◌, ◌+◌, ◌-◌, ◌^◌, ◌||◌, MatchOption, IfOk, IfErr, length, nat_lt, replicate, slice_get};
+ghost use Rattle.std.specs.Prelude.{◌≡◌, ◌<◌, ◌-◌, ◌||◌, MatchOption, IfOk, IfErr, length, nat_lt, replicate, slice_get};
 ghost use Rattle.machine.specs.Stops.{steps_of_item};
 ghost use Rattle.debugger.specs.Going.{GoesTo, IsStoppedBy};
 ghost use Rattle.debugger.specs.Walks.{HaltsWithin, IsHeldWithin, Walks};

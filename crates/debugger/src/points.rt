@@ -62,7 +62,7 @@ impl Point {
 pub(crate) fn line_start(address: u64) -> u64
     ensures { result ≡ line_start address }
 {
-    address / 64 * 64
+    address / LINE_SIZE as u64 * LINE_SIZE as u64
 }
 
 /// Whether an instruction of the text region may begin at the address.

@@ -13,32 +13,32 @@ use Rattle.session.specs.Words.{words}
 use Rattle.session.specs.declared.carrying.Answer.{Answer}
 use Rattle.session.specs.declared.carrying.Answer.TheVariants as answers
 use Rattle.session.specs.declared.command.Command.{Command}
-use Rattle.session.specs.declared.input.Line.{Line}
-use Rattle.session.specs.declared.input.Line.TheVariants as lines
+use Rattle.session.specs.declared.input.Fit.{Fit}
+use Rattle.session.specs.declared.input.Fit.TheVariants as fits
 use Rattle.session.proofs.Underway.{appends_none}
 
 -- a line past its limit is no command
-pub too_long : (state : SessionState) (held whole : List ℕ) → IsHeld lines.TooLong held whole → ComesOut state state whole (Err faults.Command)
+pub too_long : (state : SessionState) (held whole : List ℕ) → IsHeld fits.TooLong held whole → ComesOut state state whole (Err faults.Command)
 too_long state held whole (full, past) = inl (inl (past, refl), refl)
 
-pub no_words : (state : SessionState) (held whole : List ℕ) → words held ≡ [] → IsHeld lines.Read held whole
+pub no_words : (state : SessionState) (held whole : List ℕ) → words held ≡ [] → IsHeld fits.Whole held whole
     → ComesOut state state whole (Ok None)
 no_words state held whole none (e, most) = (most, ap words e ∙ none, refl)
 
 pub no_command : (state : SessionState) (held whole : List ℕ) (fault : DebugFault) → words held ≢ [] → OnAsked (Says held) fault
-    → IsHeld lines.Read held whole → ComesOut state state whole (Err fault)
+    → IsHeld fits.Whole held whole → ComesOut state state whole (Err fault)
 no_command state held whole fault some asked (e, most) = inl (inr (most, rw e some, rw e asked), refl)
 
 carried_out : (old new : SessionState) (held whole : List ℕ) (command : Command) (outcome : Result Answer DebugFault) → Says held (meant command)
-    → Does old new command outcome → IsHeld lines.Read held whole → CarriesOut old new whole outcome
+    → Does old new command outcome → IsHeld fits.Whole held whole → CarriesOut old new whole outcome
 carried_out old new held whole command outcome says does (e, most) = (command, record { fits = most; says = rw e says }, does)
 
 pub done : (old new : SessionState) (held whole : List ℕ) (command : Command) (answer : Answer) → Says held (meant command)
-    → Does old new command (Ok answer) → IsHeld lines.Read held whole → ComesOut old new whole (Ok (Some answer))
+    → Does old new command (Ok answer) → IsHeld fits.Whole held whole → ComesOut old new whole (Ok (Some answer))
 done old new held whole command answer says does h = carried_out old new held whole command (Ok answer) says does h
 
 pub refused : (old new : SessionState) (held whole : List ℕ) (command : Command) (fault : DebugFault) → Says held (meant command)
-    → Does old new command (Err fault) → IsHeld lines.Read held whole → ComesOut old new whole (Err fault)
+    → Does old new command (Err fault) → IsHeld fits.Whole held whole → ComesOut old new whole (Err fault)
 refused old new held whole command fault says does h = inr (carried_out old new held whole command (Err fault) says does h)
 
 -- a line without words is answered by nothing
@@ -74,7 +74,7 @@ answered_refused old new line text fault goes_on s t on other said appends out =
     answered_by old new line text (Err fault) goes_on s t on (goes_on_past fault other) said appends out
 
 -- a fault is answered by what is said of it, where that is said
-pub says_fault : {A E : Type 0} (bytes : A → List ℕ) (old new : SessionState) (kind : Line) (held : List ℕ) (fault : DebugFault) (text : Result A E)
+pub says_fault : {A E : Type 0} (bytes : A → List ℕ) (old new : SessionState) (kind : Fit) (held : List ℕ) (fault : DebugFault) (text : Result A E)
     (result : Result Bool DebugFault) (s t : Option (List ℕ)) → fault ≢ faults.Memory → IfOk text (λ said. bytes said ≡ fault_text fault)
     → IfOk result (λ goes_on. goes_on ≡ true) → OnOk result (MatchResult text (λ said. Appends s t (bytes said)) (λ _. ⊥))
     → ((whole : List ℕ) → IsHeld kind held whole → ComesOut old new whole (Err fault))
@@ -109,7 +109,7 @@ lacks_rest old new line text outcome s t is begins out = record {
 }
 
 -- an answer that isn't written
-pub says_part : {A E : Type 0} (bytes : A → List ℕ) (old new : SessionState) (kind : Line) (held : List ℕ) (outcome : LineOutcome) (text : Result A E)
+pub says_part : {A E : Type 0} (bytes : A → List ℕ) (old new : SessionState) (kind : Fit) (held : List ℕ) (outcome : LineOutcome) (text : Result A E)
     (result : Result Bool DebugFault) (s t : Option (List ℕ)) (a b : ℕ) → IfOk text (λ said. bytes said ≡ outcome_text new.debugger.machine outcome)
     → IfErr result (λ fault. fault ≡ faults.Memory → t ≡ s)
     → IfErr result (λ fault. fault ≡ faults.InputOutput → MatchResult text (λ said. AppendsFront s t (bytes said)) (λ _. ⊥))

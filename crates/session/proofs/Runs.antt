@@ -44,7 +44,7 @@ stopped_run old new items from faults.Memory s = absurd s
 stopped_run old new items from faults.InputOutput s = absurd s
 
 stepped_run : (old new : DebuggerView) (hart : ℕ) (outcome : Outcome) → MakesStep old new hart outcome → SomeRun old.machine new.machine
-stepped_run old new hart (Ok (answers.Hart number)) s = one_run old.machine new.machine _ s.2
+stepped_run old new hart (Ok (answers.Hart number state)) s = one_run old.machine new.machine _ s.3
 stepped_run old new hart (Ok answer) s = absurd s
 stepped_run old new hart (Err fault) s = no_run old.machine new.machine (ap (λ (d : DebuggerView). d.machine) s.1)
 

@@ -6,8 +6,8 @@ use Rattle.std.proofs.KnownBytes.{Consumes-nil, Consumes-trans}
 use Rattle.session.specs.Reading.{IsHeld, IsOver, ReadsLine, Takes, ahead_of}
 use Rattle.session.specs.Turns.{IsLine, most_line}
 use Rattle.session.specs.declared.input.Input.{Input}
-use Rattle.session.specs.declared.input.Line.{Line}
-use Rattle.session.specs.declared.input.Line.TheVariants as lines
+use Rattle.session.specs.declared.input.Fit.{Fit}
+use Rattle.session.specs.declared.input.Fit.TheVariants as fits
 
 pub takes_none : (input : Input) (source : Option (List ℕ)) → Takes input input source source []
 takes_none input source = record {
@@ -30,25 +30,25 @@ takes_more a b c s t u xs ys first second = record {
 }
 
 -- a part of a line is taken, and held as far as its limit
-pub record IsPart (old new : Input) (source source_then : Option (List ℕ)) (read : Line) (line : List ℕ) : Type 0 where
+pub record IsPart (old new : Input) (source source_then : Option (List ℕ)) (read : Fit) (line : List ℕ) : Type 0 where
   pub whole : List ℕ
   pub is_line : IsLine whole
   pub held : IsHeld read line whole
   pub takes : Takes old new source source_then whole
 
 -- one more byte, which is held where there is room
-pub held_full : (read : Line) (held whole : List ℕ) (byte : ℕ) → length held ≡ most_line → IsHeld read held whole
-    → IsHeld lines.TooLong held (whole ++ byte ∷ [])
-held_full lines.Read held whole byte full (e, most) = (full, omega (arith, length-append whole (byte ∷ []), ap length e))
-held_full lines.TooLong held whole byte full (e, past) = (full, omega (arith, length-append whole (byte ∷ [])))
+pub held_full : (read : Fit) (held whole : List ℕ) (byte : ℕ) → length held ≡ most_line → IsHeld read held whole
+    → IsHeld fits.TooLong held (whole ++ byte ∷ [])
+held_full fits.Whole held whole byte full (e, most) = (full, omega (arith, length-append whole (byte ∷ []), ap length e))
+held_full fits.TooLong held whole byte full (e, past) = (full, omega (arith, length-append whole (byte ∷ [])))
 
-pub held_more : (read : Line) (held whole : List ℕ) (byte : ℕ) → length held ≢ most_line → IsHeld read held whole
+pub held_more : (read : Fit) (held whole : List ℕ) (byte : ℕ) → length held ≢ most_line → IsHeld read held whole
     → IsHeld read (held ++ byte ∷ []) (whole ++ byte ∷ [])
-held_more lines.Read held whole byte room (e, most) =
+held_more fits.Whole held whole byte room (e, most) =
     (ap (λ (l : List ℕ). l ++ byte ∷ []) e, omega (arith, length-append whole (byte ∷ []), ap length e))
-held_more lines.TooLong held whole byte room (e, past) = absurd (room e)
+held_more fits.TooLong held whole byte room (e, past) = absurd (room e)
 
-pub part_begun : (input : Input) (source : Option (List ℕ)) → IsPart input input source source lines.Read []
+pub part_begun : (input : Input) (source : Option (List ℕ)) → IsPart input input source source fits.Whole []
 part_begun input source = record {
   whole = [];
   is_line = All-nil (λ b. b ≢ 10);
@@ -56,7 +56,7 @@ part_begun input source = record {
   takes = takes_none input source;
 }
 
-pub part_more : (old middle new : Input) (s t u : Option (List ℕ)) (kind made : Line) (before after : List ℕ) (byte : ℕ)
+pub part_more : (old middle new : Input) (s t u : Option (List ℕ)) (kind made : Fit) (before after : List ℕ) (byte : ℕ)
     → IsPart old middle s t kind before → Takes middle new t u (byte ∷ []) → byte ≢ 10
     → ((whole : List ℕ) → IsHeld kind before whole → IsHeld made after (whole ++ byte ∷ [])) → IsPart old new s u made after
 part_more old middle new s t u kind made before after byte part takes other held = record {
@@ -67,8 +67,8 @@ part_more old middle new s t u kind made before after byte part takes other held
 }
 
 -- a line ends by its line end, or by the end of the input
-pub line_done : (old middle new : Input) (s t u : Option (List ℕ)) (kind : Line) (held : List ℕ) → IsPart old middle s t kind held
-    → Takes middle new t u (10 ∷ []) → ReadsLine old new s u (record { line = kind; is_last = false }) held
+pub line_done : (old middle new : Input) (s t u : Option (List ℕ)) (kind : Fit) (held : List ℕ) → IsPart old middle s t kind held
+    → Takes middle new t u (10 ∷ []) → ReadsLine old new s u (record { fit = kind; is_last = false }) held
 line_done old middle new s t u kind held part takes = record {
   whole = part.whole;
   is_line = part.is_line;
@@ -77,8 +77,8 @@ line_done old middle new s t u kind held part takes = record {
   over = tt;
 }
 
-pub line_last : (old middle new : Input) (s t u : Option (List ℕ)) (kind : Line) (held : List ℕ) → IsPart old middle s t kind held
-    → Takes middle new t u [] → IsOver new u → ReadsLine old new s u (record { line = kind; is_last = true }) held
+pub line_last : (old middle new : Input) (s t u : Option (List ℕ)) (kind : Fit) (held : List ℕ) → IsPart old middle s t kind held
+    → Takes middle new t u [] → IsOver new u → ReadsLine old new s u (record { fit = kind; is_last = true }) held
 line_last old middle new s t u kind held part takes over = record {
   whole = part.whole;
   is_line = part.is_line;
@@ -87,12 +87,12 @@ line_last old middle new s t u kind held part takes over = record {
   over = over;
 }
 
-pub part_left : (old middle new : Input) (s t u : Option (List ℕ)) (kind : Line) (held : List ℕ) → IsPart old middle s t kind held
+pub part_left : (old middle new : Input) (s t u : Option (List ℕ)) (kind : Fit) (held : List ℕ) → IsPart old middle s t kind held
     → Takes middle new t u [] → (taken : List ℕ) × Takes old new s u taken
 part_left old middle new s t u kind held part takes =
     (part.whole ++ [], takes_more old middle new s t u part.whole [] part.takes takes)
 
-pub part_broken : (old middle new : Input) (s t u : Option (List ℕ)) (kind : Line) (held : List ℕ) (byte : ℕ) → IsPart old middle s t kind held
+pub part_broken : (old middle new : Input) (s t u : Option (List ℕ)) (kind : Fit) (held : List ℕ) (byte : ℕ) → IsPart old middle s t kind held
     → Takes middle new t u (byte ∷ []) → (taken : List ℕ) × Takes old new s u taken
 part_broken old middle new s t u kind held byte part takes =
     (part.whole ++ byte ∷ [], takes_more old middle new s t u part.whole (byte ∷ []) part.takes takes)

@@ -58,7 +58,7 @@ regroup taken line rest ahead =
 -- one more line, with its line end, is answered
 pub answered_more : (old : DebuggerView) (state after : SessionState) (fresh input further : Input) (s t u k l m : Option (List ℕ))
     (read : ReadLine) (held : List ℕ) (goes_on : Bool) → IsUnderway old state fresh input s t k l → ReadsLine input further t u read held
-    → ((whole : List ℕ) → IsHeld read.line held whole → IsAnswered state after whole goes_on l m) → goes_on ≡ true → read.is_last ≡ false
+    → ((whole : List ℕ) → IsHeld read.fit held whole → IsAnswered state after whole goes_on l m) → goes_on ≡ true → read.is_last ≡ false
     → IsUnderway old after fresh further s u k m
 answered_more old state after fresh input further s t u k l m read held goes_on so_far line answered on ends =
     let said : IsAnswered state after line.whole true l m = rw on at (answered line.whole line.held) in
@@ -183,7 +183,7 @@ ended_by_input old state after fresh input further s t u k l m read held empty a
 pub ended : (old : DebuggerView) (state : SessionState) (debugger : DebuggerView) (last : Option Progress) (fresh input further : Input) (s t u k l m : Option (List ℕ))
     (read : ReadLine) (held : List ℕ) (goes_on : Bool) → ahead_of fresh ≡ [] → fresh.left ≡ 4294967295
     → IsUnderway old state fresh input s t k l → ReadsLine input further t u read held
-    → ((whole : List ℕ) → IsHeld read.line held whole → IsAnswered state (state_of debugger last) whole goes_on l m) → (goes_on ≡ false) ⊎ (read.is_last ≡ true)
+    → ((whole : List ℕ) → IsHeld read.fit held whole → IsAnswered state (state_of debugger last) whole goes_on l m) → (goes_on ≡ false) ⊎ (read.is_last ≡ true)
     → Session old debugger s u k m
 ended old state debugger last fresh input further s t u k l m read held false empty all so_far line answered e =
     ended_by_quit old state (state_of debugger last) fresh input further s t u k l m read held empty all so_far line (answered line.whole line.held)
@@ -257,7 +257,7 @@ unanswered old state after fresh input further s t u k l m read held fault empty
 pub failed_answer : (old : DebuggerView) (state : SessionState) (debugger : DebuggerView) (last : Option Progress) (fresh input further : Input) (s t u k l m : Option (List ℕ)) (a b : ℕ)
     (read : ReadLine) (held : List ℕ) (fault : DebugFault) → ahead_of fresh ≡ [] → fresh.left ≡ 4294967295
     → IsUnderway old state fresh input s t k l → ReadsLine input further t u read held
-    → ((whole : List ℕ) → IsHeld read.line held whole → LacksAnswer state (state_of debugger last) whole l m fault)
+    → ((whole : List ℕ) → IsHeld read.fit held whole → LacksAnswer state (state_of debugger last) whole l m fault)
     → FailsBy a b fault → Fails old debugger s u k m a b fault
 failed_answer old state debugger last fresh input further s t u k l m a b read held faults.Memory empty all so_far line out by =
     let lacks = out line.whole line.held in

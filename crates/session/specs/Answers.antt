@@ -1,5 +1,5 @@
 -- The text that answers a line.
-use Rattle.std.specs.Prelude.{ℕ, ◌+◌, ◌/◌, ◌%◌, ◌++◌, ◌∷◌, List, [], Option, Some, None, Result, Ok, Err, codes, decimal, slice_get, if◌then◌else◌, ◌==◌}
+use Rattle.std.specs.Prelude.{ℕ, ◌+◌, ◌/◌, ◌%◌, ◌++◌, ◌∷◌, List, [], Option, Some, None, Result, Ok, Err, codes, decimal, if◌then◌else◌, ◌==◌}
 use Rattle.std.specs.List.{flat_map, range_with_len}
 use Rattle.hart.specs.Registers.{register}
 use Rattle.hart.specs.declared.state.HartState.{HartState}
@@ -19,6 +19,7 @@ use Rattle.session.specs.declared.carrying.Answer.TheVariants as answers
 abbrev pub line_of : List ℕ → List ℕ
 line_of text = text ++ 10 ∷ []
 
+-- of a step of a run
 abbrev pub step_code : StepFault → List ℕ
 step_code refusals.NoSuchHart = codes "G1"
 step_code refusals.NoSuchLine = codes "G2"
@@ -26,6 +27,7 @@ step_code refusals.TraceFull = codes "G4"
 step_code refusals.Memory = codes "G5"
 step_code refusals.OutOfLimits = codes "G6"
 
+-- of a command
 abbrev pub code : DebugFault → List ℕ
 code faults.Command = codes "D1"
 code faults.Address = codes "D2"
@@ -79,9 +81,9 @@ bytes_text machine address count =
 -- what a command that was carried out is answered with
 abbrev pub answer_text : MachineView → Answer → List ℕ
 answer_text machine answers.Done = line_of (codes "ok")
-answer_text machine (answers.Hart hart) = text_of (hart_text hart) (slice_get machine.harts hart)
+answer_text machine (answers.Hart hart state) = hart_text hart state
 answer_text machine (answers.Stop cause) = stop_text cause
-answer_text machine (answers.Registers hart) = text_of state_text (slice_get machine.harts hart)
+answer_text machine (answers.Registers state) = state_text state
 answer_text machine (answers.Bytes address count) = bytes_text machine address count
 answer_text machine answers.Quit = []
 

@@ -1,5 +1,5 @@
 -- What a command does to a debugger and to the last schedule, and how it comes out.
-use Rattle.std.specs.Prelude.{◌≡◌, ◌<◌, ◌≤◌, ◌+◌, ◌^◌, ◌∷◌, ℕ, List, [], Bool, true, false, Option, Some, None, Result, Ok, Err, IsSome, if◌then◌else◌, length, nat_lt}
+use Rattle.std.specs.Prelude.{◌≡◌, ◌<◌, ◌≤◌, ◌+◌, ◌^◌, ◌∷◌, ℕ, List, [], Bool, true, false, Option, Some, None, Result, Ok, Err, IsSome, if◌then◌else◌, length, nat_lt, slice_get}
 use Rattle.std.specs.List.{list_any}
 use Rattle.machine.specs.Stands.{MachineView, Runs}
 use Rattle.schedule.specs.declared.items.Item.{Item}
@@ -58,8 +58,8 @@ Clears old new address outcome = ⊥
 
 -- `step H`: one step of the hart, whatever points are set
 abbrev pub MakesStep : DebuggerView → DebuggerView → ℕ → Outcome → Type 0
-MakesStep old new hart (Ok (answers.Hart number)) =
-    (number ≡ hart) × (new.points ≡ old.points) × Runs old.machine new.machine (steps.Hart hart ∷ [])
+MakesStep old new hart (Ok (answers.Hart number state)) =
+    (number ≡ hart) × (slice_get new.machine.harts hart ≡ Some state) × (new.points ≡ old.points) × Runs old.machine new.machine (steps.Hart hart ∷ [])
 MakesStep old new hart (Ok answer) = ⊥
 MakesStep old new hart (Err fault) = RefusesStep old.machine (steps.Hart hart) fault × (new ≡ old)
 
@@ -87,7 +87,7 @@ at_start items = record { schedule = items; place = record { item = 0; steps = 0
 
 -- `regs H`
 abbrev pub ShowsHart : MachineView → ℕ → Outcome → Type 0
-ShowsHart machine hart (Ok (answers.Registers number)) = (number ≡ hart) × (hart < length machine.harts)
+ShowsHart machine hart (Ok (answers.Registers state)) = slice_get machine.harts hart ≡ Some state
 ShowsHart machine hart (Err (faults.Step refusals.NoSuchHart)) = length machine.harts ≤ hart
 ShowsHart machine hart outcome = ⊥
 

@@ -3,8 +3,8 @@ use Rattle.std.specs.Prelude.{◌≡◌, ◌<◌, ◌≤◌, ◌+◌, ◌++◌, 
 use Rattle.std.specs.Io.KnownBytes.{Consumes, IsAtEnd}
 use Rattle.session.specs.Turns.{IsLine, most_line}
 use Rattle.session.specs.declared.input.Input.{Input}
-use Rattle.session.specs.declared.input.Line.{Line}
-use Rattle.session.specs.declared.input.Line.TheVariants as lines
+use Rattle.session.specs.declared.input.Fit.{Fit}
+use Rattle.session.specs.declared.input.Fit.TheVariants as fits
 use Rattle.session.specs.declared.input.ReadLine.{ReadLine}
 
 -- the bytes that were read and not yet taken
@@ -23,9 +23,9 @@ abbrev pub IsOver : Input → Option (List ℕ) → Type 0
 IsOver input source = ((ahead_of input ≡ []) × IsAtEnd source) ⊎ (input.left ≡ 0)
 
 -- what is held of a line, of which no more is held than its limit
-abbrev pub IsHeld : Line → List ℕ → List ℕ → Type 0
-IsHeld lines.Read held whole = (whole ≡ held) × (length whole ≤ most_line)
-IsHeld lines.TooLong held whole = (length held ≡ most_line) × (most_line < length whole)
+abbrev pub IsHeld : Fit → List ℕ → List ℕ → Type 0
+IsHeld fits.Whole held whole = (whole ≡ held) × (length whole ≤ most_line)
+IsHeld fits.TooLong held whole = (length held ≡ most_line) × (most_line < length whole)
 
 -- what ends a line: its line end, or the end of the input
 abbrev pub line_end : Bool → List ℕ
@@ -39,6 +39,6 @@ OverIf false input source = ⊤
 pub record ReadsLine (old new : Input) (source source_then : Option (List ℕ)) (read : ReadLine) (line : List ℕ) : Type 0 where
   pub whole : List ℕ
   pub is_line : IsLine whole
-  pub held : IsHeld read.line line whole
+  pub held : IsHeld read.fit line whole
   pub takes : Takes old new source source_then (whole ++ line_end read.is_last)
   pub over : OverIf read.is_last new source_then

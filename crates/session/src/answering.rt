@@ -1,7 +1,7 @@
 //! The text that answers a command.
 
-ghost use Rattle.std.specs.Prelude.{◌≡◌, ◌++◌, IfOk, OnOk, string_bytes, slice_get};
-ghost use Rattle.session.specs.Answers.{answer_text, bytes_text, code, fault_text, hart_text, parted_byte, register_line, state_text, step_code, stop_text, text_of};
+ghost use Rattle.std.specs.Prelude.{◌≡◌, ◌++◌, IfOk, OnOk, string_bytes};
+ghost use Rattle.session.specs.Answers.{answer_text, bytes_text, code, fault_text, hart_text, parted_byte, register_line, state_text, step_code, stop_text};
 
 use crate::carrying::{Answer, byte_at};
 use debugger::{Cause, DebugFault, Debugger, StepFault};
@@ -21,9 +21,9 @@ pub(crate) fn answer_text(
 {
     match answer {
         Answer::Done => String::from_str(alloc, "ok\n"),
-        Answer::Hart(hart) => hart_text(alloc, debugger, hart),
+        Answer::Hart(hart, state) => hart_text(alloc, hart, state),
         Answer::Stop(cause) => stop_text(alloc, cause),
-        Answer::Registers(hart) => registers_text(alloc, debugger, hart),
+        Answer::Registers(state) => state_text(alloc, &state),
         Answer::Bytes { address, count } => bytes_text(alloc, debugger, address, count),
         Answer::Quit => Ok(String::new(alloc)),
     }
@@ -50,7 +50,8 @@ fn code(fault: DebugFault) -> &'static str
     }
 }
 
-fn step_code(fault: StepFault) -> &'static str
+/// The code by which a fault of a step is known.
+pub fn step_code(fault: StepFault) -> &'static str
     ensures { result.now ≡ step_code fault }
 {
     match fault {
@@ -62,18 +63,8 @@ fn step_code(fault: StepFault) -> &'static str
     }
 }
 
-fn hart_text(alloc: Global, debugger: &Debugger, hart: u32) -> Result<String, AllocError>
-    ensures { IfOk result (λ text. string_bytes text
-        ≡ text_of (hart_text hart) (slice_get debugger.now.machine.harts hart)) }
-{
-    match debugger.regs(hart) {
-        Ok(state) => line_text(alloc, hart, *state),
-        Err(_) => Ok(String::new(alloc)),
-    }
-}
-
 #[tactic(auto, unfolding(crate::specs::Answers::hart_text))]
-fn line_text(alloc: Global, hart: u32, state: HartState) -> Result<String, AllocError>
+fn hart_text(alloc: Global, hart: u32, state: HartState) -> Result<String, AllocError>
     ensures { IfOk result (λ text. string_bytes text ≡ hart_text hart state) }
 {
     format!(in alloc; "{}\n", HartLine { hart, state })
@@ -86,15 +77,6 @@ fn stop_text(alloc: Global, cause: Cause) -> Result<String, AllocError>
         Cause::Break { hart, pc } => format!(in alloc; "break h{hart} pc=0x{pc:x}\n"),
         Cause::Watch { hart, line } => format!(in alloc; "watch h{hart} line=0x{line:x}\n"),
         Cause::End => String::from_str(alloc, "end\n"),
-    }
-}
-
-fn registers_text(alloc: Global, debugger: &Debugger, hart: u32) -> Result<String, AllocError>
-    ensures { IfOk result (λ text. string_bytes text ≡ text_of state_text (slice_get debugger.now.machine.harts hart)) }
-{
-    match debugger.regs(hart) {
-        Ok(state) => state_text(alloc, state),
-        Err(_) => Ok(String::new(alloc)),
     }
 }
 

@@ -6,6 +6,7 @@ ghost use Rattle.session.specs.Running.{SomeRun};
 
 use crate::command::Command;
 use debugger::{Cause, DebugFault, Debugger, Place, Schedule};
+use hart::HartState;
 
 /// A schedule, and the place in it where the next `go` begins.
 #[derive(Drop)]
@@ -18,11 +19,11 @@ pub(crate) struct Progress {
 #[derive(Clone, Copy)]
 pub(crate) enum Answer {
     Done,
-    /// The line of this hart.
-    Hart(u32),
+    /// The line of this hart, which is in this state.
+    Hart(u32, HartState),
     Stop(Cause),
-    /// The pc and the registers of this hart.
-    Registers(u32),
+    /// The pc and the registers of a hart in this state.
+    Registers(HartState),
     /// The bytes from this address on.
     Bytes { address: u64, count: u64 },
     /// Nothing: no further command is read.
@@ -90,9 +91,13 @@ fn clear(debugger: &mut Debugger, address: u64) -> Result<Answer, DebugFault>
 fn step(debugger: &mut Debugger, hart: u32) -> Result<Answer, DebugFault>
     ensures { MakesStep debugger.old debugger.new hart result }
 {
-    match debugger.step(hart) {
-        Ok(_) => Ok(Answer::Hart(hart)),
-        Err(fault) => Err(fault),
+    if let Err(fault) = debugger.step(hart) {
+        return Err(fault);
+    }
+    match debugger.regs(hart) {
+        Ok(state) => Ok(Answer::Hart(hart, *state)),
+        // A step of a hart that isn't there is refused.
+        Err(_) => unreachable!(),
     }
 }
 
@@ -100,7 +105,7 @@ fn registers(debugger: &Debugger, hart: u32) -> Result<Answer, DebugFault>
     ensures { ShowsHart debugger.now.machine hart result }
 {
     match debugger.regs(hart) {
-        Ok(_) => Ok(Answer::Registers(hart)),
+        Ok(state) => Ok(Answer::Registers(*state)),
         Err(fault) => Err(fault),
     }
 }

@@ -56,10 +56,13 @@ pub trait Sink {
         ensures { result ≡ failures_of self.now };
 }
 
+/// How many bytes are read at once.
+pub(crate) const CHUNK: usize = 1_024;
+
 /// Bytes that were read and not yet taken, and how many more may be taken.
 #[derive(Drop)]
 pub(crate) struct Input {
-    pub(crate) chunk: [u8; 1_024],
+    pub(crate) chunk: [u8; CHUNK],
     pub(crate) taken: usize,
     pub(crate) filled: usize,
     pub(crate) left: u32,
@@ -67,19 +70,19 @@ pub(crate) struct Input {
     ghost within: { filled ≤ 1024 },
 }
 
-/// What became of the bytes of a line.
+/// Whether a line is within the most bytes of a line.
 #[derive(Clone, Copy, PartialEq, Eq)]
-pub(crate) enum Line {
-    /// They are held.
-    Read,
-    /// They are more than the most bytes of a line, and those past it were skipped.
+pub(crate) enum Fit {
+    /// All of its bytes are held.
+    Whole,
+    /// It has more, and those past the most were skipped.
     TooLong,
 }
 
 /// A line that was read.
 #[derive(Clone, Copy)]
 pub(crate) struct ReadLine {
-    pub(crate) line: Line,
+    pub(crate) fit: Fit,
     /// Whether the input ended in place of a line end.
     pub(crate) is_last: bool,
 }

@@ -10,5 +10,6 @@ mod reading;
 mod running;
 mod words;
 
+pub use answering::step_code;
 pub use input::{Failed, Sink, Source};
 pub use running::session;

@@ -1,6 +1,6 @@
 //! The numbers that words write.
 
-ghost use Rattle.std.specs.Prelude.{◌≡◌, ◌+◌, ◌*◌, ◌≤◌, ℕ, IfNone, IfSome, MatchOption};
+ghost use Rattle.std.specs.Prelude.{◌+◌, ◌*◌, ◌≤◌, ℕ, IfNone, IfSome, MatchOption};
 ghost use Rattle.std.specs.Str.Parse.{IsNumeral};
 ghost use Rattle.session.specs.Numbers.{IsAddress, IsOf, Writes};
 ghost use Rattle.session.specs.declared.numbers.Number.{Number as ANumber};

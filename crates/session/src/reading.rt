@@ -5,15 +5,12 @@ ghost use Rattle.std.specs.Io.KnownBytes.{IsAtEnd};
 ghost use Rattle.session.specs.Failing.{FailsBy};
 ghost use Rattle.session.specs.Reading.{IsHeld, IsOver, ReadsLine, Takes, ahead_of};
 
-use crate::input::{Failed, Input, Line, ReadLine, Source};
+use crate::input::{CHUNK, Failed, Fit, Input, ReadLine, Source};
 use debugger::DebugFault;
 use std::alloc::AllocError;
 
 /// The most bytes of a line, its line end aside.
 pub(crate) const MAX_LINE: usize = 65_536;
-
-/// How many bytes are read at once.
-const CHUNK: usize = 1_024;
 
 impl Input {
     /// An input of which nothing was taken.
@@ -47,24 +44,21 @@ impl Input {
         ensures err { IfErr result (FailsBy (S.failures_of source.old) (S.failures_of source.new)) }
     {
         line.clear();
-        let mut read = Line::Read;
+        let mut fit = Fit::Whole;
         'bytes: loop {
             match self.next_byte(source) {
                 Ok(Some(b'\n')) => {
                     return Ok(ReadLine {
-                        line: read,
+                        fit,
                         is_last: false,
                     });
                 }
-                Ok(Some(byte)) => match held(read, line, byte) {
-                    Ok(made) => read = made,
+                Ok(Some(byte)) => match push_within_limit(fit, line, byte) {
+                    Ok(made) => fit = made,
                     Err(_) => return Err(DebugFault::Memory),
                 },
                 Ok(None) => {
-                    return Ok(ReadLine {
-                        line: read,
-                        is_last: true,
-                    });
+                    return Ok(ReadLine { fit, is_last: true });
                 }
                 Err(fault) => return Err(fault),
             }
@@ -138,15 +132,15 @@ impl Input {
     }
 }
 
-/// What a line is with one more byte, which is added where it has room.
+/// Adds a byte to a line that has room for it, and says whether the line with it is within the limit.
 #[tactic(auto, using(crate::proofs::Taking::held_full, crate::proofs::Taking::held_more))]
-fn held(read: Line, line: &mut Vec<u8>, byte: u8) -> Result<Line, AllocError>
-    ensures { IfOk result (λ made. (whole : List ℕ) → IsHeld read line.old.items whole
+fn push_within_limit(fit: Fit, line: &mut Vec<u8>, byte: u8) -> Result<Fit, AllocError>
+    ensures { IfOk result (λ made. (whole : List ℕ) → IsHeld fit line.old.items whole
         → IsHeld made line.new.items (whole ++ byte ∷ [])) }
 {
     if line.len() == MAX_LINE {
-        return Ok(Line::TooLong);
+        return Ok(Fit::TooLong);
     }
     line.push(byte)?;
-    Ok(read)
+    Ok(fit)
 }

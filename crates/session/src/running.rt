@@ -11,7 +11,7 @@ ghost use Rattle.session.specs.Turns.{ComesOut, IsAnswered, LacksAnswer};
 use crate::answering::{answer_text, fault_text};
 use crate::carrying::{Answer, Progress, carry_out};
 use crate::command::read_command;
-use crate::input::{Failed, Input, Line, Sink, Source};
+use crate::input::{Failed, Fit, Input, Sink, Source};
 use debugger::{DebugFault, Debugger};
 use std::alloc::{AllocError, Global};
 
@@ -48,7 +48,7 @@ pub fn session<S: Source, K: Sink>(
             Ok(read) => read,
             Err(unread) => return Err(unread),
         };
-        match answer_line(alloc, debugger, &mut last, read.line, &line, sink) {
+        match answer_line(alloc, debugger, &mut last, read.fit, &line, sink) {
             Ok(goes_on) => {
                 if !goes_on || read.is_last {
                     return Ok(());
@@ -64,22 +64,22 @@ fn answer_line<K: Sink>(
     alloc: Global,
     debugger: &mut Debugger,
     last: &mut Option<Progress>,
-    read: Line,
+    fit: Fit,
     line: &[u8],
     sink: &mut K,
 ) -> Result<bool, DebugFault>
     ensures runs { SomeRun debugger.old.machine debugger.new.machine }
     ensures same { K.name_of sink.new ≡ K.name_of sink.old }
-    ensures answered { IfOk result (λ goes_on. (whole : List ℕ) → IsHeld read line.now whole
+    ensures answered { IfOk result (λ goes_on. (whole : List ℕ) → IsHeld fit line.now whole
         → IsAnswered (record { debugger = debugger.old; last = last.old }) (record { debugger = debugger.new; last = last.new })
         whole goes_on (K.contents_of sink.old) (K.contents_of sink.new)) }
-    ensures unanswered { IfErr result (λ fault. (whole : List ℕ) → IsHeld read line.now whole
+    ensures unanswered { IfErr result (λ fault. (whole : List ℕ) → IsHeld fit line.now whole
         → LacksAnswer (record { debugger = debugger.old; last = last.old }) (record { debugger = debugger.new; last = last.new })
         whole (K.contents_of sink.old) (K.contents_of sink.new) fault) }
     ensures ok { OnOk result (K.failures_of sink.new ≡ K.failures_of sink.old) }
     ensures err { IfErr result (FailsBy (K.failures_of sink.old) (K.failures_of sink.new)) }
 {
-    match carried(alloc, debugger, last, read, line) {
+    match carried(alloc, debugger, last, fit, line) {
         Ok(None) => Ok(true),
         Ok(Some(Answer::Quit)) => Ok(false),
         Ok(Some(answer)) => say(answer_text(alloc, debugger, answer), sink),
@@ -93,17 +93,17 @@ fn carried(
     alloc: Global,
     debugger: &mut Debugger,
     last: &mut Option<Progress>,
-    read: Line,
+    fit: Fit,
     line: &[u8],
 ) -> Result<Option<Answer>, DebugFault>
     ensures runs { SomeRun debugger.old.machine debugger.new.machine }
-    ensures comes_out { (whole : List ℕ) → IsHeld read line.now whole
+    ensures comes_out { (whole : List ℕ) → IsHeld fit line.now whole
         → ComesOut (record { debugger = debugger.old; last = last.old }) (record { debugger = debugger.new; last = last.new })
         whole result }
 {
-    match read {
-        Line::TooLong => Err(DebugFault::Command),
-        Line::Read => match read_command(alloc, line) {
+    match fit {
+        Fit::TooLong => Err(DebugFault::Command),
+        Fit::Whole => match read_command(alloc, line) {
             Ok(None) => Ok(None),
             Ok(Some(command)) => match carry_out(debugger, last, command) {
                 Ok(answer) => Ok(Some(answer)),

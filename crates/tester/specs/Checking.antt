@@ -18,7 +18,7 @@ use Rattle.shared_memory.specs.declared.fault.StepFault.{StepFault}
 use Rattle.shared_memory.specs.declared.fault.StepFault.TheVariants as refused
 use Rattle.store_trace.specs.History.{at_moment}
 use Rattle.store_trace.specs.declared.event.Event.{Event}
-use Rattle.tester.specs.Runs.{HasTrace, IsRefused, Setup, start_of}
+use Rattle.tester.specs.Runs.{HasTrace, IsRefused, Setup, fault_of_run, start_of}
 use Rattle.tester.specs.declared.checking.VerdictFault.{VerdictFault}
 use Rattle.tester.specs.declared.checking.VerdictFault.TheVariants.{Step as StepRefused, Operation as WrongMark, Memory}
 use Rattle.volume.specs.declared.entry.Entry.{Entry}
@@ -57,11 +57,7 @@ pub record HasWrongMark (plan : List Operation) (s : Setup) (schedule : List Ite
 
 -- the fault of a run on which there was to be a verdict
 abbrev pub verdict_fault : StepFault → VerdictFault
-verdict_fault refused.NoSuchHart = StepRefused refused.NoSuchHart
-verdict_fault refused.NoSuchLine = StepRefused refused.NoSuchLine
-verdict_fault refused.TraceFull = StepRefused refused.TraceFull
-verdict_fault refused.Memory = Memory
-verdict_fault refused.OutOfLimits = StepRefused refused.OutOfLimits
+verdict_fault fault = fault_of_run StepRefused Memory fault
 
 -- what a fault says of the run and of its marks
 abbrev pub HasNoVerdict : List Operation → Setup → List Item → VerdictFault → Type 0

@@ -13,7 +13,7 @@ use Rattle.shared_memory.specs.declared.fault.StepFault.{StepFault}
 use Rattle.shared_memory.specs.declared.fault.StepFault.TheVariants as refused
 use Rattle.store_trace.specs.History.{at_moment}
 use Rattle.store_trace.specs.declared.event.Event.{Event}
-use Rattle.tester.specs.Runs.{HasTrace, IsRefused, IsWithin, Setup, start_of}
+use Rattle.tester.specs.Runs.{HasTrace, IsRefused, IsWithin, Setup, fault_of_run, start_of}
 use Rattle.tester.specs.declared.explaining.ExplainFault.{ExplainFault}
 use Rattle.tester.specs.declared.explaining.ExplainFault.TheVariants.{Step, NoSuchMoment, NoSuchImage, Memory}
 
@@ -69,11 +69,7 @@ pub record RunLacksImage (s : Setup) (schedule : List Item) (moment number : ℕ
 
 -- the fault of a run of which an image was to be explained
 abbrev pub explain_fault : StepFault → ExplainFault
-explain_fault refused.NoSuchHart = Step refused.NoSuchHart
-explain_fault refused.NoSuchLine = Step refused.NoSuchLine
-explain_fault refused.TraceFull = Step refused.TraceFull
-explain_fault refused.Memory = Memory
-explain_fault refused.OutOfLimits = Step refused.OutOfLimits
+explain_fault fault = fault_of_run Step Memory fault
 
 -- what a fault says of the run, of the moment and of the image
 abbrev pub FailsToExplain : Setup → List Item → ℕ → ℕ → ExplainFault → Type 0

@@ -7,7 +7,7 @@ use Rattle.shared_memory.specs.declared.fault.StepFault.{StepFault}
 use Rattle.shared_memory.specs.declared.fault.StepFault.TheVariants as refused
 use Rattle.store_trace.specs.History.{at_moment}
 use Rattle.store_trace.specs.declared.event.Event.{Event}
-use Rattle.tester.specs.Runs.{HasTrace, IsRefused, Setup}
+use Rattle.tester.specs.Runs.{HasTrace, IsRefused, Setup, fault_of_run}
 use Rattle.tester.specs.declared.images.CountFault.{CountFault}
 use Rattle.tester.specs.declared.images.CountFault.TheVariants.{Step, NoSuchMoment, Memory}
 
@@ -31,11 +31,7 @@ pub record EndsBefore (s : Setup) (schedule : List Item) (moment : ℕ) : Type 0
 
 -- the fault of a run in which images were to be counted
 abbrev pub count_fault : StepFault → CountFault
-count_fault refused.NoSuchHart = Step refused.NoSuchHart
-count_fault refused.NoSuchLine = Step refused.NoSuchLine
-count_fault refused.TraceFull = Step refused.TraceFull
-count_fault refused.Memory = Memory
-count_fault refused.OutOfLimits = Step refused.OutOfLimits
+count_fault fault = fault_of_run Step Memory fault
 
 -- what a fault says of the run and of the moment
 abbrev pub FailsToCount : Setup → List Item → ℕ → CountFault → Type 0

@@ -99,6 +99,14 @@ pub record RefusesStep (s : Setup) (schedule : List Item) (fault : StepFault) : 
 abbrev pub IsRefused : Setup → List Item → StepFault → Type 0
 IsRefused s schedule fault = IsOutside s fault ⊎ RefusesStep s schedule fault
 
+-- the fault of a call that makes a run: that of the run, but for want of memory
+abbrev pub fault_of_run : {F : Type 0} → (StepFault → F) → F → StepFault → F
+fault_of_run step memory NoSuchHart = step NoSuchHart
+fault_of_run step memory NoSuchLine = step NoSuchLine
+fault_of_run step memory TraceFull = step TraceFull
+fault_of_run step memory Memory = memory
+fault_of_run step memory OutOfLimits = step OutOfLimits
+
 -- what a fault says of the run: memory was refused, or there is no such run
 abbrev pub FailsToRun : Setup → List Item → StepFault → Type 0
 FailsToRun s schedule fault = (fault ≡ Memory) ⊎ IsRefused s schedule fault

@@ -6,7 +6,7 @@ pub use explaining::{ExplainFault, explain_image};
 pub use images::{CountFault, count_images};
 pub use loading::{ProgramFault, load_program};
 pub use runs::{replay, run_program, start_program};
-pub use volumes::{DEFAULT_LINES, default_medium, make_volume};
+pub use volumes::{default_medium, make_volume};
 
 mod checking;
 mod explaining;

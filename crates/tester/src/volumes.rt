@@ -11,7 +11,7 @@ use plan::Plan;
 use std::alloc::Global;
 
 /// The lines of a medium where none is given.
-pub const DEFAULT_LINES: u32 = 512;
+const DEFAULT_LINES: u32 = 512;
 
 /// The medium of a run where none is given: 512 lines of zeros. Only Memory is answered.
 pub fn default_medium(alloc: Global) -> Result<Medium, MediumFault>

@@ -9,8 +9,8 @@ returns-in-Ok-Some-eq10-clause-line g c =
     let taken = rw arm.field-0-is at arm.ensures.byte in
     line_done _ _ _ _ _ _ _ _ c.bytes.invariant.part (rw is at taken)
 
-pub returns-in-Err-held-clause-part : goal.returns-in-Err-held-clause-part
-returns-in-Err-held-clause-part g c =
+pub returns-in-Err-push_within_limit-clause-part : goal.returns-in-Err-push_within_limit-clause-part
+returns-in-Err-push_within_limit-clause-part g c =
     let arm = c.in-Ok-Some in
     part_broken _ _ _ _ _ _ _ _ _ c.bytes.invariant.part (rw arm.field-0-is at arm.ensures.byte)
 
