@@ -4,30 +4,31 @@ use Rattle.std.specs.Prelude.{◌==◌, nat_lt, slice_set, option_and_then, IsTr
 use Rattle.std.specs.List.{Contains, flat_map}
 use Rattle.std.proofs.lemmas.Bool.{cases_Bool, cases_eq}
 use Rattle.volume.specs.Logs.{log_of}
+use Rattle.plan.specs.declared.operation.PlannedEntry.{PlannedEntry}
 use Rattle.volume.specs.declared.entry.Entry.{Entry}
 use Rattle.image_check.specs.Growth.{are_within, is_longer, is_shown}
 use Rattle.image_check.specs.Legal.{with_entries, with_entry}
 use Rattle.image_check.proofs.Members.{contains_cases, contains_first, contains_later, no_members}
 
 -- further entries go to the volume that the first ones leave
-append_next : (o : Option (List (List Entry))) (xs ys : List (ℕ × Entry)) →
+append_next : (o : Option (List (List Entry))) (xs ys : List PlannedEntry) →
     ((v : List (List Entry)) → with_entries v (xs ++ ys) ≡ option_and_then (λ w. with_entries w ys) (with_entries v xs)) →
     option_and_then (λ n. with_entries n (xs ++ ys)) o ≡ option_and_then (λ w. with_entries w ys) (option_and_then (λ n. with_entries n xs) o)
 append_next None xs ys h = refl
 append_next (Some v) xs ys h = h v
 
-pub with_append : (v : List (List Entry)) (xs ys : List (ℕ × Entry)) →
+pub with_append : (v : List (List Entry)) (xs ys : List PlannedEntry) →
     with_entries v (xs ++ ys) ≡ option_and_then (λ w. with_entries w ys) (with_entries v xs)
 with_append v [] ys = refl
 with_append v (e ∷ xs) ys = append_next (with_entry v e) xs ys (λ w. with_append w xs ys)
 
 -- how many of the entries are of inode i
-abbrev pub count_on : ℕ → List (ℕ × Entry) → ℕ
+abbrev pub count_on : ℕ → List PlannedEntry → ℕ
 count_on i [] = 0
-count_on i (e ∷ es) = cond {A = ℕ} (e.0 == i) 1 0 + count_on i es
+count_on i (e ∷ es) = cond {A = ℕ} (e.inode == i) 1 0 + count_on i es
 
 -- w is v with these entries, as far as its inodes and the lengths of its logs go
-pub record Grown (v w : List (List Entry)) (es : List (ℕ × Entry)) : Type 0 where
+pub record Grown (v w : List (List Entry)) (es : List PlannedEntry) : Type 0 where
   pub inodes : length w ≡ length v
   pub within : are_within (length v) es ≡ true
   pub logs : (i : ℕ) → length (log_of w i) ≡ length (log_of v i) + count_on i es
@@ -64,14 +65,14 @@ log_longer v a i e h = elim (cases_eq a i) [
       ap (λ (l : List Entry). length l) got ∙ same
 ]
 
-grown_more : (v w : List (List Entry)) (e : ℕ × Entry) (es : List (ℕ × Entry)) → e.0 < length v →
-    Grown (slice_set v e.0 (log_of v e.0 ++ e.1 ∷ [])) w es → Grown v w (e ∷ es)
+grown_more : (v w : List (List Entry)) (e : PlannedEntry) (es : List PlannedEntry) → e.inode < length v →
+    Grown (slice_set v e.inode (log_of v e.inode ++ e.entry ∷ [])) w es → Grown v w (e ∷ es)
 grown_more v w e es h g =
-    let same : length (slice_set v e.0 (log_of v e.0 ++ e.1 ∷ [])) ≡ length v = length-set v e.0 (log_of v e.0 ++ e.1 ∷ []) in
+    let same : length (slice_set v e.inode (log_of v e.inode ++ e.entry ∷ [])) ≡ length v = length-set v e.inode (log_of v e.inode ++ e.entry ∷ []) in
     record {
       inodes = g.inodes ∙ same;
-      within = both (nat_lt e.0 (length v)) (are_within (length v) es) (lt-ltb e.0 (length v) h) (subst (λ (n : ℕ). are_within n es ≡ true) same g.within);
-      logs = λ i. omega (arith, log_longer v e.0 i e.1 h, g.logs i);
+      within = both (nat_lt e.inode (length v)) (are_within (length v) es) (lt-ltb e.inode (length v) h) (subst (λ (n : ℕ). are_within n es ≡ true) same g.within);
+      logs = λ i. omega (arith, log_longer v e.inode i e.entry h, g.logs i);
     }
 
 none_some : (w : List (List Entry)) → ¬ (None ≡ Some w)
@@ -80,44 +81,44 @@ none_some w e = absurd cc
 some_same : (v w : List (List Entry)) → Some v ≡ Some w → v ≡ w
 some_same v w e = cc
 
-grown_next : (b : Bool) (v w : List (List Entry)) (e : ℕ × Entry) (es : List (ℕ × Entry)) → nat_lt e.0 (length v) ≡ b →
-    option_and_then (λ n. with_entries n es) (cond b (Some (slice_set v e.0 (log_of v e.0 ++ e.1 ∷ []))) None) ≡ Some w →
+grown_next : (b : Bool) (v w : List (List Entry)) (e : PlannedEntry) (es : List PlannedEntry) → nat_lt e.inode (length v) ≡ b →
+    option_and_then (λ n. with_entries n es) (cond b (Some (slice_set v e.inode (log_of v e.inode ++ e.entry ∷ []))) None) ≡ Some w →
     ((n : List (List Entry)) → with_entries n es ≡ Some w → Grown n w es) → Grown v w (e ∷ es)
-grown_next true v w e es t s g = grown_more v w e es (ltb-true e.0 (length v) t) (g (slice_set v e.0 (log_of v e.0 ++ e.1 ∷ [])) s)
+grown_next true v w e es t s g = grown_more v w e es (ltb-true e.inode (length v) t) (g (slice_set v e.inode (log_of v e.inode ++ e.entry ∷ [])) s)
 grown_next false v w e es t s g = absurd (none_some w s)
 
 none_grown : (v w : List (List Entry)) → v ≡ w → Grown v w []
 none_grown v w e = record { inodes = ap (λ (x : List (List Entry)). length x) (sym e); within = refl; logs = λ i. subst (λ (x : List (List Entry)). length (log_of x i) ≡ length (log_of v i) + 0) e (omega arith) }
 
-pub grown : (v w : List (List Entry)) (es : List (ℕ × Entry)) → with_entries v es ≡ Some w → Grown v w es
+pub grown : (v w : List (List Entry)) (es : List PlannedEntry) → with_entries v es ≡ Some w → Grown v w es
 grown v w [] s = none_grown v w (some_same v w s)
-grown v w (e ∷ es) s = grown_next (nat_lt e.0 (length v)) v w e es refl s (λ n r. grown n w es r)
+grown v w (e ∷ es) s = grown_next (nat_lt e.inode (length v)) v w e es refl s (λ n r. grown n w es r)
 
 -- where an inode is lacking, there is no volume
-lost_next : (a : Bool) (v : List (List Entry)) (e : ℕ × Entry) (es : List (ℕ × Entry)) → nat_lt e.0 (length v) ≡ a →
+lost_next : (a : Bool) (v : List (List Entry)) (e : PlannedEntry) (es : List PlannedEntry) → nat_lt e.inode (length v) ≡ a →
     (a && are_within (length v) es) ≡ false →
     ((w : List (List Entry)) → are_within (length w) es ≡ false → with_entries w es ≡ None) →
-    option_and_then (λ n. with_entries n es) (cond a (Some (slice_set v e.0 (log_of v e.0 ++ e.1 ∷ []))) None) ≡ None
+    option_and_then (λ n. with_entries n es) (cond a (Some (slice_set v e.inode (log_of v e.inode ++ e.entry ∷ []))) None) ≡ None
 lost_next false v e es t f h = refl
 lost_next true v e es t f h =
-    let same : length (slice_set v e.0 (log_of v e.0 ++ e.1 ∷ [])) ≡ length v = length-set v e.0 (log_of v e.0 ++ e.1 ∷ []) in
-    h (slice_set v e.0 (log_of v e.0 ++ e.1 ∷ [])) (subst (λ (n : ℕ). are_within n es ≡ false) (sym same) f)
+    let same : length (slice_set v e.inode (log_of v e.inode ++ e.entry ∷ [])) ≡ length v = length-set v e.inode (log_of v e.inode ++ e.entry ∷ []) in
+    h (slice_set v e.inode (log_of v e.inode ++ e.entry ∷ [])) (subst (λ (n : ℕ). are_within n es ≡ false) (sym same) f)
 
 true_false : ¬ (true ≡ false)
 true_false e = absurd cc
 
-pub none_fits : (v : List (List Entry)) (es : List (ℕ × Entry)) → are_within (length v) es ≡ false → with_entries v es ≡ None
+pub none_fits : (v : List (List Entry)) (es : List PlannedEntry) → are_within (length v) es ≡ false → with_entries v es ≡ None
 none_fits v [] f = absurd (true_false f)
-none_fits v (e ∷ es) f = lost_next (nat_lt e.0 (length v)) v e es refl f (λ w g. none_fits w es g)
+none_fits v (e ∷ es) f = lost_next (nat_lt e.inode (length v)) v e es refl f (λ w g. none_fits w es g)
 
-within_append : (n : ℕ) (xs ys : List (ℕ × Entry)) → are_within n (xs ++ ys) ≡ true → (are_within n xs ≡ true) × (are_within n ys ≡ true)
+within_append : (n : ℕ) (xs ys : List PlannedEntry) → are_within n (xs ++ ys) ≡ true → (are_within n xs ≡ true) × (are_within n ys ≡ true)
 within_append n [] ys h = (refl, h)
 within_append n (e ∷ xs) ys h =
-    let first : nat_lt e.0 n ≡ true = first_of_both (nat_lt e.0 n) (are_within n (xs ++ ys)) h in
-    let r : (are_within n xs ≡ true) × (are_within n ys ≡ true) = within_append n xs ys (second_of_both (nat_lt e.0 n) (are_within n (xs ++ ys)) h) in
-    (both (nat_lt e.0 n) (are_within n xs) first r.0, r.1)
+    let first : nat_lt e.inode n ≡ true = first_of_both (nat_lt e.inode n) (are_within n (xs ++ ys)) h in
+    let r : (are_within n xs ≡ true) × (are_within n ys ≡ true) = within_append n xs ys (second_of_both (nat_lt e.inode n) (are_within n (xs ++ ys)) h) in
+    (both (nat_lt e.inode n) (are_within n xs) first r.0, r.1)
 
-pub within_of : (n : ℕ) (f : ℕ → List (ℕ × Entry)) (ops : List ℕ) (op : ℕ) → are_within n (flat_map f ops) ≡ true → Contains ops op → are_within n (f op) ≡ true
+pub within_of : (n : ℕ) (f : ℕ → List PlannedEntry) (ops : List ℕ) (op : ℕ) → are_within n (flat_map f ops) ≡ true → Contains ops op → are_within n (f op) ≡ true
 within_of n f [] op h c = absurd (no_members op c)
 within_of n f (x ∷ ops) op h c =
     let s : (are_within n (f x) ≡ true) × (are_within n (flat_map f ops) ≡ true) = within_append n (f x) (flat_map f ops) h in
@@ -126,65 +127,65 @@ within_of n f (x ∷ ops) op h c =
       | inr d ↦ within_of n f ops op s.1 d
     ]
 
-count_append : (i : ℕ) (xs ys : List (ℕ × Entry)) → count_on i (xs ++ ys) ≡ count_on i xs + count_on i ys
+count_append : (i : ℕ) (xs ys : List PlannedEntry) → count_on i (xs ++ ys) ≡ count_on i xs + count_on i ys
 count_append i [] ys = omega arith
 count_append i (e ∷ xs) ys = omega (arith, count_append i xs ys)
 
-pub count_of : (i : ℕ) (f : ℕ → List (ℕ × Entry)) (ops : List ℕ) (op : ℕ) → Contains ops op → count_on i (f op) ≤ count_on i (flat_map f ops)
+pub count_of : (i : ℕ) (f : ℕ → List PlannedEntry) (ops : List ℕ) (op : ℕ) → Contains ops op → count_on i (f op) ≤ count_on i (flat_map f ops)
 count_of i f [] op c = absurd (no_members op c)
 count_of i f (x ∷ ops) op c = elim (contains_cases x ops op c) [
   | inl e ↦ subst (λ (y : ℕ). count_on i (f y) ≤ count_on i (flat_map f (x ∷ ops))) e (omega (arith, count_append i (f x) (flat_map f ops)))
   | inr d ↦ omega (arith, count_append i (f x) (flat_map f ops), count_of i f ops op d)
 ]
 
-pub count_none : (i : ℕ) (f : ℕ → List (ℕ × Entry)) (ops : List ℕ) → ((op : ℕ) → Contains ops op → count_on i (f op) ≡ 0) → count_on i (flat_map f ops) ≡ 0
+pub count_none : (i : ℕ) (f : ℕ → List PlannedEntry) (ops : List ℕ) → ((op : ℕ) → Contains ops op → count_on i (f op) ≡ 0) → count_on i (flat_map f ops) ≡ 0
 count_none i f [] h = refl
 count_none i f (x ∷ ops) h =
     omega (arith, count_append i (f x) (flat_map f ops), h x (contains_first x ops x refl), count_none i f ops (λ op c. h op (contains_later x ops op c)))
 
-pub not_on : (i : ℕ) (es : List (ℕ × Entry)) → ¬ Contains (map (λ e. e.0) es) i → count_on i es ≡ 0
+pub not_on : (i : ℕ) (es : List PlannedEntry) → ¬ Contains (map (λ e. e.inode) es) i → count_on i es ≡ 0
 not_on i [] n = refl
-not_on i (e ∷ es) n = elim (cases_Bool (e.0 == i)) [
-  | inl t ↦ absurd (n (contains_first e.0 (map (λ e. e.0) es) i (eqb-true e.0 i t)))
+not_on i (e ∷ es) n = elim (cases_Bool (e.inode == i)) [
+  | inl t ↦ absurd (n (contains_first e.inode (map (λ e. e.inode) es) i (eqb-true e.inode i t)))
   | inr f ↦
-      let none : cond {A = ℕ} (e.0 == i) 1 0 ≡ 0 = ap (λ (b : Bool). cond {A = ℕ} b 1 0) f in
-      omega (arith, none, not_on i es (λ c. n (contains_later e.0 (map (λ e. e.0) es) i c)))
+      let none : cond {A = ℕ} (e.inode == i) 1 0 ≡ 0 = ap (λ (b : Bool). cond {A = ℕ} b 1 0) f in
+      omega (arith, none, not_on i es (λ c. n (contains_later e.inode (map (λ e. e.inode) es) i c)))
 ]
 
 -- entries one by one, for the code that adds an operation's
-pub with_first : (v : List (List Entry)) (e : ℕ × Entry) (es : List (ℕ × Entry)) → e.0 < length v →
-    with_entries v (e ∷ es) ≡ with_entries (slice_set v e.0 (log_of v e.0 ++ e.1 ∷ [])) es
-with_first v e es h = ap (λ (b : Bool). option_and_then (λ n. with_entries n es) (cond b (Some (slice_set v e.0 (log_of v e.0 ++ e.1 ∷ []))) None)) (lt-ltb e.0 (length v) h)
+pub with_first : (v : List (List Entry)) (e : PlannedEntry) (es : List PlannedEntry) → e.inode < length v →
+    with_entries v (e ∷ es) ≡ with_entries (slice_set v e.inode (log_of v e.inode ++ e.entry ∷ [])) es
+with_first v e es h = ap (λ (b : Bool). option_and_then (λ n. with_entries n es) (cond b (Some (slice_set v e.inode (log_of v e.inode ++ e.entry ∷ []))) None)) (lt-ltb e.inode (length v) h)
 
-pub first_within : (n : ℕ) (es rest : List (ℕ × Entry)) (first : ℕ × Entry) → IsTrue (are_within n es) → es ≡ first ∷ rest → first.0 < n
+pub first_within : (n : ℕ) (es rest : List PlannedEntry) (first : PlannedEntry) → IsTrue (are_within n es) → es ≡ first ∷ rest → first.inode < n
 first_within n es rest first h e =
-    ltb-true first.0 n (first_of_both (nat_lt first.0 n) (are_within n rest) (sym (ap (λ (xs : List (ℕ × Entry)). are_within n xs) e) ∙ h))
+    ltb-true first.inode n (first_of_both (nat_lt first.inode n) (are_within n rest) (sym (ap (λ (xs : List PlannedEntry). are_within n xs) e) ∙ h))
 
-pub second_within : (n : ℕ) (es rest : List (ℕ × Entry)) (first second : ℕ × Entry) → IsTrue (are_within n es) → es ≡ first ∷ second ∷ rest → second.0 < n
+pub second_within : (n : ℕ) (es rest : List PlannedEntry) (first second : PlannedEntry) → IsTrue (are_within n es) → es ≡ first ∷ second ∷ rest → second.inode < n
 second_within n es rest first second h e =
-    let all : are_within n (first ∷ second ∷ rest) ≡ true = sym (ap (λ (xs : List (ℕ × Entry)). are_within n xs) e) ∙ h in
-    let later : are_within n (second ∷ rest) ≡ true = second_of_both (nat_lt first.0 n) (are_within n (second ∷ rest)) all in
-    ltb-true second.0 n (first_of_both (nat_lt second.0 n) (are_within n rest) later)
+    let all : are_within n (first ∷ second ∷ rest) ≡ true = sym (ap (λ (xs : List PlannedEntry). are_within n xs) e) ∙ h in
+    let later : are_within n (second ∷ rest) ≡ true = second_of_both (nat_lt first.inode n) (are_within n (second ∷ rest)) all in
+    ltb-true second.inode n (first_of_both (nat_lt second.inode n) (are_within n rest) later)
 
-pub one_grown : (v w : List (List Entry)) (es : List (ℕ × Entry)) (first : ℕ × Entry) → IsTrue (are_within (length v) es) → es ≡ first ∷ [] →
-    w ≡ slice_set v first.0 (log_of v first.0 ++ first.1 ∷ []) → with_entries v es ≡ Some w
+pub one_grown : (v w : List (List Entry)) (es : List PlannedEntry) (first : PlannedEntry) → IsTrue (are_within (length v) es) → es ≡ first ∷ [] →
+    w ≡ slice_set v first.inode (log_of v first.inode ++ first.entry ∷ []) → with_entries v es ≡ Some w
 one_grown v w es first h e s =
-    ap (λ (xs : List (ℕ × Entry)). with_entries v xs) e
+    ap (λ (xs : List PlannedEntry). with_entries v xs) e
     ∙ with_first v first [] (first_within (length v) es [] first h e)
     ∙ ap (λ (x : List (List Entry)). Some x) (sym s)
 
-pub two_grown : (v m w : List (List Entry)) (es : List (ℕ × Entry)) (first second : ℕ × Entry) → IsTrue (are_within (length v) es) → es ≡ first ∷ second ∷ [] →
-    m ≡ slice_set v first.0 (log_of v first.0 ++ first.1 ∷ []) → w ≡ slice_set m second.0 (log_of m second.0 ++ second.1 ∷ []) → with_entries v es ≡ Some w
+pub two_grown : (v m w : List (List Entry)) (es : List PlannedEntry) (first second : PlannedEntry) → IsTrue (are_within (length v) es) → es ≡ first ∷ second ∷ [] →
+    m ≡ slice_set v first.inode (log_of v first.inode ++ first.entry ∷ []) → w ≡ slice_set m second.inode (log_of m second.inode ++ second.entry ∷ []) → with_entries v es ≡ Some w
 two_grown v m w es first second h e s t =
-    let same : length m ≡ length v = ap (λ (x : List (List Entry)). length x) s ∙ length-set v first.0 (log_of v first.0 ++ first.1 ∷ []) in
-    let inside : second.0 < length m = subst (λ (n : ℕ). second.0 < n) (sym same) (second_within (length v) es [] first second h e) in
-    ap (λ (xs : List (ℕ × Entry)). with_entries v xs) e
+    let same : length m ≡ length v = ap (λ (x : List (List Entry)). length x) s ∙ length-set v first.inode (log_of v first.inode ++ first.entry ∷ []) in
+    let inside : second.inode < length m = subst (λ (n : ℕ). second.inode < n) (sym same) (second_within (length v) es [] first second h e) in
+    ap (λ (xs : List PlannedEntry). with_entries v xs) e
     ∙ with_first v first (second ∷ []) (first_within (length v) es (second ∷ []) first h e)
     ∙ ap (λ (x : List (List Entry)). with_entries x (second ∷ [])) (sym s)
     ∙ with_first m second [] inside
     ∙ ap (λ (x : List (List Entry)). Some x) (sym t)
 
 -- the test of an operation by its first entry
-pub shown_first : (v w : List (List Entry)) (es rest : List (ℕ × Entry)) (first : ℕ × Entry) → es ≡ first ∷ rest →
-    is_shown v w es ≡ (are_within (length v) es && nat_lt (length (log_of v first.0)) (length (log_of w first.0)))
-shown_first v w es rest first e = ap (λ (xs : List (ℕ × Entry)). are_within (length v) es && is_longer v w xs) e
+pub shown_first : (v w : List (List Entry)) (es rest : List PlannedEntry) (first : PlannedEntry) → es ≡ first ∷ rest →
+    is_shown v w es ≡ (are_within (length v) es && nat_lt (length (log_of v first.inode)) (length (log_of w first.inode)))
+shown_first v w es rest first e = ap (λ (xs : List PlannedEntry). are_within (length v) es && is_longer v w xs) e

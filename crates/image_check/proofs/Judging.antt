@@ -8,6 +8,7 @@ use Rattle.std.proofs.lemmas.Bool.{cases_Bool}
 use Rattle.std.proofs.lemmas.Grind.{flat_map-append}
 use Rattle.nova_log.specs.declared.fault.VolumeFault.{VolumeFault}
 use Rattle.plan.specs.declared.operation.Operation.{Operation}
+use Rattle.plan.specs.declared.operation.PlannedEntry.{PlannedEntry}
 use Rattle.store_trace.specs.declared.event.Event.{Event}
 use Rattle.volume.specs.Logs.{log_of}
 use Rattle.volume.specs.declared.entry.Entry.{Entry}
@@ -19,13 +20,13 @@ use Rattle.image_check.proofs.Growing.{Grown, count_none, count_of, count_on, gr
 use Rattle.image_check.proofs.Members.{contains_first, contains_later, from_filter, in_filter}
 
 -- what one operation adds to those that follow
-pub flat_cond : {X : Type 0} (b : Bool) (f : X → List (ℕ × Entry)) (x : X) (xs : List X) →
+pub flat_cond : {X : Type 0} (b : Bool) (f : X → List PlannedEntry) (x : X) (xs : List X) →
     flat_map f (cond b (x ∷ xs) xs) ≡ cond b (f x) [] ++ flat_map f xs
 flat_cond true f x xs = refl
 flat_cond false f x xs = refl
 
 -- two sets that agree on what each operation adds
-same_chosen : (f : ℕ → List (ℕ × Entry)) (c s : ℕ → Bool) (ops : List ℕ) →
+same_chosen : (f : ℕ → List PlannedEntry) (c s : ℕ → Bool) (ops : List ℕ) →
     ((op : ℕ) → Contains ops op → cond (c op) (f op) [] ≡ cond (s op) (f op) []) →
     flat_map f (filter c ops) ≡ flat_map f (filter s ops)
 same_chosen f c s [] h = refl
@@ -33,8 +34,8 @@ same_chosen f c s (op ∷ ops) h =
     let here : cond (c op) (f op) [] ≡ cond (s op) (f op) [] = h op (contains_first op ops op refl) in
     let rest : flat_map f (filter c ops) ≡ flat_map f (filter s ops) = same_chosen f c s ops (λ q m. h q (contains_later op ops q m)) in
     flat_cond (c op) f op (filter c ops)
-    ∙ ap (λ (es : List (ℕ × Entry)). es ++ flat_map f (filter c ops)) here
-    ∙ ap (λ (es : List (ℕ × Entry)). cond (s op) (f op) [] ++ es) rest
+    ∙ ap (λ (es : List PlannedEntry). es ++ flat_map f (filter c ops)) here
+    ∙ ap (λ (es : List PlannedEntry). cond (s op) (f op) [] ++ es) rest
     ∙ sym (flat_cond (s op) f op (filter s ops))
 
 unlonger : (m n : ℕ) → m ≡ n → nat_lt n m ≡ false
@@ -52,30 +53,30 @@ and_false true b q = q
 and_false false b q = refl
 
 -- an operation is in exactly where it is shown, if the log of its first inode tells it
-each_shown : (b : Bool) (v w : List (List Entry)) (es : List (ℕ × Entry)) →
+each_shown : (b : Bool) (v w : List (List Entry)) (es : List PlannedEntry) →
     (b ≡ true → are_within (length v) es ≡ true) →
-    ((e : ℕ × Entry) (rest : List (ℕ × Entry)) → es ≡ e ∷ rest → b ≡ true → length (log_of v e.0) < length (log_of w e.0)) →
-    ((e : ℕ × Entry) (rest : List (ℕ × Entry)) → es ≡ e ∷ rest → b ≡ false → length (log_of w e.0) ≡ length (log_of v e.0)) →
+    ((e : PlannedEntry) (rest : List PlannedEntry) → es ≡ e ∷ rest → b ≡ true → length (log_of v e.inode) < length (log_of w e.inode)) →
+    ((e : PlannedEntry) (rest : List PlannedEntry) → es ≡ e ∷ rest → b ≡ false → length (log_of w e.inode) ≡ length (log_of v e.inode)) →
     cond b es [] ≡ cond (is_shown v w es) es []
 each_shown true v w [] t l n = refl
 each_shown false v w [] t l n = refl
 each_shown true v w (e ∷ es) t l n =
     let shown : is_shown v w (e ∷ es) ≡ true =
-    and_true (are_within (length v) (e ∷ es)) (is_longer v w (e ∷ es)) (t refl) (lt-ltb (length (log_of v e.0)) (length (log_of w e.0)) (l e es refl refl)) in
+    and_true (are_within (length v) (e ∷ es)) (is_longer v w (e ∷ es)) (t refl) (lt-ltb (length (log_of v e.inode)) (length (log_of w e.inode)) (l e es refl refl)) in
     ap (λ (b : Bool). cond b (e ∷ es) []) (sym shown)
 each_shown false v w (e ∷ es) t l n =
     let hidden : is_shown v w (e ∷ es) ≡ false =
-    and_false (are_within (length v) (e ∷ es)) (is_longer v w (e ∷ es)) (unlonger (length (log_of w e.0)) (length (log_of v e.0)) (n e es refl refl)) in
+    and_false (are_within (length v) (e ∷ es)) (is_longer v w (e ∷ es)) (unlonger (length (log_of w e.inode)) (length (log_of v e.inode)) (n e es refl refl)) in
     ap (λ (b : Bool). cond b (e ∷ es) []) (sym hidden)
 
-count_first : (i : ℕ) (e : ℕ × Entry) (es xs : List (ℕ × Entry)) → xs ≡ e ∷ es → i ≡ e.0 → 0 < count_on i xs
+count_first : (i : ℕ) (e : PlannedEntry) (es xs : List PlannedEntry) → xs ≡ e ∷ es → i ≡ e.inode → 0 < count_on i xs
 count_first i e es xs s h =
-    let one : cond {A = ℕ} (e.0 == i) 1 0 ≡ 1 = ap (λ (b : Bool). cond {A = ℕ} b 1 0) (eq-eqb e.0 i (sym h)) in
-    subst (λ (ys : List (ℕ × Entry)). 0 < count_on i ys) (sym s) (omega arith)
+    let one : cond {A = ℕ} (e.inode == i) 1 0 ≡ 1 = ap (λ (b : Bool). cond {A = ℕ} b 1 0) (eq-eqb e.inode i (sym h)) in
+    subst (λ (ys : List PlannedEntry). 0 < count_on i ys) (sym s) (omega arith)
 
 -- the operations of the set are those that are shown, where the operations share no inode
-shown_same : (f : ℕ → List (ℕ × Entry)) (ops : List ℕ) (c : ℕ → Bool) (v w : List (List Entry)) →
-    ((a b : ℕ) → Contains ops a → Contains ops b → ¬ (a ≡ b) → (i : ℕ) → Contains (map (λ e. e.0) (f a)) i → ¬ Contains (map (λ e. e.0) (f b)) i) →
+shown_same : (f : ℕ → List PlannedEntry) (ops : List ℕ) (c : ℕ → Bool) (v w : List (List Entry)) →
+    ((a b : ℕ) → Contains ops a → Contains ops b → ¬ (a ≡ b) → (i : ℕ) → Contains (map (λ e. e.inode) (f a)) i → ¬ Contains (map (λ e. e.inode) (f b)) i) →
     with_entries v (flat_map f (filter c ops)) ≡ Some w →
     flat_map f (filter c ops) ≡ flat_map f (filter (λ op. is_shown v w (f op)) ops)
 shown_same f ops c v w apart g =
@@ -84,22 +85,22 @@ shown_same f ops c v w apart g =
     each_shown (c op) v w (f op)
     (λ t. within_of (length v) f (filter c ops) op r.within (in_filter c ops op m t))
     (λ e rest s t.
-    let some : 0 < count_on e.0 (f op) = count_first e.0 e rest (f op) s refl in
-    omega (arith, some, count_of e.0 f (filter c ops) op (in_filter c ops op m t), r.logs e.0))
+    let some : 0 < count_on e.inode (f op) = count_first e.inode e rest (f op) s refl in
+    omega (arith, some, count_of e.inode f (filter c ops) op (in_filter c ops op m t), r.logs e.inode))
     (λ e rest s t.
-    let none : count_on e.0 (flat_map f (filter c ops)) ≡ 0 =
-    count_none e.0 f (filter c ops) (λ q k.
+    let none : count_on e.inode (flat_map f (filter c ops)) ≡ 0 =
+    count_none e.inode f (filter c ops) (λ q k.
     let chosen : Contains ops q × (c q ≡ true) = from_filter c ops q k in
-    not_on e.0 (f q) (apart op q m chosen.0 (λ same. true≢false (sym chosen.1 ∙ ap c (sym same) ∙ t)) e.0
-    (subst (λ (es : List (ℕ × Entry)). Contains (map (λ x. x.0) es) e.0) (sym s) (contains_first e.0 (map (λ x. x.0) rest) e.0 refl)))) in
-    omega (arith, none, r.logs e.0)))
+    not_on e.inode (f q) (apart op q m chosen.0 (λ same. true≢false (sym chosen.1 ∙ ap c (sym same) ∙ t)) e.inode
+    (subst (λ (es : List PlannedEntry). Contains (map (λ x. x.inode) es) e.inode) (sym s) (contains_first e.inode (map (λ x. x.inode) rest) e.inode refl)))) in
+    omega (arith, none, r.logs e.inode)))
 
 -- further operations go to the settled volume
-pub joined : (f : ℕ → List (ℕ × Entry)) (v : List (List Entry)) (o : Option (List (List Entry))) (xs ys : List ℕ) →
+pub joined : (f : ℕ → List PlannedEntry) (v : List (List Entry)) (o : Option (List (List Entry))) (xs ys : List ℕ) →
     with_entries v (flat_map f xs) ≡ o →
     with_entries v (flat_map f (xs ++ ys)) ≡ option_and_then (λ w. with_entries w (flat_map f ys)) o
 joined f v o xs ys h =
-    ap (λ (es : List (ℕ × Entry)). with_entries v es) (flat_map-append f xs ys)
+    ap (λ (es : List PlannedEntry). with_entries v es) (flat_map-append f xs ys)
     ∙ with_append v (flat_map f xs) (flat_map f ys)
     ∙ ap (λ (p : Option (List (List Entry))). option_and_then (λ w. with_entries w (flat_map f ys)) p) h
 
@@ -109,7 +110,7 @@ no_start v e = absurd cc
 some_same : (v w : List (List Entry)) → Some v ≡ Some w → v ≡ w
 some_same v w e = cc
 
-abbrev shown_entries : List Operation → List (List Entry) → List (List Entry) → List ℕ → List (ℕ × Entry)
+abbrev shown_entries : List Operation → List (List Entry) → List (List Entry) → List ℕ → List PlannedEntry
 shown_entries plan v w ops = flat_map (planned plan) (filter (λ op. is_shown v w (planned plan op)) ops)
 
 -- what the shown operations make of the settled volume is legal
@@ -140,7 +141,7 @@ legal_shown plan start events settled w ops s apart l =
     shown_same (planned plan) (pending events) l.chosen settled w
     (λ a b m n d i of_a of_b. apart a b m n d (record { inode = i; of_one = of_a; of_other = of_b })) more in
     ap (λ (ps : List ℕ). with_entries settled (shown_entries plan settled w ps)) s.under_way_is
-    ∙ ap (λ (es : List (ℕ × Entry)). with_entries settled es) (sym same)
+    ∙ ap (λ (es : List PlannedEntry). with_entries settled es) (sym same)
     ∙ more
 
 -- the code's comparison decides it

@@ -8,6 +8,7 @@ use Rattle.std.proofs.lemmas.List.{take_more}
 use Rattle.std.proofs.lemmas.List.Elements.{filter-append}
 use Rattle.plan.specs.Entries.{entries_of}
 use Rattle.plan.specs.declared.operation.Operation.{Operation}
+use Rattle.plan.specs.declared.operation.PlannedEntry.{PlannedEntry}
 use Rattle.volume.specs.declared.entry.Entry.{Entry}
 use Rattle.image_check.specs.Growth.{are_within, is_longer, is_shown}
 use Rattle.image_check.specs.Legal.{with_entries}
@@ -24,23 +25,23 @@ planned_none plan op e = ap (λ (p : Option Operation). option_map_or entries_of
 
 pub settled_planned : (plan : List Operation) (op : ℕ) (o : Operation) (v w : List (List Entry)) → operation_of plan op ≡ Some o →
     with_entries v (entries_of o) ≡ Some w → with_entries v (planned plan op) ≡ Some w
-settled_planned plan op o v w e g = ap (λ (es : List (ℕ × Entry)). with_entries v es) (planned_some plan op o e) ∙ g
+settled_planned plan op o v w e g = ap (λ (es : List PlannedEntry). with_entries v es) (planned_some plan op o e) ∙ g
 
 pub settled_unplanned : (plan : List Operation) (op : ℕ) (v : List (List Entry)) → operation_of plan op ≡ None → with_entries v (planned plan op) ≡ Some v
-settled_unplanned plan op v e = ap (λ (es : List (ℕ × Entry)). with_entries v es) (planned_none plan op e)
+settled_unplanned plan op v e = ap (λ (es : List PlannedEntry). with_entries v es) (planned_none plan op e)
 
 pub settled_unfit : (plan : List Operation) (op : ℕ) (o : Operation) (v : List (List Entry)) → operation_of plan op ≡ Some o →
     are_within (length v) (entries_of o) ≡ false → with_entries v (planned plan op) ≡ None
-settled_unfit plan op o v e f = ap (λ (es : List (ℕ × Entry)). with_entries v es) (planned_some plan op o e) ∙ none_fits v (entries_of o) f
+settled_unfit plan op o v e f = ap (λ (es : List PlannedEntry). with_entries v es) (planned_some plan op o e) ∙ none_fits v (entries_of o) f
 
 -- the next operation adds its entries where it is shown
-shown_entries_more : (f : ℕ → List (ℕ × Entry)) (p : ℕ → Bool) (ops : List ℕ) (i d : ℕ) → i < length ops →
+shown_entries_more : (f : ℕ → List PlannedEntry) (p : ℕ → Bool) (ops : List ℕ) (i d : ℕ) → i < length ops →
     flat_map f (filter p (take (i + 1) ops)) ≡ flat_map f (filter p (take i ops)) ++ cond (p (get_or ops i d)) (f (get_or ops i d)) []
 shown_entries_more f p ops i d h =
     ap (λ (os : List ℕ). flat_map f (filter p os)) (take_more ops i d h)
     ∙ ap (λ (os : List ℕ). flat_map f os) (filter-append p (take i ops) (get_or ops i d ∷ []))
     ∙ flat_map-append f (filter p (take i ops)) (filter p (get_or ops i d ∷ []))
-    ∙ ap (λ (es : List (ℕ × Entry)). flat_map f (filter p (take i ops)) ++ es)
+    ∙ ap (λ (es : List PlannedEntry). flat_map f (filter p (take i ops)) ++ es)
     (flat_cond (p (get_or ops i d)) f (get_or ops i d) [] ∙ append-nil (cond (p (get_or ops i d)) (f (get_or ops i d)) []))
 
 pub shown_more : (plan : List Operation) (v w m n : List (List Entry)) (ops : List ℕ) (i d : ℕ) → i < length ops →
@@ -48,13 +49,13 @@ pub shown_more : (plan : List Operation) (v w m n : List (List Entry)) (ops : Li
     with_entries m (cond (is_shown v w (planned plan (get_or ops i d))) (planned plan (get_or ops i d)) []) ≡ Some n →
     with_entries v (flat_map (planned plan) (filter (λ op. is_shown v w (planned plan op)) (take (i + 1) ops))) ≡ Some n
 shown_more plan v w m n ops i d h s g =
-    ap (λ (es : List (ℕ × Entry)). with_entries v es) (shown_entries_more (planned plan) (λ op. is_shown v w (planned plan op)) ops i d h)
+    ap (λ (es : List PlannedEntry). with_entries v es) (shown_entries_more (planned plan) (λ op. is_shown v w (planned plan op)) ops i d h)
     ∙ with_append v (flat_map (planned plan) (filter (λ op. is_shown v w (planned plan op)) (take i ops)))
     (cond (is_shown v w (planned plan (get_or ops i d))) (planned plan (get_or ops i d)) [])
     ∙ ap (λ (p : Option (List (List Entry))). option_and_then (λ x. with_entries x (cond (is_shown v w (planned plan (get_or ops i d))) (planned plan (get_or ops i d)) [])) p) s
     ∙ g
 
-pub same_inodes : (v m : List (List Entry)) (es : List (ℕ × Entry)) → with_entries v es ≡ Some m → length m ≡ length v
+pub same_inodes : (v m : List (List Entry)) (es : List PlannedEntry) → with_entries v es ≡ Some m → length m ≡ length v
 same_inodes v m es g = (grown v m es g).inodes
 
 -- the operation with its entries, where it is shown
@@ -62,7 +63,7 @@ first_true : (a b : Bool) → (a && b) ≡ true → a ≡ true
 first_true true b e = refl
 first_true false b e = absurd cc
 
-pub shown_fits : (v w m : List (List Entry)) (es : List (ℕ × Entry)) → length m ≡ length v → is_shown v w es ≡ true → IsTrue (are_within (length m) es)
+pub shown_fits : (v w m : List (List Entry)) (es : List PlannedEntry) → length m ≡ length v → is_shown v w es ≡ true → IsTrue (are_within (length m) es)
 shown_fits v w m es e t = subst (λ (n : ℕ). are_within n es ≡ true) (sym e) (first_true (are_within (length v) es) (is_longer v w es) t)
 
 pub added_shown : (plan : List Operation) (op : ℕ) (o : Operation) (v w m n : List (List Entry)) → operation_of plan op ≡ Some o →

@@ -7,6 +7,7 @@ use Rattle.std.proofs.lemmas.List.Elements.{filter_map-append, filter-append}
 use Rattle.std.proofs.lemmas.List.Folds.{list_any-append}
 use Rattle.std.proofs.lemmas.Option.{slice_get-get_or}
 use Rattle.plan.specs.declared.operation.Operation.{Operation}
+use Rattle.plan.specs.declared.operation.PlannedEntry.{PlannedEntry}
 use Rattle.store_trace.specs.declared.event.Event.{Event}
 use Rattle.store_trace.specs.declared.event.Event.TheVariants.{Store, Clean, Fence, Begin, End}
 use Rattle.volume.specs.declared.entry.Entry.{Entry}
@@ -97,7 +98,7 @@ settled_later : (plan : List Operation) (start : Option (List (List Entry))) (ov
     ≡ option_and_then (λ v. with_entries v (flat_map (planned plan) (over ++ op ∷ []))) start
 settled_later plan None over op = refl
 settled_later plan (Some v) over op =
-    ap (λ (es : List (ℕ × Entry)). option_and_then (λ w. with_entries w es) (with_entries v (flat_map (planned plan) over))) (sym (append-nil (planned plan op)))
+    ap (λ (es : List PlannedEntry). option_and_then (λ w. with_entries w es) (with_entries v (flat_map (planned plan) over))) (sym (append-nil (planned plan op)))
     ∙ sym (joined (planned plan) v (with_entries v (flat_map (planned plan) over)) over (op ∷ []) refl)
 
 end_noted : (plan : List Operation) (start settled new : Option (List (List Entry))) (before : List Event) (hart op : ℕ) (ops fewer : List ℕ) →

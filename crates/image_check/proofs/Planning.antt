@@ -5,32 +5,32 @@ use Rattle.std.specs.List.{Contains}
 use Rattle.std.proofs.lemmas.Bool.{cases_Bool}
 use Rattle.std.proofs.lemmas.List.{drop_more}
 use Rattle.plan.specs.declared.operation.Operation.{Operation}
-use Rattle.volume.specs.declared.entry.Entry.{Entry}
+use Rattle.plan.specs.declared.operation.PlannedEntry.{PlannedEntry}
 use Rattle.image_check.specs.OrderFaults.{IsPlanned}
 use Rattle.image_check.specs.Planned.{operation_of}
 use Rattle.image_check.proofs.Members.{contains_cases, contains_first, contains_later, no_members}
 
-abbrev inodes : List (ℕ × Entry) → List ℕ
-inodes es = map (λ e. e.0) es
+abbrev inodes : List PlannedEntry → List ℕ
+inodes es = map (λ e. e.inode) es
 
 -- the inodes of one entry
-pub one_inode : (es : List (ℕ × Entry)) (first : ℕ × Entry) (inode : ℕ) → es ≡ first ∷ [] → Contains (map (λ e. e.0) es) inode ↔ (first.0 ≡ inode)
+pub one_inode : (es : List PlannedEntry) (first : PlannedEntry) (inode : ℕ) → es ≡ first ∷ [] → Contains (map (λ e. e.inode) es) inode ↔ (first.inode ≡ inode)
 one_inode es first inode e = (
-  λ c. elim (contains_cases first.0 [] inode (subst (λ (xs : List (ℕ × Entry)). Contains (inodes xs) inode) e c)) [ inl s ↦ s | inr z ↦ absurd (no_members inode z) ],
-  λ s. subst (λ (xs : List (ℕ × Entry)). Contains (inodes xs) inode) (sym e) (contains_first first.0 [] inode s),
+  λ c. elim (contains_cases first.inode [] inode (subst (λ (xs : List PlannedEntry). Contains (inodes xs) inode) e c)) [ inl s ↦ s | inr z ↦ absurd (no_members inode z) ],
+  λ s. subst (λ (xs : List PlannedEntry). Contains (inodes xs) inode) (sym e) (contains_first first.inode [] inode s),
 )
 
 -- the inodes of two entries
-pub two_inodes : (es : List (ℕ × Entry)) (first second : ℕ × Entry) (inode : ℕ) → es ≡ first ∷ second ∷ [] →
-    Contains (map (λ e. e.0) es) inode ↔ ((first.0 ≡ inode) ⊎ (second.0 ≡ inode))
+pub two_inodes : (es : List PlannedEntry) (first second : PlannedEntry) (inode : ℕ) → es ≡ first ∷ second ∷ [] →
+    Contains (map (λ e. e.inode) es) inode ↔ ((first.inode ≡ inode) ⊎ (second.inode ≡ inode))
 two_inodes es first second inode e = (
-  λ c. elim (contains_cases first.0 (second.0 ∷ []) inode (subst (λ (xs : List (ℕ × Entry)). Contains (inodes xs) inode) e c)) [
+  λ c. elim (contains_cases first.inode (second.inode ∷ []) inode (subst (λ (xs : List PlannedEntry). Contains (inodes xs) inode) e c)) [
     | inl s ↦ inl s
-    | inr d ↦ elim (contains_cases second.0 [] inode d) [ inl s ↦ inr s | inr z ↦ absurd (no_members inode z) ]
+    | inr d ↦ elim (contains_cases second.inode [] inode d) [ inl s ↦ inr s | inr z ↦ absurd (no_members inode z) ]
   ],
-  λ s. subst (λ (xs : List (ℕ × Entry)). Contains (inodes xs) inode) (sym e) (elim s [
-    | inl a ↦ contains_first first.0 (second.0 ∷ []) inode a
-    | inr b ↦ contains_later first.0 (second.0 ∷ []) inode (contains_first second.0 [] inode b)
+  λ s. subst (λ (xs : List PlannedEntry). Contains (inodes xs) inode) (sym e) (elim s [
+    | inl a ↦ contains_first first.inode (second.inode ∷ []) inode a
+    | inr b ↦ contains_later first.inode (second.inode ∷ []) inode (contains_first second.inode [] inode b)
   ]),
 )
 
@@ -59,24 +59,24 @@ lost_unplanned (o ∷ plan) op e c = elim (cases_Bool (o.number == op)) [
 ]
 
 -- an inode of one list of entries that is an inode of another
-pub share_one : (es os : List (ℕ × Entry)) (first : ℕ × Entry) → es ≡ first ∷ [] →
-    ((inode : ℕ) × Contains (map (λ e. e.0) es) inode × Contains (map (λ e. e.0) os) inode) ↔ Contains (map (λ e. e.0) os) first.0
+pub share_one : (es os : List PlannedEntry) (first : PlannedEntry) → es ≡ first ∷ [] →
+    ((inode : ℕ) × Contains (map (λ e. e.inode) es) inode × Contains (map (λ e. e.inode) os) inode) ↔ Contains (map (λ e. e.inode) os) first.inode
 share_one es os first e = (
   λ s. subst (λ (i : ℕ). Contains (inodes os) i) (sym ((one_inode es first s.0 e).0 s.1)) s.2,
-  λ c. (first.0, (one_inode es first first.0 e).1 refl, c),
+  λ c. (first.inode, (one_inode es first first.inode e).1 refl, c),
 )
 
-pub share_two : (es os : List (ℕ × Entry)) (first second : ℕ × Entry) → es ≡ first ∷ second ∷ [] →
-    ((inode : ℕ) × Contains (map (λ e. e.0) es) inode × Contains (map (λ e. e.0) os) inode)
-    ↔ (Contains (map (λ e. e.0) os) first.0 ⊎ Contains (map (λ e. e.0) os) second.0)
+pub share_two : (es os : List PlannedEntry) (first second : PlannedEntry) → es ≡ first ∷ second ∷ [] →
+    ((inode : ℕ) × Contains (map (λ e. e.inode) es) inode × Contains (map (λ e. e.inode) os) inode)
+    ↔ (Contains (map (λ e. e.inode) os) first.inode ⊎ Contains (map (λ e. e.inode) os) second.inode)
 share_two es os first second e = (
   λ s. elim ((two_inodes es first second s.0 e).0 s.1) [
     | inl a ↦ inl (subst (λ (i : ℕ). Contains (inodes os) i) (sym a) s.2)
     | inr b ↦ inr (subst (λ (i : ℕ). Contains (inodes os) i) (sym b) s.2)
   ],
   λ c. elim c [
-    | inl a ↦ (first.0, (two_inodes es first second first.0 e).1 (inl refl), a)
-    | inr b ↦ (second.0, (two_inodes es first second second.0 e).1 (inr refl), b)
+    | inl a ↦ (first.inode, (two_inodes es first second first.inode e).1 (inl refl), a)
+    | inr b ↦ (second.inode, (two_inodes es first second second.inode e).1 (inr refl), b)
   ],
 )
 

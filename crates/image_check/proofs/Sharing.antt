@@ -35,12 +35,12 @@ all_shared plan events op h s =
 
 -- one event
 planned_as : (plan : List Operation) (op : ℕ) (operation : Operation) → operation_of plan op ≡ Some operation →
-    inodes_of plan op ≡ map (λ e. e.0) (entries_of operation)
-planned_as plan op operation e = ap (λ (o : Option Operation). map (λ e. e.0) (option_map_or entries_of o [])) e
+    inodes_of plan op ≡ map (λ e. e.inode) (entries_of operation)
+planned_as plan op operation e = ap (λ (o : Option Operation). map (λ e. e.inode) (option_map_or entries_of o [])) e
 
 pub sharer_shares : (plan : List Operation) (events : List Event) (hart other op : ℕ) (one two : Operation) →
     ¬ Contains (ended events) other → operation_of plan other ≡ Some one → operation_of plan op ≡ Some two →
-    ((inode : ℕ) × Contains (map (λ e. e.0) (entries_of one)) inode × Contains (map (λ e. e.0) (entries_of two)) inode) →
+    ((inode : ℕ) × Contains (map (λ e. e.inode) (entries_of one)) inode × Contains (map (λ e. e.inode) (entries_of two)) inode) →
     OpensSharer plan events (Begin hart other) op
 sharer_shares plan events hart other op one two n p q s = record {
   other = other;
@@ -58,7 +58,7 @@ begun_other a b e = cc
 
 pub shares_sharer : (plan : List Operation) (events : List Event) (hart other op : ℕ) (one two : Operation) →
     operation_of plan other ≡ Some one → operation_of plan op ≡ Some two → OpensSharer plan events (Begin hart other) op →
-    (inode : ℕ) × Contains (map (λ e. e.0) (entries_of one)) inode × Contains (map (λ e. e.0) (entries_of two)) inode
+    (inode : ℕ) × Contains (map (λ e. e.inode) (entries_of one)) inode × Contains (map (λ e. e.inode) (entries_of two)) inode
 shares_sharer plan events hart other op one two p q s =
     let same : other ≡ s.other = begun_other other s.other s.begins in
     let of_one : Contains (inodes_of plan other) s.shares.inode = subst (λ (o : ℕ). Contains (inodes_of plan o) s.shares.inode) (sym same) s.shares.of_one in (
@@ -74,7 +74,7 @@ ended_shares_not plan events hart other op c s =
 pub unplanned_shares_not : (plan : List Operation) (events : List Event) (hart other op : ℕ) → operation_of plan other ≡ None → ¬ OpensSharer plan events (Begin hart other) op
 unplanned_shares_not plan events hart other op e s =
     let same : other ≡ s.other = begun_other other s.other s.begins in
-    let none : inodes_of plan other ≡ [] = ap (λ (o : Option Operation). map (λ e. e.0) (option_map_or entries_of o [])) e in
+    let none : inodes_of plan other ≡ [] = ap (λ (o : Option Operation). map (λ e. e.inode) (option_map_or entries_of o [])) e in
     no_members s.shares.inode (subst (λ (xs : List ℕ). Contains xs s.shares.inode) none
     (subst (λ (o : ℕ). Contains (inodes_of plan o) s.shares.inode) (sym same) s.shares.of_one))
 

@@ -3,6 +3,7 @@
 use Rattle.std.specs.Prelude.{◌≡◌, ℕ, ◌&&◌, nat_lt, Bool, false, List, [], ◌∷◌, length, Option, option_and_then}
 use Rattle.std.specs.List.{Contains, flat_map, list_all}
 use Rattle.plan.specs.declared.operation.Operation.{Operation}
+use Rattle.plan.specs.declared.operation.PlannedEntry.{PlannedEntry}
 use Rattle.store_trace.specs.declared.event.Event.{Event}
 use Rattle.volume.specs.Logs.{log_of}
 use Rattle.volume.specs.declared.entry.Entry.{Entry}
@@ -12,16 +13,16 @@ use Rattle.image_check.specs.OrderFaults.{ShareInode}
 use Rattle.image_check.specs.Planned.{planned}
 
 -- a volume of so many inodes has the inode of each entry
-abbrev pub are_within : ℕ → List (ℕ × Entry) → Bool
-are_within inodes es = list_all (λ e. nat_lt e.0 inodes) es
+abbrev pub are_within : ℕ → List PlannedEntry → Bool
+are_within inodes es = list_all (λ e. nat_lt e.inode inodes) es
 
 -- the log of the first entry's inode is longer than it was
-abbrev pub is_longer : List (List Entry) → List (List Entry) → List (ℕ × Entry) → Bool
+abbrev pub is_longer : List (List Entry) → List (List Entry) → List PlannedEntry → Bool
 is_longer before after [] = false
-is_longer before after (e ∷ es) = nat_lt (length (log_of before e.0)) (length (log_of after e.0))
+is_longer before after (e ∷ es) = nat_lt (length (log_of before e.inode)) (length (log_of after e.inode))
 
 -- the volume before has an inode for each of these entries, and there is something new in the first one's log
-abbrev pub is_shown : List (List Entry) → List (List Entry) → List (ℕ × Entry) → Bool
+abbrev pub is_shown : List (List Entry) → List (List Entry) → List PlannedEntry → Bool
 is_shown before after es = are_within (length before) es && is_longer before after es
 
 -- two pending operations don't share an inode

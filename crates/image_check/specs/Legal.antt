@@ -5,6 +5,7 @@ use Rattle.std.specs.Prelude.{◌≡◌, ℕ, Bool, List, [], ◌∷◌, ◌++�
 use Rattle.std.specs.List.{flat_map}
 use Rattle.nova_log.specs.declared.fault.VolumeFault.{VolumeFault}
 use Rattle.plan.specs.declared.operation.Operation.{Operation}
+use Rattle.plan.specs.declared.operation.PlannedEntry.{PlannedEntry}
 use Rattle.store_trace.specs.declared.event.Event.{Event}
 use Rattle.volume.specs.Logs.{log_of}
 use Rattle.volume.specs.declared.entry.Entry.{Entry}
@@ -12,12 +13,12 @@ use Rattle.image_check.specs.Marks.{ended, pending}
 use Rattle.image_check.specs.Planned.{planned}
 
 -- the volume with an entry at the end of its inode's log; none where it lacks the inode
-abbrev pub with_entry : List (List Entry) → ℕ × Entry → Option (List (List Entry))
+abbrev pub with_entry : List (List Entry) → PlannedEntry → Option (List (List Entry))
 with_entry volume e =
-    if nat_lt e.0 (length volume) then Some (slice_set volume e.0 (log_of volume e.0 ++ e.1 ∷ [])) else None
+    if nat_lt e.inode (length volume) then Some (slice_set volume e.inode (log_of volume e.inode ++ e.entry ∷ [])) else None
 
 -- the volume with these entries, each at the end of its inode's log; none where it lacks one of the inodes
-abbrev pub with_entries : List (List Entry) → List (ℕ × Entry) → Option (List (List Entry))
+abbrev pub with_entries : List (List Entry) → List PlannedEntry → Option (List (List Entry))
 with_entries volume [] = Some volume
 with_entries volume (e ∷ es) = option_and_then (λ next. with_entries next es) (with_entry volume e)
 

@@ -27,6 +27,7 @@ pub fn recover_image(alloc: Global, cuts: &Cuts, cut: &Cut) -> Result<Volume, Vo
 struct ImageLines<'a, 'b> {
     cuts: &'a Cuts<'b>,
     cut: &'a Cut,
+    /// The lines that were asked for, which a source of lines tells; no code reads them.
     asked: Vec<u32>,
 }
 

@@ -8,7 +8,7 @@ ghost use Rattle.volume.specs.Logs.{log_of};
 ghost use Rattle.std.specs.List.{Contains};
 ghost use Rattle.std.specs.Prelude.{◌≡◌, ◌↔◌, ℕ, length, map, IsTrue, OnOk};
 
-use plan::{Operation, Plan};
+use plan::{Operation, Plan, PlannedEntries};
 use std::alloc::AllocError;
 use volume::Volume;
 
@@ -30,24 +30,24 @@ pub fn find_operation(plan: &Plan, op: u64) -> Option<Operation>
 #[tactic(auto, using(crate::proofs::Planning::share_one, crate::proofs::Planning::share_two))]
 pub fn share_inode(one: &Operation, other: &Operation) -> bool
     ensures { IsTrue result ↔ ((inode : ℕ)
-        × Contains (map (λ e. e.0) (entries_of one.now)) inode
-        × Contains (map (λ e. e.0) (entries_of other.now)) inode) }
+        × Contains (map (λ e. e.inode) (entries_of one.now)) inode
+        × Contains (map (λ e. e.inode) (entries_of other.now)) inode) }
 {
-    let (first, second) = one.entries();
+    let PlannedEntries { first, second } = one.entries();
     match second {
-        Some((inode, _)) => adds_to(other, first.0) || adds_to(other, inode),
-        None => adds_to(other, first.0),
+        Some(second) => adds_to(other, first.inode) || adds_to(other, second.inode),
+        None => adds_to(other, first.inode),
     }
 }
 
 #[tactic(auto, using(crate::proofs::Planning::one_inode, crate::proofs::Planning::two_inodes))]
 fn adds_to(operation: &Operation, inode: u32) -> bool
-    ensures { IsTrue result ↔ Contains (map (λ e. e.0) (entries_of operation.now)) inode }
+    ensures { IsTrue result ↔ Contains (map (λ e. e.inode) (entries_of operation.now)) inode }
 {
-    let (first, second) = operation.entries();
+    let PlannedEntries { first, second } = operation.entries();
     match second {
-        Some((other, _)) => first.0 == inode || other == inode,
-        None => first.0 == inode,
+        Some(second) => first.inode == inode || second.inode == inode,
+        None => first.inode == inode,
     }
 }
 
@@ -56,10 +56,10 @@ pub fn fits(volume: &Volume, operation: &Operation) -> bool
     ensures { result ≡ are_within (length volume.now) (entries_of operation.now) }
 {
     let inodes = volume.inodes();
-    let (first, second) = operation.entries();
+    let PlannedEntries { first, second } = operation.entries();
     match second {
-        Some((inode, _)) => first.0 < inodes && inode < inodes,
-        None => first.0 < inodes,
+        Some(second) => first.inode < inodes && second.inode < inodes,
+        None => first.inode < inodes,
     }
 }
 
@@ -69,10 +69,10 @@ pub fn append(volume: &mut Volume, operation: &Operation) -> Result<(), AllocErr
     requires { IsTrue (are_within (length volume.old) (entries_of operation.now)) }
     ensures { OnOk result (with_entries volume.old (entries_of operation.now) ≡ Some volume.new) }
 {
-    let (first, second) = operation.entries();
-    volume.append(first.0, first.1)?;
+    let PlannedEntries { first, second } = operation.entries();
+    volume.append(first.inode, first.entry)?;
     match second {
-        Some((inode, entry)) => volume.append(inode, entry),
+        Some(second) => volume.append(second.inode, second.entry),
         None => Ok(()),
     }
 }
@@ -83,8 +83,8 @@ pub fn append(volume: &mut Volume, operation: &Operation) -> Result<(), AllocErr
 pub fn shows(before: &Volume, after: &Volume, operation: &Operation) -> bool
     ensures { result ≡ is_shown before.now after.now (entries_of operation.now) }
 {
-    let (first, _) = operation.entries();
-    fits(before, operation) && log_length(before, first.0) < log_length(after, first.0)
+    let PlannedEntries { first, .. } = operation.entries();
+    fits(before, operation) && log_length(before, first.inode) < log_length(after, first.inode)
 }
 
 /// How many entries the inode's log has, none where the volume lacks the inode.

@@ -2,7 +2,7 @@
 #![tactic(auto)]
 
 pub use fault::{PlanCode, PlanFault};
-pub use operation::{Action, Operation};
+pub use operation::{Action, Operation, PlannedEntries, PlannedEntry};
 pub use plan::Plan;
 
 mod draft;

@@ -2,7 +2,7 @@
 
 ghost use Rattle.std.specs.Prelude.{◌≡◌, ◌∷◌};
 ghost use Rattle.std.specs.Option.{option_to_list};
-ghost use Rattle.plan.specs.Entries.{entries_of};
+ghost use Rattle.plan.specs.Entries.{entries_of, entry};
 
 use volume::{Entry, EntryKind, Name};
 
@@ -30,39 +30,54 @@ pub struct Operation {
     pub action: Action,
 }
 
+/// An entry that an operation is to add to the log of an inode.
+#[derive(Clone, Copy, Debug, PartialEq, Eq)]
+pub struct PlannedEntry {
+    pub inode: u32,
+    pub entry: Entry,
+}
+
+/// The entries that an operation is to add, in their order.
+#[derive(Clone, Copy, Debug, PartialEq, Eq)]
+pub struct PlannedEntries {
+    pub first: PlannedEntry,
+    pub second: Option<PlannedEntry>,
+}
+
 impl Operation {
-    /// The entries that the operation is to add, each with the inode to whose log it goes: one for an
-    /// append, two for a rename.
-    pub fn entries(&self) -> ((u32, Entry), Option<(u32, Entry)>)
-        ensures { entries_of self.now ≡ result.0 ∷ option_to_list result.1 }
+    /// The entries that the operation is to add: one for an append, two for a rename.
+    pub fn entries(&self) -> PlannedEntries
+        ensures { entries_of self.now ≡ result.first ∷ option_to_list result.second }
     {
         match self.action {
-            Action::Append { inode, value } => {
-                (
-                    (inode, self.entry(EntryKind::Write, Name::empty(), value)),
-                    None,
-                )
-            }
+            Action::Append { inode, value } => PlannedEntries {
+                first: self.entry(inode, EntryKind::Write, Name::empty(), value),
+                second: None,
+            },
             Action::Rename {
                 from,
                 to,
                 name,
                 value,
-            } => (
-                (from, self.entry(EntryKind::RemoveName, name, value)),
-                Some((to, self.entry(EntryKind::AddName, name, value))),
-            ),
+            } => PlannedEntries {
+                first: self.entry(from, EntryKind::RemoveName, name, value),
+                second: Some(self.entry(to, EntryKind::AddName, name, value)),
+            },
         }
     }
 
-    fn entry(&self, kind: EntryKind, name: Name, value: u64) -> Entry
-        ensures { result ≡ record { operation = self.now.number; kind = kind; name = name; value = value } }
+    fn entry(&self, inode: u32, kind: EntryKind, name: Name, value: u64) -> PlannedEntry
+        ensures { result ≡ entry self.now.number inode kind name value }
     {
-        Entry {
-            operation: self.number,
-            kind,
-            name,
-            value,
+        let operation = self.number;
+        PlannedEntry {
+            inode,
+            entry: Entry {
+                operation,
+                kind,
+                name,
+                value,
+            },
         }
     }
 }

@@ -1,7 +1,7 @@
 //! Texts that are plans, and texts that are none.
 
 use nova_log::Layout;
-use plan::{Action, Operation, Plan, PlanCode, PlanFault};
+use plan::{Action, Operation, Plan, PlanCode, PlanFault, PlannedEntry};
 use std::alloc::{AllocError, Global};
 use volume::{Entry, EntryKind, Name};
 
@@ -357,9 +357,31 @@ fn operations_are_read_and_plan_entries(rt: HostRuntime) {
     let text = b"inodes 2\npages 3\njournals 4\nop 1 rename 0 1 a 9\nop 7 append 1 77\n";
     assert!(rt; has_operations(rt.alloc(), text, &[rename(), append(7, 1)]));
     let written = entry(EntryKind::Write, Name::empty(), 77);
-    assert!(rt; append(1, 0).entries() == ((0, written), None));
+    let appended = append(1, 0).entries();
+    assert!(rt;
+        appended.first
+            == PlannedEntry {
+                inode: 0,
+                entry: written
+            }
+    );
+    assert!(rt; appended.second.is_none());
     let name = Name::from_bytes(b"a");
     let removed = entry(EntryKind::RemoveName, name, 9);
     let added = entry(EntryKind::AddName, name, 9);
-    assert!(rt; rename().entries() == ((0, removed), Some((1, added))));
+    let renamed = rename().entries();
+    assert!(rt;
+        renamed.first
+            == PlannedEntry {
+                inode: 0,
+                entry: removed
+            }
+    );
+    assert!(rt;
+        renamed.second
+            == Some(PlannedEntry {
+                inode: 1,
+                entry: added
+            })
+    );
 }
