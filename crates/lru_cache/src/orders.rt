@@ -11,11 +11,11 @@ use std::marker::Model;
 /// How many sets there are: the lists from 0 on, by recency.
 pub const SETS: u32 = 8;
 /// The list of the dirty lines.
-const DIRTY: usize = 8;
+const DIRTY: usize = SETS as usize;
 /// The first of the eight lists of marked lines.
-const MARKED: usize = 9;
+const MARKED: usize = DIRTY + 1;
 /// How many lists there are.
-const LISTS: usize = 17;
+const LISTS: usize = MARKED + SETS as usize;
 
 /// Lines by recency in each set, the most recently used first; the dirty lines by first store; eight lists of marked lines.
 #[derive(Drop)]
