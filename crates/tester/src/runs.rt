@@ -35,6 +35,7 @@ pub fn run_program(
 {
     let mut machine = start_program(alloc, program, medium, harts, capacity)?;
     let ended = run_rounds(alloc, &mut machine, steps);
+    // The trace is within its limit, also where a step was refused.
     prove!(machine.events().len() <= 65_536);
     match ended {
         Ok(schedule) => Ok((machine, schedule)),
@@ -62,6 +63,7 @@ pub fn replay(
 {
     let mut machine = start_program(alloc, program, medium, harts, capacity)?;
     let ended = machine.run(schedule);
+    // The trace is within its limit, also where a step was refused.
     prove!(machine.events().len() <= 65_536);
     match ended {
         Ok(()) => Ok(machine),
