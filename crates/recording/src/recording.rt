@@ -13,7 +13,7 @@ use line_memory::Medium;
 use machine::{Machine, RunStop};
 use program::Program;
 use schedule::Schedule;
-use shared_memory::StepFault;
+use shared_memory::{StepFault, check_limits};
 use std::alloc::Global;
 
 /// Runs a schedule on a machine of one to eight harts, which begin at the base of the text of `program`, over `medium`
@@ -83,12 +83,7 @@ fn prepare(
     ensures limits { (1 ≤ harts) × (harts ≤ 8) → ((capacity < 1) ⊎ (16384 < capacity)) → result ≡ Err StepFault.OutOfLimits }
     ensures err { IfErr result (λ fault. (1 ≤ harts) × (harts ≤ 8) → (1 ≤ capacity) × (capacity ≤ 16384) → fault ≡ StepFault.Memory) }
 {
-    if harts < 1 || harts > 8 {
-        return Err(StepFault::NoSuchHart);
-    }
-    if capacity < 1 || capacity > 16_384 {
-        return Err(StepFault::OutOfLimits);
-    }
+    check_limits(harts, capacity)?;
     Ok(Recorder {
         machine: machine_over(alloc, program, medium, harts, capacity)?,
         made: 0,
