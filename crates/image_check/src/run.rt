@@ -94,7 +94,6 @@ fn judge_run(
 }
 
 /// Takes in the event after the moment, if there is one.
-#[tactic(auto, using(crate::proofs::Noting::note_last))]
 fn note_next(
     outcomes: &mut Outcomes,
     plan: &Plan,
