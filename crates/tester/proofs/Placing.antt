@@ -31,9 +31,9 @@ within front bytes rest size at h =
     let before_end : length front + at < length (front ++ bytes ++ rest ++ zeros) = omega arith in
     slice_get-get_or (front ++ bytes ++ rest ++ zeros) (length front + at) 0 before_end
     ∙ ap (λ byte. Some byte) (
-        get_or_append_left (front ++ bytes ++ rest) zeros 0 (length front + at) before_zeros
-        ∙ get_or_append_left (front ++ bytes) rest 0 (length front + at) before_rest
-        ∙ get_or-append-add front bytes at 0)
+    get_or_append_left (front ++ bytes ++ rest) zeros 0 (length front + at) before_zeros
+    ∙ get_or_append_left (front ++ bytes) rest 0 (length front + at) before_rest
+    ∙ get_or-append-add front bytes at 0)
     ∙ sym (slice_get-get_or bytes at 0 h)
 
 behind : (bytes : List ℕ) (size at : ℕ) → length bytes ≤ at → at < size → slice_get (zero_filled bytes size) at ≡ Some 0
@@ -46,9 +46,9 @@ behind bytes size at past h =
     let place : at ≡ length bytes + (at - length bytes) = omega arith in
     slice_get-get_or (bytes ++ zeros) at 0 before_end
     ∙ ap (λ byte. Some byte) (
-        ap (λ n. get_or (bytes ++ zeros) n 0) place
-        ∙ get_or-append-add bytes zeros (at - length bytes) 0
-        ∙ get_or-replicate (size - length bytes) (at - length bytes) 0 0 among)
+    ap (λ n. get_or (bytes ++ zeros) n 0) place
+    ∙ get_or-append-add bytes zeros (at - length bytes) 0
+    ∙ get_or-replicate (size - length bytes) (at - length bytes) 0 0 among)
 
 -- a region that was filled up holds its section
 padded_whole : (bytes : List ℕ) (size : ℕ) → length bytes ≡ size → padded bytes size ≡ bytes
