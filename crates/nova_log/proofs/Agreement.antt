@@ -64,7 +64,7 @@ same_each m o f g (x ∷ items) k h =
     same_both m o (f x) (g x) (flat_map f items) (flat_map g items) h (k x) (λ clean front rest. same_each m o f g items k rest)
 
 -- what was asked without a fault: each part too
-abbrev Clean : List (List ℕ) → List (List ℕ) → List Question → Type 0
+abbrev pub Clean : List (List ℕ) → List (List ℕ) → List Question → Type 0
 Clean m o p = (first_fault p ≡ None) × Agrees m o (lines_asked p)
 
 none_first : (p q : List Question) → first_fault (p ++ q) ≡ None → first_fault p ≡ None
@@ -145,7 +145,7 @@ same_links m o s pages tail (suc more) page h =
           (λ clean front rest. rw (front.0) (same_links m o s pages tail more (link_of s m page) rest)))
     ]) refl
 
-same_chain : (m o : List (List ℕ)) (s : Shape) (pages tail more page : ℕ) → Clean m o (link_questions s pages m tail more page) →
+pub same_chain : (m o : List (List ℕ)) (s : Shape) (pages tail more page : ℕ) → Clean m o (link_questions s pages m tail more page) →
     chain s o tail more page ≡ chain s m tail more page
 unfolding chain link_questions
 same_chain m o s pages tail zero page h = refl
@@ -205,7 +205,7 @@ same_entries m o g inode h =
     (λ position k. same_value m o g.shape.longest_name position k) each)
 
 -- the inodes of a medium whose journals and inodes have no fault
-same_inodes : (m o : List (List ℕ)) (g : Geometry) → Clean m o (flat_map (journal_questions g.inodes m) (range_with_len 0 g.journals)) →
+pub same_inodes : (m o : List (List ℕ)) (g : Geometry) → Clean m o (flat_map (journal_questions g.inodes m) (range_with_len 0 g.journals)) →
     Clean m o (flat_map (inode_questions g.pages m) (range_with_len 0 g.inodes)) → inodes_of o g.journals g.inodes ≡ inodes_of m g.journals g.inodes
 same_inodes m o g h k =
     let journals = clean_each m o (journal_questions g.inodes m) (range_with_len 0 g.journals) h in
@@ -216,7 +216,7 @@ same_inodes m o g h k =
     (below (λ j. Clean m o (journal_questions g.inodes m j)) 0 g.journals i journals (omega arith) (omega arith)))) c) each
 
 -- all questions after the first
-abbrev rest_of : Geometry → List (List ℕ) → List Question
+abbrev pub rest_of : Geometry → List (List ℕ) → List Question
 rest_of g lines =
     flat_map (journal_questions g.inodes lines) (range_with_len 0 g.journals)
     ++ (flat_map (inode_questions g.pages lines) (range_with_len 0 g.inodes)

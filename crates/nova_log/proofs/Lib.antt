@@ -5,6 +5,7 @@ pub mod Journals
 pub mod Lines
 pub mod Questions
 pub mod Superblocks
+pub mod Tracking
 pub mod Volumes
 pub mod Walks
 pub mod Wholes

@@ -1,6 +1,6 @@
 //! What holds of recovery over all media: laws, with nothing to run.
 
-ghost use Rattle.std.specs.Prelude.{◌≡◌, ℕ, ◌+◌, ◌≤◌, List, None, length};
+ghost use Rattle.std.specs.Prelude.{◌≡◌, ℕ, ◌+◌, ◌≤◌, List, None, length, take};
 ghost use Rattle.std.specs.List.{AllByRecursion};
 ghost use Rattle.line_memory.specs.Lines.{line_at};
 ghost use Rattle.nova_log.specs.Chains.{chain, link_questions};
@@ -15,6 +15,14 @@ pub fn asked_lines_decide()
     ensures { (lines other : List (List ℕ)) → length other ≡ length lines →
         AllByRecursion (λ n. line_at other n ≡ line_at lines n) (asked_lines lines) →
         (asked_lines other ≡ asked_lines lines) × (volume_of other ≡ volume_of lines) }
+{}
+
+/// A medium that agrees with another on the first lines which recovery asks of that one is asked the same line next, or none
+/// after them just where the other isn't.
+pub fn lines_asked_so_far_decide()
+    ensures { (lines other : List (List ℕ)) → length other ≡ length lines → (count : ℕ) →
+        AllByRecursion (λ n. line_at other n ≡ line_at lines n) (take count (asked_lines lines)) →
+        take (count + 1) (asked_lines other) ≡ take (count + 1) (asked_lines lines) }
 {}
 
 /// The links of a log have no fault just where there is a walk from the head to the tail, step by step, that enters at most so many

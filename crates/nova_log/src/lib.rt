@@ -4,7 +4,7 @@
 #![tactic(auto)]
 
 pub use fault::VolumeFault;
-pub use laws::{asked_lines_decide, chains_are_walks};
+pub use laws::{asked_lines_decide, chains_are_walks, lines_asked_so_far_decide};
 pub use layout::{Layout, Shape};
 pub use limits::{MAX_INODES, MAX_JOURNALS, MAX_PAGES};
 pub use make::mkfs;
