@@ -1,0 +1,9 @@
+pub mod Listed
+pub mod Tables
+pub mod Branching
+pub mod Nodes
+pub mod Splitting
+pub mod Counting
+pub mod Lowest
+pub mod Carrying
+pub mod Opening

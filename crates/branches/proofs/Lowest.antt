@@ -1,0 +1,87 @@
+-- The least bad cut is the least of the bad ones among the least cuts of the branches.
+use Rattle.std.proofs.Common.{◌≡◌, ℕ, zero, suc, ◌≤◌, ◌<◌, false, ltb, ◌⊎◌, inl, inr, List, [], ◌∷◌, Option, None, sym, ap, subst, ◌∙◌, arith}
+use Rattle.std.proofs.lemmas.Bool.{cases_Bool, cases_eq}
+use Rattle.std.specs.List.{AllByRecursion}
+use Rattle.branches.specs.Branches.{Agree, IsWithin, ComesBefore}
+use Rattle.branches.specs.Numbers.{has}
+use Rattle.branches.proofs.Nodes.{Node, Covers, agree_has}
+use Rattle.branches.proofs.Splitting.{IsFinished}
+
+-- the cut of a finished node is at most each of the node's cuts
+below_all : (low high c k : ℕ → ℕ) (ls : List ℕ) → ((l : ℕ) → has l ls ≡ false → c l ≡ low l) → Agree k c ls → IsWithin low high k → (l : ℕ) → c l ≤ k l
+below_all low high c k ls f s w l = elim (cases_Bool (has l ls)) [
+  | inl t ↦ let e : k l ≡ c l = agree_has k c ls l s t in omega (arith, e)
+  | inr u ↦ let e : c l ≡ low l = f l u in let h = w.least l in omega (arith, e, h)
+]
+
+-- up to line n they are the same, or they differ before
+differ_by : (c k best : ℕ → ℕ) (l n : ℕ) → ((m : ℕ) → c m ≤ k m) → ((m : ℕ) → m < l → k m ≡ best m) → n ≤ l →
+    ComesBefore c best ⊎ ((m : ℕ) → m < n → c m ≡ best m)
+differ_by c k best l zero le same h = inr (λ m less. absurd (omega (arith, less)))
+differ_by c k best l (suc n) le same h = elim (differ_by c k best l n le same (omega (arith, h))) [
+  | inl b ↦ inl b
+  | inr e ↦ elim (cases_eq (c n) (best n)) [
+    | inl q ↦ inr (λ m less. elim (cases_eq m n) [
+      | inl s ↦ ap c s ∙ q ∙ sym (ap best s)
+      | inr ne ↦ e m (omega (arith, less, ne))
+    ])
+    | inr ne ↦ inl (record {
+      line = n;
+      lower = let a = le n in let b : k n ≡ best n = same n (omega (arith, h)) in omega (arith, a, b, ne);
+      same = e;
+    })
+  ]
+]
+
+before_best : (c k best : ℕ → ℕ) → ((m : ℕ) → c m ≤ k m) → ComesBefore k best → ComesBefore c best
+before_best c k best le b = elim (differ_by c k best b.line b.line le b.same (omega arith)) [
+  | inl r ↦ r
+  | inr e ↦ record { line = b.line; lower = let a = le b.line in let h = b.lower in omega (arith, a, h); same = e }
+]
+
+pub before_over : (c k best : ℕ → ℕ) → ComesBefore c k → ComesBefore k best → ComesBefore c best
+before_over c k best a b = elim (cases_Bool (ltb a.line b.line)) [
+  | inl t ↦ let less : a.line < b.line = grind (arith, t) in record {
+    line = a.line;
+    lower = let p = a.lower in let e : k a.line ≡ best a.line = b.same a.line less in omega (arith, p, e);
+    same = λ m h. a.same m h ∙ b.same m (omega (arith, h, less));
+  }
+  | inr f ↦ let le : b.line ≤ a.line = grind (arith, f) in elim (cases_eq a.line b.line) [
+    | inl e ↦ record {
+      line = a.line;
+      lower = let p = a.lower in let q : k a.line < best a.line = subst (λ (n : ℕ). k n < best n) (sym e) b.lower in omega (arith, p, q);
+      same = λ m h. a.same m h ∙ b.same m (omega (arith, h, e));
+    }
+    | inr ne ↦ record {
+      line = b.line;
+      lower = let p = b.lower in let e : c b.line ≡ k b.line = a.same b.line (omega (arith, le, ne)) in omega (arith, p, e);
+      same = λ m h. a.same m (omega (arith, h, le)) ∙ b.same m h;
+    }
+  ]
+]
+
+pub never_itself : (c : ℕ → ℕ) → ¬ ComesBefore c c
+never_itself c b = let h = b.lower in absurd (omega (arith, h))
+
+-- a node's cut passes, or doesn't come before this one
+abbrev pub IsPast : {Cause : Type 0} → ((ℕ → ℕ) → Option Cause → Type 0) → (ℕ → ℕ) → Node → Type 0
+IsPast judged best v = judged v.numbers None ⊎ (¬ ComesBefore v.numbers best)
+
+-- of the finished nodes, none has a cut that is bad and comes before this one
+pub least_of : {Cause : Type 0} (asks : (ℕ → ℕ) → List ℕ → Type 0) (judged : (ℕ → ℕ) → Option Cause → Type 0) (low high best k : ℕ → ℕ) (vs : List Node) →
+    ((c k : ℕ → ℕ) (ls : List ℕ) (found : Option Cause) → asks c ls → Agree k c ls → judged c found → judged k found) →
+    AllByRecursion (IsFinished asks low high) vs → AllByRecursion (IsPast judged best) vs → IsWithin low high k → ComesBefore k best → Covers k vs → judged k None
+least_of asks judged low high best k [] w f n i b h = absurd h
+least_of asks judged low high best k (v ∷ vs) w f n i b (inl h) = elim n.0 [
+  | inl p ↦ w v.numbers k v.decided None f.0.asked h p
+  | inr q ↦ absurd (q (before_best v.numbers k best (below_all low high v.numbers k v.decided f.0.at_floor h i) b))
+]
+least_of asks judged low high best k (v ∷ vs) w f n i b (inr h) = least_of asks judged low high best k vs w f.1 n.1 i b h
+
+-- where the cut of each finished node passes, all do
+pub pass_of : {Cause : Type 0} (asks : (ℕ → ℕ) → List ℕ → Type 0) (judged : (ℕ → ℕ) → Option Cause → Type 0) (low high k : ℕ → ℕ) (vs : List Node) →
+    ((c k : ℕ → ℕ) (ls : List ℕ) (found : Option Cause) → asks c ls → Agree k c ls → judged c found → judged k found) →
+    AllByRecursion (IsFinished asks low high) vs → AllByRecursion (λ v. judged v.numbers None) vs → Covers k vs → judged k None
+pass_of asks judged low high k [] w f n h = absurd h
+pass_of asks judged low high k (v ∷ vs) w f n (inl h) = w v.numbers k v.decided None f.0.asked h n.0
+pass_of asks judged low high k (v ∷ vs) w f n (inr h) = pass_of asks judged low high k vs w f.1 n.1 h

@@ -1,0 +1,5 @@
+pub mod Branches
+pub mod Numbers
+pub mod Queue
+pub mod Opened
+pub mod Least

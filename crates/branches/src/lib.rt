@@ -1,0 +1,15 @@
+//! Branches of the cuts of a moment: classes of cuts of whose images recovery asks the same lines, and finds the same numbers of
+//! stores in them. One run of recovery judges a branch, so a moment costs as many runs as it has branches, however many cuts.
+#![tactic(auto)]
+
+pub use laws::{Asking, floor_adds_no_branches, store_adds_no_branches};
+pub use opener::{Opened, Opener};
+pub use recovery::Recovery;
+
+mod laws;
+mod lines;
+mod numbers;
+mod opener;
+mod queue;
+mod recovery;
+mod run;

@@ -1,0 +1,70 @@
+//! What is known of recovery.
+
+use std::alloc::{AllocError, Global};
+
+/// Recovery over the images of a moment's cuts. A cut gives each line a number of its stores, between its floor and all of them.
+pub trait Recovery {
+    ghost use Rattle.std.specs.Prelude.{◌≡◌, ◌≤◌, ◌<◌, ℕ, List, [], Option, IfOk, length};
+    ghost use Rattle.std.specs.List.{AllByRecursion};
+    ghost use Rattle.branches.specs.Branches.{Agree, IsAdaptive, IsShared, IsWithin};
+    ghost use Rattle.branches.specs.Numbers.{number_over};
+
+    /// Why an image is bad.
+    type Cause: Copy;
+
+    /// How many lines the medium has.
+    ghost lines: { Self → ℕ };
+
+    /// At which number of stores each line stands at least.
+    ghost low: { Self → ℕ → ℕ };
+
+    /// How many stores each line has.
+    ghost high: { Self → ℕ → ℕ };
+
+    /// Of the image of this cut recovery asks these lines, in this order.
+    ghost asks: { Self → (ℕ → ℕ) → List ℕ → Type 0 };
+
+    /// The image of this cut is bad for this cause, or passes.
+    ghost judged: { Self → (ℕ → ℕ) → Option Self.Cause → Type 0 };
+
+    /// How many lines the medium has.
+    fn lines(&self) -> u32
+        ensures { result ≡ lines self.now };
+
+    /// The least number of stores of a line below `lines`.
+    fn floor(&self, line: u32) -> u32
+        requires { line < lines self.now }
+        ensures { result ≡ low self.now line };
+
+    /// The greatest number of stores of a line below `lines`.
+    fn stores(&self, line: u32) -> u32
+        requires { line < lines self.now }
+        ensures { result ≡ high self.now line };
+
+    /// Recovers the image of a cut, given by line, with 0 for a line at its floor. Puts the lines that are asked into `asked`,
+    /// in order, each below `lines`, and answers why the image is bad, or None where it passes.
+    fn recover(
+        &self,
+        alloc: Global,
+        numbers: &[u32],
+        asked: &mut Vec<u32>,
+    ) -> Result<Option<Self::Cause>, AllocError>
+        requires size { length numbers.now ≡ lines self.now }
+        requires within { IsWithin (low self.now) (high self.now) (number_over (low self.now) numbers.now) }
+        requires fresh { asked.old.items ≡ [] }
+        ensures asked { IfOk result (λ found. asks self.now (number_over (low self.now) numbers.now) asked.new.items) }
+        ensures below { IfOk result (λ found. AllByRecursion (λ l. l < lines self.now) asked.new.items) }
+        ensures judged { IfOk result (λ found. judged self.now (number_over (low self.now) numbers.now) found) };
+
+    ghost ordered: { (s : Self) (l : ℕ) → low s l ≤ high s l };
+
+    /// What was asked so far, and what was found there, decides what is asked next.
+    ghost adaptive: { (s : Self) → IsAdaptive (asks s) };
+
+    /// Cuts that agree on the lines asked of one of them have the same lines asked,
+    ghost shared: { (s : Self) → IsShared (asks s) };
+
+    /// and are judged alike.
+    ghost branchwise: { (s : Self) (c k : ℕ → ℕ) (ls : List ℕ) (found : Option Self.Cause) →
+        asks s c ls → Agree k c ls → judged s c found → judged s k found };
+}
