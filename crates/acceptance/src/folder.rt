@@ -1,5 +1,6 @@
 //! Files in memory, by their names.
 
+use crate::copying::filled_volume;
 use crate::routines::FILES;
 use command_line::{FileFault, Files};
 use std::alloc::{AllocError, Global};
@@ -53,5 +54,6 @@ pub(crate) fn folder_of_examples(alloc: Global) -> Result<Folder, AllocError> {
     for (name, text) in FILES {
         folder.put(name, text.as_bytes())?;
     }
+    folder.put("filled", &filled_volume(alloc)?)?;
     Ok(folder)
 }

@@ -73,6 +73,8 @@ $ novacrash explain two-lines.s thirteen.schedule 4 8
 h0*6 e0 h0*2 e1
 $ novacrash explain two-lines.s thirteen.schedule 4 5
 h0*2 e0 h0*6 e1
+$ novacrash explain two-lines.s thirteen.schedule 4 l0:1,l1:2
+h0*2 e0 h0*6 e1
 $ novacrash explain two-lines.s thirteen.schedule 0 0
 
 ";

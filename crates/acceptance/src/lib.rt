@@ -5,6 +5,8 @@
 #[cfg(test)]
 mod checking;
 #[cfg(test)]
+mod copying;
+#[cfg(test)]
 mod debugging;
 #[cfg(test)]
 mod folder;

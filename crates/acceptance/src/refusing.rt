@@ -44,8 +44,20 @@ $ novacrash explain first.s eight.schedule 4 0
 $ novacrash explain first.s eight.schedule 3 1
 ! refused C2
 [2]
+$ novacrash explain first.s eight.schedule 4 floor
+! refused C1
+[2]
+$ novacrash explain first.s eight.schedule 1 l0:2
+! refused C2
+[2]
 $ novacrash explain seventeen.s seventeen.schedule 17 0
 ! refused C2
+[2]
+$ novacrash explain first.s eight.schedule 1 l1
+! error: IMAGE is a decimal number below 4294967296, or lines as in l1:1,l300:1, or floor
+[2]
+$ novacrash explain first.s eight.schedule 1 l1:1,
+! error: IMAGE is a decimal number below 4294967296, or lines as in l1:1,l300:1, or floor
 [2]
 $ novacrash check bare.plan append.s append.schedule
 ! refused O1

@@ -118,6 +118,30 @@ const SEVENTEEN: &str =
     "li t0, 17\nli t1, 19200\nadd t1, t1, a1\nloop: sd t0, 0(t1)\naddi t1, t1, 64\naddi t0, t0, -1\n\
     bnez t0, loop\nli a7, 93\necall\n";
 
+/// The same, and then sets the tail of inode 0 to 0.
+const STRAY: &str =
+    "li t0, 17\nli t1, 19200\nadd t1, t1, a1\nloop: sd t0, 0(t1)\naddi t1, t1, 64\naddi t0, t0, -1\n\
+    bnez t0, loop\nsd t0, 72(a1)\nli a7, 93\necall\n";
+
+/// Stores the tail of each of seventeen inodes as it stands.
+const TAILS_AGAIN: &str =
+    "li t0, 17\naddi t1, a1, 72\nloop: ld t2, 0(t1)\nsd t2, 0(t1)\naddi t1, t1, 64\naddi t0, t0, -1\n\
+    bnez t0, loop\nli a7, 93\necall\n";
+
+/// Copies page 0 to page 2, cleans the copy's 64 lines, and then moves the head of inode 0 to the copy.
+const COPY: &str = "lui t0, 4\nadd t0, t0, a1\nlui t1, 6\nadd t1, t1, a1\nli t3, 512\n\
+    copy: ld t2, 0(t0)\nsd t2, 0(t1)\naddi t0, t0, 8\naddi t1, t1, 8\naddi t3, t3, -1\nbnez t3, copy\n\
+    lui t1, 6\nadd t1, t1, a1\nli t3, 64\n\
+    clean: cbo.clean (t1)\naddi t1, t1, 64\naddi t3, t3, -1\nbnez t3, clean\nfence w, w\n\
+    lui t2, 6\nsd t2, 64(a1)\naddi t1, a1, 64\ncbo.clean (t1)\nfence w, w\nli a7, 93\nli a0, 0\necall\n";
+
+/// The same without the clean of the copy's last line.
+const COPY_UNLINKED: &str = "lui t0, 4\nadd t0, t0, a1\nlui t1, 6\nadd t1, t1, a1\nli t3, 512\n\
+    copy: ld t2, 0(t0)\nsd t2, 0(t1)\naddi t0, t0, 8\naddi t1, t1, 8\naddi t3, t3, -1\nbnez t3, copy\n\
+    lui t1, 6\nadd t1, t1, a1\nli t3, 63\n\
+    clean: cbo.clean (t1)\naddi t1, t1, 64\naddi t3, t3, -1\nbnez t3, clean\nfence w, w\n\
+    lui t2, 6\nsd t2, 64(a1)\naddi t1, a1, 64\ncbo.clean (t1)\nfence w, w\nli a7, 93\nli a0, 0\necall\n";
+
 /// Moves the tail of inode 0 to the second page, without a link there.
 const UNLINKED: &str =
     "lui t0, 5\nsd t0, 72(a1)\naddi t1, a1, 64\ncbo.clean (t1)\nfence w, w\nli a7, 93\necall\n";
@@ -140,7 +164,7 @@ const FAR_TAIL: &str =
 const TWICE: &str = "li a7, 2001\nli a0, 7\necall\nli a7, 2002\necall\nli a7, 2001\necall\n";
 
 /// Each file's name and text.
-pub(crate) const FILES: [(&str, &str); 58] = [
+pub(crate) const FILES: [(&str, &str); 67] = [
     ("first.s", FIRST),
     ("misaligned.s", MISALIGNED),
     ("empty.s", ""),
@@ -165,6 +189,10 @@ pub(crate) const FILES: [(&str, &str); 58] = [
     ("rename.s", RENAME),
     ("empties.s", EMPTIES),
     ("seventeen.s", SEVENTEEN),
+    ("stray.s", STRAY),
+    ("tails-again.s", TAILS_AGAIN),
+    ("copy.s", COPY),
+    ("copy-unlinked.s", COPY_UNLINKED),
     ("twice.s", TWICE),
     ("unlinked.s", UNLINKED),
     ("self-linked.s", SELF_LINKED),
@@ -196,6 +224,8 @@ pub(crate) const FILES: [(&str, &str); 58] = [
     ),
     ("links.plan", "inodes 1\npages 2\njournals 1\n"),
     ("two.plan", "inodes 2\npages 2\njournals 1\n"),
+    ("seventeen.plan", "inodes 17\npages 17\njournals 1\n"),
+    ("copies.plan", "inodes 1\npages 3\njournals 1\n"),
     ("bare.plan", "inodes 1\npages 1\njournals 1\n"),
     (
         "seven.plan",
@@ -208,6 +238,9 @@ pub(crate) const FILES: [(&str, &str); 58] = [
     ("append2.schedule", "h0*100 h1*100\n"),
     ("rename.schedule", "h0*200\n"),
     ("seventeen.schedule", "h0*74\n"),
+    ("stray.schedule", "h0*75\n"),
+    ("tails-again.schedule", "h0*89\n"),
+    ("copy.schedule", "h0*3400\n"),
     ("eight.schedule", "h0*8\n"),
     ("nine.schedule", "h0*3 h0\nh0*5"),
     ("thirteen.schedule", "h0*13\n"),

@@ -4,8 +4,9 @@ use Rattle.clap.specs.Words.{Row, Text, fault_of, first_of, subcommand_of}
 use Rattle.clap.specs.Kinds.{IsAmong}
 use Rattle.clap.specs.declared.error.ErrorKind.{ErrorKind}
 use Rattle.clap.specs.declared.error.ErrorKind.TheVariants as kinds
+use Rattle.image_name.specs.Texts.{IsProper}
 use Rattle.arguments.specs.Grammar.{novacrash}
-use Rattle.arguments.specs.Values.{IsCapacity, IsHarts, IsNumberWord, IsOptional, IsSteps, IsWord}
+use Rattle.arguments.specs.Values.{IsCapacity, IsHarts, IsImageWord, IsNumberWord, IsOptional, IsSteps, IsWord}
 use Rattle.arguments.specs.declared.asked.AssembleCommand.{AssembleCommand}
 use Rattle.arguments.specs.declared.asked.CheckCommand.{CheckCommand}
 use Rattle.arguments.specs.declared.asked.Command.{Command}
@@ -75,7 +76,7 @@ pub record IsExplain (rows : List Row) (command : ExplainCommand) : Type 0 where
   pub program : IsWord (codes "PROGRAM") rows command.program
   pub schedule : IsWord (codes "SCHEDULE") rows command.schedule
   pub moment : IsNumberWord (first_of (codes "MOMENT") rows) command.moment
-  pub image : IsNumberWord (first_of (codes "IMAGE") rows) command.image
+  pub image : IsImageWord (first_of (codes "IMAGE") rows) command.image
   pub machine : IsWholeMachine rows command.machine
 
 -- `check` with these files and options
@@ -123,7 +124,7 @@ IsWithinLimits (Run command) = IsMachineWithin command.machine × IsWithin 1 500
 IsWithinLimits (Replay command) = IsMachineWithin command.machine
 IsWithinLimits (Debug command) = IsMachineWithin command.machine
 IsWithinLimits (Images command) = IsMachineWithin command.machine × (command.moment < 2 ^ 32)
-IsWithinLimits (Explain command) = IsMachineWithin command.machine × (command.moment < 2 ^ 32) × (command.image < 2 ^ 32)
+IsWithinLimits (Explain command) = IsMachineWithin command.machine × (command.moment < 2 ^ 32) × IsProper command.image
 IsWithinLimits (Check command) = IsMachineWithin command.machine
 
 -- help comes where the grammar answers with help, and a fault where the line asks for no command

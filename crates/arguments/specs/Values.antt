@@ -1,8 +1,10 @@
--- What the values found for words and options say: names of files, and numbers within their limits.
+-- What the values found for words and options say: names of files, numbers within their limits, and names of images.
 use Rattle.std.specs.Prelude.{◌≡◌, ◌≢◌, ◌≤◌, ℕ, List, [], ◌∷◌, IfSome, Option, Some, None, String, codes, option_map, string_bytes}
 use Rattle.std.specs.declared.alloc.Global.{Global}
 use Rattle.std.specs.Str.Parse.{IsNumeral, digits_value}
 use Rattle.clap.specs.Words.{Row, Text, first_of}
+use Rattle.image_name.specs.Grammar.{IsImageName}
+use Rattle.image_name.specs.declared.name.ImageName.{ImageName}
 
 -- the word that has to be given
 abbrev pub IsWord : Text → List Row → String Global → Type 0
@@ -31,6 +33,11 @@ IsNumber default low high (Some text) n = IsDecimal low high text n
 abbrev pub IsNumberWord : Option Text → ℕ → Type 0
 IsNumberWord None n = ⊥
 IsNumberWord (Some text) n = IsDecimal 0 4294967295 text n
+
+-- the name of an image, of a word that has to be given
+abbrev pub IsImageWord : Option Text → ImageName → Type 0
+IsImageWord None image = ⊥
+IsImageWord (Some text) image = IsImageName text image
 
 -- the most steps of a run: 1,000,000 where the line doesn't say
 abbrev pub IsSteps : List Row → ℕ → Type 0

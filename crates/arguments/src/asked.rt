@@ -1,5 +1,6 @@
 //! What a command line asks for, and what comes instead where it asks for no command.
 
+use image_name::ImageName;
 use std::alloc::AllocError;
 use thiserror::Error;
 
@@ -117,8 +118,8 @@ pub struct ExplainCommand {
     pub schedule: String,
     /// The number of events before the power cut: any number below 2^32.
     pub moment: u32,
-    /// The number of the crash image among those of the moment: any number below 2^32.
-    pub image: u32,
+    /// The crash image among those of the moment. Its lines go strictly upwards.
+    pub image: ImageName,
     /// The machine, whose capacity is None.
     pub machine: MachineOptions,
 }

@@ -7,6 +7,7 @@ ghost use Rattle.arguments.specs.Line.{IsAssemble, IsCheck, IsDebug, IsExplain, 
 ghost use Rattle.arguments.specs.Line.{IsCachedMachine, IsMachineWithin, IsWholeMachine, IsWithin, OnFault};
 ghost use Rattle.arguments.specs.Started.{IsRecorded, IsStarted};
 ghost use Rattle.arguments.specs.Values.{IsWord};
+ghost use Rattle.image_name.specs.Texts.{IsProper};
 ghost use Rattle.arguments.specs.declared.asked.AssembleCommand.{AssembleCommand as AAssembleCommand};
 ghost use Rattle.arguments.specs.declared.asked.MakeVolumeCommand.{MakeVolumeCommand as AMakeVolumeCommand};
 ghost use Rattle.arguments.specs.declared.asked.RunCommand.{RunCommand as ARunCommand};
@@ -22,7 +23,7 @@ use crate::asked::{
     MachineOptions, MakeVolumeCommand, ReplayCommand, RunCommand,
 };
 use crate::machine::{cached_machine, whole_machine};
-use crate::values::{NumberOption, number, number_word, optional, word};
+use crate::values::{NumberOption, image_word, number, number_word, optional, word};
 use clap::ArgMatches;
 use std::alloc::Global;
 
@@ -179,12 +180,12 @@ pub(crate) fn images(alloc: Global, found: &ArgMatches<'_>) -> Result<ImagesComm
 pub(crate) fn explain(alloc: Global, found: &ArgMatches<'_>) -> Result<ExplainCommand, LineFault>
     ensures ok { IfOk result (IsExplain (rows_of (found_of found.now))) }
     ensures within { IfOk result (λ command. IsMachineWithin command.machine
-        × (command.moment < 2 ^ 32) × (command.image < 2 ^ 32)) }
+        × (command.moment < 2 ^ 32) × IsProper command.image) }
     ensures err { IfErr result (OnFault ((command : AExplainCommand)
         → ¬ (IsExplain (rows_of (found_of found.now)) command))) }
 {
     let moment = number_word(alloc, found, "MOMENT")?;
-    let image = number_word(alloc, found, "IMAGE")?;
+    let image = image_word(alloc, found, "IMAGE")?;
     let recorded = recorded_of(alloc, found)?;
     Ok(ExplainCommand {
         program: recorded.program,

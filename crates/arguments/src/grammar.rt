@@ -72,7 +72,7 @@ const MOMENT: Argument = Argument::Word {
 
 const IMAGE: Argument = Argument::Word {
     name: "IMAGE",
-    about: "The number of the crash image",
+    about: "The crash image: its number, or its lines above their floor, as in l1:1,l300:1, or floor",
 };
 
 const MEDIUM: Argument = Argument::Valued {

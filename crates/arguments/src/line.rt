@@ -83,8 +83,9 @@ fn asked(alloc: Global, name: &str, found: &ArgMatches<'_>) -> Result<Command, L
 ///
 /// # Errors
 /// Help where the line asks for it, Memory where memory is refused, and else Fault where the line
-/// isn't one of these, with FILE any word that isn't empty and doesn't begin with `-`, LINES, MOMENT and IMAGE below 2^32, and each N within the
-/// limits that `Command` has for it, in decimal digits all:
+/// isn't one of these, with FILE any word that isn't empty and doesn't begin with `-`, LINES and MOMENT
+/// below 2^32 and each N within the limits that `Command` has for it, in decimal digits all, and IMAGE a
+/// text that `ImageName::read` takes as a name:
 ///
 /// - `asm SOURCE OBJECT`
 /// - `mkfs PLAN LINES MEDIUM`

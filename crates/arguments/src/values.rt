@@ -4,11 +4,14 @@ ghost use Rattle.std.specs.Prelude.{◌≡◌, ◌≤◌, ℕ, IfOk, IfErr, Matc
 ghost use Rattle.std.specs.declared.alloc.Global.{Global as AGlobal};
 ghost use Rattle.clap.specs.Words.{first_of, found_of, rows_of};
 ghost use Rattle.arguments.specs.Line.{OnFault};
-ghost use Rattle.arguments.specs.Values.{IsNumber, IsNumberWord, IsOptional, IsWord};
+ghost use Rattle.arguments.specs.Values.{IsImageWord, IsNumber, IsNumberWord, IsOptional, IsWord};
+ghost use Rattle.image_name.specs.Texts.{IsProper};
+ghost use Rattle.image_name.specs.declared.name.ImageName.{ImageName as AnImageName};
 
 use crate::asked::LineFault;
 use clap::ArgMatches;
 use decimal::{decimal, decimal_within};
+use image_name::ImageName;
 use std::alloc::Global;
 
 /// The value of an option or a word, where the line has it.
@@ -68,6 +71,27 @@ pub(crate) fn number_word(
         Some(number) => Ok(number),
         None => Err(LineFault::Fault(format!(in alloc;
             "error: {name} is a decimal number below 4294967296\n"
+        )?)),
+    }
+}
+
+/// The image that a word which a command needs names.
+pub(crate) fn image_word(
+    alloc: Global,
+    found: &ArgMatches<'_>,
+    name: &str,
+) -> Result<ImageName, LineFault>
+    ensures ok { IfOk result (IsImageWord (first_of name.now (rows_of (found_of found.now)))) }
+    ensures proper { IfOk result IsProper }
+    ensures err { IfErr result (OnFault ((image : AnImageName) → ¬ (IsImageWord (first_of name.now (rows_of (found_of found.now))) image))) }
+{
+    let Some(text) = value(found, name) else {
+        return Err(LineFault::Fault(format!(in alloc; "error: {name} is missing\n")?));
+    };
+    match ImageName::read(alloc, text)? {
+        Some(image) => Ok(image),
+        None => Err(LineFault::Fault(format!(in alloc;
+            "error: {name} is a decimal number below 4294967296, or lines as in l1:1,l300:1, or floor\n"
         )?)),
     }
 }

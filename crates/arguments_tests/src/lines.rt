@@ -68,10 +68,9 @@ fn images_of(alloc: Global, command: &Command) -> Result<String, AllocError> {
         }
         Command::Explain(explain) => {
             let machine = machine_of(alloc, &explain.machine)?;
-            let (moment, image) = (explain.moment, explain.image);
             format!(in alloc;
-                "explain {} {} {moment} {image} / {machine}",
-                explain.program, explain.schedule
+                "explain {} {} {} {} / {machine}",
+                explain.program, explain.schedule, explain.moment, explain.image
             )
         }
         Command::Check(check) => {
@@ -146,6 +145,14 @@ fn defaults_stand_where_options_are_left_out(rt: HostRuntime) -> Result<(), Fail
         (
             "novacrash explain a.s s 7 4",
             "explain a.s s 7 4 / - 1 whole",
+        ),
+        (
+            "novacrash explain a.s s 7 floor",
+            "explain a.s s 7 floor / - 1 whole",
+        ),
+        (
+            "novacrash explain a.s s 7 l1:1,l300:1",
+            "explain a.s s 7 l1:1,l300:1 / - 1 whole",
         ),
         ("novacrash check p a.s s", "check p a.s s / - 1 whole"),
     ];
@@ -299,6 +306,8 @@ fn other_numbers_are_faults(rt: HostRuntime) -> Result<(), Fail> {
         "novacrash explain a s 4294967296 0",
         "novacrash explain a s 0 4294967296",
         "novacrash explain a s 0 x",
+        "novacrash explain a s 0 l1",
+        "novacrash explain a s 0 ",
     ];
     let accepted = first_other(rt.alloc(), &lines, "fault")?;
     assert!(rt; accepted.is_none(), "{accepted:?}");
@@ -419,7 +428,7 @@ const TEXTS: [(&str, &str); 6] = [
     ),
     (
         "novacrash explain a.s s 0 x",
-        "error: IMAGE is a decimal number below 4294967296\n",
+        "error: IMAGE is a decimal number below 4294967296, or lines as in l1:1,l300:1, or floor\n",
     ),
     (
         "novacrash run a.s b.s",

@@ -1,10 +1,11 @@
 -- What `check` comes to.
-use Rattle.std.specs.Prelude.{ℕ, List, Result, MatchResult, ◌++◌, codes, decimal, option_map, string_bytes}
+use Rattle.std.specs.Prelude.{ℕ, List, Option, Some, None, Result, MatchResult, ◌++◌, codes, decimal, option_map, string_bytes}
 use Rattle.arguments.specs.declared.asked.CheckCommand.{CheckCommand}
 use Rattle.image_check.specs.declared.verdict.Cause.{Cause}
 use Rattle.image_check.specs.declared.verdict.Cause.TheVariants as causes
 use Rattle.image_check.specs.declared.verdict.Verdict.{Verdict}
 use Rattle.image_check.specs.declared.verdict.Verdict.TheVariants as verdicts
+use Rattle.image_name.specs.Texts.{image_text}
 use Rattle.plan.specs.declared.operation.Operation.{Operation}
 use Rattle.schedule.specs.declared.items.Item.{Item}
 use Rattle.tester.specs.Checking.{HasNoVerdict, HasVerdict}
@@ -26,12 +27,20 @@ abbrev pub cause_text : Cause → List ℕ
 cause_text (causes.Fault fault) = volume_code fault
 cause_text causes.Illegal = codes "illegal"
 
--- `pass moments=N images=N`, `fail moment=M image=N cause=C` or `too many moment=M`
+-- the sum of the numbers of images; `over` where a moment has over 65,536
+abbrev pub total_text : Option ℕ → List ℕ
+total_text (Some images) = decimal images
+total_text None = codes "over"
+
+-- `pass moments=N images=N`
+abbrev pub pass_line : ℕ → Option ℕ → List ℕ
+pass_line moments images = codes "pass moments=" ++ (decimal moments ++ (codes " images=" ++ (total_text images ++ line_end)))
+
+-- the line of a pass, `fail moment=M image=NAME cause=C` or `too many moment=M`
 abbrev pub verdict_line : Verdict → List ℕ
-verdict_line (verdicts.Pass moments images) =
-    codes "pass moments=" ++ (decimal moments ++ (codes " images=" ++ (decimal images ++ line_end)))
+verdict_line (verdicts.Pass moments images) = pass_line moments images
 verdict_line (verdicts.Fail moment image cause) =
-    codes "fail moment=" ++ (decimal moment ++ (codes " image=" ++ (decimal image ++ (codes " cause=" ++ (cause_text cause ++ line_end)))))
+    codes "fail moment=" ++ (decimal moment ++ (codes " image=" ++ (image_text image ++ (codes " cause=" ++ (cause_text cause ++ line_end)))))
 verdict_line (verdicts.TooMany moment) = codes "too many moment=" ++ (decimal moment ++ line_end)
 
 abbrev pub verdict_status : Verdict → ℕ

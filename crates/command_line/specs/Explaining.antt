@@ -1,6 +1,7 @@
 -- What `explain` comes to.
 use Rattle.std.specs.Prelude.{ℕ, List, Result, MatchResult, option_map, string_bytes}
 use Rattle.arguments.specs.declared.asked.ExplainCommand.{ExplainCommand}
+use Rattle.image_name.specs.declared.name.ImageName.{ImageName}
 use Rattle.schedule.specs.declared.items.Item.{Item}
 use Rattle.tester.specs.Explaining.{ExplainsImage, FailsToExplain}
 use Rattle.tester.specs.Runs.{Setup, with_room}
@@ -12,7 +13,7 @@ use Rattle.command_line.specs.declared.answer.Answer.{Answer}
 use Rattle.command_line.specs.declared.failure.Failure.{Failure}
 
 -- an explanation of an image of a moment, or why there is none
-pub record Explained (s : Setup) (schedule : List Item) (moment image : ℕ) (outcome : Result (List Item) Failure) : Type 0 where
+pub record Explained (s : Setup) (schedule : List Item) (moment : ℕ) (image : ImageName) (outcome : Result (List Item) Failure) : Type 0 where
   pub explains : MatchResult outcome (ExplainsImage s schedule moment image) (Tells (FailsToExplain s schedule moment image) failure_of_explanation)
 
 abbrev pub ExplainsFile : {F : Type 0} → Reads F → ExplainCommand → Step F Answer

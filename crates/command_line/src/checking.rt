@@ -1,7 +1,7 @@
 //! The command that checks a run.
 
 ghost use Rattle.std.specs.Prelude.{◌≡◌, IfOk, string_bytes};
-ghost use Rattle.command_line.specs.Checking.{ChecksFile, Judges, cause_text, verdict_line, verdict_status};
+ghost use Rattle.command_line.specs.Checking.{ChecksFile, Judges, cause_text, pass_line, verdict_line, verdict_status};
 ghost use Rattle.command_line.specs.Steps.{Prints};
 ghost use Rattle.tester.specs.Runs.{with_room};
 
@@ -33,7 +33,7 @@ pub(crate) fn check_file<F: Files>(
     let medium = read_medium(alloc, &command.machine.medium, files)?;
     let harts = command.machine.harts;
     let verdict = verdict(alloc, &plan, program, medium, harts, &schedule)?;
-    verdict_answer(alloc, verdict)
+    verdict_answer(alloc, &verdict)
 }
 
 fn verdict(
@@ -49,8 +49,8 @@ fn verdict(
     Ok(check_program(alloc, plan, program, medium, harts, schedule)?)
 }
 
-fn verdict_answer(alloc: Global, verdict: Verdict) -> Result<Answer, Failure>
-    ensures { Prints (verdict_line verdict) (verdict_status verdict) result }
+fn verdict_answer(alloc: Global, verdict: &Verdict) -> Result<Answer, Failure>
+    ensures { Prints (verdict_line verdict.now) (verdict_status verdict.now) result }
 {
     let text = verdict_line(alloc, verdict)?;
     let status = match verdict {
@@ -61,23 +61,31 @@ fn verdict_answer(alloc: Global, verdict: Verdict) -> Result<Answer, Failure>
     Ok(Answer { text, status })
 }
 
-/// `pass moments=N images=N`, `fail moment=M image=N cause=C` or `too many moment=M`.
-fn verdict_line(alloc: Global, verdict: Verdict) -> Result<String, AllocError>
-    ensures { IfOk result (λ text. string_bytes text ≡ verdict_line verdict) }
+/// `pass moments=N images=N`, or `images=over` where a moment has over 65,536, `fail moment=M image=NAME cause=C` or
+/// `too many moment=M`.
+fn verdict_line(alloc: Global, verdict: &Verdict) -> Result<String, AllocError>
+    ensures { IfOk result (λ text. string_bytes text ≡ verdict_line verdict.now) }
 {
     match verdict {
-        Verdict::Pass { moments, images } => {
-            format!(in alloc; "pass moments={moments} images={images}\n")
-        }
+        Verdict::Pass { moments, images } => pass_line(alloc, *moments, *images),
         Verdict::Fail {
             moment,
             image,
             cause,
         } => {
-            let cause = cause_text(cause);
+            let cause = cause_text(*cause);
             format!(in alloc; "fail moment={moment} image={image} cause={cause}\n")
         }
         Verdict::TooMany { moment } => format!(in alloc; "too many moment={moment}\n"),
+    }
+}
+
+fn pass_line(alloc: Global, moments: u64, images: Option<u64>) -> Result<String, AllocError>
+    ensures { IfOk result (λ text. string_bytes text ≡ pass_line moments images) }
+{
+    match images {
+        Some(images) => format!(in alloc; "pass moments={moments} images={images}\n"),
+        None => format!(in alloc; "pass moments={moments} images=over\n"),
     }
 }
 

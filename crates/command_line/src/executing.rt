@@ -17,7 +17,7 @@ use std::io::{Read, Write};
 
 /// Carries out what a command line asks for, over files, standard input, standard output and standard error, and gives the
 /// status that the program ends with: 0 done or a check that passes, 1 a check that fails, 2 refused input or command line,
-/// 3 a check with too many images, 4 want of memory, 5 a file, standard input or standard output that couldn't be read or
+/// 3 a check with too many branches, 4 want of memory, 5 a file, standard input or standard output that couldn't be read or
 /// written. `words` begins with the program's name.
 ///
 /// An answer goes to standard output, and nothing of a failure does; the lines of a failure go to standard error,

@@ -54,7 +54,7 @@ fn explanation(
         harts,
         schedule,
         command.moment,
-        command.image,
+        &command.image,
     )?)
 }
 

@@ -1,8 +1,12 @@
 pub mod Counting
+pub mod CutNames
 pub mod Imaged
 pub mod Least
 pub mod Lined
+pub mod Naming
 pub mod Numbering
 pub mod Searching
 pub mod Stored
 pub mod Tallying
+pub mod Telling
+pub mod Totaling

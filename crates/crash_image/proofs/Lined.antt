@@ -143,7 +143,7 @@ lines_above entries i (suc k) d up h =
     let more : (get_or entries (i + k) d).0 < (get_or entries (i + k + 1) d).0 = next_line entries (i + k) d up (omega (arith, h)) in
     rw next (omega (arith, before, more))
 
-lines_from : (entries : List (ℕ × ℕ)) (i j : ℕ) (d : ℕ × ℕ) → IsStrictlyIncreasing (map (λ entry. entry.0) entries) →
+pub lines_from : (entries : List (ℕ × ℕ)) (i j : ℕ) (d : ℕ × ℕ) → IsStrictlyIncreasing (map (λ entry. entry.0) entries) →
     i ≤ j → j < length entries → (get_or entries i d).0 + (j - i) ≤ (get_or entries j d).0
 lines_from entries i j d up less h =
     let e : i + (j - i) ≡ j = omega (arith, less) in

@@ -8,46 +8,6 @@ ghost use Rattle.std.specs.Prelude.{◌≡◌, ◌↔◌, ◌<◌, All, IfOk, Is
 
 use crate::bounds::LineBounds;
 use std::alloc::{AllocError, Global};
-use std::marker::Model;
-
-/// The stored lines of a moment, upwards, each with how many of its first stores are in the medium.
-///
-/// A contract sees the pairs of line and number.
-#[derive(Drop)]
-pub struct Cut {
-    entries: Vec<(u32, u32)>,
-}
-
-impl Model for Cut {
-    ghost use Rattle.std.specs.Prelude.{ℕ, List};
-
-    ghost Value = { List (ℕ × ℕ) };
-
-    ghost view = { λ c. c.entries.items };
-}
-
-impl Cut {
-    /// The cut of these pairs of line and number.
-    pub fn from_entries(entries: Vec<(u32, u32)>) -> Cut
-        ensures { result ≡ entries.items }
-    {
-        Cut { entries }
-    }
-
-    /// The pairs of line and number.
-    pub fn entries(&self) -> &[(u32, u32)]
-        ensures { result.now ≡ self.now }
-    {
-        self.entries.as_slice()
-    }
-
-    /// The pairs of line and number, given back.
-    pub fn into_entries(self) -> Vec<(u32, u32)>
-        ensures { result.items ≡ self }
-    {
-        self.entries
-    }
-}
 
 /// The entries of the cut of number `n` of lines with these bounds, the highest line varying fastest.
 pub fn numbered(alloc: Global, bounds: &[LineBounds], n: u32) -> Result<Vec<(u32, u32)>, AllocError>
@@ -79,7 +39,7 @@ pub fn number_of(entries: &[(u32, u32)], line: u32) -> u32
 }
 
 /// How many of the entries are of a lower line. Their lines go upwards.
-fn place_of(entries: &[(u32, u32)], line: u32) -> usize
+pub fn place_of(entries: &[(u32, u32)], line: u32) -> usize
     requires { IsStrictlyIncreasing (map (λ entry. entry.0) entries.now) }
     ensures { IsPlace entries.now line result }
 {

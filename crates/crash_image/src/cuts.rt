@@ -1,19 +1,23 @@
 //! The cuts of a moment and their images.
 
+ghost use Rattle.crash_image.specs.Named.{HasLinesOf, IsNameOf, IsNamed, IsTable, cut_over, named_cut, raised as raised_of};
 ghost use Rattle.crash_image.specs.Sought.{IsLeastCut};
 ghost use Rattle.crash_image.specs.View.{HasLines};
 ghost use Rattle.crash_model.specs.Cut.{IsCut, cut_count, cuts, number_in};
 ghost use Rattle.crash_model.specs.Image.{image};
+ghost use Rattle.image_name.specs.declared.name.ImageName.TheVariants as names;
 ghost use Rattle.line_memory.specs.Lines.{IsMedium, line_at};
 ghost use Rattle.store_trace.specs.History.{at_moment};
-ghost use Rattle.std.specs.Prelude.{◌≡◌, ℕ, ◌↔◌, ◌<◌, ◌≤◌, ◌*◌, [], length, slice_index_or, IfOk, IfSome, IsNone, IsErrOf, IfErr, IsTrue, OnOk};
+ghost use Rattle.std.specs.Prelude.{◌≡◌, ℕ, ◌↔◌, ◌<◌, ◌≤◌, ◌*◌, [], List, length, slice_index_or, IfOk, IfSome, IsNone, IsErrOf, IfErr, IsTrue, OnOk};
 
 use crate::ImageFault;
 use crate::bounds::{LineBounds, floors, line_bounds, product};
-use crate::cut::{Cut, fits, number_of, numbered};
+use crate::cut::{fits, number_of, numbered};
 use crate::images::imaged;
 use crate::line::bytes_after;
+use crate::named::{entries_over, number, raised, renumber};
 use crate::search::least;
+use image_name::{Cut, ImageName};
 use line_memory::Medium;
 use std::alloc::Global;
 use std::marker::Model;
@@ -162,6 +166,100 @@ impl<'a> Cuts<'a> {
         match least(alloc, self.medium, medium, self.events, &floors)? {
             Some(entries) => Ok(Some(Cut::from_entries(entries))),
             None => Ok(None),
+        }
+    }
+
+    /// The cut in which each stored line has the number that the table gives it, and its floor where the table has 0 there
+    /// or lacks the line.
+    pub fn cut_over(&self, alloc: Global, numbers: &[u32]) -> Result<Cut, ImageFault>
+        requires { IsTable self.now.steps numbers.now }
+        ensures ok { IfOk result (λ cut. cut ≡ cut_over self.now.steps numbers.now) }
+        ensures bounds { IfOk result (λ cut. IsCut self.now.steps cut) }
+        ensures err { IfErr result (λ fault. fault ≡ ImageFault.Memory) }
+    {
+        let entries = entries_over(alloc, &self.bounds, numbers)?;
+        Ok(Cut::from_entries(entries))
+    }
+
+    /// The number of the cut, where there are at most 65,536 cuts.
+    pub fn number(&self, cut: &Cut) -> u32
+        requires cut { IsCut self.now.steps cut.now }
+        requires few { cut_count self.now.steps ≤ 65536 }
+        ensures there { result < cut_count self.now.steps }
+        ensures cut { cut.now ≡ slice_index_or (cuts self.now.steps) result [] }
+    {
+        number(&self.bounds, cut.entries())
+    }
+
+    /// The lines of the cut that stand above their floor, with their numbers.
+    pub fn raised(&self, alloc: Global, cut: &Cut) -> Result<Cut, ImageFault>
+        requires { IsCut self.now.steps cut.now }
+        ensures ok { IfOk result (λ lines. lines ≡ raised_of self.now.steps cut.now) }
+        ensures err { IfErr result (λ fault. fault ≡ ImageFault.Memory) }
+    {
+        let lines = raised(alloc, &self.bounds, cut.entries())?;
+        Ok(Cut::from_entries(lines))
+    }
+
+    /// The cut in which these lines have these numbers and the others stand at their floors. NotACut exactly where one of them has no
+    /// store, or a number lies outside its line's bounds. Of two numbers of one line the first counts.
+    pub fn cut_of_lines(&self, alloc: Global, lines: &Cut) -> Result<Cut, ImageFault>
+        ensures ok { IfOk result (λ cut. cut ≡ named_cut self.now.steps lines.now) }
+        ensures bounds { IfOk result (λ cut. IsCut self.now.steps cut) }
+        ensures lines { OnOk result (HasLinesOf self.now.steps lines.now) }
+        ensures cut { IsErrOf result ImageFault.NotACut
+            → HasLinesOf self.now.steps lines.now → ¬ IsCut self.now.steps (named_cut self.now.steps lines.now) }
+        ensures moment { ¬ IsErrOf result ImageFault.NoSuchMoment }
+    {
+        let mut entries = floors(alloc, &self.bounds)?;
+        if !renumber(&mut entries, lines.entries()) {
+            return Err(ImageFault::NotACut);
+        }
+        let cut = Cut::from_entries(entries);
+        if !self.contains(&cut) {
+            return Err(ImageFault::NotACut);
+        }
+        Ok(cut)
+    }
+
+    /// The name of the cut: its number where there are at most 65,536 cuts, else its lines above their floor.
+    pub fn name(&self, alloc: Global, cut: &Cut) -> Result<ImageName, ImageFault>
+        requires { IsCut self.now.steps cut.now }
+        ensures ok { IfOk result (λ name. IsNameOf self.now.steps cut.now name) }
+        ensures err { IfErr result (λ fault. fault ≡ ImageFault.Memory) }
+    {
+        match self.count() {
+            Some(_) => Ok(ImageName::Number(self.number(cut))),
+            None => {
+                let lines = self.raised(alloc, cut)?;
+                Ok(ImageName::Cut(lines))
+            }
+        }
+    }
+
+    /// The cut of this name. NotACut exactly where no cut of this moment is named so.
+    pub fn named(&self, alloc: Global, name: &ImageName) -> Result<Cut, ImageFault>
+        ensures ok { IfOk result (λ cut. IsNamed self.now.steps name.now cut) }
+        ensures cut { IsErrOf result ImageFault.NotACut
+            → (cut : List (ℕ × ℕ)) → ¬ IsNamed self.now.steps name.now cut }
+        ensures moment { ¬ IsErrOf result ImageFault.NoSuchMoment }
+    {
+        match name {
+            ImageName::Number(number) => self.cut_of_number(alloc, *number),
+            ImageName::Cut(lines) => self.cut_of_lines(alloc, lines),
+        }
+    }
+
+    /// The cut of number `n`. NotACut exactly where there are over 65,536 cuts, or no more than `n`.
+    fn cut_of_number(&self, alloc: Global, n: u32) -> Result<Cut, ImageFault>
+        ensures ok { IfOk result (λ cut. IsNamed self.now.steps (names.Number n) cut) }
+        ensures cut { IsErrOf result ImageFault.NotACut
+            → (cut : List (ℕ × ℕ)) → ¬ IsNamed self.now.steps (names.Number n) cut }
+        ensures moment { ¬ IsErrOf result ImageFault.NoSuchMoment }
+    {
+        match self.count() {
+            Some(count) if n < count => self.cut(alloc, n),
+            _ => Err(ImageFault::NotACut),
         }
     }
 

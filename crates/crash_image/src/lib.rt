@@ -4,20 +4,25 @@
 //! stores from its floor on.
 #![tactic(auto)]
 
-pub use cut::Cut;
 pub use cuts::Cuts;
+pub use image_name::{Cut, ImageName};
 pub use images::numbers_of_lines;
+pub use laws::names_tell_cuts;
 pub use names::has_lines;
 use std::alloc::AllocError;
 use thiserror::Error;
+pub use totals::images_of_moments;
 
 mod bounds;
 mod cut;
 mod cuts;
 mod images;
+mod laws;
 mod line;
+mod named;
 mod names;
 mod search;
+mod totals;
 
 /// Why crash images aren't given.
 #[derive(Debug, Drop, Error)]

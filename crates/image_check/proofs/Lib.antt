@@ -1,14 +1,19 @@
-mod Apart
-mod Beginning
-mod Faulting
-mod Growing
-mod Judging
-mod Looping
-mod Marking
-mod Members
-mod Noting
-mod Passing
-mod Planning
-mod Refusing
-mod Sharing
-mod Weighing
+pub mod Apart
+pub mod Beginning
+pub mod EveryImage
+pub mod Faulting
+pub mod Growing
+pub mod Judging
+pub mod Keeping
+pub mod Lasting
+pub mod Looping
+pub mod Marking
+pub mod Members
+pub mod Noting
+pub mod Opening
+pub mod Passing
+pub mod Planning
+pub mod Reading
+pub mod Refusing
+pub mod Sharing
+pub mod Weighing

@@ -27,7 +27,7 @@ ended_step before event = filter_map-append ended_by before (event ∷ [])
 begun_step : (before : List Event) (event : Event) → begun (before ++ event ∷ []) ≡ begun before ++ cons_option (begun_by event) []
 begun_step before event = filter_map-append begun_by before (event ∷ [])
 
-ended_kept : (before : List Event) (event : Event) → ended_by event ≡ None → ended (before ++ event ∷ []) ≡ ended before
+pub ended_kept : (before : List Event) (event : Event) → ended_by event ≡ None → ended (before ++ event ∷ []) ≡ ended before
 ended_kept before event e = ended_step before event ∙ ap (λ (o : Option ℕ). ended before ++ cons_option o []) e ∙ append-nil (ended before)
 
 begun_kept : (before : List Event) (event : Event) → begun_by event ≡ None → begun (before ++ event ∷ []) ≡ begun before
@@ -37,7 +37,7 @@ abbrev still_open : List ℕ → ℕ → Bool
 still_open over op = not (list_any (λ other. other == op) over)
 
 -- an event that neither begins nor ends anything
-other_noted : (plan : List Operation) (start settled : Option (List (List Entry))) (before : List Event) (event : Event) (ops : List ℕ) →
+pub other_noted : (plan : List Operation) (start settled : Option (List (List Entry))) (before : List Event) (event : Event) (ops : List ℕ) →
     begun_by event ≡ None → ended_by event ≡ None → AreOutcomes plan start before settled ops → AreOutcomes plan start (before ++ event ∷ []) settled ops
 other_noted plan start settled before event ops b e h = record {
   settled_is =
@@ -52,7 +52,7 @@ other_noted plan start settled before event ops b e h = record {
 one_kept : (p : ℕ → Bool) (op : ℕ) → p op ≡ true → filter p (op ∷ []) ≡ op ∷ []
 one_kept p op e = rw e refl
 
-begin_noted : (plan : List Operation) (start settled new : Option (List (List Entry))) (before : List Event) (hart op : ℕ) (ops more : List ℕ) →
+pub begin_noted : (plan : List Operation) (start settled new : Option (List (List Entry))) (before : List Event) (hart op : ℕ) (ops more : List ℕ) →
     ¬ Contains (ended before) op → new ≡ settled → more ≡ ops ++ op ∷ [] → AreOutcomes plan start before settled ops →
     AreOutcomes plan start (before ++ Begin hart op ∷ []) new more
 begin_noted plan start settled new before hart op ops more n s m h = record {

@@ -13,13 +13,14 @@ use Rattle.volume.specs.declared.entry.Entry.{Entry}
 use Rattle.std.specs.Result.{result_ok}
 use Rattle.image_check.specs.Growth.{AreApart, AreOutcomes}
 use Rattle.image_check.specs.OrderFaults.{AreSound}
-use Rattle.image_check.specs.Verdicts.{AreJudged, ArePassed, IsJudged, IsLeastBad, IsMomentVerdict, IsVolumeJudged, Passes, cut_at, image_after}
-use Rattle.image_check.specs.declared.moment.BadImage.{BadImage}
+use Rattle.image_check.specs.EveryImage.{AreJudged, IsFirstBad, IsMomentByImages, cut_at}
+use Rattle.image_check.specs.Images.{ArePassed, IsJudged, IsVolumeJudged, Passes, image_after}
+use Rattle.image_check.specs.declared.plain.BadImage.{BadImage}
 use Rattle.image_check.specs.declared.verdict.Cause.{Cause}
 use Rattle.image_check.specs.declared.verdict.Cause.TheVariants.{Fault, Illegal}
-use Rattle.image_check.specs.declared.verdict.MomentVerdict.TheVariants as moments
+use Rattle.image_check.specs.declared.plain.MomentByImages.TheVariants as moments
 use Rattle.image_check.proofs.Apart.{sound_apart}
-use Rattle.image_check.proofs.Passing.{all_numbers}
+use Rattle.image_check.proofs.EveryImage.{all_numbers}
 
 -- the image of number n, by the steps that the cuts were made from
 image_numbered : (start medium : List (List ℕ)) (steps : List PersistenceStep) (events : List Event) (n : ℕ) → steps ≡ history events →
@@ -64,7 +65,7 @@ images_pass plan start steps events count e c h =
 pub least_bad : (plan : List Operation) (start : List (List ℕ)) (steps : List PersistenceStep) (events : List Event) (count number : ℕ) (cause : Cause) →
     steps ≡ history events → count ≡ cut_count steps → number < count →
     IsJudged plan start events (cut_at events number) (Some cause) →
-    ((n : ℕ) → n < number → Passes plan start events (cut_at events n)) → IsLeastBad plan start events number cause
+    ((n : ℕ) → n < number → Passes plan start events (cut_at events n)) → IsFirstBad plan start events number cause
 least_bad plan start steps events count number cause e c l j h =
     let whole : cut_count (history events) ≡ count = ap (λ (p : List PersistenceStep). cut_count p) (sym e) ∙ sym c in
     record { there = subst (λ (k : ℕ). number < k) (sym whole) l; bad = j; least = h }
@@ -77,12 +78,12 @@ few_cuts steps events count e c few =
     subst (λ (k : ℕ). k ≤ 65536) whole few
 
 pub pass_judged : (plan : List Operation) (medium : List (List ℕ)) (events : List Event) (steps : List PersistenceStep) (count : ℕ) →
-    steps ≡ history events → count ≡ cut_count steps → count ≤ 65536 → AreJudged plan medium events None → IsMomentVerdict plan medium events moments.Pass
+    steps ≡ history events → count ≡ cut_count steps → count ≤ 65536 → AreJudged plan medium events None → IsMomentByImages plan medium events moments.Pass
 pass_judged plan medium events steps count e c few h = (few_cuts steps events count e c few, h)
 
 pub fail_judged : (plan : List Operation) (medium : List (List ℕ)) (events : List Event) (steps : List PersistenceStep) (count : ℕ) (bad : BadImage) →
     steps ≡ history events → count ≡ cut_count steps → count ≤ 65536 → AreJudged plan medium events (Some bad) →
-    IsMomentVerdict plan medium events (moments.Fail bad.number bad.cause)
+    IsMomentByImages plan medium events (moments.Fail bad.number bad.cause)
 fail_judged plan medium events steps count bad e c few h = (few_cuts steps events count e c few, h)
 
 pub none_found : (found : Option BadImage) → ((bad : BadImage) → ¬ (found ≡ Some bad)) → found ≡ None
@@ -90,7 +91,7 @@ none_found None n = refl
 none_found (Some bad) n = absurd (n bad refl)
 
 pub too_many : (plan : List Operation) (medium : List (List ℕ)) (events : List Event) (steps : List PersistenceStep) →
-    steps ≡ history events → 65536 < cut_count steps → IsMomentVerdict plan medium events moments.TooMany
+    steps ≡ history events → 65536 < cut_count steps → IsMomentByImages plan medium events moments.TooMany
 too_many plan medium events steps e many = subst (λ (p : List PersistenceStep). 65536 < cut_count p) e many
 
 pub images_judged : (plan : List Operation) (medium start : List (List ℕ)) (all : List Event) (moment : ℕ) (steps : List PersistenceStep)

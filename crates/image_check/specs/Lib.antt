@@ -1,4 +1,9 @@
+pub mod Alike
+pub mod Branching
+pub mod EveryImage
 pub mod Growth
+pub mod Images
+pub mod Keeping
 pub mod Legal
 pub mod Marks
 pub mod OrderFaults

@@ -4,18 +4,24 @@
 //! each is judged.
 #![tactic(auto)]
 
+pub use crash_image::ImageName;
 pub use fault::{CheckFault, OpFault};
 pub use moment::check_moment;
 pub use order::check_trace;
+pub use plain::{MomentByImages, RunByImages, check_moment_by_images, check_run_by_images};
 pub use run::check_run;
 pub use verdict::{Cause, MomentVerdict, Verdict};
 
 mod fault;
 mod image_lines;
+mod index_lines;
+mod judge;
 mod legal;
 mod marks;
 mod moment;
+mod moment_images;
 mod operations;
 mod order;
+mod plain;
 mod run;
 mod verdict;

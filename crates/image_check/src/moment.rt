@@ -1,37 +1,35 @@
-//! The verdict on one moment: its images are looked at one by one.
+//! The verdict on one moment: one run of recovery for each branch of its cuts.
 
+ghost use Rattle.crash_image.specs.Named.{IsNameOf};
 ghost use Rattle.crash_image.specs.View.{HasLines};
-ghost use Rattle.crash_model.specs.Cut.{cut_count};
-ghost use Rattle.image_check.specs.Growth.{AreApart, AreOutcomes};
+ghost use Rattle.crash_model.specs.Cut.{numbered, stored_lines};
+ghost use Rattle.image_check.specs.Branching.{IsWithinAt, numbers_at};
 ghost use Rattle.image_check.specs.OrderFaults.{AreSound};
-ghost use Rattle.image_check.specs.Verdicts.{AreJudged, IsJudged, IsMomentVerdict, IsRefusal, IsVolumeJudged, cut_at};
+ghost use Rattle.image_check.specs.Verdicts.{AreFlagged, IfPassed, IsMomentVerdict, IsRefusal};
 ghost use Rattle.nova_log.specs.Volumes.{volume_of};
-ghost use Rattle.store_trace.specs.History.{at_moment, history};
-ghost use Rattle.store_trace.specs.declared.event.Event.{Event as AnEvent};
-ghost use Rattle.std.specs.Prelude.{◌≡◌, ℕ, ◌<◌, ◌≤◌, List, length, take, IfErr, IfOk};
+ghost use Rattle.store_trace.specs.History.{at_moment};
+ghost use Rattle.std.specs.Prelude.{◌≡◌, ◌<◌, ◌≤◌, length, take, IfErr, IfOk};
 ghost use Rattle.std.specs.Result.{result_ok};
 
-use crate::image_lines::recover_image;
+use crate::judge::{cuts_at, first_events, starting_volume};
 use crate::legal::Outcomes;
+use crate::moment_images::MomentImages;
 use crate::order::check_trace;
-use crate::{Cause, CheckFault, MomentVerdict};
-use crash_image::Cuts;
+use crate::{CheckFault, MomentVerdict};
+use branches::{Opened, Opener};
+use crash_image::ImageName;
 use line_memory::Medium;
-use nova_log::{VolumeFault, recover};
 use plan::Plan;
 use std::alloc::Global;
-use store_trace::{Event, Trace};
+use store_trace::Trace;
+use trace_index::TraceIndex;
 use volume::Volume;
 
-/// An image that doesn't recover to a legal volume, by the number of its cut.
-#[derive(Clone, Copy, Drop)]
-pub struct BadImage {
-    pub number: u32,
-    pub cause: Cause,
-}
+/// The most branches of a moment that are opened.
+const MAX_BRANCHES: u32 = 65_536;
 
 /// The verdict on the state after the first `moment` events of the trace, which started from the medium: every image
-/// of it is recovered and judged by the plan. The medium has every line that the trace names.
+/// of it is judged by the plan, by one run of recovery for each branch. The medium has every line that the trace names.
 ///
 /// A wrong mark anywhere in the trace is told first, then a moment past the last event.
 #[tactic(auto, using(crate::proofs::Refusing::refused_operation, crate::proofs::Refusing::refused_moment))]
@@ -59,20 +57,7 @@ pub fn check_moment(
     judge_moment(alloc, plan, medium, start, trace, moment)
 }
 
-/// The volume of the starting medium, if it has one.
-pub fn starting_volume(alloc: Global, medium: &Medium) -> Result<Option<Volume>, CheckFault>
-    ensures ok { IfOk result (λ start. start ≡ result_ok (volume_of medium.now)) }
-    ensures err { IfErr result (λ fault. fault ≡ CheckFault.Memory) }
-{
-    match recover(alloc, medium) {
-        Ok(volume) => Ok(Some(volume)),
-        Err(VolumeFault::Memory) => Err(CheckFault::Memory),
-        Err(_fault) => Ok(None),
-    }
-}
-
 /// The verdict on a moment of a trace whose marks are right, over this volume of the starting medium.
-#[tactic(auto, using(crate::proofs::Beginning::sound_first, crate::proofs::Weighing::too_many))]
 fn judge_moment(
     alloc: Global,
     plan: &Plan,
@@ -89,117 +74,64 @@ fn judge_moment(
         IsMomentVerdict plan.now.operations medium.now (take moment trace.now.events) verdict) }
     ensures err { IfErr result (λ fault. fault ≡ CheckFault.Memory) }
 {
-    let cuts = cuts_at(alloc, medium, trace, moment)?;
-    let Some(count) = cuts.count() else {
-        return Ok(MomentVerdict::TooMany);
-    };
+    let index = TraceIndex::new(alloc, medium, trace)?;
+    let mut opener = Opener::new(alloc, index.lines())?;
     let outcomes = Outcomes::after(alloc, plan, start, first_events(trace, moment))?;
-    match find_bad(alloc, plan, &cuts, &outcomes, count)? {
-        Some(bad) => Ok(MomentVerdict::Fail {
-            image: bad.number,
-            cause: bad.cause,
-        }),
-        None => Ok(MomentVerdict::Pass),
+    let images = MomentImages::new(&index, plan, &outcomes, moment);
+    open_moment(alloc, medium, trace, &images, &mut opener)
+}
+
+/// The verdict on a moment, whose branches are opened. Where it passes, the opener has each line that recovery asks.
+pub fn open_moment(
+    alloc: Global,
+    medium: &Medium,
+    trace: &Trace,
+    images: &MomentImages,
+    opener: &mut Opener,
+) -> Result<MomentVerdict, CheckFault>
+    requires lines { HasLines medium.now trace.now.events }
+    requires medium { images.now.index.now.start ≡ medium.now }
+    requires trace { images.now.index.now.events ≡ trace.now.events }
+    requires there { images.now.moment ≤ length trace.now.events }
+    requires size { length opener.old ≡ length medium.now }
+    ensures ok { IfOk result (λ verdict.
+        IsMomentVerdict images.now.plan.now.operations medium.now (take images.now.moment trace.now.events) verdict) }
+    ensures asked { IfOk result (λ verdict. IfPassed verdict (AreFlagged medium.now (at_moment trace.now.events images.now.moment) opener.new)) }
+    ensures size { length opener.new ≡ length opener.old }
+    ensures err { IfErr result (λ fault. fault ≡ CheckFault.Memory) }
+{
+    match opener.open(alloc, images, MAX_BRANCHES)? {
+        Opened::Over => Ok(MomentVerdict::TooMany),
+        Opened::Pass => Ok(MomentVerdict::Pass),
+        Opened::Bad { numbers, cause } => {
+            let image = name_cut(alloc, medium, trace, images.moment, &numbers)?;
+            Ok(MomentVerdict::Fail { image, cause })
+        }
     }
 }
 
-fn first_events(trace: &Trace, moment: u32) -> &[Event]
-    requires { moment ≤ length trace.now.events }
-    ensures { result.now ≡ take moment trace.now.events }
-{
-    &trace.events()[..moment as usize]
-}
-
-/// The cuts of a moment that is there.
-pub fn cuts_at<'a>(
+/// The name of the image of a cut of the moment, given by line, with 0 for a line at its floor.
+fn name_cut(
     alloc: Global,
-    medium: &'a Medium,
-    trace: &'a Trace,
+    medium: &Medium,
+    trace: &Trace,
     moment: u32,
-) -> Result<Cuts<'a>, CheckFault>
+    numbers: &[u32],
+) -> Result<ImageName, CheckFault>
     requires lines { HasLines medium.now trace.now.events }
     requires there { moment ≤ length trace.now.events }
-    ensures ok { IfOk result (λ cuts. (cuts.start ≡ medium.now)
-        × (cuts.steps ≡ at_moment trace.now.events moment)) }
+    requires size { length numbers.now ≡ length medium.now }
+    requires within { IsWithinAt trace.now.events moment (numbers_at trace.now.events moment numbers.now) }
+    ensures ok { IfOk result (λ name. IsNameOf (at_moment trace.now.events moment)
+        (numbered (numbers_at trace.now.events moment numbers.now) (stored_lines (at_moment trace.now.events moment))) name) }
     ensures err { IfErr result (λ fault. fault ≡ CheckFault.Memory) }
 {
-    match Cuts::at(alloc, medium, trace, moment) {
-        Ok(cuts) => Ok(cuts),
-        Err(_refused) => Err(CheckFault::Memory),
-    }
-}
-
-/// The least bad image of these cuts, of which there are `count`. None where each recovers to a legal volume.
-#[tactic(auto, using(crate::proofs::Weighing::least_bad))]
-pub fn find_bad(
-    alloc: Global,
-    plan: &Plan,
-    cuts: &Cuts,
-    outcomes: &Outcomes,
-    count: u32,
-) -> Result<Option<BadImage>, CheckFault>
-    requires { count ≡ cut_count cuts.now.steps }
-    ensures ok { IfOk result (λ found. (events : List AnEvent) →
-        cuts.now.steps ≡ history events →
-        AreOutcomes plan.now.operations (result_ok (volume_of cuts.now.start)) events outcomes.now.settled outcomes.now.under_way.items →
-        AreApart plan.now.operations events →
-        AreJudged plan.now.operations cuts.now.start events found) }
-    ensures err { IfErr result (λ fault. fault ≡ CheckFault.Memory) }
-{
-    for number in 0..count {
-        if let Some(cause) = judge_image(alloc, plan, cuts, outcomes, number)? {
-            return Ok(Some(BadImage { number, cause }));
-        }
-    }
-    Ok(None)
-}
-
-/// Why the image of this number is bad, if it is.
-#[tactic(auto, using(crate::proofs::Weighing::judged_image, crate::proofs::Weighing::faulty_image))]
-fn judge_image(
-    alloc: Global,
-    plan: &Plan,
-    cuts: &Cuts,
-    outcomes: &Outcomes,
-    image: u32,
-) -> Result<Option<Cause>, CheckFault>
-    requires { image < cut_count cuts.now.steps }
-    ensures ok { IfOk result (λ found. (events : List AnEvent) →
-        cuts.now.steps ≡ history events →
-        AreOutcomes plan.now.operations (result_ok (volume_of cuts.now.start)) events outcomes.now.settled outcomes.now.under_way.items →
-        AreApart plan.now.operations events →
-        IsJudged plan.now.operations cuts.now.start events (cut_at events image) found) }
-    ensures err { IfErr result (λ fault. fault ≡ CheckFault.Memory) }
-{
-    let Ok(cut) = cuts.cut(alloc, image) else {
+    let cuts = cuts_at(alloc, medium, trace, moment)?;
+    let Ok(cut) = cuts.cut_over(alloc, numbers) else {
         return Err(CheckFault::Memory);
     };
-    match recover_image(alloc, cuts, &cut) {
-        Ok(volume) => {
-            let found = judge_volume(alloc, plan, outcomes, &volume)?;
-            Ok(found)
-        }
-        Err(VolumeFault::Memory) => Err(CheckFault::Memory),
-        Err(fault) => Ok(Some(Cause::Fault(fault))),
-    }
-}
-
-/// Why the volume is bad: it may not be legal.
-fn judge_volume(
-    alloc: Global,
-    plan: &Plan,
-    outcomes: &Outcomes,
-    volume: &Volume,
-) -> Result<Option<Cause>, CheckFault>
-    ensures ok { IfOk result (λ found. (start : List (List ℕ)) (events : List AnEvent) →
-        AreOutcomes plan.now.operations (result_ok (volume_of start)) events outcomes.now.settled outcomes.now.under_way.items →
-        AreApart plan.now.operations events →
-        IsVolumeJudged plan.now.operations start events volume.now found) }
-    ensures err { IfErr result (λ fault. fault ≡ CheckFault.Memory) }
-{
-    if outcomes.has(alloc, plan, volume)? {
-        Ok(None)
-    } else {
-        Ok(Some(Cause::Illegal))
+    match cuts.name(alloc, &cut) {
+        Ok(name) => Ok(name),
+        Err(_refused) => Err(CheckFault::Memory),
     }
 }

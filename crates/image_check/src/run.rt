@@ -3,31 +3,37 @@
 ghost use Rattle.crash_image.specs.View.{HasLines};
 ghost use Rattle.crash_model.specs.Cut.{IsCut, number_in};
 ghost use Rattle.crash_model.specs.Image.{image};
-ghost use Rattle.image_check.specs.Growth.{AreOutcomes};
+ghost use Rattle.image_check.specs.Keeping.{KeepsPass};
 ghost use Rattle.image_check.specs.Legal.{IsLegal};
 ghost use Rattle.image_check.specs.OrderFaults.{AreSound};
-ghost use Rattle.image_check.specs.Verdicts.{IsRefusal, IsVerdict};
+ghost use Rattle.image_check.specs.Verdicts.{AreFlagged, IfPassed, IsMomentVerdict, IsRefusal, IsVerdict};
 ghost use Rattle.nova_log.specs.Volumes.{volume_of};
 ghost use Rattle.store_trace.specs.History.{at_moment};
+ghost use Rattle.store_trace.specs.declared.event.Event.{Event as AnEvent};
 ghost use Rattle.volume.specs.declared.entry.Entry.{Entry as AnEntry};
-ghost use Rattle.std.specs.Prelude.{◌≡◌, ℕ, ◌+◌, ◌≤◌, List, Option, length, take, IfErr, IfOk, OnOk};
+ghost use Rattle.std.specs.Prelude.{◌≡◌, ◌↔◌, ℕ, ◌-◌, ◌<◌, ◌≤◌, List, Option, length, take, slice_index_or, IfErr, IfOk, IsTrue};
 ghost use Rattle.std.specs.Result.{result_ok};
 
+use crate::judge::{note_next, starting_volume};
 use crate::legal::Outcomes;
-use crate::moment::{cuts_at, find_bad, starting_volume};
+use crate::moment::open_moment;
+use crate::moment_images::MomentImages;
 use crate::order::check_trace;
-use crate::{CheckFault, Verdict};
+use crate::{CheckFault, MomentVerdict, Verdict};
+use branches::Opener;
+use crash_image::images_of_moments;
 use line_memory::Medium;
 use plan::Plan;
-use std::alloc::{AllocError, Global};
-use store_trace::Trace;
+use std::alloc::Global;
+use store_trace::{Event, Trace};
+use trace_index::TraceIndex;
 use volume::Volume;
 
 /// The verdict on all moments of the trace, which started from the medium: the least moment that doesn't pass, or
 /// that every image of every moment recovers to a legal volume. The medium has every line that the trace names.
 ///
 /// A wrong mark of an operation is told before any image is looked at.
-#[tactic(auto, using(crate::proofs::Refusing::refused_operation, crate::proofs::Passing::all_pass))]
+#[tactic(auto, using(crate::proofs::Refusing::refused_operation))]
 pub fn check_run(
     alloc: Global,
     plan: &Plan,
@@ -39,7 +45,7 @@ pub fn check_run(
     ensures sound { IfOk result (λ verdict. AreSound plan.now.operations trace.now.events (length trace.now.events)) }
 
     // Pass: whatever a power cut leaves at whatever moment recovers to a legal volume.
-    ensures pass { (moments images : ℕ) → result ≡ Ok (Verdict.Pass moments images) →
+    ensures pass { (moments : ℕ) (images : Option ℕ) → result ≡ Ok (Verdict.Pass moments images) →
         (moment : ℕ) (cut : List (ℕ × ℕ)) → moment ≤ length trace.now.events →
         IsCut (at_moment trace.now.events moment) cut →
         (found : List (List AnEntry))
@@ -55,7 +61,6 @@ pub fn check_run(
 }
 
 /// The verdict on a trace whose marks are right, over this volume of the starting medium.
-#[tactic(auto, using(crate::proofs::Weighing::too_many))]
 fn judge_run(
     alloc: Global,
     plan: &Plan,
@@ -70,43 +75,74 @@ fn judge_run(
     ensures err { IfErr result (λ fault. fault ≡ CheckFault.Memory) }
 {
     let moments = trace.events().len() as u32 + 1;
+    let index = TraceIndex::new(alloc, medium, trace)?;
+    let mut opener = Opener::new(alloc, index.lines())?;
     let mut outcomes = Outcomes::new(alloc, start);
-    let mut images = 0;
     for moment in 0..moments {
-        let cuts = cuts_at(alloc, medium, trace, moment)?;
-        let Some(count) = cuts.count() else {
-            return Ok(Verdict::TooMany { moment });
-        };
-        if let Some(bad) = find_bad(alloc, plan, &cuts, &outcomes, count)? {
-            return Ok(Verdict::Fail {
-                moment,
-                image: bad.number,
-                cause: bad.cause,
-            });
+        let images = MomentImages::new(&index, plan, &outcomes, moment);
+        match judge_next(alloc, medium, trace, &images, &mut opener)? {
+            MomentVerdict::Pass => note_next(&mut outcomes, plan, trace, moment)?,
+            MomentVerdict::Fail { image, cause } => {
+                return Ok(Verdict::Fail {
+                    moment,
+                    image,
+                    cause,
+                });
+            }
+            MomentVerdict::TooMany => return Ok(Verdict::TooMany { moment }),
         }
-        images += u64::from(count);
-        note_next(&mut outcomes, plan, trace, moment)?;
     }
     Ok(Verdict::Pass {
         moments: u64::from(moments),
-        images,
+        images: images_of_moments(alloc, trace)?,
     })
 }
 
-/// Takes in the event after the moment, if there is one.
-fn note_next(
-    outcomes: &mut Outcomes,
-    plan: &Plan,
+/// The verdict on a moment after one that passes, if it isn't the first. Its branches are opened, unless its last event changes
+/// nothing that recovery looked at when branches were last opened.
+fn judge_next(
+    alloc: Global,
+    medium: &Medium,
     trace: &Trace,
-    moment: u32,
-) -> Result<(), AllocError>
-    requires { AreSound plan.now.operations trace.now.events (length trace.now.events) }
-    ensures { OnOk result ((start : Option (List (List AnEntry))) →
-        AreOutcomes plan.now.operations start (take moment trace.now.events) outcomes.old.settled outcomes.old.under_way.items →
-        AreOutcomes plan.now.operations start (take (moment + 1) trace.now.events) outcomes.new.settled outcomes.new.under_way.items) }
+    images: &MomentImages,
+    opener: &mut Opener,
+) -> Result<MomentVerdict, CheckFault>
+    requires lines { HasLines medium.now trace.now.events }
+    requires medium { images.now.index.now.start ≡ medium.now }
+    requires trace { images.now.index.now.events ≡ trace.now.events }
+    requires there { images.now.moment ≤ length trace.now.events }
+    requires size { length opener.old ≡ length medium.now }
+    requires sound { AreSound images.now.plan.now.operations trace.now.events (length trace.now.events) }
+    requires passes { 0 < images.now.moment → IsMomentVerdict images.now.plan.now.operations medium.now (take (images.now.moment - 1) trace.now.events) MomentVerdict.Pass }
+    requires asked { 0 < images.now.moment → AreFlagged medium.now (at_moment trace.now.events (images.now.moment - 1)) opener.old }
+    ensures ok { IfOk result (λ verdict.
+        IsMomentVerdict images.now.plan.now.operations medium.now (take images.now.moment trace.now.events) verdict) }
+    ensures asked { IfOk result (λ verdict. IfPassed verdict (AreFlagged medium.now (at_moment trace.now.events images.now.moment) opener.new)) }
+    ensures size { length opener.new ≡ length opener.old }
+    ensures err { IfErr result (λ fault. fault ≡ CheckFault.Memory) }
 {
-    match trace.events().get(moment as usize) {
-        Some(event) => outcomes.note(plan, *event),
-        None => Ok(()),
+    if keeps_pass(trace, images.moment, opener) {
+        return Ok(MomentVerdict::Pass);
+    }
+    open_moment(alloc, medium, trace, images, opener)
+}
+
+/// Whether the moment passes because the one before it does: its last event changes nothing that recovery looks at.
+fn keeps_pass(trace: &Trace, moment: u32, opener: &Opener) -> bool
+    requires { moment ≤ length trace.now.events }
+    ensures later { IsTrue result → 0 < moment }
+    ensures event { IsTrue result → (d : AnEvent) → KeepsPass opener.now (slice_index_or trace.now.events (moment - 1) d) }
+{
+    moment > 0 && spoils_nothing(trace.events()[moment as usize - 1], opener)
+}
+
+/// Whether the event changes nothing that recovery looked at, and forbids no volume.
+fn spoils_nothing(event: Event, opener: &Opener) -> bool
+    ensures { IsTrue result ↔ KeepsPass opener.now event }
+{
+    match event {
+        Event::Store { line, .. } => !opener.was_asked(line),
+        Event::Clean { .. } | Event::Fence { .. } | Event::Begin { .. } => true,
+        Event::End { .. } => false,
     }
 }

@@ -1,5 +1,6 @@
 //! Verdicts on a moment and on a run.
 
+use crash_image::ImageName;
 use nova_log::VolumeFault;
 use thiserror::Error;
 
@@ -15,33 +16,33 @@ pub enum Cause {
 }
 
 /// The verdict on one moment.
-#[derive(Clone, Copy, Debug, PartialEq, Eq)]
+#[derive(Debug, Drop)]
 pub enum MomentVerdict {
     /// Every image recovers to a legal volume.
     Pass,
-    /// The image of this number is the least bad one.
-    Fail { image: u32, cause: Cause },
-    /// There are over 65,536 cuts, and no image was looked at.
+    /// The image of this name is the least bad one.
+    Fail { image: ImageName, cause: Cause },
+    /// There are over 65,536 branches: 65,537 cuts of which no two share one.
     TooMany,
 }
 
 /// The verdict on all moments of a run.
-#[derive(Clone, Copy, Debug, PartialEq, Eq)]
+#[derive(Debug, Drop)]
 pub enum Verdict {
     /// Every moment passes.
     Pass {
         /// The number of moments: one more than there are events.
         moments: u64,
-        /// The sum of the numbers of images of all moments.
-        images: u64,
+        /// The sum of the numbers of images of all moments. None where a moment has over 65,536.
+        images: Option<u64>,
     },
     /// This moment is the least that doesn't pass, and this image its least bad one.
     Fail {
         moment: u32,
-        image: u32,
+        image: ImageName,
         cause: Cause,
     },
-    /// This moment is the least that doesn't pass, and it has over 65,536 cuts.
+    /// This moment is the least that doesn't pass, and it has over 65,536 branches.
     TooMany {
         moment: u32,
     },

@@ -53,3 +53,18 @@ fn push_all(
     }
     Ok(())
 }
+
+/// Three stores in a line, the first two of them cleaned by hart 0, and a fence of each hart.
+pub(crate) const FENCED: Parts = &[
+    (
+        0,
+        &[
+            Made::Store(0, 0, 1),
+            Made::Store(0, 0, 2),
+            Made::Clean(0),
+            Made::Store(0, 0, 3),
+        ],
+    ),
+    (1, &[Made::Fence]),
+    (0, &[Made::Fence]),
+];

@@ -3,8 +3,8 @@
 //! Media, traces and cuts stay in functions that give back plain data: a test that holds one proves at each of its exits that
 //! it is let go whole.
 
-use crate::events::{Made, Parts, trace_of};
-use crash_image::{Cut, Cuts, ImageFault, has_lines};
+use crate::events::{FENCED, Made, Parts, trace_of};
+use crash_image::{Cut, Cuts, ImageFault, ImageName, has_lines, images_of_moments};
 use crash_model::{PersistenceStep, count_cuts};
 use line_memory::Medium;
 use std::alloc::Global;
@@ -14,6 +14,13 @@ use store_trace::{Event, Trace, TraceFault};
 
 /// The entries of a cut: lines with their numbers of stores.
 type Entries = &'static [(u32, u32)];
+
+/// The name of an image: the number of its cut, or its lines above their floor.
+#[derive(Clone, Copy)]
+enum Name {
+    Number(u32),
+    Lines(Entries),
+}
 
 /// What is to hold of the crash images of a moment. Of an image the first doublewords of lines 3, 5 and 7 are told.
 #[derive(Clone, Copy)]
@@ -35,6 +42,12 @@ enum Claim {
     Lines(Entries, [(u64, u8); 3]),
     /// The cut that is found of a medium of so many lines, which are zeros but for this number in this line.
     Found(u32, (u32, u64), Option<Entries>),
+    /// A cut, and the name that it has and that gives it back.
+    Named(Entries, Name),
+    /// A further name that gives this cut.
+    Accepted(Name, Entries),
+    /// A name of no cut.
+    Refused(Name),
 }
 
 /// A claim on the crash images of a trace at a moment.
@@ -51,43 +64,27 @@ const TWO_LINES: Parts = &[(
     ],
 )];
 
-/// Three stores in a line, the first two of them cleaned by hart 0, and a fence of each hart.
-const FENCED: Parts = &[
-    (
-        0,
-        &[
-            Made::Store(0, 0, 1),
-            Made::Store(0, 0, 2),
-            Made::Clean(0),
-            Made::Store(0, 0, 3),
-        ],
-    ),
-    (1, &[Made::Fence]),
-    (0, &[Made::Fence]),
+/// Sixteen lines of one store each, which have 65,536 cuts.
+const SIXTEEN: &[Made] = &[
+    Made::Store(0, 0, 1),
+    Made::Store(1, 0, 1),
+    Made::Store(2, 0, 1),
+    Made::Store(3, 0, 1),
+    Made::Store(4, 0, 1),
+    Made::Store(5, 0, 1),
+    Made::Store(6, 0, 1),
+    Made::Store(7, 0, 1),
+    Made::Store(8, 0, 1),
+    Made::Store(9, 0, 1),
+    Made::Store(10, 0, 1),
+    Made::Store(11, 0, 1),
+    Made::Store(12, 0, 1),
+    Made::Store(13, 0, 1),
+    Made::Store(14, 0, 1),
+    Made::Store(15, 0, 1),
 ];
 
-const FREE_LINES: Parts = &[(
-    0,
-    &[
-        Made::Store(0, 0, 1),
-        Made::Store(1, 0, 1),
-        Made::Store(2, 0, 1),
-        Made::Store(3, 0, 1),
-        Made::Store(4, 0, 1),
-        Made::Store(5, 0, 1),
-        Made::Store(6, 0, 1),
-        Made::Store(7, 0, 1),
-        Made::Store(8, 0, 1),
-        Made::Store(9, 0, 1),
-        Made::Store(10, 0, 1),
-        Made::Store(11, 0, 1),
-        Made::Store(12, 0, 1),
-        Made::Store(13, 0, 1),
-        Made::Store(14, 0, 1),
-        Made::Store(15, 0, 1),
-        Made::Store(511, 0, 1),
-    ],
-)];
+const FREE_LINES: Parts = &[(0, SIXTEEN), (0, &[Made::Store(511, 0, 1)])];
 
 const FIRST_RUN: Parts = &[(0, &[Made::Store(0, 0, 7), Made::Clean(0), Made::Fence])];
 
@@ -177,6 +174,158 @@ static OVER_NINES: [Example; 10] = [
     (FLOOR, 4, Claim::Image(&[(5, 1)], [0, 7, NINES])),
 ];
 
+/// Cuts and their names, by their number up to 65,536 cuts, and else by the lines above their floor.
+static NAMES: [Example; 18] = [
+    (
+        TWO_LINES,
+        5,
+        Claim::Named(&[(3, 1), (7, 1)], Name::Number(5)),
+    ),
+    (
+        TWO_LINES,
+        5,
+        Claim::Named(&[(3, 1), (7, 3)], Name::Number(7)),
+    ),
+    (TWO_LINES, 5, Claim::Refused(Name::Number(12))),
+    (
+        TWO_LINES,
+        5,
+        Claim::Accepted(Name::Lines(&[(7, 3)]), &[(3, 0), (7, 3)]),
+    ),
+    (TWO_LINES, 5, Claim::Refused(Name::Lines(&[(4, 0)]))),
+    (TWO_LINES, 5, Claim::Refused(Name::Lines(&[(3, 3)]))),
+    (TWO_LINES, 5, Claim::Refused(Name::Lines(&[(3, 1), (7, 4)]))),
+    (FLOOR, 4, Claim::Named(&[(5, 2)], Name::Number(1))),
+    (FLOOR, 4, Claim::Accepted(Name::Lines(&[(5, 1)]), &[(5, 1)])),
+    (FLOOR, 4, Claim::Refused(Name::Lines(&[(5, 0)]))),
+    (
+        FREE_LINES,
+        16,
+        Claim::Named(SIXTEEN_AT_ZERO, Name::Number(0)),
+    ),
+    (
+        FREE_LINES,
+        16,
+        Claim::Named(SIXTEEN_AT_ONE, Name::Number(65_535)),
+    ),
+    (FREE_LINES, 16, Claim::Refused(Name::Number(65_536))),
+    (
+        FREE_LINES,
+        17,
+        Claim::Named(SEVENTEEN_AT_ZERO, Name::Lines(&[])),
+    ),
+    (
+        FREE_LINES,
+        17,
+        Claim::Named(LAST_AT_ONE, Name::Lines(&[(511, 1)])),
+    ),
+    (
+        FREE_LINES,
+        17,
+        Claim::Accepted(Name::Lines(&[(4, 0)]), SEVENTEEN_AT_ZERO),
+    ),
+    (FREE_LINES, 17, Claim::Refused(Name::Number(0))),
+    (FREE_LINES, 17, Claim::Refused(Name::Lines(&[(511, 2)]))),
+];
+
+const SIXTEEN_AT_ZERO: Entries = &[
+    (0, 0),
+    (1, 0),
+    (2, 0),
+    (3, 0),
+    (4, 0),
+    (5, 0),
+    (6, 0),
+    (7, 0),
+    (8, 0),
+    (9, 0),
+    (10, 0),
+    (11, 0),
+    (12, 0),
+    (13, 0),
+    (14, 0),
+    (15, 0),
+];
+
+const SIXTEEN_AT_ONE: Entries = &[
+    (0, 1),
+    (1, 1),
+    (2, 1),
+    (3, 1),
+    (4, 1),
+    (5, 1),
+    (6, 1),
+    (7, 1),
+    (8, 1),
+    (9, 1),
+    (10, 1),
+    (11, 1),
+    (12, 1),
+    (13, 1),
+    (14, 1),
+    (15, 1),
+];
+
+const SEVENTEEN_AT_ZERO: Entries = &[
+    (0, 0),
+    (1, 0),
+    (2, 0),
+    (3, 0),
+    (4, 0),
+    (5, 0),
+    (6, 0),
+    (7, 0),
+    (8, 0),
+    (9, 0),
+    (10, 0),
+    (11, 0),
+    (12, 0),
+    (13, 0),
+    (14, 0),
+    (15, 0),
+    (511, 0),
+];
+
+const LAST_AT_ONE: Entries = &[
+    (0, 0),
+    (1, 0),
+    (2, 0),
+    (3, 0),
+    (4, 0),
+    (5, 0),
+    (6, 0),
+    (7, 0),
+    (8, 0),
+    (9, 0),
+    (10, 0),
+    (11, 0),
+    (12, 0),
+    (13, 0),
+    (14, 0),
+    (15, 0),
+    (511, 1),
+];
+
+/// Traces, and how many images their moments have together, where none has over 65,536.
+static TOTALS: [(Parts, Option<u64>); 4] = [
+    (&[], Some(1)),
+    // 1, 2, 3, 3, 4, 4 and 2
+    (FENCED, Some(19)),
+    // 2^0 up to 2^16
+    (&[(0, SIXTEEN)], Some(131_071)),
+    (FREE_LINES, None),
+];
+
+/// The images of all moments of a trace together.
+fn total_of(rt: &(impl AllocGlobal + Abort), events: Parts) -> Result<Option<u64>, Fail> {
+    let medium = Medium::zero(rt.alloc(), 512)?;
+    let trace = trace_of(rt, events)?;
+    if !has_lines(&medium, &trace) {
+        return Ok(Some(0));
+    }
+    Ok(images_of_moments(rt.alloc(), &medium, &trace)?)
+}
+
 /// The place of the first example that doesn't hold of a medium of zeros but for the bytes of line 7.
 fn first_wrong(
     rt: &(impl AllocGlobal + Abort),
@@ -232,6 +381,11 @@ fn holds_of(alloc: Global, cuts: &Cuts<'_>, claim: Claim) -> Result<bool, ImageF
         Claim::NotACut(entries) => is_image(alloc, cuts, entries, None),
         Claim::Lines(entries, lines) => are_lines(alloc, cuts, entries, lines),
         Claim::Found(lines, stored, entries) => is_found(alloc, cuts, lines, stored, entries),
+        Claim::Named(entries, name) => Ok(
+            is_name(alloc, cuts, entries, name)? && gives(alloc, cuts, name, Some(entries))?,
+        ),
+        Claim::Accepted(name, entries) => gives(alloc, cuts, name, Some(entries)),
+        Claim::Refused(name) => gives(alloc, cuts, name, None),
     }
 }
 
@@ -335,10 +489,60 @@ fn is_found(
     finds(alloc, cuts, &wanted, entries)
 }
 
+/// Whether the cut of these entries has this name.
+fn is_name(
+    alloc: Global,
+    cuts: &Cuts<'_>,
+    entries: Entries,
+    name: Name,
+) -> Result<bool, ImageFault> {
+    let cut = Cut::from_entries(entries.to_vec(alloc)?);
+    if !cuts.contains(&cut) {
+        return Ok(false);
+    }
+    match (cuts.name(alloc, &cut)?, name) {
+        (ImageName::Number(number), Name::Number(expected)) => Ok(number == expected),
+        (ImageName::Cut(lines), Name::Lines(expected)) => Ok(lines.entries() == expected),
+        _ => Ok(false),
+    }
+}
+
+/// Whether the name gives the cut of these entries; where there are none, whether it is that of no cut.
+fn gives(
+    alloc: Global,
+    cuts: &Cuts<'_>,
+    name: Name,
+    entries: Option<Entries>,
+) -> Result<bool, ImageFault> {
+    let name = match name {
+        Name::Number(number) => ImageName::Number(number),
+        Name::Lines(lines) => ImageName::Cut(Cut::from_entries(lines.to_vec(alloc)?)),
+    };
+    match cuts.named(alloc, &name) {
+        Ok(cut) => Ok(entries == Some(cut.entries())),
+        Err(ImageFault::NotACut) => Ok(entries.is_none()),
+        Err(fault) => Err(fault),
+    }
+}
+
 #[test]
 fn counts_cuts_and_images(rt: HostRuntime) -> Result<(), Fail> {
     assert_eq!(rt; first_wrong(&rt, 0, &OVER_ZEROS)?, None);
     assert_eq!(rt; first_wrong(&rt, 9, &OVER_NINES)?, None);
+    Ok(())
+}
+
+#[test]
+fn names_and_their_cuts(rt: HostRuntime) -> Result<(), Fail> {
+    assert_eq!(rt; first_wrong(&rt, 0, &NAMES)?, None);
+    Ok(())
+}
+
+#[test]
+fn totals_of_traces(rt: HostRuntime) -> Result<(), Fail> {
+    for (place, (events, total)) in TOTALS.iter().enumerate() {
+        assert_eq!(rt; total_of(&rt, events)?, *total, "trace {place}");
+    }
     Ok(())
 }
 

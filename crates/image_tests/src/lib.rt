@@ -3,9 +3,13 @@
 #![tactic(auto)]
 
 #[cfg(test)]
+mod branches_opened;
+#[cfg(test)]
 mod events;
 #[cfg(test)]
 mod images;
+#[cfg(test)]
+mod indexes;
 #[cfg(test)]
 mod models;
 #[cfg(test)]

@@ -8,7 +8,8 @@ ghost use Rattle.crash_image.specs.View.{HasLines};
 use crate::events::{Made, Parts, trace_of};
 use crash_image::{Cuts, has_lines};
 use image_check::{
-    Cause, CheckFault, MomentVerdict, OpFault, Verdict, check_moment, check_run, check_trace,
+    Cause, CheckFault, ImageName, MomentByImages, MomentVerdict, OpFault, RunByImages, Verdict,
+    check_moment, check_moment_by_images, check_run, check_run_by_images, check_trace,
 };
 use line_memory::Medium;
 use nova_log::{Layout, VolumeFault, mkfs};
@@ -21,10 +22,15 @@ use store_trace::Trace;
 /// What is to be found of a run.
 #[derive(Clone, Copy)]
 enum Claim {
-    /// Its verdict.
-    Verdict(Verdict),
+    /// Its verdict, which the plain check gives too.
+    Verdict(RunByImages),
+    /// It passes with so many moments, and the plain check finds too many images at this one.
+    PassOver(u64, u32),
+    /// It fails at this moment, whose least bad image is named by these lines, and the plain check finds too many images at
+    /// this moment.
+    FailOver(u32, &'static [(u32, u32)], Cause, u32),
     /// The number of images of a moment, None where they aren't counted, and the moment's verdict.
-    Moment(u32, Option<u32>, Result<MomentVerdict, CheckFault>),
+    Moment(u32, Option<u32>, Result<MomentByImages, CheckFault>),
     /// Its marks are right.
     RightMarks,
     /// Its marks have this fault, which also refuses a verdict.
@@ -68,7 +74,16 @@ fn start_of(alloc: Global, inodes: u32) -> Result<Medium, VolumeFault> {
     if inodes == 0 {
         return Medium::zero(alloc, 512).map_err(|_| VolumeFault::Memory);
     }
-    mkfs(alloc, Layout::One, inodes, inodes, 1, 512)
+    mkfs(alloc, Layout::One, inodes, inodes, 1, lines_for(inodes))
+}
+
+/// The lines of a medium with so many pages, and at least 512.
+fn lines_for(pages: u32) -> u32 {
+    if pages > 4 && pages < 64 {
+        256 + 64 * pages
+    } else {
+        512
+    }
 }
 
 fn holds_of(alloc: Global, plan: &Plan, medium: &Medium, trace: &Trace, claim: Claim) -> bool {
@@ -76,16 +91,145 @@ fn holds_of(alloc: Global, plan: &Plan, medium: &Medium, trace: &Trace, claim: C
         return false;
     }
     match claim {
-        Claim::Verdict(verdict) => judge(alloc, plan, medium, trace) == Ok(verdict),
+        Claim::Verdict(verdict) => are_both(alloc, plan, medium, trace, Ok(verdict)),
+        Claim::PassOver(moments, over) => {
+            passes_over(alloc, plan, medium, trace, moments)
+                && is_over(alloc, plan, medium, trace, over)
+        }
+        Claim::FailOver(moment, lines, cause, over) => {
+            fails_over(alloc, plan, medium, trace, moment, lines, cause)
+                && is_over(alloc, plan, medium, trace, over)
+        }
         Claim::Moment(moment, count, verdict) => {
             count_of(alloc, medium, trace, moment) == count
-                && check_moment(alloc, plan, medium, trace, moment) == verdict
+                && plain_moment(check_moment(alloc, plan, medium, trace, moment)) == Some(verdict)
         }
         Claim::RightMarks => check_trace(plan, trace) == Ok(()),
         Claim::WrongMarks(fault) => {
             check_trace(plan, trace) == Err(fault)
-                && judge(alloc, plan, medium, trace) == Err(CheckFault::Operation(fault))
+                && are_both(
+                    alloc,
+                    plan,
+                    medium,
+                    trace,
+                    Err(CheckFault::Operation(fault)),
+                )
         }
+    }
+}
+
+/// Whether this is what the check by branches says, and the plain one.
+fn are_both(
+    alloc: Global,
+    plan: &Plan,
+    medium: &Medium,
+    trace: &Trace,
+    expected: Result<RunByImages, CheckFault>,
+) -> bool
+    requires { HasLines medium.now trace.now.events }
+{
+    plain_verdict(judge(alloc, plan, medium, trace)) == Some(expected)
+        && is_plain(alloc, plan, medium, trace, expected)
+}
+
+/// Whether this is what the plain check says.
+fn is_plain(
+    alloc: Global,
+    plan: &Plan,
+    medium: &Medium,
+    trace: &Trace,
+    expected: Result<RunByImages, CheckFault>,
+) -> bool
+    requires { HasLines medium.now trace.now.events }
+{
+    check_run_by_images(alloc, plan, medium, trace) == expected
+}
+
+/// Whether the plain check finds too many images at the moment.
+fn is_over(alloc: Global, plan: &Plan, medium: &Medium, trace: &Trace, moment: u32) -> bool
+    requires { HasLines medium.now trace.now.events }
+{
+    check_moment_by_images(alloc, plan, medium, trace, moment) == Ok(MomentByImages::TooMany)
+}
+
+/// A verdict as the plain check tells it. None where it has a moment with over 65,536 images.
+fn plain_verdict(judged: Result<Verdict, CheckFault>) -> Option<Result<RunByImages, CheckFault>> {
+    match judged {
+        Ok(Verdict::Pass { moments, images }) => Some(Ok(RunByImages::Pass {
+            moments,
+            images: images?,
+        })),
+        Ok(
+            Verdict::Fail {
+                moment,
+                image: ImageName::Number(image),
+                cause,
+            },
+        ) => Some(Ok(RunByImages::Fail {
+            moment,
+            image,
+            cause,
+        })),
+        Ok(Verdict::Fail { .. }) => None,
+        Ok(Verdict::TooMany { moment }) => Some(Ok(RunByImages::TooMany { moment })),
+        Err(fault) => Some(Err(fault)),
+    }
+}
+
+/// A verdict on a moment as the plain check tells it. None where its image is named by lines.
+fn plain_moment(
+    judged: Result<MomentVerdict, CheckFault>,
+) -> Option<Result<MomentByImages, CheckFault>> {
+    match judged {
+        Ok(MomentVerdict::Pass) => Some(Ok(MomentByImages::Pass)),
+        Ok(
+            MomentVerdict::Fail {
+                image: ImageName::Number(image),
+                cause,
+            },
+        ) => Some(Ok(MomentByImages::Fail { image, cause })),
+        Ok(MomentVerdict::Fail { .. }) => None,
+        Ok(MomentVerdict::TooMany) => Some(Ok(MomentByImages::TooMany)),
+        Err(fault) => Some(Err(fault)),
+    }
+}
+
+/// Whether the run passes with so many moments, of which one has over 65,536 images.
+fn passes_over(alloc: Global, plan: &Plan, medium: &Medium, trace: &Trace, expected: u64) -> bool
+    requires { HasLines medium.now trace.now.events }
+{
+    match judge(alloc, plan, medium, trace) {
+        Ok(
+            Verdict::Pass {
+                moments,
+                images: None,
+            },
+        ) => moments == expected,
+        _ => false,
+    }
+}
+
+/// Whether the run fails at this moment, by an image that these lines name, for this cause.
+fn fails_over(
+    alloc: Global,
+    plan: &Plan,
+    medium: &Medium,
+    trace: &Trace,
+    expected: u32,
+    lines: &[(u32, u32)],
+    code: Cause,
+) -> bool
+    requires { HasLines medium.now trace.now.events }
+{
+    match judge(alloc, plan, medium, trace) {
+        Ok(
+            Verdict::Fail {
+                moment,
+                image: ImageName::Cut(cut),
+                cause,
+            },
+        ) => moment == expected && cause == code && cut.entries() == lines,
+        _ => false,
     }
 }
 
@@ -217,9 +361,39 @@ const SEVENTEEN: &[Made] = &[
     Made::Store(316, 0, 1),
 ];
 
-const PASS: Result<MomentVerdict, CheckFault> = Ok(MomentVerdict::Pass);
+/// A tail that the log doesn't reach.
+const NO_TAIL: &[Made] = &[Made::Store(1, 8, 0)];
 
-static FAMILIES: [Family; 7] = [
+/// A store to a line that recovery doesn't read.
+const UNREAD: &[Made] = &[Made::Store(300, 0, 1)];
+
+/// The tails of sixteen inodes of a new volume, as they stand, and that of the seventeenth.
+const SIXTEEN_TAILS: &[Made] = &[
+    Made::Store(1, 8, 16_384),
+    Made::Store(2, 8, 20_480),
+    Made::Store(3, 8, 24_576),
+    Made::Store(4, 8, 28_672),
+    Made::Store(5, 8, 32_768),
+    Made::Store(6, 8, 36_864),
+    Made::Store(7, 8, 40_960),
+    Made::Store(8, 8, 45_056),
+    Made::Store(9, 8, 49_152),
+    Made::Store(10, 8, 53_248),
+    Made::Store(11, 8, 57_344),
+    Made::Store(12, 8, 61_440),
+    Made::Store(13, 8, 65_536),
+    Made::Store(14, 8, 69_632),
+    Made::Store(15, 8, 73_728),
+    Made::Store(16, 8, 77_824),
+];
+
+const LAST_TAIL: &[Made] = &[Made::Store(17, 8, 81_920)];
+
+const NO_OPERATIONS: &[u8] = b"inodes 1\npages 1\njournals 1\n";
+
+const PASS: Result<MomentByImages, CheckFault> = Ok(MomentByImages::Pass);
+
+static FAMILIES: [Family; 8] = [
     Family {
         name: "an append, also without the fence of its entry or of its tail",
         plan: ONE_APPEND,
@@ -227,14 +401,14 @@ static FAMILIES: [Family; 7] = [
         runs: &[
             (
                 APPEND,
-                Claim::Verdict(Verdict::Pass {
+                Claim::Verdict(RunByImages::Pass {
                     moments: 11,
                     images: 22,
                 }),
             ),
             (
                 &[(0, ENTRY), (0, TAIL), (0, FENCE), (0, END)],
-                Claim::Verdict(Verdict::Fail {
+                Claim::Verdict(RunByImages::Fail {
                     moment: 6,
                     image: 4,
                     cause: Cause::Fault(VolumeFault::Kind),
@@ -242,10 +416,25 @@ static FAMILIES: [Family; 7] = [
             ),
             (
                 &[(0, ENTRY), (0, FENCE), (0, TAIL), (0, END)],
-                Claim::Verdict(Verdict::Fail {
+                Claim::Verdict(RunByImages::Fail {
                     moment: 9,
                     image: 0,
                     cause: Cause::Illegal,
+                }),
+            ),
+            (
+                &[
+                    (0, ENTRY),
+                    (0, FENCE),
+                    (0, TAIL),
+                    (0, FENCE),
+                    (0, END),
+                    (0, &[Made::Store(256, 0, 9)]),
+                ],
+                Claim::Verdict(RunByImages::Fail {
+                    moment: 11,
+                    image: 1,
+                    cause: Cause::Fault(VolumeFault::Kind),
                 }),
             ),
             (APPEND, Claim::Moment(0, Some(1), PASS)),
@@ -271,7 +460,7 @@ static FAMILIES: [Family; 7] = [
         inodes: 2,
         runs: &[(
             &[(0, FIRST_APPEND), (1, SECOND_APPEND)],
-            Claim::Verdict(Verdict::Pass {
+            Claim::Verdict(RunByImages::Pass {
                 moments: 21,
                 images: 43,
             }),
@@ -284,14 +473,14 @@ static FAMILIES: [Family; 7] = [
         runs: &[
             (
                 &[(0, RENAME_ENTRIES), (0, RENAME_COMMIT)],
-                Claim::Verdict(Verdict::Pass {
+                Claim::Verdict(RunByImages::Pass {
                     moments: 32,
                     images: 202,
                 }),
             ),
             (
                 &[(0, RENAME_ENTRIES), (0, &[Made::Store(1, 8, 16_448)])],
-                Claim::Verdict(Verdict::Fail {
+                Claim::Verdict(RunByImages::Fail {
                     moment: 13,
                     image: 1,
                     cause: Cause::Illegal,
@@ -300,13 +489,39 @@ static FAMILIES: [Family; 7] = [
         ],
     },
     Family {
-        name: "seventeen lines",
-        plan: b"inodes 1\npages 1\njournals 1\n",
+        name: "seventeen lines that recovery doesn't read, and a tail that the log doesn't reach",
+        plan: NO_OPERATIONS,
         inodes: 1,
-        runs: &[(
-            &[(0, SEVENTEEN)],
-            Claim::Moment(17, None, Ok(MomentVerdict::TooMany)),
-        )],
+        runs: &[
+            (&[(0, SEVENTEEN)], Claim::Moment(17, None, PASS)),
+            (&[(0, SEVENTEEN)], Claim::PassOver(18, 17)),
+            (
+                &[(0, SEVENTEEN), (0, NO_TAIL)],
+                Claim::FailOver(18, &[(1, 1)], Cause::Fault(VolumeFault::TailNotReached), 17),
+            ),
+        ],
+    },
+    Family {
+        name: "a moment behind one that is left out, of which recovery doesn't read the store",
+        plan: NO_OPERATIONS,
+        inodes: 1,
+        runs: &[
+            (
+                &[(0, UNREAD)],
+                Claim::Verdict(RunByImages::Pass {
+                    moments: 2,
+                    images: 3,
+                }),
+            ),
+            (
+                &[(0, UNREAD), (0, TAIL)],
+                Claim::Verdict(RunByImages::Fail {
+                    moment: 2,
+                    image: 2,
+                    cause: Cause::Fault(VolumeFault::Kind),
+                }),
+            ),
+        ],
     },
     Family {
         name: "zeros, which are no volume",
@@ -314,7 +529,7 @@ static FAMILIES: [Family; 7] = [
         inodes: 0,
         runs: &[(
             &[],
-            Claim::Verdict(Verdict::Fail {
+            Claim::Verdict(RunByImages::Fail {
                 moment: 0,
                 image: 0,
                 cause: Cause::Fault(VolumeFault::Magic),
@@ -328,14 +543,14 @@ static FAMILIES: [Family; 7] = [
         runs: &[
             (
                 &[(0, &[Made::Begin(1)])],
-                Claim::Verdict(Verdict::Pass {
+                Claim::Verdict(RunByImages::Pass {
                     moments: 2,
                     images: 2,
                 }),
             ),
             (
                 &[(0, &[Made::Begin(1), Made::End(1)])],
-                Claim::Verdict(Verdict::Fail {
+                Claim::Verdict(RunByImages::Fail {
                     moment: 2,
                     image: 0,
                     cause: Cause::Illegal,
@@ -350,6 +565,20 @@ static FAMILIES: [Family; 7] = [
         runs: MARKS,
     },
 ];
+
+/// Branches up to the limit and over it.
+static MANY_BRANCHES: [Family; 1] = [Family {
+    name: "tails stored as they stand, which recovery reads",
+    plan: b"inodes 17\npages 17\njournals 1\n",
+    inodes: 17,
+    runs: &[
+        (&[(0, SIXTEEN_TAILS)], Claim::Moment(16, Some(65_536), PASS)),
+        (
+            &[(0, SIXTEEN_TAILS), (0, LAST_TAIL)],
+            Claim::Moment(17, None, Ok(MomentByImages::TooMany)),
+        ),
+    ],
+}];
 
 /// Marks of operations 7 and 8, and of one that isn't in the plan.
 const MARKS: &[(Parts, Claim)] = &[
@@ -395,8 +624,11 @@ const MARKS: &[(Parts, Claim)] = &[
 ];
 
 /// The first family of which a claim doesn't hold, by its name, and the place of the claim.
-fn first_wrong(rt: &(impl AllocGlobal + Abort)) -> Result<Option<(&'static str, usize)>, Fail> {
-    for family in &FAMILIES {
+fn first_wrong(
+    rt: &(impl AllocGlobal + Abort),
+    families: &[Family],
+) -> Result<Option<(&'static str, usize)>, Fail> {
+    for family in families {
         if let Some(place) = family.first_wrong(rt)? {
             return Ok(Some((family.name, place)));
         }
@@ -406,7 +638,13 @@ fn first_wrong(rt: &(impl AllocGlobal + Abort)) -> Result<Option<(&'static str, 
 
 #[test]
 fn verdicts(rt: HostRuntime) -> Result<(), Fail> {
-    assert_eq!(rt; first_wrong(&rt)?, None);
+    assert_eq!(rt; first_wrong(&rt, &FAMILIES)?, None);
+    Ok(())
+}
+
+#[test]
+fn verdicts_on_many_branches(rt: HostRuntime) -> Result<(), Fail> {
+    assert_eq!(rt; first_wrong(&rt, &MANY_BRANCHES)?, None);
     Ok(())
 }
 

@@ -1,5 +1,5 @@
 -- What a pass says of the run.
-use Rattle.std.proofs.Common.{◌≡◌, ℕ, ◌+◌, List, length, ap, ◌∙◌, arith}
+use Rattle.std.proofs.Common.{◌≡◌, ℕ, ◌+◌, List, Option, length, ap, ◌∙◌, arith}
 use Rattle.image_check.specs.Verdicts.{IsVerdict, PassBelow}
 use Rattle.image_check.specs.declared.verdict.Verdict.{Verdict}
 use Rattle.image_check.specs.declared.verdict.Verdict.TheVariants.{Pass}
@@ -23,7 +23,7 @@ all_moments plan s schedule trace is passes end moment cut runs within is_cut =
 
 pub always_passes : (plan : List Operation) (s : Setup) (schedule : List Item) (trace : List Event) (verdict : Verdict)
     → HasTrace s schedule trace → IsVerdict plan s.medium trace verdict
-    → (moments images : ℕ) → verdict ≡ Pass moments images → AlwaysPasses plan s schedule
+    → (moments : ℕ) (images : Option ℕ) → verdict ≡ Pass moments images → AlwaysPasses plan s schedule
 always_passes plan s schedule trace verdict is judged moments images passed =
     let pass : IsVerdict plan s.medium trace (Pass moments images) = rw passed at judged in
     all_moments plan s schedule trace is pass.2

@@ -9,13 +9,14 @@ use Rattle.hart.specs.declared.need.Need.TheVariants.{Local, Ask, Stop}
 use Rattle.hart.specs.declared.state.HartState.{HartState}
 use Rattle.hart.specs.declared.state.Status.{Status}
 use Rattle.hart.specs.declared.state.Status.TheVariants.{Running, Exited, Trapped}
+use Rattle.image_name.specs.declared.name.ImageName.{ImageName}
 use Rattle.machine.specs.Run.{Config, HartSteps, HartStepsIfThere, Meets, RunsTo, fetched_by}
 use Rattle.recording.specs.Recorded.{RecordedView}
 use Rattle.schedule.specs.Steps.{all_steps}
 use Rattle.schedule.specs.declared.items.Item.{Item}
 use Rattle.schedule.specs.declared.items.Step.{Step as AStep}
 use Rattle.schedule.specs.declared.items.Step.TheVariants.{Hart, Evict}
-use Rattle.tester.specs.Explaining.{ExplainsImage, FailsToExplain, HasImage, IsRecorded, LacksImage, cut_of}
+use Rattle.tester.specs.Explaining.{ExplainsImage, FailsToExplain, HasImage, IsRecorded, LacksImage}
 use Rattle.tester.specs.Runs.{AreThere, HasTrace, Setup, start_of}
 use Rattle.tester.specs.declared.explaining.ExplainFault.{ExplainFault}
 use Rattle.tester.specs.declared.explaining.ExplainFault.TheVariants.{Step, NoSuchMoment, NoSuchImage, Memory}
@@ -63,29 +64,28 @@ has_trace s schedule recorded is =
       few = is.few;
     }
 
-pub explains_image : (s : Setup) (schedule : List Item) (moment number : ℕ) (recorded : RecordedView) (cut : List (ℕ × ℕ))
-    (explanation : List Item) → IsRecorded s schedule recorded → HasImage recorded.trace moment number
-    → cut ≡ cut_of recorded.trace moment number → Explains recorded moment cut (all_steps explanation)
-    → ExplainsImage s schedule moment number explanation
-explains_image s schedule moment number recorded cut explanation is has numbered explains =
-    let explained : Explains recorded moment (cut_of recorded.trace moment number) (all_steps explanation) = rw numbered at explains in
-    let leaves = explained.leaves s.program s.medium s.harts is.records in
+pub explains_image : (s : Setup) (schedule : List Item) (moment : ℕ) (name : ImageName) (recorded : RecordedView) (cut : List (ℕ × ℕ))
+    (explanation : List Item) → IsRecorded s schedule recorded → HasImage recorded.trace moment name cut
+    → Explains recorded moment cut (all_steps explanation) → ExplainsImage s schedule moment name explanation
+explains_image s schedule moment name recorded cut explanation is has explains =
+    let leaves = explains.leaves s.program s.medium s.harts is.records in
     record {
       recorded = recorded;
+      cut = cut;
       end = leaves.end;
       of_run = is;
       has_image = has;
-      explains = explained;
+      explains = explains;
       run = leaves.runs;
       events = leaves.trace;
       leaves = leaves.left;
     }
 
-pub lacks_image : (s : Setup) (schedule : List Item) (moment number : ℕ) (recorded : RecordedView) (fault : ExplainFault)
-    → IsRecorded s schedule recorded → LacksImage recorded.trace moment number fault → FailsToExplain s schedule moment number fault
-lacks_image s schedule moment number recorded (Step refused) is lacks = absurd lacks
-lacks_image s schedule moment number recorded NoSuchMoment is lacks =
+pub lacks_image : (s : Setup) (schedule : List Item) (moment : ℕ) (name : ImageName) (recorded : RecordedView) (fault : ExplainFault)
+    → IsRecorded s schedule recorded → LacksImage recorded.trace moment name fault → FailsToExplain s schedule moment name fault
+lacks_image s schedule moment name recorded (Step refused) is lacks = absurd lacks
+lacks_image s schedule moment name recorded NoSuchMoment is lacks =
     record { trace = recorded.trace; has_trace = has_trace s schedule recorded is; lacks = lacks }
-lacks_image s schedule moment number recorded NoSuchImage is lacks =
+lacks_image s schedule moment name recorded NoSuchImage is lacks =
     record { trace = recorded.trace; has_trace = has_trace s schedule recorded is; lacks = lacks }
-lacks_image s schedule moment number recorded Memory is lacks = tt
+lacks_image s schedule moment name recorded Memory is lacks = tt

@@ -1,5 +1,5 @@
 -- What a pass says of the machine: it stands for a cut of the run's events, whatever its cache did.
-use Rattle.std.proofs.Common.{◌≡◌, ℕ, ◌+◌, ◌≤◌, List, [], ◌∷◌, ◌++◌, length, take, refl, sym, ap, ◌∙◌, arith}
+use Rattle.std.proofs.Common.{◌≡◌, ℕ, ◌+◌, ◌≤◌, List, [], ◌∷◌, ◌++◌, Option, length, take, refl, sym, ap, ◌∙◌, arith}
 use Rattle.std.proofs.lemmas.List.{length-append}
 use Rattle.crash_model.specs.Cut.{IsCutImage}
 use Rattle.cut_schedule.proofs.HartRuns.{run_start}
@@ -67,7 +67,7 @@ front_passes plan s schedule events left passes front is =
 
 pub survives : (plan : List Operation) (s : Setup) (schedule : List Item) (trace : List Event) (verdict : Verdict)
     → HasTrace s schedule trace → IsVerdict plan s.medium trace verdict
-    → (moments images : ℕ) → verdict ≡ Pass moments images → SurvivesPowerCuts plan s schedule
+    → (moments : ℕ) (images : Option ℕ) → verdict ≡ Pass moments images → SurvivesPowerCuts plan s schedule
 survives plan s schedule trace verdict is judged moments images passed machine end steps rest first split stands =
     let passes = always_passes plan s schedule trace verdict is judged moments images passed in
     let front = events_in_front s schedule end is.end steps rest is.run first split in

@@ -1,6 +1,6 @@
 //! The verdict on a run of a program.
 
-ghost use Rattle.std.specs.Prelude.{◌≡◌, ℕ, IfErr, IfOk, Ok};
+ghost use Rattle.std.specs.Prelude.{◌≡◌, ℕ, IfErr, IfOk, Ok, Option};
 ghost use Rattle.tester.specs.Checking.{AlwaysPasses, HasNoVerdict, HasVerdict, SurvivesPowerCuts};
 ghost use Rattle.tester.specs.Runs.{with_room};
 
@@ -55,9 +55,9 @@ pub fn check_program(
 
     // Pass: every image of every moment of the run recovers to a legal volume; and so does what a power cut leaves of any
     // machine, with a cache of any size, that has made the first hart steps of the run with evictions anywhere.
-    ensures pass { (moments images : ℕ) → result ≡ Ok (Verdict.Pass moments images) →
+    ensures pass { (moments : ℕ) (images : Option ℕ) → result ≡ Ok (Verdict.Pass moments images) →
         AlwaysPasses plan.now.operations (with_room program medium harts) schedule.now }
-    ensures survives { (moments images : ℕ) → result ≡ Ok (Verdict.Pass moments images) →
+    ensures survives { (moments : ℕ) (images : Option ℕ) → result ≡ Ok (Verdict.Pass moments images) →
         SurvivesPowerCuts plan.now.operations (with_room program medium harts) schedule.now }
     ensures err { IfErr result (HasNoVerdict plan.now.operations (with_room program medium harts) schedule.now) }
 {

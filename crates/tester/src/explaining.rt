@@ -1,12 +1,12 @@
 //! The schedule that leaves one crash image of a run.
 
 ghost use Rattle.crash_image.specs.View.{HasLines};
-ghost use Rattle.std.specs.Prelude.{◌≡◌, ◌^◌, ◌<◌, ◌≤◌, IfErr, IfOk, OnOk};
+ghost use Rattle.std.specs.Prelude.{◌^◌, ◌<◌, ◌≤◌, IfErr, IfOk};
 ghost use Rattle.schedule.specs.Grammar.{hart_steps};
-ghost use Rattle.tester.specs.Explaining.{ExplainsImage, FailsToExplain, HasImage, IsRecorded, LacksImage, cut_of};
+ghost use Rattle.tester.specs.Explaining.{ExplainsImage, FailsToExplain, HasImage, IsRecorded, LacksImage};
 ghost use Rattle.tester.specs.Runs.{FailsToRun, with_room};
 
-use crash_image::{Cut, Cuts, ImageFault};
+use crash_image::{Cut, Cuts, ImageFault, ImageName};
 use cut_schedule::explain;
 use line_memory::Medium;
 use machine::{Schedule, StepFault};
@@ -25,7 +25,7 @@ pub enum ExplainFault {
     /// The run makes fewer events than the moment.
     #[error("no such moment")]
     NoSuchMoment,
-    /// The moment has over 65,536 images, or none of this number.
+    /// The moment has no image of this name.
     #[error("no such image")]
     NoSuchImage,
     /// Memory was refused.
@@ -48,8 +48,9 @@ impl From<StepFault> for ExplainFault {
 }
 
 /// The schedule that leaves one crash image of a moment of the run by another schedule, over a medium behind a cache of as
-/// many lines. Images are numbered from 0, and a moment is the number of events before it. The schedule that is given has
-/// fewer than 2^32 steps of harts, as one that was read has.
+/// many lines. A moment is the number of events before it. A number names an image, from 0, where the moment has at most
+/// 65,536 images; lines with their numbers name, at any moment, the one in which the other lines stand at their floors. The
+/// schedule that is given has fewer than 2^32 steps of harts, as one that was read has.
 ///
 /// The run by it makes the events before the moment and no others, and a power cut at its end leaves the image.
 pub fn explain_image(
@@ -59,15 +60,15 @@ pub fn explain_image(
     harts: u32,
     schedule: &Schedule,
     moment: u32,
-    image: u32,
+    image: &ImageName,
 ) -> Result<Schedule, ExplainFault>
     requires { hart_steps schedule.now < 2 ^ 32 }
-    ensures ok { IfOk result (ExplainsImage (with_room program medium harts) schedule.now moment image) }
+    ensures ok { IfOk result (ExplainsImage (with_room program medium harts) schedule.now moment image.now) }
     ensures few { IfOk result (λ explanation. hart_steps explanation ≤ hart_steps schedule.now) }
-    ensures err { IfErr result (FailsToExplain (with_room program medium harts) schedule.now moment image) }
+    ensures err { IfErr result (FailsToExplain (with_room program medium harts) schedule.now moment image.now) }
 {
     let recorded = recorded_run(alloc, program, medium, harts, schedule)?;
-    let cut = numbered_cut(alloc, recorded.start(), recorded.trace(), moment, image)?;
+    let cut = named_cut(alloc, recorded.start(), recorded.trace(), moment, image)?;
     match explain(alloc, &recorded, moment, &cut) {
         Ok(explanation) => Ok(explanation),
         Err(_) => Err(ExplainFault::Memory),
@@ -94,30 +95,26 @@ fn recorded_run(
     }
 }
 
-/// The cut of this number at a moment of the trace.
-fn numbered_cut(
+/// The cut of this name at a moment of the trace.
+fn named_cut(
     alloc: Global,
     medium: &Medium,
     trace: &Trace,
     moment: u32,
-    number: u32,
+    image: &ImageName,
 ) -> Result<Cut, ExplainFault>
     requires { HasLines medium.now trace.now.events }
-    ensures ok { IfOk result (λ cut. cut ≡ cut_of trace.now.events moment number) }
-    ensures there { OnOk result (HasImage trace.now.events moment number) }
-    ensures err { IfErr result (LacksImage trace.now.events moment number) }
+    ensures ok { IfOk result (HasImage trace.now.events moment image.now) }
+    ensures err { IfErr result (LacksImage trace.now.events moment image.now) }
 {
     let cuts = match Cuts::at(alloc, medium, trace, moment) {
         Ok(cuts) => cuts,
         Err(ImageFault::NoSuchMoment) => return Err(ExplainFault::NoSuchMoment),
         Err(_) => return Err(ExplainFault::Memory),
     };
-    match cuts.count() {
-        Some(count) if number < count => {}
-        _ => return Err(ExplainFault::NoSuchImage),
-    }
-    match cuts.cut(alloc, number) {
+    match cuts.named(alloc, image) {
         Ok(cut) => Ok(cut),
+        Err(ImageFault::NotACut) => Err(ExplainFault::NoSuchImage),
         Err(_) => Err(ExplainFault::Memory),
     }
 }

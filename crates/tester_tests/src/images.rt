@@ -1,9 +1,10 @@
 //! Images that are counted and explained.
 
 use crate::starts::{
-    END, ENTRY, FENCE, FIRST_RUN, ONE_APPEND, Start, TAIL, TWO_IMAGES, is_written_so, loaded,
-    start_of,
+    END, ENTRY, FENCE, FIRST_RUN, ONE_APPEND, STRAYS, Start, TAIL, TWO_IMAGES, is_written_so,
+    loaded, start_of,
 };
+use image_name::ImageName;
 use machine::{Schedule, StepFault};
 use std::alloc::Global;
 use tester::{CountFault, ExplainFault, count_images, explain_image};
@@ -37,24 +38,24 @@ fn images_are_counted(rt: HostRuntime) {
     assert_eq!(rt; differing, None);
 }
 
-/// A run, an image of one of its moments, and the schedule that leaves it.
+/// A run, the name of an image of one of its moments, and the schedule that leaves it.
 struct Explanation {
     plan: Option<&'static str>,
     pieces: &'static [&'static str],
     schedule: &'static str,
     moment: u32,
-    image: u32,
+    image: &'static str,
     explained: Result<&'static str, ExplainFault>,
 }
 
-static EXPLANATIONS: [Explanation; 6] = [
+static EXPLANATIONS: [Explanation; 11] = [
     // two of three stores
     Explanation {
         plan: None,
         pieces: &[TWO_IMAGES],
         schedule: "h0*9",
         moment: 5,
-        image: 0,
+        image: "0",
         explained: Ok("h0*5 e5 h0*4"),
     },
     // all stores
@@ -63,7 +64,7 @@ static EXPLANATIONS: [Explanation; 6] = [
         pieces: &[TWO_IMAGES],
         schedule: "h0*4 e5 h0*5",
         moment: 5,
-        image: 1,
+        image: "1",
         explained: Ok("h0*8 e5 h0*1"),
     },
     // a tail without its entry
@@ -72,15 +73,60 @@ static EXPLANATIONS: [Explanation; 6] = [
         pieces: &[ENTRY, TAIL, FENCE, END],
         schedule: "h0*21",
         moment: 6,
-        image: 4,
+        image: "4",
         explained: Ok("h0*13 e1"),
+    },
+    // no line above its floor
+    Explanation {
+        plan: None,
+        pieces: &[TWO_IMAGES],
+        schedule: "h0*9",
+        moment: 5,
+        image: "floor",
+        explained: Ok("h0*5 e5 h0*4"),
+    },
+    // the line above its floor
+    Explanation {
+        plan: None,
+        pieces: &[TWO_IMAGES],
+        schedule: "h0*9",
+        moment: 5,
+        image: "l5:3",
+        explained: Ok("h0*8 e5 h0*1"),
+    },
+    // below its floor
+    Explanation {
+        plan: None,
+        pieces: &[TWO_IMAGES],
+        schedule: "h0*9",
+        moment: 5,
+        image: "l5:1",
+        explained: Err(ExplainFault::NoSuchImage),
+    },
+    // a line without stores
+    Explanation {
+        plan: None,
+        pieces: &[TWO_IMAGES],
+        schedule: "h0*9",
+        moment: 5,
+        image: "l5:3,l6:0",
+        explained: Err(ExplainFault::NoSuchImage),
+    },
+    // a line among over 65,536 images
+    Explanation {
+        plan: Some(ONE_APPEND),
+        pieces: &[STRAYS],
+        schedule: "h0*72",
+        moment: 17,
+        image: "l300:1",
+        explained: Ok("h0*5 e300 h0*64"),
     },
     Explanation {
         plan: None,
         pieces: &[TWO_IMAGES],
         schedule: "h0*9",
         moment: 5,
-        image: 2,
+        image: "2",
         explained: Err(ExplainFault::NoSuchImage),
     },
     Explanation {
@@ -88,7 +134,7 @@ static EXPLANATIONS: [Explanation; 6] = [
         pieces: &[TWO_IMAGES],
         schedule: "h0*9",
         moment: 6,
-        image: 0,
+        image: "0",
         explained: Err(ExplainFault::NoSuchMoment),
     },
     Explanation {
@@ -96,7 +142,7 @@ static EXPLANATIONS: [Explanation; 6] = [
         pieces: &[TWO_IMAGES],
         schedule: "h0 h1",
         moment: 0,
-        image: 0,
+        image: "0",
         explained: Err(ExplainFault::Step(StepFault::NoSuchHart)),
     },
 ];
@@ -116,7 +162,8 @@ fn is_so(
 fn explained(alloc: Global, of: &Explanation) -> Option<Result<Schedule, ExplainFault>> {
     let schedule = Schedule::read(alloc, of.schedule.as_bytes()).ok()?;
     let (program, medium) = loaded(alloc, of.plan, of.pieces)?;
-    Some(explain_image(alloc, program, medium, 1, &schedule, of.moment, of.image))
+    let image = ImageName::read(alloc, of.image).ok()??;
+    Some(explain_image(alloc, program, medium, 1, &schedule, of.moment, &image))
 }
 
 fn is_explained_so(alloc: Global, of: &Explanation) -> bool {

@@ -24,6 +24,14 @@ pub(crate) const ENTRY: &str =
 /// The inode's tail moves past the entry, and its line is cleaned.
 pub(crate) const TAIL: &str = "addi t0, t0, 64\nsd t0, 72(a1)\naddi t4, a1, 64\ncbo.clean (t4)\n";
 
+/// One store to each of seventeen lines, from line 300, which no log of a new volume reaches.
+pub(crate) const STRAYS: &str =
+    "li t0, 17\nli t1, 19200\nadd t1, t1, a1\nloop: sd t0, 0(t1)\naddi t1, t1, 64\naddi t0, t0, -1\n\
+    bnez t0, loop\n";
+
+/// The inode's tail is set to 0.
+pub(crate) const NO_TAIL: &str = "sd zero, 72(a1)\n";
+
 pub(crate) const FENCE: &str = "fence w, w\n";
 
 /// Operation 1 ends, and so does the hart.

@@ -1,69 +1,70 @@
-use Rattle.std.proofs.Common.{◌≡◌, ◌≤◌, ◌∙◌, ap, refl, subst, arith, length, take, Option, List, []}
+use Rattle.std.proofs.Common.{◌≡◌, ◌≤◌, ◌∙◌, ap, subst, arith, length, Option, List, []}
 use Rattle.std.specs.Result.{result_ok}
-use Rattle.crash_model.specs.Cut.{cut_count}
-use Rattle.crash_model.specs.declared.step.PersistenceStep.{PersistenceStep}
 use Rattle.nova_log.specs.Volumes.{volume_of}
-use Rattle.store_trace.specs.History.{at_moment}
 use Rattle.store_trace.specs.declared.event.Event.{Event}
 use Rattle.volume.specs.declared.entry.Entry.{Entry}
 use Rattle.image_check.specs.Growth.{AreOutcomes}
-use Rattle.image_check.specs.Verdicts.{AreJudged}
-use Rattle.image_check.specs.declared.moment.BadImage.{BadImage}
-use Rattle.image_check.proofs.Weighing.{fail_judged, images_judged, none_found, pass_judged}
-use Rattle.image_check.proofs.Passing.{images_more, pass_more}
+use Rattle.image_check.specs.declared.verdict.MomentVerdict.TheVariants as moments
+use Rattle.image_check.proofs.Opening.{asked_next, images_apart, images_whole, opener_size, passes_named, verdict_named}
+use Rattle.image_check.proofs.Passing.{pass_more}
 use Rattle.image_check.proofs.run.judge_run.Goals as goal
 
 pub loop-moment-init : goal.loop-moment-init
 loop-moment-init c = (
   λ m l. absurd (omega arith),
-  refl,
-  omega arith,
+  λ l. absurd (omega arith),
+  opener_size c.lines.result c.in_ok-index.index.start c.args.medium.now c.in_ok-opener.opener c.lines.ensures.count c.in_ok-index.ensures.start c.in_ok-opener.ensures,
   subst (λ (start : Option (List (List Entry))). AreOutcomes c.args.plan.now.operations start [] c.new-outcomes.result.settled c.new-outcomes.result.under_way.items)
       c.requires.start (c.new-outcomes.ensures c.args.plan.now.operations),
 )
 
-pub returns-in-Some-2-clause-ok : goal.returns-in-Some-2-clause-ok
-returns-in-Some-2-clause-ok c =
+pub new-images-requires-clause-whole : goal.new-images-requires-clause-whole
+new-images-requires-clause-whole c =
+    images_whole c.in_ok-index.index.start c.in_ok-index.index.events c.args.trace.now.events c.loop-moment.moment c.in_ok-index.ensures.events
+    c.lines.ensures.whole c.events.ensures.each
+
+pub new-images-requires-clause-apart : goal.new-images-requires-clause-apart
+new-images-requires-clause-apart c =
     let whole : length c.events.result.now ≡ length c.args.trace.now.events = ap (λ (es : List Event). length es) c.events.ensures.value in
     let test = c.loop-moment-test.true in
     let there : c.loop-moment.moment ≤ length c.args.trace.now.events = omega (arith, whole, test) in
-    let found =
-    images_judged c.args.plan.now.operations c.args.medium.now c.in_ok-cuts.cuts.start c.args.trace.now.events c.loop-moment.moment c.in_ok-cuts.cuts.steps
-    c.loop-moment.outcomes.settled c.loop-moment.outcomes.under_way.items c.in_ok-bad.field-0
-    c.in_ok-cuts.ensures.ok.0 c.in_ok-cuts.ensures.ok.1 there c.requires.sound c.loop-moment.invariant.3 c.in_ok-bad.ensures.ok in
-    record {
-      there = there;
-      below = c.loop-moment.invariant.0;
-      here =
-          fail_judged c.args.plan.now.operations c.args.medium.now (take c.loop-moment.moment c.args.trace.now.events) c.in_ok-cuts.cuts.steps c.in-Some.count c.in-Some-2.bad
-          c.in_ok-cuts.ensures.ok.1 c.in-Some.ensures.some.0 c.in-Some.ensures.some.1
-          (subst (λ (f : Option BadImage). AreJudged c.args.plan.now.operations c.args.medium.now (take c.loop-moment.moment c.args.trace.now.events) f) c.in-Some-2.is found);
-    }
+    images_apart c.args.plan.now.operations c.in_ok-index.index.events c.args.trace.now.events c.loop-moment.moment c.in_ok-index.ensures.events there c.requires.sound
+
+pub judge_next-requires-clause-passes : goal.judge_next-requires-clause-passes
+judge_next-requires-clause-passes c =
+    passes_named c.args.plan.now.operations c.new-images.result.plan.now.operations c.args.medium.now c.args.trace.now.events c.loop-moment.moment c.new-images.result.moment
+    c.new-images.ensures.plan c.new-images.ensures.moment c.loop-moment.invariant.0
 
 pub loop-moment-preserved : goal.loop-moment-preserved
 loop-moment-preserved c =
-    let events = c.args.trace.now.events in
-    let moment = c.loop-moment.moment in
-    let whole : length c.events.result.now ≡ length events = ap (λ (es : List Event). length es) c.events.ensures.value in
-    let test = c.loop-moment-test.true in
-    let there : moment ≤ length events = omega (arith, whole, test) in
-    let found =
-    images_judged c.args.plan.now.operations c.args.medium.now c.in_ok-cuts.cuts.start events moment c.in_ok-cuts.cuts.steps
-    c.loop-moment.outcomes.settled c.loop-moment.outcomes.under_way.items c.in_ok-bad.field-0
-    c.in_ok-cuts.ensures.ok.0 c.in_ok-cuts.ensures.ok.1 there c.requires.sound c.loop-moment.invariant.3 c.in_ok-bad.ensures.ok in
-    let here =
-    pass_judged c.args.plan.now.operations c.args.medium.now (take moment events) c.in_ok-cuts.cuts.steps c.in-Some.count
-    c.in_ok-cuts.ensures.ok.1 c.in-Some.ensures.some.0 c.in-Some.ensures.some.1
-    (subst (λ (f : Option BadImage). AreJudged c.args.plan.now.operations c.args.medium.now (take moment events) f) (none_found c.in_ok-bad.field-0 c.in_default-2.not-Some) found) in
-    let counted : c.in-Some.count ≡ cut_count (at_moment events moment) =
-    c.in-Some.ensures.some.0 ∙ ap (λ (steps : List PersistenceStep). cut_count steps) c.in_ok-cuts.ensures.ok.1 in
-    let more = images_more events moment in
-    let so_far = c.loop-moment.invariant.1 in
-    let fits = c.loop-moment.invariant.2 in
-    let few = c.in-Some.ensures.some.1 in
-    let same = c.from-images.ensures in (
-      pass_more c.args.plan.now.operations c.args.medium.now events moment c.loop-moment.invariant.0 here,
-      omega (arith, counted, more, so_far, same),
-      omega (arith, fits, few, same),
-      c.in_ok-note_next.ensures (result_ok (volume_of c.args.medium.now)) c.loop-moment.invariant.3,
+    let passed =
+    verdict_named c.args.plan.now.operations c.new-images.result.plan.now.operations c.args.medium.now c.args.trace.now.events c.loop-moment.moment c.new-images.result.moment
+    moments.Pass c.new-images.ensures.plan c.new-images.ensures.moment (rw c.in-Pass.is at c.in_ok-judge_next.ensures.ok) in (
+      pass_more c.args.plan.now.operations c.args.medium.now c.args.trace.now.events c.loop-moment.moment c.loop-moment.invariant.0 passed,
+      λ some. asked_next c.args.medium.now c.args.trace.now.events c.loop-moment.moment c.new-images.result.moment c.judge_next.new.opener c.new-images.ensures.moment
+          (rw c.in-Pass.is at c.in_ok-judge_next.ensures.asked),
+      c.in_ok-judge_next.ensures.size ∙ c.loop-moment.invariant.2,
+      c.in_ok-note_next-in-Pass.ensures (result_ok (volume_of c.args.medium.now)) c.loop-moment.invariant.3,
     )
+
+pub returns-clause-ok : goal.returns-clause-ok
+returns-clause-ok c =
+    let whole : length c.events.result.now ≡ length c.args.trace.now.events = ap (λ (es : List Event). length es) c.events.ensures.value in
+    let test = c.loop-moment-test.false in
+    let from = c.from.ensures in (
+      omega (arith, whole, from),
+      c.in_ok-images_of_moments.ensures,
+      λ m l. c.loop-moment.invariant.0 m (omega (arith, whole, test, l)),
+    )
+
+pub returns-in-Fail-clause-ok : goal.returns-in-Fail-clause-ok
+returns-in-Fail-clause-ok c =
+    let whole : length c.events.result.now ≡ length c.args.trace.now.events = ap (λ (es : List Event). length es) c.events.ensures.value in
+    let test = c.loop-moment-test.true in
+    record {
+      there = omega (arith, whole, test);
+      below = c.loop-moment.invariant.0;
+      here =
+          verdict_named c.args.plan.now.operations c.new-images.result.plan.now.operations c.args.medium.now c.args.trace.now.events c.loop-moment.moment c.new-images.result.moment
+          (moments.Fail c.in-Fail.image c.in-Fail.cause) c.new-images.ensures.plan c.new-images.ensures.moment (rw c.in-Fail.is at c.in_ok-judge_next.ensures.ok);
+    }

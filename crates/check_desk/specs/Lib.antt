@@ -1,0 +1,5 @@
+pub mod Counts
+pub mod Desks
+pub mod Rule
+pub mod Sweeps
+pub mod Works

@@ -1,0 +1,147 @@
+//! A desk with no moments, one whose moments two seats share on one thread, and sweeps by several workers.
+
+ghost use Rattle.std.specs.List.{Contains};
+ghost use Rattle.std.specs.Prelude.{◌≡◌, ◌+◌, ◌<◌, ◌≤◌, IfSome};
+
+use crate::{CheckDesk, DeskResult, DeskSeat, Judge, Judged, judge_all};
+use gate::Open;
+use std::alloc::{AllocError, Global};
+use std::test::*;
+use std::thread::Threads;
+
+/// A claim, and a report of what it gives, which is bad where it is this moment.
+fn claim_and_report(desk: &CheckDesk, seat: &mut DeskSeat, bad: u32) -> Option<u32>
+    requires { seat.old.desk ≡ desk.now.name }
+    ensures { seat.new.desk ≡ seat.old.desk }
+{
+    let moment = desk.claim(seat)?;
+    desk.report(seat, moment, moment == bad);
+    Some(moment)
+}
+
+#[test]
+fn empty_desk(rt: HostRuntime) -> Result<(), Fail> {
+    let (desk, mut seats) = CheckDesk::new(rt.alloc(), 0, 2)?;
+    assert_eq!(rt; desk.claim(&mut seats[0]), None);
+    assert_eq!(rt; desk.claim(&mut seats[1]), None);
+    assert_eq!(rt; seats[1].seen(), None);
+    let result = desk.close(seats);
+    assert_eq!(rt;
+        result,
+        DeskResult {
+            given: 0,
+            least_bad: None
+        }
+    );
+    Ok(())
+}
+
+#[test]
+fn desk_of_five(rt: HostRuntime) -> Result<(), Fail> {
+    let (desk, mut seats) = CheckDesk::new(rt.alloc(), 5, 2)?;
+    assert_eq!(rt; desk.claim(&mut seats[0]), Some(0));
+    assert_eq!(rt; desk.claim(&mut seats[0]), Some(1));
+    let last = desk.claim(&mut seats[0]);
+    assert_eq!(rt; last, Some(2));
+    assert_eq!(rt; desk.claim(&mut seats[1]), Some(3));
+    assert_eq!(rt; claim_and_report(&desk, &mut seats[1], 4), Some(4));
+    if let Some(moment) = last {
+        desk.report(&mut seats[0], moment, true);
+    }
+    let result = desk.close(seats);
+    assert_eq!(rt;
+        result,
+        DeskResult {
+            given: 5,
+            least_bad: Some(2)
+        }
+    );
+    Ok(())
+}
+
+#[test]
+fn a_claim_sees_the_least_bad_moment(rt: HostRuntime) -> Result<(), Fail> {
+    let (desk, mut seats) = CheckDesk::new(rt.alloc(), 3, 2)?;
+    assert_eq!(rt; claim_and_report(&desk, &mut seats[0], 0), Some(0));
+    assert_eq!(rt; seats[0].seen(), None);
+    assert_eq!(rt; claim_and_report(&desk, &mut seats[1], 1), Some(1));
+    assert_eq!(rt; seats[1].seen(), Some(0));
+    assert_eq!(rt; desk.claim(&mut seats[1]), Some(2));
+    assert_eq!(rt; desk.claim(&mut seats[1]), None);
+    assert_eq!(rt; desk.claim(&mut seats[1]), None);
+    assert_eq!(rt; seats[1].seen(), Some(0));
+    let result = desk.close(seats);
+    assert_eq!(rt;
+        result,
+        DeskResult {
+            given: 3,
+            least_bad: Some(0)
+        }
+    );
+    Ok(())
+}
+
+/// Moments below the limit pass, with three images each. Another is bad by so much as it is above the limit.
+#[derive(Drop)]
+struct Limit {
+    moments: u32,
+    limit: u32,
+}
+
+/// A worker keeps its last moment.
+impl Judge<u32, u32> for Limit {
+    ghost use Rattle.std.specs.Prelude.{◌≡◌, ◌+◌, ◌<◌, ◌≤◌};
+
+    ghost moments = { λ job. job.moments };
+
+    ghost passes = { λ job moment. moment < job.limit };
+
+    ghost fails = { λ job moment above. moment ≡ job.limit + above };
+
+    ghost images = { λ job moment. 3 };
+
+    ghost keeps = { λ job last. last ≤ job.moments };
+
+    fn begin(&self) -> Result<u32, AllocError> {
+        Ok(0)
+    }
+
+    fn judge(&self, state: &mut u32, moment: u32) -> Result<Judged<u32>, AllocError> {
+        *state = moment;
+        if moment < self.limit {
+            Ok(Judged::Passed(3))
+        } else {
+            Ok(Judged::Bad(moment - self.limit))
+        }
+    }
+}
+
+/// What so many workers find in ten moments: the least bad one with its cause, and the images.
+fn swept<R: Threads + Sync>(
+    rt: &R,
+    alloc: Global,
+    workers: u32,
+    limit: u32,
+) -> Result<(Option<(u32, u32)>, u64), AllocError>
+    requires { (0 < workers) × (workers ≤ 8) }
+{
+    let job = Limit { moments: 10, limit };
+    let tally = judge_all(rt, alloc, 10, workers, &job, &Open)?;
+    Ok((tally.best, tally.images))
+}
+
+#[test]
+fn all_moments_pass(rt: HostRuntime) -> Result<(), Fail> {
+    assert_eq!(rt; swept(&rt, rt.alloc(), 1, 10)?, (None, 30));
+    assert_eq!(rt; swept(&rt, rt.alloc(), 2, 10)?, (None, 30));
+    assert_eq!(rt; swept(&rt, rt.alloc(), 8, 10)?, (None, 30));
+    Ok(())
+}
+
+#[test]
+fn the_least_bad_moment_is_found(rt: HostRuntime) -> Result<(), Fail> {
+    assert_eq!(rt; swept(&rt, rt.alloc(), 1, 7)?.0, Some((7, 0)));
+    assert_eq!(rt; swept(&rt, rt.alloc(), 2, 7)?.0, Some((7, 0)));
+    assert_eq!(rt; swept(&rt, rt.alloc(), 8, 0)?.0, Some((0, 0)));
+    Ok(())
+}

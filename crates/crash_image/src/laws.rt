@@ -1,0 +1,15 @@
+//! The laws of names, each as the contract of a function with an empty body.
+
+ghost use Rattle.crash_image.specs.Named.{IsNameOf, IsNamed};
+ghost use Rattle.crash_model.specs.Cut.{IsCut};
+ghost use Rattle.crash_model.specs.declared.step.PersistenceStep.{PersistenceStep};
+ghost use Rattle.image_name.specs.declared.name.ImageName.{ImageName};
+ghost use Rattle.std.specs.Prelude.{◌≡◌, ℕ, List};
+
+/// The name that is told of a cut names that cut, and a name names at most one.
+pub fn names_tell_cuts()
+    ensures told { (p : List PersistenceStep) (cut : List (ℕ × ℕ)) (name : ImageName) →
+        IsCut p cut → IsNameOf p cut name → IsNamed p name cut }
+    ensures once { (p : List PersistenceStep) (name : ImageName) (cut other : List (ℕ × ℕ)) →
+        IsNamed p name cut → IsNamed p name other → cut ≡ other }
+{}

@@ -1,0 +1,78 @@
+-- The lines of the image of a cut, read from the index.
+use Rattle.std.proofs.Common.{◌≡◌, ℕ, ◌<◌, ◌≤◌, Bool, true, false, cond, List, [], ◌∷◌, ◌++◌, length, take, drop, reverse, sym, ap, subst, ◌∙◌, arith}
+use Rattle.std.specs.Prelude.{All}
+use Rattle.std.specs.List.{AllByRecursion, flat_map}
+use Rattle.std.proofs.lemmas.Bool.Decides.{nat_tests}
+use Rattle.std.proofs.lemmas.Grind.{flat_map-append}
+use Rattle.std.proofs.lemmas.List.{reverse-append, take-append-drop}
+use Rattle.std.proofs.lemmas.List.Elements.{All-take}
+use Rattle.crash_image.proofs.Lined.{image_is_medium}
+use Rattle.crash_model.proofs.Images.{image_line, length_image}
+use Rattle.crash_model.specs.Image.{image, line_after}
+use Rattle.crash_model.specs.Stores.{stores}
+use Rattle.crash_model.specs.declared.step.PersistenceStep.{PersistenceStep}
+use Rattle.crash_model.specs.declared.step.PersistenceStep.TheVariants as step
+use Rattle.line_memory.specs.Lines.{IsMedium, line_at}
+use Rattle.nova_log.specs.Sources.{Source}
+use Rattle.store_trace.specs.History.{at_moment, history, steps_of}
+use Rattle.store_trace.specs.TraceView.{IsEvent}
+use Rattle.store_trace.specs.declared.event.Event.{Event}
+use Rattle.trace_index.specs.View.{IndexView}
+use Rattle.image_check.specs.Branching.{AreMedia, image_of, numbers_at}
+
+stores_later : (l : ℕ) (q p : List PersistenceStep) → stores l p ≤ stores l (q ++ p)
+stores_later l [] p = omega arith
+stores_later l (step.Store m o w v ∷ q) p = grind (arith, nat_tests, stores_later l q p)
+stores_later l (step.Clean h m ∷ q) p = stores_later l q p
+stores_later l (step.Fence h ∷ q) p = stores_later l q p
+stores_later l (step.Evict m ∷ q) p = stores_later l q p
+
+pub history_append : (xs ys : List Event) → history (xs ++ ys) ≡ history ys ++ history xs
+history_append xs ys = ap (λ (es : List Event). flat_map steps_of es) (reverse-append xs ys) ∙ flat_map-append steps_of (reverse ys) (reverse xs)
+
+-- a moment has no more stores than the whole trace
+pub stores_at_moment : (l : ℕ) (events : List Event) (moment : ℕ) → stores l (at_moment events moment) ≤ stores l (history events)
+stores_at_moment l events moment =
+    let e : history events ≡ history (drop moment events) ++ at_moment events moment =
+    ap (λ (es : List Event). history es) (sym (take-append-drop moment events)) ∙ history_append (take moment events) (drop moment events) in
+    subst (λ (p : List PersistenceStep). stores l (at_moment events moment) ≤ stores l p) (sym e)
+    (stores_later l (history (drop moment events)) (at_moment events moment))
+
+pub image_medium : (start : List (List ℕ)) (events : List Event) (moment : ℕ) (k : ℕ → ℕ) → IsMedium start → All IsEvent events →
+    IsMedium (image start k (at_moment events moment))
+image_medium start events moment k m a = image_is_medium start k (take moment events) m (All-take IsEvent moment events a)
+
+-- the source's lines, by what its view says
+pub source_length : (view : IndexView) (moment : ℕ) (numbers asked : List ℕ) (source : Source) →
+    ◌≡◌ {A = Source} (record { lines = image_of view.start view.events moment numbers; asked = asked }) source → length view.start ≡ length source.lines
+source_length view moment numbers asked source e =
+    sym (length_image view.start (numbers_at view.events moment numbers) (at_moment view.events moment)) ∙ ap (λ (s : Source). length s.lines) e
+
+pub source_medium : (view : IndexView) (moment : ℕ) (numbers asked : List ℕ) (source : Source) →
+    ◌≡◌ {A = Source} (record { lines = image_of view.start view.events moment numbers; asked = asked }) source →
+    AreMedia view.start view.events moment → IsMedium source.lines
+source_medium view moment numbers asked source e m = subst (λ (s : Source). IsMedium s.lines) e (m (numbers_at view.events moment numbers))
+
+pub source_line : (view : IndexView) (moment : ℕ) (numbers asked : List ℕ) (source : Source) (n number : ℕ) (bytes : List ℕ) →
+    ◌≡◌ {A = Source} (record { lines = image_of view.start view.events moment numbers; asked = asked }) source →
+    n < length view.start → number ≡ numbers_at view.events moment numbers n →
+    bytes ≡ line_after (line_at view.start n) n number (at_moment view.events moment) → bytes ≡ line_at source.lines n
+source_line view moment numbers asked source n number bytes e h k b =
+    b ∙ ap (λ (i : ℕ). line_after (line_at view.start n) n i (at_moment view.events moment)) k
+    ∙ sym (image_line view.start (numbers_at view.events moment numbers) (at_moment view.events moment) n [] [] h)
+    ∙ ap (λ (s : Source). line_at s.lines n) e
+
+pub push_below : (bound : ℕ) (xs : List ℕ) (n : ℕ) → AllByRecursion (λ l. l < bound) xs → n < bound → AllByRecursion (λ l. l < bound) (xs ++ n ∷ [])
+push_below bound [] n h b = (b, tt)
+push_below bound (x ∷ xs) n h b = (h.0, push_below bound xs n h.1 b)
+
+pub push_below_or_not : (b : Bool) (bound : ℕ) (xs : List ℕ) (n : ℕ) → AllByRecursion (λ l. l < bound) xs → n < bound →
+    AllByRecursion (λ l. l < bound) (cond b (xs ++ n ∷ []) xs)
+push_below_or_not true bound xs n h b = push_below bound xs n h b
+push_below_or_not false bound xs n h b = h
+
+pub below_length : (m n : ℕ) (xs : List ℕ) → m ≡ n → AllByRecursion (λ l. l < m) xs → AllByRecursion (λ l. l < n) xs
+below_length m n xs e h = subst (λ (k : ℕ). AllByRecursion (λ l. l < k) xs) e h
+
+pub image_of_length : (start : List (List ℕ)) (events : List Event) (moment : ℕ) (numbers : List ℕ) → length (image_of start events moment numbers) ≡ length start
+image_of_length start events moment numbers = length_image start (numbers_at events moment numbers) (at_moment events moment)

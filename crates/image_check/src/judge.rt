@@ -1,0 +1,100 @@
+//! What the verdicts are made of: the starting volume, the cuts of a moment, and the volumes that are legal there.
+
+ghost use Rattle.crash_image.specs.View.{HasLines};
+ghost use Rattle.image_check.specs.Growth.{AreApart, AreOutcomes};
+ghost use Rattle.image_check.specs.Images.{IsVolumeJudged};
+ghost use Rattle.image_check.specs.OrderFaults.{AreSound};
+ghost use Rattle.nova_log.specs.Volumes.{volume_of};
+ghost use Rattle.store_trace.specs.History.{at_moment};
+ghost use Rattle.store_trace.specs.TraceView.{IsEvent};
+ghost use Rattle.store_trace.specs.declared.event.Event.{Event as AnEvent};
+ghost use Rattle.volume.specs.declared.entry.Entry.{Entry as AnEntry};
+ghost use Rattle.std.specs.Prelude.{◌≡◌, ℕ, ◌+◌, ◌≤◌, List, All, Option, length, take, IfErr, IfOk, OnOk};
+ghost use Rattle.std.specs.Result.{result_ok};
+
+use crate::legal::Outcomes;
+use crate::{Cause, CheckFault};
+use crash_image::Cuts;
+use line_memory::Medium;
+use nova_log::{VolumeFault, recover};
+use plan::Plan;
+use std::alloc::{AllocError, Global};
+use store_trace::{Event, Trace};
+use volume::Volume;
+
+/// The volume of the starting medium, if it has one.
+pub fn starting_volume(alloc: Global, medium: &Medium) -> Result<Option<Volume>, CheckFault>
+    ensures ok { IfOk result (λ start. start ≡ result_ok (volume_of medium.now)) }
+    ensures err { IfErr result (λ fault. fault ≡ CheckFault.Memory) }
+{
+    match recover(alloc, medium) {
+        Ok(volume) => Ok(Some(volume)),
+        Err(VolumeFault::Memory) => Err(CheckFault::Memory),
+        Err(_fault) => Ok(None),
+    }
+}
+
+/// The first `moment` events.
+pub fn first_events(trace: &Trace, moment: u32) -> &[Event]
+    requires { moment ≤ length trace.now.events }
+    ensures events { result.now ≡ take moment trace.now.events }
+    ensures each { All IsEvent trace.now.events }
+{
+    &trace.events()[..moment as usize]
+}
+
+/// The cuts of a moment that is there.
+pub fn cuts_at<'a>(
+    alloc: Global,
+    medium: &'a Medium,
+    trace: &'a Trace,
+    moment: u32,
+) -> Result<Cuts<'a>, CheckFault>
+    requires lines { HasLines medium.now trace.now.events }
+    requires there { moment ≤ length trace.now.events }
+    ensures ok { IfOk result (λ cuts. (cuts.start ≡ medium.now)
+        × (cuts.steps ≡ at_moment trace.now.events moment)) }
+    ensures err { IfErr result (λ fault. fault ≡ CheckFault.Memory) }
+{
+    match Cuts::at(alloc, medium, trace, moment) {
+        Ok(cuts) => Ok(cuts),
+        Err(_refused) => Err(CheckFault::Memory),
+    }
+}
+
+/// Why the volume is bad: it may not be legal.
+pub fn judge_volume(
+    alloc: Global,
+    plan: &Plan,
+    outcomes: &Outcomes,
+    volume: &Volume,
+) -> Result<Option<Cause>, AllocError>
+    ensures { IfOk result (λ found. (start : List (List ℕ)) (events : List AnEvent) →
+        AreOutcomes plan.now.operations (result_ok (volume_of start)) events outcomes.now.settled outcomes.now.under_way.items →
+        AreApart plan.now.operations events →
+        IsVolumeJudged plan.now.operations start events volume.now found) }
+{
+    if outcomes.has(alloc, plan, volume)? {
+        Ok(None)
+    } else {
+        Ok(Some(Cause::Illegal))
+    }
+}
+
+/// Takes in the event after the moment, if there is one.
+pub fn note_next(
+    outcomes: &mut Outcomes,
+    plan: &Plan,
+    trace: &Trace,
+    moment: u32,
+) -> Result<(), AllocError>
+    requires { AreSound plan.now.operations trace.now.events (length trace.now.events) }
+    ensures { OnOk result ((start : Option (List (List AnEntry))) →
+        AreOutcomes plan.now.operations start (take moment trace.now.events) outcomes.old.settled outcomes.old.under_way.items →
+        AreOutcomes plan.now.operations start (take (moment + 1) trace.now.events) outcomes.new.settled outcomes.new.under_way.items) }
+{
+    match trace.events().get(moment as usize) {
+        Some(event) => outcomes.note(plan, *event),
+        None => Ok(()),
+    }
+}

@@ -1,0 +1,6 @@
+mod Entries
+mod OneReading
+mod Proper
+mod Upwards
+mod Words
+mod Written
