@@ -53,9 +53,14 @@ track_both : (m o : List (List ℕ)) (p p' q q' : List Question) → Tracks m o 
     (first_fault p ≡ None → Agrees m o (lines_asked p) → Tracks m o q q') → Tracks m o (p ++ q) (p' ++ q')
 track_both m o [] p' q q' k l = rw k (l refl tt)
 track_both m o (x ∷ p) [] q q' k l = absurd k
-track_both m o (x ∷ p) (y ∷ p') q q' k l =
-    (k.0, λ same. ((k.1 same).0, λ clean. track_both m o p p' q q' ((k.1 same).1 clean)
-    (λ none agree. l (none_here x p clean none) (agree_here m o x p clean same agree))))
+track_both m o (x ∷ p) (y ∷ p') q q' k l = (
+  k.0,
+  λ same. (
+    (k.1 same).0,
+    λ clean. track_both m o p p' q q' ((k.1 same).1 clean)
+        (λ none agree. l (none_here x p clean none) (agree_here m o x p clean same agree)),
+  ),
+)
 
 -- a question whose fault the line decides
 track_one : (m o : List (List ℕ)) (line : ℕ) (fault : List ℕ → Option VolumeFault) →
@@ -130,8 +135,11 @@ track_rest m o g =
     (track_each m o (log_questions g m) (log_questions g o) (inodes_of m g.journals g.inodes) (λ inode. track_log m o g inode))))
 
 track_first : (m o : List (List ℕ)) → length o ≡ length m → Tracks m o (superblock_question m ∷ []) (superblock_question o ∷ [])
-track_first m o size = (refl, λ same.
-    (ap (λ (line : List ℕ). superblock_fault line (length o)) same ∙ ap (λ (n : ℕ). superblock_fault (line_at m 0) n) size, λ clean. refl))
+track_first m o size = (
+  refl,
+  λ same.
+      (ap (λ (line : List ℕ). superblock_fault line (length o)) same ∙ ap (λ (n : ℕ). superblock_fault (line_at m 0) n) size, λ clean. refl),
+)
 
 track_whole : (m o : List (List ℕ)) → length o ≡ length m → Tracks m o (recovery_questions m) (recovery_questions o)
 track_whole m o size =
