@@ -222,14 +222,28 @@ fn fails_over(
     requires { HasLines medium.now trace.now.events }
 {
     match judge(alloc, plan, medium, trace) {
-        Ok(
-            Verdict::Fail {
-                moment,
-                image: ImageName::Cut(cut),
-                cause,
-            },
-        ) => moment == expected && cause == code && cut.entries() == lines,
+        Ok(verdict) => is_failure(&verdict, expected, lines, code),
+        Err(_) => false,
+    }
+}
+
+/// Whether the verdict is a failure of this moment, by an image that these lines name, for this cause.
+fn is_failure(verdict: &Verdict, expected: u32, lines: &[(u32, u32)], code: Cause) -> bool {
+    match verdict {
+        Verdict::Fail {
+            moment,
+            image,
+            cause,
+        } => *moment == expected && *cause == code && is_named(image, lines),
         _ => false,
+    }
+}
+
+/// Whether the image is named by these lines.
+fn is_named(image: &ImageName, lines: &[(u32, u32)]) -> bool {
+    match image {
+        ImageName::Cut(cut) => cut.entries() == lines,
+        ImageName::Number(_) => false,
     }
 }
 
