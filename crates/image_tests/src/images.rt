@@ -318,12 +318,8 @@ static TOTALS: [(Parts, Option<u64>); 4] = [
 
 /// The images of all moments of a trace together.
 fn total_of(rt: &(impl AllocGlobal + Abort), events: Parts) -> Result<Option<u64>, Fail> {
-    let medium = Medium::zero(rt.alloc(), 512)?;
     let trace = trace_of(rt, events)?;
-    if !has_lines(&medium, &trace) {
-        return Ok(Some(0));
-    }
-    Ok(images_of_moments(rt.alloc(), &medium, &trace)?)
+    Ok(images_of_moments(rt.alloc(), &trace)?)
 }
 
 /// The place of the first example that doesn't hold of a medium of zeros but for the bytes of line 7.
