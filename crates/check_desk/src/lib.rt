@@ -12,7 +12,7 @@ mod rule;
 mod sweep;
 
 pub use desk::{CheckDesk, DeskResult, DeskSeat};
-pub use sweep::{Judge, Judged, Tally, judge_all};
+pub use sweep::{Judge, Judged, judge_all};
 
 #[cfg(test)]
 mod tests;

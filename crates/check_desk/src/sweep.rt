@@ -3,7 +3,7 @@
 ghost use Rattle.check_desk.specs.Desks.{fresh};
 ghost use Rattle.check_desk.specs.Sweeps.{IsSwept, IsTally, best_of, better};
 ghost use Rattle.check_desk.specs.Works.{IsWorked};
-ghost use Rattle.std.specs.Prelude.{◌≡◌, ℕ, ◌+◌, ◌^◌, ◌<◌, ◌≤◌, [], ◌∷◌, ◌++◌, None, Some, true, false, All, length, vec_len, IfOk, IsTrue, MatchBool, OnOk};
+ghost use Rattle.std.specs.Prelude.{◌≡◌, ℕ, ◌^◌, ◌<◌, ◌≤◌, [], ◌∷◌, ◌++◌, Some, true, false, All, length, vec_len, IfOk, IsTrue, MatchBool, OnOk};
 
 use crate::desk::{CheckDesk, DeskSeat};
 use gate::Gate;
@@ -12,16 +12,15 @@ use std::thread;
 use std::thread::Threads;
 
 /// What a moment was found to be.
-#[derive(Clone, Copy, Drop)]
+#[derive(Drop)]
 pub enum Judged<B> {
-    /// It passes, and has so many images, at most 65,536.
-    Passed(u32),
+    Passed,
     Bad(B),
 }
 
 /// Judges the moments of a run, each by itself. `S` is what a worker keeps from one of its moments to the next.
 pub trait Judge<B, S> {
-    ghost use Rattle.std.specs.Prelude.{◌≡◌, ℕ, ◌<◌, ◌≤◌, IfOk};
+    ghost use Rattle.std.specs.Prelude.{◌≡◌, ℕ, ◌<◌, IfOk};
     ghost use Rattle.check_desk.specs.declared.sweep.Judged.TheVariants.{Passed, Bad};
 
     ghost moments: { Self → ℕ };
@@ -29,8 +28,6 @@ pub trait Judge<B, S> {
     ghost passes: { Self → ℕ → Type 0 };
 
     ghost fails: { Self → ℕ → B → Type 0 };
-
-    ghost images: { Self → ℕ → ℕ };
 
     ghost keeps: { Self → S → Type 0 };
 
@@ -43,51 +40,29 @@ pub trait Judge<B, S> {
         requires moment { moment < moments self.now }
         requires state { keeps self.now state.old }
         ensures state { IfOk result (λ _. keeps self.now state.new) }
-        ensures passed { (count : ℕ) → result ≡ Ok (Passed count) → passes self.now moment × (images self.now moment ≡ count) × (count ≤ 65536) }
+        ensures passed { result ≡ Ok Passed → passes self.now moment }
         ensures bad { (bad : B) → result ≡ Ok (Bad bad) → fails self.now moment bad };
 }
 
-/// What workers found in the moments that they claimed.
-#[derive(Drop)]
-pub struct Tally<B> {
-    /// The least bad moment, and what it was found to be.
-    pub best: Option<(u32, B)>,
-    /// The images of the moments that pass.
-    pub images: u64,
+/// Takes in a bad moment: keeps the lesser one.
+fn note<B: Drop>(best: &mut Option<(u32, B)>, moment: u32, bad: B)
+    ensures { best.new ≡ better best.old moment bad }
+{
+    let keeps = match best {
+        Some(found) => found.0 <= moment,
+        None => false,
+    };
+    if !keeps {
+        *best = Some((moment, bad));
+    }
 }
 
-impl<B: Copy + Drop> Tally<B> {
-    fn new() -> Tally<B>
-        ensures { (result.best ≡ None) × (result.images ≡ 0) }
-    {
-        Tally {
-            best: None,
-            images: 0,
-        }
-    }
-
-    /// Takes in a bad moment.
-    fn note(&mut self, moment: u32, bad: B)
-        ensures { (self.new.best ≡ better self.old.best moment bad) × (self.new.images ≡ self.old.images) }
-    {
-        let keeps = match &self.best {
-            Some(found) => found.0 <= moment,
-            None => false,
-        };
-        if !keeps {
-            self.best = Some((moment, bad));
-        }
-    }
-
-    /// Takes in the tally of another worker.
-    fn add(&mut self, other: Tally<B>)
-        requires { self.old.images + other.images < 2 ^ 64 }
-        ensures { (self.new.best ≡ best_of self.old.best other.best) × (self.new.images ≡ self.old.images + other.images) }
-    {
-        self.images += other.images;
-        if let Some((moment, bad)) = other.best {
-            self.note(moment, bad);
-        }
+/// Takes in the least bad moment of another worker, if it has one.
+fn merge<B: Drop>(best: &mut Option<(u32, B)>, other: Option<(u32, B)>)
+    ensures { best.new ≡ best_of best.old other }
+{
+    if let Some((moment, bad)) = other {
+        note(best, moment, bad);
     }
 }
 
@@ -97,29 +72,24 @@ pub struct Worked<B> {
     pub seat: DeskSeat,
     /// Whether it went on until no moment was left; else memory was refused.
     pub whole: bool,
-    pub tally: Tally<B>,
+    /// The least bad moment that it judged, and what it was found to be.
+    pub best: Option<(u32, B)>,
 }
 
 /// Judges all moments below `moments` by one to eight workers, in threads of their own where they can be started.
 /// The gate is entered before each claim of a worker, and left after the judging. A worker skips a moment above the
 /// least bad one that it has seen. Err where memory was refused to any of them.
-pub fn judge_all<
-    B: Copy + Drop + Send,
-    S: Drop + Send,
-    J: Judge<B, S> + Sync,
-    G: Gate,
-    R: Threads + Sync,
->(
+pub fn judge_all<B: Drop + Send, S: Drop + Send, J: Judge<B, S> + Sync, G: Gate, R: Threads + Sync>(
     rt: &R,
     alloc: Global,
     moments: u32,
     workers: u32,
     job: &J,
     gate: &G,
-) -> Result<Tally<B>, AllocError>
+) -> Result<Option<(u32, B)>, AllocError>
     requires workers { (0 < workers) × (workers ≤ 8) }
     requires job { J.moments job.now ≡ moments }
-    ensures { IfOk result (λ tally. IsSwept (J.passes job.now) (J.fails job.now) (J.images job.now) moments tally.best tally.images) }
+    ensures { IfOk result (λ best. IsSwept (J.passes job.now) (J.fails job.now) moments best) }
 {
     let (desk, seats) = CheckDesk::new(alloc, moments, workers)?;
     let shared = &desk;
@@ -128,14 +98,14 @@ pub fn judge_all<
         seats,
         &|seat: DeskSeat| -> Worked<B>
             requires { (J.moments job.now ≡ shared.now.name.moments) × (shared.now.name.moments < 2 ^ 32) × (seat ≡ fresh shared.now.name) }
-            ensures { IsWorked (J.passes job.entry.now) (J.fails job.entry.now) (J.images job.entry.now) shared.entry.now.name result }
+            ensures { IsWorked (J.passes job.entry.now) (J.fails job.entry.now) shared.entry.now.name result }
         { work(shared, job, gate, seat) },
     )?;
     gather(alloc, desk, job, worked)
 }
 
 /// What one worker does.
-fn work<B: Copy + Drop, S: Drop, J: Judge<B, S>, G: Gate>(
+fn work<B: Drop, S: Drop, J: Judge<B, S>, G: Gate>(
     desk: &CheckDesk,
     job: &J,
     gate: &G,
@@ -144,38 +114,37 @@ fn work<B: Copy + Drop, S: Drop, J: Judge<B, S>, G: Gate>(
     requires seat { seat ≡ fresh desk.now.name }
     requires small { desk.now.name.moments < 2 ^ 32 }
     requires job { J.moments job.now ≡ desk.now.name.moments }
-    ensures { IsWorked (J.passes job.now) (J.fails job.now) (J.images job.now) desk.now.name result }
+    ensures { IsWorked (J.passes job.now) (J.fails job.now) desk.now.name result }
 {
-    let mut tally = Tally::new();
-    let whole = take_all(desk, job, gate, &mut seat, &mut tally).is_ok();
-    Worked { seat, whole, tally }
+    let mut best = None;
+    let whole = take_all(desk, job, gate, &mut seat, &mut best).is_ok();
+    Worked { seat, whole, best }
 }
 
 /// Takes moments until none is left.
-fn take_all<B: Copy + Drop, S: Drop, J: Judge<B, S>, G: Gate>(
+fn take_all<B: Drop, S: Drop, J: Judge<B, S>, G: Gate>(
     desk: &CheckDesk,
     job: &J,
     gate: &G,
     seat: &mut DeskSeat,
-    tally: &mut Tally<B>,
+    best: &mut Option<(u32, B)>,
 ) -> Result<(), AllocError>
     requires desk { seat.old.desk ≡ desk.now.name }
     requires none { seat.old.claimed ≡ [] }
     requires small { desk.now.name.moments < 2 ^ 32 }
     requires job { J.moments job.now ≡ desk.now.name.moments }
-    requires tally { IsTally (J.passes job.now) (J.fails job.now) (J.images job.now) desk.now.name.moments
-        seat.old.claimed seat.old.bad seat.old.found tally.old.best tally.old.images }
+    requires best { IsTally (J.passes job.now) (J.fails job.now) desk.now.name.moments
+        seat.old.claimed seat.old.bad seat.old.found best.old }
     ensures desk { seat.new.desk ≡ seat.old.desk }
     ensures all { OnOk result ((seat.new.ended ≡ true)
-        × (tally.new.images ≤ 2 ^ 48)
-        × IsTally (J.passes job.now) (J.fails job.now) (J.images job.now) desk.now.name.moments
-        seat.new.claimed seat.new.bad seat.new.found tally.new.best tally.new.images) }
+        × IsTally (J.passes job.now) (J.fails job.now) desk.now.name.moments
+        seat.new.claimed seat.new.bad seat.new.found best.new) }
 {
     let worker = seat.worker();
     let mut state = job.begin()?;
     loop {
         gate.enter(worker);
-        let more = take_one(desk, job, &mut state, seat, tally);
+        let more = take_one(desk, job, &mut state, seat, best);
         gate.leave(worker);
         if !more? {
             return Ok(());
@@ -184,22 +153,22 @@ fn take_all<B: Copy + Drop, S: Drop, J: Judge<B, S>, G: Gate>(
 }
 
 /// Claims a moment, and judges it unless the seat has seen a lesser bad one. False where there is none left.
-fn take_one<B: Copy + Drop, S, J: Judge<B, S>>(
+fn take_one<B: Drop, S, J: Judge<B, S>>(
     desk: &CheckDesk,
     job: &J,
     state: &mut S,
     seat: &mut DeskSeat,
-    tally: &mut Tally<B>,
+    best: &mut Option<(u32, B)>,
 ) -> Result<bool, AllocError>
     requires desk { seat.old.desk ≡ desk.now.name }
     requires job { J.moments job.now ≡ desk.now.name.moments }
     requires state { J.keeps job.now state.old }
-    requires tally { IsTally (J.passes job.now) (J.fails job.now) (J.images job.now) desk.now.name.moments
-        seat.old.claimed seat.old.bad seat.old.found tally.old.best tally.old.images }
+    requires best { IsTally (J.passes job.now) (J.fails job.now) desk.now.name.moments
+        seat.old.claimed seat.old.bad seat.old.found best.old }
     ensures desk { seat.new.desk ≡ seat.old.desk }
     ensures state { OnOk result (J.keeps job.now state.new) }
-    ensures tally { OnOk result (IsTally (J.passes job.now) (J.fails job.now) (J.images job.now) desk.now.name.moments
-        seat.new.claimed seat.new.bad seat.new.found tally.new.best tally.new.images) }
+    ensures best { OnOk result (IsTally (J.passes job.now) (J.fails job.now) desk.now.name.moments
+        seat.new.claimed seat.new.bad seat.new.found best.new) }
     ensures more { IfOk result (λ more. MatchBool more
         ((length seat.old.claimed < length seat.new.claimed) × (length seat.new.claimed ≤ desk.now.name.moments))
         ((seat.new.ended ≡ true) × (seat.new.claimed ≡ seat.old.claimed))) }
@@ -211,10 +180,10 @@ fn take_one<B: Copy + Drop, S, J: Judge<B, S>>(
         return Ok(true);
     }
     match job.judge(state, moment)? {
-        Judged::Passed(count) => tally.images += u64::from(count),
+        Judged::Passed => {}
         Judged::Bad(bad) => {
             desk.report(seat, moment, true);
-            tally.note(moment, bad);
+            note(best, moment, bad);
         }
     }
     Ok(true)
@@ -231,32 +200,32 @@ fn is_below(seen: Option<u32>, moment: u32) -> bool
 }
 
 /// What all workers found.
-fn gather<B: Copy + Drop, S, J: Judge<B, S>>(
+fn gather<B: Drop, S, J: Judge<B, S>>(
     alloc: Global,
     desk: CheckDesk,
     job: &J,
     worked: Vec<Worked<B>>,
-) -> Result<Tally<B>, AllocError>
+) -> Result<Option<(u32, B)>, AllocError>
     requires workers { (0 < desk.workers) × (desk.workers ≤ 8) }
     requires all { vec_len worked ≡ desk.workers }
     requires small { desk.name.moments < 2 ^ 32 }
-    requires each { All (IsWorked (J.passes job.now) (J.fails job.now) (J.images job.now) desk.name) worked.items }
-    ensures { IfOk result (λ tally. IsSwept (J.passes job.now) (J.fails job.now) (J.images job.now) desk.name.moments tally.best tally.images) }
+    requires each { All (IsWorked (J.passes job.now) (J.fails job.now) desk.name) worked.items }
+    ensures { IfOk result (λ best. IsSwept (J.passes job.now) (J.fails job.now) desk.name.moments best) }
 {
     let mut seats = Vec::with_capacity(alloc, worked.len())?;
-    let mut tally = Tally::new();
+    let mut best = None;
     for one in worked {
         let Worked {
             seat,
             whole,
-            tally: its,
+            best: its,
         } = one;
         if !whole {
             return Err(AllocError);
         }
         seats.push(seat)?;
-        tally.add(its);
+        merge(&mut best, its);
     }
     desk.close(seats);
-    Ok(tally)
+    Ok(best)
 }

@@ -81,7 +81,7 @@ fn a_claim_sees_the_least_bad_moment(rt: HostRuntime) -> Result<(), Fail> {
     Ok(())
 }
 
-/// Moments below the limit pass, with three images each. Another is bad by so much as it is above the limit.
+/// Moments below the limit pass. Another is bad by so much as it is above the limit.
 #[derive(Drop)]
 struct Limit {
     moments: u32,
@@ -98,8 +98,6 @@ impl Judge<u32, u32> for Limit {
 
     ghost fails = { λ job moment above. moment ≡ job.limit + above };
 
-    ghost images = { λ job moment. 3 };
-
     ghost keeps = { λ job last. last ≤ job.moments };
 
     fn begin(&self) -> Result<u32, AllocError> {
@@ -109,39 +107,38 @@ impl Judge<u32, u32> for Limit {
     fn judge(&self, state: &mut u32, moment: u32) -> Result<Judged<u32>, AllocError> {
         *state = moment;
         if moment < self.limit {
-            Ok(Judged::Passed(3))
+            Ok(Judged::Passed)
         } else {
             Ok(Judged::Bad(moment - self.limit))
         }
     }
 }
 
-/// What so many workers find in ten moments: the least bad one with its cause, and the images.
+/// The least bad one of ten moments, with what so many workers find it to be.
 fn swept<R: Threads + Sync>(
     rt: &R,
     alloc: Global,
     workers: u32,
     limit: u32,
-) -> Result<(Option<(u32, u32)>, u64), AllocError>
+) -> Result<Option<(u32, u32)>, AllocError>
     requires { (0 < workers) × (workers ≤ 8) }
 {
     let job = Limit { moments: 10, limit };
-    let tally = judge_all(rt, alloc, 10, workers, &job, &Open)?;
-    Ok((tally.best, tally.images))
+    judge_all(rt, alloc, 10, workers, &job, &Open)
 }
 
 #[test]
 fn all_moments_pass(rt: HostRuntime) -> Result<(), Fail> {
-    assert_eq!(rt; swept(&rt, rt.alloc(), 1, 10)?, (None, 30));
-    assert_eq!(rt; swept(&rt, rt.alloc(), 2, 10)?, (None, 30));
-    assert_eq!(rt; swept(&rt, rt.alloc(), 8, 10)?, (None, 30));
+    assert_eq!(rt; swept(&rt, rt.alloc(), 1, 10)?, None);
+    assert_eq!(rt; swept(&rt, rt.alloc(), 2, 10)?, None);
+    assert_eq!(rt; swept(&rt, rt.alloc(), 8, 10)?, None);
     Ok(())
 }
 
 #[test]
 fn the_least_bad_moment_is_found(rt: HostRuntime) -> Result<(), Fail> {
-    assert_eq!(rt; swept(&rt, rt.alloc(), 1, 7)?.0, Some((7, 0)));
-    assert_eq!(rt; swept(&rt, rt.alloc(), 2, 7)?.0, Some((7, 0)));
-    assert_eq!(rt; swept(&rt, rt.alloc(), 8, 0)?.0, Some((0, 0)));
+    assert_eq!(rt; swept(&rt, rt.alloc(), 1, 7)?, Some((7, 0)));
+    assert_eq!(rt; swept(&rt, rt.alloc(), 2, 7)?, Some((7, 0)));
+    assert_eq!(rt; swept(&rt, rt.alloc(), 8, 0)?, Some((0, 0)));
     Ok(())
 }

@@ -16,4 +16,5 @@ pub mod Planning
 pub mod Reading
 pub mod Refusing
 pub mod Sharing
+pub mod Standing
 pub mod Weighing

@@ -8,4 +8,6 @@ pub mod Legal
 pub mod Marks
 pub mod OrderFaults
 pub mod Planned
+pub mod RunViews
+pub mod Standing
 pub mod Verdicts

@@ -7,6 +7,7 @@
 pub use crash_image::ImageName;
 pub use fault::{CheckFault, OpFault};
 pub use moment::check_moment;
+pub use moment_judge::{MomentJudge, SoundRun};
 pub use order::check_trace;
 pub use plain::{MomentByImages, RunByImages, check_moment_by_images, check_run_by_images};
 pub use run::check_run;
@@ -20,6 +21,7 @@ mod legal;
 mod marks;
 mod moment;
 mod moment_images;
+mod moment_judge;
 mod operations;
 mod order;
 mod plain;

@@ -137,7 +137,7 @@ fn keeps_pass(trace: &Trace, moment: u32, opener: &Opener) -> bool
 }
 
 /// Whether the event changes nothing that recovery looked at, and forbids no volume.
-fn spoils_nothing(event: Event, opener: &Opener) -> bool
+pub fn spoils_nothing(event: Event, opener: &Opener) -> bool
     ensures { IsTrue result ↔ KeepsPass opener.now event }
 {
     match event {

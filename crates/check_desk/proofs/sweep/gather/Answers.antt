@@ -8,42 +8,24 @@ use Rattle.check_desk.proofs.Closing.{next_of}
 use Rattle.check_desk.proofs.Sweeping.{gathered_more, swept_of, ended_one}
 use Rattle.check_desk.proofs.sweep.gather.Goals as goal
 
-pub add-requires : goal.add-requires
-add-requires g c =
-    let i = c.loop-one.invariant in
-    let next : c.loop-one.one-iterator.rest.items ≡ c.in-Some.one ∷ c.next.new.self.rest.items = search rules in
-    let its = next_of (IsWorked (g.J.Judge.passes c.args.job.now) (g.J.Judge.fails c.args.job.now) (g.J.Judge.images c.args.job.now) c.args.desk.name) c.args.worked.items c.loop-one.yielded c.loop-one.one-iterator.rest.items c.next.new.self.rest.items c.in-Some.one c.requires.each i.0 next in
-    let t = its.1 (search rules) in
-    let small = t.1 in
-    let sum = i.4 in
-    let whole = ap length i.0 in
-    let a = length-append c.loop-one.yielded c.loop-one.one-iterator.rest.items in
-    let len : length c.args.worked.items ≡ c.args.desk.workers = search rules in
-    let most = c.requires.workers.1 in
-    omega (arith, small, sum, whole, a, len, most)
-
 pub loop-one-preserved : goal.loop-one-preserved
 loop-one-preserved g c =
     let i = c.loop-one.invariant in
     let one = c.in-Some.one in
     let next : c.loop-one.one-iterator.rest.items ≡ c.in-Some.one ∷ c.next.new.self.rest.items = search rules in
-    let its = next_of (IsWorked (g.J.Judge.passes c.args.job.now) (g.J.Judge.fails c.args.job.now) (g.J.Judge.images c.args.job.now) c.args.desk.name) c.args.worked.items c.loop-one.yielded c.loop-one.one-iterator.rest.items c.next.new.self.rest.items one c.requires.each i.0 next in
+    let its = next_of (IsWorked (g.J.Judge.passes c.args.job.now) (g.J.Judge.fails c.args.job.now) c.args.desk.name) c.args.worked.items c.loop-one.yielded c.loop-one.one-iterator.rest.items c.next.new.self.rest.items one c.requires.each i.0 next in
     let t = its.1 (search rules) in
     let pushed : c.push.new.self.items ≡ c.loop-one.seats.items ++ one.seat ∷ [] = search rules in
-    let small = t.1 in
-    let sum = i.4 in
     let a = length-append c.loop-one.yielded (one ∷ []) in
     let b = length-append c.loop-one.seats.items (one.seat ∷ []) in
     let l = ap length pushed in
-    let n = i.1 in
-    let adds = c.add.ensures.1 in (
+    let n = i.1 in (
       append_assoc c.loop-one.yielded (one ∷ []) c.next.new.self.rest.items ∙ (ap (λ l. c.loop-one.yielded ++ l) (sym next) ∙ i.0),
       omega arith,
       ap ended_count pushed ∙ (ended_one c.loop-one.seats.items one.seat t.0 ∙ (let e = i.2 in omega (arith, e, a))),
       subst (All (λ (s : Sitting). s.desk ≡ c.args.desk.name)) (sym pushed) (All-push (λ (s : Sitting). s.desk ≡ c.args.desk.name) c.loop-one.seats.items one.seat i.3 its.0),
-      omega (arith, small, sum, a, adds),
-      subst (λ l. IsTally (g.J.Judge.passes c.args.job.now) (g.J.Judge.fails c.args.job.now) (g.J.Judge.images c.args.job.now) c.args.desk.name.moments (all_claimed l) (all_bad l) (all_found l) c.add.new.self.best c.add.new.self.images) (sym pushed)
-          (gathered_more (g.J.Judge.passes c.args.job.now) (g.J.Judge.fails c.args.job.now) (g.J.Judge.images c.args.job.now) c.args.desk.name.moments c.loop-one.seats.items one.seat c.loop-one.tally.best one.tally.best c.add.new.self.best c.loop-one.tally.images one.tally.images c.add.new.self.images i.5 t.2 c.add.ensures.0 c.add.ensures.1),
+      subst (λ l. IsTally (g.J.Judge.passes c.args.job.now) (g.J.Judge.fails c.args.job.now) c.args.desk.name.moments (all_claimed l) (all_bad l) (all_found l) c.merge.new.best) (sym pushed)
+          (gathered_more (g.J.Judge.passes c.args.job.now) (g.J.Judge.fails c.args.job.now) c.args.desk.name.moments c.loop-one.seats.items one.seat c.loop-one.best one.best c.merge.new.best i.4 t.1 c.merge.ensures),
     )
 
 pub returns : goal.returns
@@ -59,5 +41,5 @@ returns g c =
     let some = c.requires.workers.0 in
     let n = i.2 in
     let given = e.full (omega (arith, whole, len, some, n)) in
-    swept_of (g.J.Judge.passes c.args.job.now) (g.J.Judge.fails c.args.job.now) (g.J.Judge.images c.args.job.now) c.args.desk.name.moments (all_claimed c.loop-one.seats.items) (all_bad c.loop-one.seats.items) (all_found c.loop-one.seats.items)
-    c.loop-one.tally.best c.loop-one.tally.images c.close.result.least_bad c.requires.small i.5 (λ h. e.once h ∙ ap (weigh_below h) given) e.least e.found
+    swept_of (g.J.Judge.passes c.args.job.now) (g.J.Judge.fails c.args.job.now) c.args.desk.name.moments (all_claimed c.loop-one.seats.items) (all_bad c.loop-one.seats.items) (all_found c.loop-one.seats.items)
+    c.loop-one.best c.close.result.least_bad c.requires.small i.4 (λ h. e.once h ∙ ap (weigh_below h) given) e.least e.found

@@ -1,4 +1,4 @@
-use Rattle.std.proofs.Common.{◌≡◌, ◌*◌, ◌^◌, ◌≤◌, ◌++◌, All, length}
+use Rattle.std.proofs.Common.{◌≡◌, ◌++◌, All, length}
 use Rattle.check_desk.specs.Desks.{Sitting, all_bad, all_claimed, all_found, ended_count}
 use Rattle.check_desk.specs.Sweeps.{IsTally}
 use Rattle.check_desk.proofs.sweep.gather.Given as goal
@@ -8,5 +8,4 @@ invariant-loop-one g l = (l.yielded ++ l.one-iterator.rest.items ≡ l.fn.worked
     × (length l.seats.items ≡ length l.yielded)
     × (ended_count l.seats.items ≡ length l.yielded)
     × All (λ (s : Sitting). s.desk ≡ l.fn.desk.name) l.seats.items
-    × (l.tally.images ≤ length l.yielded * 2 ^ 48)
-    × IsTally (g.J.Judge.passes l.job) (g.J.Judge.fails l.job) (g.J.Judge.images l.job) l.fn.desk.name.moments (all_claimed l.seats.items) (all_bad l.seats.items) (all_found l.seats.items) l.tally.best l.tally.images
+    × IsTally (g.J.Judge.passes l.job) (g.J.Judge.fails l.job) l.fn.desk.name.moments (all_claimed l.seats.items) (all_bad l.seats.items) (all_found l.seats.items) l.best

@@ -6,7 +6,7 @@ abbrev pub invariant-loop-state : goal.invariant-loop-state
 invariant-loop-state g l = (l.seat.desk ≡ l.desk.name)
     × (length l.seat.claimed ≤ l.desk.name.moments)
     × g.J.Judge.keeps l.job l.state
-    × IsTally (g.J.Judge.passes l.job) (g.J.Judge.fails l.job) (g.J.Judge.images l.job) l.desk.name.moments l.seat.claimed l.seat.bad l.seat.found l.tally.best l.tally.images
+    × IsTally (g.J.Judge.passes l.job) (g.J.Judge.fails l.job) l.desk.name.moments l.seat.claimed l.seat.bad l.seat.found l.best
 
 abbrev pub decreases-loop-state : goal.decreases-loop-state
 decreases-loop-state g l = l.desk.name.moments - length l.seat.claimed

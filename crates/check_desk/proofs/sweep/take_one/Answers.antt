@@ -1,31 +1,32 @@
-use Rattle.std.proofs.Common.{rules, ◌≡◌, ◌∙◌, ◌+◌, ℕ, [], ◌∷◌, ◌++◌, MatchBool, ap, sym, subst, refl}
+use Rattle.std.proofs.Common.{rules, ◌≡◌, ◌∙◌, ℕ, [], ◌∷◌, ◌++◌, MatchBool, ap, sym, subst, refl}
 use Rattle.std.specs.List.{Contains}
 use Rattle.std.proofs.lemmas.List.Elements.{Contains-push}
 use Rattle.check_desk.specs.Desks.{last_moment}
+use Rattle.check_desk.specs.Sweeps.{better}
 use Rattle.check_desk.proofs.Sweeping.{tally_at, tally_none, tally_found, tally_skipped, tally_passed, tally_bad, seen_found}
 use Rattle.check_desk.proofs.sweep.take_one.Goals as goal
 
-pub returns-in_default-clause-tally : goal.returns-in_default-clause-tally
-returns-in_default-clause-tally g c =
+pub returns-in_default-clause-best : goal.returns-in_default-clause-best
+returns-in_default-clause-best g c =
     let s = c.args.seat.now in
     let e = c.in_default.ensures in
-    tally_none (g.J.Judge.passes c.args.job.now) (g.J.Judge.fails c.args.job.now) (g.J.Judge.images c.args.job.now) c.args.desk.now.name.moments s.ended s c.claim.new.seat c.args.tally.now.best c.args.tally.now.images
-    e.found e.none e.same.1 c.requires.tally
+    tally_none (g.J.Judge.passes c.args.job.now) (g.J.Judge.fails c.args.job.now) c.args.desk.now.name.moments s.ended s c.claim.new.seat c.args.best.now
+    e.found e.none e.same.1 c.requires.best
 
-pub returns-then-is_below-clause-tally : goal.returns-then-is_below-clause-tally
-returns-then-is_below-clause-tally g c =
+pub returns-then-is_below-clause-best : goal.returns-then-is_below-clause-best
+returns-then-is_below-clause-best g c =
     let s = c.args.seat.now in
     let u = c.claim.new.seat in
     let e = c.in-Some.ensures in
     let some = e.some in
     let m = c.in-Some.moment in
-    let P = g.J.Judge.passes c.args.job.now in let F = g.J.Judge.fails c.args.job.now in let W = g.J.Judge.images c.args.job.now in let n = c.args.desk.now.name.moments in
+    let P = g.J.Judge.passes c.args.job.now in let F = g.J.Judge.fails c.args.job.now in let n = c.args.desk.now.name.moments in
     let found = subst (λ b. MatchBool b (u ≡ s) ((word : ℕ) × (u.found ≡ s.found ++ word ∷ []))) some.0 e.found in
     let seen = c.if-is_below.ensures refl in
     let x = seen.0 in
     let there : Contains (s.found ++ found.0 ∷ []) x = seen_found s.found found.0 x (ap (λ l. last_moment l) (sym found.1) ∙ (sym c.seen.ensures ∙ seen.1)) in
-    tally_at P F W n (s.claimed ++ m ∷ []) s.bad (s.found ++ found.0 ∷ []) u.claimed u.bad u.found _ _ _ _ some.3 e.same.1 found.1 refl refl
-    (tally_skipped P F W n s.claimed s.bad (s.found ++ found.0 ∷ []) m x _ _ (tally_found P F W n s.claimed s.bad s.found found.0 _ _ c.requires.tally) there seen.2 some.2)
+    tally_at P F n (s.claimed ++ m ∷ []) s.bad (s.found ++ found.0 ∷ []) u.claimed u.bad u.found c.args.best.now c.args.best.now some.3 e.same.1 found.1 refl
+    (tally_skipped P F n s.claimed s.bad (s.found ++ found.0 ∷ []) m x c.args.best.now (tally_found P F n s.claimed s.bad s.found found.0 c.args.best.now c.requires.best) there seen.2 some.2)
 
 pub report-requires-clause-claimed : goal.report-requires-clause-claimed
 report-requires-clause-claimed g c =
@@ -33,21 +34,21 @@ report-requires-clause-claimed g c =
     let some = c.in-Some.ensures.some in
     subst (λ l. Contains l c.in-Some.moment) (sym some.3) (Contains-push s.claimed c.in-Some.moment)
 
-pub returns-in-Passed-clause-tally : goal.returns-in-Passed-clause-tally
-returns-in-Passed-clause-tally g c =
+pub returns-in-Passed-clause-best : goal.returns-in-Passed-clause-best
+returns-in-Passed-clause-best g c =
     let s = c.args.seat.now in
     let u = c.claim.new.seat in
     let e = c.in-Some.ensures in
     let some = e.some in
     let m = c.in-Some.moment in
-    let P = g.J.Judge.passes c.args.job.now in let F = g.J.Judge.fails c.args.job.now in let W = g.J.Judge.images c.args.job.now in let n = c.args.desk.now.name.moments in
+    let P = g.J.Judge.passes c.args.job.now in let F = g.J.Judge.fails c.args.job.now in let n = c.args.desk.now.name.moments in
     let found = subst (λ b. MatchBool b (u ≡ s) ((word : ℕ) × (u.found ≡ s.found ++ word ∷ []))) some.0 e.found in
-    let passed = c.in_ok-count.ensures.passed c.in-Passed.count (search rules) in
-    tally_at P F W n (s.claimed ++ m ∷ []) s.bad (s.found ++ found.0 ∷ []) u.claimed u.bad u.found _ _ _ _ some.3 e.same.1 found.1 refl (ap (λ (k : ℕ). c.args.tally.now.images + k) c.from.ensures)
-    (tally_passed P F W n s.claimed s.bad (s.found ++ found.0 ∷ []) m c.in-Passed.count _ _ (tally_found P F W n s.claimed s.bad s.found found.0 _ _ c.requires.tally) passed.0 passed.1 passed.2 some.2)
+    let passed = c.in_ok-judge.ensures.passed (search rules) in
+    tally_at P F n (s.claimed ++ m ∷ []) s.bad (s.found ++ found.0 ∷ []) u.claimed u.bad u.found c.args.best.now c.args.best.now some.3 e.same.1 found.1 refl
+    (tally_passed P F n s.claimed s.bad (s.found ++ found.0 ∷ []) m c.args.best.now (tally_found P F n s.claimed s.bad s.found found.0 c.args.best.now c.requires.best) passed some.2)
 
-pub returns-in-Bad-clause-tally : goal.returns-in-Bad-clause-tally
-returns-in-Bad-clause-tally g c =
+pub returns-in-Bad-clause-best : goal.returns-in-Bad-clause-best
+returns-in-Bad-clause-best g c =
     let s = c.args.seat.now in
     let u = c.claim.new.seat in
     let w = c.report.new.seat in
@@ -55,8 +56,8 @@ returns-in-Bad-clause-tally g c =
     let r = c.report.ensures in
     let some = e.some in
     let m = c.in-Some.moment in
-    let P = g.J.Judge.passes c.args.job.now in let F = g.J.Judge.fails c.args.job.now in let W = g.J.Judge.images c.args.job.now in let n = c.args.desk.now.name.moments in
+    let P = g.J.Judge.passes c.args.job.now in let F = g.J.Judge.fails c.args.job.now in let n = c.args.desk.now.name.moments in
     let found = subst (λ b. MatchBool b (u ≡ s) ((word : ℕ) × (u.found ≡ s.found ++ word ∷ []))) some.0 e.found in
-    let bad = c.in_ok-count.ensures.bad c.in-Bad.bad (search rules) in
-    tally_at P F W n (s.claimed ++ m ∷ []) (s.bad ++ m ∷ []) (s.found ++ found.0 ∷ []) w.claimed w.bad w.found _ _ _ _ (r.same.1 ∙ some.3) (r.bad ∙ ap (λ l. l ++ m ∷ []) e.same.1) (r.same.3 ∙ found.1) c.note.ensures.0 c.note.ensures.1
-    (tally_bad P F W n s.claimed s.bad (s.found ++ found.0 ∷ []) m c.in-Bad.bad _ _ (tally_found P F W n s.claimed s.bad s.found found.0 _ _ c.requires.tally) bad some.2)
+    let bad = c.in_ok-judge.ensures.bad c.in-Bad.bad (search rules) in
+    tally_at P F n (s.claimed ++ m ∷ []) (s.bad ++ m ∷ []) (s.found ++ found.0 ∷ []) w.claimed w.bad w.found (better c.args.best.now m c.in-Bad.bad) c.note.new.best (r.same.1 ∙ some.3) (r.bad ∙ ap (λ l. l ++ m ∷ []) e.same.1) (r.same.3 ∙ found.1) c.note.ensures
+    (tally_bad P F n s.claimed s.bad (s.found ++ found.0 ∷ []) m c.in-Bad.bad c.args.best.now (tally_found P F n s.claimed s.bad s.found found.0 c.args.best.now c.requires.best) bad some.2)

@@ -1,0 +1,18 @@
+use Rattle.std.proofs.Common.{◌∙◌, ap, subst, arith, List, [], Option}
+use Rattle.std.specs.Result.{result_ok}
+use Rattle.nova_log.specs.Volumes.{volume_of}
+use Rattle.volume.specs.declared.entry.Entry.{Entry}
+use Rattle.image_check.specs.Growth.{AreOutcomes}
+use Rattle.image_check.specs.RunViews.{RunView}
+use Rattle.image_check.proofs.moment_judge.Standing.first.Goals as goal
+
+pub returns-clause-standing : goal.returns-clause-standing
+returns-clause-standing c =
+    let started = c.in_ok-before.ensures ∙ c.run.invariant.2 ∙ ap (λ (v : RunView). result_ok (volume_of v.start)) c.run.view_is in
+    record {
+      there = omega arith;
+      outcomes_are =
+          subst (λ (start : Option (List (List Entry))). AreOutcomes c.args.run.now.plan start [] c.new.result.settled c.new.result.under_way.items)
+          started (c.new.ensures c.args.run.now.plan);
+      passed = λ e. absurd cc;
+    }

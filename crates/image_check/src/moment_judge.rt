@@ -1,0 +1,319 @@
+//! Judging the moments of a run one by one, by one judge or by several that share the run.
+
+ghost use Rattle.crash_image.specs.Totals.{IsImageTotal};
+ghost use Rattle.crash_image.specs.View.{HasLines};
+ghost use Rattle.image_check.specs.Growth.{AreOutcomes};
+ghost use Rattle.image_check.specs.Keeping.{KeepsPass};
+ghost use Rattle.image_check.specs.OrderFaults.{AreSound};
+ghost use Rattle.image_check.specs.Standing.{IsStanding};
+ghost use Rattle.image_check.specs.Verdicts.{AreFlagged, IfPassed, IsMomentVerdict, IsRefusal};
+ghost use Rattle.nova_log.specs.Volumes.{volume_of};
+ghost use Rattle.store_trace.specs.History.{at_moment};
+ghost use Rattle.store_trace.specs.declared.event.Event.{Event as AnEvent};
+ghost use Rattle.std.specs.Prelude.{◌≡◌, ◌+◌, ◌^◌, ◌<◌, ◌≤◌, length, slice_index_or, take, IfErr, IfOk, IfSome, IsTrue, OnOk};
+ghost use Rattle.std.specs.Result.{result_ok};
+
+use crate::judge::{note_next, starting_volume};
+use crate::legal::Outcomes;
+use crate::moment::open_moment;
+use crate::moment_images::MomentImages;
+use crate::order::check_trace;
+use crate::run::spoils_nothing;
+use crate::{CheckFault, MomentVerdict};
+use branches::Opener;
+use crash_image::images_of_moments;
+use line_memory::Medium;
+use plan::Plan;
+use std::alloc::{AllocError, Global};
+use std::marker::Model;
+use store_trace::Trace;
+use trace_index::TraceIndex;
+use volume::Volume;
+
+/// A run whose marks are right, with what its moments are judged by. Judges of moments share it.
+///
+/// A contract sees the plan, the lines of the starting medium, and the events.
+#[derive(Drop)]
+pub struct SoundRun<'a> {
+    plan: &'a Plan,
+    medium: &'a Medium,
+    trace: &'a Trace,
+    /// The volume of the starting medium, if it has one.
+    before: Option<Volume>,
+    index: TraceIndex<'a>,
+    /// The number of lines of the medium.
+    lines: u32,
+    /// The number of moments: one more than there are events.
+    moments: u32,
+}
+
+impl<'a> Model for SoundRun<'a> {
+    ghost use Rattle.crash_image.specs.View.{HasLines};
+    ghost use Rattle.image_check.specs.OrderFaults.{AreSound};
+    ghost use Rattle.image_check.specs.RunViews.{RunView};
+    ghost use Rattle.line_memory.specs.Lines.{IsMedium};
+    ghost use Rattle.nova_log.specs.Volumes.{volume_of};
+    ghost use Rattle.store_trace.specs.TraceView.{IsEvent};
+    ghost use Rattle.std.specs.Prelude.{◌≡◌, ◌+◌, ◌≤◌, length, All};
+    ghost use Rattle.std.specs.Result.{result_ok};
+
+    ghost Value = { RunView };
+
+    ghost view = { λ r. record { plan = r.plan.now.operations; start = r.medium.now; events = r.trace.now.events } };
+
+    ghost invariant = { λ r. HasLines r.medium.now r.trace.now.events
+        × AreSound r.plan.now.operations r.trace.now.events (length r.trace.now.events)
+        × (r.before ≡ result_ok (volume_of r.medium.now))
+        × (r.index.start ≡ r.medium.now)
+        × (r.index.events ≡ r.trace.now.events)
+        × IsMedium r.medium.now
+        × All IsEvent r.trace.now.events
+        × (r.lines ≡ length r.medium.now)
+        × (r.moments ≡ length r.trace.now.events + 1)
+        × (r.moments ≤ 65537) };
+}
+
+impl<'a> SoundRun<'a> {
+    /// The run of this trace, which started from the medium. The medium has every line that the trace names.
+    /// A wrong mark of an operation is told before memory is asked for.
+    #[tactic(auto, using(crate::proofs::Refusing::refused_operation))]
+    pub fn new(
+        alloc: Global,
+        plan: &'a Plan,
+        medium: &'a Medium,
+        trace: &'a Trace,
+    ) -> Result<SoundRun<'a>, CheckFault>
+        requires { HasLines medium.now trace.now.events }
+        ensures ok { IfOk result (λ run. run ≡ record { plan = plan.now.operations; start = medium.now; events = trace.now.events }) }
+        ensures sound { IfOk result (λ run. AreSound plan.now.operations trace.now.events (length trace.now.events)) }
+        ensures err { IfErr result (λ fault. IsRefusal plan.now.operations trace.now.events 0 fault) }
+    {
+        if let Err(fault) = check_trace(plan, trace) {
+            return Err(CheckFault::Operation(fault));
+        }
+        let before = starting_volume(alloc, medium)?;
+        let index = TraceIndex::new(alloc, medium, trace)?;
+        let lines = index.lines();
+        let moments = trace.events().len() as u32 + 1;
+        Ok(SoundRun {
+            plan,
+            medium,
+            trace,
+            before,
+            index,
+            lines,
+            moments,
+        })
+    }
+
+    /// The number of moments: one more than there are events.
+    pub fn moments(&self) -> u32
+        ensures count { result ≡ length self.now.events + 1 }
+        ensures most { result ≤ 65537 }
+    {
+        self.moments
+    }
+
+    /// How many images all moments have together. None where a moment has over 65,536.
+    pub fn images(&self, alloc: Global) -> Result<Option<u64>, AllocError>
+        ensures { IfOk result (λ images. IsImageTotal self.now.events images) }
+    {
+        images_of_moments(alloc, self.trace)
+    }
+}
+
+/// Where a judge of moments stands in a run.
+#[derive(Drop)]
+pub struct Standing {
+    pub moment: u32,
+    /// What the legal volumes of the moment are made of.
+    pub outcomes: Outcomes,
+    /// Whether the moment is known to pass; the lines that recovery asks there are then in the judge's opener.
+    pub passes: bool,
+}
+
+impl Standing {
+    /// At the beginning of the run, of which nothing is known.
+    fn first(alloc: Global, run: &SoundRun, opener: &Opener) -> Result<Standing, AllocError>
+        ensures standing { IfOk result (λ standing. IsStanding run.now opener.now standing) }
+        ensures moment { IfOk result (λ standing. standing.moment ≡ 0) }
+    {
+        let before = copy_of(alloc, &run.before)?;
+        Ok(Standing {
+            moment: 0,
+            outcomes: Outcomes::new(alloc, before),
+            passes: false,
+        })
+    }
+
+    /// Goes one event further.
+    fn step(&mut self, run: &SoundRun, opener: &Opener) -> Result<(), AllocError>
+        requires there { self.old.moment < length run.now.events }
+        requires room { self.old.moment + 1 < 2 ^ 32 }
+        requires standing { IsStanding run.now opener.now self.old }
+        ensures standing { OnOk result (IsStanding run.now opener.now self.new) }
+        ensures moment { OnOk result (self.new.moment ≡ self.old.moment + 1) }
+    {
+        let passes = still_passes(self.passes, run.trace, self.moment, opener);
+        note_next(&mut self.outcomes, run.plan, run.trace, self.moment)?;
+        self.passes = passes;
+        self.moment += 1;
+        Ok(())
+    }
+
+    /// Goes on to a later moment, or stays.
+    fn advance(&mut self, run: &SoundRun, opener: &Opener, moment: u32) -> Result<(), AllocError>
+        requires there { moment ≤ length run.now.events }
+        requires later { self.old.moment ≤ moment }
+        requires standing { IsStanding run.now opener.now self.old }
+        ensures standing { OnOk result (IsStanding run.now opener.now self.new) }
+        ensures moment { OnOk result (self.new.moment ≡ moment) }
+    {
+        while self.moment < moment {
+            self.step(run, opener)?;
+        }
+        Ok(())
+    }
+
+    /// The verdict on the moment. Its branches are opened, unless it is known to pass.
+    fn judge(
+        &mut self,
+        alloc: Global,
+        run: &SoundRun,
+        opener: &mut Opener,
+    ) -> Result<MomentVerdict, CheckFault>
+        requires standing { IsStanding run.now opener.old self.old }
+        requires size { length opener.old ≡ length run.now.start }
+        ensures ok { IfOk result (λ verdict.
+            IsMomentVerdict run.now.plan run.now.start (take self.old.moment run.now.events) verdict) }
+        ensures standing { OnOk result (IsStanding run.now opener.new self.new) }
+        ensures size { length opener.new ≡ length opener.old }
+        ensures err { IfErr result (λ fault. fault ≡ CheckFault.Memory) }
+    {
+        if self.passes {
+            return Ok(MomentVerdict::Pass);
+        }
+        let verdict = open_at(alloc, run, self.moment, &self.outcomes, opener)?;
+        self.passes = is_pass(&verdict);
+        Ok(verdict)
+    }
+}
+
+fn copy_of(alloc: Global, volume: &Option<Volume>) -> Result<Option<Volume>, AllocError>
+    ensures { IfOk result (λ copy. copy ≡ volume.now) }
+{
+    match volume {
+        Some(volume) => Ok(Some(volume.copy(alloc)?)),
+        None => Ok(None),
+    }
+}
+
+/// Opens the branches of a moment of the run, whose legal volumes are made of these.
+fn open_at(
+    alloc: Global,
+    run: &SoundRun,
+    moment: u32,
+    outcomes: &Outcomes,
+    opener: &mut Opener,
+) -> Result<MomentVerdict, CheckFault>
+    requires there { moment ≤ length run.now.events }
+    requires outcomes { AreOutcomes run.now.plan (result_ok (volume_of run.now.start)) (take moment run.now.events) outcomes.now.settled outcomes.now.under_way.items }
+    requires size { length opener.old ≡ length run.now.start }
+    ensures ok { IfOk result (λ verdict. IsMomentVerdict run.now.plan run.now.start (take moment run.now.events) verdict) }
+    ensures asked { IfOk result (λ verdict. IfPassed verdict (AreFlagged run.now.start (at_moment run.now.events moment) opener.new)) }
+    ensures size { length opener.new ≡ length opener.old }
+    ensures err { IfErr result (λ fault. fault ≡ CheckFault.Memory) }
+{
+    let images = MomentImages::new(&run.index, run.plan, outcomes, moment);
+    open_moment(alloc, run.medium, run.trace, &images, opener)
+}
+
+/// Whether a moment that is known to pass or not is known to pass still after its next event.
+fn still_passes(passes: bool, trace: &Trace, moment: u32, opener: &Opener) -> bool
+    requires { moment < length trace.now.events }
+    ensures { IsTrue result → IsTrue passes × ((d : AnEvent) → KeepsPass opener.now (slice_index_or trace.now.events moment d)) }
+{
+    passes && spoils_nothing(trace.events()[moment as usize], opener)
+}
+
+fn is_pass(verdict: &MomentVerdict) -> bool
+    ensures { IsTrue result → verdict.now ≡ MomentVerdict.Pass }
+{
+    matches!(verdict, MomentVerdict::Pass)
+}
+
+/// Where a judge that stood here last goes on to a moment from: it never goes back.
+fn stand_before(
+    alloc: Global,
+    run: &SoundRun,
+    opener: &Opener,
+    last: Option<Standing>,
+    moment: u32,
+) -> Result<Standing, AllocError>
+    requires { IfSome last (λ standing. IsStanding run.now opener.now standing) }
+    ensures standing { IfOk result (λ standing. IsStanding run.now opener.now standing) }
+    ensures before { IfOk result (λ standing. standing.moment ≤ moment) }
+{
+    if let Some(standing) = last {
+        if standing.moment <= moment {
+            return Ok(standing);
+        }
+    }
+    Standing::first(alloc, run, opener)
+}
+
+/// A judge of the moments of a run. A moment costs least after an earlier one that passes: what lies between them, and one
+/// run of recovery for each branch only where one of the events between changes what recovery asked there.
+///
+/// A contract sees the run.
+#[derive(Drop)]
+pub struct MomentJudge<'a, 'b> {
+    run: &'a SoundRun<'b>,
+    opener: Opener,
+    /// None after an error.
+    standing: Option<Standing>,
+}
+
+impl<'a, 'b> Model for MomentJudge<'a, 'b> {
+    ghost use Rattle.image_check.specs.RunViews.{RunView};
+
+    ghost Value = { RunView };
+
+    ghost use Rattle.image_check.specs.Standing.{IsStanding};
+    ghost use Rattle.std.specs.Prelude.{◌≡◌, length, IfSome};
+
+    ghost view = { λ j. j.run.now };
+
+    ghost invariant = { λ j. (length j.opener ≡ length j.run.now.start)
+        × IfSome j.standing (λ standing. IsStanding j.run.now j.opener standing) };
+}
+
+impl<'a, 'b> MomentJudge<'a, 'b> {
+    /// A judge that has seen no moment yet.
+    pub fn new(alloc: Global, run: &'a SoundRun<'b>) -> Result<MomentJudge<'a, 'b>, AllocError>
+        ensures { IfOk result (λ judge. judge ≡ run.now) }
+    {
+        Ok(MomentJudge {
+            run,
+            opener: Opener::new(alloc, run.lines)?,
+            standing: None,
+        })
+    }
+
+    /// The verdict on the state after the first `moment` events: on all its images, as `check_moment` gives it.
+    pub fn judge(&mut self, alloc: Global, moment: u32) -> Result<MomentVerdict, CheckFault>
+        requires { moment ≤ length self.old.events }
+        ensures ok { IfOk result (λ verdict.
+            IsMomentVerdict self.old.plan self.old.start (take moment self.old.events) verdict) }
+        ensures same { self.new ≡ self.old }
+        ensures err { IfErr result (λ fault. fault ≡ CheckFault.Memory) }
+    {
+        let run = self.run;
+        let last = self.standing.take();
+        let mut standing = stand_before(alloc, run, &self.opener, last, moment)?;
+        standing.advance(run, &self.opener, moment)?;
+        let verdict = standing.judge(alloc, run, &mut self.opener)?;
+        self.standing = Some(standing);
+        Ok(verdict)
+    }
+}

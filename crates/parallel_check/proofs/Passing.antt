@@ -1,0 +1,22 @@
+-- What a pass says of every cut of every moment.
+use Rattle.std.proofs.Common.{◌≡◌, ℕ, ◌≤◌, List, Option, length, take, arith}
+use Rattle.std.specs.Prelude.{Ok}
+use Rattle.crash_model.specs.Cut.{IsCut, number_in}
+use Rattle.crash_model.specs.Image.{image}
+use Rattle.nova_log.specs.Volumes.{volume_of}
+use Rattle.plan.specs.declared.operation.Operation.{Operation}
+use Rattle.store_trace.specs.History.{at_moment}
+use Rattle.store_trace.specs.declared.event.Event.{Event}
+use Rattle.volume.specs.declared.entry.Entry.{Entry}
+use Rattle.image_check.specs.Legal.{IsLegal}
+use Rattle.image_check.specs.Verdicts.{IsVerdict, Passes}
+use Rattle.image_check.specs.declared.verdict.Verdict.TheVariants as runs
+
+pub every_cut_passes : (plan : List Operation) (start : List (List ℕ)) (events : List Event) (moments : ℕ) (images : Option ℕ) →
+    IsVerdict plan start events (runs.Pass moments images) →
+    (moment : ℕ) (cut : List (ℕ × ℕ)) → moment ≤ length events → IsCut (at_moment events moment) cut →
+    (found : List (List Entry)) × (volume_of (image start (number_in cut) (at_moment events moment)) ≡ Ok found)
+    × IsLegal plan (volume_of start) (take moment events) found
+every_cut_passes plan start events moments images v moment cut h c =
+    let passed : Passes plan start (take moment events) cut = (v.2 moment (omega arith)).1 cut c in
+    (passed.volume, passed.recovers, passed.legal)

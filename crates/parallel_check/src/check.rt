@@ -1,0 +1,63 @@
+//! The verdict on a whole run: workers judge its moments, in threads of their own.
+
+ghost use Rattle.crash_image.specs.View.{HasLines};
+ghost use Rattle.crash_model.specs.Cut.{IsCut, number_in};
+ghost use Rattle.crash_model.specs.Image.{image};
+ghost use Rattle.image_check.specs.Legal.{IsLegal};
+ghost use Rattle.image_check.specs.OrderFaults.{AreSound};
+ghost use Rattle.image_check.specs.Verdicts.{IsRefusal, IsVerdict};
+ghost use Rattle.nova_log.specs.Volumes.{volume_of};
+ghost use Rattle.store_trace.specs.History.{at_moment};
+ghost use Rattle.volume.specs.declared.entry.Entry.{Entry as AnEntry};
+ghost use Rattle.std.specs.Prelude.{◌≡◌, ℕ, ◌<◌, ◌≤◌, List, Option, length, take, IfErr, IfOk};
+
+use crate::stretches::Stretches;
+use check_desk::judge_all;
+use gate::Gate;
+use image_check::{CheckFault, SoundRun, Verdict};
+use line_memory::Medium;
+use plan::Plan;
+use std::alloc::Global;
+use std::thread::Threads;
+use store_trace::Trace;
+
+/// The verdict on all moments of the trace, which started from the medium, by one to eight workers, in threads of their own where
+/// these can be started: the least moment that doesn't pass, or that every image of every moment recovers to a legal volume.
+/// The medium has every line that the trace names.
+///
+/// The gate is entered before each claim of a worker, and left after what it claimed is judged. A wrong mark of an operation is
+/// told before any image is looked at, and the want of memory of any worker in place of a verdict.
+pub fn check_parallel<G: Gate, R: Threads + Sync>(
+    rt: &R,
+    alloc: Global,
+    plan: &Plan,
+    medium: &Medium,
+    trace: &Trace,
+    workers: u32,
+    gate: &G,
+) -> Result<Verdict, CheckFault>
+    requires lines { HasLines medium.now trace.now.events }
+    requires workers { (0 < workers) × (workers ≤ 8) }
+    ensures ok { IfOk result (λ verdict. IsVerdict plan.now.operations medium.now trace.now.events verdict) }
+    ensures sound { IfOk result (λ verdict. AreSound plan.now.operations trace.now.events (length trace.now.events)) }
+
+    // Pass: whatever a power cut leaves at whatever moment recovers to a legal volume.
+    ensures pass { (moments : ℕ) (images : Option ℕ) → result ≡ Ok (Verdict.Pass moments images) →
+        (moment : ℕ) (cut : List (ℕ × ℕ)) → moment ≤ length trace.now.events →
+        IsCut (at_moment trace.now.events moment) cut →
+        (found : List (List AnEntry))
+        × (volume_of (image medium.now (number_in cut) (at_moment trace.now.events moment)) ≡ Ok found)
+        × IsLegal plan.now.operations (volume_of medium.now) (take moment trace.now.events) found }
+    ensures err { IfErr result (λ fault. IsRefusal plan.now.operations trace.now.events 0 fault) }
+{
+    let run = SoundRun::new(alloc, plan, medium, trace)?;
+    let stretches = Stretches::new(alloc, &run, workers);
+    let best = judge_all(rt, alloc, stretches.count, workers, &stretches, gate)?;
+    match best {
+        Some(found) => Ok(found.1),
+        None => Ok(Verdict::Pass {
+            moments: u64::from(run.moments()),
+            images: run.images(alloc)?,
+        }),
+    }
+}
