@@ -60,12 +60,12 @@ pass moments=21 images=43
 
 /// An entry of the second layout is longer than the first layout's append writes it.
 const LAYOUTS: &str = "\
-$ novacrash mkfs layout2.plan 512 fresh
+$ novacrash mkfs append-second.plan 512 fresh
 lines 512
-$ novacrash check layout2.plan append.s append.schedule --medium fresh
+$ novacrash check append-second.plan append.s append.schedule --medium fresh
 fail moment=7 image=1 cause=N6
 [1]
-$ novacrash check layout2.plan long-append.s append.schedule --medium fresh
+$ novacrash check append-second.plan append-second.s append.schedule --medium fresh
 pass moments=11 images=22
 ";
 

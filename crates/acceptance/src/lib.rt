@@ -5,6 +5,8 @@
 #[cfg(test)]
 mod checking;
 #[cfg(test)]
+mod coding;
+#[cfg(test)]
 mod copying;
 #[cfg(test)]
 mod debugging;
@@ -24,3 +26,5 @@ mod streams;
 mod transcripts;
 #[cfg(test)]
 mod tutorial;
+#[cfg(test)]
+mod upgrading;

@@ -116,9 +116,22 @@ $ novacrash asm five.s five.o
 text 4 data 0
 ";
 
+/// A source isn't overwritten by its object.
+const OBJECT_NAMED_AS_SOURCE: &str = "\
+$ novacrash asm five.s five.s
+! error: OBJECT has the name of SOURCE, which would be lost
+[2]
+$ novacrash asm never never
+! error: OBJECT has the name of SOURCE, which would be lost
+[2]
+$ novacrash run five.s --steps 1
+h0 running pc=0x10004 x1=0x5 x2=0x200000 x11=0x40000000
+events 0
+";
+
 #[test]
 fn input_is_refused(rt: HostRuntime) -> Result<(), Fail> {
-    let transcripts = [FAULTS, ORDER_OF_FAULTS];
+    let transcripts = [FAULTS, ORDER_OF_FAULTS, OBJECT_NAMED_AS_SOURCE];
     assert_eq!(rt; first_difference(rt.alloc(), &transcripts)?, None);
     Ok(())
 }

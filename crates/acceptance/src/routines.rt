@@ -86,11 +86,33 @@ const EARLY_END: &str =
     li t3, 77\nsd t3, 16(t1)\ncbo.clean (t1)\nfence w, w\naddi t0, t0, 64\nsd t0, 72(a1)\naddi t4, a1, 64\ncbo.clean (t4)\n\
     li a7, 2002\necall\nli a7, 93\nli a0, 0\necall\n";
 
-/// The append with entries of 128 bytes.
-const LONG_APPEND: &str =
-    "li a7, 2001\nli a0, 1\necall\nld t0, 72(a1)\nadd t1, a1, t0\nli t2, 1\nsd t2, 0(t1)\nsd t2, 8(t1)\n\
-    li t3, 77\nsd t3, 16(t1)\ncbo.clean (t1)\nfence w, w\naddi t0, t0, 128\nsd t0, 72(a1)\naddi t4, a1, 64\ncbo.clean (t4)\n\
-    fence w, w\nli a7, 2002\necall\nli a7, 93\nli a0, 0\necall\n";
+/// The append with entries of 128 bytes, as the program is delivered with it.
+const APPEND_SECOND: &str = "\
+# Appends value 77 to inode 0's log as operation 1, on a volume of the second layout at 0x40000000 (a1).
+# The entry has no name, so that recovery reads its first line alone: that one is made durable before the tail moves past both.
+ li a7, 2001            # operation 1 begins
+ li a0, 1
+ ecall
+ ld t0, 72(a1)          # inode 0's tail
+ add t1, a1, t0
+ li t2, 1
+ sd t2, 0(t1)           # kind 1, without a name
+ sd t2, 8(t1)           # operation 1
+ li t3, 77
+ sd t3, 16(t1)          # the value
+ cbo.clean (t1)
+ fence w, w
+ addi t0, t0, 128       # an entry of the second layout has two lines
+ sd t0, 72(a1)          # the append commits by this store
+ addi t4, a1, 64
+ cbo.clean (t4)
+ fence w, w
+ li a7, 2002            # operation 1 ends
+ ecall
+ li a7, 93
+ li a0, 0
+ ecall
+";
 
 /// Hart h appends value 70 + h to the log of inode h as operation h + 1.
 const APPEND_TWO: &str =
@@ -142,6 +164,14 @@ const COPY_UNLINKED: &str = "lui t0, 4\nadd t0, t0, a1\nlui t1, 6\nadd t1, t1, a
     clean: cbo.clean (t1)\naddi t1, t1, 64\naddi t3, t3, -1\nbnez t3, clean\nfence w, w\n\
     lui t2, 6\nsd t2, 64(a1)\naddi t1, a1, 64\ncbo.clean (t1)\nfence w, w\nli a7, 93\nli a0, 0\necall\n";
 
+/// Moves the tail of inode 0 to the 32nd entry of its first page, so that its log has 31.
+const THIRTY_ONE: &str =
+    "li t0, 18368\nsd t0, 72(a1)\naddi t1, a1, 64\ncbo.clean (t1)\nfence w, w\nli a7, 93\necall\n";
+
+/// The same with an entry more.
+const THIRTY_TWO: &str =
+    "li t0, 18432\nsd t0, 72(a1)\naddi t1, a1, 64\ncbo.clean (t1)\nfence w, w\nli a7, 93\necall\n";
+
 /// Moves the tail of inode 0 to the second page, without a link there.
 const UNLINKED: &str =
     "lui t0, 5\nsd t0, 72(a1)\naddi t1, a1, 64\ncbo.clean (t1)\nfence w, w\nli a7, 93\necall\n";
@@ -164,7 +194,7 @@ const FAR_TAIL: &str =
 const TWICE: &str = "li a7, 2001\nli a0, 7\necall\nli a7, 2002\necall\nli a7, 2001\necall\n";
 
 /// Each file's name and text.
-pub(crate) const FILES: [(&str, &str); 67] = [
+pub(crate) const FILES: [(&str, &str); 69] = [
     ("first.s", FIRST),
     ("misaligned.s", MISALIGNED),
     ("empty.s", ""),
@@ -184,7 +214,7 @@ pub(crate) const FILES: [(&str, &str); 67] = [
     ("append.s", APPEND),
     ("missing-fence.s", MISSING_FENCE),
     ("early-end.s", EARLY_END),
-    ("long-append.s", LONG_APPEND),
+    ("append-second.s", APPEND_SECOND),
     ("append2.s", APPEND_TWO),
     ("rename.s", RENAME),
     ("empties.s", EMPTIES),
@@ -194,6 +224,8 @@ pub(crate) const FILES: [(&str, &str); 67] = [
     ("copy.s", COPY),
     ("copy-unlinked.s", COPY_UNLINKED),
     ("twice.s", TWICE),
+    ("thirty-one.s", THIRTY_ONE),
+    ("thirty-two.s", THIRTY_TWO),
     ("unlinked.s", UNLINKED),
     ("self-linked.s", SELF_LINKED),
     ("tail-before-head.s", TAIL_BEFORE_HEAD),
@@ -219,7 +251,7 @@ pub(crate) const FILES: [(&str, &str); 67] = [
         "inodes 2\npages 2\njournals 1\nop 1 rename 0 1 a 9\n",
     ),
     (
-        "layout2.plan",
+        "append-second.plan",
         "layout 2\ninodes 1\npages 1\njournals 1\nop 1 append 0 77\n",
     ),
     ("links.plan", "inodes 1\npages 2\njournals 1\n"),

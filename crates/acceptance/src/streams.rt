@@ -1,7 +1,7 @@
 //! Standard output and standard error that can't be written, lines at fault, and help.
 
 use crate::folder::{Folder, folder_of_examples};
-use crate::transcripts::words_of;
+use crate::transcripts::{printed, words_of};
 use command_line::execute;
 use std::alloc::{AllocError, Global};
 use std::io;
@@ -54,6 +54,12 @@ fn lines_at_fault_end_with_two(rt: HostRuntime) -> Result<(), Fail> {
         "novacrash run first.s --harts 9",
         "novacrash run first.s --workers 2",
         "novacrash asm first.s",
+        "novacrash asm x.s x.s",
+        "novacrash upgrade filled 3 512",
+        "novacrash upgrade filled 3 512 new more",
+        "novacrash upgrade filled three 512 new",
+        "novacrash code A3 A4",
+        "novacrash code A0",
         "novacrash mkfs never x never",
         "novacrash images first.s eight.schedule 1 --capacity 4",
     ] {
@@ -63,6 +69,25 @@ fn lines_at_fault_end_with_two(rt: HostRuntime) -> Result<(), Fail> {
     for line in ["novacrash --help", "novacrash check --help"] {
         let (status, output, errors) = lengths(rt.alloc(), line)?;
         assert_eq!(rt; (status, output > 0, errors), (0, true, 0), "{line}");
+    }
+    Ok(())
+}
+
+/// The last lines of the help of a command.
+const ENDING: &str = "\n\n\
+Statuses: 0 done or pass, 1 fail, 2 refused input or command line, 3 too many images,\n\
+4 want of memory, 5 a file or a standard stream that failed.\n\
+Formats and codes: docs/FORMATS.md; `novacrash code CODE` says what a code means.\n";
+
+#[test]
+fn help_ends_with_an_example_and_the_statuses(rt: HostRuntime) -> Result<(), Fail> {
+    let names = "asm mkfs upgrade run replay debug images explain check code";
+    for name in names.split(' ') {
+        let line = format!(in rt.alloc(); "novacrash {name} --help")?;
+        let example = format!(in rt.alloc(); "\n\nExample: novacrash {name} ")?;
+        let help = printed(rt.alloc(), line.as_str())?;
+        let ends = (help.contains(example.as_str()), help.ends_with(ENDING));
+        assert_eq!(rt; ends, (true, true), "{help}");
     }
     Ok(())
 }

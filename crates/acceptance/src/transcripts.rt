@@ -24,11 +24,35 @@ pub(crate) fn first_difference(
     Ok(None)
 }
 
-fn typed_again(alloc: Global, transcript: &str) -> Result<String, AllocError> {
+/// The folder that the commands of a transcript leave, once they are typed again.
+pub(crate) fn folder_after(alloc: Global, transcript: &str) -> Result<Folder, AllocError> {
     let mut folder = folder_of_examples(alloc)?;
+    type_all_again(alloc, &mut folder, transcript)?;
+    Ok(folder)
+}
+
+/// What a command prints on standard output.
+pub(crate) fn printed(alloc: Global, line: &str) -> Result<String, AllocError> {
+    let ended = run(alloc, &mut folder_of_examples(alloc)?, line, "")?;
+    String::from_str(
+        alloc,
+        String::from_utf8_lossy(alloc, &ended.output)?.as_str(),
+    )
+}
+
+fn typed_again(alloc: Global, transcript: &str) -> Result<String, AllocError> {
+    type_all_again(alloc, &mut folder_of_examples(alloc)?, transcript)
+}
+
+/// Types the commands of a transcript, and gives what they come to.
+fn type_all_again(
+    alloc: Global,
+    folder: &mut Folder,
+    transcript: &str,
+) -> Result<String, AllocError> {
     let mut seen = String::new(alloc);
     for turn in transcript.split("$ ").skip(1) {
-        type_again(alloc, &mut folder, turn, &mut seen)?;
+        type_again(alloc, folder, turn, &mut seen)?;
     }
     Ok(seen)
 }

@@ -36,6 +36,16 @@ watch h0 line=0x40000040
 40 40 00 00 00 00 00 00
 $ novacrash check append.plan append.s append.schedule --medium fresh.medium
 pass moments=11 images=22
+$ novacrash run append.s --medium fresh.medium --out first.medium
+h0 exit 0 pc=0x10058 x2=0x200000 x5=0x4040 x6=0x40004000 x7=0x1 x11=0x40000000 x17=0x5d x28=0x4d x29=0x40000040
+events 10
+$ novacrash upgrade first.medium 1 512 second.medium
+lines 512
+$ novacrash check append-second.plan append.s append.schedule --medium second.medium
+fail moment=7 image=1 cause=N6
+[1]
+$ novacrash check append-second.plan append-second.s append.schedule --medium second.medium
+pass moments=11 images=22
 ";
 
 #[test]

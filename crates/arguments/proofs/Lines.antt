@@ -15,8 +15,11 @@ use Rattle.clap.specs.declared.parser.matches.Found.{Found}
 use Rattle.clap.specs.declared.parser.matches.SubCommand.{SubCommand}
 use Rattle.clap.specs.declared.parser.matches.ArgMatches.TheViews.{out-SubCommand}
 use Rattle.clap.proofs.WalkLemmas.{first_value-rows}
-use Rattle.arguments.specs.Grammar.{IsGrammar, novacrash, assemble_shape, make_volume_shape, run_shape, replay_shape, debug_shape, images_shape, explain_shape, check_shape}
+use Rattle.code_table.specs.Codes.{IsMeaningOf}
+use Rattle.code_table.specs.declared.table.Meaning.{Meaning}
+use Rattle.arguments.specs.Grammar.{IsGrammar, novacrash, assemble_shape, make_volume_shape, upgrade_shape, run_shape, replay_shape, debug_shape, images_shape, explain_shape, check_shape, code_shape}
 use Rattle.arguments.specs.Line.{IsAsked, IsCommand, IsFault, IsKindOf, IsOf, OnFault, Refuses}
+use Rattle.arguments.specs.Values.{IsCodeWord}
 use Rattle.arguments.specs.declared.asked.Command.{Command}
 use Rattle.arguments.specs.declared.asked.LineFault.{LineFault}
 use Rattle.arguments.specs.declared.asked.LineFault.TheVariants.{Help, Fault, Memory}
@@ -49,11 +52,11 @@ refused_by_kind words kind (Fault text) (inr among) is =
 refused_by_kind words kind Memory among is = tt
 
 simple_and_free : is_simple_and_free novacrash ≡ true
-unfolding assemble_shape make_volume_shape run_shape replay_shape debug_shape images_shape explain_shape check_shape
+unfolding assemble_shape make_volume_shape upgrade_shape run_shape replay_shape debug_shape images_shape explain_shape check_shape code_shape
 simple_and_free = refl
 
 simple : is_simple novacrash ≡ true
-unfolding assemble_shape make_volume_shape run_shape replay_shape debug_shape images_shape explain_shape check_shape
+unfolding assemble_shape make_volume_shape upgrade_shape run_shape replay_shape debug_shape images_shape explain_shape check_shape code_shape
 simple = refl
 
 -- an error of the grammar's parse is refused by the fault for its kind
@@ -115,3 +118,11 @@ has_none words (Fault text) grammatical used is =
     let P : (c : Command) → Option (Text × List Row) → Type 0 = λ c sub. IsAsked sub c in
     (λ e. absurd cc, λ command line. absurd (subst (P command) used line.asked))
 has_none words Memory grammatical used is = absurd is
+
+-- a word that is none of the codes has no meaning
+pub no_code : (text : Text) (word : Option Text) (meaning : Option Meaning) → word ≡ Some text
+    → ((m : Meaning) → ¬ IsMeaningOf text m) → ¬ IsCodeWord word meaning
+no_code text word meaning is none asked =
+    let P : Option Text → Type 0 = λ w. IsCodeWord w meaning in
+    let found : IsCodeWord (Some text) meaning = subst P is asked in
+    none found.0 found.2

@@ -6,7 +6,7 @@ use Rattle.clap.specs.declared.builder.action.ArgAction.TheVariants.{Help}
 use Rattle.clap.specs.declared.builder.command.Command.{Command}
 use Rattle.clap.specs.declared.builder.command.Command.TheViews.{out-Command}
 use Rattle.arguments.specs.declared.grammar.Argument.{Argument}
-use Rattle.arguments.specs.declared.grammar.Argument.TheVariants.{Word, Valued}
+use Rattle.arguments.specs.declared.grammar.Argument.TheVariants.{Word, Optional, Valued}
 use Rattle.arguments.specs.declared.grammar.Subcommand.{Subcommand}
 
 -- `--help`, with no short form
@@ -16,6 +16,10 @@ help_option = record (new_rule (codes "help")) { long = Some (codes "help"); act
 -- a word that has to be given
 abbrev pub needed_word : Text → Rule
 needed_word name = record (new_rule name) { required = true }
+
+-- a word that may be left out
+abbrev pub optional_word : Text → Rule
+optional_word name = new_rule name
 
 -- `--name VALUE`, which may be left out
 abbrev pub valued_option : Text → Rule
@@ -31,6 +35,13 @@ assemble_shape = record (new_shape (codes "asm")) {
 unfoldable pub make_volume_shape : Shape
 make_volume_shape = record (new_shape (codes "mkfs")) {
   rules = needed_word (codes "PLAN") ∷ needed_word (codes "LINES") ∷ needed_word (codes "MEDIUM") ∷ help_option ∷ [];
+}
+
+-- `upgrade OLD PAGES LINES NEW`
+unfoldable pub upgrade_shape : Shape
+upgrade_shape = record (new_shape (codes "upgrade")) {
+  rules = needed_word (codes "OLD") ∷ needed_word (codes "PAGES") ∷ needed_word (codes "LINES") ∷ needed_word (codes "NEW")
+      ∷ help_option ∷ [];
 }
 
 -- `run PROGRAM [--medium FILE --harts N --capacity N --steps N --record FILE --out FILE]`
@@ -77,6 +88,10 @@ check_shape = record (new_shape (codes "check")) {
       ∷ valued_option (codes "medium") ∷ valued_option (codes "harts") ∷ help_option ∷ [];
 }
 
+-- `code [CODE]`
+unfoldable pub code_shape : Shape
+code_shape = record (new_shape (codes "code")) { rules = optional_word (codes "CODE") ∷ help_option ∷ [] }
+
 -- a command with no subcommand
 abbrev pub leaf : Shape → App
 leaf shape = record { top = shape; subs = [] }
@@ -101,12 +116,13 @@ line shapes = record { top = record bare { is_leaf = is_none shapes }; subs = sh
 
 -- the whole line
 abbrev pub novacrash : App
-novacrash = line (assemble_shape ∷ make_volume_shape ∷ run_shape ∷ replay_shape ∷ debug_shape ∷ images_shape
-    ∷ explain_shape ∷ check_shape ∷ [])
+novacrash = line (assemble_shape ∷ make_volume_shape ∷ upgrade_shape ∷ run_shape ∷ replay_shape ∷ debug_shape
+    ∷ images_shape ∷ explain_shape ∷ check_shape ∷ code_shape ∷ [])
 
 -- the rule of an argument of the table
 abbrev pub rule : Argument → Rule
 rule (Word name about) = needed_word name.now
+rule (Optional name about) = optional_word name.now
 rule (Valued name value about) = valued_option name.now
 
 -- the shape of a subcommand with these arguments alone

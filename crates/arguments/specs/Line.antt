@@ -1,16 +1,17 @@
 -- Which command a line asks for, by what clap's specification says of its words.
-use Rattle.std.specs.Prelude.{◌≡◌, ◌≢◌, ◌≤◌, ◌<◌, ◌^◌, ℕ, List, [], ◌∷◌, Option, Some, None, IfSome, codes, ⊤}
+use Rattle.std.specs.Prelude.{string_bytes, ◌≡◌, ◌≢◌, ◌≤◌, ◌<◌, ◌^◌, ℕ, List, [], ◌∷◌, Option, Some, None, IfSome, codes, ⊤}
 use Rattle.clap.specs.Words.{Row, Text, fault_of, first_of, subcommand_of}
 use Rattle.clap.specs.Kinds.{IsAmong}
 use Rattle.clap.specs.declared.error.ErrorKind.{ErrorKind}
 use Rattle.clap.specs.declared.error.ErrorKind.TheVariants as kinds
 use Rattle.image_name.specs.Texts.{IsProper}
 use Rattle.arguments.specs.Grammar.{novacrash}
-use Rattle.arguments.specs.Values.{IsCapacity, IsHarts, IsImageWord, IsNumberWord, IsOptional, IsSteps, IsWord}
+use Rattle.arguments.specs.Values.{IsCapacity, IsCodeWord, IsHarts, IsImageWord, IsNumberWord, IsOptional, IsSteps, IsWord}
 use Rattle.arguments.specs.declared.asked.AssembleCommand.{AssembleCommand}
 use Rattle.arguments.specs.declared.asked.CheckCommand.{CheckCommand}
+use Rattle.arguments.specs.declared.asked.CodeCommand.{CodeCommand}
 use Rattle.arguments.specs.declared.asked.Command.{Command}
-use Rattle.arguments.specs.declared.asked.Command.TheVariants.{Assemble, Check, Debug, Explain, Images, MakeVolume, Replay, Run}
+use Rattle.arguments.specs.declared.asked.Command.TheVariants.{Assemble, Check, Code, Debug, Explain, Images, MakeVolume, Replay, Run, Upgrade}
 use Rattle.arguments.specs.declared.asked.DebugCommand.{DebugCommand}
 use Rattle.arguments.specs.declared.asked.ExplainCommand.{ExplainCommand}
 use Rattle.arguments.specs.declared.asked.ImagesCommand.{ImagesCommand}
@@ -20,6 +21,7 @@ use Rattle.arguments.specs.declared.asked.MachineOptions.{MachineOptions}
 use Rattle.arguments.specs.declared.asked.MakeVolumeCommand.{MakeVolumeCommand}
 use Rattle.arguments.specs.declared.asked.ReplayCommand.{ReplayCommand}
 use Rattle.arguments.specs.declared.asked.RunCommand.{RunCommand}
+use Rattle.arguments.specs.declared.asked.UpgradeCommand.{UpgradeCommand}
 
 -- the machine of a command that has no option of a capacity
 pub record IsWholeMachine (rows : List Row) (machine : MachineOptions) : Type 0 where
@@ -33,16 +35,24 @@ pub record IsCachedMachine (rows : List Row) (machine : MachineOptions) : Type 0
   pub harts : IsHarts rows machine.harts
   pub capacity : (lines : ℕ) × (machine.capacity ≡ Some lines) × IsCapacity rows lines
 
--- `asm` with these files
+-- `asm` with these files, of different names
 pub record IsAssemble (rows : List Row) (command : AssembleCommand) : Type 0 where
   pub source : IsWord (codes "SOURCE") rows command.source
   pub object : IsWord (codes "OBJECT") rows command.object
+  pub differ : string_bytes command.source ≢ string_bytes command.object
 
 -- `mkfs` with these files and lines
 pub record IsMakeVolume (rows : List Row) (command : MakeVolumeCommand) : Type 0 where
   pub plan : IsWord (codes "PLAN") rows command.plan
   pub lines : IsNumberWord (first_of (codes "LINES") rows) command.lines
   pub medium : IsWord (codes "MEDIUM") rows command.medium
+
+-- `upgrade` with these files, pages and lines
+pub record IsUpgrade (rows : List Row) (command : UpgradeCommand) : Type 0 where
+  pub medium : IsWord (codes "OLD") rows command.medium
+  pub pages : IsNumberWord (first_of (codes "PAGES") rows) command.pages
+  pub lines : IsNumberWord (first_of (codes "LINES") rows) command.lines
+  pub upgraded : IsWord (codes "NEW") rows command.upgraded
 
 -- `run` with this program and these options
 pub record IsRun (rows : List Row) (command : RunCommand) : Type 0 where
@@ -86,16 +96,22 @@ pub record IsCheck (rows : List Row) (command : CheckCommand) : Type 0 where
   pub schedule : IsWord (codes "SCHEDULE") rows command.schedule
   pub machine : IsWholeMachine rows command.machine
 
+-- `code` with this code, or with none
+pub record IsCode (rows : List Row) (command : CodeCommand) : Type 0 where
+  pub code : IsCodeWord (first_of (codes "CODE") rows) command.meaning
+
 -- the command of the subcommand of this name, by the values found for its words and options
 abbrev pub IsOf : Text → List Row → Command → Type 0
 IsOf name rows (Assemble command) = (name ≡ codes "asm") × IsAssemble rows command
 IsOf name rows (MakeVolume command) = (name ≡ codes "mkfs") × IsMakeVolume rows command
+IsOf name rows (Upgrade command) = (name ≡ codes "upgrade") × IsUpgrade rows command
 IsOf name rows (Run command) = (name ≡ codes "run") × IsRun rows command
 IsOf name rows (Replay command) = (name ≡ codes "replay") × IsReplay rows command
 IsOf name rows (Debug command) = (name ≡ codes "debug") × IsDebug rows command
 IsOf name rows (Images command) = (name ≡ codes "images") × IsImages rows command
 IsOf name rows (Explain command) = (name ≡ codes "explain") × IsExplain rows command
 IsOf name rows (Check command) = (name ≡ codes "check") × IsCheck rows command
+IsOf name rows (Code command) = (name ≡ codes "code") × IsCode rows command
 
 -- the command that the subcommand of a line asks for
 abbrev pub IsAsked : Option (Text × List Row) → Command → Type 0
@@ -120,12 +136,14 @@ pub record IsMachineWithin (machine : MachineOptions) : Type 0 where
 abbrev pub IsWithinLimits : Command → Type 0
 IsWithinLimits (Assemble command) = ⊤
 IsWithinLimits (MakeVolume command) = command.lines < 2 ^ 32
+IsWithinLimits (Upgrade command) = (command.pages < 2 ^ 32) × (command.lines < 2 ^ 32)
 IsWithinLimits (Run command) = IsMachineWithin command.machine × IsWithin 1 500000000 command.steps
 IsWithinLimits (Replay command) = IsMachineWithin command.machine
 IsWithinLimits (Debug command) = IsMachineWithin command.machine
 IsWithinLimits (Images command) = IsMachineWithin command.machine × (command.moment < 2 ^ 32)
 IsWithinLimits (Explain command) = IsMachineWithin command.machine × (command.moment < 2 ^ 32) × IsProper command.image
 IsWithinLimits (Check command) = IsMachineWithin command.machine
+IsWithinLimits (Code command) = ⊤
 
 -- help comes where the grammar answers with help, and a fault where the line asks for no command
 -- and not for help alone

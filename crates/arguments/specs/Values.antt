@@ -5,6 +5,8 @@ use Rattle.std.specs.Str.Parse.{IsNumeral, digits_value}
 use Rattle.clap.specs.Words.{Row, Text, first_of}
 use Rattle.image_name.specs.Grammar.{IsImageName}
 use Rattle.image_name.specs.declared.name.ImageName.{ImageName}
+use Rattle.code_table.specs.Codes.{IsMeaningOf}
+use Rattle.code_table.specs.declared.table.Meaning.{Meaning}
 
 -- the word that has to be given
 abbrev pub IsWord : Text → List Row → String Global → Type 0
@@ -50,3 +52,8 @@ IsHarts rows harts = IsNumber 1 1 8 (first_of (codes "harts") rows) harts
 -- the most lines of a cache: 16 where the line doesn't say
 abbrev pub IsCapacity : List Row → ℕ → Type 0
 IsCapacity rows capacity = IsNumber 16 1 16384 (first_of (codes "capacity") rows) capacity
+
+-- what the code of a word means, which is one of the table; None where the word isn't given
+abbrev pub IsCodeWord : Option Text → Option Meaning → Type 0
+IsCodeWord None meaning = meaning ≡ None
+IsCodeWord (Some text) meaning = (m : Meaning) × (meaning ≡ Some m) × IsMeaningOf text m

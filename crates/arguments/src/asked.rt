@@ -1,5 +1,6 @@
 //! What a command line asks for, and what comes instead where it asks for no command.
 
+use code_table::Meaning;
 use image_name::ImageName;
 use std::alloc::AllocError;
 use thiserror::Error;
@@ -11,6 +12,8 @@ pub enum Command {
     Assemble(AssembleCommand),
     /// `mkfs PLAN LINES MEDIUM`.
     MakeVolume(MakeVolumeCommand),
+    /// `upgrade OLD PAGES LINES NEW`.
+    Upgrade(UpgradeCommand),
     /// `run PROGRAM [--medium FILE --harts N --capacity N --steps N --record FILE --out FILE]`.
     Run(RunCommand),
     /// `replay PROGRAM SCHEDULE [--medium FILE --harts N --capacity N --out FILE]`.
@@ -23,6 +26,8 @@ pub enum Command {
     Explain(ExplainCommand),
     /// `check PLAN PROGRAM SCHEDULE [--medium FILE --harts N]`.
     Check(CheckCommand),
+    /// `code [CODE]`.
+    Code(CodeCommand),
 }
 
 /// What `asm` is to do.
@@ -30,7 +35,7 @@ pub enum Command {
 pub struct AssembleCommand {
     /// The name of the source's file.
     pub source: String,
-    /// The name of the file that gets the object.
+    /// The name of the file that gets the object, another than the source's.
     pub object: String,
 }
 
@@ -43,6 +48,19 @@ pub struct MakeVolumeCommand {
     pub lines: u32,
     /// The name of the file that gets the medium.
     pub medium: String,
+}
+
+/// What `upgrade` is to do.
+#[derive(Drop)]
+pub struct UpgradeCommand {
+    /// The name of the old medium's file.
+    pub medium: String,
+    /// The number of pages of the new volume: any number below 2^32.
+    pub pages: u32,
+    /// The number of cache lines of the new medium: any number below 2^32.
+    pub lines: u32,
+    /// The name of the file that gets the new medium.
+    pub upgraded: String,
 }
 
 /// What the machine of a run is made of.
@@ -135,6 +153,13 @@ pub struct CheckCommand {
     pub schedule: String,
     /// The machine, whose capacity is None.
     pub machine: MachineOptions,
+}
+
+/// What `code` is to do.
+#[derive(Drop)]
+pub struct CodeCommand {
+    /// The code whose meaning is asked for; None: all codes are.
+    pub meaning: Option<Meaning>,
 }
 
 /// Why a line gives no command.

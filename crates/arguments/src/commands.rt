@@ -3,27 +3,29 @@
 ghost use Rattle.std.specs.Prelude.{◌<◌, ◌^◌, IfOk, IfErr, String, codes};
 ghost use Rattle.std.specs.declared.alloc.Global.{Global as AGlobal};
 ghost use Rattle.clap.specs.Words.{found_of, rows_of};
-ghost use Rattle.arguments.specs.Line.{IsAssemble, IsCheck, IsDebug, IsExplain, IsImages, IsMakeVolume, IsReplay, IsRun};
+ghost use Rattle.arguments.specs.Line.{IsAssemble, IsCheck, IsCode, IsDebug, IsExplain, IsImages, IsMakeVolume, IsReplay, IsRun, IsUpgrade};
 ghost use Rattle.arguments.specs.Line.{IsCachedMachine, IsMachineWithin, IsWholeMachine, IsWithin, OnFault};
 ghost use Rattle.arguments.specs.Started.{IsRecorded, IsStarted};
 ghost use Rattle.arguments.specs.Values.{IsWord};
 ghost use Rattle.image_name.specs.Texts.{IsProper};
 ghost use Rattle.arguments.specs.declared.asked.AssembleCommand.{AssembleCommand as AAssembleCommand};
 ghost use Rattle.arguments.specs.declared.asked.MakeVolumeCommand.{MakeVolumeCommand as AMakeVolumeCommand};
+ghost use Rattle.arguments.specs.declared.asked.UpgradeCommand.{UpgradeCommand as AnUpgradeCommand};
 ghost use Rattle.arguments.specs.declared.asked.RunCommand.{RunCommand as ARunCommand};
 ghost use Rattle.arguments.specs.declared.asked.ReplayCommand.{ReplayCommand as AReplayCommand};
 ghost use Rattle.arguments.specs.declared.asked.DebugCommand.{DebugCommand as ADebugCommand};
 ghost use Rattle.arguments.specs.declared.asked.ImagesCommand.{ImagesCommand as AImagesCommand};
 ghost use Rattle.arguments.specs.declared.asked.ExplainCommand.{ExplainCommand as AExplainCommand};
 ghost use Rattle.arguments.specs.declared.asked.CheckCommand.{CheckCommand as ACheckCommand};
+ghost use Rattle.arguments.specs.declared.asked.CodeCommand.{CodeCommand as ACodeCommand};
 ghost use Rattle.arguments.specs.declared.asked.MachineOptions.{MachineOptions as AMachine};
 
 use crate::asked::{
-    AssembleCommand, CheckCommand, DebugCommand, ExplainCommand, ImagesCommand, LineFault,
-    MachineOptions, MakeVolumeCommand, ReplayCommand, RunCommand,
+    AssembleCommand, CheckCommand, CodeCommand, DebugCommand, ExplainCommand, ImagesCommand,
+    LineFault, MachineOptions, MakeVolumeCommand, ReplayCommand, RunCommand, UpgradeCommand,
 };
 use crate::machine::{cached_machine, whole_machine};
-use crate::values::{NumberOption, image_word, number, number_word, optional, word};
+use crate::values::{NumberOption, code_word, image_word, number, number_word, optional, word};
 use clap::ArgMatches;
 use std::alloc::Global;
 
@@ -86,10 +88,14 @@ pub(crate) fn assemble(alloc: Global, found: &ArgMatches<'_>) -> Result<Assemble
     ensures err { IfErr result (OnFault ((command : AAssembleCommand)
         → ¬ (IsAssemble (rows_of (found_of found.now)) command))) }
 {
-    Ok(AssembleCommand {
-        source: word(alloc, found, "SOURCE")?,
-        object: word(alloc, found, "OBJECT")?,
-    })
+    let source = word(alloc, found, "SOURCE")?;
+    let object = word(alloc, found, "OBJECT")?;
+    if source == object {
+        return Err(LineFault::Fault(format!(in alloc;
+            "error: OBJECT has the name of SOURCE, which would be lost\n"
+        )?));
+    }
+    Ok(AssembleCommand { source, object })
 }
 
 /// What `mkfs` is to do.
@@ -106,6 +112,21 @@ pub(crate) fn make_volume(
         lines: number_word(alloc, found, "LINES")?,
         plan: word(alloc, found, "PLAN")?,
         medium: word(alloc, found, "MEDIUM")?,
+    })
+}
+
+/// What `upgrade` is to do.
+pub(crate) fn upgrade(alloc: Global, found: &ArgMatches<'_>) -> Result<UpgradeCommand, LineFault>
+    ensures ok { IfOk result (IsUpgrade (rows_of (found_of found.now))) }
+    ensures within { IfOk result (λ command. (command.pages < 2 ^ 32) × (command.lines < 2 ^ 32)) }
+    ensures err { IfErr result (OnFault ((command : AnUpgradeCommand)
+        → ¬ (IsUpgrade (rows_of (found_of found.now)) command))) }
+{
+    Ok(UpgradeCommand {
+        pages: number_word(alloc, found, "PAGES")?,
+        lines: number_word(alloc, found, "LINES")?,
+        medium: word(alloc, found, "OLD")?,
+        upgraded: word(alloc, found, "NEW")?,
     })
 }
 
@@ -209,5 +230,16 @@ pub(crate) fn check(alloc: Global, found: &ArgMatches<'_>) -> Result<CheckComman
         program: recorded.program,
         schedule: recorded.schedule,
         machine: recorded.machine,
+    })
+}
+
+/// What `code` is to do.
+pub(crate) fn code(alloc: Global, found: &ArgMatches<'_>) -> Result<CodeCommand, LineFault>
+    ensures ok { IfOk result (IsCode (rows_of (found_of found.now))) }
+    ensures err { IfErr result (OnFault ((command : ACodeCommand)
+        → ¬ (IsCode (rows_of (found_of found.now)) command))) }
+{
+    Ok(CodeCommand {
+        meaning: code_word(alloc, found, "CODE")?,
     })
 }

@@ -15,6 +15,11 @@ pub(crate) enum Argument {
         name: &'static str,
         about: &'static str,
     },
+    /// A word that may be left out.
+    Optional {
+        name: &'static str,
+        about: &'static str,
+    },
     /// An option that may be left out, with the name of its value.
     Valued {
         name: &'static str,
@@ -28,6 +33,25 @@ pub(crate) struct Subcommand {
     name: &'static str,
     about: &'static str,
     arguments: &'static [Argument],
+    ending: &'static str,
+}
+
+/// What the help of a subcommand ends with: an example, at will more lines, the statuses, and where to look further.
+macro_rules! ending {
+    ($example:literal) => {
+        ending!($example, "")
+    };
+    ($example:literal, $more:literal) => {
+        concat!(
+            "Example: novacrash ",
+            $example,
+            "\n\n",
+            $more,
+            "Statuses: 0 done or pass, 1 fail, 2 refused input or command line, 3 too many images,\n",
+            "4 want of memory, 5 a file or a standard stream that failed.\n",
+            "Formats and codes: docs/FORMATS.md; `novacrash code CODE` says what a code means."
+        )
+    };
 }
 
 const SOURCE: Argument = Argument::Word {
@@ -63,6 +87,26 @@ const LINES: Argument = Argument::Word {
 const NEW_MEDIUM: Argument = Argument::Word {
     name: "MEDIUM",
     about: "The file that gets the medium",
+};
+
+const OLD_MEDIUM: Argument = Argument::Word {
+    name: "OLD",
+    about: "The file of a medium with a volume of either layout",
+};
+
+const PAGES: Argument = Argument::Word {
+    name: "PAGES",
+    about: "The number of pages of the new volume",
+};
+
+const UPGRADED_MEDIUM: Argument = Argument::Word {
+    name: "NEW",
+    about: "The file that gets the new medium",
+};
+
+const CODE: Argument = Argument::Optional {
+    name: "CODE",
+    about: "A code as it's printed, as A3, T5 or illegal [default: all codes]",
 };
 
 const MOMENT: Argument = Argument::Word {
@@ -112,46 +156,69 @@ const OUT: Argument = Argument::Valued {
 };
 
 /// The subcommands, in the order in which help tells them.
-pub(crate) static SUBCOMMANDS: [Subcommand; 8] = [
+pub(crate) static SUBCOMMANDS: [Subcommand; 10] = [
     Subcommand {
         name: "asm",
         about: "Assemble a source and write its object",
         arguments: &[SOURCE, OBJECT],
+        ending: ending!("asm append.s append.o"),
     },
     Subcommand {
         name: "mkfs",
         about: "Write a fresh log volume for the operations of a plan",
         arguments: &[PLAN, LINES, NEW_MEDIUM],
+        ending: ending!("mkfs append.plan 512 fresh.medium"),
+    },
+    Subcommand {
+        name: "upgrade",
+        about: "Move the logs of a volume to a new volume of the second layout",
+        arguments: &[OLD_MEDIUM, PAGES, LINES, UPGRADED_MEDIUM],
+        ending: ending!("upgrade old.medium 1 512 new.medium"),
     },
     Subcommand {
         name: "run",
         about: "Run a program",
         arguments: &[PROGRAM, MEDIUM, HARTS, CAPACITY, STEPS, RECORD, OUT],
+        ending: ending!("run append.s --medium fresh.medium --record whole.schedule"),
     },
     Subcommand {
         name: "replay",
         about: "Run a program by a schedule",
         arguments: &[PROGRAM, SCHEDULE, MEDIUM, HARTS, CAPACITY, OUT],
+        ending: ending!("replay append.s append.schedule --medium fresh.medium --out left.medium"),
     },
     Subcommand {
         name: "debug",
         about: "Debug a program by commands on standard input",
         arguments: &[PROGRAM, MEDIUM, HARTS, CAPACITY],
+        ending: ending!(
+            "debug append.s --medium fresh.medium",
+            "Commands of the session: break A, watch A, clear A, step H, go [ITEMS], regs H, peek A N, quit.\n\n"
+        ),
     },
     Subcommand {
         name: "images",
         about: "Count the crash images of a moment of a run by a schedule",
         arguments: &[PROGRAM, SCHEDULE, MOMENT, MEDIUM, HARTS],
+        ending: ending!("images append.s append.schedule 5 --medium fresh.medium"),
     },
     Subcommand {
         name: "explain",
         about: "Print a schedule that leaves a crash image of a moment of a run",
         arguments: &[PROGRAM, SCHEDULE, MOMENT, IMAGE, MEDIUM, HARTS],
+        ending: ending!("explain append.s append.schedule 5 2 --medium fresh.medium"),
     },
     Subcommand {
         name: "check",
         about: "Judge every crash image of a run by a schedule",
         arguments: &[PLAN, PROGRAM, SCHEDULE, MEDIUM, HARTS],
+        ending: ending!("check append.plan append.s append.schedule --medium fresh.medium"),
+    },
+    Subcommand {
+        name: "code",
+        about: "Say what a code means that the program prints, and what to do",
+        arguments: &[CODE],
+        ending: ending!("code A3"),
     },
 ];
 
@@ -163,6 +230,7 @@ impl Argument {
     {
         match self {
             Argument::Word { name, about } => Arg::new(alloc, name).required(true).help(about),
+            Argument::Optional { name, about } => Arg::new(alloc, name).help(about),
             Argument::Valued { name, value, about } => Arg::new(alloc, name)
                 .long(name)
                 .value_name(value)
@@ -187,7 +255,9 @@ impl Subcommand {
     fn to_clap<'a>(&self, alloc: Global) -> Result<clap::Command<'a>, AllocError>
         ensures { IfOk result (IsGrammar (leaf (shape self.now))) }
     {
-        let mut command = clap::Command::new(alloc, self.name).about(self.about);
+        let mut command = clap::Command::new(alloc, self.name)
+            .about(self.about)
+            .after_help(self.ending);
         for argument in self.arguments {
             command = command.arg(argument.to_clap(alloc))?;
         }

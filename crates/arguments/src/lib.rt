@@ -9,7 +9,8 @@ mod machine;
 mod values;
 
 pub use asked::{
-    AssembleCommand, CheckCommand, Command, DebugCommand, ExplainCommand, ImagesCommand, LineFault,
-    MachineOptions, MakeVolumeCommand, ReplayCommand, RunCommand,
+    AssembleCommand, CheckCommand, CodeCommand, Command, DebugCommand, ExplainCommand,
+    ImagesCommand, LineFault, MachineOptions, MakeVolumeCommand, ReplayCommand, RunCommand,
+    UpgradeCommand,
 };
 pub use line::command;

@@ -7,7 +7,9 @@ ghost use Rattle.arguments.specs.Line.{IsCommand, IsFault, IsKindOf, IsOf, IsWit
 ghost use Rattle.arguments.specs.declared.asked.Command.{Command as ACommand};
 
 use crate::asked::{Command, LineFault};
-use crate::commands::{assemble, check, debug, explain, images, make_volume, replay, run};
+use crate::commands::{
+    assemble, check, code, debug, explain, images, make_volume, replay, run, upgrade,
+};
 use crate::grammar::{SUBCOMMANDS, grammar};
 use clap::ArgMatches;
 use clap::error::ErrorKind;
@@ -69,12 +71,14 @@ fn asked(alloc: Global, name: &str, found: &ArgMatches<'_>) -> Result<Command, L
     Ok(match name {
         "asm" => Command::Assemble(assemble(alloc, found)?),
         "mkfs" => Command::MakeVolume(make_volume(alloc, found)?),
+        "upgrade" => Command::Upgrade(upgrade(alloc, found)?),
         "run" => Command::Run(run(alloc, found)?),
         "replay" => Command::Replay(replay(alloc, found)?),
         "debug" => Command::Debug(debug(alloc, found)?),
         "images" => Command::Images(images(alloc, found)?),
         "explain" => Command::Explain(explain(alloc, found)?),
         "check" => Command::Check(check(alloc, found)?),
+        "code" => Command::Code(code(alloc, found)?),
         _ => return Err(unknown(alloc)?),
     })
 }
@@ -83,18 +87,20 @@ fn asked(alloc: Global, name: &str, found: &ArgMatches<'_>) -> Result<Command, L
 ///
 /// # Errors
 /// Help where the line asks for it, Memory where memory is refused, and else Fault where the line
-/// isn't one of these, with FILE any word that isn't empty and doesn't begin with `-`, LINES and MOMENT
-/// below 2^32 and each N within the limits that `Command` has for it, in decimal digits all, and IMAGE a
-/// text that `ImageName::read` takes as a name:
+/// isn't one of these, with FILE any word that isn't empty and doesn't begin with `-`, PAGES, LINES and MOMENT
+/// below 2^32 and each N within the limits that `Command` has for it, in decimal digits all, IMAGE a
+/// text that `ImageName::read` takes as a name, CODE one of `code_table`'s, and OBJECT another word than SOURCE:
 ///
 /// - `asm SOURCE OBJECT`
 /// - `mkfs PLAN LINES MEDIUM`
+/// - `upgrade OLD PAGES LINES NEW`
 /// - `run PROGRAM [--medium FILE --harts N --capacity N --steps N --record FILE --out FILE]`
 /// - `replay PROGRAM SCHEDULE [--medium FILE --harts N --capacity N --out FILE]`
 /// - `debug PROGRAM [--medium FILE --harts N --capacity N]`
 /// - `images PROGRAM SCHEDULE MOMENT [--medium FILE --harts N]`
 /// - `explain PROGRAM SCHEDULE MOMENT IMAGE [--medium FILE --harts N]`
 /// - `check PLAN PROGRAM SCHEDULE [--medium FILE --harts N]`
+/// - `code [CODE]`
 #[tactic(auto, using(crate::proofs::Lines::has_none))]
 pub fn command(alloc: Global, words: &[String]) -> Result<Command, LineFault>
     ensures ok { IfOk result (IsCommand (map string_bytes words.now)) }

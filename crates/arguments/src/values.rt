@@ -4,12 +4,14 @@ ghost use Rattle.std.specs.Prelude.{◌≡◌, ◌≤◌, ℕ, IfOk, IfErr, Matc
 ghost use Rattle.std.specs.declared.alloc.Global.{Global as AGlobal};
 ghost use Rattle.clap.specs.Words.{first_of, found_of, rows_of};
 ghost use Rattle.arguments.specs.Line.{OnFault};
-ghost use Rattle.arguments.specs.Values.{IsImageWord, IsNumber, IsNumberWord, IsOptional, IsWord};
+ghost use Rattle.arguments.specs.Values.{IsCodeWord, IsImageWord, IsNumber, IsNumberWord, IsOptional, IsWord};
+ghost use Rattle.code_table.specs.declared.table.Meaning.{Meaning as AMeaning};
 ghost use Rattle.image_name.specs.Texts.{IsProper};
 ghost use Rattle.image_name.specs.declared.name.ImageName.{ImageName as AnImageName};
 
 use crate::asked::LineFault;
 use clap::ArgMatches;
+use code_table::{Meaning, meaning_of};
 use decimal::{decimal, decimal_within};
 use image_name::ImageName;
 use std::alloc::Global;
@@ -92,6 +94,27 @@ pub(crate) fn image_word(
         Some(image) => Ok(image),
         None => Err(LineFault::Fault(format!(in alloc;
             "error: {name} is a decimal number below 4294967296, or lines as in l1:1,l300:1, or floor\n"
+        )?)),
+    }
+}
+
+/// What the code of a word means, which may be left out.
+pub(crate) fn code_word(
+    alloc: Global,
+    found: &ArgMatches<'_>,
+    name: &str,
+) -> Result<Option<Meaning>, LineFault>
+    ensures ok { IfOk result (IsCodeWord (first_of name.now (rows_of (found_of found.now)))) }
+    ensures err { IfErr result (OnFault ((meaning : Option AMeaning)
+        → ¬ (IsCodeWord (first_of name.now (rows_of (found_of found.now))) meaning))) }
+{
+    let Some(text) = value(found, name) else {
+        return Ok(None);
+    };
+    match meaning_of(text) {
+        Some(meaning) => Ok(Some(meaning)),
+        None => Err(LineFault::Fault(format!(in alloc;
+            "error: there is no code {text}; `novacrash code` lists all\n"
         )?)),
     }
 }

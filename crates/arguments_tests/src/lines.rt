@@ -1,6 +1,6 @@
 //! Lines that are read, and lines that are refused, for each rule of the command line.
 
-use arguments::{Command, LineFault, MachineOptions, command};
+use arguments::{CodeCommand, Command, LineFault, MachineOptions, command};
 use std::alloc::{AllocError, Global};
 use std::test::Fail;
 
@@ -84,6 +84,14 @@ fn images_of(alloc: Global, command: &Command) -> Result<String, AllocError> {
     }
 }
 
+/// The code that is asked for, or that all are.
+fn code_of(command: &CodeCommand) -> &str {
+    match &command.meaning {
+        Some(meaning) => meaning.code,
+        None => "all",
+    }
+}
+
 /// A command: its name, its words and its options.
 fn shown(alloc: Global, command: &Command) -> Result<String, AllocError> {
     match command {
@@ -92,6 +100,11 @@ fn shown(alloc: Global, command: &Command) -> Result<String, AllocError> {
             "mkfs {} {} {}",
             volume.plan, volume.lines, volume.medium
         ),
+        Command::Upgrade(upgrade) => format!(in alloc;
+            "upgrade {} {} {} {}",
+            upgrade.medium, upgrade.pages, upgrade.lines, upgrade.upgraded
+        ),
+        Command::Code(code) => format!(in alloc; "code {}", code_of(code)),
         _ => images_of(alloc, command),
     }
 }
@@ -138,6 +151,10 @@ fn defaults_stand_where_options_are_left_out(rt: HostRuntime) -> Result<(), Fail
     let lines = [
         ("novacrash asm a.s a.o", "asm a.s a.o"),
         ("novacrash mkfs p 512 m", "mkfs p 512 m"),
+        ("novacrash upgrade o 1 512 n", "upgrade o 1 512 n"),
+        ("novacrash code", "code all"),
+        ("novacrash code A3", "code A3"),
+        ("novacrash code illegal", "code illegal"),
         ("novacrash run a.s", "run a.s / - 1 16 / 1000000 - -"),
         ("novacrash replay a.s s", "replay a.s s / - 1 16 / -"),
         ("novacrash debug a.s", "debug a.s / - 1 16"),
@@ -226,7 +243,7 @@ fn options_are_read(rt: HostRuntime) -> Result<(), Fail> {
 }
 
 /// Lines whose numbers are at their limits, and what they are read as.
-const AT_LIMITS: [(&str, &str); 13] = [
+const AT_LIMITS: [(&str, &str); 15] = [
     (
         "novacrash run a --harts 8 --capacity 16384",
         "run a / - 8 16384 / 1000000 - -",
@@ -250,6 +267,11 @@ const AT_LIMITS: [(&str, &str); 13] = [
         "check p a s / - 8 whole",
     ),
     ("novacrash mkfs p 0 m", "mkfs p 0 m"),
+    ("novacrash upgrade o 0 00 n", "upgrade o 0 0 n"),
+    (
+        "novacrash upgrade o 4294967295 4294967294 n",
+        "upgrade o 4294967295 4294967294 n",
+    ),
     ("novacrash mkfs p 4294967295 m", "mkfs p 4294967295 m"),
     ("novacrash images a s 0", "images a s 0 / - 1 whole"),
     (
@@ -300,6 +322,10 @@ fn other_numbers_are_faults(rt: HostRuntime) -> Result<(), Fail> {
         "novacrash check p a s --harts 9",
         "novacrash mkfs p 4294967296 m",
         "novacrash mkfs p +1 m",
+        "novacrash upgrade o 4294967296 512 n",
+        "novacrash upgrade o 1 4294967296 n",
+        "novacrash upgrade o +1 512 n",
+        "novacrash upgrade o 1 0x200 n",
         "novacrash images a s 4294967296",
         "novacrash images a s +1",
         "novacrash images a s 0x1",
@@ -322,6 +348,13 @@ fn missing_and_further_words_are_faults(rt: HostRuntime) -> Result<(), Fail> {
         "novacrash asm a.s a.o b.o",
         "novacrash mkfs p 512",
         "novacrash mkfs p 512 m n",
+        "novacrash upgrade o 1 512",
+        "novacrash upgrade o 1 512 n m",
+        "novacrash code A3 A4",
+        "novacrash code A11",
+        "novacrash code a3",
+        "novacrash code 3",
+        "novacrash code ",
         "novacrash run",
         "novacrash run a.s b.s",
         "novacrash replay a.s",
@@ -339,6 +372,15 @@ fn missing_and_further_words_are_faults(rt: HostRuntime) -> Result<(), Fail> {
         "novacrash help",
         "novacrash help run",
     ];
+    let accepted = first_other(rt.alloc(), &lines, "fault")?;
+    assert!(rt; accepted.is_none(), "{accepted:?}");
+    Ok(())
+}
+
+/// A source isn't overwritten by its object.
+#[test]
+fn an_object_has_another_name_than_its_source(rt: HostRuntime) -> Result<(), Fail> {
+    let lines = ["novacrash asm a.s a.s", "novacrash asm -- -a -a"];
     let accepted = first_other(rt.alloc(), &lines, "fault")?;
     assert!(rt; accepted.is_none(), "{accepted:?}");
     Ok(())
@@ -364,6 +406,8 @@ fn options_out_of_place_are_faults(rt: HostRuntime) -> Result<(), Fail> {
         "novacrash run a.s --lines 5",
         "novacrash asm a.s a.o --harts 1",
         "novacrash mkfs p 512 m --medium m",
+        "novacrash upgrade o 1 512 n --harts 1",
+        "novacrash code A3 --harts 1",
         "novacrash replay a.s s --steps 5",
         "novacrash replay a.s s --record r",
         "novacrash debug a.s --steps 5",
@@ -390,6 +434,8 @@ fn help_is_asked_for(rt: HostRuntime) -> Result<(), Fail> {
         "novacrash --help",
         "novacrash asm --help",
         "novacrash mkfs --help",
+        "novacrash upgrade --help",
+        "novacrash code --help",
         "novacrash run --help",
         "novacrash replay --help",
         "novacrash debug --help",
@@ -413,7 +459,7 @@ fn text_of(alloc: Global, line: &str) -> Result<Option<String>, AllocError> {
 }
 
 /// Lines that are refused, and the texts that they are refused with.
-const TEXTS: [(&str, &str); 6] = [
+const TEXTS: [(&str, &str); 9] = [
     (
         "novacrash run a.s --steps 0",
         "error: --steps takes a decimal number from 1 to 500000000\n",
@@ -431,6 +477,14 @@ const TEXTS: [(&str, &str); 6] = [
         "error: IMAGE is a decimal number below 4294967296, or lines as in l1:1,l300:1, or floor\n",
     ),
     (
+        "novacrash asm a.s a.s",
+        "error: OBJECT has the name of SOURCE, which would be lost\n",
+    ),
+    (
+        "novacrash code A11",
+        "error: there is no code A11; `novacrash code` lists all\n",
+    ),
+    (
         "novacrash run a.s b.s",
         "error: unexpected argument 'b.s' found\n\n\
          Usage: novacrash run [OPTIONS] <PROGRAM>\n\n\
@@ -446,7 +500,22 @@ const TEXTS: [(&str, &str); 6] = [
          --harts <N>      The number of harts, from 1 to 8 [default: 1]\n      \
          --capacity <N>   The most lines of the cache, from 1 to 16384 [default: 16]\n      \
          --out <FILE>     The file that gets the medium of a power cut at the end\n      \
-         --help           Print help\n",
+         --help           Print help\n\n\
+         Example: novacrash replay append.s append.schedule --medium fresh.medium --out left.medium\n\n\
+         Statuses: 0 done or pass, 1 fail, 2 refused input or command line, 3 too many images,\n\
+         4 want of memory, 5 a file or a standard stream that failed.\n\
+         Formats and codes: docs/FORMATS.md; `novacrash code CODE` says what a code means.\n",
+    ),
+    (
+        "novacrash code --help",
+        "Say what a code means that the program prints, and what to do\n\n\
+         Usage: novacrash code [CODE]\n\n\
+         Arguments:\n  [CODE]  A code as it's printed, as A3, T5 or illegal [default: all codes]\n\n\
+         Options:\n      --help  Print help\n\n\
+         Example: novacrash code A3\n\n\
+         Statuses: 0 done or pass, 1 fail, 2 refused input or command line, 3 too many images,\n\
+         4 want of memory, 5 a file or a standard stream that failed.\n\
+         Formats and codes: docs/FORMATS.md; `novacrash code CODE` says what a code means.\n",
     ),
 ];
 

@@ -53,6 +53,7 @@ volume_code volumes.Link = codes "N7"
 volume_code volumes.Kind = codes "N8"
 volume_code volumes.Name = codes "N9"
 volume_code volumes.Memory = codes "N10"
+volume_code volumes.Pages = codes "N11"
 
 -- of the mark of an operation
 abbrev pub operation_code : OpFault → List ℕ

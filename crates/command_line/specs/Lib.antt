@@ -1,6 +1,7 @@
 pub mod Assembling
 pub mod Checking
 pub mod Codes
+pub mod Coding
 pub mod Debugging
 pub mod Explaining
 pub mod Failures
@@ -11,4 +12,5 @@ pub mod Reading
 pub mod Reports
 pub mod Running
 pub mod Steps
+pub mod Upgrading
 pub mod Writing

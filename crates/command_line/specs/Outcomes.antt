@@ -4,19 +4,21 @@ use Rattle.std.specs.Io.KnownBytes.{Appends}
 use Rattle.std.specs.Result.{result_map_both}
 use Rattle.arguments.specs.Line.{IsCommand, Refuses}
 use Rattle.arguments.specs.declared.asked.Command.{Command}
-use Rattle.arguments.specs.declared.asked.Command.TheVariants.{Assemble, Check, Debug, Explain, Images, MakeVolume, Replay, Run}
+use Rattle.arguments.specs.declared.asked.Command.TheVariants.{Assemble, Check, Code, Debug, Explain, Images, MakeVolume, Replay, Run, Upgrade}
 use Rattle.arguments.specs.declared.asked.LineFault.{LineFault}
 use Rattle.arguments.specs.declared.asked.LineFault.TheVariants as line_faults
 use Rattle.session.specs.Failing.{AppendsFront}
 use Rattle.command_line.specs.Assembling.{AssemblesFile}
 use Rattle.command_line.specs.Checking.{ChecksFile}
+use Rattle.command_line.specs.Coding.{code_text}
 use Rattle.command_line.specs.Debugging.{HoldsSession, OpensFile}
 use Rattle.command_line.specs.Explaining.{ExplainsFile}
 use Rattle.command_line.specs.Failures.{failure_status}
 use Rattle.command_line.specs.Imaging.{CountsFile}
 use Rattle.command_line.specs.Making.{MakesFile}
 use Rattle.command_line.specs.Running.{ReplaysFile, RunsFile}
-use Rattle.command_line.specs.Steps.{Reads, Step, Writes}
+use Rattle.command_line.specs.Steps.{Prints, Reads, Step, Still, Writes}
+use Rattle.command_line.specs.Upgrading.{UpgradesFile}
 use Rattle.command_line.specs.declared.answer.Action.{Action}
 use Rattle.command_line.specs.declared.answer.Action.TheVariants as actions
 use Rattle.command_line.specs.declared.answer.Answer.{Answer}
@@ -33,12 +35,14 @@ pub record LeadsTo {F A : Type 0} (finds : Step F A) (action : A → Action) (ol
 abbrev pub CarriesOut : {F : Type 0} → Reads F → Writes F → Command → Step F Action
 CarriesOut reads writes (Assemble command) = LeadsTo (AssemblesFile reads writes command) actions.Print
 CarriesOut reads writes (MakeVolume command) = LeadsTo (MakesFile reads writes command) actions.Print
+CarriesOut reads writes (Upgrade command) = LeadsTo (UpgradesFile reads writes command) actions.Print
 CarriesOut reads writes (Run command) = LeadsTo (RunsFile reads writes command) actions.Print
 CarriesOut reads writes (Replay command) = LeadsTo (ReplaysFile reads writes command) actions.Print
 CarriesOut reads writes (Debug command) = LeadsTo (OpensFile reads command) actions.Debug
 CarriesOut reads writes (Images command) = LeadsTo (CountsFile reads command) actions.Print
 CarriesOut reads writes (Explain command) = LeadsTo (ExplainsFile reads command) actions.Print
 CarriesOut reads writes (Check command) = LeadsTo (ChecksFile reads command) actions.Print
+CarriesOut reads writes (Code command) = LeadsTo (Still (Prints (code_text command.meaning) 0)) actions.Print
 
 -- what a line comes to that asks for no command
 abbrev pub AnswersFault : LineFault → Result Action Failure → Type 0

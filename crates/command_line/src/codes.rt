@@ -69,6 +69,7 @@ pub(crate) fn volume_code(fault: VolumeFault) -> &'static str
         VolumeFault::Kind => "N8",
         VolumeFault::Name => "N9",
         VolumeFault::Memory => "N10",
+        VolumeFault::Pages => "N11",
     }
 }
 

@@ -9,6 +9,7 @@ ghost use Rattle.command_line.specs.declared.answer.Action.TheVariants.{Debug, P
 use crate::answer::{Action, Answer};
 use crate::assembling::assemble_file;
 use crate::checking::check_file;
+use crate::coding::tell_code;
 use crate::debugging::open_file;
 use crate::explaining::explain_file;
 use crate::failure::Failure;
@@ -16,6 +17,7 @@ use crate::files::Files;
 use crate::imaging::count_file;
 use crate::making::make_file;
 use crate::running::{replay_file, run_file};
+use crate::upgrading::upgrade_file;
 use arguments::{Command, LineFault, command};
 use machine::Machine;
 use std::alloc::Global;
@@ -38,12 +40,14 @@ fn carry_out<F: Files>(alloc: Global, command: Command, files: &mut F) -> Result
     match command {
         Command::Assemble(command) => printed(assemble_file(alloc, &command, files)),
         Command::MakeVolume(command) => printed(make_file(alloc, &command, files)),
+        Command::Upgrade(command) => printed(upgrade_file(alloc, &command, files)),
         Command::Run(command) => printed(run_file(alloc, &command, files)),
         Command::Replay(command) => printed(replay_file(alloc, &command, files)),
         Command::Debug(command) => debugged(open_file(alloc, &command, files)),
         Command::Images(command) => printed(count_file(alloc, &command, files)),
         Command::Explain(command) => printed(explain_file(alloc, &command, files)),
         Command::Check(command) => printed(check_file(alloc, &command, files)),
+        Command::Code(command) => printed(tell_code(alloc, &command)),
     }
 }
 

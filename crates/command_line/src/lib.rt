@@ -6,6 +6,7 @@ mod assembling;
 mod causes;
 mod checking;
 mod codes;
+mod coding;
 mod commands;
 mod debugging;
 mod executing;
@@ -18,6 +19,7 @@ mod reading;
 mod reporting;
 mod running;
 mod streams;
+mod upgrading;
 mod writing;
 
 pub use answer::{Action, Answer};

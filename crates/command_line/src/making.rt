@@ -34,8 +34,8 @@ fn volume_of(alloc: Global, plan: &Plan, lines: u32) -> Result<Medium, Failure>
     Ok(make_volume(alloc, plan, lines)?)
 }
 
-/// `lines N`.
-fn lines_line(alloc: Global, volume: &Medium) -> Result<Answer, Failure>
+/// `lines N`: the cache lines of a medium that was made.
+pub(crate) fn lines_line(alloc: Global, volume: &Medium) -> Result<Answer, Failure>
     ensures { Prints (lines_line volume.now) 0 result }
 {
     let lines = volume.lines();

@@ -89,7 +89,12 @@ pub(crate) fn read_medium<F: Files>(
     }
 }
 
-fn read_named_medium<F: Files>(alloc: Global, name: &str, files: &mut F) -> Result<Medium, Failure>
+/// The medium in a file.
+pub(crate) fn read_named_medium<F: Files>(
+    alloc: Global,
+    name: &str,
+    files: &mut F,
+) -> Result<Medium, Failure>
     ensures { ReadsMedium F.read_gives (Some name.now) files.old result files.new }
 {
     let bytes = read_file(name, files)?;

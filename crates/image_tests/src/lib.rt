@@ -13,6 +13,8 @@ mod indexes;
 #[cfg(test)]
 mod models;
 #[cfg(test)]
+mod second_layout;
+#[cfg(test)]
 mod traces;
 #[cfg(test)]
 mod verdicts;

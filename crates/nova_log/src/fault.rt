@@ -6,10 +6,10 @@ ghost use Rattle.std.specs.Prelude.{◌≡◌};
 use std::alloc::AllocError;
 use thiserror::Error;
 
-/// What recovery finds wrong first, the counts that no volume has, or want of memory.
+/// What recovery finds wrong first, the counts that no volume has, too few pages, or want of memory.
 ///
-/// The message is the fault's code, N1 to N10. Recovery answers the first of N1 to N9 that it meets: in the superblock,
-/// in the journals upwards, in the inodes upwards, then in the logs, inode by inode.
+/// The message is the fault's code, N1 to N11. Recovery answers the first of N1 to N9 that it meets: in the superblock,
+/// in the journals upwards, in the inodes upwards, then in the logs, inode by inode. Pages comes of an upgrade alone.
 #[derive(Clone, Copy, Debug, PartialEq, Eq, Error)]
 pub enum VolumeFault {
     /// The first line begins with no layout's magic.
@@ -42,6 +42,9 @@ pub enum VolumeFault {
     /// Memory was refused.
     #[error("N10")]
     Memory,
+    /// The logs need more pages than there are to be.
+    #[error("N11")]
+    Pages,
 }
 
 impl From<AllocError> for VolumeFault {

@@ -1,4 +1,4 @@
-//! Tests of `volume`, `nova_log` and `plan`: logs that grow, volumes made by hand and recovered, and plans read. They stand
+//! Tests of `volume`, `nova_log`, `log_upgrade` and `plan`: logs that grow, volumes made by hand, recovered and upgraded, and plans read. They stand
 //! apart, so that those crates aren't proved a second time for them. The crate has tests alone.
 #![tactic(auto)]
 
@@ -8,5 +8,7 @@ mod logs;
 mod plans;
 #[cfg(test)]
 mod recovery;
+#[cfg(test)]
+mod upgrades;
 #[cfg(test)]
 mod volumes;

@@ -10,10 +10,10 @@ use std::alloc::{AllocError, Global};
 use volume::{EntryKind, Volume};
 
 /// Numbers of eight bytes, with their offsets.
-type Numbers = &'static [(u32, u64)];
+pub(crate) type Numbers = &'static [(u32, u64)];
 
 /// Counts of inodes, pages, journals and lines.
-type Counts = (u32, u32, u32, u32);
+pub(crate) type Counts = (u32, u32, u32, u32);
 
 /// What is made of these counts: the numbers of the medium that aren't zero.
 static NEW_VOLUMES: [(Layout, Counts, Numbers); 2] = [
@@ -46,7 +46,7 @@ static NEW_VOLUMES: [(Layout, Counts, Numbers); 2] = [
 ];
 
 /// A new volume. A call that is refused memory is made again.
-fn made(
+pub(crate) fn made(
     alloc: Global,
     layout: Layout,
     (inodes, pages, journals, lines): Counts,
@@ -68,7 +68,7 @@ fn number_at(numbers: &[(u32, u64)], offset: u32) -> u64 {
 }
 
 /// Whether a medium of 512 lines has these numbers, and else zeros.
-fn holds_only(medium: &Medium, numbers: &[(u32, u64)]) -> bool {
+pub(crate) fn holds_only(medium: &Medium, numbers: &[(u32, u64)]) -> bool {
     if medium.lines() != 512 {
         return false;
     }
@@ -134,7 +134,7 @@ fn counts_have_limits(rt: HostRuntime) {
     assert_eq!(rt; differing, None);
 }
 
-static CODES: [(VolumeFault, &str); 10] = [
+static CODES: [(VolumeFault, &str); 11] = [
     (VolumeFault::Magic, "N1"),
     (VolumeFault::Counts, "N2"),
     (VolumeFault::JournalNumbers, "N3"),
@@ -145,6 +145,7 @@ static CODES: [(VolumeFault, &str); 10] = [
     (VolumeFault::Kind, "N8"),
     (VolumeFault::Name, "N9"),
     (VolumeFault::Memory, "N10"),
+    (VolumeFault::Pages, "N11"),
 ];
 
 fn code_of(alloc: Global, fault: VolumeFault) -> Result<String, AllocError> {
@@ -190,14 +191,14 @@ fn put(medium: &mut Medium, offset: u32, number: u64) {
     }
 }
 
-fn put_all(medium: &mut Medium, numbers: &[(u32, u64)]) {
+pub(crate) fn put_all(medium: &mut Medium, numbers: &[(u32, u64)]) {
     for (offset, number) in numbers {
         put(medium, *offset, *number);
     }
 }
 
 /// Writes entries of 64 bytes from an offset on, each a write of the operation of its place.
-fn put_entries(medium: &mut Medium, (offset, count): (u32, u32)) {
+pub(crate) fn put_entries(medium: &mut Medium, (offset, count): (u32, u32)) {
     let mut offset = offset;
     for operation in 0..count {
         put(medium, offset, 1);
@@ -225,7 +226,7 @@ struct Asked {
 }
 
 /// The rename of `a` from inode 0 to inode 1, with these numbers of the journal's head and of both tails.
-const RENAMED: Numbers = &[
+pub(crate) const RENAMED: Numbers = &[
     (8200, 2),
     (8264, 16_384),
     (8320, 1),
@@ -262,7 +263,7 @@ const ADDED: ExpectedLog = ExpectedLog {
 };
 
 /// An entry of operation 1 that adds a name, with its second line: first the name's length and all after it.
-const LONG_NAME: Numbers = &[
+pub(crate) const LONG_NAME: Numbers = &[
     (72, 16_512),
     (16_392, 1),
     (16_400, 9),
@@ -460,7 +461,7 @@ fn written_over(alloc: Global, recovery: &Recovery) -> Result<Medium, VolumeFaul
 }
 
 /// What recovery finds. A call that is refused memory is made again.
-fn recovered(alloc: Global, medium: &Medium) -> Result<Volume, VolumeFault> {
+pub(crate) fn recovered(alloc: Global, medium: &Medium) -> Result<Volume, VolumeFault> {
     match recover(alloc, medium) {
         Err(VolumeFault::Memory) => recover(alloc, medium),
         outcome => outcome,

@@ -1,4 +1,5 @@
 -- Each command comes to what its function says.
+use Rattle.std.proofs.Common.{refl}
 use Rattle.command_line.proofs.commands.carry_out.Goals as goal
 
 pub returns-in-Assemble : goal.returns-in-Assemble
@@ -6,6 +7,9 @@ returns-in-Assemble g c = rw c.in-Assemble.is (record { found = c.assemble_file.
 
 pub returns-in-MakeVolume : goal.returns-in-MakeVolume
 returns-in-MakeVolume g c = rw c.in-MakeVolume.is (record { found = c.make_file.result; finding = c.make_file.ensures; leads = c.printed-in-MakeVolume.ensures })
+
+pub returns-in-Upgrade : goal.returns-in-Upgrade
+returns-in-Upgrade g c = rw c.in-Upgrade.is (record { found = c.upgrade_file.result; finding = c.upgrade_file.ensures; leads = c.printed-in-Upgrade.ensures })
 
 pub returns-in-Run : goal.returns-in-Run
 returns-in-Run g c = rw c.in-Run.is (record { found = c.run_file.result; finding = c.run_file.ensures; leads = c.printed-in-Run.ensures })
@@ -24,3 +28,10 @@ returns-in-Explain g c = rw c.in-Explain.is (record { found = c.explain_file.res
 
 pub returns-in-Check : goal.returns-in-Check
 returns-in-Check g c = rw c.in-Check.is (record { found = c.check_file.result; finding = c.check_file.ensures; leads = c.printed-in-Check.ensures })
+
+pub returns-in-Code : goal.returns-in-Code
+returns-in-Code g c = rw c.in-Code.is (record {
+  found = c.tell_code.result;
+  finding = record { value = c.tell_code.ensures; untouched = refl };
+  leads = c.printed-in-Code.ensures;
+})

@@ -1,0 +1,9 @@
+-- What `code` prints.
+use Rattle.std.specs.Prelude.{ℕ, List, Option, Some, None}
+use Rattle.code_table.specs.Codes.{list_text, meaning_text}
+use Rattle.code_table.specs.declared.table.Meaning.{Meaning}
+
+-- what one code means, or the list of all
+abbrev pub code_text : Option Meaning → List ℕ
+code_text None = list_text
+code_text (Some meaning) = meaning_text meaning

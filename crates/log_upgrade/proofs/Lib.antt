@@ -1,0 +1,12 @@
+pub mod Again
+pub mod Chains
+pub mod Faults
+pub mod Making
+pub mod Numbers
+pub mod Places
+pub mod Recovered
+pub mod Sound
+pub mod StoredEntries
+pub mod Upgrading
+pub mod Writing
+pub mod WrittenLines
