@@ -4,8 +4,9 @@ ghost use Rattle.std.specs.List.{Contains};
 ghost use Rattle.std.specs.Prelude.{◌≡◌, ◌+◌, ◌<◌, ◌≤◌, IfSome};
 
 use crate::{CheckDesk, DeskResult, DeskSeat, Judge, Judged, judge_all};
-use gate::Open;
+use gate::{Gate, Open};
 use std::alloc::{AllocError, Global};
+use std::sync::atomic::{AtomicU32, Ordering};
 use std::test::*;
 use std::thread::Threads;
 
@@ -140,5 +141,73 @@ fn the_least_bad_moment_is_found(rt: HostRuntime) -> Result<(), Fail> {
     assert_eq!(rt; swept(&rt, rt.alloc(), 1, 7)?, Some((7, 0)));
     assert_eq!(rt; swept(&rt, rt.alloc(), 2, 7)?, Some((7, 0)));
     assert_eq!(rt; swept(&rt, rt.alloc(), 8, 0)?, Some((0, 0)));
+    Ok(())
+}
+
+/// Counts how often each worker enters and leaves.
+#[derive(Drop)]
+struct Counting {
+    entered: [AtomicU32; 8],
+    left: [AtomicU32; 8],
+}
+
+impl Gate for Counting {
+    fn enter(&self, worker: u32) {
+        if let Some(times) = self.entered.get(worker as usize) {
+            times.fetch_add(1, Ordering::SeqCst);
+        }
+    }
+
+    fn leave(&self, worker: u32) {
+        if let Some(times) = self.left.get(worker as usize) {
+            times.fetch_add(1, Ordering::SeqCst);
+        }
+    }
+}
+
+/// Nothing counted yet.
+fn no_counts() -> [AtomicU32; 8] {
+    [
+        AtomicU32::new(0),
+        AtomicU32::new(0),
+        AtomicU32::new(0),
+        AtomicU32::new(0),
+        AtomicU32::new(0),
+        AtomicU32::new(0),
+        AtomicU32::new(0),
+        AtomicU32::new(0),
+    ]
+}
+
+/// What was counted of each worker.
+fn counted(counts: &[AtomicU32; 8]) -> [u32; 8] {
+    let mut counted = [0; 8];
+    for worker in 0..8 {
+        counted[worker] = counts[worker].load(Ordering::SeqCst);
+    }
+    counted
+}
+
+/// Each of eight workers claims until it has a None: ten claims of a moment, and eight more.
+#[test]
+fn each_worker_passes_the_gate_at_each_claim(rt: HostRuntime) -> Result<(), Fail> {
+    let gate = Counting {
+        entered: no_counts(),
+        left: no_counts(),
+    };
+    let job = Limit {
+        moments: 10,
+        limit: 10,
+    };
+    assert_eq!(rt; judge_all(&rt, rt.alloc(), 10, 8, &job, &gate)?, None);
+    let entered = counted(&gate.entered);
+    assert!(rt; entered.iter().all(|times| *times > 0));
+    assert_eq!(rt;
+        entered
+            .iter()
+            .fold(0, |sum: u32, times| sum.wrapping_add(*times)),
+        18
+    );
+    assert_eq!(rt; counted(&gate.left), entered);
     Ok(())
 }

@@ -1,0 +1,39 @@
+//! Verdicts on whole runs by two workers.
+
+use crate::ending::{Refused, ended, refusal};
+use crate::samples::APPEND;
+use crate::verdicts::{Expected, MISSING_FENCE, Run, is_expected, run_of};
+use crash_image::has_lines;
+use gate::Open;
+use image_check::CheckFault;
+use parallel_check::check_parallel;
+use std::alloc::Global;
+use std::thread::Threads;
+
+/// Whether the verdict of two workers on a run is as expected.
+fn is_verdict<R: Threads + Sync>(
+    rt: &R,
+    alloc: Global,
+    run: &Run,
+    expected: Expected,
+) -> Result<bool, Refused> {
+    if !has_lines(&run.medium, &run.trace) {
+        return Ok(false);
+    }
+    match check_parallel(rt, alloc, &run.plan, &run.medium, &run.trace, 2, &Open) {
+        Ok(verdict) => Ok(is_expected(&verdict, expected)),
+        Err(fault) => refusal(matches!(fault, CheckFault::Memory)),
+    }
+}
+
+#[test]
+fn check_by_two_workers_that_passes(rt: HostRuntime) -> Result<(), Refused> {
+    let run = run_of(rt.alloc(), &APPEND)?;
+    ended(&rt, is_verdict(&rt, rt.alloc(), &run, Expected::Passes))
+}
+
+#[test]
+fn check_by_two_workers_that_fails(rt: HostRuntime) -> Result<(), Refused> {
+    let run = run_of(rt.alloc(), &MISSING_FENCE)?;
+    ended(&rt, is_verdict(&rt, rt.alloc(), &run, Expected::Fails))
+}
