@@ -15,3 +15,4 @@ pub use laws::{
 pub use machine::{Machine, Outcome};
 pub use schedule::{Item, Schedule, Step};
 pub use shared_memory::{Entry, Shared, StepFault};
+pub use text_copy::TextCopy;

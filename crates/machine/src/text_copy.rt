@@ -51,6 +51,14 @@ impl TextCopy {
         self.bytes.copy_from_slice(text);
     }
 
+    /// The bytes of the text region, as they are fetched.
+    pub fn bytes(&self) -> &[u8]
+        ensures value { result.now ≡ self.now }
+        ensures whole { length result.now ≡ TEXT_SIZE }
+    {
+        &self.bytes
+    }
+
     /// The word at `pc`; None where it doesn't lie in the text region.
     pub fn fetch(&self, pc: u64) -> Option<u32>
         ensures { result ≡ fetched (text_bytes self.now) pc }

@@ -1,0 +1,9 @@
+pub mod Agreeing
+pub mod Finishing
+pub mod Gathering
+pub mod Places
+pub mod Refusing
+pub mod Replaying
+pub mod Seating
+pub mod Starting
+pub mod Stepping

@@ -1,0 +1,33 @@
+use Rattle.std.proofs.Common.{◌<◌, ◌∙◌, sym, subst, arith}
+use Rattle.bus.specs.Replays.{CoreView}
+use Rattle.bus.proofs.Replaying.{asked_below, asked_kept, renews_is, tells_is}
+use Rattle.bus.proofs.locked.Core.ask.Goals as goal
+
+pub returns-clause-ok : goal.returns-clause-ok
+returns-clause-ok c =
+    let there : c.args.hart < c.self.inside.harts = subst (λ (core : CoreView). c.args.hart < core.harts) (sym c.self.view_is) c.requires.hart in
+    let few : c.args.hart < 8 = omega (arith, there, c.self.invariant.4) in
+    tells_is _ _ _ _ c.self.inside.history.items c.add_entry.new.history.items _ c.request.new.self c.args.hart c.args.request c.in_ok-reply.reply
+    few c.self.invariant.0 c.in_ok-reply.ensures.ok (rw c.make_room.ensures.items at c.add_entry.ensures) c.args.self.now (sym c.self.view_is)
+
+pub returns-clause-text : goal.returns-clause-text
+returns-clause-text c =
+    let there : c.args.hart < c.self.inside.harts = subst (λ (core : CoreView). c.args.hart < core.harts) (sym c.self.view_is) c.requires.hart in
+    let few : c.args.hart < 8 = omega (arith, there, c.self.invariant.4) in
+    renews_is _ _ _ _ c.self.inside.history.items c.add_entry.new.history.items _ c.request.new.self c.args.hart c.args.request c.in_ok-reply.reply
+    few c.self.invariant.0 c.in_ok-reply.ensures.ok (rw c.make_room.ensures.items at c.add_entry.ensures) c.args.self.now (sym c.self.view_is)
+
+pub invariant_of-self-2 : goal.invariant_of-self-2
+invariant_of-self-2 c =
+    let i = c.self.invariant in
+    let there : c.args.hart < c.self.inside.harts = subst (λ (core : CoreView). c.args.hart < core.harts) (sym c.self.view_is) c.requires.hart in
+    let added = rw c.make_room.ensures.items at c.add_entry.ensures in
+    let serves = c.in_ok-reply.ensures.ok in (
+      asked_kept _ _ c.self.inside.history.items c.add_entry.new.history.items _ c.request.new.self c.self.inside.harts c.args.hart c.args.request c.in_ok-reply.reply
+          there i.4 i.0 serves added,
+      asked_below c.self.inside.harts c.self.inside.history.items c.add_entry.new.history.items c.args.hart c.args.request c.in_ok-reply.reply there i.1 added,
+      serves.steps.sizes.lines ∙ i.2,
+      serves.steps.sizes.capacity ∙ i.3,
+      i.4,
+      c.request.ensures.limit,
+    )

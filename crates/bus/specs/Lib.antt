@@ -1,0 +1,12 @@
+pub mod Agreeing
+pub mod Alone
+pub mod Finished
+pub mod Gathered
+pub mod Limits
+pub mod Refusals
+pub mod Replays
+pub mod Seating
+pub mod Seats
+pub mod Serving
+pub mod Starting
+pub mod Stepping

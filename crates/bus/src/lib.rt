@@ -1,0 +1,22 @@
+//! Harts that share their memory under one lock: what the lock guards with the history of what was done to it, and a seat
+//! for each hart, which goes on alone where it needs no memory.
+#![tactic(auto)]
+
+mod exchange;
+mod fresh_seats;
+mod hart_step;
+mod laws;
+mod limits;
+mod lock;
+mod locked;
+mod outcome;
+mod room;
+mod seat;
+
+pub use exchange::Exchange;
+pub use laws::agreeing_seats_run;
+pub use lock::Bus;
+pub use locked::{Core, serve, serve_evict};
+pub use outcome::Outcome;
+pub use seat::Seat;
+pub use shared_memory::{Entry, StepFault};

@@ -1,0 +1,143 @@
+//! The bus: what harts share, under one lock.
+
+ghost use Rattle.std.specs.Prelude.{◌≡◌, ◌⊎◌, IfErr, IfOk, OnErr, OnOk};
+ghost use Rattle.bus.specs.Limits.{AreWithin, RefusesStart};
+ghost use Rattle.bus.specs.Seating.{AsksNext};
+ghost use Rattle.bus.specs.Starting.{AreAtStart};
+ghost use Rattle.bus.specs.Stepping.{IsStepOf, IsStepRefusal};
+
+use crate::locked::{Core, serve, serve_evict};
+use crate::outcome::Outcome;
+use crate::seat::Seat;
+use line_memory::Medium;
+use program::Program;
+use shared_memory::StepFault;
+use std::alloc::Global;
+use std::marker::Model;
+use std::sync::{Mutex, Wait};
+
+/// A core under a lock, beside what it began with.
+#[derive(Drop)]
+pub struct Bus<'p> {
+    program: &'p Program,
+    start: Medium,
+    harts: u32,
+    capacity: u32,
+    core: Mutex<Core<'p>>,
+}
+
+impl<'p> Model for Bus<'p> {
+    ghost use Rattle.bus.specs.Stepping.{BusView};
+
+    ghost Value = { BusView };
+
+    ghost view = { λ b. record {
+      program = b.program.now;
+      start = b.start;
+      harts = b.harts;
+      capacity = b.capacity;
+    } };
+}
+
+impl<'p> Bus<'p> {
+    /// A bus of one to eight harts over a program and a medium, behind an empty cache of 1 to 16,384 lines, with a seat for
+    /// each hart, which may make 1 to 500,000,000 steps.
+    ///
+    /// # Errors
+    /// NoSuchHart for the number of harts, else OutOfLimits for the cache or the budget, both before any memory is taken;
+    /// Memory where a growth is refused.
+    pub fn new(
+        alloc: Global,
+        program: &'p Program,
+        medium: Medium,
+        harts: u32,
+        capacity: u32,
+        budget: u32,
+    ) -> Result<(Bus<'p>, Vec<Seat<'p>>), StepFault>
+        ensures bus { IfOk result (λ made. made.0 ≡ record {
+          program = program.now;
+          start = medium;
+          harts = harts;
+          capacity = capacity;
+        }) }
+        ensures seats { IfOk result (λ made. AreAtStart program.now medium harts budget made.1.items) }
+        ensures within { OnOk result (AreWithin harts capacity budget) }
+        ensures refused { IfErr result (RefusesStart harts capacity budget) }
+    {
+        let (core, seats) = Core::new(alloc, program, medium, harts, capacity, budget)?;
+        let start = match core.start().copy(alloc) {
+            Ok(start) => start,
+            Err(_) => return Err(StepFault::Memory),
+        };
+        let bus = Bus {
+            program,
+            start,
+            harts,
+            capacity,
+            core: Mutex::new(core),
+        };
+        Ok((bus, seats))
+    }
+
+    /// The program.
+    pub fn program(&self) -> &'p Program
+        ensures { result.now ≡ self.now.program }
+    {
+        self.program
+    }
+
+    /// The number of harts.
+    pub fn harts(&self) -> u32
+        ensures { result ≡ self.now.harts }
+    {
+        self.harts
+    }
+
+    /// How many lines the cache has room for.
+    pub fn capacity(&self) -> u32
+        ensures { result ≡ self.now.capacity }
+    {
+        self.capacity
+    }
+
+    /// Evicts a line, under the lock.
+    ///
+    /// # Errors
+    /// NoSuchLine past the last line; Memory where a growth is refused. What the lock guards is left as it was.
+    #[tactic(auto, using(crate::proofs::Refusing::line_refusal))]
+    pub fn evict<R: Wait>(&self, rt: &R, line: u32) -> Result<(), StepFault>
+        ensures { IfErr result (λ fault. (fault ≡ StepFault.NoSuchLine) ⊎ (fault ≡ StepFault.Memory)) }
+    {
+        let mut core = self.core.lock(rt);
+        serve_evict(&mut core, line)
+    }
+
+    /// The medium at the start, and the core, out of the lock.
+    pub fn into_parts(self) -> (Medium, Core<'p>)
+        ensures { result.0 ≡ self.entry.start }
+    {
+        let Bus { start, core, .. } = self;
+        (start, core.into_inner())
+    }
+}
+
+impl<'p> Seat<'p> {
+    /// Makes the next step of the seat's hart, under the bus's lock where it is a request.
+    ///
+    /// # Errors
+    /// Only a request is refused, and the seat is left as it was: NoSuchHart where the core has no such hart; TraceFull
+    /// where the request would make an event and the trace is full; Memory where a growth is refused.
+    #[tactic(auto, using(crate::proofs::Stepping::local_step, crate::proofs::Stepping::served_step, crate::proofs::Refusing::step_refusal))]
+    pub fn step<R: Wait>(&mut self, rt: &R, bus: &Bus<'p>) -> Result<Outcome, StepFault>
+        ensures ok { IfOk result (IsStepOf self.old self.new) }
+        ensures err { OnErr result (self.new ≡ self.old) }
+        ensures asks { OnErr result (AsksNext self.old) }
+        ensures cause { IfErr result IsStepRefusal }
+    {
+        if let Some(outcome) = self.step_local() {
+            return Ok(outcome);
+        }
+        let mut core = bus.core.lock(rt);
+        serve(&mut core, self)
+    }
+}

@@ -1,0 +1,133 @@
+//! A seat: one hart with its copy of the text, and the list of what it asked.
+
+ghost use Rattle.std.specs.Prelude.{◌≡◌, ◌≤◌, IfNone, IfSome, reverse};
+ghost use Rattle.bus.specs.Agreeing.{Agrees};
+ghost use Rattle.bus.specs.Replays.{CoreView};
+ghost use Rattle.bus.specs.Seating.{AsksNext, IsLocalStep};
+
+use crate::exchange::Exchange;
+use crate::hart_step::go_alone;
+use crate::outcome::{Outcome, outcome_of};
+use hart::{HartState, Status};
+use machine::TextCopy;
+use std::marker::Model;
+
+/// One hart, the text that it fetches, and its requests with their replies. It makes as many steps as its budget says.
+#[derive(Drop)]
+pub struct Seat<'p> {
+    pub(crate) hart: u32,
+    /// The program's text as it was loaded.
+    pub(crate) text: &'p [u8],
+    pub(crate) budget: u32,
+    /// How many steps of the budget it has made.
+    pub(crate) made: u32,
+    pub(crate) state: HartState,
+    pub(crate) copy: TextCopy,
+    /// The oldest first.
+    pub(crate) exchanges: Vec<Exchange>,
+    /// How many register steps it has made since the last of its exchanges.
+    pub(crate) since: u32,
+}
+
+impl<'p> Model for Seat<'p> {
+    ghost use Rattle.bus.specs.Seats.{SeatView};
+    ghost use Rattle.std.specs.Prelude.{◌≤◌, reverse};
+
+    ghost Value = { SeatView };
+
+    ghost view = { λ s. record {
+      hart = s.hart;
+      text = s.text.now;
+      budget = s.budget;
+      made = s.made;
+      state = s.state;
+      copy = s.copy;
+      exchanges = reverse s.exchanges.items;
+      since = s.since;
+    } };
+
+    ghost invariant = { λ s. (s.made ≤ s.budget) × (s.since ≤ s.made) };
+}
+
+impl<'p> Seat<'p> {
+    /// The number of its hart.
+    pub fn hart(&self) -> u32
+        ensures { result ≡ self.now.hart }
+    {
+        self.hart
+    }
+
+    /// The program's text, as it was loaded.
+    pub fn text(&self) -> &'p [u8]
+        ensures { result.now ≡ self.now.text }
+    {
+        self.text
+    }
+
+    /// How many steps it may make.
+    pub fn budget(&self) -> u32
+        ensures { result ≡ self.now.budget }
+    {
+        self.budget
+    }
+
+    /// How many of them it has made.
+    pub fn made(&self) -> u32
+        ensures value { result ≡ self.now.made }
+        ensures limit { result ≤ self.now.budget }
+    {
+        self.made
+    }
+
+    /// The state of its hart.
+    pub fn state(&self) -> &HartState
+        ensures { result.now ≡ self.now.state }
+    {
+        &self.state
+    }
+
+    /// The bytes of the text region as its hart fetches them.
+    pub fn copy(&self) -> &[u8]
+        ensures { result.now ≡ self.now.copy }
+    {
+        self.copy.bytes()
+    }
+
+    /// Its requests with their replies, the oldest first.
+    pub fn exchanges(&self) -> &[Exchange]
+        ensures { reverse result.now ≡ self.now.exchanges }
+    {
+        &self.exchanges
+    }
+
+    /// How many register steps it has made since the last of its exchanges.
+    pub fn since(&self) -> u32
+        ensures value { result ≡ self.now.since }
+        ensures limit { result ≤ self.now.made }
+    {
+        self.since
+    }
+
+    /// Makes the next step where it needs no request, without lock or memory. None says that the next step is a request, and
+    /// then nothing has changed.
+    #[tactic(auto, using(crate::proofs::Agreeing::local_agrees))]
+    pub fn step_local(&mut self) -> Option<Outcome>
+        ensures none { IfNone result ((self.new ≡ self.old) × AsksNext self.old) }
+        ensures some { IfSome result (IsLocalStep self.old self.new) }
+        ensures agrees { (core : CoreView) → Agrees core self.old → Agrees core self.new }
+    {
+        match self.state.status {
+            Status::Running => {}
+            Status::Exited(_) | Status::Trapped(_) => return Some(Outcome::Stopped),
+        }
+        if self.made >= self.budget {
+            return Some(Outcome::Spent);
+        }
+        if !go_alone(&mut self.state, &self.copy) {
+            return None;
+        }
+        self.made += 1;
+        self.since += 1;
+        Some(outcome_of(self.state.status))
+    }
+}

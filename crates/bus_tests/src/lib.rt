@@ -1,0 +1,13 @@
+//! Tests of `bus`: harts that take turns on one thread, by their seats. They stand apart, so that it isn't proved a second time
+//! for them. The crate has tests alone.
+//!
+//! What is tested stands in tables. A test asks for the first place of a table whose calls come to something else than is said
+//! there, and buses stay in functions that give back plain data.
+#![tactic(auto)]
+
+#[cfg(test)]
+mod cores;
+#[cfg(test)]
+mod programs;
+#[cfg(test)]
+mod turns;

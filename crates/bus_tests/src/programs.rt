@@ -1,0 +1,48 @@
+//! Programs of a few words, and 512 lines of zeros for them.
+
+use line_memory::Medium;
+use object::Object;
+use program::{Program, load};
+use std::alloc::{AllocError, Global};
+
+/// `addi x5, x0, 7`; `lui x6, 0x40000`; `sd x5, 0(x6)`; `cbo.clean (x6)`; `fence w, w`; `addi x17, x0, 93`;
+/// `addi x10, x0, 0`; `ecall`.
+pub(crate) const FIRST_RUN: [u32; 8] = [
+    0x00700293, 0x40000337, 0x00533023, 0x0013200f, 0x0110000f, 0x05d00893, 0x00000513, 0x00000073,
+];
+
+/// `addi x6, x0, 1`; `amoadd.d x5, x6, (x11)`.
+pub(crate) const COUNT_ONCE: [u32; 2] = [0x00100313, 0x0065b2af];
+
+/// `auipc x5, 0`; `addi x5, x5, 28`; `auipc x6, 0`; `addi x6, x6, 32`; `lw x7, 0(x6)`; `sw x7, 0(x5)`; `fence.i`;
+/// `addi x10, x0, 1`; `addi x17, x0, 93`; `ecall`; and the word of `addi x10, x0, 2`, which is stored over the one behind
+/// the FENCE.I.
+pub(crate) const REWRITTEN: [u32; 11] = [
+    0x00000297, 0x01c28293, 0x00000317, 0x02030313, 0x00032383, 0x0072a023, 0x0000100f, 0x00100513,
+    0x05d00893, 0x00000073, 0x00200513,
+];
+
+/// The bytes of words, the least significant of each first.
+fn bytes_of(alloc: Global, words: &[u32]) -> Result<Vec<u8>, AllocError> {
+    let mut bytes = Vec::new(alloc);
+    for word in words {
+        bytes.extend_from_slice(&word.to_le_bytes())?;
+    }
+    Ok(bytes)
+}
+
+fn program_of(alloc: Global, words: &[u32]) -> Option<Program> {
+    let text = bytes_of(alloc, words).ok()?;
+    if text.len() % 4 == 0 && text.len() <= 65_536 {
+        load(Object::new(text, Vec::new(alloc))).ok()
+    } else {
+        None
+    }
+}
+
+/// A program, and 512 lines of zeros for it.
+pub(crate) fn start_of(alloc: Global, words: &[u32]) -> Option<(Program, Medium)> {
+    let program = program_of(alloc, words)?;
+    let medium = Medium::zero(alloc, 512).ok()?;
+    Some((program, medium))
+}
