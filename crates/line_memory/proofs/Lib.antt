@@ -1,5 +1,6 @@
 pub mod Accesses
 pub mod Flat
+pub mod Flattened
 pub mod Loops
 pub mod Maps
 pub mod Numbers

@@ -95,6 +95,14 @@ impl Medium {
         self.lines.len() as u32
     }
 
+    /// The numbers of a line are bytes, below 256: a law, with nothing to run.
+    #[tactic(auto, using(crate::proofs::Flattened::each_is_byte))]
+    pub fn holds_bytes(&self)
+        ensures { (line place : ℕ) → slice_index (line_at self.now line) place < 256 }
+    {
+        are_bytes(self.lines.as_flattened());
+    }
+
     /// The bytes of a line.
     pub fn read_line(&self, line: u32) -> &[u8; 64]
         requires { line < length self.now }
@@ -157,6 +165,11 @@ impl Medium {
         self.lines[offset / LINE_SIZE][offset % LINE_SIZE]
     }
 }
+
+/// Each place of a slice has a byte, and there is 0 behind the last.
+fn are_bytes(bytes: &[u8])
+    ensures { (place : ℕ) → slice_index bytes.now place < 256 }
+{}
 
 fn push_line(lines: &mut Vec<[u8; LINE_SIZE]>, line: [u8; LINE_SIZE]) -> Result<(), AllocError>
     ensures { IfOk result (λ _. lines.new.items ≡ lines.old.items ++ line ∷ []) }
