@@ -14,7 +14,7 @@ type Numbers = &'static [(u32, u64)];
 struct Upgrade {
     old: Numbers,
     pages: u32,
-    new: Numbers,
+    new: Result<Numbers, VolumeFault>,
 }
 
 /// A log of one entry.
@@ -31,7 +31,7 @@ static ONE_ENTRY: Upgrade = Upgrade {
         (16_400, 77),
     ],
     pages: 1,
-    new: &[
+    new: Ok(&[
         (0, 0x3247_4f4c_4156_4f4e), // NOVALOG2
         (8, 1),
         (16, 1),
@@ -41,7 +41,7 @@ static ONE_ENTRY: Upgrade = Upgrade {
         (16_384, 1),
         (16_392, 1),
         (16_400, 77),
-    ],
+    ]),
 };
 
 /// An append to inode 0, and then the rename of `a` from it to inode 1.
@@ -68,7 +68,7 @@ static TWO_LOGS: Upgrade = Upgrade {
         (20_504, 0x61),
     ],
     pages: 3,
-    new: &[
+    new: Ok(&[
         (0, 0x3247_4f4c_4156_4f4e),
         (8, 2),
         (16, 3),
@@ -88,7 +88,62 @@ static TWO_LOGS: Upgrade = Upgrade {
         (20_488, 2),
         (20_496, 9),
         (20_504, 0x61),
-    ],
+    ]),
+};
+
+/// A log of 32 entries with nothing but their kind: one more than a page of the second layout holds.
+const ENTRIES_32: Numbers = &[
+    (0, 0x3147_4f4c_4156_4f4e),
+    (8, 1),
+    (16, 1),
+    (24, 1),
+    (64, 16_384),
+    (72, 18_432),
+    (16_384, 1),
+    (16_448, 1),
+    (16_512, 1),
+    (16_576, 1),
+    (16_640, 1),
+    (16_704, 1),
+    (16_768, 1),
+    (16_832, 1),
+    (16_896, 1),
+    (16_960, 1),
+    (17_024, 1),
+    (17_088, 1),
+    (17_152, 1),
+    (17_216, 1),
+    (17_280, 1),
+    (17_344, 1),
+    (17_408, 1),
+    (17_472, 1),
+    (17_536, 1),
+    (17_600, 1),
+    (17_664, 1),
+    (17_728, 1),
+    (17_792, 1),
+    (17_856, 1),
+    (17_920, 1),
+    (17_984, 1),
+    (18_048, 1),
+    (18_112, 1),
+    (18_176, 1),
+    (18_240, 1),
+    (18_304, 1),
+    (18_368, 1),
+];
+
+static TOO_FEW_PAGES: Upgrade = Upgrade {
+    old: ENTRIES_32,
+    pages: 1,
+    new: Err(VolumeFault::Pages),
+};
+
+/// One page more than 512 lines hold.
+static NO_ROOM: Upgrade = Upgrade {
+    old: ENTRIES_32,
+    pages: 5,
+    new: Err(VolumeFault::Counts),
 };
 
 fn medium_of(alloc: Global, numbers: &[(u32, u64)]) -> Result<Medium, Refused> {
@@ -129,9 +184,11 @@ fn is_upgraded(alloc: Global, medium: &Medium, expected: &Upgrade) -> Result<boo
     if !holds_only(medium, expected.old) {
         return Ok(false);
     }
-    match new {
-        Ok(new) => Ok(holds_only(&new, expected.new)),
-        Err(fault) => refusal(matches!(fault, VolumeFault::Memory)),
+    match (new, expected.new) {
+        (Ok(new), Ok(numbers)) => Ok(holds_only(&new, numbers)),
+        (Err(VolumeFault::Memory), _) => refusal(true),
+        (Err(fault), Err(other)) => Ok(fault == other),
+        _ => Ok(false),
     }
 }
 
@@ -152,4 +209,16 @@ fn upgrade_of_one_entry(rt: HostRuntime) -> Result<(), Refused> {
 #[test]
 fn upgrade_of_two_logs(rt: HostRuntime) -> Result<(), Refused> {
     ended(&rt, upgraded(rt.alloc(), &TWO_LOGS))
+}
+
+// Only what recovery needs is asked for before these faults are found.
+
+#[test]
+fn upgrade_to_too_few_pages(rt: HostRuntime) -> Result<(), Refused> {
+    ended(&rt, upgraded(rt.alloc(), &TOO_FEW_PAGES))
+}
+
+#[test]
+fn upgrade_to_more_pages_than_lines_hold(rt: HostRuntime) -> Result<(), Refused> {
+    ended(&rt, upgraded(rt.alloc(), &NO_ROOM))
 }

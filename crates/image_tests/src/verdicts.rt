@@ -662,24 +662,48 @@ fn verdicts_on_many_branches(rt: HostRuntime) -> Result<(), Fail> {
     Ok(())
 }
 
-/// Whether a cause of a bad image prints as this code.
-fn prints_cause(alloc: Global, cause: Cause, code: &str) -> Result<bool, AllocError> {
-    Ok(format!(in alloc; "{cause}")?.as_str() == code)
+/// Why an image is bad, and the codes that stand for it.
+static CAUSE_CODES: [(Cause, &str); 3] = [
+    (Cause::Illegal, "illegal"),
+    (Cause::Fault(VolumeFault::TailNotReached), "N6"),
+    (Cause::Fault(VolumeFault::Kind), "N8"),
+];
+
+/// Why there is no verdict, and the codes that stand for it.
+static FAULT_CODES: [(CheckFault, &str); 6] = [
+    (CheckFault::Operation(OpFault::Unknown), "O1"),
+    (CheckFault::Operation(OpFault::BegunTwice), "O2"),
+    (CheckFault::Operation(OpFault::NotPending), "O3"),
+    (CheckFault::Operation(OpFault::SharesInode), "O4"),
+    (CheckFault::NoSuchMoment, "C1"),
+    (CheckFault::Memory, "C3"),
+];
+
+fn cause_text(alloc: Global, cause: Cause) -> Result<String, AllocError> {
+    format!(in alloc; "{cause}")
 }
 
-fn prints_fault(alloc: Global, fault: CheckFault, code: &str) -> Result<bool, AllocError> {
-    Ok(format!(in alloc; "{fault}")?.as_str() == code)
+fn fault_text(alloc: Global, fault: CheckFault) -> Result<String, AllocError> {
+    format!(in alloc; "{fault}")
+}
+
+fn is_text(made: Result<String, AllocError>, code: &str) -> bool {
+    match made {
+        Ok(text) => text.as_str() == code,
+        Err(_) => false,
+    }
 }
 
 #[test]
-fn causes_print_their_codes(rt: HostRuntime) -> Result<(), Fail> {
-    let kind = Cause::Fault(VolumeFault::Kind);
-    let shared = CheckFault::Operation(OpFault::SharesInode);
-    let printed = [
-        prints_cause(rt.alloc(), Cause::Illegal, "illegal")?,
-        prints_cause(rt.alloc(), kind, "N8")?,
-        prints_fault(rt.alloc(), shared, "O4")?,
-    ];
-    assert!(rt; printed == [true; 3]);
-    Ok(())
+fn causes_and_faults_print_their_codes(rt: HostRuntime) {
+    let cause = CAUSE_CODES.iter().position(|(cause, code)| !is_text(
+        cause_text(rt.alloc(), *cause),
+        *code,
+    ));
+    assert_eq!(rt; cause, None);
+    let fault = FAULT_CODES.iter().position(|(fault, code)| !is_text(
+        fault_text(rt.alloc(), *fault),
+        *code,
+    ));
+    assert_eq!(rt; fault, None);
 }

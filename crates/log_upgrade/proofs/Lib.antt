@@ -5,6 +5,7 @@ pub mod Making
 pub mod Numbers
 pub mod Places
 pub mod Recovered
+pub mod Room
 pub mod Sound
 pub mod StoredEntries
 pub mod Upgrading

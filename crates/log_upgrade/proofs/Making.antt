@@ -14,7 +14,7 @@ pushed {X} f a n j start old new e h k =
     k ∙ ap (λ (items : List X). items ++ f j ∷ []) h ∙ append_assoc start (map f (range_with_len a n)) (f j ∷ [])
     ∙ ap (λ (items : List X). start ++ items) (sym (map-range_with_len_more f a n j e))
 
-range_more : (a n : ℕ) → range_with_len a (n + 1) ≡ range_with_len a n ++ (a + n) ∷ []
+pub range_more : (a n : ℕ) → range_with_len a (n + 1) ≡ range_with_len a n ++ (a + n) ∷ []
 range_more a zero = let e : a + 0 ≡ a = omega arith in rw e refl
 range_more a (suc n) =
     let one : suc n + 1 ≡ suc (n + 1) = omega arith in

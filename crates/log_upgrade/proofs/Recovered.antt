@@ -12,7 +12,7 @@ use Rattle.nova_log.specs.Entries.{entry_questions}
 use Rattle.nova_log.specs.Fresh.{inode_line, superblock_line}
 use Rattle.nova_log.specs.Inodes.{head_fault, inode_at, inode_questions, inodes_of}
 use Rattle.nova_log.specs.Journals.{journal_fault, journal_questions, restored_tail}
-use Rattle.nova_log.specs.Layouts.{page_at, shape_of}
+use Rattle.nova_log.specs.Layouts.{AreCounts, page_at, shape_of}
 use Rattle.nova_log.specs.Questions.{first_fault}
 use Rattle.nova_log.specs.Superblocks.{counts_fit, geometry_in, geometry_of, superblock_fault, superblock_question}
 use Rattle.nova_log.specs.Volumes.{log_in, log_questions, logs_of, questions_of, unless_fault, volume_of}
@@ -33,18 +33,7 @@ use Rattle.log_upgrade.proofs.StoredEntries.{IsStorable}
 use Rattle.log_upgrade.proofs.WrittenLines.{body_empty, body_inode, body_page, written_body, written_first, written_size}
 
 -- the counts of a volume, one by one
-pub record AreCounted (inodes pages journals lines : ℕ) : Type 0 where
-  pub some_inodes : 1 ≤ inodes
-  pub few_inodes : inodes ≤ 64
-  pub page_each : inodes ≤ pages
-  pub few_pages : pages ≤ 240
-  pub some_journals : 1 ≤ journals
-  pub few_journals : journals ≤ 8
-  pub least_lines : 512 ≤ lines
-  pub most_lines : lines ≤ 16384
-  pub room : page_at pages ≤ 64 * lines
-
-pub counted : (inodes pages journals lines : ℕ) → counts_fit inodes pages journals lines ≡ true → AreCounted inodes pages journals lines
+pub counted : (inodes pages journals lines : ℕ) → counts_fit inodes pages journals lines ≡ true → AreCounts inodes pages journals lines
 counted inodes pages journals lines e =
     let h8 = and_parts (leb 1 inodes && leb inodes 64 && leb inodes pages && leb pages 240 && leb 1 journals && leb journals 8 && leb 512 lines && leb lines 16384) (leb (page_at pages) (64 * lines)) e in
     let h7 = and_parts (leb 1 inodes && leb inodes 64 && leb inodes pages && leb pages 240 && leb 1 journals && leb journals 8 && leb 512 lines) (leb lines 16384) h8.0 in
@@ -105,7 +94,7 @@ module _ (logs : List (List Entry)) (pages journals count : ℕ) (storable : All
   lines : List (List ℕ)
   lines = written logs pages journals count
 
-  counts : AreCounted (length logs) pages journals count
+  counts : AreCounts (length logs) pages journals count
   counts = counted (length logs) pages journals count fit
 
   body : (n : ℕ) → 0 < n → n < count → line_at lines n ≡ body_line logs n

@@ -24,7 +24,7 @@ moved_if (Ok logs) journals pages count = moved logs journals pages count
 unfoldable pub upgraded : List (List ℕ) → ℕ → ℕ → Result (List (List ℕ)) VolumeFault
 upgraded lines pages count = moved_if (volume_of lines) (geometry_of lines).journals pages count
 
--- a medium whose lines hold bytes, as every medium's do
+-- whole lines of bytes, as every medium has them
 pub record IsOfBytes (lines : List (List ℕ)) : Type 0 where
   pub whole : IsMedium lines
   pub each : (line place : ℕ) → slice_index (line_at lines line) place < 256

@@ -1,6 +1,6 @@
 //! The parts of the logs, and the pages where they lie.
 
-ghost use Rattle.std.specs.Prelude.{◌≡◌, ◌++◌, ◌<◌, ◌≤◌, length, map, IfOk, IfErr, OnOk};
+ghost use Rattle.std.specs.Prelude.{◌≡◌, ◌↔◌, ◌++◌, ◌<◌, ◌≤◌, length, map, IfOk, IfErr, IsTrue, OnOk};
 ghost use Rattle.std.specs.List.{range_with_len};
 ghost use Rattle.log_upgrade.specs.Parts.{further_parts, page_count as pages_of_log, page_of as place_of, part, parts_of as parts_in_order};
 
@@ -39,6 +39,21 @@ pub(crate) fn parts_of(alloc: Global, volume: &Volume) -> Result<Vec<Part>, Volu
         push_further_parts(&mut parts, volume, inode)?;
     }
     Ok(parts)
+}
+
+/// Whether so many pages are enough for the parts of all logs.
+pub(crate) fn are_within(volume: &Volume, pages: usize) -> bool
+    ensures { IsTrue result ↔ (length (parts_in_order volume.now) ≤ pages) }
+{
+    let mut left = pages;
+    for inode in 0..volume.inodes() {
+        let count = page_count(volume.log(inode).len());
+        if count > left {
+            return false;
+        }
+        left -= count;
+    }
+    true
 }
 
 /// Adds the first part of each log.

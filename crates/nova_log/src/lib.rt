@@ -7,7 +7,7 @@ pub use fault::VolumeFault;
 pub use laws::{asked_lines_decide, chains_are_walks, lines_asked_so_far_decide};
 pub use layout::{Layout, Shape};
 pub use limits::{MAX_INODES, MAX_JOURNALS, MAX_PAGES};
-pub use make::mkfs;
+pub use make::{are_counts, mkfs};
 pub use recovery::{recover, recover_from};
 pub use source::{LineSource, MediumLines};
 

@@ -13,8 +13,7 @@ use word_bits::replace_bytes;
 
 /// A medium of `lines` lines with a new volume: superblock, inode n with page n, and no entry and no record.
 ///
-/// Counts unless there are 1 to 64 inodes, at least as many and at most 240 pages, 1 to 8 journals, and
-/// 512 to 16,384 lines, among them those of all pages.
+/// Counts unless [`are_counts`] holds of them.
 pub fn mkfs(
     alloc: Global,
     layout: Layout,
@@ -37,8 +36,9 @@ pub fn mkfs(
     Ok(medium)
 }
 
-/// Whether a volume may have these counts on a medium of so many lines.
-pub(crate) fn are_counts(inodes: u64, pages: u64, journals: u64, lines: u32) -> bool
+/// Whether a volume may have these counts on a medium of so many lines: 1 to 64 inodes, at least as many and at most 240 pages,
+/// 1 to 8 journals, and 512 to 16,384 lines, among them those of all pages. In either layout.
+pub fn are_counts(inodes: u64, pages: u64, journals: u64, lines: u32) -> bool
     ensures { IsTrue result ↔ AreCounts inodes pages journals lines }
 {
     (1..=MAX_INODES as u64).contains(&inodes)

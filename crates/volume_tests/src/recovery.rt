@@ -5,7 +5,7 @@
 
 use crate::logs::{EMPTY, ExpectedEntry, ExpectedLog, has_logs};
 use line_memory::Medium;
-use nova_log::{Layout, MediumLines, Shape, VolumeFault, mkfs, recover, recover_from};
+use nova_log::{Layout, MediumLines, Shape, VolumeFault, are_counts, mkfs, recover, recover_from};
 use std::alloc::{AllocError, Global};
 use volume::{EntryKind, Volume};
 
@@ -96,7 +96,7 @@ fn new_volumes(rt: HostRuntime) {
 }
 
 /// Counts outside their limits, and at them.
-static LIMITS: [(Layout, Counts, Option<VolumeFault>); 15] = [
+static LIMITS: [(Layout, Counts, Option<VolumeFault>); 17] = [
     (Layout::One, (0, 1, 1, 512), Some(VolumeFault::Counts)),
     (Layout::One, (65, 65, 1, 16_384), Some(VolumeFault::Counts)),
     (Layout::One, (2, 1, 1, 512), Some(VolumeFault::Counts)),
@@ -111,6 +111,8 @@ static LIMITS: [(Layout, Counts, Option<VolumeFault>); 15] = [
         Some(VolumeFault::Counts),
     ),
     (Layout::One, (1, 5, 1, 575), Some(VolumeFault::Counts)),
+    (Layout::Two, (64, 64, 8, 4351), Some(VolumeFault::Counts)),
+    (Layout::Two, (1, 240, 1, 15_615), Some(VolumeFault::Counts)),
     (Layout::Two, (1, 1, 1, 512), None),
     (Layout::Two, (64, 64, 8, 4352), None),
     (Layout::Two, (1, 240, 1, 15_616), None),
@@ -118,12 +120,19 @@ static LIMITS: [(Layout, Counts, Option<VolumeFault>); 15] = [
     (Layout::Two, (1, 1, 1, 16_384), None),
 ];
 
-/// Whether no volume of these counts is made for this reason, or one is made.
+/// Whether no volume of these counts is made for this reason, or one is made; and whether a volume may have them.
 fn is_limited_so(
     alloc: Global,
     (layout, counts, fault): (Layout, Counts, Option<VolumeFault>),
 ) -> bool {
+    let (inodes, pages, journals, lines) = counts;
     made(alloc, layout, counts).err() == fault
+        && are_counts(
+            u64::from(inodes),
+            u64::from(pages),
+            u64::from(journals),
+            lines,
+        ) == fault.is_none()
 }
 
 #[test]
