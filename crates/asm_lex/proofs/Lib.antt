@@ -1,6 +1,7 @@
 pub mod Cuts
 pub mod Digits
 pub mod Cutting
+pub mod Judging
 pub mod Lexing
 pub mod Spelling
 pub mod TokenFacts

@@ -1,5 +1,5 @@
 -- What the tokens of a line are.
-use Rattle.std.specs.Prelude.{◌≡◌, ℕ, ◌+◌, ◌≤◌, List, [], ◌∷◌, Some, false, length, map, All}
+use Rattle.std.specs.Prelude.{◌≡◌, ℕ, ◌+◌, ◌≤◌, List, [], ◌∷◌, Some, true, false, length, map, All}
 use Rattle.std.specs.List.{slice_range, AllPass}
 use Rattle.asm_lex.specs.Pieces.{is_blank, pieces}
 use Rattle.asm_lex.specs.Kinds.{kind_of, are_tokens}
@@ -33,7 +33,7 @@ pub record AreTokensOf (line : List ℕ) (number : ℕ) (ts : List Token) : Type
   pub places : StandInOrder line 0 ts
   pub numbered : All (λ t. t.line ≡ number) ts
 
--- why a line has no tokens: some piece of it is no token, or memory was refused, which says nothing of the line
+-- why a line has no tokens: some piece of it is no token, or each is one and memory was refused
 abbrev pub IsFaultOf : List ℕ → LexFault → Type 0
 IsFaultOf line BadToken = are_tokens (pieces line) ≡ false
-IsFaultOf line Memory = Unit {0}
+IsFaultOf line Memory = are_tokens (pieces line) ≡ true

@@ -5,9 +5,11 @@
 //! hexadecimal digits in either case. Spaces, tabs and comments, from `#` on, stand between tokens.
 #![tactic(auto)]
 
+ghost use Rattle.asm_lex.specs.Kinds.{are_tokens};
+ghost use Rattle.asm_lex.specs.Pieces.{pieces};
 ghost use Rattle.asm_lex.specs.Tokens.{AreTokensOf, IsFaultOf};
 ghost use Rattle.asm_lex.specs.declared.LexFault.TheVariants.{Memory};
-ghost use Rattle.std.specs.Prelude.{◌≡◌, IfErr, IfOk};
+ghost use Rattle.std.specs.Prelude.{◌≡◌, true, IfErr, IfOk};
 
 mod kinds;
 mod lines;
@@ -57,22 +59,34 @@ impl<T: Drop> From<AllocFailed<T>> for LexFault {
     }
 }
 
-/// The tokens of one line, whose bytes are `source` without the line's end and whose number is
-/// `line`, in the order in which they stand.
-///
-/// A bad token is answered exactly where some piece of the line is no token, unless memory was
-/// refused before that piece; memory is answered only where it was refused.
+/// Whether each piece of a line is a token.
+#[tactic(auto, using(crate::proofs::Judging::judged_start, crate::proofs::Judging::judged_all))]
+fn are_tokens(source: &[u8]) -> bool
+    ensures { result ≡ are_tokens (pieces source.now) }
+{
+    let mut at = 0;
+    while let Some((start, end)) = next_piece(source, at) {
+        if kind_of(&source[start..end]).is_none() {
+            return false;
+        }
+        at = end;
+    }
+    true
+}
+
+/// The tokens of a line of which each piece is one.
 #[tactic(auto, using(crate::proofs::Lexing::lexed_start, crate::proofs::Lexing::lexed_all))]
-pub fn tokens<'a>(alloc: Global, source: &'a [u8], line: u32) -> Result<Vec<Token<'a>>, LexFault>
+fn collect<'a>(alloc: Global, source: &'a [u8], line: u32) -> Result<Vec<Token<'a>>, LexFault>
+    requires { are_tokens (pieces source.now) ≡ true }
     ensures found { IfOk result (λ found. AreTokensOf source.now line found.items) }
-    ensures fault { IfErr result (IsFaultOf source.now) }
+    ensures fault { IfErr result (λ fault. fault ≡ LexFault.Memory) }
 {
     let mut found = Vec::new(alloc);
     let mut at = 0;
     while let Some((start, end)) = next_piece(source, at) {
         let text = &source[start..end];
         let Some(kind) = kind_of(text) else {
-            return Err(LexFault::BadToken);
+            unreachable!();
         };
         found.push(Token {
             text,
@@ -83,4 +97,20 @@ pub fn tokens<'a>(alloc: Global, source: &'a [u8], line: u32) -> Result<Vec<Toke
         at = end;
     }
     Ok(found)
+}
+
+/// The tokens of one line, whose bytes are `source` without the line's end and whose number is
+/// `line`, in the order in which they stand.
+///
+/// A bad token is answered exactly where some piece of the line is no token; memory is answered
+/// only where it was refused, of a line that has tokens.
+pub fn tokens<'a>(alloc: Global, source: &'a [u8], line: u32) -> Result<Vec<Token<'a>>, LexFault>
+    ensures found { IfOk result (λ found. AreTokensOf source.now line found.items) }
+    ensures fault { IfErr result (IsFaultOf source.now) }
+{
+    // Looked for before anything grows, so that a bad token is never told as want of memory.
+    if !are_tokens(source) {
+        return Err(LexFault::BadToken);
+    }
+    collect(alloc, source, line)
 }

@@ -1,6 +1,6 @@
 -- A line's tokens, and its lexemes.
 use Rattle.std.proofs.Common.{◌≡◌, ℕ, suc, ◌<◌, Bool, false, ◌&&◌, List, [], ◌∷◌, length, get_or, map, refl, arith}
-use Rattle.std.specs.Prelude.{Some, None, Option, is_some}
+use Rattle.std.specs.Prelude.{Some, None, Option, is_some, true}
 use Rattle.std.specs.List.{list_all}
 use Rattle.asm_lex.specs.Pieces.{pieces}
 use Rattle.asm_lex.specs.Kinds.{kind_of, are_tokens}
@@ -8,6 +8,7 @@ use Rattle.asm_lex.specs.Tokens.{text_of, AreTokensOf, IsFaultOf}
 use Rattle.asm_lex.specs.declared.Token.{Token}
 use Rattle.asm_lex.specs.declared.Kind.{Kind}
 use Rattle.asm_lex.specs.declared.Kind.TheVariants as kinds
+use Rattle.asm_line.specs.declared.fault.AsmCode.TheVariants as codes
 use Rattle.asm_lex.specs.declared.LexFault.{LexFault}
 use Rattle.asm_lex.specs.declared.LexFault.TheVariants.{BadToken, Memory}
 use Rattle.asm_line.specs.Faults.{code_of_lex, Fails}
@@ -50,3 +51,8 @@ pub line_bad : (line : List ℕ) (fault : LexFault) → IsFaultOf line fault →
 unfolding line_of are_tokens
 line_bad line BadToken e = λ other. rw (lexemes_missing (pieces line) e) refl
 line_bad line Memory e = λ other. absurd (other refl)
+
+-- a line that memory is told of has tokens
+pub memory_after_tokens : (line : List ℕ) (fault : LexFault) → IsFaultOf line fault → code_of_lex fault ≡ codes.Memory → are_tokens (pieces line) ≡ true
+memory_after_tokens line BadToken e told = absurd (cc)
+memory_after_tokens line Memory e told = e

@@ -8,11 +8,13 @@
 //! Operations (CMO) 1.0.
 #![tactic(auto)]
 
+ghost use Rattle.asm_lex.specs.Kinds.{are_tokens};
+ghost use Rattle.asm_lex.specs.Pieces.{pieces};
 ghost use Rattle.asm_line.specs.Faults.{Fails};
 ghost use Rattle.asm_line.specs.Lines.{line_of};
 ghost use Rattle.asm_line.specs.Meanings.{line_meaning, meaning_of, IsInRange};
 ghost use Rattle.asm_line.specs.Steps.{taken};
-ghost use Rattle.std.specs.Prelude.{◌≡◌, Ok, IfOk, IfErr, map};
+ghost use Rattle.std.specs.Prelude.{◌≡◌, Ok, IfOk, IfErr, IsErrOf, map, true};
 
 mod directives;
 mod fault;
@@ -38,11 +40,13 @@ use std::alloc::{AllocError, Global};
 /// What a source line says. `line` is the line's bytes without its end.
 ///
 /// A line is refused with the lowest code, A1 to A5, of its label and its statement together.
-/// `AsmCode::Memory` is answered only where a growth was refused, and says nothing of the line.
-#[tactic(auto, using(crate::proofs::LineWords::line_bad))]
+/// `AsmCode::Memory` is answered only where a growth was refused, of a line without a bad token;
+/// it says nothing else of the line.
+#[tactic(auto, using(crate::proofs::LineWords::line_bad, crate::proofs::LineWords::memory_after_tokens))]
 pub fn read_line<'a>(alloc: Global, line: &'a [u8]) -> Result<Line<'a>, AsmCode>
     ensures ok { IfOk result (λ read. line_of line.now ≡ Ok (line_meaning read)) }
     ensures err { IfErr result (λ code. Fails code (line_of line.now)) }
+    ensures memory { IsErrOf result AsmCode.Memory → are_tokens (pieces line.now) ≡ true }
     ensures in_range { IfOk result (λ read. IsInRange (meaning_of read.statement)) }
 {
     let tokens = tokens(alloc, line, 1)?;

@@ -5,6 +5,7 @@ ghost use Rattle.crash_model.specs.declared.step.PersistenceStep.{PersistenceSte
 ghost use Rattle.cut_schedule.specs.Explains.{Explains, steps_by};
 ghost use Rattle.cut_schedule.specs.Walking.{AreDue, Follows, line_due};
 ghost use Rattle.schedule.specs.Grammar.{hart_steps};
+ghost use Rattle.schedule.specs.Joined.{HasSteps};
 ghost use Rattle.schedule.specs.Steps.{all_steps};
 ghost use Rattle.store_trace.specs.History.{at_moment, steps_of};
 ghost use Rattle.store_trace.specs.TraceView.{NamesLine};
@@ -21,7 +22,7 @@ use store_trace::Event;
 /// A schedule that leaves exactly the cut of the state after the first `moment` events: it has the recorded hart steps
 /// through the one that made the last of these events, those of a stopped hart among them, and none of the recorded
 /// evictions. Each line whose number in the cut is at least 1 has one eviction, right after the hart step of its store of
-/// that number.
+/// that number. No item is without steps.
 ///
 /// # Errors
 /// NoSuchMoment exactly past the last event. NotACut where the cut isn't one of this moment. Memory where a growth is
@@ -33,6 +34,7 @@ pub fn explain(
     cut: &Cut,
 ) -> Result<Schedule, ImageFault>
     ensures ok { IfOk result (λ schedule. Explains recorded.now moment cut.now (all_steps schedule)) }
+    ensures items { IfOk result (λ schedule. All HasSteps schedule) }
     ensures few { IfOk result (λ schedule. hart_steps schedule ≤ hart_steps recorded.now.items) }
     ensures moment { IsErrOf result ImageFault.NoSuchMoment ↔ (length recorded.now.trace < moment) }
     ensures cut { IsErrOf result ImageFault.NotACut → ¬ IsCut (at_moment recorded.now.trace moment) cut.now }
@@ -54,8 +56,9 @@ fn explained(
 ) -> Result<Schedule, AllocError>
     requires moment { moment ≤ length recorded.now.trace }
     requires entries { All (λ entry. entry.0 < length recorded.now.start) entries.now }
-    ensures { IfOk result (λ schedule. Follows recorded.now (number_in entries.now) moment
+    ensures follows { IfOk result (λ schedule. Follows recorded.now (number_in entries.now) moment
         (steps_by recorded.now.steps moment) (all_steps schedule)) }
+    ensures items { IfOk result (λ schedule. All HasSteps schedule) }
 {
     let events = recorded.trace().events();
     let numbers = recorded.steps();

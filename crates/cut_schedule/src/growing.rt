@@ -1,8 +1,9 @@
 //! A schedule that grows at its end, with neighbouring steps of one hart as one item.
 
 ghost use Rattle.cut_schedule.specs.Walking.{eviction_of};
+ghost use Rattle.schedule.specs.Joined.{HasSteps};
 ghost use Rattle.schedule.specs.Steps.{all_steps};
-ghost use Rattle.std.specs.Prelude.{◌≡◌, [], ◌∷◌, ◌++◌, IfOk, OnOk, replicate};
+ghost use Rattle.std.specs.Prelude.{◌≡◌, [], ◌∷◌, ◌++◌, All, IfOk, OnOk, replicate};
 
 use machine::{Item, Schedule, Step};
 use std::alloc::{AllocError, Global};
@@ -10,7 +11,7 @@ use std::marker::Model;
 
 /// A schedule, and steps of one hart at its end to which further ones can be joined.
 ///
-/// A contract sees the steps.
+/// A contract sees the steps. No item of the schedule is without steps.
 #[derive(Drop)]
 pub(crate) struct GrowingSchedule {
     schedule: Schedule,
@@ -19,14 +20,17 @@ pub(crate) struct GrowingSchedule {
 }
 
 impl Model for GrowingSchedule {
+    ghost use Rattle.schedule.specs.Joined.{HasSteps};
     ghost use Rattle.schedule.specs.Steps.{all_steps};
     ghost use Rattle.schedule.specs.declared.items.Step.{Step};
     ghost use Rattle.schedule.specs.declared.items.Step.TheVariants.{Hart};
-    ghost use Rattle.std.specs.Prelude.{List, ◌++◌, replicate};
+    ghost use Rattle.std.specs.Prelude.{List, ◌++◌, All, replicate};
 
     ghost Value = { List Step };
 
     ghost view = { λ g. all_steps g.schedule ++ replicate g.count (Hart g.hart) };
+
+    ghost invariant = { λ g. All HasSteps g.schedule };
 }
 
 impl GrowingSchedule {
@@ -70,7 +74,8 @@ impl GrowingSchedule {
 
     /// The schedule of these steps.
     pub(crate) fn finish(self) -> Result<Schedule, AllocError>
-        ensures { IfOk result (λ schedule. all_steps schedule ≡ self) }
+        ensures steps { IfOk result (λ schedule. all_steps schedule ≡ self) }
+        ensures items { IfOk result (λ schedule. All HasSteps schedule) }
     {
         let GrowingSchedule {
             mut schedule,
@@ -84,7 +89,8 @@ impl GrowingSchedule {
 
 /// Adds the steps of a hart as one item, and no item where there are none.
 fn push_run(schedule: &mut Schedule, hart: u32, count: u32) -> Result<(), AllocError>
-    ensures { OnOk result (all_steps schedule.new ≡ all_steps schedule.old ++ replicate count (Step.Hart hart)) }
+    ensures steps { OnOk result (all_steps schedule.new ≡ all_steps schedule.old ++ replicate count (Step.Hart hart)) }
+    ensures items { All HasSteps schedule.old → All HasSteps schedule.new }
 {
     if count == 0 {
         return Ok(());

@@ -12,8 +12,8 @@ use Rattle.plan.specs.declared.fault.PlanCode.TheVariants as code
 use Rattle.plan.specs.declared.operation.Operation.{Operation}
 use Rattle.plan.proofs.Headers.{counted_is_none, draft_begins, empty_is_none, opened_is_none, paged_is_none}
 use Rattle.plan.proofs.Unique.{count_unique, head_same, opening_unique, operations_unique, tail_same}
-use Rattle.plan.specs.Drafts.{IsDraft, IsUnfinished}
-use Rattle.plan.specs.Grammar.{BreaksRule, IsFirstFault, IsPlan, OnText, SaysPlan, code_number}
+use Rattle.plan.specs.Drafts.{IsDraft, IsUnfinished, TakesOperation}
+use Rattle.plan.specs.Grammar.{BeginsThrough, BreaksRule, IsFirstFault, IsPlan, OnText, SaysPlan, code_number}
 use Rattle.plan.specs.Lines.{is_filled, is_hash, lines, statements, words}
 use Rattle.plan.specs.Plans.{KeepsRules, PlanView, by_parts}
 
@@ -75,6 +75,23 @@ line_at_fault text number rest line after draft code.Twice r e b = fault_at text
 line_at_fault text number rest line after draft code.Inode r e b = fault_at text number rest line after draft code.Inode r e b
 line_at_fault text number rest line after draft code.Name r e b = fault_at text number rest line after draft code.Name r e b
 line_at_fault text number rest line after draft code.Memory r e b = tt
+
+-- the line that asks for memory
+pub asks_at : (text : List ℕ) (number : ℕ) (rest line after : List ℕ) (draft : Draft) → IsReading text number rest draft → lines rest ≡ line ∷ lines after
+    → TakesOperation draft (words (before_first is_hash line)) → BeginsThrough text number
+asks_at text number rest line after draft r e t =
+    let spoken = words (before_first is_hash line) in
+    let some : ¬ (spoken ≡ []) = λ none. let long = ap length (sym none ∙ t.says.spelled) in absurd (omega arith) in
+    record {
+      before = r.before;
+      line = line;
+      after = lines after;
+      operation = t.operation;
+      whole = r.whole ∙ rw e refl;
+      place = r.place;
+      says = t.says;
+      begins = rw (filled_line line some r.before) (draft_begins (statements r.before ++ spoken ∷ []) t.next (t.drafted (statements r.before) r.drafted));
+    }
 
 -- the whole text
 pub all_read : (text : List ℕ) (number : ℕ) (rest : List ℕ) (plan : PlanView) → IsReading text number rest (Whole plan) → lines rest ≡ [] → IsPlan text plan

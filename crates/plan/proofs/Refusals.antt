@@ -12,7 +12,7 @@ use Rattle.plan.proofs.Drafting.{says_more, whole_more}
 use Rattle.plan.proofs.Headers.{plan_begins}
 use Rattle.plan.proofs.Rules.{rules_front}
 use Rattle.plan.proofs.Unique.{count_unique, head_same, inodes_after, inodes_at, opening_unique, operation_unique, tail_same}
-use Rattle.plan.specs.Drafts.{BreaksAt, BreaksLine, Grows, IsDraft, SaysOpening, SaysToInodes, SaysToPages}
+use Rattle.plan.specs.Drafts.{AddsLine, BreaksAt, BreaksLine, Grows, IsDraft, SaysOpening, SaysToInodes, SaysToPages, TakesOperation}
 use Rattle.plan.specs.Grammar.{BeginsPlan, BreaksRule, OnText, SaysInodes, SaysJournals, SaysLayout, SaysOperation, SaysPages, SaysPlan, code_number}
 use Rattle.plan.specs.Plans.{KeepsRules, PlanView, with_operation}
 
@@ -176,3 +176,16 @@ pub accepted_operation : (draft : Draft) (words : List (List ℕ)) (plan : PlanV
     → IfOk r (λ next. (all : List (List (List ℕ))) → IsDraft all draft → IsDraft (all ++ words ∷ []) next)
 accepted_operation draft words plan (Ok next) e g = rw e (grown_draft words plan next g)
 accepted_operation draft words plan (Err broken) e g = tt
+
+asked_operation : (draft : Draft) (words : List (List ℕ)) (plan new : PlanView) → draft ≡ Whole plan → AddsLine plan words new → TakesOperation draft words
+asked_operation draft words plan new e adds = record {
+  operation = adds.operation;
+  says = adds.says;
+  next = Whole new;
+  drafted = rw e (grown_draft words plan (Whole new) adds);
+}
+
+pub asked_operations : (draft : Draft) (words : List (List ℕ)) (plan : PlanView) (r : Result Draft PlanCode) → draft ≡ Whole plan
+    → IfErr r (λ broken. broken ≡ code.Memory → (new : PlanView) × AddsLine plan words new) → IfErr r (λ broken. broken ≡ code.Memory → TakesOperation draft words)
+asked_operations draft words plan (Ok next) e adds = tt
+asked_operations draft words plan (Err broken) e adds = λ memory. let new = adds memory in asked_operation draft words plan new.0 e new.1

@@ -4,6 +4,7 @@ use Rattle.std.specs.List.{AllByRecursion, IsDistinct, list_any}
 use Rattle.std.proofs.lemmas.Cmp.{nat_eq_equiv}
 use Rattle.std.proofs.lemmas.List.{map-append}
 use Rattle.std.proofs.lemmas.Map.Keys.{IsDistinct-cons, IsDistinct-head, IsDistinct-push, IsDistinct-tail}
+use Rattle.nova_log.specs.declared.layout.Layout.{Layout}
 use Rattle.plan.specs.declared.fault.PlanCode.{PlanCode}
 use Rattle.plan.specs.declared.fault.PlanCode.TheVariants as code
 use Rattle.plan.specs.declared.operation.Action.{Action}
@@ -170,3 +171,8 @@ line_added old new words operation says keeps grown = record {
   grown = grown;
   rules = subst (λ (plan : PlanView). KeepsRules 4 plan) (sym grown) keeps;
 }
+
+-- what is forbidden isn't told as want of memory
+pub forbidden_by_text : (layout : Layout) (inodes : ℕ) (words : List (List ℕ)) (found : Wording) (broken : PlanCode) → WordsOperation words found
+    → Forbids layout inodes found.action broken → ¬ (broken ≡ code.Memory)
+forbidden_by_text layout inodes words found broken w forbids e = rw e at (forbids w.operation.action w.holds)

@@ -78,3 +78,10 @@ Grows old words (Opened layout) = ⊥
 Grows old words (Counted layout inodes) = ⊥
 Grows old words (Paged layout inodes pages) = ⊥
 Grows old words (Whole new) = AddsLine old words new
+
+-- a line that says an operation, and a draft with it: memory is asked for
+pub record TakesOperation (draft : Draft) (words : List (List ℕ)) : Type 0 where
+  pub operation : Operation
+  pub says : SaysOperation words operation
+  pub next : Draft
+  pub drafted : (all : List (List (List ℕ))) → IsDraft all draft → IsDraft (all ++ words ∷ []) next

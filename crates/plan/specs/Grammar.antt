@@ -2,7 +2,7 @@
 -- `journals N`; then an operation a line, `op K append I VALUE` or `op K rename I J NAME VALUE`.
 -- Source: this project's own format. As in Vinter, USENIX ATC 2022, a test names the operations whose effects are judged.
 use Rattle.std.specs.Prelude.{◌≡◌, ◌≤◌, ◌<◌, ◌^◌, ◌+◌, ◌⊎◌, ◌++◌, ℕ, List, [], ◌∷◌, codes, length, ⊤}
-use Rattle.std.specs.List.{AllZip}
+use Rattle.std.specs.List.{AllZip, before_first}
 use Rattle.std.specs.Str.Parse.{IsNumeral, digits_value}
 use Rattle.nova_log.specs.declared.layout.Layout.{Layout}
 use Rattle.nova_log.specs.declared.layout.Layout.TheVariants.{One, Two}
@@ -11,7 +11,7 @@ use Rattle.plan.specs.declared.fault.PlanCode.TheVariants as code
 use Rattle.plan.specs.declared.operation.Action.{Action}
 use Rattle.plan.specs.declared.operation.Action.TheVariants.{Append, Rename}
 use Rattle.plan.specs.declared.operation.Operation.{Operation}
-use Rattle.plan.specs.Lines.{lines, statements}
+use Rattle.plan.specs.Lines.{is_hash, lines, statements, words}
 use Rattle.plan.specs.Plans.{KeepsRules, PlanView}
 
 -- decimal digits of the number, leading zeros among them
@@ -151,3 +151,14 @@ OnText code.Memory P = ⊤
 -- the first line at fault, or the one that is missing
 abbrev pub IsFirstFault : List ℕ → ℕ → PlanCode → Type 0
 IsFirstFault text number broken = IsLineAtFault text number broken ⊎ EndsEarly text number broken
+
+-- the line of this number says an operation, and a plan can begin with the lines as far as it
+pub record BeginsThrough (text : List ℕ) (number : ℕ) : Type 0 where
+  pub before : List (List ℕ)
+  pub line : List ℕ
+  pub after : List (List ℕ)
+  pub operation : Operation
+  pub whole : lines text ≡ before ++ line ∷ after
+  pub place : number ≡ length before + 1
+  pub says : SaysOperation (words (before_first is_hash line)) operation
+  pub begins : BeginsPlan 4 (statements (before ++ line ∷ []))

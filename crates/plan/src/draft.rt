@@ -1,9 +1,11 @@
 //! A plan as far as its lines have been read.
 
 ghost use Rattle.std.specs.Prelude.{◌≡◌, ◌++◌, ◌∷◌, [], ℕ, List, IfErr, IfOk, MatchOption};
-ghost use Rattle.plan.specs.Drafts.{BreaksLine, Grows, IsDraft, IsUnfinished};
+ghost use Rattle.std.specs.List.{before_first};
+ghost use Rattle.plan.specs.Drafts.{AddsLine, BreaksLine, Grows, IsDraft, IsUnfinished, TakesOperation};
 ghost use Rattle.plan.specs.Grammar.{BreaksRule, OnText, SaysInodes, SaysPages};
-ghost use Rattle.plan.specs.Lines.{statements, words};
+ghost use Rattle.plan.specs.Lines.{is_hash, statements, words};
+ghost use Rattle.plan.specs.Plans.{PlanView};
 
 use crate::fault::PlanCode;
 use crate::lines::uncommented;
@@ -66,6 +68,7 @@ fn paged(layout: Layout, inodes: u32, line: &[u8]) -> Result<Draft, PlanCode>
 fn grown(mut plan: Plan, line: &[u8]) -> Result<Draft, PlanCode>
     ensures ok { IfOk result (Grows plan (words line.now)) }
     ensures err { IfErr result (λ code. OnText code (BreaksLine plan (words line.now) code)) }
+    ensures memory { IfErr result (λ code. code ≡ PlanCode.Memory → (next : PlanView) × AddsLine plan (words line.now) next) }
 {
     plan.add(line)?;
     Ok(Draft::Whole(plan))
@@ -79,6 +82,7 @@ impl Draft {
             → IsDraft (all ++ words line.now ∷ []) next) }
         ensures err { IfErr result (λ code. OnText code ((all : List (List (List ℕ))) → IsDraft all self
             → BreaksRule code (all ++ words line.now ∷ []))) }
+        ensures memory { IfErr result (λ code. code ≡ PlanCode.Memory → TakesOperation self (words line.now)) }
     {
         match self {
             Draft::Empty => match layout_line(line) {
@@ -108,6 +112,7 @@ impl Draft {
             → IsDraft (statements (before ++ line.now ∷ [])) next) }
         ensures err { IfErr result (λ code. OnText code ((before : List (List ℕ)) → IsDraft (statements before) self
             → BreaksRule code (statements (before ++ line.now ∷ [])))) }
+        ensures memory { IfErr result (λ code. code ≡ PlanCode.Memory → TakesOperation self (words (before_first is_hash line.now))) }
     {
         let line = uncommented(line);
         if is_blank(line) {

@@ -1,11 +1,11 @@
 //! Plans.
 
-ghost use Rattle.std.specs.Prelude.{◌≡◌, ◌==◌, [], IfErr, IfOk, OnOk};
+ghost use Rattle.std.specs.Prelude.{◌≡◌, ◌≢◌, ◌==◌, [], IfErr, IfOk, OnOk};
 ghost use Rattle.std.specs.List.{list_any};
 ghost use Rattle.plan.specs.Drafts.{AddsLine, BreaksLine};
 ghost use Rattle.plan.specs.Grammar.{OnText, SaysOperation};
 ghost use Rattle.plan.specs.Lines.{words};
-ghost use Rattle.plan.specs.Plans.{KeepsRules, by_parts, made, with_operation};
+ghost use Rattle.plan.specs.Plans.{KeepsRules, PlanView, by_parts, made, with_operation};
 
 use crate::fault::PlanCode;
 use crate::judging::judged;
@@ -64,6 +64,7 @@ impl Plan {
         ensures says { IfOk result (λ next. SaysOperation (words line.now) (made next.0 next.1)) }
         ensures rules { IfOk result (λ next. KeepsRules 4 (with_operation self.now (made next.0 next.1))) }
         ensures err { IfErr result (λ code. OnText code (BreaksLine self.now (words line.now) code)) }
+        ensures memory { IfErr result (λ code. code ≢ PlanCode.Memory) }
     {
         let Some(wording) = worded_operation(line) else {
             return Err(PlanCode::Line);
@@ -81,6 +82,7 @@ impl Plan {
     pub(crate) fn add(&mut self, line: &[u8]) -> Result<(), PlanCode>
         ensures ok { OnOk result (AddsLine self.old (words line.now) self.new) }
         ensures err { IfErr result (λ code. OnText code (BreaksLine self.old (words line.now) code)) }
+        ensures memory { IfErr result (λ code. code ≡ PlanCode.Memory → (next : PlanView) × AddsLine self.old (words line.now) next) }
     {
         let (number, action) = self.next_action(line)?;
         let operation = Operation { number, action };

@@ -1,7 +1,7 @@
 //! Reading the text of a plan.
 
 ghost use Rattle.std.specs.Prelude.{◌≡◌, IfErr, IfOk};
-ghost use Rattle.plan.specs.Grammar.{IsFirstFault, IsPlan, OnText};
+ghost use Rattle.plan.specs.Grammar.{BeginsThrough, IsFirstFault, IsPlan, OnText};
 ghost use Rattle.plan.specs.Plans.{PlanView};
 
 use crate::draft::Draft;
@@ -21,12 +21,14 @@ impl Plan {
     /// The first line at fault, by its number from 1, with the first rule that it breaks: Line where no
     /// such line may stand there, Twice where an earlier operation has its number, Inode where an inode
     /// isn't there or a name would stay, Name where the name is none. Line after the last line where the
-    /// counts haven't all come. Memory where a growth is refused.
+    /// counts haven't all come. Memory at the line of an operation where a growth is refused, with no line
+    /// at fault as far as it.
     #[tactic(auto, using(crate::proofs::Reading::nothing_read, crate::proofs::Reading::one_more_read, crate::proofs::Reading::line_at_fault, crate::proofs::Reading::all_read, crate::proofs::Reading::ends_early, crate::proofs::Reading::one_plan, crate::proofs::Reading::refused_is_none))]
     pub fn read(alloc: Global, text: &[u8]) -> Result<Plan, PlanFault>
         ensures ok { IfOk result (IsPlan text.now) }
         ensures only { IfOk result (λ plan. (other : PlanView) → IsPlan text.now other → other ≡ plan) }
         ensures err { IfErr result (λ fault. OnText fault.code (IsFirstFault text.now fault.line fault.code)) }
+        ensures memory { IfErr result (λ fault. fault.code ≡ PlanCode.Memory → BeginsThrough text.now fault.line) }
         ensures none { IfErr result (λ fault. OnText fault.code ((plan : PlanView) → ¬ (IsPlan text.now plan))) }
     {
         let mut draft = Draft::Empty;

@@ -1,5 +1,5 @@
 -- The hart steps of a run are counted, and its events are numbered by them.
-use Rattle.std.proofs.Common.{◌≡◌, ℕ, zero, suc, ◌+◌, ◌<◌, ◌≤◌, ◌⊎◌, List, [], ◌∷◌, ◌++◌, length, take, replicate, Some, true, All, slice_get, get_or, refl, sym, ap, ◌∙◌, inl, inr, arith, lit<, append_assoc}
+use Rattle.std.proofs.Common.{◌≡◌, ℕ, zero, suc, ◌+◌, ◌<◌, ◌≤◌, ◌⊎◌, List, [], ◌∷◌, ◌++◌, length, take, replicate, Some, true, All, Option, None, slice_get, get_or, refl, sym, ap, ◌∙◌, inl, inr, arith, lit<, append_assoc}
 use Rattle.std.proofs.lemmas.Bool.{cases_lt}
 use Rattle.std.proofs.lemmas.List.{append-nil, get_or-replicate, length-append, length-replicate, replicate_more, replicate-append-replicate, take-replicate, take_more}
 use Rattle.std.proofs.lemmas.List.Elements.{filter-append}
@@ -11,12 +11,13 @@ use Rattle.schedule.specs.declared.items.Step.{Step}
 use Rattle.schedule.specs.declared.items.Step.TheVariants.{Hart, Evict}
 use Rattle.schedule.specs.Steps.{all_steps, steps_of}
 use Rattle.store_trace.specs.declared.event.Event.{Event}
-use Rattle.recording.specs.Recorded.{AreNumbers, IsAmong, IsMadeBy, RecordedView, Records, StopsRecording}
+use Rattle.recording.specs.Recorded.{AreNumbers, IsAmong, IsMadeBy, MayLackRoom, RecordedView, Records, StopsRecording}
 use Rattle.machine.specs.Evicting.{hart_steps, is_hart_step}
-use Rattle.recording.specs.Recorders.{Continues, HasRecorded, HoldsAfter, HoldsAt, IsHeld, RecorderView}
+use Rattle.recording.specs.Recorders.{Continues, HasRecorded, HoldsAfter, HoldsAt, IsHeld, MayGrow, RecorderView}
 use Rattle.machine.specs.Run.{Config, RunsTo, StepsTo}
-use Rattle.machine.specs.Stands.{IsThere, MachineView, Runs, Stands}
-use Rattle.machine.specs.Stops.{is_stopped}
+use Rattle.machine.specs.Refusals.{RefusesNext}
+use Rattle.machine.specs.Stands.{IsRunning, IsThere, MachineView, Runs, Stands}
+use Rattle.machine.specs.Stops.{is_stopped, steps_of_item}
 use Rattle.machine.specs.declared.fault.RunStop.{RunStop}
 use Rattle.shared_memory.specs.declared.fault.StepFault.{StepFault}
 use Rattle.shared_memory.specs.declared.fault.StepFault.TheVariants.{Memory}
@@ -213,7 +214,7 @@ items_continue old middle new items i d fits a b =
 
 -- where a recorder goes no further
 pub hart_holds : (old middle new : RecorderView) (h done count : ℕ) (fault : StepFault) → done < count
-    → Continues old middle (replicate done (Hart h)) → new ≡ middle → IsHeld middle.machine (Some (Hart h)) fault
+    → Continues old middle (replicate done (Hart h)) → new ≡ middle → IsHeld middle (Some (Hart h)) fault
     → HoldsAfter old new (replicate count (Hart h)) done fault
 hart_holds old middle new h done count fault fits continues e held =
     let less : done ≤ count = omega arith in
@@ -225,7 +226,7 @@ hart_holds old middle new h done count fault fits continues e held =
       held = rw next held;
     })
 
-pub eviction_holds : (old new : RecorderView) (line : ℕ) (fault : StepFault) → new ≡ old → IsHeld old.machine (Some (Evict line)) fault
+pub eviction_holds : (old new : RecorderView) (line : ℕ) (fault : StepFault) → new ≡ old → IsHeld old (Some (Evict line)) fault
     → HoldsAfter old new (Evict line ∷ []) 0 fault
 eviction_holds old new line fault e held = rw e (record { there = lit< tt; continues = continues_none old; held = held })
 
@@ -278,14 +279,34 @@ records_all c old new recorded r continues lines capacity trace harts left numbe
       left = record { machine = new.machine; stands = now.stands; capacity_is = continues.runs.capacity ∙ capacity; lines = left };
     }
 
+-- why memory may have been refused for the next step
+numbers_lack_room : (c : Config) (steps : List Step) (recorder : RecorderView) (next : Option Step)
+    → (r : HasRecorded c steps recorder) → MayGrow recorder next → MayLackRoom r.end next
+numbers_lack_room c steps recorder None r may = may
+numbers_lack_room c steps recorder (Some (Hart h)) r may = (rw (← r.stands.harts) may.0, rw (← r.each) may.1)
+numbers_lack_room c steps recorder (Some (Evict line)) r may = may
+
+running_is_there : (machine : MachineView) (h : ℕ) (found : Option HartState) → slice_get machine.harts h ≡ found → IsRunning found
+    → h < length machine.harts
+running_is_there machine h None e running = absurd running
+running_is_there machine h (Some s) e running = slice_get_within machine.harts h s e
+
+machine_lacks_room : (c : Config) (machine : MachineView) (next : Option Step) → Stands machine c → RefusesNext machine next Memory
+    → MayLackRoom c next
+machine_lacks_room c machine None stands refused = refused
+machine_lacks_room c machine (Some (Hart h)) stands refused =
+    (rw (← stands.harts) (running_is_there machine h (slice_get machine.harts h) refl refused.0.running), rw (← stands.shared.trace) refused.1)
+machine_lacks_room c machine (Some (Evict line)) stands refused = absurd refused.0
+
 pub stops_recording : (c : Config) (lines : List (List ℕ)) (old new : RecorderView) (items : List Item) (stop : RunStop)
     → HasRecorded c [] old → old.machine.shared.cache.lines ≡ lines → HoldsAt old new items stop → StopsRecording c (length lines) items stop
 stops_recording c lines old new items stop r same h =
-    let now = h.continues.records c [] r in record {
+    let now = h.continues.records c [] r in
+    let next = slice_get (steps_of_item (slice_get items stop.item)) stop.steps in record {
       reached = now.end;
       runs = now.runs;
       reason = elim h.held [
-        | inl memory ↦ inl memory
+        | inl memory ↦ inl memory.0
         | inr refused ↦ inr (record {
           old = old.machine;
           new = new.machine;
@@ -295,6 +316,10 @@ stops_recording c lines old new items stop r same h =
           stops = record { item = h.item; steps = h.steps; runs = h.continues.runs; refused = refused.1 };
         })
       ];
+      room = λ memory. inr (elim h.held [
+        | inl grown ↦ numbers_lack_room c _ new next now grown.1
+        | inr refused ↦ machine_lacks_room now.end new.machine next now.stands (rw memory at refused.1)
+      ]);
     }
 
 pub memory_stops : (c : Config) (lines : ℕ) (items : List Item) (stop : RunStop) → stop.item ≡ 0 → stop.steps ≡ 0 → stop.fault ≡ Memory
@@ -303,6 +328,7 @@ memory_stops c lines items stop item steps memory = record {
   reached = c;
   runs = rw (item, steps) refl;
   reason = inl memory;
+  room = λ _. inl (item, steps);
 }
 
 -- a machine that was made has harts and a capacity within the limits

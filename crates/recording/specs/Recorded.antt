@@ -1,5 +1,5 @@
 -- What is kept of a run: from where, by which schedule and to where it went, and which hart step made each event.
-use Rattle.std.specs.Prelude.{◌≡◌, ◌⊎◌, ℕ, ◌+◌, ◌<◌, ◌≤◌, List, ◌∷◌, ◌++◌, All, length, slice_get, Some}
+use Rattle.std.specs.Prelude.{◌≡◌, ◌⊎◌, ℕ, ◌+◌, ◌<◌, ◌≤◌, List, ◌∷◌, ◌++◌, All, Option, Some, None, length, slice_get}
 use Rattle.hart.specs.declared.state.HartState.{HartState}
 use Rattle.schedule.specs.Steps.{all_steps}
 use Rattle.schedule.specs.declared.items.Item.{Item}
@@ -75,11 +75,20 @@ pub record IsRefused (c : Config) (count : ℕ) (items : List Item) (stop : RunS
   pub few : length new.shared.trace ≤ 65536
   pub stops : StopsAt old new items stop
 
--- a run from c is recorded up to the stop, and no further: memory was refused, or the machine refuses the next step
+-- the next step may need room: it is that of a hart which is there, and the trace isn't full
+abbrev pub MayLackRoom : Config → Option Step → Type 0
+MayLackRoom c None = ⊥
+MayLackRoom c (Some (Hart h)) = (h < length c.harts) × (length c.common.trace < 65536)
+MayLackRoom c (Some (Evict line)) = ⊥
+
+-- a run from c is recorded up to the stop, and no further: memory was refused, or the machine refuses the next step;
+-- memory is refused before the first step, for what is kept of the whole run, or for the next step
 pub record StopsRecording (c : Config) (lines : ℕ) (items : List Item) (stop : RunStop) : Type 0 where
   pub reached : Config
   pub runs : RunsTo c (steps_before items stop.item stop.steps) reached
   pub reason : (stop.fault ≡ Memory) ⊎ IsRefused c lines items stop
+  pub room : stop.fault ≡ Memory → ((stop.item ≡ 0) × (stop.steps ≡ 0))
+      ⊎ MayLackRoom reached (slice_get (steps_of_item (slice_get items stop.item)) stop.steps)
 
 -- a stop is before the first step, or before one of the schedule's
 abbrev pub IsAtStep : List Item → RunStop → Type 0

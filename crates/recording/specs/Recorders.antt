@@ -1,7 +1,8 @@
 -- A recorder: a machine that makes the steps of a schedule, and what it has recorded of them so far.
-use Rattle.std.specs.Prelude.{◌≡◌, ◌⊎◌, ◌<◌, ◌≤◌, ℕ, List, ◌++◌, Option, length, slice_get, take}
+use Rattle.std.specs.Prelude.{◌≡◌, ◌⊎◌, ◌<◌, ◌≤◌, ℕ, List, ◌++◌, Option, Some, None, length, slice_get, take}
 use Rattle.schedule.specs.declared.items.Item.{Item}
 use Rattle.schedule.specs.declared.items.Step.{Step}
+use Rattle.schedule.specs.declared.items.Step.TheVariants.{Hart, Evict}
 use Rattle.machine.specs.Evicting.{hart_steps}
 use Rattle.machine.specs.Refusals.{RefusesNext}
 use Rattle.machine.specs.Run.{Config, RunsTo}
@@ -33,19 +34,26 @@ pub record Continues (old new : RecorderView) (steps : List Step) : Type 0 where
   pub runs : Runs old.machine new.machine steps
   pub records : (c : Config) (past : List Step) → HasRecorded c past old → HasRecorded c (past ++ steps) new
 
--- it goes no further: memory was refused, or the machine, with 65,536 events at most, refuses the next step
-abbrev pub IsHeld : MachineView → Option Step → StepFault → Type 0
-IsHeld machine next fault = (fault ≡ Memory) ⊎ ((length machine.shared.trace ≤ 65536) × RefusesNext machine next fault)
+-- its numbers may have to grow for the next step: that of a hart which is there, with fewer than 65,536 of them
+abbrev pub MayGrow : RecorderView → Option Step → Type 0
+MayGrow recorder None = ⊥
+MayGrow recorder (Some (Hart h)) = (h < length recorder.machine.harts) × (length recorder.numbers < 65536)
+MayGrow recorder (Some (Evict line)) = ⊥
+
+-- it goes no further: memory was refused for the next step, or the machine, with 65,536 events at most, refuses that step
+abbrev pub IsHeld : RecorderView → Option Step → StepFault → Type 0
+IsHeld recorder next fault = ((fault ≡ Memory) × MayGrow recorder next)
+    ⊎ ((length recorder.machine.shared.trace ≤ 65536) × RefusesNext recorder.machine next fault)
 
 -- of a list of steps it has recorded as many as `made`, and goes no further
 pub record HoldsAfter (old new : RecorderView) (steps : List Step) (made : ℕ) (fault : StepFault) : Type 0 where
   pub there : made < length steps
   pub continues : Continues old new (take made steps)
-  pub held : IsHeld new.machine (slice_get steps made) fault
+  pub held : IsHeld new (slice_get steps made) fault
 
 -- the same, by an item of a schedule and the steps made of it
 pub record HoldsAt (old new : RecorderView) (items : List Item) (stop : RunStop) : Type 0 where
   pub item : stop.item < length items
   pub steps : stop.steps < length (steps_of_item (slice_get items stop.item))
   pub continues : Continues old new (steps_before items stop.item stop.steps)
-  pub held : IsHeld new.machine (slice_get (steps_of_item (slice_get items stop.item)) stop.steps) stop.fault
+  pub held : IsHeld new (slice_get (steps_of_item (slice_get items stop.item)) stop.steps) stop.fault

@@ -31,6 +31,9 @@ impl Model for Recorder {
     ghost view = { λ r. record { machine = r.machine; made = r.made; numbers = r.numbers.items } };
 }
 
+/// How many events a trace has at most.
+const MOST_EVENTS: usize = 65_536;
+
 /// A step of an item that was refused, after as many as `steps` says.
 #[derive(Clone, Copy)]
 struct Hold {
@@ -101,11 +104,9 @@ impl Recorder {
         ensures ok { OnOk result (Continues self.old self.new (Step.Hart hart ∷ [])) }
         ensures made { OnOk result (self.new.made ≡ self.old.made + 1) }
         ensures err { OnErr result (self.new ≡ self.old) }
-        ensures held { IfErr result (IsHeld self.old.machine (Some (Step.Hart hart))) }
+        ensures held { IfErr result (IsHeld self.old (Some (Step.Hart hart))) }
     {
-        if self.numbers.reserve(1).is_err() {
-            return Err(StepFault::Memory);
-        }
+        make_room(&mut self.numbers, &self.machine, hart)?;
         if let Err(fault) = self.machine.step(Step::Hart(hart)) {
             return Err(fault);
         }
@@ -119,7 +120,7 @@ impl Recorder {
         ensures ok { OnOk result (Continues self.old self.new (Step.Evict line ∷ [])) }
         ensures made { OnOk result (self.new.made ≡ self.old.made) }
         ensures err { OnErr result (self.new ≡ self.old) }
-        ensures held { IfErr result (IsHeld self.old.machine (Some (Step.Evict line))) }
+        ensures held { IfErr result (IsHeld self.old (Some (Step.Evict line))) }
     {
         if let Err(fault) = self.machine.step(Step::Evict(line)) {
             return Err(fault);
@@ -227,9 +228,25 @@ fn push_item(schedule: &mut Schedule, item: Item) -> Result<(), StepFault>
     }
 }
 
+/// Makes room for the number of a hart's next step. It grows nothing for a step that the machine refuses for want of the
+/// hart or of room in its trace, so that such a step is never told as want of memory.
+fn make_room(numbers: &mut Vec<u32>, machine: &Machine, hart: u32) -> Result<(), StepFault>
+    ensures items { numbers.new.items ≡ numbers.old.items }
+    ensures ok { OnOk result (hart < length machine.now.harts → length numbers.old.items < 65536 →
+        vec_len numbers.new + 1 ≤ vec_capacity numbers.new) }
+    ensures err { IfErr result (λ fault. fault ≡ StepFault.Memory) }
+    ensures grown { OnErr result ((hart < length machine.now.harts) × (length numbers.old.items < 65536)) }
+{
+    let may_grow = hart < machine.harts() && numbers.len() < MOST_EVENTS;
+    if may_grow && numbers.reserve(1).is_err() {
+        return Err(StepFault::Memory);
+    }
+    Ok(())
+}
+
 /// Adds the number of the last hart step where there are more events than numbers.
 fn number_event(numbers: &mut Vec<u32>, events: usize, made: u32)
-    requires { vec_len numbers.old + 1 ≤ vec_capacity numbers.old }
+    requires { length numbers.old.items < events → vec_len numbers.old + 1 ≤ vec_capacity numbers.old }
     ensures more { length numbers.old.items < events → numbers.new.items ≡ numbers.old.items ++ made ∷ [] }
     ensures same { events ≤ length numbers.old.items → numbers.new.items ≡ numbers.old.items }
 {

@@ -21,7 +21,9 @@ use std::alloc::Global;
 ///
 /// # Errors
 /// The first step that is refused, with its item and the steps made in it. NoSuchHart, at step 0 of item 0, where
-/// `harts` isn't from 1 to 8, and else OutOfLimits there where the capacity is outside its limits. Memory where a growth is refused, at step 0 of item 0 if it isn't for a step.
+/// `harts` isn't from 1 to 8, and else OutOfLimits there where the capacity is outside its limits. Memory where a growth
+/// is refused, at step 0 of item 0 if it isn't for a step, and else at a step of a hart that is there while the trace
+/// isn't full.
 pub fn record(
     alloc: Global,
     program: Program,

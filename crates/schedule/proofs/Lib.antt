@@ -1,6 +1,7 @@
 pub mod Growing
 pub mod GrowingJoined
 pub mod JoinedLemmas
+pub mod Judged
 pub mod OneReading
 pub mod RunLemmas
 pub mod Said

@@ -1,8 +1,8 @@
 -- A text says one list of items at most.
-use Rattle.std.proofs.Common.{◌≡◌, ℕ, ◌<◌, ◌^◌, List, [], ◌∷◌, ◌++◌, Option, Some, None, refl, sym, ap, ◌∙◌, subst, inl, inr}
+use Rattle.std.proofs.Common.{◌≡◌, ℕ, List, [], ◌∷◌, ◌++◌, Option, Some, None, refl, sym, ap, ◌∙◌, subst, inl, inr}
 use Rattle.std.specs.List.{AllZip}
 use Rattle.schedule.proofs.Stars.{placed}
-use Rattle.schedule.specs.Grammar.{IsNumber, IsSchedule, Says, hart_steps, words}
+use Rattle.schedule.specs.Grammar.{IsNumber, IsSchedule, Says, words}
 use Rattle.schedule.specs.Places.{StepsAt}
 use Rattle.schedule.specs.declared.items.Item.{Item}
 use Rattle.schedule.specs.declared.items.Item.TheVariants.{Steps, Evict}
@@ -32,7 +32,7 @@ steps_or_other word hart count other s t =
     let Second : List ℕ → Type 0 = λ w. Says w other in
     one_at_place rest _ (Steps hart count) other (placed rest (Steps hart count) (subst First spelled s)) (placed rest other (subst Second spelled t))
 
-one_said : (word : List ℕ) (a b : Item) → Says word a → Says word b → a ≡ b
+pub one_said : (word : List ℕ) (a b : Item) → Says word a → Says word b → a ≡ b
 one_said word (Steps hart count) b s t = steps_or_other word hart count b s t
 one_said word (Evict line) (Steps hart count) s t = sym (steps_or_other word hart count (Evict line) t s)
 one_said word (Evict l) (Evict m) s t =
@@ -51,7 +51,3 @@ one_list (w ∷ ws) (x ∷ xs) (y ∷ ys) s t =
 
 pub one_schedule : (text : List ℕ) (a b : List Item) → AllZip Says (words text) a → IsSchedule text b → b ≡ a
 one_schedule text a b s t = one_list (words text) b a t.says s
-
-pub past_limit : (text : List ℕ) (a : List Item) → AllZip Says (words text) a → ¬ (hart_steps a < 2 ^ 32) → (b : List Item) → ¬ (IsSchedule text b)
-past_limit text a s over b t =
-    let Within : List Item → Type 0 = λ items. hart_steps items < 2 ^ 32 in over (subst Within (one_schedule text a b s t) t.within)

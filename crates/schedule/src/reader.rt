@@ -1,6 +1,6 @@
 //! Reading the text of a schedule.
 
-ghost use Rattle.std.specs.Prelude.{◌≡◌, ◌<◌, ◌==◌, ◌∷◌, List, IfErr, IfNone, IfOk, IfSome, length, position};
+ghost use Rattle.std.specs.Prelude.{◌≡◌, ◌<◌, ◌==◌, ◌∷◌, List, IfErr, IfNone, IfOk, IfSome, IsErrOf, IsTrue, length, position};
 ghost use Rattle.std.specs.List.{AllZip};
 ghost use Rattle.schedule.specs.Grammar.{IsSchedule, OnText, Says, words};
 ghost use Rattle.schedule.specs.Places.{StepsAt};
@@ -8,10 +8,10 @@ ghost use Rattle.schedule.specs.declared.items.Item.{Item as AnItem};
 
 use crate::fault::ScheduleFault;
 use crate::items::{Item, Schedule};
-use crate::limit::is_within_limit;
+use crate::limit::steps_in;
 use crate::words::first_word;
 use decimal::{decimal, decimal_within};
-use std::alloc::Global;
+use std::alloc::{AllocError, Global};
 
 /// The place of the first star.
 fn star(text: &[u8]) -> Option<usize>
@@ -77,17 +77,38 @@ fn item(word: &[u8]) -> Option<Item>
     }
 }
 
-/// The items that a text's words say.
+/// Whether a text is a schedule.
+#[tactic(auto, using(crate::proofs::Judged::nothing_summed, crate::proofs::Judged::one_more_summed, crate::proofs::Judged::all_summed))]
+fn is_schedule(text: &[u8]) -> bool
+    ensures yes { IsTrue result → (items : List AnItem) × IsSchedule text.now items }
+    ensures no { ¬ (IsTrue result) → (items : List AnItem) → ¬ (IsSchedule text.now items) }
+{
+    let mut total = 0u32;
+    let mut rest = text;
+    while let Some((word, after)) = first_word(rest) {
+        let Some(item) = item(word) else {
+            return false;
+        };
+        let Some(sum) = total.checked_add(steps_in(&item)) else {
+            return false;
+        };
+        total = sum;
+        rest = after;
+    }
+    true
+}
+
+/// The items that the words of a schedule's text say.
 #[tactic(auto, using(crate::proofs::Said::nothing_said, crate::proofs::Said::one_more_said, crate::proofs::Said::all_said, crate::proofs::Said::none_says))]
-fn items(alloc: Global, text: &[u8]) -> Result<Schedule, ScheduleFault>
-    ensures ok { IfOk result (AllZip Says (words text.now)) }
-    ensures err { IfErr result (OnText ((items : List AnItem) → ¬ (AllZip Says (words text.now) items))) }
+fn items(alloc: Global, text: &[u8]) -> Result<Schedule, AllocError>
+    requires { (items : List AnItem) × IsSchedule text.now items }
+    ensures { IfOk result (AllZip Says (words text.now)) }
 {
     let mut schedule = Schedule::new(alloc);
     let mut rest = text;
     while let Some((word, after)) = first_word(rest) {
         let Some(item) = item(word) else {
-            return Err(ScheduleFault::Text);
+            unreachable!();
         };
         schedule.push(item)?;
         rest = after;
@@ -102,19 +123,19 @@ impl Schedule {
     ///
     /// # Errors
     /// Text where the text is none, a number is past 4,294,967,295, or the steps of all harts
-    /// together are more than 4,294,967,295. Memory where a growth is refused.
-    #[tactic(auto, using(crate::proofs::OneReading::one_schedule, crate::proofs::OneReading::past_limit))]
+    /// together are more than 4,294,967,295. Memory where the text is a schedule and a growth is refused.
+    #[tactic(auto, using(crate::proofs::OneReading::one_schedule))]
     pub fn read(alloc: Global, text: &[u8]) -> Result<Schedule, ScheduleFault>
         ensures ok { IfOk result (IsSchedule text.now) }
         ensures only { IfOk result (λ schedule. (items : List AnItem) → IsSchedule text.now items
             → items ≡ schedule) }
         ensures err { IfErr result (OnText ((items : List AnItem) → ¬ (IsSchedule text.now items))) }
+        ensures memory { IsErrOf result ScheduleFault.Memory → (items : List AnItem) × IsSchedule text.now items }
     {
-        let schedule = items(alloc, text)?;
-        if is_within_limit(schedule.items()) {
-            Ok(schedule)
-        } else {
-            Err(ScheduleFault::Text)
+        // A text is judged whole before anything grows, so that a bad one is never told as want of memory.
+        if !is_schedule(text) {
+            return Err(ScheduleFault::Text);
         }
+        Ok(items(alloc, text)?)
     }
 }

@@ -26,7 +26,7 @@ returns-clause-ok c =
     (c.if-not-contains.ensures.0 (search rules)) in
     explains_cut c.args.recorded.now c.args.moment c.args.cut.now (all_steps c.in_ok-explained.field-0) is
     (subst (λ (entries : List (ℕ × ℕ)). Follows c.args.recorded.now (number_in entries) c.args.moment
-    (steps_by c.args.recorded.now.steps c.args.moment) (all_steps c.in_ok-explained.field-0)) c.entries.ensures c.in_ok-explained.ensures)
+    (steps_by c.args.recorded.now.steps c.args.moment) (all_steps c.in_ok-explained.field-0)) c.entries.ensures c.in_ok-explained.ensures.follows)
 
 pub returns-clause-few : goal.returns-clause-few
 returns-clause-few c =

@@ -1,4 +1,4 @@
-use Rattle.plan.proofs.Refusals.{accepted_operation, refused_inodes, refused_journals, refused_operation, refused_pages, refused_start}
+use Rattle.plan.proofs.Refusals.{accepted_operation, asked_operations, refused_inodes, refused_journals, refused_operation, refused_pages, refused_start}
 use Rattle.plan.proofs.draft.Draft.with_words.Goals as goal
 
 pub returns-in-None-clause-err : goal.returns-in-None-clause-err
@@ -18,3 +18,6 @@ returns-in-Whole-clause-err c = refused_operation _ _ _ _ c.in-Whole.is c.grown.
 
 pub returns-in-Whole-clause-ok : goal.returns-in-Whole-clause-ok
 returns-in-Whole-clause-ok c = accepted_operation _ _ _ _ c.in-Whole.is c.grown.ensures.ok
+
+pub returns-in-Whole-clause-memory : goal.returns-in-Whole-clause-memory
+returns-in-Whole-clause-memory c = asked_operations _ _ _ _ c.in-Whole.is c.grown.ensures.memory

@@ -1,6 +1,6 @@
 use Rattle.std.proofs.Common.{◌≡◌, eqb, false, true}
 use Rattle.std.specs.List.{list_any}
-use Rattle.plan.proofs.Rules.{line_forbidden, line_keeps, line_says, line_taken}
+use Rattle.plan.proofs.Rules.{forbidden_by_text, line_forbidden, line_keeps, line_says, line_taken}
 use Rattle.plan.proofs.plan.Plan.next_action.Goals as goal
 
 pub returns-then-is_taken-clause-err : goal.returns-then-is_taken-clause-err
@@ -20,3 +20,6 @@ pub returns-in-Err-clause-err : goal.returns-in-Err-clause-err
 returns-in-Err-clause-err c =
     let free : list_any (λ operation. eqb operation.number c.in-Some.wording.number) c.self.inside.operations.items ≡ false = cc in
     rw (← c.self.view_is) (line_forbidden _ _ c.in-Some.wording _ c.self.invariant c.in-Some.ensures.some free c.in-Err.ensures.err)
+
+pub returns-in-Err-clause-memory : goal.returns-in-Err-clause-memory
+returns-in-Err-clause-memory c = forbidden_by_text _ _ _ c.in-Some.wording _ c.in-Some.ensures.some c.in-Err.ensures.err

@@ -1,5 +1,5 @@
 use Rattle.std.proofs.Common.{arith}
-use Rattle.plan.proofs.Reading.{ends_early, line_at_fault, one_more_read, one_plan_read, refused_is_none}
+use Rattle.plan.proofs.Reading.{asks_at, ends_early, line_at_fault, one_more_read, one_plan_read, refused_is_none}
 use Rattle.plan.proofs.plan.Plan.read.Goals as goal
 
 pub loop-line-preserved : goal.loop-line-preserved
@@ -19,3 +19,6 @@ returns-in-Some-finished-clause-only c =
 
 pub returns-in-None-clause-err : goal.returns-in-None-clause-err
 returns-in-None-clause-err c = ends_early _ _ _ _ c.loop-line.invariant.0 c.in_default.ensures.lines c.in-None.ensures
+
+pub returns-in-Err-clause-memory : goal.returns-in-Err-clause-memory
+returns-in-Err-clause-memory c memory = asks_at _ _ _ _ _ _ c.loop-line.invariant.0 c.in-Some.ensures.lines (c.in-Err.ensures.memory memory)

@@ -4,7 +4,7 @@ use Rattle.recording.proofs.recorder.Recorder.step_hart.Goals as goal
 
 pub returns-clause-ok : goal.returns-clause-ok
 returns-clause-ok c =
-    let kept = c.reserve.ensures.items in
+    let kept = c.make_room.ensures.items in
     let trace = c.events.ensures.value in
     rw (← c.self.view_is) (continues_hart _ _ c.args.hart c.in_default.ensures.runs refl
     (λ less. rw kept at (c.number_event.ensures.more (rw (kept, trace) less)))
