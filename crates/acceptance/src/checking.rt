@@ -1,6 +1,7 @@
 //! Verdicts on the guests.
 
 use crate::transcripts::first_difference;
+use std::alloc::{AllocError, Global};
 use std::test::Fail;
 
 /// An append passes, and fails without either of its fences and on a medium without a volume.
@@ -155,13 +156,44 @@ fn guests_pass_or_fail(rt: HostRuntime) -> Result<(), Fail> {
         STRAY_TAIL,
         BROKEN_VOLUMES,
     ];
-    assert_eq!(rt; first_difference(rt.alloc(), &transcripts)?, None);
+    assert_eq!(rt; first_difference(&rt, &transcripts)?, None);
     Ok(())
 }
 
 #[test]
 fn branches_are_counted(rt: HostRuntime) -> Result<(), Fail> {
     let transcripts = [TOO_MANY];
-    assert_eq!(rt; first_difference(rt.alloc(), &transcripts)?, None);
+    assert_eq!(rt; first_difference(&rt, &transcripts)?, None);
+    Ok(())
+}
+
+/// A transcript whose checks are by so many workers.
+fn by_workers(alloc: Global, transcript: &str, workers: u32) -> Result<String, AllocError> {
+    let mut changed = String::new(alloc);
+    for (index, turn) in transcript.split("$ novacrash check ").enumerate() {
+        if index > 0 {
+            write!(changed, "$ novacrash check --workers {workers} ")?;
+        }
+        changed.push_str(turn)?;
+    }
+    Ok(changed)
+}
+
+#[test]
+fn several_workers_print_the_same(rt: HostRuntime) -> Result<(), Fail> {
+    let transcripts = [
+        APPENDS,
+        RENAMES,
+        APPENDS_ON_TWO_HARTS,
+        STRAY_STORES,
+        STRAY_TAIL,
+        TOO_MANY,
+    ];
+    for transcript in transcripts {
+        for workers in [1, 2, 8] {
+            let changed = by_workers(rt.alloc(), transcript, workers)?;
+            assert_eq!(rt; first_difference(&rt, &[changed.as_str()])?, None);
+        }
+    }
     Ok(())
 }

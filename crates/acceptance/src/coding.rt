@@ -37,7 +37,7 @@ $ novacrash code n8
 #[test]
 fn codes_are_told(rt: HostRuntime) -> Result<(), Fail> {
     let transcripts = [CODES];
-    assert_eq!(rt; first_difference(rt.alloc(), &transcripts)?, None);
+    assert_eq!(rt; first_difference(&rt, &transcripts)?, None);
     Ok(())
 }
 
@@ -49,7 +49,7 @@ T1 T2 T3 T4 T5 T6 T7 illegal memory file";
 
 #[test]
 fn all_codes_are_listed(rt: HostRuntime) -> Result<(), Fail> {
-    let list = printed(rt.alloc(), "novacrash code")?;
+    let list = printed(&rt, "novacrash code")?;
     let listed = list.lines().map(|line| line.split(": ").next());
     assert!(rt; listed.eq(ALL_CODES.split(' ').map(Some)), "{list}");
     let ends = (list.lines().next(), list.lines().last());

@@ -50,6 +50,6 @@ fail moment=577 image=9 cause=N6
 #[test]
 fn a_copy_is_judged_by_the_lines_that_recovery_reads(rt: HostRuntime) -> Result<(), Fail> {
     let transcripts = [WHOLE_COPY, COPY_WITHOUT_ITS_LINK];
-    assert_eq!(rt; first_difference(rt.alloc(), &transcripts)?, None);
+    assert_eq!(rt; first_difference(&rt, &transcripts)?, None);
     Ok(())
 }

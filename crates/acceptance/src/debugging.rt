@@ -1,12 +1,14 @@
 //! Sessions of the debugger over standard input and output.
 
 use crate::folder::folder_of_examples;
+use crate::screen::Screen;
 use crate::transcripts::{first_difference, words_of};
 use command_line::execute;
-use std::alloc::{AllocError, Global};
+use std::alloc::AllocError;
 use std::io;
-use std::io::{Read, Write};
+use std::io::Read;
 use std::test::Fail;
+use std::thread::Threads;
 
 /// A session answers each line, whatever the capacity; its last line may lack its end.
 const SESSIONS: &str = "\
@@ -173,7 +175,7 @@ $ novacrash debug short.o
 #[test]
 fn sessions_answer_each_line(rt: HostRuntime) -> Result<(), Fail> {
     let transcripts = [SESSIONS, SESSIONS_OVER_A_MEDIUM, FILES_BEFORE_A_SESSION];
-    assert_eq!(rt; first_difference(rt.alloc(), &transcripts)?, None);
+    assert_eq!(rt; first_difference(&rt, &transcripts)?, None);
     Ok(())
 }
 
@@ -210,61 +212,45 @@ impl Read for Keyboard<'_> {
     }
 }
 
-/// A writer that takes so many bytes, and shows them once they are flushed.
-#[derive(Drop)]
-struct Screen {
-    held: Vec<u8>,
-    shown: usize,
+/// The ways in which the standard streams of a session fail: how many reads, bytes of writes and flushes go well.
+#[derive(Clone, Copy)]
+struct Going {
+    line: &'static str,
+    reads: usize,
+    room: usize,
     flushes: usize,
-    left: usize,
 }
 
-impl Write for Screen {
-    fn write(&mut self, buf: &[u8]) -> io::Result<usize> {
-        let count = self.left.min(buf.len());
-        self.left -= count;
-        match self.held.extend_from_slice(&buf[..count]) {
-            Ok(()) => Ok(count),
-            Err(_) => Err(io::Error::from(io::ErrorKind::OutOfMemory)),
-        }
-    }
-
-    fn flush(&mut self) -> io::Result<()> {
-        self.shown = self.held.len();
-        self.flushes = self.flushes.saturating_add(1);
-        Ok(())
-    }
-}
-
-/// How a session of two steps ends: its status, how many of their bytes are shown by how many flushes, and whether standard
-/// error says `file`.
+/// How a session of two steps ends: its status, how many of their bytes are held and how many shown, by how many flushes, and
+/// whether standard error says `file`.
 #[derive(Clone, Copy, Debug, PartialEq, Eq)]
 struct Ended {
     status: u8,
+    held: usize,
     shown: usize,
     flushes: usize,
     is_told: bool,
 }
 
-/// The end of a session whose standard input gives a line at each of so many reads, and whose standard output takes so many
-/// bytes.
-fn end_of(alloc: Global, line: &str, reads: usize, writes: usize) -> Result<Ended, AllocError> {
-    let words = words_of(alloc, line)?;
+/// The end of a session whose standard input gives a line at each read; None where its standard output doesn't hold the front of what
+/// is expected.
+fn end_of<R: Threads + Sync + AllocGlobal>(
+    rt: &R,
+    going: Going,
+) -> Result<Option<Ended>, AllocError> {
+    let alloc = rt.alloc();
+    let words = words_of(alloc, going.line)?;
     let mut input = Keyboard {
         text: b"step 0\nstep 0\n",
         at_once: 7,
-        left: reads,
+        left: going.reads,
         is_interrupted: false,
     };
-    let mut output = Screen {
-        held: Vec::new(alloc),
-        shown: 0,
-        flushes: 0,
-        left: writes,
-    };
+    let mut output = Screen::new(alloc, going.room, 5, going.flushes);
     let mut errors = Vec::new(alloc);
     let mut folder = folder_of_examples(alloc)?;
     let status = execute(
+        rt,
         alloc,
         &words,
         &mut folder,
@@ -272,40 +258,73 @@ fn end_of(alloc: Global, line: &str, reads: usize, writes: usize) -> Result<Ende
         &mut output,
         &mut errors,
     );
-    let is_expected = TWO_STEPS.as_bytes().starts_with(&output.held);
-    Ok(Ended {
+    if !TWO_STEPS.as_bytes().starts_with(&output.held) {
+        return Ok(None);
+    }
+    Ok(Some(Ended {
         status,
-        shown: if is_expected { output.shown } else { 0 },
+        held: output.held.len(),
+        shown: output.shown,
         flushes: output.flushes,
         is_told: errors.as_slice() == b"file\n".as_slice(),
-    })
+    }))
 }
 
 #[test]
 fn failing_streams_end_a_session(rt: HostRuntime) -> Result<(), Fail> {
     let (one, two) = (ONE_STEP.len(), TWO_STEPS.len());
-    // The line, how many reads and bytes of writes go well, the status, the bytes shown, the flushes, and what is told.
+    // How many reads, bytes and flushes go well; the status, the bytes held and shown, the flushes, and what is told.
     let sessions = [
-        ("novacrash debug first.s", 0, two, 5, 0, 0, true),
-        ("novacrash debug first.s", 1, two, 5, one, 1, true),
-        ("novacrash debug first.s", 2, two, 5, two, 2, true),
-        ("novacrash debug first.s", 3, two, 0, two, 2, false),
-        ("novacrash debug first.s", 3, two - 1, 5, one, 1, true),
-        ("novacrash debug first.s", 3, 0, 5, 0, 0, true),
-        ("novacrash debug fault.s", 0, two, 2, 0, 0, false),
+        ((0, two, 9), (5, 0, 0, 0, true)),
+        ((1, two, 9), (5, one, one, 1, true)),
+        ((2, two, 9), (5, two, two, 2, true)),
+        ((3, two, 9), (0, two, two, 2, false)),
+        ((3, two - 1, 9), (5, two - 1, one, 1, true)),
+        ((3, one + 1, 9), (5, one + 1, one, 1, true)),
+        ((3, 0, 9), (5, 0, 0, 0, true)),
+        ((3, two, 0), (5, one, 0, 0, true)),
+        ((3, two, 1), (5, two, one, 1, true)),
+        ((3, two, 2), (0, two, two, 2, false)),
     ];
-    for (line, reads, writes, status, shown, flushes, is_told) in sessions {
+    for ((reads, room, flushes), (status, held, shown, flushed, is_told)) in sessions {
+        let going = Going {
+            line: "novacrash debug first.s",
+            reads,
+            room,
+            flushes,
+        };
         let expected = Ended {
             status,
+            held,
             shown,
-            flushes,
+            flushes: flushed,
             is_told,
         };
         assert_eq!(rt;
-            end_of(rt.alloc(), line, reads, writes)?,
-            expected,
-            "{line} {reads} {writes}"
+            end_of(&rt, going)?,
+            Some(expected),
+            "{reads} {room} {flushes}"
         );
     }
+    Ok(())
+}
+
+/// A program that is refused begins no session.
+#[test]
+fn a_refused_program_has_no_session(rt: HostRuntime) -> Result<(), Fail> {
+    let going = Going {
+        line: "novacrash debug fault.s",
+        reads: 0,
+        room: 0,
+        flushes: 0,
+    };
+    let expected = Ended {
+        status: 2,
+        held: 0,
+        shown: 0,
+        flushes: 0,
+        is_told: false,
+    };
+    assert_eq!(rt; end_of(&rt, going)?, Some(expected));
     Ok(())
 }

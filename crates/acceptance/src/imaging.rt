@@ -148,6 +148,6 @@ fn images_are_counted_and_explained(rt: HostRuntime) -> Result<(), Fail> {
         PARTS_OF_AN_ENTRY,
         TAILS,
     ];
-    assert_eq!(rt; first_difference(rt.alloc(), &transcripts)?, None);
+    assert_eq!(rt; first_difference(&rt, &transcripts)?, None);
     Ok(())
 }

@@ -21,6 +21,8 @@ mod routines;
 #[cfg(test)]
 mod running;
 #[cfg(test)]
+mod screen;
+#[cfg(test)]
 mod streams;
 #[cfg(test)]
 mod transcripts;

@@ -132,6 +132,6 @@ events 0
 #[test]
 fn input_is_refused(rt: HostRuntime) -> Result<(), Fail> {
     let transcripts = [FAULTS, ORDER_OF_FAULTS, OBJECT_NAMED_AS_SOURCE];
-    assert_eq!(rt; first_difference(rt.alloc(), &transcripts)?, None);
+    assert_eq!(rt; first_difference(&rt, &transcripts)?, None);
     Ok(())
 }

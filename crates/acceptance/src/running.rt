@@ -137,6 +137,6 @@ fn runs_print_what_they_come_to(rt: HostRuntime) -> Result<(), Fail> {
         POWER_CUTS,
         FULL_TRACE,
     ];
-    assert_eq!(rt; first_difference(rt.alloc(), &transcripts)?, None);
+    assert_eq!(rt; first_difference(&rt, &transcripts)?, None);
     Ok(())
 }

@@ -8,15 +8,16 @@
 use crate::folder::{Folder, folder_of_examples};
 use command_line::execute;
 use std::alloc::{AllocError, Global};
+use std::thread::Threads;
 
 /// The first of these transcripts that reads otherwise once its commands are typed again, as it reads then. Each has a
 /// folder of its own, which has the files of the examples at first.
-pub(crate) fn first_difference(
-    alloc: Global,
+pub(crate) fn first_difference<R: Threads + Sync + AllocGlobal>(
+    rt: &R,
     transcripts: &[&str],
 ) -> Result<Option<String>, AllocError> {
     for transcript in transcripts {
-        let seen = typed_again(alloc, transcript)?;
+        let seen = typed_again(rt, transcript)?;
         if seen.as_str() != *transcript {
             return Ok(Some(seen));
         }
@@ -25,45 +26,56 @@ pub(crate) fn first_difference(
 }
 
 /// The folder that the commands of a transcript leave, once they are typed again.
-pub(crate) fn folder_after(alloc: Global, transcript: &str) -> Result<Folder, AllocError> {
-    let mut folder = folder_of_examples(alloc)?;
-    type_all_again(alloc, &mut folder, transcript)?;
+pub(crate) fn folder_after<R: Threads + Sync + AllocGlobal>(
+    rt: &R,
+    transcript: &str,
+) -> Result<Folder, AllocError> {
+    let mut folder = folder_of_examples(rt.alloc())?;
+    type_all_again(rt, &mut folder, transcript)?;
     Ok(folder)
 }
 
 /// What a command prints on standard output.
-pub(crate) fn printed(alloc: Global, line: &str) -> Result<String, AllocError> {
-    let ended = run(alloc, &mut folder_of_examples(alloc)?, line, "")?;
+pub(crate) fn printed<R: Threads + Sync + AllocGlobal>(
+    rt: &R,
+    line: &str,
+) -> Result<String, AllocError> {
+    let alloc = rt.alloc();
+    let ended = run(rt, &mut folder_of_examples(alloc)?, line, "")?;
     String::from_str(
         alloc,
         String::from_utf8_lossy(alloc, &ended.output)?.as_str(),
     )
 }
 
-fn typed_again(alloc: Global, transcript: &str) -> Result<String, AllocError> {
-    type_all_again(alloc, &mut folder_of_examples(alloc)?, transcript)
+fn typed_again<R: Threads + Sync + AllocGlobal>(
+    rt: &R,
+    transcript: &str,
+) -> Result<String, AllocError> {
+    type_all_again(rt, &mut folder_of_examples(rt.alloc())?, transcript)
 }
 
 /// Types the commands of a transcript, and gives what they come to.
-fn type_all_again(
-    alloc: Global,
+fn type_all_again<R: Threads + Sync + AllocGlobal>(
+    rt: &R,
     folder: &mut Folder,
     transcript: &str,
 ) -> Result<String, AllocError> {
-    let mut seen = String::new(alloc);
+    let mut seen = String::new(rt.alloc());
     for turn in transcript.split("$ ").skip(1) {
-        type_again(alloc, folder, turn, &mut seen)?;
+        type_again(rt, folder, turn, &mut seen)?;
     }
     Ok(seen)
 }
 
 /// Types a command and its input, and adds them and what they come to.
-fn type_again(
-    alloc: Global,
+fn type_again<R: Threads + Sync + AllocGlobal>(
+    rt: &R,
     folder: &mut Folder,
     turn: &str,
     seen: &mut String,
 ) -> Result<(), AllocError> {
+    let alloc = rt.alloc();
     let command = turn.lines().next().unwrap_or("");
     let (line, kept) = match command.split_once(" | tee ") {
         Some((line, name)) => (line, Some(name)),
@@ -71,7 +83,7 @@ fn type_again(
     };
     write!(seen, "$ {command}\n")?;
     let typed = typed_in(alloc, turn, seen)?;
-    let ended = run(alloc, folder, line, typed.as_str())?;
+    let ended = run(rt, folder, line, typed.as_str())?;
     if let Some(name) = kept {
         folder.put(name, &ended.output)?;
     }
@@ -116,12 +128,26 @@ fn show(alloc: Global, ended: &Ended, seen: &mut String) -> Result<(), AllocErro
     Ok(())
 }
 
-fn run(alloc: Global, folder: &mut Folder, line: &str, typed: &str) -> Result<Ended, AllocError> {
+fn run<R: Threads + Sync + AllocGlobal>(
+    rt: &R,
+    folder: &mut Folder,
+    line: &str,
+    typed: &str,
+) -> Result<Ended, AllocError> {
+    let alloc = rt.alloc();
     let words = words_of(alloc, line)?;
     let mut input = typed.as_bytes();
     let mut output = Vec::new(alloc);
     let mut errors = Vec::new(alloc);
-    let status = execute(alloc, &words, folder, &mut input, &mut output, &mut errors);
+    let status = execute(
+        rt,
+        alloc,
+        &words,
+        folder,
+        &mut input,
+        &mut output,
+        &mut errors,
+    );
     Ok(Ended {
         status,
         output,

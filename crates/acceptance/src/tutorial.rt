@@ -51,6 +51,6 @@ pass moments=11 images=22
 #[test]
 fn the_tutorial_prints_what_it_says(rt: HostRuntime) -> Result<(), Fail> {
     let transcripts = [TUTORIAL];
-    assert_eq!(rt; first_difference(rt.alloc(), &transcripts)?, None);
+    assert_eq!(rt; first_difference(&rt, &transcripts)?, None);
     Ok(())
 }

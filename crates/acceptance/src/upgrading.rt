@@ -187,14 +187,14 @@ fn volumes_are_upgraded(rt: HostRuntime) -> Result<(), Fail> {
         LARGER,
         REFUSALS,
     ];
-    assert_eq!(rt; first_difference(rt.alloc(), &transcripts)?, None);
+    assert_eq!(rt; first_difference(&rt, &transcripts)?, None);
     Ok(())
 }
 
 /// What an upgrade writes has the bytes that the second layout's append leaves.
 #[test]
 fn an_upgraded_append_is_one_of_the_second_layout(rt: HostRuntime) -> Result<(), Fail> {
-    let mut folder = folder_after(rt.alloc(), APPENDED_AND_UPGRADED)?;
+    let mut folder = folder_after(&rt, APPENDED_AND_UPGRADED)?;
     let upgraded = folder.read("upgraded").ok().ok_or("the file")?;
     let written = folder.read("written").ok().ok_or("the file")?;
     let again = folder.read("again").ok().ok_or("the file")?;

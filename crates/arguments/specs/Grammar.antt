@@ -81,11 +81,11 @@ explain_shape = record (new_shape (codes "explain")) {
       ∷ needed_word (codes "IMAGE") ∷ valued_option (codes "medium") ∷ valued_option (codes "harts") ∷ help_option ∷ [];
 }
 
--- `check PLAN PROGRAM SCHEDULE [--medium FILE --harts N]`
+-- `check PLAN PROGRAM SCHEDULE [--medium FILE --harts N --workers N]`
 unfoldable pub check_shape : Shape
 check_shape = record (new_shape (codes "check")) {
   rules = needed_word (codes "PLAN") ∷ needed_word (codes "PROGRAM") ∷ needed_word (codes "SCHEDULE")
-      ∷ valued_option (codes "medium") ∷ valued_option (codes "harts") ∷ help_option ∷ [];
+      ∷ valued_option (codes "medium") ∷ valued_option (codes "harts") ∷ valued_option (codes "workers") ∷ help_option ∷ [];
 }
 
 -- `code [CODE]`

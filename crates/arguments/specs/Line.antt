@@ -6,7 +6,7 @@ use Rattle.clap.specs.declared.error.ErrorKind.{ErrorKind}
 use Rattle.clap.specs.declared.error.ErrorKind.TheVariants as kinds
 use Rattle.image_name.specs.Texts.{IsProper}
 use Rattle.arguments.specs.Grammar.{novacrash}
-use Rattle.arguments.specs.Values.{IsCapacity, IsCodeWord, IsHarts, IsImageWord, IsNumberWord, IsOptional, IsSteps, IsWord}
+use Rattle.arguments.specs.Values.{IsCapacity, IsCodeWord, IsHarts, IsImageWord, IsNumberWord, IsOptional, IsSteps, IsWord, IsWorkers}
 use Rattle.arguments.specs.declared.asked.AssembleCommand.{AssembleCommand}
 use Rattle.arguments.specs.declared.asked.CheckCommand.{CheckCommand}
 use Rattle.arguments.specs.declared.asked.CodeCommand.{CodeCommand}
@@ -95,6 +95,7 @@ pub record IsCheck (rows : List Row) (command : CheckCommand) : Type 0 where
   pub program : IsWord (codes "PROGRAM") rows command.program
   pub schedule : IsWord (codes "SCHEDULE") rows command.schedule
   pub machine : IsWholeMachine rows command.machine
+  pub workers : IsWorkers rows command.workers
 
 -- `code` with this code, or with none
 pub record IsCode (rows : List Row) (command : CodeCommand) : Type 0 where
@@ -142,7 +143,7 @@ IsWithinLimits (Replay command) = IsMachineWithin command.machine
 IsWithinLimits (Debug command) = IsMachineWithin command.machine
 IsWithinLimits (Images command) = IsMachineWithin command.machine × (command.moment < 2 ^ 32)
 IsWithinLimits (Explain command) = IsMachineWithin command.machine × (command.moment < 2 ^ 32) × IsProper command.image
-IsWithinLimits (Check command) = IsMachineWithin command.machine
+IsWithinLimits (Check command) = IsMachineWithin command.machine × IsWithin 1 8 command.workers
 IsWithinLimits (Code command) = ⊤
 
 -- help comes where the grammar answers with help, and a fault where the line asks for no command

@@ -49,6 +49,10 @@ IsSteps rows steps = IsNumber 1000000 1 500000000 (first_of (codes "steps") rows
 abbrev pub IsHarts : List Row → ℕ → Type 0
 IsHarts rows harts = IsNumber 1 1 8 (first_of (codes "harts") rows) harts
 
+-- the workers of a check: 1 where the line doesn't say
+abbrev pub IsWorkers : List Row → ℕ → Type 0
+IsWorkers rows workers = IsNumber 1 1 8 (first_of (codes "workers") rows) workers
+
 -- the most lines of a cache: 16 where the line doesn't say
 abbrev pub IsCapacity : List Row → ℕ → Type 0
 IsCapacity rows capacity = IsNumber 16 1 16384 (first_of (codes "capacity") rows) capacity

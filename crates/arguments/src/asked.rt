@@ -24,7 +24,7 @@ pub enum Command {
     Images(ImagesCommand),
     /// `explain PROGRAM SCHEDULE MOMENT IMAGE [--medium FILE --harts N]`.
     Explain(ExplainCommand),
-    /// `check PLAN PROGRAM SCHEDULE [--medium FILE --harts N]`.
+    /// `check PLAN PROGRAM SCHEDULE [--medium FILE --harts N --workers N]`.
     Check(CheckCommand),
     /// `code [CODE]`.
     Code(CodeCommand),
@@ -153,6 +153,8 @@ pub struct CheckCommand {
     pub schedule: String,
     /// The machine, whose capacity is None.
     pub machine: MachineOptions,
+    /// The number of workers that judge the run, from 1 to 8; 1 where the line doesn't say.
+    pub workers: u32,
 }
 
 /// What `code` is to do.

@@ -37,6 +37,14 @@ const STEPS: NumberOption = NumberOption {
     high: 500_000_000,
 };
 
+/// The workers of `check`.
+const WORKERS: NumberOption = NumberOption {
+    name: "workers",
+    default: 1,
+    low: 1,
+    high: 8,
+};
+
 /// A program and the machine that it starts on, whose cache is limited.
 #[derive(Drop)]
 pub(crate) struct Started {
@@ -220,16 +228,18 @@ pub(crate) fn explain(alloc: Global, found: &ArgMatches<'_>) -> Result<ExplainCo
 /// What `check` is to do.
 pub(crate) fn check(alloc: Global, found: &ArgMatches<'_>) -> Result<CheckCommand, LineFault>
     ensures ok { IfOk result (IsCheck (rows_of (found_of found.now))) }
-    ensures within { IfOk result (λ command. IsMachineWithin command.machine) }
+    ensures within { IfOk result (λ command. IsMachineWithin command.machine × IsWithin 1 8 command.workers) }
     ensures err { IfErr result (OnFault ((command : ACheckCommand)
         → ¬ (IsCheck (rows_of (found_of found.now)) command))) }
 {
     let recorded = recorded_of(alloc, found)?;
+    let workers = number(alloc, found, &WORKERS)?;
     Ok(CheckCommand {
         plan: word(alloc, found, "PLAN")?,
         program: recorded.program,
         schedule: recorded.schedule,
         machine: recorded.machine,
+        workers,
     })
 }
 

@@ -143,6 +143,12 @@ const STEPS: Argument = Argument::Valued {
     about: "The most steps of each hart, from 1 to 500000000 [default: 1000000]",
 };
 
+const WORKERS: Argument = Argument::Valued {
+    name: "workers",
+    value: "N",
+    about: "The number of workers that judge the run, from 1 to 8 [default: 1]",
+};
+
 const RECORD: Argument = Argument::Valued {
     name: "record",
     value: "FILE",
@@ -211,7 +217,7 @@ pub(crate) static SUBCOMMANDS: [Subcommand; 10] = [
     Subcommand {
         name: "check",
         about: "Judge every crash image of a run by a schedule",
-        arguments: &[PLAN, PROGRAM, SCHEDULE, MEDIUM, HARTS],
+        arguments: &[PLAN, PROGRAM, SCHEDULE, MEDIUM, HARTS, WORKERS],
         ending: ending!("check append.plan append.s append.schedule --medium fresh.medium"),
     },
     Subcommand {

@@ -99,7 +99,7 @@ fn asked(alloc: Global, name: &str, found: &ArgMatches<'_>) -> Result<Command, L
 /// - `debug PROGRAM [--medium FILE --harts N --capacity N]`
 /// - `images PROGRAM SCHEDULE MOMENT [--medium FILE --harts N]`
 /// - `explain PROGRAM SCHEDULE MOMENT IMAGE [--medium FILE --harts N]`
-/// - `check PLAN PROGRAM SCHEDULE [--medium FILE --harts N]`
+/// - `check PLAN PROGRAM SCHEDULE [--medium FILE --harts N --workers N]`
 /// - `code [CODE]`
 #[tactic(auto, using(crate::proofs::Lines::has_none))]
 pub fn command(alloc: Global, words: &[String]) -> Result<Command, LineFault>

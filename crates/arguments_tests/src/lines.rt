@@ -5,7 +5,7 @@ use std::alloc::{AllocError, Global};
 use std::test::Fail;
 
 /// The words of a line, which are parted by single spaces.
-fn words_of(alloc: Global, line: &str) -> Result<Vec<String>, AllocError> {
+pub(crate) fn words_of(alloc: Global, line: &str) -> Result<Vec<String>, AllocError> {
     line.split(' ')
         .map(|word| String::from_str(alloc, word))
         .try_collect(alloc)
@@ -76,8 +76,8 @@ fn images_of(alloc: Global, command: &Command) -> Result<String, AllocError> {
         Command::Check(check) => {
             let machine = machine_of(alloc, &check.machine)?;
             format!(in alloc;
-                "check {} {} {} / {machine}",
-                check.plan, check.program, check.schedule
+                "check {} {} {} / {machine} / {}",
+                check.plan, check.program, check.schedule, check.workers
             )
         }
         _ => run_of(alloc, command),
@@ -171,7 +171,7 @@ fn defaults_stand_where_options_are_left_out(rt: HostRuntime) -> Result<(), Fail
             "novacrash explain a.s s 7 l1:1,l300:1",
             "explain a.s s 7 l1:1,l300:1 / - 1 whole",
         ),
-        ("novacrash check p a.s s", "check p a.s s / - 1 whole"),
+        ("novacrash check p a.s s", "check p a.s s / - 1 whole / 1"),
     ];
     let misread = first_misread(rt.alloc(), &lines)?;
     assert!(rt; misread.is_none(), "{misread:?}");
@@ -179,7 +179,7 @@ fn defaults_stand_where_options_are_left_out(rt: HostRuntime) -> Result<(), Fail
 }
 
 /// Lines with options, before and after the words, and what they are read as.
-const WITH_OPTIONS: [(&str, &str); 14] = [
+const WITH_OPTIONS: [(&str, &str); 15] = [
     (
         "novacrash run a.s --medium m --harts 2 --capacity 3 --steps 4 --record r --out o",
         "run a.s / m 2 3 / 4 r o",
@@ -206,7 +206,11 @@ const WITH_OPTIONS: [(&str, &str); 14] = [
     ),
     (
         "novacrash check --harts 2 p --medium=m a.s s",
-        "check p a.s s / m 2 whole",
+        "check p a.s s / m 2 whole / 1",
+    ),
+    (
+        "novacrash check p --workers=4 a.s s --harts 2",
+        "check p a.s s / - 2 whole / 4",
     ),
     (
         "novacrash run a.s --out o",
@@ -243,7 +247,7 @@ fn options_are_read(rt: HostRuntime) -> Result<(), Fail> {
 }
 
 /// Lines whose numbers are at their limits, and what they are read as.
-const AT_LIMITS: [(&str, &str); 15] = [
+const AT_LIMITS: [(&str, &str); 17] = [
     (
         "novacrash run a --harts 8 --capacity 16384",
         "run a / - 8 16384 / 1000000 - -",
@@ -264,7 +268,15 @@ const AT_LIMITS: [(&str, &str); 15] = [
     ),
     (
         "novacrash check p a s --harts 008",
-        "check p a s / - 8 whole",
+        "check p a s / - 8 whole / 1",
+    ),
+    (
+        "novacrash check p a s --workers 8",
+        "check p a s / - 1 whole / 8",
+    ),
+    (
+        "novacrash check p a s --workers 1",
+        "check p a s / - 1 whole / 1",
     ),
     ("novacrash mkfs p 0 m", "mkfs p 0 m"),
     ("novacrash upgrade o 0 00 n", "upgrade o 0 0 n"),
@@ -320,6 +332,9 @@ fn other_numbers_are_faults(rt: HostRuntime) -> Result<(), Fail> {
         "novacrash images a s 1 --harts 0",
         "novacrash explain a s 1 1 --harts 9",
         "novacrash check p a s --harts 9",
+        "novacrash check p a s --workers 0",
+        "novacrash check p a s --workers 9",
+        "novacrash check p a s --workers two",
         "novacrash mkfs p 4294967296 m",
         "novacrash mkfs p +1 m",
         "novacrash upgrade o 4294967296 512 n",
@@ -401,6 +416,11 @@ fn options_out_of_place_are_faults(rt: HostRuntime) -> Result<(), Fail> {
         "novacrash run a.s --steps 5 --steps 5",
         "novacrash run a.s --medium m --medium=m",
         "novacrash check p a.s s --harts 2 --harts 2",
+        "novacrash check p a.s s --workers 2 --workers 2",
+        "novacrash run a.s --workers 2",
+        "novacrash replay a.s s --workers 2",
+        "novacrash images a.s s 1 --workers 2",
+        "novacrash explain a.s s 1 1 --workers 2",
         "novacrash run a.s --step 5",
         "novacrash run a.s --med m",
         "novacrash run a.s --lines 5",
@@ -446,85 +466,6 @@ fn help_is_asked_for(rt: HostRuntime) -> Result<(), Fail> {
     ];
     let other = first_other(rt.alloc(), &lines, "help")?;
     assert!(rt; other.is_none(), "{other:?}");
-    Ok(())
-}
-
-/// The text of a line's fault, or of its help.
-fn text_of(alloc: Global, line: &str) -> Result<Option<String>, AllocError> {
-    let words = words_of(alloc, line)?;
-    match command(alloc, words.as_slice()) {
-        Ok(_) => Ok(None),
-        Err(fault) => Ok(Some(format!(in alloc; "{fault}")?)),
-    }
-}
-
-/// Lines that are refused, and the texts that they are refused with.
-const TEXTS: [(&str, &str); 9] = [
-    (
-        "novacrash run a.s --steps 0",
-        "error: --steps takes a decimal number from 1 to 500000000\n",
-    ),
-    (
-        "novacrash replay a.s s --harts 9",
-        "error: --harts takes a decimal number from 1 to 8\n",
-    ),
-    (
-        "novacrash run a.s --medium=-m",
-        "error: --medium takes the name of a file\n",
-    ),
-    (
-        "novacrash explain a.s s 0 x",
-        "error: IMAGE is a decimal number below 4294967296, or lines as in l1:1,l300:1, or floor\n",
-    ),
-    (
-        "novacrash asm a.s a.s",
-        "error: OBJECT has the name of SOURCE, which would be lost\n",
-    ),
-    (
-        "novacrash code A11",
-        "error: there is no code A11; `novacrash code` lists all\n",
-    ),
-    (
-        "novacrash run a.s b.s",
-        "error: unexpected argument 'b.s' found\n\n\
-         Usage: novacrash run [OPTIONS] <PROGRAM>\n\n\
-         For more information, try '--help'.\n",
-    ),
-    (
-        "novacrash replay --help",
-        "Run a program by a schedule\n\n\
-         Usage: novacrash replay [OPTIONS] <PROGRAM> <SCHEDULE>\n\n\
-         Arguments:\n  <PROGRAM>   The program's file: an object or a source\n  \
-         <SCHEDULE>  The schedule's file\n\n\
-         Options:\n      --medium <FILE>  The medium's file [default: 512 lines of zeros]\n      \
-         --harts <N>      The number of harts, from 1 to 8 [default: 1]\n      \
-         --capacity <N>   The most lines of the cache, from 1 to 16384 [default: 16]\n      \
-         --out <FILE>     The file that gets the medium of a power cut at the end\n      \
-         --help           Print help\n\n\
-         Example: novacrash replay append.s append.schedule --medium fresh.medium --out left.medium\n\n\
-         Statuses: 0 done or pass, 1 fail, 2 refused input or command line, 3 too many images,\n\
-         4 want of memory, 5 a file or a standard stream that failed.\n\
-         Formats and codes: docs/FORMATS.md; `novacrash code CODE` says what a code means.\n",
-    ),
-    (
-        "novacrash code --help",
-        "Say what a code means that the program prints, and what to do\n\n\
-         Usage: novacrash code [CODE]\n\n\
-         Arguments:\n  [CODE]  A code as it's printed, as A3, T5 or illegal [default: all codes]\n\n\
-         Options:\n      --help  Print help\n\n\
-         Example: novacrash code A3\n\n\
-         Statuses: 0 done or pass, 1 fail, 2 refused input or command line, 3 too many images,\n\
-         4 want of memory, 5 a file or a standard stream that failed.\n\
-         Formats and codes: docs/FORMATS.md; `novacrash code CODE` says what a code means.\n",
-    ),
-];
-
-#[test]
-fn texts_are_shown(rt: HostRuntime) -> Result<(), Fail> {
-    for (line, expected) in TEXTS {
-        let shown = text_of(rt.alloc(), line)?.ok_or("a fault")?;
-        assert_eq!(rt; shown.as_str(), expected, "{line}");
-    }
     Ok(())
 }
 

@@ -96,21 +96,3 @@ fn limits_are_the_sizes_of_the_regions(rt: HostRuntime) {
     assert!(rt; TEXT_LIMIT == 0x1_0000 && DATA_LIMIT == 0x10_0000);
     assert!(rt; MAGIC == [0x52, 0x56, 0x58, 0x50, 0x52, 0x4f, 0x47, 0x31]);
 }
-
-static CODES: [(LoadFault, &str); 6] = [
-    (LoadFault::Magic, "P1"),
-    (LoadFault::Truncated, "P2"),
-    (LoadFault::TooLarge, "P3"),
-    (LoadFault::Trailing, "P4"),
-    (LoadFault::TextLength, "P5"),
-    (LoadFault::Memory, "P6"),
-];
-
-#[test]
-fn codes_name_the_faults(rt: HostRuntime) -> Result<(), Fail> {
-    for (fault, name) in &CODES {
-        let shown = format!(in rt.alloc(); "{fault}")?;
-        assert!(rt; shown.as_str() == *name, "{name}");
-    }
-    Ok(())
-}

@@ -6,7 +6,7 @@
 
 use crate::examples::{Example, first_difference, first_listed_difference};
 use crate::readings::Reading;
-use asm_line::{AsmCode, halves};
+use asm_line::halves;
 use std::test::Fail;
 
 const JUMPS_AND_BRANCHES: &str = "\
@@ -333,26 +333,4 @@ fn shown_words_read_back(rt: HostRuntime) -> Result<(), Fail> {
 #[test]
 fn halves_of_numbers(rt: HostRuntime) {
     assert!(rt; halves(0xf_0000) == (0xf0, 0) && halves(-1) == (0, -1));
-}
-
-static CODES: [(AsmCode, &str); 10] = [
-    (AsmCode::BadToken, "A1"),
-    (AsmCode::Mnemonic, "A2"),
-    (AsmCode::Operands, "A3"),
-    (AsmCode::Register, "A4"),
-    (AsmCode::Range, "A5"),
-    (AsmCode::UnknownLabel, "A6"),
-    (AsmCode::LabelTwice, "A7"),
-    (AsmCode::WrongSection, "A8"),
-    (AsmCode::TooLarge, "A9"),
-    (AsmCode::Memory, "A10"),
-];
-
-#[test]
-fn codes_name_the_faults(rt: HostRuntime) -> Result<(), Fail> {
-    for (code, name) in &CODES {
-        let shown = format!(in rt.alloc(); "{code}")?;
-        assert!(rt; shown.as_str() == *name, "{name}");
-    }
-    Ok(())
 }

@@ -1,13 +1,17 @@
 -- What a session leaves, by its outcome.
 use Rattle.std.proofs.Common.{◌≡◌, ◌∙◌, ℕ, List, [], Option, Result, Ok, Err, ap}
 use Rattle.std.specs.Prelude.{IfErr, MatchResult, OnOk}
+use Rattle.std.specs.Result.{result_map_both}
 use Rattle.debugger.specs.Points.{DebuggerView}
 use Rattle.debugger.specs.declared.fault.DebugFault.{DebugFault}
 use Rattle.debugger.specs.declared.fault.DebugFault.TheVariants as faults
 use Rattle.debugger.specs.declared.points.Point.{Point}
 use Rattle.machine.specs.Stands.{MachineView}
+use Rattle.session.specs.Failing.{EndsBy}
 use Rattle.session.specs.Sessions.{Fails, Session}
-use Rattle.command_line.specs.Debugging.{IsBrokenOff, debugger_of}
+use Rattle.command_line.specs.Debugging.{FailsBy, IsBrokenOff, debugger_of}
+use Rattle.command_line.specs.Failures.{failure_of_session}
+use Rattle.command_line.specs.declared.failure.Failure.{Failure}
 
 -- a new debugger is that of its machine
 pub new_debugger : (debugger : DebuggerView) (machine : MachineView) → debugger.machine ≡ machine → debugger.points ≡ []
@@ -31,9 +35,23 @@ broken_off old new input input' output output' failures failures' (faults.Stoppe
 -- both outcomes of a session, over the debugger of its machine
 pub held : (machine : MachineView) (debugger left : DebuggerView) (input input' output output' : Option (List ℕ))
     (outcome : Result (Unit {0}) DebugFault) → debugger ≡ debugger_of machine
-    → OnOk outcome (Session debugger left input input' output output')
-    → IfErr outcome (IsBrokenOff debugger left input input' output output')
+    → (failures failures' : ℕ) → OnOk outcome (Session debugger left input input' output output')
+    → IfErr outcome (Fails debugger left input input' output output' failures failures')
     → MatchResult outcome (λ _. Session (debugger_of machine) left input input' output output')
     (IsBrokenOff (debugger_of machine) left input input' output output')
-held machine debugger left input input' output output' (Ok done) new session broken = rw new at session
-held machine debugger left input input' output output' (Err fault) new session broken = rw new at broken
+held machine debugger left input input' output output' (Ok done) new failures failures' session fails = rw new at session
+held machine debugger left input input' output output' (Err fault) new failures failures' session fails =
+    rw new at (broken_off debugger left input input' output output' failures failures' fault fails)
+
+-- why a session ended, by the failure that is told of it
+pub fails_by : (source source' sink sink' : ℕ) (outcome : Result (Unit {0}) DebugFault) (ended : Result ℕ Failure)
+    → ended ≡ result_map_both (λ _. 0) failure_of_session outcome → IfErr outcome (EndsBy source source' sink sink')
+    → IfErr ended (FailsBy source source' sink sink')
+fails_by source source' sink sink' (Ok done) ended told ends = rw told tt
+fails_by source source' sink sink' (Err faults.Memory) ended told ends = rw told ends
+fails_by source source' sink sink' (Err faults.InputOutput) ended told ends = rw told ends
+fails_by source source' sink sink' (Err faults.Command) ended told ends = absurd ends
+fails_by source source' sink sink' (Err faults.Address) ended told ends = absurd ends
+fails_by source source' sink sink' (Err faults.PointsFull) ended told ends = absurd ends
+fails_by source source' sink sink' (Err (faults.Step fault)) ended told ends = absurd ends
+fails_by source source' sink sink' (Err (faults.Stopped place fault)) ended told ends = absurd ends

@@ -43,5 +43,8 @@ pub front_none : (first second third : Option (List ℕ)) (text : List ℕ) (wri
 front_none first second third text written part none =
     front_of first third text written (rw append-nil at (joined first second third (take written text) [] part none))
 
+pub front_nothing : (stream : Option (List ℕ)) (text : List ℕ) → AppendsFront stream stream text
+front_nothing stream text = front_of stream stream text 0 (part_none stream text)
+
 pub front_all : (first second : Option (List ℕ)) (text : List ℕ) → Appends first second text → AppendsFront first second text
 front_all first second text whole = record { front = text; begins = ([], sym (append-nil text)); writes = whole }

@@ -1,5 +1,5 @@
 -- What `debug` comes to: the machine that a session is held on, and the session.
-use Rattle.std.specs.Prelude.{◌≡◌, ◌++◌, ℕ, List, [], Option, Result, MatchResult, option_map, string_bytes}
+use Rattle.std.specs.Prelude.{◌≡◌, ◌⊎◌, ◌++◌, ℕ, List, [], Option, Result, MatchResult, option_map, string_bytes}
 use Rattle.std.specs.Io.KnownBytes.{Appends}
 use Rattle.std.specs.Result.{result_map_both}
 use Rattle.arguments.specs.declared.asked.DebugCommand.{DebugCommand}
@@ -7,6 +7,7 @@ use Rattle.debugger.specs.declared.fault.DebugFault.{DebugFault}
 use Rattle.debugger.specs.declared.fault.DebugFault.TheVariants.{InputOutput, Memory}
 use Rattle.debugger.specs.Points.{DebuggerView}
 use Rattle.machine.specs.Stands.{MachineView}
+use Rattle.session.specs.Failing.{one_more}
 use Rattle.session.specs.Running.{SomeRun}
 use Rattle.session.specs.Sessions.{BreaksOff, Session}
 use Rattle.tester.specs.Runs.{FailsToStart, IsAtStart, Setup}
@@ -15,6 +16,7 @@ use Rattle.command_line.specs.Reading.{ReadsMedium, ReadsProgram}
 use Rattle.command_line.specs.Running.{machine_of}
 use Rattle.command_line.specs.Steps.{First, Reads, Step, Still, Tells}
 use Rattle.command_line.specs.declared.failure.Failure.{Failure}
+use Rattle.command_line.specs.declared.failure.Failure.TheVariants as failures
 
 -- the machine of a setup that has made no step, or why there is none
 pub record Starts (s : Setup) (outcome : Result MachineView Failure) : Type 0 where
@@ -49,3 +51,12 @@ pub record HoldsSession (machine : MachineView) (input input' output output' : O
   pub held : MatchResult outcome (λ _. Session (debugger_of machine) left input input' output output')
       (IsBrokenOff (debugger_of machine) left input input' output output')
   pub told : ended ≡ result_map_both (λ _. 0) failure_of_session outcome
+
+-- why a session ends with a failure, by how often its source and its sink had failed before it and after it: one of them failed,
+-- and then no stream is asked again, or memory was refused, and neither failed
+abbrev pub FailsBy : ℕ → ℕ → ℕ → ℕ → Failure → Type 0
+FailsBy source source' sink sink' failures.File =
+    ((source' ≡ one_more source) × (sink' ≡ sink)) ⊎ ((source' ≡ source) × (sink' ≡ one_more sink))
+FailsBy source source' sink sink' failures.Memory = (source' ≡ source) × (sink' ≡ sink)
+FailsBy source source' sink sink' (failures.Line text) = ⊥
+FailsBy source source' sink sink' (failures.Refused refusal) = ⊥

@@ -1,5 +1,5 @@
 -- What a line of the program comes to: an answer or a failure, and how it is delivered.
-use Rattle.std.specs.Prelude.{◌≡◌, ◌⊎◌, ℕ, List, Option, Result, Ok, Err, OnOk, string_bytes}
+use Rattle.std.specs.Prelude.{◌≡◌, ◌⊎◌, ℕ, List, Option, Result, Ok, Err, IfErr, OnOk, string_bytes}
 use Rattle.std.specs.Io.KnownBytes.{Appends}
 use Rattle.std.specs.Result.{result_map_both}
 use Rattle.arguments.specs.Line.{IsCommand, Refuses}
@@ -13,7 +13,7 @@ use Rattle.command_line.specs.Checking.{ChecksFile}
 use Rattle.command_line.specs.Coding.{code_text}
 use Rattle.command_line.specs.Debugging.{HoldsSession, OpensFile}
 use Rattle.command_line.specs.Explaining.{ExplainsFile}
-use Rattle.command_line.specs.Failures.{failure_status}
+use Rattle.command_line.specs.Failures.{failure_status, failure_text}
 use Rattle.command_line.specs.Imaging.{CountsFile}
 use Rattle.command_line.specs.Making.{MakesFile}
 use Rattle.command_line.specs.Running.{ReplaysFile, RunsFile}
@@ -98,9 +98,10 @@ pub record Ends {F R W : Type 0} (reads : Reads F) (writes : Writes F)
 
 -- a status with which the program may end so; standard error stays as it was but for a failure
 pub record EndsWith {F R W E : Type 0} (reads : Reads F) (writes : Writes F)
-    (remaining : R → Option (List ℕ)) (contents : W → Option (List ℕ)) (words : List (List ℕ)) (files files' : F)
+    (remaining : R → Option (List ℕ)) (contents : W → Option (List ℕ)) (said : E → Option (List ℕ)) (words : List (List ℕ)) (files files' : F)
     (streams streams' : R × W) (errors errors' : E) (status : ℕ) : Type 0 where
   pub ended : Result ℕ Failure
   pub ends : Ends reads writes remaining contents words files files' streams streams' ended
   pub status_is : status ≡ status_of ended
   pub quiet : OnOk ended (errors' ≡ errors)
+  pub told : IfErr ended (λ failure. AppendsFront (said errors) (said errors') (failure_text failure))

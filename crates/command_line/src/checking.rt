@@ -1,6 +1,7 @@
 //! The command that checks a run.
 
 ghost use Rattle.std.specs.Prelude.{◌≡◌, IfOk, string_bytes};
+ghost use Rattle.arguments.specs.Line.{IsWithin};
 ghost use Rattle.command_line.specs.Checking.{ChecksFile, Judges, cause_text, pass_line, verdict_line, verdict_status};
 ghost use Rattle.command_line.specs.Steps.{Prints};
 ghost use Rattle.tester.specs.Runs.{with_room};
@@ -17,36 +18,42 @@ use plan::Plan;
 use program::Program;
 use schedule::Schedule;
 use std::alloc::{AllocError, Global};
+use std::thread::Threads;
 use tester::check_program;
 
 /// `check`: reads the files of a plan, a program, a schedule and a medium, and gives the verdict on the run.
-pub(crate) fn check_file<F: Files>(
+pub(crate) fn check_file<T: Threads + Sync, F: Files>(
+    rt: &T,
     alloc: Global,
     command: &CheckCommand,
     files: &mut F,
 ) -> Result<Answer, Failure>
+    requires { IsWithin 1 8 command.now.workers }
     ensures { ChecksFile F.read_gives command.now files.old result files.new }
 {
     let plan = read_plan(alloc, command.plan.as_str(), files)?;
     let program = read_program(alloc, command.program.as_str(), files)?;
     let schedule = read_schedule(alloc, command.schedule.as_str(), files)?;
     let medium = read_medium(alloc, &command.machine.medium, files)?;
-    let harts = command.machine.harts;
-    let verdict = verdict(alloc, &plan, program, medium, harts, &schedule)?;
+    let verdict = verdict(rt, alloc, command, &plan, program, medium, &schedule)?;
     verdict_answer(alloc, &verdict)
 }
 
-fn verdict(
+fn verdict<T: Threads + Sync>(
+    rt: &T,
     alloc: Global,
+    command: &CheckCommand,
     plan: &Plan,
     program: Program,
     medium: Medium,
-    harts: u32,
     schedule: &Schedule,
 ) -> Result<Verdict, Failure>
-    ensures { Judges plan.now.operations (with_room program medium harts) schedule.now result }
+    requires { IsWithin 1 8 command.now.workers }
+    ensures { Judges plan.now.operations (with_room program medium command.now.machine.harts) schedule.now result }
 {
-    Ok(check_program(alloc, plan, program, medium, harts, schedule)?)
+    let harts = command.machine.harts;
+    let workers = command.workers;
+    Ok(check_program(rt, alloc, plan, program, medium, harts, schedule, workers)?)
 }
 
 fn verdict_answer(alloc: Global, verdict: &Verdict) -> Result<Answer, Failure>

@@ -21,19 +21,30 @@ use crate::upgrading::upgrade_file;
 use arguments::{Command, LineFault, command};
 use machine::Machine;
 use std::alloc::Global;
+use std::thread::Threads;
 
 /// What a line comes to, its words beginning with the program's name.
-pub fn outcome<F: Files>(alloc: Global, words: &[String], files: &mut F) -> Result<Action, Failure>
+pub fn outcome<T: Threads + Sync, F: Files>(
+    rt: &T,
+    alloc: Global,
+    words: &[String],
+    files: &mut F,
+) -> Result<Action, Failure>
     ensures { ComesTo F.read_gives F.write_gives (map string_bytes words.now) files.old files.new result }
 {
     match command(alloc, words) {
-        Ok(command) => carry_out(alloc, command, files),
+        Ok(command) => carry_out(rt, alloc, command, files),
         Err(fault) => answer_to(fault),
     }
 }
 
 /// What a command comes to.
-fn carry_out<F: Files>(alloc: Global, command: Command, files: &mut F) -> Result<Action, Failure>
+fn carry_out<T: Threads + Sync, F: Files>(
+    rt: &T,
+    alloc: Global,
+    command: Command,
+    files: &mut F,
+) -> Result<Action, Failure>
     requires { IsWithinLimits command }
     ensures { CarriesOut F.read_gives F.write_gives command files.old result files.new }
 {
@@ -46,7 +57,7 @@ fn carry_out<F: Files>(alloc: Global, command: Command, files: &mut F) -> Result
         Command::Debug(command) => debugged(open_file(alloc, &command, files)),
         Command::Images(command) => printed(count_file(alloc, &command, files)),
         Command::Explain(command) => printed(explain_file(alloc, &command, files)),
-        Command::Check(command) => printed(check_file(alloc, &command, files)),
+        Command::Check(command) => printed(check_file(rt, alloc, &command, files)),
         Command::Code(command) => printed(tell_code(alloc, &command)),
     }
 }

@@ -1,12 +1,10 @@
 //! The command that debugs a program: its machine, and the session over the standard streams.
 
-ghost use Rattle.std.specs.Prelude.{◌≡◌, IfErr, OnOk};
+ghost use Rattle.std.specs.Prelude.{◌≡◌, IfErr};
 ghost use Rattle.std.specs.Result.{result_map_both};
-ghost use Rattle.command_line.specs.Debugging.{HoldsSession, IsBrokenOff, OpensFile, Starts};
+ghost use Rattle.command_line.specs.Debugging.{FailsBy, HoldsSession, OpensFile, Starts};
 ghost use Rattle.command_line.specs.Failures.{failure_of_session};
 ghost use Rattle.command_line.specs.Running.{machine_of};
-ghost use Rattle.session.specs.Running.{SomeRun};
-ghost use Rattle.session.specs.Sessions.{Session};
 
 use crate::failure::Failure;
 use crate::files::Files;
@@ -59,31 +57,29 @@ pub(crate) fn hold_session<R: Read, W: Write>(
 ) -> Result<u8, Failure>
     ensures { HoldsSession machine (R.remaining input.old) (R.remaining input.new) (W.contents output.old) (W.contents output.new) result }
 {
-    let mut debugger = Debugger::new(machine);
-    let held = converse(alloc, &mut debugger, input, output);
-    status_of(held)
-}
-
-/// A session over standard input and standard output.
-#[tactic(auto, using(crate::proofs::Held::broken_off))]
-fn converse<R: Read, W: Write>(
-    alloc: Global,
-    debugger: &mut Debugger,
-    input: &mut R,
-    output: &mut W,
-) -> Result<(), DebugFault>
-    ensures runs { SomeRun debugger.old.machine debugger.new.machine }
-    ensures session { OnOk result (Session debugger.old debugger.new (R.remaining input.old) (R.remaining input.new)
-        (W.contents output.old) (W.contents output.new)) }
-    ensures broken_off { IfErr result (IsBrokenOff debugger.old debugger.new (R.remaining input.old) (R.remaining input.new)
-        (W.contents output.old) (W.contents output.new)) }
-{
     let mut source = StandardInput { input, failures: 0 };
     let mut sink = StandardOutput {
         output,
         failures: 0,
     };
-    session(alloc, debugger, &mut source, &mut sink)
+    converse(alloc, machine, &mut source, &mut sink)
+}
+
+/// A session over standard input and standard output, whose failures are counted.
+fn converse<R: Read, W: Write>(
+    alloc: Global,
+    machine: Machine,
+    source: &mut StandardInput<R>,
+    sink: &mut StandardOutput<W>,
+) -> Result<u8, Failure>
+    ensures same { (source.new.input.ghost_name ≡ source.old.input.ghost_name) × (sink.new.output.ghost_name ≡ sink.old.output.ghost_name) }
+    ensures holds { HoldsSession machine (R.remaining source.old.input.now) (R.remaining source.new.input.now)
+        (W.contents sink.old.output.now) (W.contents sink.new.output.now) result }
+    ensures counts { IfErr result (FailsBy source.old.failures source.new.failures sink.old.failures sink.new.failures) }
+{
+    let mut debugger = Debugger::new(machine);
+    let held = session(alloc, &mut debugger, source, sink);
+    status_of(held)
 }
 
 /// The status with which a session ends, or the failure of its fault.

@@ -1,8 +1,6 @@
 //! A whole run of the program.
 
-ghost use Rattle.std.specs.Prelude.{map, string_bytes, OnOk};
-ghost use Rattle.std.specs.Io.KnownBytes.{Appends};
-ghost use Rattle.command_line.specs.Failures.{failure_text};
+ghost use Rattle.std.specs.Prelude.{map, string_bytes};
 ghost use Rattle.command_line.specs.Outcomes.{Delivers, Ends, EndsWith, IsPrinted};
 
 use crate::answer::{Action, Answer};
@@ -11,9 +9,10 @@ use crate::debugging::hold_session;
 use crate::failure::Failure;
 use crate::files::Files;
 use crate::streams::print;
+use crate::telling::tell;
 use std::alloc::Global;
-use std::io;
 use std::io::{Read, Write};
+use std::thread::Threads;
 
 /// Carries out what a command line asks for, over files, standard input, standard output and standard error, and gives the
 /// status that the program ends with: 0 done or a check that passes, 1 a check that fails, 2 refused input or command line,
@@ -22,8 +21,9 @@ use std::io::{Read, Write};
 ///
 /// An answer goes to standard output, and nothing of a failure does; the lines of a failure go to standard error,
 /// and where they can't be written the status still stands. Only the session of `debug` reads standard input, once its
-/// files have been read and its machine made.
-pub fn execute<F: Files, R: Read, W: Write, E: Write>(
+/// files have been read and its machine made. Only `check` starts threads, of `rt`, and what it prints doesn't depend on how many.
+pub fn execute<T: Threads + Sync, F: Files, R: Read, W: Write, E: Write>(
+    rt: &T,
     alloc: Global,
     words: &[String],
     files: &mut F,
@@ -31,9 +31,9 @@ pub fn execute<F: Files, R: Read, W: Write, E: Write>(
     output: &mut W,
     errors: &mut E,
 ) -> u8
-    ensures { EndsWith F.read_gives F.write_gives R.remaining W.contents (map string_bytes words.now) files.old files.new (input.old, output.old) (input.new, output.new) errors.old errors.new result }
+    ensures { EndsWith F.read_gives F.write_gives R.remaining W.contents E.contents (map string_bytes words.now) files.old files.new (input.old, output.old) (input.new, output.new) errors.old errors.new result }
 {
-    match answer_line(alloc, words, files, input, output) {
+    match answer_line(rt, alloc, words, files, input, output) {
         Ok(status) => status,
         Err(failure) => {
             let _ = tell(&failure, errors);
@@ -43,7 +43,8 @@ pub fn execute<F: Files, R: Read, W: Write, E: Write>(
 }
 
 /// Answers a command line on standard output, and gives the status.
-pub fn answer_line<F: Files, R: Read, W: Write>(
+pub fn answer_line<T: Threads + Sync, F: Files, R: Read, W: Write>(
+    rt: &T,
     alloc: Global,
     words: &[String],
     files: &mut F,
@@ -52,7 +53,7 @@ pub fn answer_line<F: Files, R: Read, W: Write>(
 ) -> Result<u8, Failure>
     ensures { Ends F.read_gives F.write_gives R.remaining W.contents (map string_bytes words.now) files.old files.new (input.old, output.old) (input.new, output.new) result }
 {
-    deliver(alloc, outcome(alloc, words, files), input, output)
+    deliver(alloc, outcome(rt, alloc, words, files), input, output)
 }
 
 fn deliver<R: Read, W: Write>(
@@ -76,11 +77,4 @@ fn print_answer<W: Write>(answer: Answer, output: &mut W) -> Result<u8, Failure>
         Ok(()) => Ok(answer.status),
         Err(_) => Err(Failure::File),
     }
-}
-
-/// Writes the lines of a failure.
-pub fn tell<E: Write>(failure: &Failure, errors: &mut E) -> io::Result<()>
-    ensures { OnOk result (Appends (E.contents errors.old) (E.contents errors.new) (failure_text failure.now)) }
-{
-    write!(errors, "{failure}")
 }

@@ -96,20 +96,3 @@ impl Failure {
         }
     }
 }
-
-/// The lines that standard error gets.
-impl fmt::Display for Failure {
-    ghost use Rattle.std.specs.Prelude.{Some};
-    ghost use Rattle.command_line.specs.Failures.{failure_text};
-
-    ghost output = { λ failure. Some (failure_text failure) };
-
-    fn fmt<W: fmt::Write>(&self, f: &mut fmt::Formatter<W>) -> fmt::Result {
-        match self {
-            Failure::Line(text) => write!(f, "{text}"),
-            Failure::Refused(refusal) => writeln!(f, "{refusal}"),
-            Failure::Memory => writeln!(f, "memory"),
-            Failure::File => writeln!(f, "file"),
-        }
-    }
-}

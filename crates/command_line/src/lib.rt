@@ -19,12 +19,14 @@ mod reading;
 mod reporting;
 mod running;
 mod streams;
+mod telling;
 mod upgrading;
 mod writing;
 
 pub use answer::{Action, Answer};
 pub use commands::outcome;
-pub use executing::{answer_line, execute, tell};
+pub use executing::{answer_line, execute};
 pub use failure::{Failure, Refusal};
 pub use files::{FileFault, Files};
 pub use reporting::report;
+pub use telling::tell;

@@ -4,6 +4,7 @@ use crate::ending::{Refused, ended, ready, refusal};
 use arguments::{Command, LineFault, command};
 use command_line::{FileFault, Files, execute};
 use std::alloc::Global;
+use std::thread::Threads;
 
 /// The words of a line, which are parted by single spaces.
 fn words_of(alloc: Global, line: &str) -> Result<Vec<String>, Refused> {
@@ -196,15 +197,16 @@ fn judged(example: &Example, outcome: &Outcome) -> Result<bool, Refused> {
 }
 
 /// Types a line, over the files.
-fn execute_line(
-    alloc: Global,
+fn execute_line<R: Threads + Sync + AllocGlobal>(
+    rt: &R,
     example: &Example,
     words: &[String],
     outcome: &mut Outcome,
 ) -> Result<(), Refused> {
-    let mut folder = empty_folder(alloc)?;
+    let mut folder = empty_folder(rt.alloc())?;
     outcome.status = execute(
-        alloc,
+        rt,
+        rt.alloc(),
         words,
         &mut folder,
         &mut example.typed.as_bytes(),
@@ -215,10 +217,10 @@ fn execute_line(
 }
 
 /// Types the line of an example.
-fn typed(alloc: Global, example: &Example) -> Result<bool, Refused> {
-    let words = words_of(alloc, example.line)?;
-    let mut outcome = silence(alloc)?;
-    execute_line(alloc, example, &words, &mut outcome)?;
+fn typed<R: Threads + Sync + AllocGlobal>(rt: &R, example: &Example) -> Result<bool, Refused> {
+    let words = words_of(rt.alloc(), example.line)?;
+    let mut outcome = silence(rt.alloc())?;
+    execute_line(rt, example, &words, &mut outcome)?;
     judged(example, &outcome)
 }
 
@@ -231,7 +233,7 @@ const ASM: Example = Example {
 
 #[test]
 fn execute_asm(rt: HostRuntime) -> Result<(), Refused> {
-    ended(&rt, typed(rt.alloc(), &ASM))
+    ended(&rt, typed(&rt, &ASM))
 }
 
 const ASM_AT_FAULT: Example = Example {
@@ -243,7 +245,7 @@ const ASM_AT_FAULT: Example = Example {
 
 #[test]
 fn execute_asm_of_a_source_at_fault(rt: HostRuntime) -> Result<(), Refused> {
-    ended(&rt, typed(rt.alloc(), &ASM_AT_FAULT))
+    ended(&rt, typed(&rt, &ASM_AT_FAULT))
 }
 
 const MKFS: Example = Example {
@@ -255,7 +257,7 @@ const MKFS: Example = Example {
 
 #[test]
 fn execute_mkfs(rt: HostRuntime) -> Result<(), Refused> {
-    ended(&rt, typed(rt.alloc(), &MKFS))
+    ended(&rt, typed(&rt, &MKFS))
 }
 
 const RUN: Example = Example {
@@ -267,7 +269,7 @@ const RUN: Example = Example {
 
 #[test]
 fn execute_run(rt: HostRuntime) -> Result<(), Refused> {
-    ended(&rt, typed(rt.alloc(), &RUN))
+    ended(&rt, typed(&rt, &RUN))
 }
 
 const REPLAY: Example = Example {
@@ -279,7 +281,7 @@ const REPLAY: Example = Example {
 
 #[test]
 fn execute_replay(rt: HostRuntime) -> Result<(), Refused> {
-    ended(&rt, typed(rt.alloc(), &REPLAY))
+    ended(&rt, typed(&rt, &REPLAY))
 }
 
 const IMAGES: Example = Example {
@@ -291,7 +293,7 @@ const IMAGES: Example = Example {
 
 #[test]
 fn execute_images(rt: HostRuntime) -> Result<(), Refused> {
-    ended(&rt, typed(rt.alloc(), &IMAGES))
+    ended(&rt, typed(&rt, &IMAGES))
 }
 
 const EXPLAIN: Example = Example {
@@ -303,7 +305,7 @@ const EXPLAIN: Example = Example {
 
 #[test]
 fn execute_explain(rt: HostRuntime) -> Result<(), Refused> {
-    ended(&rt, typed(rt.alloc(), &EXPLAIN))
+    ended(&rt, typed(&rt, &EXPLAIN))
 }
 
 /// Without a volume there is nothing to recover at the first moment.
@@ -316,7 +318,7 @@ const CHECK: Example = Example {
 
 #[test]
 fn execute_check(rt: HostRuntime) -> Result<(), Refused> {
-    ended(&rt, typed(rt.alloc(), &CHECK))
+    ended(&rt, typed(&rt, &CHECK))
 }
 
 /// A session whose steps make no event: one that is refused there would be told as `fault G5`, and the session goes on.
@@ -329,5 +331,5 @@ const DEBUG: Example = Example {
 
 #[test]
 fn execute_debug(rt: HostRuntime) -> Result<(), Refused> {
-    ended(&rt, typed(rt.alloc(), &DEBUG))
+    ended(&rt, typed(&rt, &DEBUG))
 }

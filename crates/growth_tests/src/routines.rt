@@ -13,6 +13,7 @@ use nova_log::VolumeFault;
 use plan::Plan;
 use program::Program;
 use std::alloc::Global;
+use std::thread::Threads;
 use tester::{
     CountFault, ExplainFault, ProgramFault, VerdictFault, check_program, count_images,
     default_medium, explain_image, load_program, make_volume, replay, run_program,
@@ -151,11 +152,16 @@ fn plan_of(alloc: Global) -> Result<Plan, Refused> {
     ready(Plan::read(alloc, text))
 }
 
-/// Whether a run of the append passes, by its eleven moments and their images.
-fn checked(alloc: Global, plan: &Plan, schedule: &Schedule) -> Result<bool, Refused> {
+/// Whether a run of the append passes by two workers, by its eleven moments and their images.
+fn checked<R: Threads + Sync + AllocGlobal>(
+    rt: &R,
+    plan: &Plan,
+    schedule: &Schedule,
+) -> Result<bool, Refused> {
+    let alloc = rt.alloc();
     let program = program_of(alloc, APPEND)?;
     let medium = ready(make_volume(alloc, plan, 512))?;
-    match check_program(alloc, plan, program, medium, 1, schedule) {
+    match check_program(rt, alloc, plan, program, medium, 1, schedule, 2) {
         Ok(Verdict::Pass { moments, images }) => Ok(moments == 11 && images == Some(22)),
         Ok(_) => Ok(false),
         Err(fault) => refusal(matches!(fault, VerdictFault::Memory)),
@@ -166,7 +172,7 @@ fn checked(alloc: Global, plan: &Plan, schedule: &Schedule) -> Result<bool, Refu
 fn check_a_program(rt: HostRuntime) -> Result<(), Refused> {
     let plan = plan_of(rt.alloc())?;
     let schedule = schedule_of(rt.alloc(), b"h0*22")?;
-    ended(&rt, checked(rt.alloc(), &plan, &schedule))
+    ended(&rt, checked(&rt, &plan, &schedule))
 }
 
 /// Whether a medium has 512 lines and begins with these bytes.

@@ -1,16 +1,19 @@
 //! The verdict on a run of a program.
 
-ghost use Rattle.std.specs.Prelude.{◌≡◌, ℕ, IfErr, IfOk, Ok, Option};
+ghost use Rattle.std.specs.Prelude.{◌≡◌, ◌<◌, ◌≤◌, ℕ, IfErr, IfOk, Ok, Option};
 ghost use Rattle.tester.specs.Checking.{AlwaysPasses, HasNoVerdict, HasVerdict, SurvivesPowerCuts};
 ghost use Rattle.tester.specs.Runs.{with_room};
 
 use crate::runs::trace_of;
-use image_check::{CheckFault, OpFault, Verdict, check_run};
+use gate::Open;
+use image_check::{CheckFault, OpFault, Verdict};
 use line_memory::Medium;
 use machine::{Schedule, StepFault};
+use parallel_check::check_parallel;
 use plan::Plan;
 use program::Program;
 use std::alloc::Global;
+use std::thread::Threads;
 use thiserror::Error;
 
 /// Why there is no verdict.
@@ -42,15 +45,19 @@ impl From<StepFault> for VerdictFault {
 }
 
 /// The verdict on all moments of the run of a program by a schedule, over a medium behind a cache of as many lines: whether
-/// each state that a power cut may leave recovers to a volume that the plan's operations allow.
-pub fn check_program(
+/// each state that a power cut may leave recovers to a volume that the plan's operations allow. One to eight workers judge the
+/// moments, in threads of their own where these can be started; the verdict is the same for any number of them.
+pub fn check_program<T: Threads + Sync>(
+    rt: &T,
     alloc: Global,
     plan: &Plan,
     program: Program,
     medium: Medium,
     harts: u32,
     schedule: &Schedule,
+    workers: u32,
 ) -> Result<Verdict, VerdictFault>
+    requires { (0 < workers) × (workers ≤ 8) }
     ensures ok { IfOk result (HasVerdict plan.now.operations (with_room program medium harts) schedule.now) }
 
     // Pass: every image of every moment of the run recovers to a legal volume; and so does what a power cut leaves of any
@@ -62,7 +69,7 @@ pub fn check_program(
     ensures err { IfErr result (HasNoVerdict plan.now.operations (with_room program medium harts) schedule.now) }
 {
     let trace = trace_of(alloc, program, &medium, harts, schedule)?;
-    match check_run(alloc, plan, &medium, &trace) {
+    match check_parallel(rt, alloc, plan, &medium, &trace, workers, &Open) {
         Ok(verdict) => Ok(verdict),
         Err(CheckFault::Operation(fault)) => Err(VerdictFault::Operation(fault)),
         Err(_) => Err(VerdictFault::Memory),

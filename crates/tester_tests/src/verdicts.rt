@@ -1,5 +1,7 @@
 //! Appends that are checked.
 
+ghost use Rattle.std.specs.Prelude.{◌<◌, ◌≤◌};
+
 use crate::starts::{
     END, ENTRY, FENCE, NO_TAIL, ONE_APPEND, STRAYS, Start, TAIL, UNKNOWN, start_of,
 };
@@ -9,6 +11,7 @@ use machine::StepFault;
 use nova_log::VolumeFault;
 use plan::Plan;
 use std::alloc::Global;
+use std::thread::Threads;
 use tester::{VerdictFault, check_program};
 
 /// A verdict that is wanted, the bad image by its name's text.
@@ -93,15 +96,22 @@ static CHECKED: [Checked; 7] = [
     },
 ];
 
-/// The verdict on a source over a new volume of 512 lines.
-fn verdict_of(alloc: Global, checked: &Checked) -> Option<Result<Verdict, VerdictFault>> {
+/// The verdict on a source over a new volume of 512 lines, by so many workers.
+fn verdict_of<R: Threads + Sync + AllocGlobal>(
+    rt: &R,
+    checked: &Checked,
+    workers: u32,
+) -> Option<Result<Verdict, VerdictFault>>
+    requires { (0 < workers) × (workers ≤ 8) }
+{
+    let alloc = rt.alloc();
     let plan = Plan::read(alloc, ONE_APPEND.as_bytes()).ok()?;
     let Start {
         program,
         medium,
         schedule,
     } = start_of(alloc, Some(ONE_APPEND), checked.pieces, checked.schedule)?;
-    Some(check_program(alloc, &plan, program, medium, 1, &schedule))
+    Some(check_program(rt, alloc, &plan, program, medium, 1, &schedule, workers))
 }
 
 fn is_named_so(alloc: Global, image: &ImageName, text: &str) -> bool {
@@ -136,9 +146,11 @@ fn is_verdict(alloc: Global, verdict: &Verdict, wanted: Wanted) -> bool {
     }
 }
 
-fn is_checked_so(alloc: Global, checked: &Checked) -> bool {
-    match (verdict_of(alloc, checked), checked.verdict) {
-        (Some(Ok(verdict)), Ok(wanted)) => is_verdict(alloc, &verdict, wanted),
+fn is_checked_so<R: Threads + Sync + AllocGlobal>(rt: &R, checked: &Checked, workers: u32) -> bool
+    requires { (0 < workers) × (workers ≤ 8) }
+{
+    match (verdict_of(rt, checked, workers), checked.verdict) {
+        (Some(Ok(verdict)), Ok(wanted)) => is_verdict(rt.alloc(), &verdict, wanted),
         (Some(Err(fault)), Err(wanted)) => fault == wanted,
         _ => false,
     }
@@ -146,8 +158,13 @@ fn is_checked_so(alloc: Global, checked: &Checked) -> bool {
 
 #[test]
 fn runs_are_checked(rt: HostRuntime) {
-    let differing = CHECKED
-        .iter()
-        .position(|checked| !is_checked_so(rt.alloc(), checked));
-    assert_eq!(rt; differing, None);
+    for checked in &CHECKED {
+        for workers in 1..=8 {
+            assert!(rt;
+                is_checked_so(&rt, checked, workers),
+                "{} {workers}",
+                checked.schedule
+            );
+        }
+    }
 }

@@ -1,0 +1,389 @@
+//! The texts that lines are answered with: help, and what is told of a fault. They are as clap 4 writes them.
+
+use crate::lines::words_of;
+use arguments::command;
+use std::alloc::{AllocError, Global};
+use std::test::Fail;
+
+/// The text of a line's fault, or of its help.
+fn text_of(alloc: Global, line: &str) -> Result<Option<String>, AllocError> {
+    let words = words_of(alloc, line)?;
+    match command(alloc, words.as_slice()) {
+        Ok(_) => Ok(None),
+        Err(fault) => Ok(Some(format!(in alloc; "{fault}")?)),
+    }
+}
+
+/// Lines at fault, and what is told of them.
+const FAULTS: [(&str, &str); 17] = [
+    (
+        "novacrash run a.s --steps 0",
+        "error: --steps takes a decimal number from 1 to 500000000\n",
+    ),
+    (
+        "novacrash replay a.s s --harts 9",
+        "error: --harts takes a decimal number from 1 to 8\n",
+    ),
+    (
+        "novacrash debug a.s --capacity 0",
+        "error: --capacity takes a decimal number from 1 to 16384\n",
+    ),
+    (
+        "novacrash check p a.s s --workers 9",
+        "error: --workers takes a decimal number from 1 to 8\n",
+    ),
+    (
+        "novacrash run a.s --medium=-m",
+        "error: --medium takes the name of a file\n",
+    ),
+    (
+        "novacrash run a.s --record=",
+        "error: --record takes the name of a file\n",
+    ),
+    (
+        "novacrash replay a.s s --out=-",
+        "error: --out takes the name of a file\n",
+    ),
+    (
+        "novacrash mkfs p x m",
+        "error: LINES is a decimal number below 4294967296\n",
+    ),
+    (
+        "novacrash upgrade o x 512 n",
+        "error: PAGES is a decimal number below 4294967296\n",
+    ),
+    (
+        "novacrash images a.s s x",
+        "error: MOMENT is a decimal number below 4294967296\n",
+    ),
+    (
+        "novacrash explain a.s s 0 x",
+        "error: IMAGE is a decimal number below 4294967296, or lines as in l1:1,l300:1, or floor\n",
+    ),
+    (
+        "novacrash asm a.s a.s",
+        "error: OBJECT has the name of SOURCE, which would be lost\n",
+    ),
+    (
+        "novacrash code A11",
+        "error: there is no code A11; `novacrash code` lists all\n",
+    ),
+    (
+        "novacrash asm a.s",
+        "error: the following required arguments were not provided:\n  \
+         <OBJECT>\n\n\
+         Usage: novacrash asm <SOURCE> <OBJECT>\n\n\
+         For more information, try '--help'.\n",
+    ),
+    (
+        "novacrash run",
+        "error: the following required arguments were not provided:\n  \
+         <PROGRAM>\n\n\
+         Usage: novacrash run <PROGRAM>\n\n\
+         For more information, try '--help'.\n",
+    ),
+    (
+        "novacrash run a.s --steps",
+        "error: a value is required for '--steps <N>' but none was supplied\n\n\
+         For more information, try '--help'.\n",
+    ),
+    (
+        "novacrash run a.s --steps 5 --steps 5",
+        "error: the argument '--steps <N>' cannot be used multiple times\n\n\
+         Usage: novacrash run [OPTIONS] <PROGRAM>\n\n\
+         For more information, try '--help'.\n",
+    ),
+];
+
+#[test]
+fn faults_are_told(rt: HostRuntime) -> Result<(), Fail> {
+    for (line, expected) in FAULTS {
+        let shown = text_of(rt.alloc(), line)?.ok_or("a fault")?;
+        assert_eq!(rt; shown.as_str(), expected, "{line}");
+    }
+    Ok(())
+}
+
+/// Whole lines of each command, and its usage.
+const USAGES: [(&str, &str); 10] = [
+    ("asm a.s a.o", "asm <SOURCE> <OBJECT>"),
+    ("mkfs p 512 m", "mkfs <PLAN> <LINES> <MEDIUM>"),
+    ("upgrade o 1 512 n", "upgrade <OLD> <PAGES> <LINES> <NEW>"),
+    ("run a.s", "run [OPTIONS] <PROGRAM>"),
+    ("replay a.s s", "replay [OPTIONS] <PROGRAM> <SCHEDULE>"),
+    ("debug a.s", "debug [OPTIONS] <PROGRAM>"),
+    (
+        "images a.s s 1",
+        "images [OPTIONS] <PROGRAM> <SCHEDULE> <MOMENT>",
+    ),
+    (
+        "explain a.s s 1 1",
+        "explain [OPTIONS] <PROGRAM> <SCHEDULE> <MOMENT> <IMAGE>",
+    ),
+    (
+        "check p a.s s",
+        "check [OPTIONS] <PLAN> <PROGRAM> <SCHEDULE>",
+    ),
+    ("code A3", "code [CODE]"),
+];
+
+#[test]
+fn a_further_word_is_told(rt: HostRuntime) -> Result<(), Fail> {
+    for (words, usage) in USAGES {
+        let line = format!(in rt.alloc(); "novacrash {words} further")?;
+        let expected = format!(in rt.alloc();
+            "error: unexpected argument 'further' found\n\n\
+             Usage: novacrash {usage}\n\nFor more information, try '--help'.\n"
+        )?;
+        let shown = text_of(rt.alloc(), line.as_str())?.ok_or("a fault")?;
+        assert_eq!(rt; shown.as_str(), expected.as_str());
+    }
+    Ok(())
+}
+
+/// What the help of each command ends with.
+const ENDING: &str = "
+Statuses: 0 done or pass, 1 fail, 2 refused input or command line, 3 too many images,
+4 want of memory, 5 a file or a standard stream that failed.
+Formats and codes: docs/FORMATS.md; `novacrash code CODE` says what a code means.
+";
+
+/// The help of each command, before that.
+const HELPS: [(&str, &str); 10] = [
+    (
+        "asm",
+        "\
+Assemble a source and write its object
+
+Usage: novacrash asm <SOURCE> <OBJECT>
+
+Arguments:
+  <SOURCE>  The source's file
+  <OBJECT>  The file that gets the object
+
+Options:
+      --help  Print help
+
+Example: novacrash asm append.s append.o
+",
+    ),
+    (
+        "mkfs",
+        "\
+Write a fresh log volume for the operations of a plan
+
+Usage: novacrash mkfs <PLAN> <LINES> <MEDIUM>
+
+Arguments:
+  <PLAN>    The plan's file
+  <LINES>   The number of cache lines of the medium
+  <MEDIUM>  The file that gets the medium
+
+Options:
+      --help  Print help
+
+Example: novacrash mkfs append.plan 512 fresh.medium
+",
+    ),
+    (
+        "upgrade",
+        "\
+Move the logs of a volume to a new volume of the second layout
+
+Usage: novacrash upgrade <OLD> <PAGES> <LINES> <NEW>
+
+Arguments:
+  <OLD>    The file of a medium with a volume of either layout
+  <PAGES>  The number of pages of the new volume
+  <LINES>  The number of cache lines of the medium
+  <NEW>    The file that gets the new medium
+
+Options:
+      --help  Print help
+
+Example: novacrash upgrade old.medium 1 512 new.medium
+",
+    ),
+    (
+        "run",
+        "\
+Run a program
+
+Usage: novacrash run [OPTIONS] <PROGRAM>
+
+Arguments:
+  <PROGRAM>  The program's file: an object or a source
+
+Options:
+      --medium <FILE>  The medium's file [default: 512 lines of zeros]
+      --harts <N>      The number of harts, from 1 to 8 [default: 1]
+      --capacity <N>   The most lines of the cache, from 1 to 16384 [default: 16]
+      --steps <N>      The most steps of each hart, from 1 to 500000000 [default: 1000000]
+      --record <FILE>  The file that gets the schedule of the run
+      --out <FILE>     The file that gets the medium of a power cut at the end
+      --help           Print help
+
+Example: novacrash run append.s --medium fresh.medium --record whole.schedule
+",
+    ),
+    (
+        "replay",
+        "\
+Run a program by a schedule
+
+Usage: novacrash replay [OPTIONS] <PROGRAM> <SCHEDULE>
+
+Arguments:
+  <PROGRAM>   The program's file: an object or a source
+  <SCHEDULE>  The schedule's file
+
+Options:
+      --medium <FILE>  The medium's file [default: 512 lines of zeros]
+      --harts <N>      The number of harts, from 1 to 8 [default: 1]
+      --capacity <N>   The most lines of the cache, from 1 to 16384 [default: 16]
+      --out <FILE>     The file that gets the medium of a power cut at the end
+      --help           Print help
+
+Example: novacrash replay append.s append.schedule --medium fresh.medium --out left.medium
+",
+    ),
+    (
+        "debug",
+        "\
+Debug a program by commands on standard input
+
+Usage: novacrash debug [OPTIONS] <PROGRAM>
+
+Arguments:
+  <PROGRAM>  The program's file: an object or a source
+
+Options:
+      --medium <FILE>  The medium's file [default: 512 lines of zeros]
+      --harts <N>      The number of harts, from 1 to 8 [default: 1]
+      --capacity <N>   The most lines of the cache, from 1 to 16384 [default: 16]
+      --help           Print help
+
+Example: novacrash debug append.s --medium fresh.medium
+
+Commands of the session: break A, watch A, clear A, step H, go [ITEMS], regs H, peek A N, quit.
+",
+    ),
+    (
+        "images",
+        "\
+Count the crash images of a moment of a run by a schedule
+
+Usage: novacrash images [OPTIONS] <PROGRAM> <SCHEDULE> <MOMENT>
+
+Arguments:
+  <PROGRAM>   The program's file: an object or a source
+  <SCHEDULE>  The schedule's file
+  <MOMENT>    How many events come before the power cut
+
+Options:
+      --medium <FILE>  The medium's file [default: 512 lines of zeros]
+      --harts <N>      The number of harts, from 1 to 8 [default: 1]
+      --help           Print help
+
+Example: novacrash images append.s append.schedule 5 --medium fresh.medium
+",
+    ),
+    (
+        "explain",
+        "\
+Print a schedule that leaves a crash image of a moment of a run
+
+Usage: novacrash explain [OPTIONS] <PROGRAM> <SCHEDULE> <MOMENT> <IMAGE>
+
+Arguments:
+  <PROGRAM>   The program's file: an object or a source
+  <SCHEDULE>  The schedule's file
+  <MOMENT>    How many events come before the power cut
+  <IMAGE>     The crash image: its number, or its lines above their floor, as in l1:1,l300:1, or floor
+
+Options:
+      --medium <FILE>  The medium's file [default: 512 lines of zeros]
+      --harts <N>      The number of harts, from 1 to 8 [default: 1]
+      --help           Print help
+
+Example: novacrash explain append.s append.schedule 5 2 --medium fresh.medium
+",
+    ),
+    (
+        "check",
+        "\
+Judge every crash image of a run by a schedule
+
+Usage: novacrash check [OPTIONS] <PLAN> <PROGRAM> <SCHEDULE>
+
+Arguments:
+  <PLAN>      The plan's file
+  <PROGRAM>   The program's file: an object or a source
+  <SCHEDULE>  The schedule's file
+
+Options:
+      --medium <FILE>  The medium's file [default: 512 lines of zeros]
+      --harts <N>      The number of harts, from 1 to 8 [default: 1]
+      --workers <N>    The number of workers that judge the run, from 1 to 8 [default: 1]
+      --help           Print help
+
+Example: novacrash check append.plan append.s append.schedule --medium fresh.medium
+",
+    ),
+    (
+        "code",
+        "\
+Say what a code means that the program prints, and what to do
+
+Usage: novacrash code [CODE]
+
+Arguments:
+  [CODE]  A code as it's printed, as A3, T5 or illegal [default: all codes]
+
+Options:
+      --help  Print help
+
+Example: novacrash code A3
+",
+    ),
+];
+
+#[test]
+fn each_command_has_its_help(rt: HostRuntime) -> Result<(), Fail> {
+    for (name, text) in HELPS {
+        let line = format!(in rt.alloc(); "novacrash {name} --help")?;
+        let expected = format!(in rt.alloc(); "{text}{ENDING}")?;
+        let shown = text_of(rt.alloc(), line.as_str())?.ok_or("help")?;
+        assert_eq!(rt; shown.as_str(), expected.as_str());
+    }
+    Ok(())
+}
+
+/// The help of the whole program.
+const HELP: &str = "\
+A crash tester for persistent-memory routines
+
+Usage: novacrash <COMMAND>
+
+Commands:
+  asm      Assemble a source and write its object
+  mkfs     Write a fresh log volume for the operations of a plan
+  upgrade  Move the logs of a volume to a new volume of the second layout
+  run      Run a program
+  replay   Run a program by a schedule
+  debug    Debug a program by commands on standard input
+  images   Count the crash images of a moment of a run by a schedule
+  explain  Print a schedule that leaves a crash image of a moment of a run
+  check    Judge every crash image of a run by a schedule
+  code     Say what a code means that the program prints, and what to do
+
+Options:
+      --help  Print help
+";
+
+#[test]
+fn the_program_has_its_help(rt: HostRuntime) -> Result<(), Fail> {
+    let shown = text_of(rt.alloc(), "novacrash --help")?.ok_or("help")?;
+    assert_eq!(rt; shown.as_str(), HELP);
+    Ok(())
+}

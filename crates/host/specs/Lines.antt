@@ -1,0 +1,30 @@
+-- How a line of the program ends on a system.
+use Rattle.std.specs.Prelude.{◌≡◌, ◌++◌, ℕ, List, Option, Result, Ok, Err, codes, string_bytes, ⊤}
+use Rattle.command_line.specs.Failures.{failure_status, failure_text}
+use Rattle.command_line.specs.Outcomes.{EndsWith}
+use Rattle.command_line.specs.Reports.{line_end}
+use Rattle.command_line.specs.Steps.{Reads, Writes}
+use Rattle.command_line.specs.declared.failure.Failure.{Failure}
+use Rattle.command_line.specs.declared.failure.Failure.TheVariants.{File, Line, Memory, Refused}
+use Rattle.session.specs.Failing.{AppendsFront}
+
+-- why the words of a line can't be had: memory was refused, or one of them is no text
+abbrev pub IsLost : Failure → Type 0
+IsLost (Line text) = string_bytes text ≡ codes "error: a word of the command line isn't UTF-8" ++ line_end
+IsLost Memory = ⊤
+IsLost (Refused refusal) = ⊥
+IsLost File = ⊥
+
+-- a line whose words were lost: nothing of it is carried out, and at most the failure's lines are told
+pub record IsLeft {F S E : Type 0} (said : E → Option (List ℕ)) (failure : Failure) (before after : F × S) (errors errors' : E) (status : ℕ) : Type 0 where
+  pub untouched : after ≡ before
+  pub told : AppendsFront (said errors) (said errors') (failure_text failure)
+  pub status_is : status ≡ failure_status failure
+
+-- the status with which a line ends: that of its words, where they were found
+abbrev pub EndsBy : {F R W E : Type 0} → Reads F → Writes F → (R → Option (List ℕ)) → (W → Option (List ℕ)) → (E → Option (List ℕ))
+    → Result (List (List ℕ)) Failure → F → F → R × W → R × W → E → E → ℕ → Type 0
+EndsBy reads writes remaining contents said (Ok words) files files' streams streams' errors errors' status =
+    EndsWith reads writes remaining contents said words files files' streams streams' errors errors' status
+EndsBy reads writes remaining contents said (Err failure) files files' streams streams' errors errors' status =
+    IsLeft said failure (files, streams) (files', streams') errors errors' status

@@ -1,0 +1,55 @@
+//! A line of the program, from its words to its status.
+
+ghost use Rattle.std.specs.Prelude.{IfErr, map, string_bytes};
+ghost use Rattle.std.specs.Process.{exit_status};
+ghost use Rattle.std.specs.Result.{result_map_both};
+ghost use Rattle.host.specs.Lines.{EndsBy, IsLost};
+
+use command_line::{Failure, Files, execute, tell};
+use std::env;
+use std::env::Env;
+use std::io::{ErrorKind, Read, Write};
+use std::process::ExitCode;
+use std::thread::Threads;
+
+/// The words of the command line, which begin with the program's name.
+///
+/// # Errors
+/// Memory where memory is refused, and Line where a word isn't UTF-8.
+pub fn words<T: Env + AllocGlobal>(rt: &T) -> Result<Vec<String>, Failure>
+    ensures { IfErr result IsLost }
+{
+    match env::args(rt) {
+        Ok(words) => Ok(words.collect(rt.alloc())?),
+        Err(error) if error.kind() == ErrorKind::OutOfMemory => Err(Failure::Memory),
+        Err(_) => Err(Failure::Line(String::from_str(
+            rt.alloc(),
+            "error: a word of the command line isn't UTF-8\n",
+        )?)),
+    }
+}
+
+/// Carries out a line by `execute`, and gives its status to the system. Where its words were lost, the lines of that failure go to
+/// standard error, no file and no other stream is touched, and the status is the failure's.
+pub fn run<T: Threads + Sync + AllocGlobal, F: Files, R: Read, W: Write, E: Write>(
+    rt: &T,
+    words: Result<Vec<String>, Failure>,
+    files: &mut F,
+    input: &mut R,
+    output: &mut W,
+    errors: &mut E,
+) -> ExitCode
+    ensures { EndsBy F.read_gives F.write_gives R.remaining W.contents E.contents (result_map_both (λ found. map string_bytes found.items) (λ lost. lost) words)
+        files.old files.new (input.old, output.old) (input.new, output.new) errors.old errors.new (exit_status result) }
+{
+    match words {
+        Ok(words) => {
+            let status = execute(rt, rt.alloc(), &words, files, input, output, errors);
+            ExitCode::from(status)
+        }
+        Err(failure) => {
+            let _ = tell(&failure, errors);
+            ExitCode::from(failure.status())
+        }
+    }
+}

@@ -1,0 +1,22 @@
+# append.s without the fence between its entry and its tail: the tail may be durable before the entry is.
+ li a7, 2001            # operation 1 begins
+ li a0, 1
+ ecall
+ ld t0, 72(a1)          # inode 0's tail
+ add t1, a1, t0
+ li t2, 1
+ sd t2, 0(t1)           # kind 1, without a name
+ sd t2, 8(t1)           # operation 1
+ li t3, 77
+ sd t3, 16(t1)          # the value
+ cbo.clean (t1)
+ addi t0, t0, 64
+ sd t0, 72(a1)          # the append commits by this store
+ addi t4, a1, 64
+ cbo.clean (t4)
+ fence w, w
+ li a7, 2002            # operation 1 ends
+ ecall
+ li a7, 93
+ li a0, 0
+ ecall
