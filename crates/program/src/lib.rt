@@ -6,7 +6,7 @@ ghost use Rattle.object.specs.Sections.{Sections};
 ghost use Rattle.program.specs.Loading.{IsPlaced, Loads, zero_filled};
 
 pub use object::{DATA_LIMIT, LoadFault, Object, TEXT_LIMIT};
-use std::alloc::AllocError;
+use std::alloc::{AllocError, Global};
 use std::marker::Model;
 
 /// A program that is ready to run: all of the text region, and the bytes of the data section.
@@ -43,6 +43,16 @@ impl Program {
         ensures size { length self.now.static_data ≤ DATA_LIMIT }
     {
         &self.static_data
+    }
+
+    /// Another program with the same bytes.
+    pub fn copy(&self, alloc: Global) -> Result<Program, AllocError>
+        ensures { IfOk result (λ program. program ≡ self.now) }
+    {
+        Ok(Program {
+            text: Vec::from_slice(alloc, &self.text)?,
+            static_data: Vec::from_slice(alloc, &self.static_data)?,
+        })
     }
 }
 
