@@ -169,15 +169,15 @@ fn contents(alloc: Global, file: &[u8]) -> Result<String, AllocError> {
     }
 }
 
-/// Whether a file's object is written as the same file, the object of its sections again, and the program that it is
-/// loaded as.
+/// Whether a file's object is written as the same file, the object of its sections again, and a copy of the program that it
+/// is loaded as.
 fn written_and_loaded(alloc: Global, file: &[u8]) -> Result<String, LoadFault> {
     let object = Object::read(alloc, file)?;
     let is_same = object.to_bytes(alloc)?.as_slice() == file;
     let (text, static_data) = object.into_sections();
     let object = Object::new(text, static_data);
     let answer = sections(alloc, object.text_bytes(), object.data_bytes())?;
-    let program = load(object)?;
+    let program = load(object)?.copy(alloc)?;
     let loaded = sections(alloc, program.text_bytes(), program.data_bytes())?;
     Ok(format!(in alloc; "{answer}\n{loaded}\n{is_same}")?)
 }
