@@ -7,3 +7,4 @@ pub mod Counting
 pub mod Lowest
 pub mod Carrying
 pub mod Opening
+pub mod Answering

@@ -4,8 +4,8 @@ use Rattle.std.proofs.lemmas.Bool.{cases_Bool, cases_eq}
 use Rattle.std.specs.List.{AllByRecursion}
 use Rattle.branches.specs.Branches.{Agree, IsWithin, ComesBefore}
 use Rattle.branches.specs.Numbers.{has}
-use Rattle.branches.proofs.Nodes.{Node, Covers, agree_has}
-use Rattle.branches.proofs.Splitting.{IsFinished}
+use Rattle.branches.specs.Openings.{Covers, IsFinished, IsPast, Node}
+use Rattle.branches.proofs.Nodes.{agree_has}
 
 -- the cut of a finished node is at most each of the node's cuts
 below_all : (low high c k : ℕ → ℕ) (ls : List ℕ) → ((l : ℕ) → has l ls ≡ false → c l ≡ low l) → Agree k c ls → IsWithin low high k → (l : ℕ) → c l ≤ k l
@@ -62,10 +62,6 @@ before_over c k best a b = elim (cases_Bool (ltb a.line b.line)) [
 
 pub never_itself : (c : ℕ → ℕ) → ¬ ComesBefore c c
 never_itself c b = let h = b.lower in absurd (omega (arith, h))
-
--- a node's cut passes, or doesn't come before this one
-abbrev pub IsPast : {Cause : Type 0} → ((ℕ → ℕ) → Option Cause → Type 0) → (ℕ → ℕ) → Node → Type 0
-IsPast judged best v = judged v.numbers None ⊎ (¬ ComesBefore v.numbers best)
 
 -- of the finished nodes, none has a cut that is bad and comes before this one
 pub least_of : {Cause : Type 0} (asks : (ℕ → ℕ) → List ℕ → Type 0) (judged : (ℕ → ℕ) → Option Cause → Type 0) (low high best k : ℕ → ℕ) (vs : List Node) →

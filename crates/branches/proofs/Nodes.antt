@@ -6,11 +6,7 @@ use Rattle.std.specs.List.{AllByRecursion}
 use Rattle.branches.specs.Branches.{Agree, IsWithin}
 use Rattle.branches.specs.Numbers.{has}
 use Rattle.branches.specs.Queue.{with_number}
-
--- Cuts that give the decided lines, the first that are asked, these numbers. The other lines stand at their floors.
-pub record Node : Type 0 where
-  pub numbers : ℕ → ℕ
-  pub decided : List ℕ
+use Rattle.branches.specs.Openings.{Apart, Conflict, Covers, Node}
 
 abbrev pub node : (ℕ → ℕ) → List ℕ → Node
 node numbers decided = record { numbers = numbers; decided = decided }
@@ -25,25 +21,6 @@ abbrev pub opened : (ℕ → ℕ) → (ℕ → ℕ) → (ℕ → ℕ) → List �
 opened low high c seen [] = []
 opened low high c seen (l ∷ ls) =
     cond (has l seen) [] (siblings c l (seen ++ l ∷ []) (low l + 1) (high l - low l)) ++ opened low high c (seen ++ l ∷ []) ls
-
--- which cuts a node stands for
-abbrev pub Holds : (ℕ → ℕ) → Node → Type 0
-Holds k v = Agree k v.numbers v.decided
-
-abbrev pub Covers : (ℕ → ℕ) → List Node → Type 0
-Covers k [] = ⊥
-Covers k (v ∷ vs) = Holds k v ⊎ Covers k vs
-
--- two nodes that no cut is of
-pub record Conflict (v w : Node) : Type 0 where
-  pub line : ℕ
-  pub here : has line v.decided ≡ true
-  pub there : has line w.decided ≡ true
-  pub differ : v.numbers line ≢ w.numbers line
-
-abbrev pub Apart : List Node → Type 0
-Apart [] = Unit {0}
-Apart (v ∷ vs) = AllByRecursion (Conflict v) vs × Apart vs
 
 -- lists of lines
 pub has_left : (l : ℕ) (a b : List ℕ) → has l a ≡ true → has l (a ++ b) ≡ true

@@ -8,11 +8,12 @@ use Rattle.branches.specs.Least.{IsLess}
 use Rattle.branches.specs.Numbers.{has, is_flagged, number_over, AreAbove}
 use Rattle.branches.specs.Queue.{entry, entry_at, with_number, siblings, branching, cut_at, IsTree, AreRaised}
 use Rattle.branches.specs.declared.queue.Entry.{Entry}
+use Rattle.branches.specs.Openings.{AreFlagged, Covers, IsAt, IsBest, IsFinished, IsOpening, IsPast, IsRun, Node, Split, cuts_of}
 use Rattle.branches.proofs.Counting.{not_over}
-use Rattle.branches.proofs.Lowest.{IsPast, before_over, least_of, never_itself, pass_of}
+use Rattle.branches.proofs.Lowest.{before_over, least_of, never_itself, pass_of}
 use Rattle.branches.proofs.Nodes as nodes
-use Rattle.branches.proofs.Nodes.{Node, node, opened, Covers, all_join, all_map}
-use Rattle.branches.proofs.Splitting.{Split, IsFinished, all_at, cuts_of, asked_same, drop_whole, shared_of, split_apart, split_first, split_next, take_whole}
+use Rattle.branches.proofs.Nodes.{node, opened, all_join, all_map}
+use Rattle.branches.proofs.Splitting.{all_at, asked_same, drop_whole, shared_of, split_apart, split_first, split_next, take_whole}
 use Rattle.branches.proofs.Tables.{cut_more, cut_step}
 
 -- lists side by side
@@ -156,13 +157,6 @@ cuts_join : (done left ops : List Node) (v : Node) (ls : List ℕ) →
 cuts_join [] left ops v ls = ap (λ (r : List (ℕ → ℕ)). v.numbers ∷ r) (map-append (λ (w : Node). w.numbers) left ops)
 cuts_join (d ∷ done) left ops v ls = ap (λ (r : List (ℕ → ℕ)). d.numbers ∷ r) (cuts_join done left ops v ls)
 
--- the least bad cut of the finished nodes, with its cause
-abbrev pub IsBest : {Cause : Type 0} → ((ℕ → ℕ) → Option Cause → Type 0) → (ℕ → ℕ) → (ℕ → ℕ) → List ℕ → Option Cause → List Node → Type 0
-IsBest judged low high numbers None done = AllByRecursion (λ v. judged v.numbers None) done
-IsBest judged low high numbers (Some cause) done =
-    IsWithin low high (number_over low numbers) × judged (number_over low numbers) (Some cause) × AreAbove low numbers
-    × AllByRecursion (IsPast judged (number_over low numbers)) done
-
 passes_past : {Cause : Type 0} (judged : (ℕ → ℕ) → Option Cause → Type 0) (best : ℕ → ℕ) (vs : List Node) → AllByRecursion (λ v. judged v.numbers None) vs →
     AllByRecursion (IsPast judged best) vs
 passes_past judged best vs h = all_map (λ v. judged v.numbers None) (IsPast judged best) vs (λ v p. inl p) h
@@ -204,10 +198,6 @@ best_more judged low high cut kept new (Some cause) (Some other) result done v e
       all_join (IsPast judged (number_over low kept)) done (v ∷ []) b.3 (inr (λ x. h.0 (subst (λ (c : ℕ → ℕ). ComesBefore c (number_over low kept)) (sym e) x)), tt),
     )
 
--- each line of the nodes is flagged
-abbrev pub AreFlagged : List Bool → List ℕ → Type 0
-AreFlagged flags ls = AllByRecursion (λ l. is_flagged l flags ≡ true) ls
-
 flagged_by : (flags : List Bool) (ls ms : List ℕ) → ((l : ℕ) → has l ms ≡ true → is_flagged l flags ≡ true) → ((l : ℕ) → has l ls ≡ true → has l ms ≡ true) → AreFlagged flags ls
 flagged_by flags [] ms h i = tt
 flagged_by flags (x ∷ ls) ms h i = (
@@ -218,29 +208,6 @@ flagged_by flags (x ∷ ls) ms h i = (
 flagged_more : (old new : List Bool) (ls : List ℕ) → ((l : ℕ) → is_flagged l old ≡ true → is_flagged l new ≡ true) → AreFlagged old ls → AreFlagged new ls
 flagged_more old new [] h f = tt
 flagged_more old new (x ∷ ls) h f = (h x f.0, flagged_more old new ls h f.1)
-
--- The nodes of an opening: those of the entries before the place are finished, and the others are left.
-pub record IsOpening {Cause : Type 0} (asks : (ℕ → ℕ) → List ℕ → Type 0) (judged : (ℕ → ℕ) → Option Cause → Type 0) (low high : ℕ → ℕ) (lines at : ℕ)
-    (queue : List Entry) (numbers : List ℕ) (least : Option Cause) (flags : List Bool) (done left : List Node) : Type 0 where
-  pub split : Split asks low high done left
-  pub size : length done ≡ at
-  pub tree : IsTree lines queue
-  pub raised : AreRaised low queue
-  pub same : length (cuts_of (done ++ left)) ≡ length queue
-  pub cuts : (i : ℕ) → i < length queue → get_or (cuts_of (done ++ left)) i low ≡ cut_at low queue i
-  pub counts : map (λ v. length v.decided) left ≡ map (λ e. e.decided) (drop at queue)
-  pub asked : AllByRecursion (λ v. AreFlagged flags v.decided) done
-  pub best : IsBest judged low high numbers least done
-
--- what one run of recovery came to
-pub record IsRun {Cause : Type 0} (asks : (ℕ → ℕ) → List ℕ → Type 0) (judged : (ℕ → ℕ) → Option Cause → Type 0) (low high : ℕ → ℕ) (lines at : ℕ)
-    (queue : List Entry) (numbers ls : List ℕ) (more : List Entry) (found : Option Cause) : Type 0 where
-  pub cut : number_over low numbers ≡ cut_at low queue at
-  pub above : AreAbove low numbers
-  pub asked : asks (cut_at low queue at) ls
-  pub below : AllByRecursion (λ l. l < lines) ls
-  pub judges : judged (cut_at low queue at) found
-  pub branches : more ≡ branching at low high (take (entry_at queue at).decided ls) (drop (entry_at queue at).decided ls)
 
 below_drop : (n : ℕ) (ls : List ℕ) (i : ℕ) → AllByRecursion (λ l. l < n) ls → AllByRecursion (λ l. l < n) (drop i ls)
 below_drop n [] zero h = tt
@@ -313,13 +280,6 @@ opened_next asks judged low high lines at queue more numbers kept new ls found l
       best = best_more judged low high numbers kept new found least result done (node c ls) (run.cut ∙ cut) run.above o.split.nodes.0.within
           (subst (λ (k : ℕ → ℕ). judged k found) cut run.judges) keeps o.best;
     }
-
--- some nodes of an opening
-pub record IsAt {Cause : Type 0} (asks : (ℕ → ℕ) → List ℕ → Type 0) (judged : (ℕ → ℕ) → Option Cause → Type 0) (low high : ℕ → ℕ) (lines at : ℕ)
-    (queue : List Entry) (numbers : List ℕ) (least : Option Cause) (flags : List Bool) : Type 0 where
-  pub done : List Node
-  pub left : List Node
-  pub opening : IsOpening asks judged low high lines at queue numbers least flags done left
 
 node_count : (done left : List Node) → length (cuts_of (done ++ left)) ≡ length done + length left
 node_count done left = mapped_count (λ (v : Node). v.numbers) (done ++ left) ∙ length-append done left

@@ -1,29 +1,13 @@
 -- The nodes that are open and those that are finished split the cuts.
-use Rattle.std.proofs.Common.{◌≡◌, ℕ, zero, suc, ◌+◌, ◌-◌, ◌≤◌, ◌<◌, ◌≢◌, true, false, cond, ◌⊎◌, inl, inr, List, [], ◌∷◌, ◌++◌, length, map, take, drop, get_or, refl, sym, ap, subst, ◌∙◌, arith, append_assoc, true≢false}
+use Rattle.std.proofs.Common.{◌≡◌, ℕ, zero, suc, ◌+◌, ◌-◌, ◌≤◌, ◌<◌, ◌≢◌, true, false, cond, ◌⊎◌, inl, inr, List, [], ◌∷◌, ◌++◌, length, take, drop, get_or, refl, sym, ap, subst, ◌∙◌, arith, append_assoc, true≢false}
 use Rattle.std.proofs.lemmas.List.{take-append-drop}
 use Rattle.std.proofs.lemmas.Bool.{cases_Bool, cases_eq}
 use Rattle.std.specs.List.{AllByRecursion, AllPairs}
 use Rattle.branches.specs.Branches.{Agree, IsWithin, IsAdaptive, IsShared, ShareBranch, AreApart}
 use Rattle.branches.specs.Numbers.{has}
 use Rattle.branches.specs.Queue.{with_number}
-use Rattle.branches.proofs.Nodes.{Node, node, siblings, opened, Covers, Conflict, Apart, Extends, agree_has, agree_self, all_join, all_map, apart_join, apart_parts, conflict_extended, conflict_back, covers_cases, covers_left, covers_right, finished_apart, has_left, has_last, opened_apart, opened_covers, opened_extend, unseen_agrees, unseen_before, with_here, with_other}
-
--- a list with something before it
-pub record Begins (ls front : List ℕ) : Type 0 where
-  pub rest : List ℕ
-  pub begins : ls ≡ front ++ rest
-
--- the decided lines of a node are the first that are asked of its cut, and the others stand at their floors
-pub record IsNode (asks : (ℕ → ℕ) → List ℕ → Type 0) (low high : ℕ → ℕ) (v : Node) : Type 0 where
-  pub within : IsWithin low high v.numbers
-  pub begins : (ls : List ℕ) → asks v.numbers ls → Begins ls v.decided
-  pub free : (l : ℕ) → has l v.decided ≡ false → v.numbers l ≡ low l
-
--- all that is asked of its cut is decided
-pub record IsFinished (asks : (ℕ → ℕ) → List ℕ → Type 0) (low high : ℕ → ℕ) (v : Node) : Type 0 where
-  pub within : IsWithin low high v.numbers
-  pub asked : asks v.numbers v.decided
-  pub at_floor : (l : ℕ) → has l v.decided ≡ false → v.numbers l ≡ low l
+use Rattle.branches.specs.Openings.{Apart, Conflict, Covers, IsFinished, IsNode, Node, Split, cuts_of}
+use Rattle.branches.proofs.Nodes.{node, siblings, opened, Extends, agree_has, agree_self, all_join, all_map, apart_join, apart_parts, conflict_extended, conflict_back, covers_cases, covers_left, covers_right, finished_apart, has_left, has_last, opened_apart, opened_covers, opened_extend, unseen_agrees, unseen_before, with_here, with_other}
 
 take_front : (a : List ℕ) (l : ℕ) (b : List ℕ) → take (length a + 1) (a ++ l ∷ b) ≡ a ++ l ∷ []
 take_front [] l b = refl
@@ -100,13 +84,6 @@ opened_nodes asks low high c seen (l ∷ ls) a h w free =
           (let p = w.least l in let q = w.most l in omega (arith, p, q)))
     ])
     (opened_nodes asks low high c (seen ++ l ∷ []) ls a (subst (λ (xs : List ℕ). asks c xs) (sym (append_assoc seen (l ∷ []) ls)) h) w (λ m f. free m (unseen_before m seen l f)))
-
--- every cut is of just one of the nodes
-pub record Split (asks : (ℕ → ℕ) → List ℕ → Type 0) (low high : ℕ → ℕ) (done left : List Node) : Type 0 where
-  pub finished : AllByRecursion (IsFinished asks low high) done
-  pub nodes : AllByRecursion (IsNode asks low high) left
-  pub apart : Apart (done ++ left)
-  pub covers : (k : ℕ → ℕ) → IsWithin low high k → Covers k (done ++ left)
 
 not_decided : (l : ℕ) (a b : List ℕ) → has l (a ++ b) ≡ false → has l a ≡ false
 not_decided l a b f = elim (cases_Bool (has l a)) [
@@ -194,9 +171,6 @@ take_all_more (x ∷ xs) = let one : suc (length xs) + 1 ≡ suc (length xs + 1)
 pub asked_same : (asks : (ℕ → ℕ) → List ℕ → Type 0) (c k : ℕ → ℕ) (ls ms : List ℕ) → IsAdaptive asks → asks c ls → asks k ms → Agree k c ls → ms ≡ ls
 asked_same asks c k ls ms a g h e =
     take_more_whole (length ls) ms ls (a c k ls ms (length ls) g h (rw (take_all ls) e) ∙ take_all_more ls) refl
-
-abbrev pub cuts_of : List Node → List (ℕ → ℕ)
-cuts_of vs = map (λ v. v.numbers) vs
 
 -- one of these cuts shares a branch with this one
 abbrev pub HasShared : ((ℕ → ℕ) → List ℕ → Type 0) → (ℕ → ℕ) → List (ℕ → ℕ) → Type 0

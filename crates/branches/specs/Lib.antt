@@ -3,3 +3,5 @@ pub mod Numbers
 pub mod Queue
 pub mod Opened
 pub mod Least
+pub mod Pieces
+pub mod Openings

@@ -10,7 +10,7 @@ pub trait Recovery {
     ghost use Rattle.branches.specs.Numbers.{number_over};
 
     /// Why an image is bad.
-    type Cause: Copy;
+    type Cause: Copy + Send;
 
     /// How many lines the medium has.
     ghost lines: { Self → ℕ };

@@ -3,6 +3,7 @@
 ghost use Rattle.check_desk.specs.Desks.{fresh};
 ghost use Rattle.check_desk.specs.Sweeps.{IsSwept, IsTally, best_of, better};
 ghost use Rattle.check_desk.specs.Works.{IsWorked};
+ghost use Rattle.std.specs.Thread.{IsSync};
 ghost use Rattle.std.specs.Prelude.{◌≡◌, ℕ, ◌^◌, ◌<◌, ◌≤◌, [], ◌∷◌, ◌++◌, Some, true, false, All, length, vec_len, IfOk, IsTrue, MatchBool, OnOk};
 
 use crate::desk::{CheckDesk, DeskSeat};
@@ -21,6 +22,7 @@ pub enum Judged<B> {
 /// Judges the moments of a run, each by itself. `S` is what a worker keeps from one of its moments to the next.
 pub trait Judge<B, S> {
     ghost use Rattle.std.specs.Prelude.{◌≡◌, ℕ, ◌<◌, IfOk};
+    ghost use Rattle.std.specs.Thread.{IsSync};
     ghost use Rattle.check_desk.specs.declared.sweep.Judged.TheVariants.{Passed, Bad};
 
     ghost moments: { Self → ℕ };
@@ -35,8 +37,14 @@ pub trait Judge<B, S> {
     fn begin(&self) -> Result<S, AllocError>
         ensures { IfOk result (λ state. keeps self.now state) };
 
-    /// Judges one moment. Err where memory was refused.
-    fn judge(&self, state: &mut S, moment: u32) -> Result<Judged<B>, AllocError>
+    /// Judges one moment, if need be in further threads. Err where memory was refused.
+    fn judge<T: Threads + Sync>(
+        &self,
+        rt: &T,
+        state: &mut S,
+        moment: u32,
+    ) -> Result<Judged<B>, AllocError>
+        requires sync { IsSync T.row }
         requires moment { moment < moments self.now }
         requires state { keeps self.now state.old }
         ensures state { IfOk result (λ _. keeps self.now state.new) }
@@ -97,15 +105,16 @@ pub fn judge_all<B: Drop + Send, S: Drop + Send, J: Judge<B, S> + Sync, G: Gate,
         rt,
         seats,
         &|seat: DeskSeat| -> Worked<B>
-            requires { (J.moments job.now ≡ shared.now.name.moments) × (shared.now.name.moments < 2 ^ 32) × (seat ≡ fresh shared.now.name) }
+            requires { IsSync R.row × (J.moments job.now ≡ shared.now.name.moments) × (shared.now.name.moments < 2 ^ 32) × (seat ≡ fresh shared.now.name) }
             ensures { IsWorked (J.passes job.entry.now) (J.fails job.entry.now) shared.entry.now.name result }
-        { work(shared, job, gate, seat) },
+        { work(rt, shared, job, gate, seat) },
     )?;
     gather(alloc, desk, job, worked)
 }
 
 /// What one worker does.
-fn work<B: Drop, S: Drop, J: Judge<B, S>, G: Gate>(
+fn work<B: Drop, S: Drop, J: Judge<B, S>, G: Gate, R: Threads + Sync>(
+    rt: &R,
     desk: &CheckDesk,
     job: &J,
     gate: &G,
@@ -117,12 +126,13 @@ fn work<B: Drop, S: Drop, J: Judge<B, S>, G: Gate>(
     ensures { IsWorked (J.passes job.now) (J.fails job.now) desk.now.name result }
 {
     let mut best = None;
-    let whole = take_all(desk, job, gate, &mut seat, &mut best).is_ok();
+    let whole = take_all(rt, desk, job, gate, &mut seat, &mut best).is_ok();
     Worked { seat, whole, best }
 }
 
 /// Takes moments until none is left.
-fn take_all<B: Drop, S: Drop, J: Judge<B, S>, G: Gate>(
+fn take_all<B: Drop, S: Drop, J: Judge<B, S>, G: Gate, R: Threads + Sync>(
+    rt: &R,
     desk: &CheckDesk,
     job: &J,
     gate: &G,
@@ -144,7 +154,7 @@ fn take_all<B: Drop, S: Drop, J: Judge<B, S>, G: Gate>(
     let mut state = job.begin()?;
     loop {
         gate.enter(worker);
-        let more = take_one(desk, job, &mut state, seat, best);
+        let more = take_one(rt, desk, job, &mut state, seat, best);
         gate.leave(worker);
         if !more? {
             return Ok(());
@@ -153,7 +163,8 @@ fn take_all<B: Drop, S: Drop, J: Judge<B, S>, G: Gate>(
 }
 
 /// Claims a moment, and judges it unless the seat has seen a lesser bad one. False where there is none left.
-fn take_one<B: Drop, S, J: Judge<B, S>>(
+fn take_one<B: Drop, S, J: Judge<B, S>, R: Threads + Sync>(
+    rt: &R,
     desk: &CheckDesk,
     job: &J,
     state: &mut S,
@@ -179,7 +190,7 @@ fn take_one<B: Drop, S, J: Judge<B, S>>(
     if is_below(seat.seen(), moment) {
         return Ok(true);
     }
-    match job.judge(state, moment)? {
+    match job.judge(rt, state, moment)? {
         Judged::Passed => {}
         Judged::Bad(bad) => {
             desk.report(seat, moment, true);

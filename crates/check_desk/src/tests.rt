@@ -105,7 +105,12 @@ impl Judge<u32, u32> for Limit {
         Ok(0)
     }
 
-    fn judge(&self, state: &mut u32, moment: u32) -> Result<Judged<u32>, AllocError> {
+    fn judge<T: Threads + Sync>(
+        &self,
+        _rt: &T,
+        state: &mut u32,
+        moment: u32,
+    ) -> Result<Judged<u32>, AllocError> {
         *state = moment;
         if moment < self.limit {
             Ok(Judged::Passed)

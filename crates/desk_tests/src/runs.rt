@@ -328,6 +328,48 @@ static TAIL_LAST: Run = Run {
     verdict: Plain::TooMany { moment: 78 },
 };
 
+/// The tails of eleven inodes, all but the first of twelve, as they stand in a new volume.
+const ELEVEN_TAILS: &[Made] = &[
+    Made::Store(2, 8, 20_480),
+    Made::Store(3, 8, 24_576),
+    Made::Store(4, 8, 28_672),
+    Made::Store(5, 8, 32_768),
+    Made::Store(6, 8, 36_864),
+    Made::Store(7, 8, 40_960),
+    Made::Store(8, 8, 45_056),
+    Made::Store(9, 8, 49_152),
+    Made::Store(10, 8, 53_248),
+    Made::Store(11, 8, 57_344),
+    Made::Store(12, 8, 61_440),
+];
+
+const TWELVE_INODES: &[u8] = b"inodes 12\npages 12\njournals 1\n";
+
+/// Twelve tails that stand free, so that the last moment has 4,096 branches, enough for rounds in several threads. The last store is
+/// that of the first inode's tail: as it stands; and behind an entry that isn't there, which is then in the half of the images with
+/// that store.
+static MANY_BRANCHES: [Run; 2] = [
+    Run {
+        plan: TWELVE_INODES,
+        inodes: 12,
+        events: &[(0, ELEVEN_TAILS), (0, &[Made::Store(1, 8, 16_384)])],
+        verdict: Plain::Pass {
+            moments: 13,
+            images: Some(8_191),
+        },
+    },
+    Run {
+        plan: TWELVE_INODES,
+        inodes: 12,
+        events: &[(0, ELEVEN_TAILS), (0, &[Made::Store(1, 8, 16_448)])],
+        verdict: Plain::Fail {
+            moment: 12,
+            image: 2_048,
+            cause: Cause::Fault(VolumeFault::Kind),
+        },
+    },
+];
+
 /// The place of the first run that so many workers judge otherwise.
 fn first_wrong(
     rt: &(impl Threads + Sync + AllocGlobal + Abort),
@@ -348,6 +390,15 @@ fn verdicts_by_one_two_and_eight_workers(rt: HostRuntime) -> Result<(), Fail> {
     for workers in [1, 2, 8] {
         assert!(rt; APPEND_PASSES.is_judged(&rt, workers, &Open)?);
         assert_eq!(rt; first_wrong(&rt, workers)?, None);
+    }
+    Ok(())
+}
+
+#[test]
+fn many_branches_by_one_and_two_workers(rt: HostRuntime) -> Result<(), Fail> {
+    for workers in [1, 2] {
+        assert!(rt; MANY_BRANCHES[0].is_judged(&rt, workers, &Open)?);
+        assert!(rt; MANY_BRANCHES[1].is_judged(&rt, workers, &Open)?);
     }
     Ok(())
 }

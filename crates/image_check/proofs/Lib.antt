@@ -1,5 +1,6 @@
 pub mod Apart
 pub mod Beginning
+pub mod Deciding
 pub mod EveryImage
 pub mod Faulting
 pub mod Growing

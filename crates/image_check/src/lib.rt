@@ -6,6 +6,7 @@
 
 pub use crash_image::ImageName;
 pub use fault::{CheckFault, OpFault};
+pub use laws::one_verdict;
 pub use moment::check_moment;
 pub use moment_judge::{MomentJudge, SoundRun};
 pub use order::check_trace;
@@ -17,11 +18,13 @@ mod fault;
 mod image_lines;
 mod index_lines;
 mod judge;
+mod laws;
 mod legal;
 mod marks;
 mod moment;
 mod moment_images;
 mod moment_judge;
+mod moment_shared;
 mod operations;
 mod order;
 mod plain;

@@ -26,7 +26,7 @@ use trace_index::TraceIndex;
 use volume::Volume;
 
 /// The most branches of a moment that are opened.
-const MAX_BRANCHES: u32 = 65_536;
+pub const MAX_BRANCHES: u32 = 65_536;
 
 /// The verdict on the state after the first `moment` events of the trace, which started from the medium: every image
 /// of it is judged by the plan, by one run of recovery for each branch. The medium has every line that the trace names.
@@ -111,7 +111,7 @@ pub fn open_moment(
 }
 
 /// The name of the image of a cut of the moment, given by line, with 0 for a line at its floor.
-fn name_cut(
+pub fn name_cut(
     alloc: Global,
     medium: &Medium,
     trace: &Trace,

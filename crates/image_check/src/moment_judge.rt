@@ -15,8 +15,8 @@ ghost use Rattle.std.specs.Result.{result_ok};
 
 use crate::judge::{note_next, starting_volume};
 use crate::legal::Outcomes;
-use crate::moment::open_moment;
 use crate::moment_images::MomentImages;
+use crate::moment_shared::open_moment_shared;
 use crate::order::check_trace;
 use crate::run::spoils_nothing;
 use crate::{CheckFault, MomentVerdict};
@@ -26,6 +26,7 @@ use line_memory::Medium;
 use plan::Plan;
 use std::alloc::{AllocError, Global};
 use std::marker::Model;
+use std::thread::Threads;
 use store_trace::Trace;
 use trace_index::TraceIndex;
 use volume::Volume;
@@ -176,8 +177,9 @@ impl Standing {
     }
 
     /// The verdict on the moment. Its branches are opened, unless it is known to pass.
-    fn judge(
+    fn judge<T: Threads + Sync>(
         &mut self,
+        rt: &T,
         alloc: Global,
         run: &SoundRun,
         opener: &mut Opener,
@@ -193,7 +195,7 @@ impl Standing {
         if self.passes {
             return Ok(MomentVerdict::Pass);
         }
-        let verdict = open_at(alloc, run, self.moment, &self.outcomes, opener)?;
+        let verdict = open_at(rt, alloc, run, self.moment, &self.outcomes, opener)?;
         self.passes = is_pass(&verdict);
         Ok(verdict)
     }
@@ -209,7 +211,8 @@ fn copy_of(alloc: Global, volume: &Option<Volume>) -> Result<Option<Volume>, All
 }
 
 /// Opens the branches of a moment of the run, whose legal volumes are made of these.
-fn open_at(
+fn open_at<T: Threads + Sync>(
+    rt: &T,
     alloc: Global,
     run: &SoundRun,
     moment: u32,
@@ -225,7 +228,7 @@ fn open_at(
     ensures err { IfErr result (λ fault. fault ≡ CheckFault.Memory) }
 {
     let images = MomentImages::new(&run.index, run.plan, outcomes, moment);
-    open_moment(alloc, run.medium, run.trace, &images, opener)
+    open_moment_shared(rt, alloc, run.medium, run.trace, &images, opener)
 }
 
 /// Whether a moment that is known to pass or not is known to pass still after its next event.
@@ -301,7 +304,14 @@ impl<'a, 'b> MomentJudge<'a, 'b> {
     }
 
     /// The verdict on the state after the first `moment` events: on all its images, as `check_moment` gives it.
-    pub fn judge(&mut self, alloc: Global, moment: u32) -> Result<MomentVerdict, CheckFault>
+    ///
+    /// Where the moment has many branches they are opened in threads of their own, if these can be started.
+    pub fn judge<T: Threads + Sync>(
+        &mut self,
+        rt: &T,
+        alloc: Global,
+        moment: u32,
+    ) -> Result<MomentVerdict, CheckFault>
         requires { moment ≤ length self.old.events }
         ensures ok { IfOk result (λ verdict.
             IsMomentVerdict self.old.plan self.old.start (take moment self.old.events) verdict) }
@@ -312,7 +322,7 @@ impl<'a, 'b> MomentJudge<'a, 'b> {
         let last = self.standing.take();
         let mut standing = stand_before(alloc, run, &self.opener, last, moment)?;
         standing.advance(run, &self.opener, moment)?;
-        let verdict = standing.judge(alloc, run, &mut self.opener)?;
+        let verdict = standing.judge(rt, alloc, run, &mut self.opener)?;
         self.standing = Some(standing);
         Ok(verdict)
     }

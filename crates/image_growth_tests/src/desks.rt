@@ -66,7 +66,12 @@ impl Judge<u32, Vec<u32>> for Five {
         Ok(Vec::new(self.alloc))
     }
 
-    fn judge(&self, state: &mut Vec<u32>, moment: u32) -> Result<Judged<u32>, AllocError> {
+    fn judge<T: Threads + Sync>(
+        &self,
+        _rt: &T,
+        state: &mut Vec<u32>,
+        moment: u32,
+    ) -> Result<Judged<u32>, AllocError> {
         state.push(moment)?;
         Ok(Judged::Passed)
     }

@@ -6,6 +6,7 @@ ghost use Rattle.crash_model.specs.Image.{image};
 ghost use Rattle.image_check.specs.Legal.{IsLegal};
 ghost use Rattle.image_check.specs.OrderFaults.{AreSound};
 ghost use Rattle.image_check.specs.Verdicts.{IsRefusal, IsVerdict};
+ghost use Rattle.image_check.specs.declared.verdict.Verdict.{Verdict as AVerdict};
 ghost use Rattle.nova_log.specs.Volumes.{volume_of};
 ghost use Rattle.store_trace.specs.History.{at_moment};
 ghost use Rattle.volume.specs.declared.entry.Entry.{Entry as AnEntry};
@@ -39,6 +40,9 @@ pub fn check_parallel<G: Gate, R: Threads + Sync>(
     requires lines { HasLines medium.now trace.now.events }
     requires workers { (0 < workers) × (workers ≤ 8) }
     ensures ok { IfOk result (λ verdict. IsVerdict plan.now.operations medium.now trace.now.events verdict) }
+
+    // The run has no other verdict, so that it is the one that `check_run` gives.
+    ensures one { IfOk result (λ verdict. (other : AVerdict) → IsVerdict plan.now.operations medium.now trace.now.events other → other ≡ verdict) }
     ensures sound { IfOk result (λ verdict. AreSound plan.now.operations trace.now.events (length trace.now.events)) }
 
     // Pass: whatever a power cut leaves at whatever moment recovers to a legal volume.

@@ -9,6 +9,7 @@ ghost use Rattle.std.specs.Prelude.{◌≡◌, ℕ, ◌+◌, ◌*◌, ◌^◌, �
 use check_desk::{Judge, Judged};
 use image_check::{MomentJudge, MomentVerdict, SoundRun, Verdict};
 use std::alloc::{AllocError, Global};
+use std::thread::Threads;
 
 /// How many stretches each worker gets at least, where there are as many moments: the last ones end at about one time.
 const EACH: u32 = 16;
@@ -71,19 +72,21 @@ impl<'a, 'b> Judge<Verdict, MomentJudge<'a, 'b>> for Stretches<'a, 'b> {
         MomentJudge::new(self.alloc, self.run)
     }
 
-    fn judge(
+    fn judge<T: Threads + Sync>(
         &self,
+        rt: &T,
         judge: &mut MomentJudge<'a, 'b>,
         stretch: u32,
     ) -> Result<Judged<Verdict>, AllocError> {
         let first = self.first(stretch);
         let end = self.run.moments().min(first + self.size);
-        judge_between(self.alloc, judge, first, end)
+        judge_between(rt, self.alloc, judge, first, end)
     }
 }
 
 /// Judges the moments from `first` on that are below `end`, up to the first that doesn't pass.
-fn judge_between(
+fn judge_between<T: Threads + Sync>(
+    rt: &T,
     alloc: Global,
     judge: &mut MomentJudge,
     first: u32,
@@ -97,7 +100,7 @@ fn judge_between(
         IsVerdict judge.old.plan judge.old.start judge.old.events verdict }
 {
     for moment in first..end {
-        let found = judge_one(alloc, judge, moment)?;
+        let found = judge_one(rt, alloc, judge, moment)?;
         match found {
             Some(verdict) => return Ok(Judged::Bad(verdict)),
             None => {}
@@ -107,7 +110,8 @@ fn judge_between(
 }
 
 /// None where the moment passes, else the verdict on the run, where the moments before it pass.
-fn judge_one(
+fn judge_one<T: Threads + Sync>(
+    rt: &T,
     alloc: Global,
     judge: &mut MomentJudge,
     moment: u32,
@@ -119,7 +123,7 @@ fn judge_one(
     ensures bad { IfOk result (λ found. IfSome found (λ verdict. PassUpTo judge.old moment →
         IsVerdict judge.old.plan judge.old.start judge.old.events verdict)) }
 {
-    match judge.judge(alloc, moment) {
+    match judge.judge(rt, alloc, moment) {
         Ok(MomentVerdict::Pass) => Ok(None),
         Ok(MomentVerdict::Fail { image, cause }) => Ok(Some(Verdict::Fail {
             moment,

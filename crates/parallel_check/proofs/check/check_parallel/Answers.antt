@@ -1,5 +1,6 @@
 use Rattle.std.proofs.Common.{◌≡◌, subst}
 use Rattle.image_check.specs.RunViews.{RunView}
+use Rattle.image_check.proofs.Deciding.{verdict_once}
 use Rattle.image_check.specs.Verdicts.{IsVerdict}
 use Rattle.image_check.specs.declared.verdict.Verdict.{Verdict}
 use Rattle.image_check.specs.declared.verdict.Verdict.TheVariants as runs
@@ -38,3 +39,20 @@ returns-clause-pass g c = λ moments images e.
     swept_pass s.run.now c.in_ok-run.run' run s.size s.count c.moments.result c.from.result c.in_ok-images-in-None.field-0 c.in_ok-best.best c.new-stretches.ensures
     c.in_ok-run.ensures.ok c.in-None.is c.in_ok-best.ensures s.whole c.from.ensures c.moments.ensures.count c.in_ok-images-in-None.ensures in
     every_cut_passes run.plan run.start run.events moments images (subst (λ (v : Verdict). IsVerdict run.plan run.start run.events v) same verdict)
+
+pub returns-in-Some-clause-one : goal.returns-in-Some-clause-one
+returns-in-Some-clause-one g c = λ other is.
+    let s = c.new-stretches.result in
+    let run : RunView = record { plan = c.args.plan.now.operations; start = c.args.medium.now; events = c.args.trace.now.events } in
+    let verdict =
+    swept_fail s.run.now c.in_ok-run.run' run s.size s.count c.in_ok-best.best c.in-Some.found c.new-stretches.ensures c.in_ok-run.ensures.ok c.in-Some.is c.in_ok-best.ensures in
+    verdict_once run.plan run.start run.events other c.in-Some.found.1 is verdict
+
+pub returns-clause-one : goal.returns-clause-one
+returns-clause-one g c = λ other is.
+    let s = c.new-stretches.result in
+    let run : RunView = record { plan = c.args.plan.now.operations; start = c.args.medium.now; events = c.args.trace.now.events } in
+    let verdict =
+    swept_pass s.run.now c.in_ok-run.run' run s.size s.count c.moments.result c.from.result c.in_ok-images-in-None.field-0 c.in_ok-best.best c.new-stretches.ensures
+    c.in_ok-run.ensures.ok c.in-None.is c.in_ok-best.ensures s.whole c.from.ensures c.moments.ensures.count c.in_ok-images-in-None.ensures in
+    verdict_once run.plan run.start run.events other (runs.Pass c.from.result c.in_ok-images-in-None.field-0) is verdict

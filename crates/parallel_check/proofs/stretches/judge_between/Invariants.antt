@@ -4,5 +4,5 @@ use Rattle.image_check.specs.declared.verdict.MomentVerdict.TheVariants as momen
 use Rattle.parallel_check.proofs.stretches.judge_between.Given as goal
 
 abbrev pub invariant-loop-moment : goal.invariant-loop-moment
-invariant-loop-moment l = (l.judge ≡ l.fn.judge)
+invariant-loop-moment g l = (l.judge ≡ l.fn.judge)
     × ((m : ℕ) → l.first ≤ m → m < l.moment → IsMomentVerdict l.fn.judge.plan l.fn.judge.start (take m l.fn.judge.events) moments.Pass)

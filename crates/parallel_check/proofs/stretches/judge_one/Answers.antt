@@ -4,7 +4,7 @@ use Rattle.image_check.specs.declared.verdict.MomentVerdict.{MomentVerdict}
 use Rattle.parallel_check.proofs.stretches.judge_one.Goals as goal
 
 pub returns-in-Ok-Fail-clause-bad : goal.returns-in-Ok-Fail-clause-bad
-returns-in-Ok-Fail-clause-bad c = λ below.
+returns-in-Ok-Fail-clause-bad g c = λ below.
     let run = c.args.judge.now in
     record {
       there = c.requires;
@@ -13,7 +13,7 @@ returns-in-Ok-Fail-clause-bad c = λ below.
     }
 
 pub returns-in-Ok-TooMany-clause-bad : goal.returns-in-Ok-TooMany-clause-bad
-returns-in-Ok-TooMany-clause-bad c = λ below.
+returns-in-Ok-TooMany-clause-bad g c = λ below.
     let run = c.args.judge.now in
     record {
       there = c.requires;

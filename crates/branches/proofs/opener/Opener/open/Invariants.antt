@@ -1,16 +1,16 @@
 use Rattle.std.proofs.Common.{◌≡◌, ◌≤◌, ◌-◌, length}
-use Rattle.branches.proofs.Opening.{IsAt}
+use Rattle.branches.specs.Openings.{IsAt}
 use Rattle.branches.proofs.opener.Opener.open.Given as goal
 
-abbrev pub invariant-loop-at : goal.invariant-loop-at
-invariant-loop-at g l =
+abbrev pub invariant-loop-self : goal.invariant-loop-self
+invariant-loop-self g l =
     let r = g.R.Recovery in
-    IsAt (r.asks l.recovery) (r.judged l.recovery) (r.low l.recovery) (r.high l.recovery) (r.lines l.recovery) l.at l.self-inside.queue.items
-    l.self-inside.least l.least l.self-inside.asked
-    × (length l.self-inside.queue.items ≤ l.limit)
-    × (length l.self-inside.asked ≡ length l.fn.self)
-    × (length l.self-inside.run.numbers ≡ length l.self-inside.asked)
-    × (length l.self-inside.least ≡ length l.self-inside.asked)
+    let p = l.self-inside.progress in
+    IsAt (r.asks l.recovery) (r.judged l.recovery) (r.low l.recovery) (r.high l.recovery) (r.lines l.recovery) p.opened p.queue.items p.least l.least p.asked
+    × (length p.queue.items ≤ l.limit)
+    × (length p.asked ≡ length l.fn.self)
+    × (length l.self-inside.run.numbers ≡ length p.asked)
+    × (length p.least ≡ length p.asked)
 
-abbrev pub decreases-loop-at : goal.decreases-loop-at
-decreases-loop-at g l = l.limit - l.at
+abbrev pub decreases-loop-self : goal.decreases-loop-self
+decreases-loop-self g l = l.limit - l.self-inside.progress.opened

@@ -1,0 +1,16 @@
+use Rattle.std.proofs.Common.{◌≡◌, ◌≤◌, ◌-◌, length}
+use Rattle.branches.specs.Openings.{IsAt}
+use Rattle.branches.proofs.opener.Opener.open_shared.Given as goal
+
+abbrev pub invariant-loop-self : goal.invariant-loop-self
+invariant-loop-self g l =
+    let r = g.R.Recovery in
+    let p = l.self-inside.progress in
+    IsAt (r.asks l.recovery) (r.judged l.recovery) (r.low l.recovery) (r.high l.recovery) (r.lines l.recovery) p.opened p.queue.items p.least l.least p.asked
+    × (length p.queue.items ≤ l.limit)
+    × (length p.asked ≡ length l.fn.self)
+    × (length l.self-inside.run.numbers ≡ length p.asked)
+    × (length p.least ≡ length p.asked)
+
+abbrev pub decreases-loop-self : goal.decreases-loop-self
+decreases-loop-self g l = l.limit - l.self-inside.progress.opened

@@ -1,0 +1,76 @@
+//! Opening many branches at once, in rounds.
+
+ghost use Rattle.std.specs.Prelude.{◌≡◌, All, IfOk};
+ghost use Rattle.branches.specs.Pieces.{AreAnswers, AreCuts};
+
+use crate::Recovery;
+use crate::pieces::{Piece, open_piece};
+use crate::queue::Entry;
+use rayon::prelude::*;
+use std::alloc::{AllocError, Global};
+use std::thread::Threads;
+
+/// How few open branches are worth a round: fewer take less time than the threads take to start.
+const LEAST_OF_ROUND: usize = 512;
+
+/// The most branches of a round: what is found at them is held until it is taken in.
+const MOST_OF_ROUND: usize = 4_096;
+
+/// How many pieces a round has.
+const PIECES: u32 = 16;
+
+/// Runs recovery at branches of the queue from place `first` on, in threads of their own where these can be started: at as many as a
+/// round has, and at none where there are few.
+pub fn open_round<R: Recovery + Sync, T: Threads + Sync>(
+    rt: &T,
+    alloc: Global,
+    recovery: &R,
+    queue: &[Entry],
+    first: usize,
+) -> Result<Vec<Result<Piece<R::Cause>, AllocError>>, AllocError>
+    requires cuts { AreCuts (R.low recovery.now) (R.high recovery.now) (R.lines recovery.now) queue.now }
+    ensures { IfOk result (λ pieces. All (λ found. IfOk found (AreAnswers (R.asks recovery.now) (R.judged recovery.now) (R.low recovery.now) (R.high recovery.now)
+        (R.lines recovery.now) queue.now)) pieces.items) }
+{
+    let open = queue.len().saturating_sub(first).min(MOST_OF_ROUND);
+    if open < LEAST_OF_ROUND {
+        return Ok(Vec::new(alloc));
+    }
+    open_pieces(
+        rt,
+        alloc,
+        recovery,
+        queue,
+        first,
+        open.div_ceil(PIECES as usize),
+    )
+}
+
+/// Runs recovery at the branches of a round, in pieces of this size.
+fn open_pieces<R: Recovery + Sync, T: Threads + Sync>(
+    rt: &T,
+    alloc: Global,
+    recovery: &R,
+    queue: &[Entry],
+    first: usize,
+    size: usize,
+) -> Result<Vec<Result<Piece<R::Cause>, AllocError>>, AllocError>
+    requires cuts { AreCuts (R.low recovery.now) (R.high recovery.now) (R.lines recovery.now) queue.now }
+    ensures { IfOk result (λ pieces. All (λ found. IfOk found (AreAnswers (R.asks recovery.now) (R.judged recovery.now) (R.low recovery.now) (R.high recovery.now)
+        (R.lines recovery.now) queue.now)) pieces.items) }
+{
+    (0..PIECES)
+        .into_par_iter()
+        .with_min_len(1)
+        .map(
+            |number: u32| -> Result<Piece<R::Cause>, AllocError>
+                requires { AreCuts (R.low recovery.now) (R.high recovery.now) (R.lines recovery.now) queue.now }
+                ensures { IfOk result (AreAnswers (R.asks recovery.entry.now) (R.judged recovery.entry.now) (R.low recovery.entry.now) (R.high recovery.entry.now)
+                    (R.lines recovery.entry.now) queue.entry.now) }
+            {
+                let place = first.saturating_add(size.saturating_mul(number as usize));
+                open_piece(alloc, recovery, queue, place, size)
+            },
+        )
+        .collect(rt, alloc)
+}
