@@ -21,7 +21,7 @@ use Rattle.bus.specs.Seats.{SeatView}
 use Rattle.bus.specs.Serving.{EvictsLine, IsServed}
 
 -- one more step alone
-goes_more : (text : Memory) (n : ℕ) (s middle t : HartState) → GoesAlone text n s middle → StepsAlone text middle t → GoesAlone text (n + 1) s t
+pub goes_more : (text : Memory) (n : ℕ) (s middle t : HartState) → GoesAlone text n s middle → StepsAlone text middle t → GoesAlone text (n + 1) s t
 goes_more text n s middle t goes step =
     let count : suc n ≡ n + 1 = omega arith in
     subst (λ (k : ℕ). GoesAlone text k s t) count (middle, goes, step)
@@ -46,11 +46,11 @@ local_agrees core old new outcome step a = elim step [
 ]
 
 -- of another hart, or an eviction: nothing of a seat's part changes
-passes : (initial : Memory) (h g : ℕ) (request : Request) (reply : Reply) (history : List Entry) (xs : List Exchange) (t : HartState)
+pub passes : (initial : Memory) (h g : ℕ) (request : Request) (reply : Reply) (history : List Entry) (xs : List Exchange) (t : HartState)
     → eqb g h ≡ false → IsPart initial h history xs t → IsPart initial h (Asked g request reply ∷ history) xs t
 passes initial h g request reply history xs t other part = rw other part
 
-copy_passes : (initial : Memory) (h g : ℕ) (request : Request) (reply : Reply) (history : List Entry)
+pub copy_passes : (initial : Memory) (h g : ℕ) (request : Request) (reply : Reply) (history : List Entry)
     → eqb g h ≡ false → copied initial h (Asked g request reply ∷ history) ≡ copied initial h history
 copy_passes initial h g request reply history other = elim (cases_Bool (is_renewing request)) [
   | inl renews ↦ rw (renews, other) refl
@@ -84,7 +84,7 @@ own_copy initial h request reply history old new text was renewed kept now = eli
   | inr not ↦ rw (not, kept not) was
 ]
 
-own_part : (initial : Memory) (h : ℕ) (history : List Entry) (x : Exchange) (xs : List Exchange) (s t : HartState)
+pub own_part : (initial : Memory) (h : ℕ) (history : List Entry) (x : Exchange) (xs : List Exchange) (s t : HartState)
     → IsPart initial h history xs s → Exchanges (copied initial h history) s x t
     → IsPart initial h (Asked h x.request x.reply ∷ history) (x ∷ xs) t
 own_part initial h history x xs s t part exchanges = rw (eq-eqb h h refl) (refl, refl, (s, part, exchanges))

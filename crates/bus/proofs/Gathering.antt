@@ -72,7 +72,7 @@ exchange_runs c h s t x there told e =
     rw (e.answered, told) (rw (set_set c.harts h e.at) at joined)
 
 -- what the replies of a replay are
-told_here : (program : Sections) (lines : List (List ℕ)) (before : List Entry) (h : ℕ) (request : Request) (reply : Reply)
+pub told_here : (program : Sections) (lines : List (List ℕ)) (before : List Entry) (h : ℕ) (request : Request) (reply : Reply)
     → (replay program lines (Asked h request reply ∷ before)).history ≡ Asked h request reply ∷ before
     → (reply ≡ reply_after (replay program lines before) h request) × ((replay program lines before).history ≡ before)
 unfolding replay
@@ -80,7 +80,7 @@ told_here program lines before h request reply told =
     let c : Common = replay program lines before in
     let all : Asked h request (reply_after c h request) ∷ c.history ≡ Asked h request reply ∷ before = told in (cc, cc)
 
-evicted_here : (program : Sections) (lines : List (List ℕ)) (before : List Entry) (line : ℕ)
+pub evicted_here : (program : Sections) (lines : List (List ℕ)) (before : List Entry) (line : ℕ)
     → (replay program lines (Evicted line ∷ before)).history ≡ Evicted line ∷ before
     → (replay program lines before).history ≡ before
 unfolding replay

@@ -30,6 +30,11 @@ module _ {A : Type 0} where
   get_of (x ∷ xs) zero d less = refl
   get_of (x ∷ xs) (suc i) d less = get_of xs i d (omega arith)
 
+  pub there_is : (l : List A) (i : ℕ) → i < length l → (a : A) × (slice_get l i ≡ Some a)
+  there_is [] i less = absurd (omega (arith, less))
+  there_is (x ∷ xs) zero less = (x, refl)
+  there_is (x ∷ xs) (suc i) less = there_is xs i (omega (arith, less))
+
   pub read_set : (l : List A) (i : ℕ) (a d : A) → i < length l → slice_index_or (slice_set l i a) i d ≡ a
   read_set [] i a d less = absurd (omega arith)
   read_set (x ∷ xs) zero a d less = refl

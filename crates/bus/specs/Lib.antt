@@ -1,8 +1,13 @@
 pub mod Agreeing
 pub mod Alone
+pub mod Crews
+pub mod Driving
+pub mod Ending
 pub mod Finished
+pub mod Following
 pub mod Gathered
 pub mod Limits
+pub mod Numbering
 pub mod Refusals
 pub mod Replays
 pub mod Seating
@@ -10,3 +15,4 @@ pub mod Seats
 pub mod Serving
 pub mod Starting
 pub mod Stepping
+pub mod Together

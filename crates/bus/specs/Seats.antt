@@ -1,5 +1,5 @@
 -- What a contract sees of a seat, and what a step of it answers.
-use Rattle.std.specs.Prelude.{ℕ, List}
+use Rattle.std.specs.Prelude.{◌≡◌, ◌+◌, ◌≤◌, ℕ, List, [], ◌∷◌}
 use Rattle.hart.specs.declared.state.HartState.{HartState}
 use Rattle.hart.specs.declared.state.Status.{Status}
 use Rattle.hart.specs.declared.state.Status.TheVariants as statuses
@@ -18,6 +18,17 @@ pub record SeatView : Type 0 where
   pub copy : List ℕ
   pub exchanges : List Exchange
   pub since : ℕ
+
+-- how many steps a hart makes in its exchanges: of each the register steps that led to it, and the one that it replies to
+abbrev pub steps_in : List Exchange → ℕ
+steps_in [] = 0
+steps_in (x ∷ xs) = (x.steps + 1) + steps_in xs
+
+-- how many steps a seat has made: by its budget, of 500,000,000 at most, and those of its exchanges with the ones since
+pub record AreCounted (made budget since : ℕ) (exchanges : List Exchange) : Type 0 where
+  pub within : made ≤ budget
+  pub limit : budget ≤ 500000000
+  pub count : made ≡ steps_in exchanges + since
 
 -- by a hart's status after a step that it made
 abbrev pub outcome_of : Status → Outcome

@@ -13,6 +13,7 @@ use shared_memory::StepFault;
 use std::alloc::Global;
 
 /// A seat for each of so many harts, by its number.
+#[tactic(auto, using(crate::proofs::Counting::counted_start))]
 pub(crate) fn starting_seats<'p>(
     alloc: Global,
     program: &'p Program,
@@ -21,6 +22,7 @@ pub(crate) fn starting_seats<'p>(
     text: &[u8],
 ) -> Result<Vec<Seat<'p>>, StepFault>
     requires few { harts ≤ 8 }
+    requires budget { budget ≤ 500000000 }
     requires whole { length text.now ≡ TEXT_SIZE }
     ensures { IfOk result (λ seats. seats.items
         ≡ map (seat_at_start program.now.text budget text.now) (range_with_len 0 harts)) }

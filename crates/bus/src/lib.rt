@@ -2,21 +2,35 @@
 //! for each hart, which goes on alone where it needs no memory.
 #![tactic(auto)]
 
+mod by_number;
+mod crew;
+mod driving;
+mod ending;
 mod exchange;
+mod finish_fault;
+mod follower;
 mod fresh_seats;
 mod hart_step;
 mod laws;
 mod limits;
 mod lock;
 mod locked;
+mod loose_seat;
+mod made_again;
 mod outcome;
 mod room;
+mod same_start;
+mod sameness;
 mod seat;
+mod together;
 
+pub use ending::gather;
 pub use exchange::Exchange;
+pub use finish_fault::FinishFault;
 pub use laws::agreeing_seats_run;
 pub use lock::Bus;
 pub use locked::{Core, serve, serve_evict};
 pub use outcome::Outcome;
 pub use seat::Seat;
 pub use shared_memory::{Entry, StepFault};
+pub use together::{RunFault, run_harts};

@@ -1,16 +1,21 @@
 //! The bus: what harts share, under one lock.
 
-ghost use Rattle.std.specs.Prelude.{◌≡◌, ◌⊎◌, IfErr, IfOk, OnErr, OnOk};
+ghost use Rattle.std.specs.Prelude.{◌≡◌, ◌⊎◌, ◌^◌, ◌<◌, IfErr, IfOk, OnErr, OnOk};
 ghost use Rattle.bus.specs.Limits.{AreWithin, RefusesStart};
 ghost use Rattle.bus.specs.Seating.{AsksNext};
 ghost use Rattle.bus.specs.Starting.{AreAtStart};
 ghost use Rattle.bus.specs.Stepping.{IsStepOf, IsStepRefusal};
+ghost use Rattle.bus.specs.Together.{IsFinished, RefusesFinish};
+ghost use Rattle.schedule.specs.Grammar.{hart_steps};
 
+use crate::ending::finish_seats;
+use crate::finish_fault::FinishFault;
 use crate::locked::{Core, serve, serve_evict};
 use crate::outcome::Outcome;
 use crate::seat::Seat;
 use line_memory::Medium;
 use program::Program;
+use recording::Recorded;
 use shared_memory::StepFault;
 use std::alloc::Global;
 use std::marker::Model;
@@ -110,6 +115,28 @@ impl<'p> Bus<'p> {
     {
         let mut core = self.core.lock(rt);
         serve_evict(&mut core, line)
+    }
+
+    /// Gathers what the seats of the bus have made to one run, as `gather` does of a core's.
+    ///
+    /// # Errors
+    /// SeatMissing where a hart has no seat; SeatNumber where two seats have one number, or a seat that of no hart; Foreign where
+    /// a seat doesn't agree with what the lock guards, or that began otherwise than the bus; Memory where a growth is refused.
+    pub fn finish(self, alloc: Global, seats: Vec<Seat<'p>>) -> Result<Recorded, FinishFault>
+        ensures ok { IfOk result (IsFinished self.entry seats.entry.items) }
+        ensures few { IfOk result (λ recorded. hart_steps recorded.items < 2 ^ 32) }
+        ensures err { IfErr result (RefusesFinish self.entry.harts seats.entry.items) }
+    {
+        let mut seats = seats;
+        let Bus {
+            program,
+            start,
+            harts,
+            capacity,
+            core,
+        } = self;
+        let core = core.into_inner();
+        finish_seats(alloc, &core, &mut seats, program, &start, harts, capacity)
     }
 
     /// The medium at the start, and the core, out of the lock.

@@ -2,6 +2,7 @@
 
 ghost use Rattle.std.specs.Prelude.{◌≡◌, ◌≢◌, ◌<◌, ◌≤◌, [], IfErr, IfOk, OnErr, OnOk, length, reverse};
 ghost use Rattle.hart.specs.Requests.{IsRequest};
+ghost use Rattle.line_memory.specs.declared.TheConstants.{TEXT_SIZE};
 ghost use Rattle.machine.specs.Stands.{text_bytes};
 ghost use Rattle.shared_memory.specs.Histories.{replayed, text_of};
 ghost use Rattle.shared_memory.specs.Served.{starting_memory};
@@ -178,9 +179,17 @@ impl<'p> Core<'p> {
         self.shared.events()
     }
 
+    /// The bytes of the text region, as memory has them.
+    pub(crate) fn text(&self) -> &[u8]
+        ensures value { result.now ≡ self.now.shared.ram.text }
+        ensures whole { length result.now ≡ TEXT_SIZE }
+    {
+        self.shared.text()
+    }
+
     /// Answers a request of a hart, and adds both to the history.
     #[tactic(auto, using(crate::proofs::Replaying::asked_kept, crate::proofs::Replaying::asked_below, crate::proofs::Refusing::refuses_telling, crate::proofs::Refusing::telling_for_memory))]
-    fn ask(&mut self, hart: u32, request: Request) -> Result<Reply, StepFault>
+    pub(crate) fn ask(&mut self, hart: u32, request: Request) -> Result<Reply, StepFault>
         requires hart { hart < self.old.harts }
         requires width { IsRequest request }
         ensures ok { IfOk result (Tells self.old self.new hart request) }
@@ -223,7 +232,7 @@ impl<'p> Core<'p> {
 /// # Errors
 /// A refusal leaves core and seat as they were. NoSuchHart where the core has no such hart; TraceFull where the request would
 /// make an event and the trace is full; Memory where a growth is refused.
-#[tactic(auto, using(crate::proofs::Agreeing::served_agrees, crate::proofs::Agreeing::served_others, crate::proofs::Refusing::refuses_seat, crate::proofs::Refusing::seat_for_memory))]
+#[tactic(auto, using(crate::proofs::Agreeing::served_agrees, crate::proofs::Agreeing::served_others, crate::proofs::Refusing::refuses_seat, crate::proofs::Refusing::seat_for_memory, crate::proofs::Counting::counted_exchange))]
 pub fn serve(core: &mut Core<'_>, seat: &mut Seat<'_>) -> Result<Outcome, StepFault>
     requires { AsksNext seat.old }
     ensures ok { IfOk result (IsServed core.old core.new seat.old seat.new) }

@@ -1,9 +1,11 @@
 //! A seat: one hart with its copy of the text, and the list of what it asked.
 
-ghost use Rattle.std.specs.Prelude.{◌≡◌, ◌≤◌, IfNone, IfSome, reverse};
+ghost use Rattle.std.specs.Prelude.{◌≡◌, ◌≤◌, IfNone, IfSome, length, reverse};
+ghost use Rattle.line_memory.specs.declared.TheConstants.{TEXT_SIZE};
 ghost use Rattle.bus.specs.Agreeing.{Agrees};
 ghost use Rattle.bus.specs.Replays.{CoreView};
 ghost use Rattle.bus.specs.Seating.{AsksNext, IsLocalStep};
+ghost use Rattle.bus.specs.Seats.{AreCounted};
 
 use crate::exchange::Exchange;
 use crate::hart_step::go_alone;
@@ -30,8 +32,8 @@ pub struct Seat<'p> {
 }
 
 impl<'p> Model for Seat<'p> {
-    ghost use Rattle.bus.specs.Seats.{SeatView};
-    ghost use Rattle.std.specs.Prelude.{◌≤◌, reverse};
+    ghost use Rattle.bus.specs.Seats.{AreCounted, SeatView};
+    ghost use Rattle.std.specs.Prelude.{reverse};
 
     ghost Value = { SeatView };
 
@@ -46,7 +48,7 @@ impl<'p> Model for Seat<'p> {
       since = s.since;
     } };
 
-    ghost invariant = { λ s. (s.made ≤ s.budget) × (s.since ≤ s.made) };
+    ghost invariant = { λ s. AreCounted s.made s.budget s.since (reverse s.exchanges.items) };
 }
 
 impl<'p> Seat<'p> {
@@ -72,9 +74,11 @@ impl<'p> Seat<'p> {
     }
 
     /// How many of them it has made.
+    #[tactic(auto, using(crate::proofs::Counting::made_within))]
     pub fn made(&self) -> u32
         ensures value { result ≡ self.now.made }
         ensures limit { result ≤ self.now.budget }
+        ensures count { AreCounted self.now.made self.now.budget self.now.since self.now.exchanges }
     {
         self.made
     }
@@ -88,7 +92,8 @@ impl<'p> Seat<'p> {
 
     /// The bytes of the text region as its hart fetches them.
     pub fn copy(&self) -> &[u8]
-        ensures { result.now ≡ self.now.copy }
+        ensures value { result.now ≡ self.now.copy }
+        ensures whole { length self.now.copy ≡ TEXT_SIZE }
     {
         self.copy.bytes()
     }
@@ -101,6 +106,7 @@ impl<'p> Seat<'p> {
     }
 
     /// How many register steps it has made since the last of its exchanges.
+    #[tactic(auto, using(crate::proofs::Counting::since_within))]
     pub fn since(&self) -> u32
         ensures value { result ≡ self.now.since }
         ensures limit { result ≤ self.now.made }
@@ -110,7 +116,7 @@ impl<'p> Seat<'p> {
 
     /// Makes the next step where it needs no request, without lock or memory. None says that the next step is a request, and
     /// then nothing has changed.
-    #[tactic(auto, using(crate::proofs::Agreeing::local_agrees))]
+    #[tactic(auto, using(crate::proofs::Agreeing::local_agrees, crate::proofs::Counting::since_fits, crate::proofs::Counting::counted_step))]
     pub fn step_local(&mut self) -> Option<Outcome>
         ensures none { IfNone result ((self.new ≡ self.old) × AsksNext self.old) }
         ensures some { IfSome result (IsLocalStep self.old self.new) }

@@ -1,4 +1,4 @@
-//! Tests of `bus`: harts that take turns on one thread, by their seats. They stand apart, so that it isn't proved a second time
+//! Tests of `bus`: harts that take turns on one thread, by their seats, and harts that run in threads. They stand apart, so that it isn't proved a second time
 //! for them. The crate has tests alone.
 //!
 //! What is tested stands in tables. A test asks for the first place of a table whose calls come to something else than is said
@@ -8,6 +8,10 @@
 #[cfg(test)]
 mod cores;
 #[cfg(test)]
+mod endings;
+#[cfg(test)]
 mod programs;
+#[cfg(test)]
+mod together;
 #[cfg(test)]
 mod turns;

@@ -14,6 +14,12 @@ pub(crate) const FIRST_RUN: [u32; 8] = [
 /// `addi x6, x0, 1`; `amoadd.d x5, x6, (x11)`.
 pub(crate) const COUNT_ONCE: [u32; 2] = [0x00100313, 0x0065b2af];
 
+/// `addi x5, x0, 1000`; `addi x6, x0, 1`; `amoadd.d x0, x6, (x11)`; `addi x5, x5, -1`; `bne x5, x0, -8`;
+/// `addi x17, x0, 93`; `addi x10, x0, 0`; `ecall`.
+pub(crate) const COUNT_1000: [u32; 8] = [
+    0x3e800293, 0x00100313, 0x0065b02f, 0xfff28293, 0xfe029ce3, 0x05d00893, 0x00000513, 0x00000073,
+];
+
 /// `auipc x5, 0`; `addi x5, x5, 28`; `auipc x6, 0`; `addi x6, x6, 32`; `lw x7, 0(x6)`; `sw x7, 0(x5)`; `fence.i`;
 /// `addi x10, x0, 1`; `addi x17, x0, 93`; `ecall`; and the word of `addi x10, x0, 2`, which is stored over the one behind
 /// the FENCE.I.

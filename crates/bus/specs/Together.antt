@@ -1,0 +1,64 @@
+-- What harts that run together have done.
+use Rattle.std.specs.Prelude.{◌≡◌, ◌⊎◌, ℕ, List, [], ◌∷◌, Some, eqb, if◌then◌else◌, suc, IsPermutation, length, map, slice_get}
+use Rattle.hart.specs.declared.state.HartState.{HartState}
+use Rattle.hart.specs.declared.state.Status.TheVariants.{Running}
+use Rattle.machine.specs.Run.{started}
+use Rattle.recording.specs.Recorded.{RecordedView, Records}
+use Rattle.schedule.specs.Steps.{all_steps}
+use Rattle.schedule.specs.declared.items.Step.{Step}
+use Rattle.schedule.specs.declared.items.Step.TheVariants.{Hart, Evict}
+use Rattle.bus.specs.declared.finish_fault.FinishFault.{FinishFault}
+use Rattle.bus.specs.declared.finish_fault.FinishFault.TheVariants.{SeatMissing, SeatNumber, Foreign, Memory}
+use Rattle.bus.specs.declared.together.RunFault.{RunFault}
+use Rattle.bus.specs.declared.together.RunFault.TheVariants as run_faults
+use Rattle.bus.specs.Ending.{HasTooLarge, HasTwice, LacksSeat}
+use Rattle.bus.specs.Seats.{SeatView}
+use Rattle.bus.specs.Stepping.{BusView, IsStepRefusal}
+
+-- how many of the steps are hart h's
+unfoldable pub count_of : ℕ → List Step → ℕ
+count_of h [] = 0
+count_of h (Hart g ∷ steps) = if eqb g h then suc (count_of h steps) else count_of h steps
+count_of h (Evict line ∷ steps) = count_of h steps
+
+-- what is recorded is one run from the start of the bus. It ends in the states of the seats, each of which is a hart's by its
+-- number, and as many of its steps are that hart's as the seat has made
+pub record IsFinished (bus : BusView) (seats : List SeatView) (recorded : RecordedView) : Type 0 where
+  pub by_number : List SeatView
+  pub same : IsPermutation seats by_number
+  pub count : length by_number ≡ bus.harts
+  pub numbered : (h : ℕ) (seat : SeatView) → slice_get by_number h ≡ Some seat → seat.hart ≡ h
+  pub start : recorded.start ≡ bus.start
+  pub capacity : recorded.capacity ≡ bus.capacity
+  pub harts : recorded.harts ≡ map (λ (seat : SeatView). seat.state) by_number
+  pub made : (h : ℕ) (seat : SeatView) → slice_get by_number h ≡ Some seat → count_of h (all_steps recorded.items) ≡ seat.made
+  pub records : Records (started bus.program bus.start bus.harts) recorded
+
+-- of the steps as many are hart h's as the seat of its number may make
+pub record IsAtBudget (seats : List SeatView) (steps : List Step) (h : ℕ) : Type 0 where
+  pub at : ℕ
+  pub seat : SeatView
+  pub there : slice_get seats at ≡ Some seat
+  pub number : seat.hart ≡ h
+  pub spent : count_of h steps ≡ seat.budget
+
+-- what is recorded is one run from the start of the bus, at whose end each hart has stopped or has made as many steps as its
+-- seat may
+pub record HaveRun (bus : BusView) (seats : List SeatView) (recorded : RecordedView) : Type 0 where
+  pub start : recorded.start ≡ bus.start
+  pub capacity : recorded.capacity ≡ bus.capacity
+  pub records : Records (started bus.program bus.start bus.harts) recorded
+  pub ended : (h : ℕ) (s : HartState) → slice_get recorded.harts h ≡ Some s → s.status ≡ Running
+      → IsAtBudget seats (all_steps recorded.items) h
+
+-- why seats of a bus aren't gathered, as far as it can be said of what lies behind the lock
+abbrev pub RefusesFinish : ℕ → List SeatView → FinishFault → Type 0
+RefusesFinish harts seats SeatMissing = LacksSeat harts seats
+RefusesFinish harts seats SeatNumber = HasTwice seats ⊎ HasTooLarge harts seats
+RefusesFinish harts seats Foreign = Unit {0}
+RefusesFinish harts seats Memory = Unit {0}
+
+-- why harts haven't run together to their end: a step was refused, or their seats aren't gathered
+abbrev pub RefusesRun : ℕ → List SeatView → RunFault → Type 0
+RefusesRun harts seats (run_faults.Step fault) = IsStepRefusal fault
+RefusesRun harts seats (run_faults.Finish fault) = RefusesFinish harts seats fault

@@ -1,0 +1,200 @@
+//! What one thread does with its seat.
+
+ghost use Rattle.std.specs.Prelude.{◌≡◌, false};
+ghost use Rattle.bus.specs.Driving.{HasEnded, IsDriven, IsRound, badge, is_last, round_after};
+ghost use Rattle.bus.specs.Stepping.{IsStepRefusal};
+
+use crate::lock::Bus;
+use crate::loose_seat::LooseSeat;
+use crate::outcome::Outcome;
+use crate::seat::Seat;
+use gate::Gate;
+use shared_memory::StepFault;
+use std::snapshot::Snapshot;
+use std::sync::Wait;
+use std::thread::Promise;
+use stop_word::{StopSeat, StopWord};
+
+/// What a round of a thread comes to.
+#[derive(Clone, Copy, Drop)]
+pub(crate) enum Round {
+    GoesOn,
+    /// The hart has stopped, its budget is used up, or another thread has raised the stop word.
+    Ends,
+    Refused(StepFault),
+}
+
+/// What a thread hands back.
+#[derive(Drop)]
+pub(crate) struct Driven {
+    pub(crate) seat: LooseSeat,
+    pub(crate) stop: StopSeat,
+    /// The refusal that ended it.
+    pub(crate) refused: Option<StepFault>,
+}
+
+/// What a thread begins with: the number of its hart, how many steps it may make, and its place at the stop word. It promises
+/// a result that belongs to these.
+#[derive(Drop)]
+pub(crate) struct Began {
+    pub(crate) hart: u32,
+    pub(crate) budget: u32,
+    pub(crate) place: Snapshot<StopSeat>,
+}
+
+impl Promise<Driven> for Began {
+    ghost use Rattle.bus.specs.Driving.{IsDriven};
+
+    ghost kept_by = { λ began driven. IsDriven (began.hart, began.budget) began.place.value driven.seat driven.stop driven.refused };
+}
+
+/// What is called round each step: a gate, without what is said of its threads.
+pub(crate) trait Turns: Drop {
+    fn enter(&self, worker: u32);
+
+    fn leave(&self, worker: u32);
+}
+
+/// The turns of a gate.
+#[derive(Drop)]
+pub(crate) struct Through<'a, G: Gate>(pub(crate) &'a G);
+
+impl<'a, G: Gate> Turns for Through<'a, G> {
+    fn enter(&self, worker: u32) {
+        self.0.enter(worker);
+    }
+
+    fn leave(&self, worker: u32) {
+        self.0.leave(worker);
+    }
+}
+
+/// Whether a seat makes no further step after this outcome.
+fn is_last(outcome: Outcome) -> bool
+    ensures { result ≡ is_last outcome }
+{
+    match outcome {
+        Outcome::Done => false,
+        Outcome::Exited(_) | Outcome::Trapped(_) | Outcome::Stopped | Outcome::Spent => true,
+    }
+}
+
+/// Makes the next step of a seat, unless the stop word is raised; a step that is refused raises it. To look at the word is to
+/// load it, so that it's looked at before each step.
+#[tactic(auto, using(crate::proofs::Rounds::round_seen, crate::proofs::Rounds::step_badge))]
+fn make_round<'p, T: Turns, R: Wait>(
+    rt: &R,
+    bus: &Bus<'p>,
+    gate: &T,
+    word: &StopWord,
+    seat: &mut Seat<'p>,
+    stop: &mut StopSeat,
+) -> Round
+    requires { stop.old.table ≡ word.now.table }
+    ensures same { badge seat.new ≡ badge seat.old }
+    ensures word { stop.new.table ≡ stop.old.table }
+    ensures round { IsRound seat.new stop.old stop.new result }
+{
+    if word.look(stop) {
+        return Round::Ends;
+    }
+    let worker = seat.hart();
+    gate.enter(worker);
+    let made = seat.step(rt, bus);
+    gate.leave(worker);
+    match made {
+        Ok(outcome) => round_after(outcome),
+        Err(fault) => {
+            word.raise(stop);
+            Round::Refused(fault)
+        }
+    }
+}
+
+/// What a round comes to whose step wasn't refused.
+fn round_after(outcome: Outcome) -> Round
+    ensures { result ≡ round_after outcome }
+{
+    if is_last(outcome) {
+        Round::Ends
+    } else {
+        Round::GoesOn
+    }
+}
+
+/// Makes the steps of a seat until it has stopped, has used up its budget, is refused a step, or sees the stop word raised.
+#[tactic(auto, using(crate::proofs::Rounds::driven_to_end, crate::proofs::Rounds::driven_to_refusal))]
+pub(crate) fn drive<'p, T: Turns, R: Wait>(
+    rt: &R,
+    bus: &Bus<'p>,
+    gate: &T,
+    word: &StopWord,
+    seat: Seat<'p>,
+    stop: StopSeat,
+) -> Driven
+    requires word { stop.table ≡ word.now.table }
+    requires quiet { stop.raised ≡ false }
+    ensures { IsDriven (badge seat.entry) stop result.seat result.stop result.refused }
+{
+    let mut seat = seat;
+    let mut stop = stop;
+    for _ in rt.forever() {
+        let refused = match make_round(rt, bus, gate, word, &mut seat, &mut stop) {
+            Round::GoesOn => continue,
+            Round::Ends => None,
+            Round::Refused(fault) => Some(fault),
+        };
+        return Driven {
+            seat: LooseSeat::of(seat),
+            stop,
+            refused,
+        };
+    }
+    unreachable!()
+}
+
+/// What a thread is given to do. It stands behind a type parameter, since a closure that holds a lifetime promises nothing.
+pub(crate) trait Job {
+    ghost use Rattle.bus.specs.Crews.{BeganView, badge_of};
+    ghost use Rattle.bus.specs.Driving.{IsDriven};
+
+    ghost begins: { Self → BeganView };
+
+    ghost is_ready: { Self → Type 0 };
+
+    fn run(self) -> Driven
+        requires { is_ready self }
+        ensures { IsDriven (badge_of (begins self)) (begins self).place result.seat result.stop result.refused };
+}
+
+/// To drive a seat.
+#[derive(Drop)]
+pub(crate) struct SeatJob<'a, 'p, T: Turns, R: Wait> {
+    pub(crate) rt: &'a R,
+    pub(crate) bus: &'a Bus<'p>,
+    pub(crate) gate: T,
+    pub(crate) word: &'a StopWord,
+    pub(crate) seat: Seat<'p>,
+    pub(crate) stop: StopSeat,
+}
+
+impl<'a, 'p, T: Turns, R: Wait> Job for SeatJob<'a, 'p, T, R> {
+    ghost use Rattle.std.specs.Prelude.{◌≡◌};
+    ghost use Rattle.stop_word.specs.Stops.{fresh};
+
+    ghost begins = { λ d. record { hart = d.seat.hart; budget = d.seat.budget; place = d.stop } };
+
+    ghost is_ready = { λ d. d.stop ≡ fresh d.word.now.table };
+
+    fn run(self) -> Driven {
+        let SeatJob {
+            rt,
+            bus,
+            gate,
+            word,
+            seat,
+            stop,
+        } = self;
+        drive(rt, bus, &gate, word, seat, stop)
+    }
+}

@@ -1,0 +1,239 @@
+//! Harts in threads.
+
+ghost use Rattle.std.specs.Prelude.{◌<◌};
+
+use crate::programs::{COUNT_1000, FIRST_RUN, start_of};
+use bus::{Bus, RunFault, Seat, StepFault, run_harts};
+use gate::{Gate, Open};
+use hart::{HartState, Status};
+use isa_table::Reg;
+use machine::Machine;
+use recording::Recorded;
+use schedule::{Item, Schedule};
+use std::alloc::Global;
+use std::sync::Wait;
+use std::sync::atomic::{AtomicBool, AtomicU32, Ordering};
+use std::thread;
+use std::thread::Threads;
+
+/// How often a hart looks whether the other has entered.
+const TURNS: u32 = 1_000_000_000;
+
+/// Holds harts 0 and 1, each in its first `enter`, until the other has entered, or for so many turns.
+#[derive(Drop)]
+struct Meeting {
+    entered: [AtomicBool; 2],
+    /// How often each of them has left.
+    left: [AtomicU32; 2],
+    missed: AtomicBool,
+}
+
+impl Meeting {
+    fn new() -> Meeting {
+        Meeting {
+            entered: [AtomicBool::new(false), AtomicBool::new(false)],
+            left: [AtomicU32::new(0), AtomicU32::new(0)],
+            missed: AtomicBool::new(false),
+        }
+    }
+
+    /// Whether the other hart enters within the turns.
+    fn meets(&self, other: usize) -> bool
+        requires { other < 2 }
+    {
+        for _ in 0..TURNS {
+            if self.entered[other].load(Ordering::SeqCst) {
+                return true;
+            }
+        }
+        false
+    }
+
+    fn is_met(&self) -> bool {
+        !self.missed.load(Ordering::SeqCst)
+            && self.entered[0].load(Ordering::SeqCst)
+            && self.entered[1].load(Ordering::SeqCst)
+    }
+
+    /// Whether each hart has left so often.
+    fn has_left(&self, times: u32) -> bool {
+        self.left[0].load(Ordering::SeqCst) == times && self.left[1].load(Ordering::SeqCst) == times
+    }
+}
+
+impl Gate for Meeting {
+    fn enter(&self, worker: u32) {
+        if worker > 1 {
+            return;
+        }
+        let first = !self.entered[worker as usize].swap(true, Ordering::SeqCst);
+        if first && !self.meets(1 - worker as usize) {
+            self.missed.store(true, Ordering::SeqCst);
+        }
+    }
+
+    fn leave(&self, worker: u32) {
+        if worker <= 1 {
+            self.left[worker as usize].fetch_add(1, Ordering::SeqCst);
+        }
+    }
+}
+
+/// Whether a hart has counted 1000 times and exited.
+fn has_counted(hart: &HartState, stack: u64) -> bool {
+    hart.status == Status::Exited(0)
+        && hart.pc == 0x10020
+        && hart.registers.get(Reg { number: 2 }) == stack
+        && hart.registers.get(Reg { number: 5 }) == 0
+        && hart.registers.get(Reg { number: 6 }) == 1
+        && hart.registers.get(Reg { number: 11 }) == 0x4000_0000
+        && hart.registers.get(Reg { number: 17 }) == 93
+}
+
+fn have_counted(harts: &[HartState]) -> bool {
+    match harts {
+        [first, second] => has_counted(first, 0x20_0000) && has_counted(second, 0x1f_f000),
+        _ => false,
+    }
+}
+
+/// How many steps a schedule has of a hart.
+fn steps_of(schedule: &Schedule, number: u32) -> u64 {
+    let mut total: u64 = 0;
+    for item in schedule.items() {
+        if let Item::Steps { hart, count } = *item {
+            if hart == number {
+                total = total.saturating_add(u64::from(count));
+            }
+        }
+    }
+    total
+}
+
+fn evictions_of(schedule: &Schedule) -> usize {
+    schedule
+        .items()
+        .iter()
+        .filter(|item| matches!(item, Item::Evict { .. }))
+        .count()
+}
+
+/// Whether the machine comes to the same by the schedule of a run.
+fn is_replayed(alloc: Global, recorded: &Recorded) -> bool {
+    let Some((program, medium)) = start_of(alloc, &COUNT_1000) else {
+        return false;
+    };
+    match Machine::new(alloc, program, medium, 2, 512) {
+        Ok(mut machine) => {
+            machine.run(recorded.schedule()).is_ok()
+                && has_counted(machine.hart(0), 0x20_0000)
+                && has_counted(machine.hart(1), 0x1f_f000)
+                && machine.events().len() == 2000
+        }
+        Err(_) => false,
+    }
+}
+
+/// Whether two harts count to 2000 beside each other.
+fn count_together<G: Gate, R: Threads + Wait + Sync>(
+    rt: &R,
+    alloc: Global,
+    gate: &G,
+) -> Option<bool> {
+    let (program, medium) = start_of(alloc, &COUNT_1000)?;
+    let (bus, seats) = Bus::new(alloc, &program, medium, 2, 512, 500_000_000).ok()?;
+    if seats.len() != 2 {
+        return None;
+    }
+    let recorded = run_harts(rt, alloc, bus, seats, gate).ok()?;
+    Some(
+        have_counted(recorded.harts())
+            && steps_of(recorded.schedule(), 0) == 3005
+            && steps_of(recorded.schedule(), 1) == 3005
+            && evictions_of(recorded.schedule()) == 0
+            && recorded.trace().events().len() == 2000
+            && is_replayed(alloc, &recorded),
+    )
+}
+
+#[test]
+fn two_harts_count(rt: HostRuntime) {
+    assert!(rt; count_together(&rt, rt.alloc(), &Open) == Some(true));
+}
+
+#[test]
+fn harts_run_together(rt: HostRuntime) {
+    let meeting = Meeting::new();
+    let counted = count_together(&rt, rt.alloc(), &meeting);
+    assert!(rt; meeting.is_met() && meeting.has_left(3005));
+    assert!(rt; counted == Some(true));
+}
+
+/// The fault of running both harts of a bus of one hart, of which the second is none.
+fn fault_of_a_stranger<R: Threads + Wait + Sync>(rt: &R, alloc: Global) -> Option<RunFault> {
+    let (program, medium) = start_of(alloc, &FIRST_RUN)?;
+    let (_, second) = start_of(alloc, &FIRST_RUN)?;
+    let (bus, _) = Bus::new(alloc, &program, medium, 1, 512, 8).ok()?;
+    let (_, seats) = Bus::new(alloc, &program, second, 2, 512, 8).ok()?;
+    if seats.len() != 2 {
+        return None;
+    }
+    run_harts(rt, alloc, bus, seats, &Open).err()
+}
+
+#[test]
+fn a_refusal_is_answered(rt: HostRuntime) {
+    let fault = fault_of_a_stranger(&rt, rt.alloc());
+    assert!(rt; fault == Some(RunFault::Step(StepFault::NoSuchHart)));
+}
+
+/// Makes all steps of a seat, and gives it back.
+fn finish_steps<'p, R: Wait>(rt: &R, bus: &Bus<'p>, seat: Seat<'p>) -> Seat<'p> {
+    let mut seat = seat;
+    for _ in 0..3005 {
+        let _ = seat.step(rt, bus);
+    }
+    seat
+}
+
+/// Evicts line 0 a hundred times. False where an eviction is refused.
+fn evict_often<R: Wait>(rt: &R, bus: &Bus<'_>) -> bool {
+    for _ in 0..100 {
+        if bus.evict(rt, 0).is_err() {
+            return false;
+        }
+    }
+    true
+}
+
+/// Whether two threads that drive the seats beside one that evicts come to a run with all evictions.
+fn count_beside_evictions<R: Threads + Sync + Wait>(rt: &R, alloc: Global) -> Option<bool> {
+    let (program, medium) = start_of(alloc, &COUNT_1000)?;
+    let (bus, mut seats) = Bus::new(alloc, &program, medium, 2, 512, 500_000_000).ok()?;
+    let second = seats.pop()?;
+    let first = seats.pop()?;
+    let shared = &bus;
+    let ((first, second), is_evicted) = thread::join(
+        rt,
+        || thread::join(
+            rt,
+            || finish_steps(rt, shared, first),
+            || finish_steps(rt, shared, second),
+        ),
+        || evict_often(rt, shared),
+    );
+    seats.push(first).ok()?;
+    seats.push(second).ok()?;
+    let recorded = bus.finish(alloc, seats).ok()?;
+    Some(
+        is_evicted
+            && have_counted(recorded.harts())
+            && evictions_of(recorded.schedule()) == 100
+            && is_replayed(alloc, &recorded),
+    )
+}
+
+#[test]
+fn evict_beside_threads(rt: HostRuntime) {
+    assert!(rt; count_beside_evictions(&rt, rt.alloc()) == Some(true));
+}
