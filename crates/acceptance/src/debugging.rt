@@ -7,6 +7,7 @@ use command_line::execute;
 use std::alloc::AllocError;
 use std::io;
 use std::io::Read;
+use std::sync::Wait;
 use std::test::Fail;
 use std::thread::Threads;
 
@@ -234,7 +235,7 @@ struct Ended {
 
 /// The end of a session whose standard input gives a line at each read; None where its standard output doesn't hold the front of what
 /// is expected.
-fn end_of<R: Threads + Sync + AllocGlobal>(
+fn end_of<R: Threads + Wait + Sync + AllocGlobal>(
     rt: &R,
     going: Going,
 ) -> Result<Option<Ended>, AllocError> {

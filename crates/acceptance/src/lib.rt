@@ -15,6 +15,8 @@ mod folder;
 #[cfg(test)]
 mod imaging;
 #[cfg(test)]
+mod racing;
+#[cfg(test)]
 mod refusing;
 #[cfg(test)]
 mod routines;

@@ -69,13 +69,14 @@ h1 exit 0 pc=0x10030 x2=0x1ff000 x11=0x40000000 x17=0x5d
 events 2
 ";
 
-/// A recorded run, replayed. On one hart its schedule is one item, so that its steps can be given by hand as well.
+/// A recorded run, replayed: on two harts in the order that they came to memory in. On one hart its schedule is one item, so
+/// that its steps can be given by hand as well.
 const RECORDINGS: &str = "\
-$ novacrash run counter.s --harts 2 --record rounds
+$ novacrash run counter.s --harts 2 --record counted
 h0 exit 0 pc=0x10020 x2=0x200000 x6=0x1 x11=0x40000000 x17=0x5d
 h1 exit 0 pc=0x10020 x2=0x1ff000 x6=0x1 x11=0x40000000 x17=0x5d
 events 2000
-$ novacrash replay counter.s rounds --harts 2
+$ novacrash replay counter.s counted --harts 2
 h0 exit 0 pc=0x10020 x2=0x200000 x6=0x1 x11=0x40000000 x17=0x5d
 h1 exit 0 pc=0x10020 x2=0x1ff000 x6=0x1 x11=0x40000000 x17=0x5d
 events 2000

@@ -8,11 +8,12 @@
 use crate::folder::{Folder, folder_of_examples};
 use command_line::execute;
 use std::alloc::{AllocError, Global};
+use std::sync::Wait;
 use std::thread::Threads;
 
 /// The first of these transcripts that reads otherwise once its commands are typed again, as it reads then. Each has a
 /// folder of its own, which has the files of the examples at first.
-pub(crate) fn first_difference<R: Threads + Sync + AllocGlobal>(
+pub(crate) fn first_difference<R: Threads + Wait + Sync + AllocGlobal>(
     rt: &R,
     transcripts: &[&str],
 ) -> Result<Option<String>, AllocError> {
@@ -26,7 +27,7 @@ pub(crate) fn first_difference<R: Threads + Sync + AllocGlobal>(
 }
 
 /// The folder that the commands of a transcript leave, once they are typed again.
-pub(crate) fn folder_after<R: Threads + Sync + AllocGlobal>(
+pub(crate) fn folder_after<R: Threads + Wait + Sync + AllocGlobal>(
     rt: &R,
     transcript: &str,
 ) -> Result<Folder, AllocError> {
@@ -36,7 +37,7 @@ pub(crate) fn folder_after<R: Threads + Sync + AllocGlobal>(
 }
 
 /// What a command prints on standard output.
-pub(crate) fn printed<R: Threads + Sync + AllocGlobal>(
+pub(crate) fn printed<R: Threads + Wait + Sync + AllocGlobal>(
     rt: &R,
     line: &str,
 ) -> Result<String, AllocError> {
@@ -48,7 +49,8 @@ pub(crate) fn printed<R: Threads + Sync + AllocGlobal>(
     )
 }
 
-fn typed_again<R: Threads + Sync + AllocGlobal>(
+/// What a transcript reads once its commands are typed again, in a folder that has the files of the examples at first.
+pub(crate) fn typed_again<R: Threads + Wait + Sync + AllocGlobal>(
     rt: &R,
     transcript: &str,
 ) -> Result<String, AllocError> {
@@ -56,7 +58,7 @@ fn typed_again<R: Threads + Sync + AllocGlobal>(
 }
 
 /// Types the commands of a transcript, and gives what they come to.
-fn type_all_again<R: Threads + Sync + AllocGlobal>(
+fn type_all_again<R: Threads + Wait + Sync + AllocGlobal>(
     rt: &R,
     folder: &mut Folder,
     transcript: &str,
@@ -69,7 +71,7 @@ fn type_all_again<R: Threads + Sync + AllocGlobal>(
 }
 
 /// Types a command and its input, and adds them and what they come to.
-fn type_again<R: Threads + Sync + AllocGlobal>(
+fn type_again<R: Threads + Wait + Sync + AllocGlobal>(
     rt: &R,
     folder: &mut Folder,
     turn: &str,
@@ -128,7 +130,7 @@ fn show(alloc: Global, ended: &Ended, seen: &mut String) -> Result<(), AllocErro
     Ok(())
 }
 
-fn run<R: Threads + Sync + AllocGlobal>(
+fn run<R: Threads + Wait + Sync + AllocGlobal>(
     rt: &R,
     folder: &mut Folder,
     line: &str,

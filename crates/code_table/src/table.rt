@@ -17,7 +17,7 @@ pub(crate) type Row = (&'static str, &'static str, &'static str);
 
 /// All codes, by what they speak of: sources, objects, runs, media, moments, volumes, plans, operations, sessions, traps, and
 /// the words that stand in place of a code.
-pub(crate) static MEANINGS: [Row; 60] = [
+pub(crate) static MEANINGS: [Row; 61] = [
     (
         "A1",
         "a bad token in this source line, or `.` as a label",
@@ -127,6 +127,11 @@ pub(crate) static MEANINGS: [Row; 60] = [
         "G6",
         "a cache of no lines, or of more than 16,384",
         "Give --capacity a number from 1 to 16384.",
+    ),
+    (
+        "B3",
+        "what the harts of a run have made doesn't agree",
+        "No input asks for this: report it, with the program, the command line and what was printed.",
     ),
     (
         "M3",

@@ -1,10 +1,10 @@
 -- What one more item adds to the text of a loop.
-use Rattle.std.proofs.Common.{◌≡◌, ◌∙◌, ℕ, ◌+◌, ◌<◌, ◌≤◌, List, [], ◌∷◌, ◌++◌, Some, length, get_or, take, ap, arith, rules}
+use Rattle.std.proofs.Common.{◌≡◌, ◌∙◌, ℕ, ◌+◌, ◌<◌, ◌≤◌, List, [], ◌∷◌, ◌++◌, Some, length, get_or, take, refl, ap, arith, rules}
 use Rattle.std.specs.List.{enumerate_from, flat_map, slice_get}
 use Rattle.std.proofs.lemmas.Grind.{flat_map-append}
 use Rattle.std.proofs.lemmas.List.{take_all, take_more}
 use Rattle.std.proofs.lemmas.List.FromFn.{length-enumerate_from, get_or-enumerate_from}
-use Rattle.std.proofs.lemmas.Option.{slice_get_within, get_or_from_slice_get}
+use Rattle.std.proofs.lemmas.Option.{slice_get_read, slice_get_within, get_or_from_slice_get}
 use Rattle.hart.specs.declared.state.HartState.{HartState}
 use Rattle.hart_line.specs.HartLines.{hart_line}
 use Rattle.command_line.specs.Reports.{line_end}
@@ -32,9 +32,19 @@ harts_more harts hart state e =
     ∙ ap (λ (h : ℕ × HartState). flat_map f (take hart all) ++ (f h ++ [])) last
     ∙ ap (λ (l : List ℕ). flat_map f (take hart all) ++ l) (append_none (f (hart, state)))
 
+pub harts_next : (harts : List HartState) (hart : ℕ) (state : HartState) → hart < length harts → state ≡ get_or harts hart state
+    → harts_below harts (hart + 1) ≡ harts_below harts hart ++ (hart_line hart state ++ line_end)
+harts_next harts hart state within is = harts_more harts hart state (slice_get_read harts (length harts) hart state refl within is)
+
 pub harts_all : (harts : List HartState) (hart : ℕ) → length harts ≤ hart
     → harts_below harts hart ≡ flat_map (λ (h : ℕ × HartState). hart_line h.0 h.1 ++ line_end) (enumerate_from 0 harts)
 harts_all harts hart h =
     let f : ℕ × HartState → List ℕ = λ h. hart_line h.0 h.1 ++ line_end in
     let all : List (ℕ × HartState) = enumerate_from 0 harts in
     ap (flat_map f) (take_all hart all (omega (arith, length-enumerate_from 0 harts)))
+
+-- one more hart
+pub take_with : (xs : List HartState) (i : ℕ) (x : HartState) → slice_get xs i ≡ Some x → take (i + 1) xs ≡ take i xs ++ x ∷ []
+take_with xs i x got =
+    let inside : i < length xs = slice_get_within xs i x got in
+    take_more xs i x inside ∙ ap (λ (y : HartState). take i xs ++ y ∷ []) (get_or_from_slice_get xs i x x got)

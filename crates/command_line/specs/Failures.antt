@@ -25,13 +25,15 @@ use Rattle.tester.specs.declared.images.CountFault.{CountFault}
 use Rattle.tester.specs.declared.images.CountFault.TheVariants as counts
 use Rattle.tester.specs.declared.loading.ProgramFault.{ProgramFault}
 use Rattle.tester.specs.declared.loading.ProgramFault.TheVariants as programs
+use Rattle.tester.specs.declared.runs.TogetherFault.{TogetherFault}
+use Rattle.tester.specs.declared.runs.TogetherFault.TheVariants as together
 use Rattle.command_line.specs.Codes.{assembly_code, load_code, operation_code, plan_code, volume_code}
 use Rattle.session.specs.Answers.{step_code}
 use Rattle.command_line.specs.Reports.{line_end}
 use Rattle.command_line.specs.declared.failure.Failure.{Failure}
 use Rattle.command_line.specs.declared.failure.Failure.TheVariants.{Line, Refused, Memory, File}
 use Rattle.command_line.specs.declared.failure.Refusal.{Refusal}
-use Rattle.command_line.specs.declared.failure.Refusal.TheVariants.{Assembly, Object, Plan, ScheduleText, Medium, Volume, Step, Moment, Image, Operation}
+use Rattle.command_line.specs.declared.failure.Refusal.TheVariants.{Assembly, Object, Plan, ScheduleText, Medium, Volume, Step, Foreign, Moment, Image, Operation}
 use Rattle.command_line.specs.declared.files.FileFault.{FileFault}
 use Rattle.command_line.specs.declared.files.FileFault.TheVariants as files
 
@@ -44,6 +46,7 @@ refusal_text ScheduleText = codes "refused G3"
 refusal_text Medium = codes "refused M3"
 refusal_text (Volume fault) = codes "refused " ++ volume_code fault
 refusal_text (Step fault) = codes "refused " ++ step_code fault
+refusal_text Foreign = codes "refused B3"
 refusal_text Moment = codes "refused C1"
 refusal_text Image = codes "refused C2"
 refusal_text (Operation fault) = codes "refused " ++ operation_code fault
@@ -107,6 +110,11 @@ failure_of_volume fault = Refused (Volume fault)
 abbrev pub failure_of_step : StepFault → Failure
 failure_of_step steps.Memory = Memory
 failure_of_step fault = Refused (Step fault)
+
+-- for harts that haven't run together
+abbrev pub failure_of_together : TogetherFault → Failure
+failure_of_together (together.Step fault) = failure_of_step fault
+failure_of_together together.Foreign = Refused Foreign
 
 -- for images that weren't counted
 abbrev pub failure_of_count : CountFault → Failure

@@ -1,8 +1,7 @@
--- What `run` prints of a machine.
-use Rattle.std.specs.Prelude.{ℕ, List, ◌∷◌, [], ◌++◌, codes, decimal, length}
+-- What `run` and `replay` print of harts and events.
+use Rattle.std.specs.Prelude.{ℕ, List, ◌∷◌, [], ◌++◌, codes, decimal}
 use Rattle.std.specs.List.{enumerate_from, flat_map}
 use Rattle.hart.specs.declared.state.HartState.{HartState}
-use Rattle.machine.specs.Stands.{MachineView}
 use Rattle.hart_line.specs.HartLines.{hart_line}
 
 -- the end of a line, LF
@@ -17,5 +16,5 @@ hart_lines harts = flat_map (λ (hart : ℕ × HartState). hart_line hart.0 hart
 abbrev pub events_line : ℕ → List ℕ
 events_line events = codes "events " ++ (decimal events ++ line_end)
 
-abbrev pub run_report : MachineView → List ℕ
-run_report machine = hart_lines machine.harts ++ events_line (length machine.shared.trace)
+abbrev pub run_report : List HartState → ℕ → List ℕ
+run_report harts events = hart_lines harts ++ events_line events

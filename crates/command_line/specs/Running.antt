@@ -3,11 +3,13 @@ use Rattle.std.specs.Prelude.{◌≡◌, ℕ, List, Option, Result, Ok, MatchRes
 use Rattle.arguments.specs.declared.asked.MachineOptions.{MachineOptions}
 use Rattle.arguments.specs.declared.asked.ReplayCommand.{ReplayCommand}
 use Rattle.arguments.specs.declared.asked.RunCommand.{RunCommand}
+use Rattle.hart.specs.declared.state.HartState.{HartState}
 use Rattle.machine.specs.Stands.{MachineView}
 use Rattle.object.specs.Sections.{Sections}
 use Rattle.schedule.specs.declared.items.Item.{Item}
-use Rattle.tester.specs.Runs.{FailsInRounds, FailsToRun, HasRun, HasRunInRounds, Setup, setup}
-use Rattle.command_line.specs.Failures.{failure_of_step}
+use Rattle.recording.specs.Recorded.{RecordedView}
+use Rattle.tester.specs.Runs.{FailsToRun, FailsTogether, HasRun, HasRunTogether, IsRunOf, Setup, setup}
+use Rattle.command_line.specs.Failures.{failure_of_step, failure_of_together}
 use Rattle.command_line.specs.Reading.{ReadsMedium, ReadsProgram, ReadsSchedule}
 use Rattle.command_line.specs.Reports.{run_report}
 use Rattle.command_line.specs.Steps.{First, Prints, Reads, Step, Still, Tells, Writes}
@@ -20,14 +22,15 @@ use Rattle.command_line.specs.declared.failure.Failure.{Failure}
 abbrev pub machine_of : MachineOptions → Sections → List (List ℕ) → Setup
 machine_of options program medium = setup program medium options.harts (unwrap_or options.capacity (length medium))
 
--- a run in so many rounds: the machine at its end and the schedule of its steps, or why a step is refused
-abbrev pub HasFinished : Setup → ℕ → MachineView × List Item → Type 0
-HasFinished s rounds run = HasRunInRounds s rounds run.1 run.0
+-- what harts make that run together, none of them for more steps than so many, and their schedule's run; or why they don't
+pub record HasFinished (s : Setup) (steps : ℕ) (recorded : RecordedView) : Type 0 where
+  pub together : HasRunTogether s steps recorded
+  pub run : IsRunOf s recorded
 
-pub record RunsInRounds (s : Setup) (rounds : ℕ) (outcome : Result (MachineView × List Item) Failure) : Type 0 where
-  pub runs : MatchResult outcome (HasFinished s rounds) (Tells (FailsInRounds s rounds) failure_of_step)
+pub record RunsTogether (s : Setup) (steps : ℕ) (outcome : Result RecordedView Failure) : Type 0 where
+  pub runs : MatchResult outcome (HasFinished s steps) (Tells (FailsTogether s steps) failure_of_together)
 
--- the same of a run by a schedule
+-- a machine that has run by a schedule, or why a step is refused
 pub record RunsBySchedule (s : Setup) (schedule : List Item) (outcome : Result MachineView Failure) : Type 0 where
   pub runs : MatchResult outcome (HasRun s schedule) (Tells (FailsToRun s schedule) failure_of_step)
 
@@ -36,24 +39,28 @@ pub record Gives (answer : Answer) (outcome : Result Answer Failure) : Type 0 wh
   pub gives : outcome ≡ Ok answer
 
 -- the file of what a power cut leaves is written before the lines of the harts are printed
-abbrev pub Finishes : {F : Type 0} → Writes F → Option (List ℕ) → MachineView → Step F Answer
-Finishes writes out machine =
-    First (Still (Prints (run_report machine) 0)) (λ answer.
-    First (Leaves writes out machine.shared.cache.lines) (λ _.
+abbrev pub Finishes : {F : Type 0} → Writes F → Option (List ℕ) → List HartState → ℕ → List (List ℕ) → Step F Answer
+Finishes writes out harts events left =
+    First (Still (Prints (run_report harts events) 0)) (λ answer.
+    First (Leaves writes out left) (λ _.
     Still (Gives answer)))
 
+-- the same of a machine
+abbrev pub FinishesMachine : {F : Type 0} → Writes F → Option (List ℕ) → MachineView → Step F Answer
+FinishesMachine writes out machine = Finishes writes out machine.harts (length machine.shared.trace) machine.shared.cache.lines
+
 -- the schedule's file is written before that
-abbrev pub RecordsRun : {F : Type 0} → Writes F → RunCommand → MachineView → List Item → Step F Answer
-RecordsRun writes command machine schedule =
-    First (Records writes (option_map string_bytes command.record) schedule) (λ _.
-    Finishes writes (option_map string_bytes command.out) machine)
+abbrev pub RecordsRun : {F : Type 0} → Writes F → RunCommand → RecordedView → Step F Answer
+RecordsRun writes command recorded =
+    First (Records writes (option_map string_bytes command.record) recorded.items) (λ _.
+    Finishes writes (option_map string_bytes command.out) recorded.harts (length recorded.trace) recorded.left)
 
 abbrev pub RunsFile : {F : Type 0} → Reads F → Writes F → RunCommand → Step F Answer
 RunsFile reads writes command =
     First (ReadsProgram reads (string_bytes command.program)) (λ program.
     First (ReadsMedium reads (option_map string_bytes command.machine.medium)) (λ medium.
-    First (Still (RunsInRounds (machine_of command.machine program medium) command.steps)) (λ run.
-    RecordsRun writes command run.0 run.1)))
+    First (Still (RunsTogether (machine_of command.machine program medium) command.steps)) (λ recorded.
+    RecordsRun writes command recorded)))
 
 abbrev pub ReplaysFile : {F : Type 0} → Reads F → Writes F → ReplayCommand → Step F Answer
 ReplaysFile reads writes command =
@@ -61,4 +68,4 @@ ReplaysFile reads writes command =
     First (ReadsSchedule reads (string_bytes command.schedule)) (λ schedule.
     First (ReadsMedium reads (option_map string_bytes command.machine.medium)) (λ medium.
     First (Still (RunsBySchedule (machine_of command.machine program medium) schedule)) (λ machine.
-    Finishes writes (option_map string_bytes command.out) machine))))
+    FinishesMachine writes (option_map string_bytes command.out) machine))))

@@ -10,7 +10,7 @@ use nova_log::VolumeFault;
 use plan::{PlanCode, PlanFault};
 use schedule::ScheduleFault;
 use std::alloc::AllocError;
-use tester::{CountFault, ExplainFault, ProgramFault, VerdictFault};
+use tester::{CountFault, ExplainFault, ProgramFault, TogetherFault, VerdictFault};
 
 impl From<FileFault> for Failure {
     ghost use Rattle.std.specs.Prelude.{◌≡◌};
@@ -121,6 +121,21 @@ impl From<StepFault> for Failure {
         match fault {
             StepFault::Memory => Failure::Memory,
             _ => Failure::Refused(Refusal::Step(fault)),
+        }
+    }
+}
+
+impl From<TogetherFault> for Failure {
+    ghost use Rattle.std.specs.Prelude.{◌≡◌};
+    ghost use Rattle.command_line.specs.Failures.{failure_of_together};
+
+    ghost from_gives = { λ fault failure. failure ≡ failure_of_together fault };
+
+    fn from(fault: TogetherFault) -> Failure {
+        match fault {
+            TogetherFault::Step(StepFault::Memory) => Failure::Memory,
+            TogetherFault::Step(fault) => Failure::Refused(Refusal::Step(fault)),
+            TogetherFault::Foreign => Failure::Refused(Refusal::Foreign),
         }
     }
 }

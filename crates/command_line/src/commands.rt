@@ -21,10 +21,11 @@ use crate::upgrading::upgrade_file;
 use arguments::{Command, LineFault, command};
 use machine::Machine;
 use std::alloc::Global;
+use std::sync::Wait;
 use std::thread::Threads;
 
 /// What a line comes to, its words beginning with the program's name.
-pub fn outcome<T: Threads + Sync, F: Files>(
+pub fn outcome<T: Threads + Wait + Sync, F: Files>(
     rt: &T,
     alloc: Global,
     words: &[String],
@@ -39,7 +40,7 @@ pub fn outcome<T: Threads + Sync, F: Files>(
 }
 
 /// What a command comes to.
-fn carry_out<T: Threads + Sync, F: Files>(
+fn carry_out<T: Threads + Wait + Sync, F: Files>(
     rt: &T,
     alloc: Global,
     command: Command,
@@ -52,7 +53,7 @@ fn carry_out<T: Threads + Sync, F: Files>(
         Command::Assemble(command) => printed(assemble_file(alloc, &command, files)),
         Command::MakeVolume(command) => printed(make_file(alloc, &command, files)),
         Command::Upgrade(command) => printed(upgrade_file(alloc, &command, files)),
-        Command::Run(command) => printed(run_file(alloc, &command, files)),
+        Command::Run(command) => printed(run_file(rt, alloc, &command, files)),
         Command::Replay(command) => printed(replay_file(alloc, &command, files)),
         Command::Debug(command) => debugged(open_file(alloc, &command, files)),
         Command::Images(command) => printed(count_file(alloc, &command, files)),

@@ -12,6 +12,7 @@ use crate::streams::print;
 use crate::telling::tell;
 use std::alloc::Global;
 use std::io::{Read, Write};
+use std::sync::Wait;
 use std::thread::Threads;
 
 /// Carries out what a command line asks for, over files, standard input, standard output and standard error, and gives the
@@ -21,8 +22,9 @@ use std::thread::Threads;
 ///
 /// An answer goes to standard output, and nothing of a failure does; the lines of a failure go to standard error,
 /// and where they can't be written the status still stands. Only the session of `debug` reads standard input, once its
-/// files have been read and its machine made. Only `check` starts threads, of `rt`, and what it prints doesn't depend on how many.
-pub fn execute<T: Threads + Sync, F: Files, R: Read, W: Write, E: Write>(
+/// files have been read and its machine made. `run` and `check` start threads, of `rt`; what `check` prints doesn't depend on how
+/// many, and what `run` prints is the run that its harts made.
+pub fn execute<T: Threads + Wait + Sync, F: Files, R: Read, W: Write, E: Write>(
     rt: &T,
     alloc: Global,
     words: &[String],
@@ -43,7 +45,7 @@ pub fn execute<T: Threads + Sync, F: Files, R: Read, W: Write, E: Write>(
 }
 
 /// Answers a command line on standard output, and gives the status.
-pub fn answer_line<T: Threads + Sync, F: Files, R: Read, W: Write>(
+pub fn answer_line<T: Threads + Wait + Sync, F: Files, R: Read, W: Write>(
     rt: &T,
     alloc: Global,
     words: &[String],

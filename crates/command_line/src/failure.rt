@@ -29,6 +29,8 @@ pub enum Refusal {
     Volume(VolumeFault),
     /// A step of a run.
     Step(StepFault),
+    /// What the harts of a run have made.
+    Foreign,
     /// A moment past the events of a run.
     Moment,
     /// An image that a moment doesn't have.
@@ -61,6 +63,7 @@ impl fmt::Display for Refusal {
             Refusal::Medium => write!(f, "refused M3"),
             Refusal::Volume(fault) => write!(f, "refused {}", volume_code(fault)),
             Refusal::Step(fault) => write!(f, "refused {}", step_code(fault)),
+            Refusal::Foreign => write!(f, "refused B3"),
             Refusal::Moment => write!(f, "refused C1"),
             Refusal::Image => write!(f, "refused C2"),
             Refusal::Operation(fault) => write!(f, "refused {}", operation_code(fault)),

@@ -1,9 +1,9 @@
-//! The commands that run a program: in rounds, and by a schedule.
+//! The commands that run a program: on harts that run together, and by a schedule.
 
-ghost use Rattle.std.specs.Prelude.{◌≡◌, ◌<◌, ◌≤◌, ◌^◌, IfOk, length, option_map, string_bytes, unwrap_or};
+ghost use Rattle.std.specs.Prelude.{◌≡◌, ◌<◌, ◌≤◌, ◌^◌, ◌∷◌, ◌++◌, [], IfOk, length, option_map, string_bytes, unwrap_or};
 ghost use Rattle.schedule.specs.Grammar.{hart_steps};
 ghost use Rattle.command_line.specs.Reports.{run_report};
-ghost use Rattle.command_line.specs.Running.{Finishes, RecordsRun, ReplaysFile, RunsBySchedule, RunsFile, RunsInRounds, machine_of};
+ghost use Rattle.command_line.specs.Running.{FinishesMachine, Finishes, RecordsRun, ReplaysFile, RunsBySchedule, RunsFile, RunsTogether, machine_of};
 ghost use Rattle.command_line.specs.Steps.{Prints};
 
 use crate::answer::Answer;
@@ -13,27 +13,31 @@ use crate::reading::{read_medium, read_program, read_schedule};
 use crate::reporting::report;
 use crate::writing::{leave, record};
 use arguments::{MachineOptions, ReplayCommand, RunCommand};
+use hart::HartState;
 use line_memory::Medium;
 use machine::Machine;
 use program::Program;
+use recording::Recorded;
 use schedule::Schedule;
-use std::alloc::Global;
+use std::alloc::{AllocError, Global};
+use std::sync::Wait;
+use std::thread::Threads;
 use tester::{replay, run_program};
 
-/// `run`: reads the files of a program and of a medium, runs the program in rounds, and writes the files of the schedule and
-/// of what a power cut leaves.
-pub(crate) fn run_file<F: Files>(
+/// `run`: reads the files of a program and of a medium, runs the program on harts that run together, and writes the files of
+/// the schedule that they made and of what a power cut leaves.
+pub(crate) fn run_file<T: Threads + Wait + Sync, F: Files>(
+    rt: &T,
     alloc: Global,
     command: &RunCommand,
     files: &mut F,
 ) -> Result<Answer, Failure>
-    requires { command.now.steps ≤ 500000000 }
     ensures { RunsFile F.read_gives F.write_gives command.now files.old result files.new }
 {
     let program = read_program(alloc, command.program.as_str(), files)?;
     let medium = read_medium(alloc, &command.machine.medium, files)?;
-    let (machine, schedule) = run(alloc, &command.machine, program, medium, command.steps)?;
-    record_run(alloc, command, machine, &schedule, files)
+    let recorded = run(rt, alloc, &command.machine, program, medium, command.steps)?;
+    record_run(alloc, command, &recorded, files)
 }
 
 /// `replay`: the same by the schedule in a file.
@@ -48,23 +52,24 @@ pub(crate) fn replay_file<F: Files>(
     let schedule = read_schedule(alloc, command.schedule.as_str(), files)?;
     let medium = read_medium(alloc, &command.machine.medium, files)?;
     let replayed = run_by(alloc, &command.machine, program, medium, &schedule)?;
-    finish(alloc, replayed, &command.out, files)
+    finish_machine(alloc, replayed, &command.out, files)
 }
 
-/// The machine that has run in rounds, and the schedule of its steps.
-fn run(
+/// What harts make that run together.
+fn run<T: Threads + Wait + Sync>(
+    rt: &T,
     alloc: Global,
     options: &MachineOptions,
     program: Program,
     medium: Medium,
     steps: u32,
-) -> Result<(Machine, Schedule), Failure>
-    requires { steps ≤ 500000000 }
-    ensures runs { RunsInRounds (machine_of options.now program medium) steps result }
-    ensures few { IfOk result (λ run. hart_steps run.1 < 2 ^ 32) }
+) -> Result<Recorded, Failure>
+    ensures runs { RunsTogether (machine_of options.now program medium) steps result }
+    ensures few { IfOk result (λ recorded. hart_steps recorded.items < 2 ^ 32) }
+    ensures harts { IfOk result (λ recorded. length recorded.harts ≤ 8) }
 {
     let capacity = capacity(options, &medium);
-    Ok(run_program(alloc, program, medium, options.harts, capacity, steps)?)
+    Ok(run_program(rt, alloc, program, medium, options.harts, capacity, steps)?)
 }
 
 /// The machine that has run by a schedule.
@@ -91,38 +96,75 @@ pub(crate) fn capacity(options: &MachineOptions, medium: &Medium) -> u32
     }
 }
 
-/// Writes the files of the schedule and of what a power cut leaves, where they are named, and gives the machine's report.
+/// Writes the files of a run's schedule and of what a power cut leaves, where they are named, and gives the run's report.
 fn record_run<F: Files>(
     alloc: Global,
     command: &RunCommand,
-    machine: Machine,
-    schedule: &Schedule,
+    recorded: &Recorded,
     files: &mut F,
 ) -> Result<Answer, Failure>
-    requires { hart_steps schedule.now < 2 ^ 32 }
-    ensures { RecordsRun F.write_gives command.now machine schedule.now files.old result files.new }
+    requires few { hart_steps recorded.now.items < 2 ^ 32 }
+    requires harts { length recorded.now.harts ≤ 8 }
+    ensures { RecordsRun F.write_gives command.now recorded.now files.old result files.new }
 {
-    record(alloc, &command.record, schedule, files)?;
-    finish(alloc, machine, &command.out, files)
+    record(alloc, &command.record, recorded.schedule(), files)?;
+    finish(alloc, recorded, &command.out, files)
 }
 
-/// The report of a machine at its end, after the file of what a power cut leaves was written, where one is named.
+/// The report of a run at its end, after the file of what a power cut leaves was written, where one is named.
 fn finish<F: Files>(
+    alloc: Global,
+    recorded: &Recorded,
+    out: &Option<String>,
+    files: &mut F,
+) -> Result<Answer, Failure>
+    requires { length recorded.now.harts ≤ 8 }
+    ensures { Finishes F.write_gives (option_map string_bytes out.now) recorded.now.harts (length recorded.now.trace) recorded.now.left files.old result files.new }
+{
+    let answer = report_of(alloc, recorded.harts(), recorded.trace().events().len())?;
+    leave(alloc, out, recorded.left(), files)?;
+    Ok(answer)
+}
+
+/// The same of a machine.
+fn finish_machine<F: Files>(
     alloc: Global,
     machine: Machine,
     out: &Option<String>,
     files: &mut F,
 ) -> Result<Answer, Failure>
-    ensures { Finishes F.write_gives (option_map string_bytes out.now) machine files.old result files.new }
+    ensures { FinishesMachine F.write_gives (option_map string_bytes out.now) machine files.old result files.new }
 {
-    let answer = report_of(alloc, &machine)?;
-    leave(alloc, out, machine, files)?;
+    let answer = report_of_machine(alloc, &machine)?;
+    let (left, _trace) = machine.power_cut();
+    leave(alloc, out, &left, files)?;
     Ok(answer)
 }
 
-fn report_of(alloc: Global, machine: &Machine) -> Result<Answer, Failure>
-    ensures { Prints (run_report machine.now) 0 result }
+fn report_of(alloc: Global, harts: &[HartState], events: usize) -> Result<Answer, Failure>
+    requires { length harts.now ≤ 8 }
+    ensures { Prints (run_report harts.now events) 0 result }
 {
-    let text = report(alloc, machine)?;
+    let text = report(alloc, harts, events)?;
     Ok(Answer { text, status: 0 })
+}
+
+fn report_of_machine(alloc: Global, machine: &Machine) -> Result<Answer, Failure>
+    ensures { Prints (run_report machine.now.harts (length machine.now.shared.trace)) 0 result }
+{
+    let harts = states_of(alloc, machine)?;
+    report_of(alloc, &harts, machine.events().len())
+}
+
+/// The states of a machine's harts, by their number.
+#[tactic(auto, using(crate::proofs::Loops::take_with))]
+fn states_of(alloc: Global, machine: &Machine) -> Result<Vec<HartState>, AllocError>
+    ensures ok { IfOk result (λ states. states.items ≡ machine.now.harts) }
+    ensures few { IfOk result (λ states. length states.items ≤ 8) }
+{
+    let mut states = Vec::new(alloc);
+    for hart in 0..machine.harts() {
+        states.push(*machine.hart(hart))?;
+    }
+    Ok(states)
 }

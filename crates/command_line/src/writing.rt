@@ -9,7 +9,6 @@ ghost use Rattle.command_line.specs.Writing.{GivesBytes, GivesLine, Leaves, Reco
 use crate::failure::Failure;
 use crate::files::Files;
 use line_memory::Medium;
-use machine::Machine;
 use schedule::{Schedule, ScheduleFault};
 use std::alloc::Global;
 
@@ -39,18 +38,17 @@ fn bytes_of(alloc: Global, medium: &Medium) -> Result<Vec<u8>, Failure>
     Ok(medium.to_bytes(alloc)?)
 }
 
-/// `--out`: writes the medium that a power cut leaves of a machine, where a file is named.
+/// `--out`: writes the medium that a power cut leaves, where a file is named.
 pub(crate) fn leave<F: Files>(
     alloc: Global,
     name: &Option<String>,
-    machine: Machine,
+    left: &Medium,
     files: &mut F,
 ) -> Result<(), Failure>
-    ensures { Leaves F.write_gives (option_map string_bytes name.now) machine.shared.cache.lines files.old result files.new }
+    ensures { Leaves F.write_gives (option_map string_bytes name.now) left.now files.old result files.new }
 {
-    let (left, _trace) = machine.power_cut();
     match name {
-        Some(name) => write_medium(alloc, name.as_str(), &left, files),
+        Some(name) => write_medium(alloc, name.as_str(), left, files),
         None => Ok(()),
     }
 }

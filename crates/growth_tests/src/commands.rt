@@ -4,6 +4,7 @@ use crate::ending::{Refused, ended, ready, refusal};
 use arguments::{Command, LineFault, command};
 use command_line::{FileFault, Files, execute};
 use std::alloc::Global;
+use std::sync::Wait;
 use std::thread::Threads;
 
 /// The words of a line, which are parted by single spaces.
@@ -197,7 +198,7 @@ fn judged(example: &Example, outcome: &Outcome) -> Result<bool, Refused> {
 }
 
 /// Types a line, over the files.
-fn execute_line<R: Threads + Sync + AllocGlobal>(
+fn execute_line<R: Threads + Wait + Sync + AllocGlobal>(
     rt: &R,
     example: &Example,
     words: &[String],
@@ -217,7 +218,10 @@ fn execute_line<R: Threads + Sync + AllocGlobal>(
 }
 
 /// Types the line of an example.
-fn typed<R: Threads + Sync + AllocGlobal>(rt: &R, example: &Example) -> Result<bool, Refused> {
+fn typed<R: Threads + Wait + Sync + AllocGlobal>(
+    rt: &R,
+    example: &Example,
+) -> Result<bool, Refused> {
     let words = words_of(rt.alloc(), example.line)?;
     let mut outcome = silence(rt.alloc())?;
     execute_line(rt, example, &words, &mut outcome)?;

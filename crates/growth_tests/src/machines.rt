@@ -1,11 +1,10 @@
-//! Machines: made, stepped, run by schedules and in rounds, and recorded.
+//! Machines: made, stepped, run by schedules, and recorded.
 
 use crate::ending::{Refused, ended, ready, refusal};
 use crate::samples::{FENCES, machine_of, recorded_run, schedule_of};
 use hart::HartState;
-use machine::{Item, Machine, RunStop, Step, StepFault};
+use machine::{Machine, RunStop, Step, StepFault};
 use recording::Recorded;
-use rounds::{RoundFault, run_rounds};
 use std::alloc::Global;
 
 /// The state of hart 0, the number of events, and the first byte of persistent memory.
@@ -70,57 +69,6 @@ fn ran(alloc: Global, machine: &mut Machine) -> Result<bool, Refused> {
     }
 }
 
-/// Whether both harts stand where so many turns leave them, with the events of those.
-fn stands_after(machine: &Machine, turns: u32) -> bool {
-    let (first, second) = (turns.div_ceil(2), turns / 2);
-    let events = first.div_ceil(2) + second.div_ceil(2);
-    stands(
-        machine,
-        0,
-        0x1_0000 + 4 * u64::from(first % 2),
-        events as usize,
-    ) && stands(
-        machine,
-        1,
-        0x1_0000 + 4 * u64::from(second % 2),
-        events as usize,
-    )
-}
-
-/// Whether some of the first eighteen turns were made, and no others.
-fn has_made_turns(machine: &Machine) -> bool {
-    for turns in 0..18 {
-        if stands_after(machine, turns) {
-            return true;
-        }
-    }
-    false
-}
-
-/// Whether these are eighteen steps, one of each hart in turn.
-fn are_turns(items: &[Item]) -> bool {
-    let mut place = 0_u32;
-    for item in items {
-        let is_turn = match *item {
-            Item::Steps { hart, count } => hart == place % 2 && count == 1,
-            Item::Evict { .. } => false,
-        };
-        if place >= 18 || !is_turn {
-            return false;
-        }
-        place += 1;
-    }
-    place == 18
-}
-
-/// Nine rounds of two harts.
-fn ran_in_rounds(alloc: Global, machine: &mut Machine) -> Result<bool, Refused> {
-    match run_rounds(alloc, machine, 9) {
-        Ok(schedule) => Ok(stands_after(machine, 18) && are_turns(schedule.items())),
-        Err(fault) => refusal(matches!(fault, RoundFault::Memory) && has_made_turns(machine)),
-    }
-}
-
 /// A call on a machine.
 #[derive(Clone, Copy)]
 enum Call {
@@ -131,7 +79,6 @@ enum Call {
     /// Steps without an event.
     Loads,
     Run,
-    Rounds,
 }
 
 fn called(alloc: Global, machine: &mut Machine, call: Call) -> Result<bool, Refused> {
@@ -140,7 +87,6 @@ fn called(alloc: Global, machine: &mut Machine, call: Call) -> Result<bool, Refu
         Call::Fences => fenced(machine),
         Call::Loads => looped(machine),
         Call::Run => ran(alloc, machine),
-        Call::Rounds => ran_in_rounds(alloc, machine),
     }
 }
 
@@ -172,12 +118,6 @@ fn machine_steps_without_memory(rt: HostRuntime) -> Result<(), Refused> {
 fn machine_run(rt: HostRuntime) -> Result<(), Refused> {
     let made = ready(machine_of(rt.alloc(), FENCES, 1));
     ended(&rt, on_machine(rt.alloc(), made, Call::Run))
-}
-
-#[test]
-fn run_in_rounds(rt: HostRuntime) -> Result<(), Refused> {
-    let made = ready(machine_of(rt.alloc(), FENCES, 2));
-    ended(&rt, on_machine(rt.alloc(), made, Call::Rounds))
 }
 
 /// Whether a run of nine steps was recorded whole.

@@ -12,11 +12,13 @@ use machine::{Machine, Schedule, StepFault};
 use nova_log::VolumeFault;
 use plan::Plan;
 use program::Program;
+use recording::Recorded;
 use std::alloc::Global;
+use std::sync::Wait;
 use std::thread::Threads;
 use tester::{
-    CountFault, ExplainFault, ProgramFault, VerdictFault, check_program, count_images,
-    default_medium, explain_image, load_program, make_volume, replay, run_program,
+    CountFault, ExplainFault, ProgramFault, TogetherFault, VerdictFault, check_program,
+    count_images, default_medium, explain_image, load_program, make_volume, replay, run_program,
 };
 
 /// One store, cleaned and fenced.
@@ -72,18 +74,26 @@ fn has_ended(machine: &Machine) -> bool {
         && machine.peek(0x4000_0000) == Some(7)
 }
 
-fn ran(alloc: Global) -> Result<bool, Refused> {
-    let program = program_of(alloc, FIRST)?;
-    let medium = zeros(alloc)?;
-    match run_program(alloc, program, medium, 1, 16, 100) {
-        Ok((machine, schedule)) => Ok(has_ended(&machine) && schedule.items().len() == 1),
-        Err(fault) => refusal(matches!(fault, StepFault::Memory)),
+/// Whether hart 0 has come to the end alone, after eight steps and three events.
+fn is_recorded(recorded: &Recorded) -> bool {
+    recorded.harts().first().map(|state| state.pc) == Some(0x1_0020)
+        && recorded.harts().len() == 1
+        && recorded.trace().events().len() == 3
+        && recorded.schedule().items().len() == 1
+}
+
+fn ran<R: Threads + Wait + Sync + AllocGlobal>(rt: &R) -> Result<bool, Refused> {
+    let program = program_of(rt.alloc(), FIRST)?;
+    let medium = zeros(rt.alloc())?;
+    match run_program(rt, rt.alloc(), program, medium, 1, 16, 100) {
+        Ok(recorded) => Ok(is_recorded(&recorded)),
+        Err(fault) => refusal(matches!(fault, TogetherFault::Step(StepFault::Memory))),
     }
 }
 
 #[test]
 fn run_a_program(rt: HostRuntime) -> Result<(), Refused> {
-    ended(&rt, ran(rt.alloc()))
+    ended(&rt, ran(&rt))
 }
 
 fn replayed(alloc: Global, schedule: &Schedule) -> Result<bool, Refused> {

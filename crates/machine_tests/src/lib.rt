@@ -1,4 +1,4 @@
-//! Tests of `shared_memory`, `machine`, `recording`, `rounds` and `cut_schedule`: short programs that are stepped, run, recorded
+//! Tests of `shared_memory`, `machine`, `recording` and `cut_schedule`: short programs that are stepped, run, recorded
 //! and explained. They stand apart, so that those crates aren't proved a second time for them. The crate has tests
 //! alone.
 //!
@@ -18,5 +18,3 @@ mod programs;
 mod recordings;
 #[cfg(test)]
 mod requests;
-#[cfg(test)]
-mod turns;

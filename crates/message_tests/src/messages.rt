@@ -2,6 +2,7 @@
 
 use asm_line::AsmCode;
 use assemble::AsmFault;
+use bus::{FinishFault, RunFault};
 use crash_image::ImageFault;
 use debugger::{DebugFault, Place};
 use image_check::{Cause, CheckFault, OpFault};
@@ -11,7 +12,6 @@ use machine::RunStop;
 use nova_log::VolumeFault;
 use object::LoadFault;
 use plan::{PlanCode, PlanFault};
-use rounds::RoundFault;
 use schedule::ScheduleFault;
 use shared_memory::StepFault;
 use std::alloc::Global;
@@ -113,9 +113,16 @@ static STOPS: [(RunStop, &str); 2] = [
     ),
 ];
 
-static ROUNDS: [(RoundFault, &str); 2] = [
-    (RoundFault::TraceFull, "G4"),
-    (RoundFault::Memory, "G5"),
+static SEATS: [(FinishFault, &str); 4] = [
+    (FinishFault::SeatMissing, "B1"),
+    (FinishFault::SeatNumber, "B2"),
+    (FinishFault::Foreign, "B3"),
+    (FinishFault::Memory, "B4"),
+];
+
+static HARTS: [(RunFault, &str); 2] = [
+    (RunFault::Step(StepFault::TraceFull), "G4"),
+    (RunFault::Finish(FinishFault::Foreign), "B3"),
 ];
 
 static SCHEDULES: [(ScheduleFault, &str); 2] = [
@@ -147,7 +154,8 @@ fn runs(rt: HostRuntime) {
     let alloc = rt.alloc();
     assert_eq!(rt; differing(alloc, &STEPS), None);
     assert_eq!(rt; differing(alloc, &STOPS), None);
-    assert_eq!(rt; differing(alloc, &ROUNDS), None);
+    assert_eq!(rt; differing(alloc, &SEATS), None);
+    assert_eq!(rt; differing(alloc, &HARTS), None);
     assert_eq!(rt; differing(alloc, &SCHEDULES), None);
     assert_eq!(rt; differing(alloc, &SESSIONS), None);
 }

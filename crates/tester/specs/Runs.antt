@@ -1,19 +1,26 @@
 -- Runs of a program by a schedule, over a medium that is given.
-use Rattle.std.specs.Prelude.{◌≡◌, ◌⊎◌, ℕ, ◌<◌, ◌≤◌, List, ◌∷◌, ◌++◌, All, length, slice_get}
-use Rattle.machine.specs.Refusals.{Refuses, RefusesNext}
+use Rattle.std.specs.Prelude.{◌≡◌, ◌⊎◌, ℕ, ◌<◌, ◌≤◌, List, Some, All, length, slice_get}
+use Rattle.bus.specs.Limits.{AreWithin, RefusesStart}
+use Rattle.bus.specs.Stepping.{IsStepRefusal}
+use Rattle.bus.specs.Together.{count_of}
+use Rattle.bus.specs.declared.finish_fault.FinishFault.{FinishFault}
+use Rattle.bus.specs.declared.finish_fault.FinishFault.TheVariants as finish
+use Rattle.hart.specs.declared.state.HartState.{HartState}
+use Rattle.hart.specs.declared.state.Status.TheVariants.{Running}
+use Rattle.machine.specs.Refusals.{RefusesNext}
 use Rattle.machine.specs.Run.{Config, RunsTo, started}
 use Rattle.machine.specs.Stands.{MachineView, Stands}
 use Rattle.machine.specs.Stops.{steps_before, steps_of_item}
 use Rattle.object.specs.Sections.{Sections}
-use Rattle.recording.specs.Recorded.{IsAmong}
-use Rattle.rounds.specs.Rounds.{TakesTurns, turns_in}
+use Rattle.recording.specs.Recorded.{IsAmong, RecordedView, Records}
 use Rattle.schedule.specs.Steps.{all_steps}
 use Rattle.schedule.specs.declared.items.Item.{Item}
 use Rattle.schedule.specs.declared.items.Step.{Step}
-use Rattle.schedule.specs.declared.items.Step.TheVariants.{Hart}
 use Rattle.shared_memory.specs.declared.fault.StepFault.{StepFault}
 use Rattle.shared_memory.specs.declared.fault.StepFault.TheVariants.{NoSuchHart, NoSuchLine, TraceFull, Memory, OutOfLimits}
 use Rattle.store_trace.specs.declared.event.Event.{Event}
+use Rattle.tester.specs.declared.runs.TogetherFault.{TogetherFault}
+use Rattle.tester.specs.declared.runs.TogetherFault.TheVariants as together
 
 -- what a run starts from: the program, the lines of the medium, the number of harts, and the lines of the cache
 pub record Setup : Type 0 where
@@ -111,28 +118,46 @@ fault_of_run step memory OutOfLimits = step OutOfLimits
 abbrev pub FailsToRun : Setup → List Item → StepFault → Type 0
 FailsToRun s schedule fault = (fault ≡ Memory) ⊎ IsRefused s schedule fault
 
--- a machine that has run in rounds, and the schedule of the steps that it made
-pub record HasRunInRounds (s : Setup) (rounds : ℕ) (schedule : List Item) (machine : MachineView) : Type 0 where
-  pub within : IsWithin s
-  pub end : Config
-  pub turns : TakesTurns (start_of s) (turns_in rounds s.harts) (all_steps schedule) end
-  pub stands : Stands machine end
-  pub capacity : machine.shared.cache.cache.capacity ≡ s.capacity
+-- each hart that still runs at the end has made all its steps of the schedule
+abbrev pub HaveMadeAll : ℕ → RecordedView → Type 0
+HaveMadeAll steps recorded = (h : ℕ) (state : HartState) → slice_get recorded.harts h ≡ Some state → state.status ≡ Running
+    → count_of h (all_steps recorded.items) ≡ steps
 
--- a machine that has taken the turns before one of the rounds' refuses the step of that turn, for this reason
-pub record RefusesTurn (s : Setup) (rounds : ℕ) (fault : StepFault) : Type 0 where
+-- harts that have run together, none of them for more steps than so many, to what is recorded: one run of the setup, at whose
+-- end each hart has stopped or has made all its steps
+pub record HasRunTogether (s : Setup) (steps : ℕ) (recorded : RecordedView) : Type 0 where
+  pub within : IsWithin s
+  pub some_steps : 1 ≤ steps
+  pub few_steps : steps ≤ 500000000
+  pub start : recorded.start ≡ s.medium
+  pub capacity : recorded.capacity ≡ s.capacity
+  pub count : length recorded.harts ≡ s.harts
+  pub records : Records (start_of s) recorded
+  pub ended : HaveMadeAll steps recorded
+
+-- what is recorded is what comes of its schedule: a machine that has carried it out leaves the lines that are recorded, and any
+-- such machine has the harts and the events that are
+pub record IsRunOf (s : Setup) (recorded : RecordedView) : Type 0 where
   pub machine : MachineView
-  pub before : List ℕ
-  pub hart : ℕ
-  pub after : List ℕ
-  pub steps : List Step
-  pub end : Config
-  pub within : IsWithin s
-  pub split : turns_in rounds s.harts ≡ before ++ hart ∷ after
-  pub turns : TakesTurns (start_of s) before steps end
-  pub stands : Stands machine end
-  pub refused : Refuses machine (Hart hart) fault
+  pub has_run : HasRun s recorded.items machine
+  pub left : recorded.left ≡ machine.shared.cache.lines
+  pub replayed : (other : MachineView) → HasRun s recorded.items other
+      → (other.harts ≡ recorded.harts) × (other.shared.trace ≡ recorded.trace)
 
--- what a fault says of the run in rounds: memory was refused, no machine is made, or it refuses the step of a turn
-abbrev pub FailsInRounds : Setup → ℕ → StepFault → Type 0
-FailsInRounds s rounds fault = (fault ≡ Memory) ⊎ IsOutside s fault ⊎ RefusesTurn s rounds fault
+-- why harts haven't run together: a number is outside its limits, or a growth was refused at the start; or all numbers are within
+-- their limits, and a step, a growth or a thread was refused, or what they made doesn't agree
+abbrev pub FailsTogether : Setup → ℕ → TogetherFault → Type 0
+FailsTogether s steps (together.Step fault) =
+    RefusesStart s.harts s.capacity steps fault ⊎ (AreWithin s.harts s.capacity steps × IsStepRefusal fault)
+FailsTogether s steps together.Foreign = AreWithin s.harts s.capacity steps
+
+-- what is told of seats that aren't gathered, none of which lacks or has another hart's number
+abbrev pub IsUnfinished : FinishFault → Type 0
+IsUnfinished finish.SeatMissing = ⊥
+IsUnfinished finish.SeatNumber = ⊥
+IsUnfinished finish.Foreign = Unit {0}
+IsUnfinished finish.Memory = Unit {0}
+
+abbrev pub unfinished_of : FinishFault → TogetherFault
+unfinished_of finish.Memory = together.Step Memory
+unfinished_of fault = together.Foreign

@@ -1,46 +1,81 @@
-//! Runs of a program, in rounds and by a schedule.
+//! Runs of a program: on harts that run together, and by a schedule.
 
 ghost use Rattle.crash_image.specs.View.{HasLines};
 ghost use Rattle.schedule.specs.Grammar.{hart_steps};
-ghost use Rattle.std.specs.Prelude.{◌*◌, ◌≤◌, IfErr, IfOk};
-ghost use Rattle.tester.specs.Runs.{FailsInRounds, FailsToRun, FailsToStart, HasRun, HasRunInRounds, HasTrace, IsAtStart, setup, with_room};
+ghost use Rattle.std.specs.Prelude.{◌≡◌, ◌^◌, ◌<◌, IfErr, IfOk};
+ghost use Rattle.tester.specs.Runs.{FailsToRun, FailsToStart, FailsTogether, HasRun, HasRunTogether, HasTrace, IsAtStart, IsRunOf, IsUnfinished, setup, unfinished_of, with_room};
 
+use bus::{Bus, FinishFault, RunFault, run_harts};
+use gate::Open;
 use line_memory::Medium;
 use machine::{Machine, Schedule, StepFault};
 use program::Program;
-use rounds::{RoundFault, run_rounds};
+use recording::Recorded;
 use std::alloc::Global;
+use std::sync::Wait;
+use std::thread::Threads;
 use store_trace::Trace;
+use thiserror::Error;
 
-/// Runs a program in rounds on one to eight harts, over the medium behind an empty cache of 1 to 16,384 lines: in a round
-/// each hart that hasn't stopped makes one step, by its number. There are as many rounds as `steps` says, up to the one
-/// in which no hart runs. Beside the machine, the schedule of the steps that were made.
+/// Why harts haven't run a program together.
+#[derive(Clone, Copy, Debug, PartialEq, Eq, Error)]
+pub enum TogetherFault {
+    /// A number is outside its limits, or a hart's step was refused, that of the lowest such hart; or memory or a thread was.
+    #[error("{0}")]
+    Step(StepFault),
+    /// B3: what the harts have made doesn't agree with what they share.
+    #[error("B3")]
+    Foreign,
+}
+
+/// Runs a program on one to eight harts, each in a thread of its own, over the medium behind an empty cache of 1 to 16,384
+/// lines, until each hart has stopped or has made as many steps as `steps` says, from 1 to 500,000,000; and gives the run that
+/// they made: its schedule has the steps of all harts in the order in which they came to memory. Harts that race may make
+/// another run the next time.
 ///
 /// # Errors
-/// NoSuchHart where `harts` isn't from 1 to 8, and else OutOfLimits where `capacity` is outside its limits; else TraceFull
-/// where a step's event finds the trace full. Memory where a growth is refused.
-#[tactic(auto, using(crate::proofs::Turning::takes_turns, crate::proofs::Turning::refuses_turn))]
-pub fn run_program(
+/// NoSuchHart where `harts` isn't from 1 to 8, and else OutOfLimits where `capacity` or `steps` is outside its limits. Else
+/// TraceFull where a step's event finds the trace full, which stops all harts; Memory where a growth or a thread is refused;
+/// Foreign where what the harts have made doesn't agree.
+pub fn run_program<R: Threads + Wait + Sync>(
+    rt: &R,
     alloc: Global,
     program: Program,
     medium: Medium,
     harts: u32,
     capacity: u32,
     steps: u32,
-) -> Result<(Machine, Schedule), StepFault>
-    ensures ok { IfOk result (λ made. HasRunInRounds (setup program medium harts capacity) steps made.1 made.0) }
-    ensures run { IfOk result (λ made. HasRun (setup program medium harts capacity) made.1 made.0) }
-    ensures few { IfOk result (λ made. hart_steps made.1 ≤ 8 * steps) }
-    ensures err { IfErr result (FailsInRounds (setup program medium harts capacity) steps) }
+) -> Result<Recorded, TogetherFault>
+    ensures ok { IfOk result (HasRunTogether (setup program medium harts capacity) steps) }
+    ensures run { IfOk result (IsRunOf (setup program medium harts capacity)) }
+    ensures few { IfOk result (λ recorded. hart_steps recorded.items < 2 ^ 32) }
+    ensures err { IfErr result (FailsTogether (setup program medium harts capacity) steps) }
 {
-    let mut machine = start_program(alloc, program, medium, harts, capacity)?;
-    let ended = run_rounds(alloc, &mut machine, steps);
-    // The trace is within its limit, also where a step was refused.
-    prove!(machine.events().len() <= 65_536);
-    match ended {
-        Ok(schedule) => Ok((machine, schedule)),
-        Err(RoundFault::TraceFull) => Err(StepFault::TraceFull),
-        Err(RoundFault::Memory) => Err(StepFault::Memory),
+    let (bus, seats) = match Bus::new(alloc, &program, medium, harts, capacity, steps) {
+        Ok(made) => made,
+        Err(fault) => return Err(TogetherFault::Step(fault)),
+    };
+    match run_harts(rt, alloc, bus, seats, &Open) {
+        Ok(recorded) => {
+            // The trace is within its limit, and as many lines are left as there were.
+            prove!(recorded.trace().events().len() <= 65_536);
+            prove!(recorded.left().lines() == recorded.start().lines());
+            Ok(recorded)
+        }
+        Err(RunFault::Step(fault)) => Err(TogetherFault::Step(fault)),
+        Err(RunFault::Finish(fault)) => Err(unfinished(fault)),
+    }
+}
+
+/// What is told of seats that aren't gathered, each hart having its own.
+fn unfinished(fault: FinishFault) -> TogetherFault
+    requires { IsUnfinished fault }
+    ensures { result ≡ unfinished_of fault }
+{
+    match fault {
+        FinishFault::Foreign => TogetherFault::Foreign,
+        FinishFault::Memory => TogetherFault::Step(StepFault::Memory),
+        FinishFault::SeatMissing | FinishFault::SeatNumber => unreachable!(),
     }
 }
 

@@ -10,6 +10,8 @@ mod images;
 #[cfg(test)]
 mod loading;
 #[cfg(test)]
+mod messages;
+#[cfg(test)]
 mod runs;
 #[cfg(test)]
 mod starts;

@@ -1,10 +1,13 @@
-//! Runs in rounds, and runs by a schedule.
+//! Runs of harts that run together, and runs by a schedule.
 
 use crate::starts::{FIRST_RUN, Start, is_written_so, loaded, start_of};
 use hart::Status;
-use machine::{Machine, StepFault};
+use machine::{Machine, Schedule, StepFault};
+use recording::Recorded;
 use std::alloc::Global;
-use tester::{replay, run_program, start_program};
+use std::sync::Wait;
+use std::thread::Threads;
+use tester::{TogetherFault, replay, run_program, start_program};
 
 /// What is seen of a machine: hart 0's status and pc, the number of events, and the first byte of persistent memory.
 #[derive(Clone, Copy, PartialEq, Eq)]
@@ -49,29 +52,36 @@ const BEFORE_THE_FIRST: Seen = Seen {
     stored: 0,
 };
 
-/// The first program in rounds, their schedule, and what is seen then.
-struct Rounds {
+/// The first program on harts that run together: the schedules that they may make, and what is seen after any of them.
+struct Together {
     harts: u32,
     capacity: u32,
     steps: u32,
-    schedule: &'static str,
+    schedules: &'static [&'static str],
     seen: Seen,
 }
 
-static ROUNDS: [Rounds; 2] = [
-    Rounds {
+static TOGETHER: [Together; 3] = [
+    Together {
         harts: 1,
         capacity: 16,
         steps: 1_000_000,
-        schedule: "h0*8",
+        schedules: &["h0*8"],
         seen: ENDED,
     },
-    // both harts store
-    Rounds {
+    Together {
+        harts: 1,
+        capacity: 16,
+        steps: 3,
+        schedules: &["h0*3"],
+        seen: AFTER_THE_STORE,
+    },
+    // both harts store, and only their stores come to memory
+    Together {
         harts: 2,
         capacity: 1,
         steps: 3,
-        schedule: "h0*1 h1*1 h0*1 h1*1 h0*1 h1*1",
+        schedules: &["h0*3 h1*3", "h1*3 h0*3"],
         seen: Seen {
             events: 2,
             ..AFTER_THE_STORE
@@ -79,56 +89,145 @@ static ROUNDS: [Rounds; 2] = [
     },
 ];
 
-fn are_run_so(alloc: Global, rounds: &Rounds) -> bool {
+/// Whether a schedule is written as one of these.
+fn is_one_of(alloc: Global, schedule: &Schedule, texts: &[&str]) -> bool {
+    for text in texts {
+        if is_written_so(alloc, schedule, text) {
+            return true;
+        }
+    }
+    false
+}
+
+/// What is seen after the schedule of a run, where its machine has the harts and the events that were recorded.
+fn seen_again(alloc: Global, run: &Together, recorded: &Recorded) -> Option<Seen> {
+    let (program, medium) = loaded(alloc, None, &[FIRST_RUN])?;
+    let schedule = recorded.schedule();
+    let machine = replay(alloc, program, medium, run.harts, run.capacity, schedule).ok()?;
+    let seen = seen_of(&machine)?;
+    let first = recorded.harts().first()?;
+    let is_same = first.pc == seen.pc
+        && first.status == seen.status
+        && recorded.harts().len() == machine.harts() as usize
+        && recorded.trace().events().len() == seen.events;
+    is_same.then_some(seen)
+}
+
+fn is_run_so<R: Threads + Wait + Sync + AllocGlobal>(rt: &R, run: &Together) -> bool {
+    let alloc = rt.alloc();
     let Some((program, medium)) = loaded(alloc, None, &[FIRST_RUN]) else {
         return false;
     };
     match run_program(
+        rt,
         alloc,
         program,
         medium,
-        rounds.harts,
-        rounds.capacity,
-        rounds.steps,
+        run.harts,
+        run.capacity,
+        run.steps,
     ) {
-        Ok((machine, schedule)) => {
-            seen_of(&machine) == Some(rounds.seen)
-                && is_written_so(alloc, &schedule, rounds.schedule)
+        Ok(recorded) => {
+            is_one_of(alloc, recorded.schedule(), run.schedules)
+                && seen_again(alloc, run, &recorded) == Some(run.seen)
         }
         Err(_) => false,
     }
 }
 
 #[test]
-fn rounds_are_run_so(rt: HostRuntime) {
-    let differing = ROUNDS
-        .iter()
-        .position(|rounds| !are_run_so(rt.alloc(), rounds));
-    assert_eq!(rt; differing, None);
+fn harts_run_together_so(rt: HostRuntime) {
+    for run in &TOGETHER {
+        assert!(rt; is_run_so(&rt, run), "{} {}", run.harts, run.steps);
+    }
 }
 
-static LIMITS: [(u32, u32, StepFault); 4] = [
-    (0, 16, StepFault::NoSuchHart),
-    (9, 0, StepFault::NoSuchHart),
-    (1, 0, StepFault::OutOfLimits),
-    (8, 16_385, StepFault::OutOfLimits),
+/// Numbers of harts, of lines of cache and of steps with which nothing is run, and why.
+struct Limits {
+    harts: u32,
+    capacity: u32,
+    steps: u32,
+    fault: StepFault,
+}
+
+static LIMITS: [Limits; 6] = [
+    Limits {
+        harts: 0,
+        capacity: 16,
+        steps: 8,
+        fault: StepFault::NoSuchHart,
+    },
+    Limits {
+        harts: 9,
+        capacity: 0,
+        steps: 0,
+        fault: StepFault::NoSuchHart,
+    },
+    Limits {
+        harts: 1,
+        capacity: 0,
+        steps: 8,
+        fault: StepFault::OutOfLimits,
+    },
+    Limits {
+        harts: 8,
+        capacity: 16_385,
+        steps: 8,
+        fault: StepFault::OutOfLimits,
+    },
+    Limits {
+        harts: 1,
+        capacity: 16,
+        steps: 0,
+        fault: StepFault::OutOfLimits,
+    },
+    Limits {
+        harts: 8,
+        capacity: 16_384,
+        steps: 500_000_001,
+        fault: StepFault::OutOfLimits,
+    },
 ];
 
-/// Whether there is no run with so many harts and lines of cache, for this reason.
-fn is_refused_so(alloc: Global, (harts, capacity, fault): (u32, u32, StepFault)) -> bool {
-    match loaded(alloc, None, &[FIRST_RUN]) {
-        Some((program, medium)) => {
-            run_program(alloc, program, medium, harts, capacity, 8).err() == Some(fault)
-        }
-        None => false,
-    }
+fn is_refused_so<R: Threads + Wait + Sync + AllocGlobal>(rt: &R, limits: &Limits) -> bool {
+    let Some((program, medium)) = loaded(rt.alloc(), None, &[FIRST_RUN]) else {
+        return false;
+    };
+    let ended = run_program(
+        rt,
+        rt.alloc(),
+        program,
+        medium,
+        limits.harts,
+        limits.capacity,
+        limits.steps,
+    );
+    ended.err() == Some(TogetherFault::Step(limits.fault))
 }
 
 #[test]
 fn numbers_out_of_limits(rt: HostRuntime) {
-    let differing = LIMITS
-        .iter()
-        .position(|limits| !is_refused_so(rt.alloc(), *limits));
+    for limits in &LIMITS {
+        assert!(rt; is_refused_so(&rt, limits), "{}", limits.fault);
+    }
+}
+
+/// What is told of harts that haven't run together.
+static TOLD: [(TogetherFault, &str); 2] = [
+    (TogetherFault::Step(StepFault::TraceFull), "G4"),
+    (TogetherFault::Foreign, "B3"),
+];
+
+fn is_told_so(alloc: Global, (fault, text): (TogetherFault, &str)) -> bool {
+    match format!(in alloc; "{fault}") {
+        Ok(message) => message.as_str() == text,
+        Err(_) => false,
+    }
+}
+
+#[test]
+fn faults_are_told_so(rt: HostRuntime) {
+    let differing = TOLD.iter().position(|told| !is_told_so(rt.alloc(), *told));
     assert_eq!(rt; differing, None);
 }
 

@@ -3,4 +3,4 @@ use Rattle.command_line.proofs.Loops.{harts_below}
 use Rattle.command_line.proofs.reporting.report.Given as goal
 
 abbrev pub invariant-loop-hart : goal.invariant-loop-hart
-invariant-loop-hart l = string_bytes l.text ≡ harts_below l.machine.harts l.hart
+invariant-loop-hart l = string_bytes l.text ≡ harts_below l.harts l.hart

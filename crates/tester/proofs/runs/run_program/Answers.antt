@@ -1,12 +1,36 @@
-use Rattle.std.proofs.Common.{rules}
-use Rattle.tester.proofs.Making.{has_run}
-use Rattle.tester.proofs.Turning.{takes_turns}
+-- What the harts of a setup make that run together, or why they don't.
+use Rattle.std.proofs.Common.{inr, rules}
+use Rattle.tester.specs.Runs.{setup}
+use Rattle.tester.proofs.Together.{fails_finish, has_run_together, is_run_of, is_unfinished, some_seats}
 use Rattle.tester.proofs.runs.run_program.Goals as goal
 
-pub returns-in-Ok-clause-ok : goal.returns-in-Ok-clause-ok
-returns-in-Ok-clause-ok c = search (rules, takes_turns)
+pub run_harts-requires : goal.run_harts-requires
+run_harts-requires g c =
+    let seats = some_seats (setup c.args.program c.args.medium c.args.harts c.args.capacity) c.args.steps c.in-Ok.made.1.items c.in-Ok.ensures.seats c.in-Ok.ensures.within in
+    (search rules, (search rules, (seats.0, seats.1)))
 
-pub returns-in-Ok-clause-run : goal.returns-in-Ok-clause-run
-returns-in-Ok-clause-run c =
-    has_run _ c.in-Ok.schedule c.in_ok-machine.machine c.run_rounds-ended.new.machine c.in_ok-machine.ensures.ok c.in-Ok.ensures.ok.runs
-    c.events.ensures.limit
+pub returns-in-Ok-run_harts-clause-ok : goal.returns-in-Ok-run_harts-clause-ok
+returns-in-Ok-run_harts-clause-ok g c =
+    has_run_together _ _ _ _ _ c.in-Ok.ensures.within c.in-Ok.ensures.bus c.in-Ok.ensures.seats c.in-Ok-run_harts.ensures.ok
+
+pub returns-in-Ok-run_harts-clause-run : goal.returns-in-Ok-run_harts-clause-run
+returns-in-Ok-run_harts-clause-run g c =
+    is_run_of _ c.args.steps _
+    (has_run_together _ _ _ _ _ c.in-Ok.ensures.within c.in-Ok.ensures.bus c.in-Ok.ensures.seats c.in-Ok-run_harts.ensures.ok)
+    c.trace.ensures.limit c.left.ensures.lines
+
+pub returns-in-Err-Step-clause-err : goal.returns-in-Err-Step-clause-err
+returns-in-Err-Step-clause-err g c = inr (c.in-Ok.ensures.within, rw c.in-Err-Step.field-0-is at c.in-Err-Step.ensures.err)
+
+pub unfinished-requires : goal.unfinished-requires
+unfinished-requires g c =
+    is_unfinished (setup c.args.program c.args.medium c.args.harts c.args.capacity) c.args.steps _ _ _
+    c.in-Ok.ensures.bus c.in-Ok.ensures.seats (rw c.in-Err-Finish.field-0-is at c.in-Err-Finish.ensures.err)
+
+pub returns-clause-err : goal.returns-clause-err
+returns-clause-err g c =
+    fails_finish (setup c.args.program c.args.medium c.args.harts c.args.capacity) c.args.steps c.in-Err-Finish.fault c.unfinished.result
+    c.in-Ok.ensures.within
+    (is_unfinished (setup c.args.program c.args.medium c.args.harts c.args.capacity) c.args.steps _ _ _
+    c.in-Ok.ensures.bus c.in-Ok.ensures.seats (rw c.in-Err-Finish.field-0-is at c.in-Err-Finish.ensures.err))
+    c.unfinished.ensures
