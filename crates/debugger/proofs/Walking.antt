@@ -1,15 +1,19 @@
 -- Walks of a machine: none, one step, and walks after walks.
-use Rattle.std.proofs.Common.{◌≡◌, ℕ, suc, ◌+◌, ◌-◌, ◌<◌, ◌≤◌, List, [], ◌∷◌, ◌++◌, length, replicate, Bool, true, Option, slice_get, refl, sym, ap, ◌∙◌, arith}
-use Rattle.std.proofs.lemmas.List.{replicate_more}
+use Rattle.std.proofs.Common.{◌≡◌, ℕ, zero, suc, ◌+◌, ◌-◌, ◌<◌, ◌≤◌, List, [], ◌∷◌, ◌++◌, length, replicate, Bool, true, false, Option, Some, slice_get, refl, sym, ap, ◌∙◌, arith}
+use Rattle.std.proofs.lemmas.List.{replicate_more, replicate-append-replicate}
 use Rattle.std.proofs.lemmas.Option.{slice_get_within}
 use Rattle.line_memory.specs.Memory.{Memory}
 use Rattle.hart.specs.declared.state.HartState.{HartState}
+use Rattle.hart.specs.declared.state.Status.{Status}
+use Rattle.hart.specs.declared.state.Status.TheVariants.{Running}
 use Rattle.schedule.specs.declared.items.Step.{Step}
+use Rattle.schedule.specs.declared.items.Step.TheVariants.{Hart, Evict}
 use Rattle.machine.specs.Run.{Config}
-use Rattle.machine.specs.Stands.{MachineView, Stands, copy_of}
-use Rattle.machine.proofs.Steps.{runs_more, runs_none}
+use Rattle.machine.specs.Stands.{MachineView, Runs, Stands, copy_of}
+use Rattle.machine.specs.Stops.{has_stopped, is_stopped}
+use Rattle.machine.proofs.Steps.{runs_more, runs_none, stopped_runs}
 use Rattle.debugger.specs.StopPoint.{IsAtBreak, Touches, text_at}
-use Rattle.debugger.specs.Walks.{IsUnbroken, Passes, StepsBy, Walks, moved_by}
+use Rattle.debugger.specs.Walks.{IsUnbroken, Passes, StepsBy, Walks, moved_by, rests}
 use Rattle.debugger.specs.declared.points.Point.{Point}
 
 pub walks_none : (points : List Point) (moved : Bool) (m : MachineView) → Walks points moved m m []
@@ -110,3 +114,49 @@ walks_more points moved other old middle new step done made fits e a b =
 
 pub moved_more : (moved : Bool) (step : Step) (done made : ℕ) → done ≤ made → true ≡ moved_by moved (replicate ((made + 1) - done) step)
 moved_more moved step done made fits = let count : (made + 1) - done ≡ suc (made - done) = omega arith in rw count refl
+
+-- steps of a hart that has stopped: nothing changes, and no point stops before or behind them
+stopped_status : (status : Status) → has_stopped status ≡ true → status ≡ Running → ⊥
+stopped_status status e running = let told : has_stopped status ≡ false = rw running refl in cc
+
+stopped_runs_not : (state : Option HartState) (hart : HartState) → is_stopped state ≡ true → state ≡ Some hart → hart.status ≡ Running → ⊥
+stopped_runs_not state hart e there running = stopped_status hart.status (rw there at e) running
+
+resting_hart : (harts : List HartState) (step : Step) (hart : ℕ) → rests harts step ≡ true → step ≡ Hart hart
+    → is_stopped (slice_get harts hart) ≡ true
+resting_hart harts step hart e is = rw is at e
+
+rest_unbroken : (points : List Point) (moved : Bool) (harts : List HartState) (step : Step) → rests harts step ≡ true
+    → IsUnbroken points moved harts step
+rest_unbroken points moved harts step e on hart pc is b =
+    stopped_runs_not (slice_get harts hart) b.hart (resting_hart harts step hart e is) b.there b.running
+
+rest_runs : (m : MachineView) (step : Step) → rests m.harts step ≡ true → Runs m m (step ∷ [])
+rest_runs m (Hart hart) e = stopped_runs m hart 1 e
+rest_runs m (Evict line) e = absurd (cc)
+
+rest_by : (points : List Point) (m : MachineView) (step : Step) → rests m.harts step ≡ true → StepsBy points m m step
+rest_by points m step e = record {
+  runs = rest_runs m step e;
+  untouched = λ hart line is t.
+      stopped_runs_not (slice_get m.harts hart) t.accesses.hart (resting_hart m.harts step hart e is) t.accesses.there t.accesses.running;
+}
+
+rest_walks : (points : List Point) (moved : Bool) (m : MachineView) (step : Step) (n : ℕ) → rests m.harts step ≡ true
+    → Walks points moved m m (replicate n step)
+rest_walks points moved m step zero e = walks_none points moved m
+rest_walks points moved m step (suc n) e =
+    walks_joined points moved m m m (step ∷ []) (replicate n step)
+    (walks_one points moved m m step (rest_unbroken points moved m.harts step e) (rest_by points m step e))
+    (rest_walks points true m step n e)
+
+-- the equal steps that are left, of a hart that has stopped
+pub walks_rest : (points : List Point) (moved : Bool) (old new : MachineView) (step : Step) (done made count : ℕ) → done ≤ made → made ≤ count
+    → Walks points moved old new (replicate (made - done) step) → rests new.harts step ≡ true
+    → Walks points moved old new (replicate (count - done) step)
+walks_rest points moved old new step done made count begun fits walks e =
+    let sum : (made - done) + (count - made) ≡ count - done = omega arith in
+    let steps : replicate (made - done) step ++ replicate (count - made) step ≡ replicate (count - done) step =
+    replicate-append-replicate (made - done) (count - made) step ∙ ap (λ (n : ℕ). replicate n step) sum in
+    rw (← steps) (walks_joined points moved old new new (replicate (made - done) step) (replicate (count - made) step) walks
+    (rest_walks points (moved_by moved (replicate (made - done) step)) new step (count - made) e))

@@ -1,15 +1,16 @@
 -- Steps that are made without a cause to stop, and how the steps of one item end.
-use Rattle.std.specs.Prelude.{◌≡◌, ◌+◌, ◌<◌, ℕ, List, [], ◌∷◌, Bool, true, Option, Some, None, IsTrue, slice_get, replicate}
+use Rattle.std.specs.Prelude.{◌≡◌, ◌+◌, ◌<◌, ℕ, List, [], ◌∷◌, Bool, true, false, Option, Some, None, IsTrue, slice_get, replicate}
 use Rattle.line_memory.specs.Memory.{Memory}
 use Rattle.hart.specs.declared.state.HartState.{HartState}
 use Rattle.schedule.specs.declared.items.Step.{Step}
-use Rattle.schedule.specs.declared.items.Step.TheVariants.{Hart}
+use Rattle.schedule.specs.declared.items.Step.TheVariants.{Hart, Evict}
 use Rattle.shared_memory.specs.declared.fault.StepFault.{StepFault}
 use Rattle.machine.specs.Refusals.{Refuses}
 use Rattle.machine.specs.Run.{Config, StepsTo}
 use Rattle.machine.specs.declared.machine.Outcome.{Outcome}
 use Rattle.machine.specs.declared.machine.Outcome.TheVariants.{Done}
 use Rattle.machine.specs.Stands.{MachineView, Runs, Stands, copy_of}
+use Rattle.machine.specs.Stops.{is_stopped}
 use Rattle.debugger.specs.Points.{has_watch}
 use Rattle.debugger.specs.StopPoint.{Accesses, IsAtBreak, Touches, text_at}
 use Rattle.debugger.specs.declared.going.ItemFault.{ItemFault}
@@ -51,6 +52,11 @@ IsStoppedBefore points moved harts step None = IsUnbroken points moved harts ste
 IsStoppedBefore points moved harts step (Some (causes.Break hart pc)) =
     (moved ≡ true) × (step ≡ Hart hart) × IsAtBreak points (slice_get harts hart) pc
 IsStoppedBefore points moved harts step (Some cause) = ⊥
+
+-- the step is one of a hart that has stopped
+abbrev pub rests : List HartState → Step → Bool
+rests harts (Hart hart) = is_stopped (slice_get harts hart)
+rests harts (Evict line) = false
 
 -- the step is made, and touches no watched line
 pub record StepsBy (points : List Point) (old new : MachineView) (step : Step) : Type 0 where

@@ -73,6 +73,10 @@ impl Debugger {
         ensures err { IfErr result (IsHeldWithin self.old.points moved self.old.machine self.new.machine step done count) }
     {
         for made in done..count {
+            if self.rests(step) {
+                // A hart that stopped changes nothing by the steps that are left, and no point stops before or behind them.
+                return Ok(None);
+            }
             match self.advance(step, moved, made) {
                 Ok(None) => moved = true,
                 Ok(Some(stop)) => return Ok(Some(stop)),

@@ -3,7 +3,7 @@
 ghost use Rattle.std.specs.Prelude.{◌≡◌, ◌<◌, ◌+◌, ◌^◌, IfOk, IfErr, IfSome, IfNone, OnErr, Some, slice_get};
 ghost use Rattle.machine.specs.Refusals.{Refuses};
 ghost use Rattle.machine.specs.Stands.{IsRunning, copy_of};
-ghost use Rattle.debugger.specs.Walks.{AsksFor, AsksForWatched, IsAdvanced, IsBrokenAt, IsHeldBy, IsStoppedBefore, IsStoppedBehind, WatchesOn, met_by};
+ghost use Rattle.debugger.specs.Walks.{AsksFor, AsksForWatched, IsAdvanced, IsBrokenAt, IsHeldBy, IsStoppedBefore, IsStoppedBehind, WatchesOn, met_by, rests};
 
 use crate::debugger::Debugger;
 use crate::going::ItemStop;
@@ -37,6 +37,16 @@ impl Debugger {
                 })),
                 Err(fault) => Err(fault),
             },
+        }
+    }
+
+    /// Whether a step is one of a hart that has stopped.
+    pub(crate) fn rests(&self, step: Step) -> bool
+        ensures { result ≡ rests self.now.machine.harts step }
+    {
+        match step {
+            Step::Hart(hart) => self.machine.has_stopped(hart),
+            Step::Evict(_) => false,
         }
     }
 

@@ -33,7 +33,7 @@ enum Call {
 /// item of the schedule and the steps of the item that are made.
 type Example = (&'static [u32], u32, &'static [(Call, &'static str)]);
 
-static EXAMPLES: [Example; 15] = [
+static EXAMPLES: [Example; 16] = [
     (
         FIRST_RUN,
         1,
@@ -128,6 +128,25 @@ static EXAMPLES: [Example; 15] = [
         &[
             (Call::Break(0x1_0000), "done"),
             (Call::Go("h0*2"), "end at 1.0"),
+        ],
+    ),
+    // The steps of a hart that has stopped take no time, and no breakpoint stops them, not even at its pc.
+    (
+        FIRST_RUN,
+        2,
+        &[
+            (Call::Break(0x1_001c), "done"),
+            (Call::Go("h0*4294967295"), "break h0 pc=0x1001c at 0.7"),
+            (Call::GoOn("h0*4294967295"), "end at 1.0"),
+            (Call::Registers(0), "stopped at 0x10020"),
+            (Call::Break(0x1_0020), "done"),
+            (Call::Watch(0x4000_0000), "done"),
+            (Call::Go("h0*4294967295"), "end at 1.0"),
+            (Call::Break(0x1_0000), "done"),
+            (Call::Go("h0*4294967294 h1"), "break h1 pc=0x10000 at 1.0"),
+            (Call::GoOn("h0*4294967294 h1"), "end at 2.0"),
+            (Call::Registers(0), "stopped at 0x10020"),
+            (Call::Registers(1), "running at 0x10004"),
         ],
     ),
     // Refused steps.

@@ -1,6 +1,11 @@
-use Rattle.std.proofs.Common.{◌∙◌, arith}
-use Rattle.debugger.proofs.Walking.{moved_more, walks_more}
+use Rattle.std.proofs.Common.{◌∙◌, sym, arith}
+use Rattle.debugger.proofs.Walking.{moved_more, walks_more, walks_rest}
 use Rattle.debugger.proofs.debugger.Debugger.go_on.Goals as goal
+
+pub returns-then-rests-clause-ok : goal.returns-then-rests-clause-ok
+returns-then-rests-clause-ok c =
+    walks_rest _ c.args.moved _ _ c.args.step c.args.done c.loop-made.made c.args.count (omega arith) (omega arith)
+    c.loop-made.invariant.walks (sym c.if-rests.ensures)
 
 pub loop-made-preserved : goal.loop-made-preserved
 loop-made-preserved c =
