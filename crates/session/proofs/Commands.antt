@@ -186,6 +186,10 @@ go_none rest (goes items) filled none s = none items s.2
 go_none rest goes_on filled none s = filled s.1
 go_none rest asked filled none s = absurd (differ (codes "go") _ refl s.0)
 
+pub go_wants : (rest : List ℕ) → words rest ≢ [] → (items : List Item) × IsSchedule rest items
+    → OnAsked (SaysNamed (codes "go") rest) faults.Memory
+go_wants rest filled read = (read.0, (refl, filled, read.1))
+
 pub quit_none : (rest : List ℕ) (asked : Asked) → words rest ≢ [] → ¬ (SaysNamed (codes "quit") rest asked)
 quit_none rest quits filled s = filled s.1
 quit_none rest asked filled s = absurd (differ (codes "quit") _ refl s.0)

@@ -91,7 +91,8 @@ NamesNoHart (steps number) = IsNoHart number
 NamesNoHart (shows number) = IsNoHart number
 NamesNoHart asked = ⊥
 
--- why there is no command of what is said: nothing is asked for, or what is asked for can't be
+-- why there is no command of what is said: nothing is asked for, what is asked for can't be, or memory is wanted for the schedule
+-- that is asked for
 abbrev pub OnNoHart : (Asked → Type 0) → StepFault → Type 0
 OnNoHart P refusals.NoSuchHart = (asked : Asked) × P asked × NamesNoHart asked
 OnNoHart P fault = ⊥
@@ -100,7 +101,7 @@ abbrev pub OnAsked : (Asked → Type 0) → DebugFault → Type 0
 OnAsked P faults.Command = (asked : Asked) → ¬ (P asked)
 OnAsked P faults.Address = (asked : Asked) × P asked × IsFar asked
 OnAsked P (faults.Step fault) = OnNoHart P fault
-OnAsked P faults.Memory = ⊤
+OnAsked P faults.Memory = (items : List Item) × P (goes items)
 OnAsked P fault = ⊥
 
 -- the same of one address and of one number of a hart

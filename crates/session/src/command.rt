@@ -45,7 +45,7 @@ pub(crate) enum Command {
 ///
 /// # Errors
 /// Command where it says none; Address where an address is past 64 bits; NoSuchHart where the number of a hart is past 32
-/// bits; Memory.
+/// bits; Memory where it says `go` with a schedule, for which a growth is refused.
 pub(crate) fn read_command(alloc: Global, line: &[u8]) -> Result<Option<Command>, DebugFault>
     ensures ok { IfOk result (λ found. MatchOption found (words line.now ≡ []) (λ command. Says line.now (meant command))) }
     ensures err { IfErr result (OnAsked (Says line.now)) }
@@ -155,7 +155,7 @@ fn peek_command(rest: &[u8]) -> Result<Command, DebugFault>
     }
 }
 
-#[tactic(auto, using(crate::proofs::Commands::go_none))]
+#[tactic(auto, using(crate::proofs::Commands::go_none, crate::proofs::Commands::go_wants))]
 fn go_command(alloc: Global, rest: &[u8]) -> Result<Command, DebugFault>
     ensures ok { IfOk result (λ command. SaysNamed (codes "go") rest.now (meant command)) }
     ensures err { IfErr result (OnAsked (SaysNamed (codes "go") rest.now)) }
