@@ -1,6 +1,6 @@
 -- What a pass says of every cut of every moment.
-use Rattle.std.proofs.Common.{◌≡◌, ℕ, ◌≤◌, List, Option, length, take, arith}
-use Rattle.std.specs.Prelude.{Ok}
+use Rattle.std.proofs.Common.{◌≡◌, ℕ, ◌≤◌, List, Option, Result, length, take, arith}
+use Rattle.std.specs.Prelude.{Err, IfOk, Ok}
 use Rattle.crash_model.specs.Cut.{IsCut, number_in}
 use Rattle.crash_model.specs.Image.{image}
 use Rattle.nova_log.specs.Volumes.{volume_of}
@@ -10,6 +10,9 @@ use Rattle.store_trace.specs.declared.event.Event.{Event}
 use Rattle.volume.specs.declared.entry.Entry.{Entry}
 use Rattle.image_check.specs.Legal.{IsLegal}
 use Rattle.image_check.specs.Verdicts.{IsVerdict, Passes}
+use Rattle.image_check.proofs.Deciding.{verdict_once}
+use Rattle.image_check.specs.declared.fault.CheckFault.{CheckFault}
+use Rattle.image_check.specs.declared.verdict.Verdict.{Verdict}
 use Rattle.image_check.specs.declared.verdict.Verdict.TheVariants as runs
 
 pub every_cut_passes : (plan : List Operation) (start : List (List ℕ)) (events : List Event) (moments : ℕ) (images : Option ℕ) →
@@ -20,3 +23,10 @@ pub every_cut_passes : (plan : List Operation) (start : List (List ℕ)) (events
 every_cut_passes plan start events moments images v moment cut h c =
     let passed : Passes plan start (take moment events) cut = (v.2 moment (omega arith)).1 cut c in
     (passed.volume, passed.recovers, passed.legal)
+
+-- where a check answers a verdict, it is the only one
+pub one_of : (plan : List Operation) (start : List (List ℕ)) (events : List Event) (found : Result Verdict CheckFault) →
+    IfOk found (λ verdict. IsVerdict plan start events verdict) →
+    IfOk found (λ verdict. (other : Verdict) → IsVerdict plan start events other → other ≡ verdict)
+one_of plan start events (Ok verdict) v = λ other o. verdict_once plan start events other verdict o v
+one_of plan start events (Err fault) v = v

@@ -15,19 +15,27 @@ ghost use Rattle.std.specs.Prelude.{◌≡◌, ℕ, ◌<◌, ◌≤◌, List, Op
 use crate::stretches::Stretches;
 use check_desk::judge_all;
 use gate::Gate;
-use image_check::{CheckFault, SoundRun, Verdict};
+use image_check::{CheckFault, SoundRun, Verdict, check_run};
 use line_memory::Medium;
 use plan::Plan;
 use std::alloc::Global;
 use std::thread::Threads;
 use store_trace::Trace;
 
+/// The fewest events of a run with two workers.
+const EVENTS_OF_TWO: usize = 8;
+
+/// A further worker for each so many events.
+const EVENTS_OF_MORE: usize = 128;
+
 /// The verdict on all moments of the trace, which started from the medium, by one to eight workers, in threads of their own where
 /// these can be started: the least moment that doesn't pass, or that every image of every moment recovers to a legal volume.
-/// The medium has every line that the trace names.
+/// The medium has every line that the trace names. One worker is the calling thread, which starts none; a short run has fewer workers
+/// than are asked for.
 ///
-/// The gate is entered before each claim of a worker, and left after what it claimed is judged. A wrong mark of an operation is
-/// told before any image is looked at, and the want of memory of any worker in place of a verdict.
+/// The gate is entered before each claim of a worker, and left after what it claimed is judged; where there is one worker it is round
+/// the whole run. A wrong mark of an operation is told before any image is looked at, and the want of memory of any worker in place of
+/// a verdict.
 pub fn check_parallel<G: Gate, R: Threads + Sync>(
     rt: &R,
     alloc: Global,
@@ -54,6 +62,10 @@ pub fn check_parallel<G: Gate, R: Threads + Sync>(
         × IsLegal plan.now.operations (volume_of medium.now) (take moment trace.now.events) found }
     ensures err { IfErr result (λ fault. IsRefusal plan.now.operations trace.now.events 0 fault) }
 {
+    let workers = workers_for(trace.events().len(), workers);
+    if workers == 1 {
+        return check_alone(alloc, plan, medium, trace, gate);
+    }
     let run = SoundRun::new(alloc, plan, medium, trace)?;
     let stretches = Stretches::new(alloc, &run, workers);
     let best = judge_all(rt, alloc, stretches.count, workers, &stretches, gate)?;
@@ -63,5 +75,42 @@ pub fn check_parallel<G: Gate, R: Threads + Sync>(
             moments: u64::from(run.moments()),
             images: run.images(alloc)?,
         }),
+    }
+}
+
+/// The verdict by the calling thread, to which the whole run is one piece of work.
+fn check_alone<G: Gate>(
+    alloc: Global,
+    plan: &Plan,
+    medium: &Medium,
+    trace: &Trace,
+    gate: &G,
+) -> Result<Verdict, CheckFault>
+    requires { HasLines medium.now trace.now.events }
+    ensures ok { IfOk result (λ verdict. IsVerdict plan.now.operations medium.now trace.now.events verdict) }
+    ensures sound { IfOk result (λ verdict. AreSound plan.now.operations trace.now.events (length trace.now.events)) }
+    ensures err { IfErr result (λ fault. IsRefusal plan.now.operations trace.now.events 0 fault) }
+{
+    gate.enter(0);
+    let verdict = check_run(alloc, plan, medium, trace);
+    gate.leave(0);
+    verdict
+}
+
+/// How many of so many workers a run with so many events has: a worker takes some time to start, so that one with less to do than
+/// that isn't started.
+fn workers_for(events: usize, workers: u32) -> u32
+    requires { (0 < workers) × (workers ≤ 8) }
+    ensures { (0 < result) × (result ≤ workers) }
+{
+    let worth = if events < EVENTS_OF_TWO {
+        1
+    } else {
+        2 + events / EVENTS_OF_MORE
+    };
+    if worth < workers as usize {
+        worth as u32
+    } else {
+        workers
     }
 }
