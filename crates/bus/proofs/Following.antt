@@ -262,7 +262,7 @@ steps_set (l ∷ lists) zero x xs got =
     let same : l ≡ xs = cc in rw same (omega arith)
 steps_set (l ∷ lists) (suc h) x xs got = let rest = steps_set lists h x xs got in omega (arith, rest)
 
-gathered_asked : (history : List Entry) (lists : List (List Exchange)) (steps : List Step) (h : ℕ) (request : Request) (reply : Reply) (x : Exchange)
+pub gathered_asked : (history : List Entry) (lists : List (List Exchange)) (steps : List Step) (h : ℕ) (request : Request) (reply : Reply) (x : Exchange)
     (xs : List Exchange) → slice_get lists h ≡ Some xs → AreGathered history lists steps
     → AreGathered (Asked h request reply ∷ history) (slice_set lists h (x ∷ xs)) (steps ++ (replicate x.steps (Hart h) ++ Hart h ∷ []))
 unfolding gathered
@@ -294,7 +294,7 @@ gathered_asked history lists steps h request reply x xs got a =
           omega (arith, before, own, sum, more);
     }
 
-gathered_evicted : (history : List Entry) (lists : List (List Exchange)) (steps : List Step) (line : ℕ) → AreGathered history lists steps
+pub gathered_evicted : (history : List Entry) (lists : List (List Exchange)) (steps : List Step) (line : ℕ) → AreGathered history lists steps
     → AreGathered (Evicted line ∷ history) lists (steps ++ Evict line ∷ [])
 unfolding gathered
 gathered_evicted history lists steps line a = record {

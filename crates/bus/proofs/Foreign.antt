@@ -197,7 +197,7 @@ got_after : (xs ys : List Exchange) (x : Exchange) → slice_get (xs ++ x ∷ ys
 got_after [] ys x = refl
 got_after (y ∷ xs) ys x = got_after xs ys x
 
-next_is : (later made xs : List Exchange) (x : Exchange) (n : ℕ) → xs ≡ later ++ x ∷ made → length made ≡ n → slice_get (reverse xs) n ≡ Some x
+pub next_is : (later made xs : List Exchange) (x : Exchange) (n : ℕ) → xs ≡ later ++ x ∷ made → length made ≡ n → slice_get (reverse xs) n ≡ Some x
 next_is later made xs x n split size =
     let turned : reverse xs ≡ reverse made ++ x ∷ reverse later =
     ap reverse split ∙ reverse-append later (x ∷ made) ∙ ap (λ (l : List Exchange). l ++ reverse later) (reverse-append (x ∷ []) made)
@@ -206,7 +206,7 @@ next_is later made xs x n split size =
     ap (λ (l : List Exchange). slice_get l n) turned
     ∙ ap (λ (k : ℕ). slice_get (reverse made ++ x ∷ reverse later) k) (sym place) ∙ got_after (reverse made) (reverse later) x
 
-oldest_size : (n : ℕ) (xs : List Exchange) → n ≤ length xs → length (oldest n xs) ≡ n
+pub oldest_size : (n : ℕ) (xs : List Exchange) → n ≤ length xs → length (oldest n xs) ≡ n
 oldest_size n xs fits =
     let size = length-reverse xs in
     let taken = length-take n (reverse xs) in
@@ -251,7 +251,7 @@ cannot_agree core full seat f later request reply program lines history told fol
     cannot x back.from there last.asks last.told told_one.0 exchanges
 
 -- a history, up to an entry and after it
-parted : (history : List Entry) (i : ℕ) (entry : Entry) → i < length history → entry ≡ slice_index_or history i entry
+pub parted : (history : List Entry) (i : ℕ) (entry : Entry) → i < length history → entry ≡ slice_index_or history i entry
     → reverse history ≡ reverse (drop (i + 1) history) ++ entry ∷ reverse (take i history)
 parted history i entry inside is =
     let front : take (i + 1) history ≡ take i history ++ entry ∷ [] =

@@ -1,5 +1,5 @@
 -- What was gathered of seats that have ended, said of the seats with which their threads began.
-use Rattle.std.proofs.Common.{◌≡◌, ◌≤◌, ℕ, zero, suc, List, [], ◌∷◌, Some, All, map, slice_get, refl, sym, ap, subst, ◌∙◌, inl, inr}
+use Rattle.std.proofs.Common.{◌≡◌, ◌≤◌, ℕ, zero, suc, List, [], ◌∷◌, Some, All, map, slice_get, refl, sym, ap, subst, ◌∙◌, inl, inr, arith}
 use Rattle.std.specs.List.{Contains}
 use Rattle.std.proofs.lemmas.Option.{none-some, slice_get_within, slice_get-get_or, get_or_from_slice_get}
 use Rattle.std.proofs.lemmas.List.Elements.{All-contains}
@@ -14,7 +14,7 @@ use Rattle.bus.specs.Crews.{AreDone}
 use Rattle.bus.specs.Driving.{HasEnded, badge}
 use Rattle.bus.specs.Seats.{SeatView}
 use Rattle.bus.specs.Stepping.{BusView}
-use Rattle.bus.specs.Together.{HaveRun, IsAtBudget, IsFinished, RefusesFinish}
+use Rattle.bus.specs.Together.{HaveRun, IsAtBudget, IsFinished, IsWithinBudget, RefusesFinish, count_of}
 
 -- what stands at one place of two lists whose images are the same
 twin : {A B : Type 0} (f : A → B) (xs ys : List A) (i : ℕ) (x : A) → map f xs ≡ map f ys → slice_get xs i ≡ Some x
@@ -57,8 +57,28 @@ module _ (bus : BusView) (given seats : List SeatView) (recorded : RecordedView)
         }
       ]
 
+  within_at : (h : ℕ) (s : HartState) → slice_get recorded.harts h ≡ Some s → IsWithinBudget given (all_steps recorded.items) h
+  within_at h s got =
+      let from = origin (λ (seat : SeatView). seat.state) done.by_number h s (ap (λ (l : List HartState). slice_get l h) (sym done.harts) ∙ got) in
+      let seat : SeatView = from.0 in
+      let there : slice_get done.by_number h ≡ Some seat = from.1 in
+      let numbered : Contains done.by_number seat = (h, slice_get_within done.by_number h seat there, get_or_from_slice_get done.by_number h seat seat there) in
+      let within : Contains seats seat = Contains-permutation done.by_number seats seat (IsPermutation-sym seats done.by_number done.same) numbered in
+      let place = place_of seats seat within in
+      let first = twin badge seats given place.0 seat same place.1 in
+      let made = done.made h seat there in
+      let most = done.within h seat there in
+      let limit : seat.budget ≡ first.0.budget = ap (λ (b : ℕ × ℕ). b.1) first.2 in
+      record {
+        at = place.0;
+        seat = first.0;
+        there = first.1;
+        number = sym (ap (λ (b : ℕ × ℕ). b.0) first.2) ∙ done.numbered h seat there;
+        within = omega (arith, made, most, limit);
+      }
+
   pub have_run : HaveRun bus given recorded
-  have_run = record { start = done.start; capacity = done.capacity; records = done.records; ended = spent_at }
+  have_run = record { start = done.start; capacity = done.capacity; records = done.records; within = within_at; ended = spent_at }
 
 -- why seats aren't gathered is seen of their numbers alone
 pub refused_so : (harts : ℕ) (given seats : List SeatView) (fault : FinishFault) → map badge seats ≡ map badge given

@@ -40,6 +40,7 @@ are_recorded core seats items recorded is below schedule records start items_are
       harts = records.harts ∙ ap (λ (d : Config). d.harts) same;
       trace = records.trace ∙ ap (λ (d : Config). d.common.trace) same ∙ sym is.shows.trace;
       made = λ h seat got. ap (λ (l : List Item). count_of h (all_steps l)) items_are ∙ schedule.made h seat got;
+      within = schedule.within;
       records = records;
     }
 
@@ -73,6 +74,7 @@ is_finished bus core old new recorded is placed r = record {
   capacity = r.capacity ∙ is.capacity;
   harts = r.harts;
   made = r.made;
+  within = r.within;
   records = rw (← is.program, ← is.start_is, ← is.harts) r.records;
 }
 

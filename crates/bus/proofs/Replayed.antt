@@ -356,6 +356,35 @@ list_at (x ∷ seats) zero s got =
 list_at (x ∷ seats) (suc h) s got = list_at seats h s got
 
 -- the schedule of what all seats have made
+pub scheduled : (core : CoreView) (seats : List SeatView) (items : List Item) (middle : List Step) → core.harts ≤ 8 → AllAgree core seats
+    → ((h : ℕ) (s : SeatView) → slice_get seats h ≡ Some s → AreCounted s.made s.budget s.since s.exchanges)
+    → AreGathered core.history (map (λ (seat : SeatView). seat.exchanges) seats) middle → all_steps items ≡ middle ++ last_steps 0 seats
+    → IsScheduleOf core seats items
+scheduled core seats items middle most agree counts made added =
+    let count = agree.count in
+    record {
+      agree = agree;
+      steps = added ∙ ap (λ (l : List Step). l ++ last_steps 0 seats) made.steps_are;
+      few =
+          let items_are = hart_steps_are items in
+          let all = ap hart_count added in
+          let sum = total_append middle (last_steps 0 seats) in
+          let total = made.total in
+          let most_all = all_few 0 seats (λ h s got. few_of s (counts h s got)) in
+          omega (arith, items_are, all, sum, total, most_all, count, most);
+      made = λ h s got.
+          let all = ap (λ (l : List Step). count_of h l) added in
+          let sum = count_append h middle (last_steps 0 seats) in
+          let first = made.made h ∙ ap steps_in (list_at seats h s got) in
+          let place : 0 + h ≡ h = omega arith in
+          let last = subst (λ (k : ℕ). count_of k (last_steps 0 seats) ≡ s.since) place (last_counted 0 h seats s got) in
+          let c = counts h s got in
+          let is = c.count in
+          omega (arith, all, sum, first, last, is);
+      within = λ h s got. let c = counts h s got in c.within;
+    }
+
+-- that of harts that were run once more
 pub is_schedule : (core fresh new : CoreView) (seats : List SeatView) (fs gs : List Follower) (items : List Item) (steps middle : List Step)
     → length seats ≡ core.harts → core.harts ≤ 8 → ((h : ℕ) (s : SeatView) → slice_get seats h ≡ Some s → s.hart ≡ h)
     → fresh.program ≡ core.program → fresh.start ≡ core.start → fresh.history ≡ [] → fresh.harts ≡ core.harts
@@ -392,27 +421,10 @@ is_schedule core fresh new seats fs gs items steps middle count most numbered pr
     let x = ends h s g.0 got g.1 in x.counted in
     let added : all_steps items ≡ middle ++ last_steps 0 seats =
     e.added ∙ ap (λ (l : List SeatView). middle ++ last_steps 0 l) (take_all (length seats) seats (omega arith)) in
-    record {
-      agree = agree;
-      steps = added ∙ ap (λ (l : List Step). l ++ last_steps 0 seats) (made.steps_are
-          ∙ ap (λ (l : List Entry). gathered l (all_made seats gs)) history ∙ ap (λ (l : List (List Exchange)). gathered core.history l) lists);
-      few =
-          let items_are = hart_steps_are items in
-          let all = ap hart_count added in
-          let sum = total_append middle (last_steps 0 seats) in
-          let total = made.total ∙ ap steps_of_all lists in
-          let most_all = all_few 0 seats (λ h s got. few_of s (counts h s got)) in
-          omega (arith, items_are, all, sum, total, most_all, count, most);
-      made = λ h s got.
-          let all = ap (λ (l : List Step). count_of h l) added in
-          let sum = count_append h middle (last_steps 0 seats) in
-          let first = made.made h ∙ ap (λ (l : List (List Exchange)). steps_in (slice_index_or l h [])) lists ∙ ap steps_in (list_at seats h s got) in
-          let place : 0 + h ≡ h = omega arith in
-          let last = subst (λ (k : ℕ). count_of k (last_steps 0 seats) ≡ s.since) place (last_counted 0 h seats s got) in
-          let c = counts h s got in
-          let is = c.count in
-          omega (arith, all, sum, first, last, is);
-    }
+    let own : AreGathered core.history (map (λ (seat : SeatView). seat.exchanges) seats) middle =
+    subst (λ (l : List (List Exchange)). AreGathered core.history l middle) lists
+    (subst (λ (l : List Entry). AreGathered l (all_made seats gs) middle) history made) in
+    scheduled core seats items middle most agree counts own added
 
 pub is_fresh_of : (core fresh : CoreView) → fresh.program ≡ core.program → fresh.start ≡ core.start → fresh.harts ≡ core.harts → fresh.history ≡ []
     → IsReplay fresh.program fresh.start fresh.history fresh.shared → IsFreshOf core fresh

@@ -10,7 +10,8 @@ use Rattle.bus.specs.declared.driving.Round.TheVariants as rounds
 use Rattle.bus.specs.declared.outcome.Outcome.{Outcome}
 use Rattle.bus.specs.Driving.{HasEnded, IsAtEnd, IsDriven, IsRound, badge, is_last, round_of, round_after}
 use Rattle.bus.specs.Seats.{SeatView, outcome_of}
-use Rattle.bus.specs.Stepping.{IsStepOf, IsStepRefusal}
+use Rattle.bus.specs.Seating.{IsLocalStep}
+use Rattle.bus.specs.Stepping.{IsAnswered, IsStepOf, IsStepRefusal}
 
 -- a seat keeps its number and its budget
 pub step_badge : (old new : SeatView) (o : Outcome) → IsStepOf old new o → badge new ≡ badge old
@@ -24,6 +25,12 @@ step_badge old new o step = elim step [
   ]
   | inr asked ↦ ap badge asked.told.seat
 ]
+
+pub local_badge : (old new : SeatView) (o : Outcome) → IsLocalStep old new o → badge new ≡ badge old
+local_badge old new o step = step_badge old new o (inl step)
+
+pub answered_badge : (old new : SeatView) (o : Outcome) → IsAnswered old new o → badge new ≡ badge old
+answered_badge old new o answered = step_badge old new o (inr answered)
 
 -- a hart whose outcome is the last doesn't run
 not_running : (s : Status) → is_last (outcome_of s) ≡ true → s ≢ statuses.Running
@@ -45,6 +52,9 @@ step_ends old new o step last = elim step [
   ]
   | inr asked ↦ ended_by new o asked.answer last
 ]
+
+pub local_ends : (old new : SeatView) (o : Outcome) → IsLocalStep old new o → is_last o ≡ true → IsAtEnd new
+local_ends old new o step last = step_ends old new o (inl step) last
 
 -- the round of a step that wasn't refused, after which the stop word is as it was but for the look
 pub round_ends : (old new : SeatView) (o : Outcome) (place seen : Sitting) → IsStepOf old new o → seen.raised ≡ place.raised

@@ -122,14 +122,16 @@ pub record HaveEnded (text : List ℕ) (n : ℕ) (seats : List SeatView) (fs : L
 abbrev pub follower_at_start : List ℕ → ℕ → Follower
 follower_at_start copy h = record { next = 0; state = start h; copy = copy }
 
--- each seat agrees with the core, and the items are what all of them have made
+-- each seat agrees with the core and has made no more steps than its budget, and the items are what all of them have made
 pub record IsScheduleOf (core : CoreView) (seats : List SeatView) (items : List Item) : Type 0 where
   pub agree : AllAgree core seats
   pub steps : all_steps items ≡ all_of core seats
   pub few : hart_steps items < 2 ^ 32
   pub made : (h : ℕ) (seat : SeatView) → slice_get seats h ≡ Some seat → count_of h (all_steps items) ≡ seat.made
+  pub within : (h : ℕ) (seat : SeatView) → slice_get seats h ≡ Some seat → seat.made ≤ seat.budget
 
--- what seats have made, by their numbers, is recorded as one run; as many of its steps are each hart's as the hart's seat has made
+-- what seats have made, by their numbers, is recorded as one run; as many of its steps are each hart's as the hart's seat has
+-- made, which are no more than its budget
 pub record AreRecorded (core : CoreView) (seats : List SeatView) (recorded : RecordedView) : Type 0 where
   pub agree : AllAgree core seats
   pub start_is : recorded.start ≡ core.start
@@ -138,6 +140,7 @@ pub record AreRecorded (core : CoreView) (seats : List SeatView) (recorded : Rec
   pub harts : recorded.harts ≡ map (λ (seat : SeatView). seat.state) seats
   pub trace : recorded.trace ≡ core.shared.trace
   pub made : (h : ℕ) (seat : SeatView) → slice_get seats h ≡ Some seat → count_of h (all_steps recorded.items) ≡ seat.made
+  pub within : (h : ℕ) (seat : SeatView) → slice_get seats h ≡ Some seat → seat.made ≤ seat.budget
   pub records : Records (started core.program core.start core.harts) recorded
 
 -- the core is that of the bus, as it began

@@ -1,5 +1,5 @@
 -- What harts that run together have done.
-use Rattle.std.specs.Prelude.{◌≡◌, ◌⊎◌, ℕ, List, [], ◌∷◌, Some, eqb, if◌then◌else◌, suc, IsPermutation, length, map, slice_get}
+use Rattle.std.specs.Prelude.{◌≡◌, ◌⊎◌, ◌≤◌, ℕ, List, [], ◌∷◌, Some, eqb, if◌then◌else◌, suc, IsPermutation, length, map, slice_get}
 use Rattle.hart.specs.declared.state.HartState.{HartState}
 use Rattle.hart.specs.declared.state.Status.TheVariants.{Running}
 use Rattle.machine.specs.Run.{started}
@@ -22,7 +22,7 @@ count_of h (Hart g ∷ steps) = if eqb g h then suc (count_of h steps) else coun
 count_of h (Evict line ∷ steps) = count_of h steps
 
 -- what is recorded is one run from the start of the bus. It ends in the states of the seats, each of which is a hart's by its
--- number, and as many of its steps are that hart's as the seat has made
+-- number, and as many of its steps are that hart's as the seat has made, which are no more than its budget
 pub record IsFinished (bus : BusView) (seats : List SeatView) (recorded : RecordedView) : Type 0 where
   pub by_number : List SeatView
   pub same : IsPermutation seats by_number
@@ -32,6 +32,7 @@ pub record IsFinished (bus : BusView) (seats : List SeatView) (recorded : Record
   pub capacity : recorded.capacity ≡ bus.capacity
   pub harts : recorded.harts ≡ map (λ (seat : SeatView). seat.state) by_number
   pub made : (h : ℕ) (seat : SeatView) → slice_get by_number h ≡ Some seat → count_of h (all_steps recorded.items) ≡ seat.made
+  pub within : (h : ℕ) (seat : SeatView) → slice_get by_number h ≡ Some seat → seat.made ≤ seat.budget
   pub records : Records (started bus.program bus.start bus.harts) recorded
 
 -- of the steps as many are hart h's as the seat of its number may make
@@ -42,12 +43,21 @@ pub record IsAtBudget (seats : List SeatView) (steps : List Step) (h : ℕ) : Ty
   pub number : seat.hart ≡ h
   pub spent : count_of h steps ≡ seat.budget
 
--- what is recorded is one run from the start of the bus, at whose end each hart has stopped or has made as many steps as its
--- seat may
+-- of the steps no more are hart h's than the seat of its number may make
+pub record IsWithinBudget (seats : List SeatView) (steps : List Step) (h : ℕ) : Type 0 where
+  pub at : ℕ
+  pub seat : SeatView
+  pub there : slice_get seats at ≡ Some seat
+  pub number : seat.hart ≡ h
+  pub within : count_of h steps ≤ seat.budget
+
+-- what is recorded is one run from the start of the bus, at whose end each hart has made no more steps than its seat may, and
+-- has stopped or has made as many
 pub record HaveRun (bus : BusView) (seats : List SeatView) (recorded : RecordedView) : Type 0 where
   pub start : recorded.start ≡ bus.start
   pub capacity : recorded.capacity ≡ bus.capacity
   pub records : Records (started bus.program bus.start bus.harts) recorded
+  pub within : (h : ℕ) (s : HartState) → slice_get recorded.harts h ≡ Some s → IsWithinBudget seats (all_steps recorded.items) h
   pub ended : (h : ℕ) (s : HartState) → slice_get recorded.harts h ≡ Some s → s.status ≡ Running
       → IsAtBudget seats (all_steps recorded.items) h
 

@@ -2,7 +2,8 @@
 
 ghost use Rattle.std.specs.Prelude.{◌≡◌, false};
 ghost use Rattle.bus.specs.Driving.{HasEnded, IsDriven, IsRound, badge, is_last, round_after};
-ghost use Rattle.bus.specs.Stepping.{IsStepRefusal};
+ghost use Rattle.bus.specs.Seating.{AsksNext};
+ghost use Rattle.bus.specs.Seats.{SeatView};
 
 use crate::lock::Bus;
 use crate::loose_seat::LooseSeat;
@@ -79,9 +80,12 @@ fn is_last(outcome: Outcome) -> bool
     }
 }
 
-/// Makes the next step of a seat, unless the stop word is raised; a step that is refused raises it. To look at the word is to
-/// load it, so that it's looked at before each step.
-#[tactic(auto, using(crate::proofs::Rounds::round_seen, crate::proofs::Rounds::step_badge))]
+/// How many steps that need no request a thread makes at most between two looks at the stop word.
+const MOST_ALONE: u32 = 4_096;
+
+/// Makes the steps of a seat up to its next request, and that one unless the stop word is raised then; or so many steps
+/// without a request, after which it looks at the word. Those take neither the lock nor a look, which is a load.
+#[tactic(auto, using(crate::proofs::Rounds::local_ends, crate::proofs::Rounds::local_badge))]
 fn make_round<'p, T: Turns, R: Wait>(
     rt: &R,
     bus: &Bus<'p>,
@@ -95,20 +99,61 @@ fn make_round<'p, T: Turns, R: Wait>(
     ensures word { stop.new.table ≡ stop.old.table }
     ensures round { IsRound seat.new stop.old stop.new result }
 {
+    let worker = seat.hart();
+    for _alone in 0..MOST_ALONE {
+        gate.enter(worker);
+        match seat.step_local() {
+            Some(outcome) => {
+                gate.leave(worker);
+                if is_last(outcome) {
+                    return Round::Ends;
+                }
+            }
+            None => {
+                let round = ask_next(rt, bus, word, seat, stop);
+                gate.leave(worker);
+                return round;
+            }
+        }
+    }
+    round_at_look(word, stop)
+}
+
+/// Has the request of a seat's next step served, unless the stop word is raised; a refusal raises it.
+#[tactic(auto, using(crate::proofs::Rounds::round_seen, crate::proofs::Rounds::answered_badge))]
+fn ask_next<'p, R: Wait>(
+    rt: &R,
+    bus: &Bus<'p>,
+    word: &StopWord,
+    seat: &mut Seat<'p>,
+    stop: &mut StopSeat,
+) -> Round
+    requires asks { AsksNext seat.old }
+    requires word { stop.old.table ≡ word.now.table }
+    ensures same { badge seat.new ≡ badge seat.old }
+    ensures word { stop.new.table ≡ stop.old.table }
+    ensures round { IsRound seat.new stop.old stop.new result }
+{
     if word.look(stop) {
         return Round::Ends;
     }
-    let worker = seat.hart();
-    gate.enter(worker);
-    let made = seat.step(rt, bus);
-    gate.leave(worker);
-    match made {
+    match seat.ask(rt, bus) {
         Ok(outcome) => round_after(outcome),
         Err(fault) => {
             word.raise(stop);
             Round::Refused(fault)
         }
     }
+}
+
+/// What a round comes to that ends with a look at the stop word.
+fn round_at_look(word: &StopWord, stop: &mut StopSeat) -> Round
+    requires { stop.old.table ≡ word.now.table }
+    ensures word { stop.new.table ≡ stop.old.table }
+    ensures round { (seat : SeatView) → IsRound seat stop.old stop.new result }
+{
+    let raised = word.look(stop);
+    if raised { Round::Ends } else { Round::GoesOn }
 }
 
 /// What a round comes to whose step wasn't refused.

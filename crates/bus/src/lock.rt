@@ -4,7 +4,7 @@ ghost use Rattle.std.specs.Prelude.{◌≡◌, ◌⊎◌, ◌^◌, ◌<◌, IfEr
 ghost use Rattle.bus.specs.Limits.{AreWithin, RefusesStart};
 ghost use Rattle.bus.specs.Seating.{AsksNext};
 ghost use Rattle.bus.specs.Starting.{AreAtStart};
-ghost use Rattle.bus.specs.Stepping.{IsStepOf, IsStepRefusal};
+ghost use Rattle.bus.specs.Stepping.{IsAnswered, IsStepOf, IsStepRefusal};
 ghost use Rattle.bus.specs.Together.{IsFinished, RefusesFinish};
 ghost use Rattle.schedule.specs.Grammar.{hart_steps};
 
@@ -154,16 +154,27 @@ impl<'p> Seat<'p> {
     /// # Errors
     /// Only a request is refused, and the seat is left as it was: NoSuchHart where the core has no such hart; TraceFull
     /// where the request would make an event and the trace is full; Memory where a growth is refused.
-    #[tactic(auto, using(crate::proofs::Stepping::local_step, crate::proofs::Stepping::served_step, crate::proofs::Refusing::step_refusal))]
+    #[tactic(auto, using(crate::proofs::Stepping::local_step, crate::proofs::Stepping::answered_step))]
     pub fn step<R: Wait>(&mut self, rt: &R, bus: &Bus<'p>) -> Result<Outcome, StepFault>
         ensures ok { IfOk result (IsStepOf self.old self.new) }
         ensures err { OnErr result (self.new ≡ self.old) }
         ensures asks { OnErr result (AsksNext self.old) }
         ensures cause { IfErr result IsStepRefusal }
     {
-        if let Some(outcome) = self.step_local() {
-            return Ok(outcome);
+        match self.step_local() {
+            Some(outcome) => Ok(outcome),
+            None => self.ask(rt, bus),
         }
+    }
+
+    /// Has the request of the next step served, under the bus's lock. A refusal leaves the seat as it was.
+    #[tactic(auto, using(crate::proofs::Stepping::served_answer, crate::proofs::Refusing::step_refusal))]
+    pub(crate) fn ask<R: Wait>(&mut self, rt: &R, bus: &Bus<'p>) -> Result<Outcome, StepFault>
+        requires { AsksNext self.old }
+        ensures ok { IfOk result (IsAnswered self.old self.new) }
+        ensures err { OnErr result (self.new ≡ self.old) }
+        ensures cause { IfErr result IsStepRefusal }
+    {
         let mut core = bus.core.lock(rt);
         serve(&mut core, self)
     }

@@ -1,13 +1,9 @@
-use Rattle.std.proofs.Common.{rules, sym, ap, subst}
+use Rattle.std.proofs.Common.{subst}
 use Rattle.stop_word.specs.Stops.{Sitting}
-use Rattle.bus.specs.declared.driving.Round.{Round}
 use Rattle.bus.specs.Driving.{IsRound}
-use Rattle.bus.proofs.Rounds.{look_unseen, round_ends}
 use Rattle.bus.proofs.driving.make_round.Goals as goal
 
-pub returns-in-Ok-clause-round : goal.returns-in-Ok-clause-round
-returns-in-Ok-clause-round g c =
-    subst (λ (r : Round). IsRound c.step-made.new.self c.args.stop.now c.look.new.seat r) (sym c.round_after.ensures)
-    (round_ends c.args.seat.now c.step-made.new.self c.in-Ok.outcome c.args.stop.now c.look.new.seat c.in-Ok.ensures.ok
-    (ap (λ (s : Sitting). s.raised) c.look.ensures.found)
-    (look_unseen c.args.stop.now c.look.new.seat c.look.result c.look.ensures.found c.look.ensures.stays (search rules)))
+pub returns-clause-round : goal.returns-clause-round
+returns-clause-round g c =
+    subst (λ (s : Sitting). IsRound c.loop-alone.seat s c.round_at_look.new.stop c.round_at_look.result) c.loop-alone.invariant.1
+    (c.round_at_look.ensures.round c.loop-alone.seat)
