@@ -1,0 +1,4 @@
+pub mod Loading
+pub mod Answers
+pub mod Recovery
+pub mod Images
