@@ -1,35 +1,33 @@
--- Lines held over a source: the copies where they are held, and the source's elsewhere.
-use Rattle.std.specs.Prelude.{◌≡◌, ℕ, List, [], ◌∷◌, Bool, true, false, length, slice_index_or, if◌then◌else◌}
+-- Lines held over a source: each line's copy where it has one, and the source's bytes elsewhere.
+use Rattle.std.specs.Prelude.{◌≡◌, ℕ, ◌<◌, Bool, true, Option, None, is_some, List, length, replicate, slice_index, slice_index_or}
 use Rattle.index_list.specs.Lists.{has}
-use Rattle.line_memory.specs.Lines.{line_bytes}
+use Rattle.line_memory.specs.Lines.{AreLines, line_bytes}
 use Rattle.line_memory.specs.Memory.{Memory}
+use Rattle.lru_cache.specs.Cache.{copied_over}
 
--- what a contract sees of held lines: the copies, which of them are held, and the list of those that were touched
-pub record HeldView : Type 0 where
-  pub lines : List (List ℕ)
-  pub held : List Bool
-  pub touched : List ℕ
+-- the flat memory of the lines as they are found
+abbrev pub memory_over : List (Option (List ℕ)) → List (List ℕ) → Memory
+memory_over copies source = line_bytes (copied_over copies source)
 
-abbrev pub is_held : List Bool → ℕ → Bool
-is_held held l = slice_index_or held l false
+-- there is a place for a copy of each line of the source, and what is found are lines
+pub record IsOver (copies : List (Option (List ℕ))) (source : List (List ℕ)) : Type 0 where
+  pub count : length source ≡ length copies
+  pub whole : AreLines (copied_over copies source)
 
--- each line that is held is in the list
-pub record AreTouched (held : List Bool) (touched : List ℕ) : Type 0 where
-  pub each : (l : ℕ) → is_held held l ≡ true → has l touched ≡ true
+-- over each source of so many lines, its own bytes are found
+pub record IsFresh (copies : List (Option (List ℕ))) (lines : ℕ) : Type 0 where
+  pub count : length copies ≡ lines
+  pub over : (source : List (List ℕ)) → AreLines source → length source ≡ lines → IsOver copies source
+  pub own : (source : List (List ℕ)) → memory_over copies source ≡ line_bytes source
 
--- line by line the copy where it is held, else the source's line
-unfoldable pub lines_over : List Bool → List (List ℕ) → List (List ℕ) → List (List ℕ)
-lines_over (held ∷ helds) (copy ∷ copies) (line ∷ lines) = (if held then copy else line) ∷ lines_over helds copies lines
-lines_over helds copies lines = []
+-- no line has a copy
+abbrev pub nothing_held : ℕ → List (Option (List ℕ))
+nothing_held lines = replicate lines None
 
--- the lines as they are found over a source
-abbrev pub lines_shown : HeldView → List (List ℕ) → List (List ℕ)
-lines_shown h source = lines_over h.held h.lines source
+abbrev pub is_held : List (Option (List ℕ)) → ℕ → Bool
+is_held copies line = is_some (slice_index_or copies line None)
 
--- a memory of them
-abbrev pub memory_shown : HeldView → List (List ℕ) → Memory
-memory_shown h source = line_bytes (lines_shown h source)
-
--- nothing is held: over each source of so many lines its own lines are found
-pub record IsFresh (h : HeldView) : Type 0 where
-  pub own : (source : List (List ℕ)) → length source ≡ length h.lines → lines_shown h source ≡ source
+-- each line that has a copy is in the list, and the list has no other numbers than of lines
+pub record AreTouched (copies : List (Option (List ℕ))) (touched : List ℕ) : Type 0 where
+  pub each : (line : ℕ) → is_held copies line ≡ true → has line touched ≡ true
+  pub below : (at : ℕ) → at < length touched → slice_index touched at < length copies
