@@ -1,5 +1,5 @@
 -- Runs that differ in persistent memory alone have the same answer.
-use Rattle.std.proofs.Common.{◌≡◌, ℕ, zero, suc, ◌+◌, ◌<◌, ◌≤◌, ◌==◌, List, Option, Some, None, Bool, true, false, nat_le, slice_get, if◌then◌else◌, refl, ap, ◌∙◌, inl, inr, arith}
+use Rattle.std.proofs.Common.{◌≡◌, ℕ, zero, suc, ◌+◌, ◌<◌, ◌≤◌, ◌==◌, List, Option, Some, None, Bool, true, false, nat_le, slice_get, refl, ap, ◌∙◌, inl, inr, arith}
 use Rattle.std.proofs.lemmas.Bool.{cases_lt, cases_Bool, lt-leb}
 use Rattle.line_memory.specs.Memory.{Memory}
 use Rattle.line_memory.specs.declared.TheConstants.{DATA_BASE, DATA_SIZE, PERSISTENT_BASE}

@@ -1,22 +1,24 @@
 -- The same of a run that ends before the event that is one too many.
-use Rattle.std.proofs.Common.{◌≡◌, ℕ, zero, suc, ◌+◌, ◌<◌, ◌≤◌, List, [], ◌∷◌, ◌++◌, Bool, true, false, length, take, refl, sym, ap, ◌∙◌, inl, inr, arith}
+use Rattle.std.proofs.Common.{◌≡◌, ℕ, zero, suc, ◌+◌, ◌≤◌, List, [], ◌++◌, Bool, false, Option, Some, slice_get, length, take, refl, sym, ap, ◌∙◌, inl, inr, arith}
 use Rattle.std.specs.List.{AllByRecursion}
 use Rattle.std.proofs.lemmas.List.{append-nil}
-use Rattle.line_memory.specs.Lines.{AreLines, line_at, line_bytes}
+use Rattle.line_memory.specs.Lines.{AreLines}
 use Rattle.line_memory.specs.Memory.{Memory}
 use Rattle.object.specs.Sections.{Sections}
 use Rattle.schedule.specs.declared.items.Step.TheVariants.{Hart}
 use Rattle.shared_memory.specs.declared.history.Entry.{Entry}
 use Rattle.shared_memory.specs.Served.{starting_memory}
-use Rattle.machine.specs.Run.{Config, RunsTo, StepsTo, started}
-use Rattle.machine.proofs.RunParts.{step_grows}
+use Rattle.hart.specs.declared.state.HartState.{HartState}
+use Rattle.hart.specs.declared.state.Status.{Status}
+use Rattle.hart.specs.declared.state.Status.TheVariants.{Running, Exited, Trapped}
+use Rattle.machine.specs.Run.{Config, HartSteps, HartStepsIfThere, RunsTo, StepsTo, started}
 use Rattle.machine.proofs.Determined.{steps_once}
 use Rattle.recovery_run.specs.Answers.{answer}
 use Rattle.recovery_run.specs.Loading.{AgreeOn, AreAsOne, loaded}
 use Rattle.recovery_run.specs.Recovery.{RunsFor, alone}
 use Rattle.recovery_run.proofs.Answering.{answer_same}
 use Rattle.recovery_run.proofs.Memories.{AgreeAt, Alike}
-use Rattle.recovery_run.proofs.Following.{Follows, Twins, twin_steps}
+use Rattle.recovery_run.proofs.Following.{Twins, twin_steps}
 use Rattle.recovery_run.proofs.Runs.{Grows, agree_self, alike_self, all_back, all_front, as_one, flat_agree, flat_alike, joined, next_step, other_twins, self_twins, start_twins}
 
 grown_for : (m : Memory) (c d : Config) (steps : ℕ) (full : Bool) → Twins m m c c → RunsFor c steps d full → Grows c d
@@ -139,3 +141,24 @@ ends_once c d e (suc steps) full other (middle, x, inl (room, later)) (middle2, 
     absurd (omega (arith, over, room))
 ends_once c d e (suc steps) full other (middle, x, inl (room, later)) (middle2, y, inl (under, then_on)) =
     ends_once middle d e steps full other later (rw (steps_once c (Hart 0) middle middle2 x y) then_on)
+
+-- a run goes on where an earlier one ended, and a stopped hart changes nothing
+pub goes_on : (c d e : Config) (steps more : ℕ) (full : Bool) → RunsFor c steps d false → RunsFor d more e full → RunsFor c (steps + more) e full
+goes_on c d e zero more full (same, f) later = let none : zero + more ≡ more = omega arith in rw (none, ← same) later
+goes_on c d e (suc steps) more full (middle, x, inr (over, same, f)) later = cc
+goes_on c d e (suc steps) more full (middle, x, inl (room, rest)) later =
+    let one : suc steps + more ≡ suc (steps + more) = omega arith in
+    rw one (middle, x, inl (room, goes_on middle d e steps more full rest later))
+
+still : (c : Config) (s : HartState) (status : Status) → (status ≡ Running → ⊥) → HartSteps c 0 s status c
+still c s Running stopped = absurd (stopped refl)
+still c s (Exited code) stopped = refl
+still c s (Trapped trap) stopped = refl
+
+still_there : (c : Config) (s : HartState) (state : Option HartState) → state ≡ Some s → (s.status ≡ Running → ⊥) → HartStepsIfThere c 0 state c
+still_there c s state there stopped = rw there (still c s s.status stopped)
+
+pub stays : (c : Config) (s : HartState) (steps : ℕ) → slice_get c.harts 0 ≡ Some s → (s.status ≡ Running → ⊥) → length c.common.trace ≤ 65536
+    → RunsFor c steps c false
+stays c s zero there stopped few = (refl, refl)
+stays c s (suc steps) there stopped few = (c, still_there c s (slice_get c.harts 0) there stopped, inl (few, stays c s steps there stopped few))

@@ -1,28 +1,24 @@
 -- Whole runs over two media.
-use Rattle.std.proofs.Common.{◌≡◌, ℕ, zero, suc, ◌+◌, ◌-◌, ◌*◌, ◌/◌, ◌%◌, ◌<◌, ◌≤◌, List, [], ◌∷◌, ◌++◌, length, take, Option, Some, None, is_some, nat_le, ◌==◌, if◌then◌else◌, slice_get, refl, sym, ap, ◌∙◌, inl, inr, arith, rules, append_assoc}
+use Rattle.std.proofs.Common.{◌≡◌, ℕ, zero, suc, ◌+◌, ◌-◌, ◌/◌, ◌%◌, ◌<◌, ◌≤◌, List, [], ◌∷◌, ◌++◌, length, take, is_some, slice_get, refl, sym, ap, ◌∙◌, inl, inr, arith, append_assoc}
 use Rattle.std.specs.List.{AllByRecursion}
-use Rattle.std.proofs.lemmas.Bool.{cases_lt, cases_Bool, lt-leb}
+use Rattle.std.proofs.lemmas.Bool.{cases_lt}
 use Rattle.std.proofs.lemmas.List.{append-nil, length-append, get_or_past}
 use Rattle.std.proofs.lemmas.Option.{slice_get-get_or}
 use Rattle.line_memory.specs.Lines.{AreLines, line_at, line_bytes}
 use Rattle.line_memory.specs.Memory.{Memory}
-use Rattle.line_memory.specs.Regions.{flat, padded, ram_bytes}
-use Rattle.line_memory.specs.declared.TheConstants.{DATA_BASE, DATA_SIZE, PERSISTENT_BASE}
-use Rattle.line_memory.proofs.Flat.{flat_persistent, flat_ram, past_lines}
+use Rattle.line_memory.specs.Regions.{flat}
+use Rattle.line_memory.specs.declared.TheConstants.{PERSISTENT_BASE}
+use Rattle.line_memory.proofs.Flat.{flat_persistent, flat_ram}
 use Rattle.object.specs.Sections.{Sections}
 use Rattle.schedule.specs.declared.items.Step.{Step}
-use Rattle.hart.specs.Registers.{register}
-use Rattle.hart.specs.declared.state.HartState.{HartState}
-use Rattle.hart.specs.declared.state.Status.{Status}
-use Rattle.hart.specs.declared.state.Status.TheVariants.{Running, Exited, Trapped}
 use Rattle.shared_memory.specs.declared.history.Entry.{Entry}
-use Rattle.shared_memory.specs.Served.{line_of, starting_memory}
+use Rattle.shared_memory.specs.Served.{starting_memory}
 use Rattle.shared_memory.specs.Histories.{replayed}
-use Rattle.machine.specs.Run.{Config, RunsTo, StepsTo, started}
+use Rattle.machine.specs.Run.{Config, RunsTo, started}
 use Rattle.machine.proofs.Determined.{steps_once}
 use Rattle.recovery_run.specs.Loading.{AgreeOn, AreAsOne, loaded}
 use Rattle.recovery_run.proofs.Memories.{AgreeAt, Alike, replayed_same}
-use Rattle.recovery_run.proofs.Following.{Follows, Twins, twin_steps}
+use Rattle.recovery_run.proofs.Following.{Twins, twin_steps}
 
 -- lists that agree in parts
 pub all_front : {A : Type 0} (P : A → Type 0) (xs ys : List A) → AllByRecursion P (xs ++ ys) → AllByRecursion P xs

@@ -2,10 +2,12 @@
 //! which it loads decide both. The definitions stand over Run; nothing here runs.
 #![tactic(auto)]
 
-ghost use Rattle.std.specs.Prelude.{◌≡◌, ◌+◌, ◌≤◌, ℕ, List, Bool, Result, false, length, take};
+ghost use Rattle.std.specs.Prelude.{◌≡◌, ◌≢◌, ◌+◌, ◌≤◌, ℕ, List, Bool, Result, Some, false, length, slice_get, take};
 ghost use Rattle.branches.specs.Branches.{Agree, IsAdaptive, IsShared};
 ghost use Rattle.crash_model.specs.Image.{image};
 ghost use Rattle.crash_model.specs.declared.step.PersistenceStep.{PersistenceStep};
+ghost use Rattle.hart.specs.declared.state.HartState.{HartState};
+ghost use Rattle.hart.specs.declared.state.Status.TheVariants.{Running};
 ghost use Rattle.line_memory.specs.Lines.{AreLines};
 ghost use Rattle.object.specs.Sections.{Sections};
 ghost use Rattle.schedule.specs.declared.items.Step.{Step};
@@ -42,6 +44,15 @@ pub fn recovery_is_a_run()
         RunsFor c steps d full → length d.common.trace ≤ 65536 }
     ensures once { (c d e : Config) (steps : ℕ) (full other : Bool) →
         RunsFor c steps d full → RunsFor c steps e other → (e ≡ d) × (other ≡ full) }
+{}
+
+/// A recovery run in parts: what isn't full goes on, and a hart that has stopped changes nothing in the steps that are left.
+#[tactic(auto, using(crate::proofs::Limited::goes_on, crate::proofs::Limited::stays))]
+pub fn recovery_has_parts()
+    ensures joined { (c d e : Config) (steps more : ℕ) (full : Bool) →
+        RunsFor c steps d false → RunsFor d more e full → RunsFor c (steps + more) e full }
+    ensures stopped { (c : Config) (state : HartState) (steps : ℕ) → slice_get c.harts 0 ≡ Some state → state.status ≢ Running →
+        length c.common.trace ≤ 65536 → RunsFor c steps c false }
 {}
 
 /// Media of the same length that agree on the lines that a run loads have the same run: but for persistent memory it comes
