@@ -4,7 +4,7 @@ use Rattle.std.proofs.lemmas.Bool.{cases_eq, cases_Bool, cases_lt, eq-eqb, ne_eq
 use Rattle.std.proofs.lemmas.List.{get_or-set_same, get_or-set_other, length-replicate, length-set}
 use Rattle.index_list.specs.Lists.{has}
 use Rattle.index_list.proofs.Members.{has-push}
-use Rattle.line_memory.specs.Lines.{AreLines, line_at, line_bytes}
+use Rattle.line_memory.specs.Lines.{AreLines, IsMedium, line_at, line_bytes}
 use Rattle.line_memory.specs.Memory.{IsWidth, loaded_from, stored_to}
 use Rattle.line_memory.proofs.Accesses.{fits_line, line_loaded, line_peeked, line_stored}
 use Rattle.line_memory.proofs.Maps.{length-stored}
@@ -205,3 +205,8 @@ none_left copies touched at n past left count =
 pub fresh_left : (copies : List (Option (List ℕ))) (touched : List ℕ) (at n : ℕ) → length touched ≤ at → AreLeft copies touched at → length copies ≡ n
     → IsFresh copies n
 fresh_left copies touched at n past left count = fresh_of copies n (none_left copies touched at n past left count)
+
+-- where nothing is held, a medium of as many lines can be the source
+pub over_fresh : (copies : List (Option (List ℕ))) (n : ℕ) (source : List (List ℕ)) → IsFresh copies n → IsMedium source → length source ≡ n
+    → IsOver copies source
+over_fresh copies n source fresh medium count = fresh.over source medium.each count
