@@ -1,0 +1,10 @@
+//! The events of a run, each with the hart step that made it and the pc that its hart had before.
+#![tactic(auto)]
+
+mod laws;
+mod traced_event;
+mod tracer;
+
+pub use laws::traced_run_is_run;
+pub use traced_event::TracedEvent;
+pub use tracer::trace_run;
