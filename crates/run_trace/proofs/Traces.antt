@@ -1,8 +1,8 @@
 -- What a traced run says of its run.
-use Rattle.std.proofs.Common.{◌≡◌, ℕ, zero, suc, ◌+◌, ◌<◌, ◌≤◌, List, [], ◌∷◌, ◌++◌, All, Some, length, map, slice_get, refl, sym, ap, ◌∙◌, arith, append_assoc, append-nil}
+use Rattle.std.proofs.Common.{◌≡◌, ℕ, suc, List, [], ◌∷◌, ◌++◌, All, Some, refl, sym, ap, ◌∙◌, arith, append_assoc, append-nil}
 use Rattle.std.proofs.lemmas.List.{append_cancel_left, map-append}
 use Rattle.hart.specs.declared.state.HartState.{HartState}
-use Rattle.machine.specs.Run.{Config, RunsTo, StepsTo}
+use Rattle.machine.specs.Run.{Config, RunsTo}
 use Rattle.machine.proofs.Determined.{steps_once}
 use Rattle.run_trace.specs.Traced.{IsPcBefore, TracedRun, TracedStep, events_in, passed}
 use Rattle.run_trace.specs.declared.traced_event.TracedEvent.{TracedEvent}

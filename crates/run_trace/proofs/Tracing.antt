@@ -1,5 +1,5 @@
 -- A tracer's steps, one after another.
-use Rattle.std.proofs.Common.{◌≡◌, ℕ, zero, suc, ◌+◌, ◌<◌, ◌≤◌, ◌⊎◌, List, [], ◌∷◌, ◌++◌, length, take, replicate, Option, Some, None, true, All, slice_get, get_or, refl, sym, ap, ◌∙◌, inl, inr, arith, Bor, lit<, append_assoc, append-nil}
+use Rattle.std.proofs.Common.{◌≡◌, ℕ, zero, suc, ◌+◌, ◌<◌, ◌≤◌, List, [], ◌∷◌, ◌++◌, length, take, replicate, Some, None, true, slice_get, get_or, refl, sym, ap, ◌∙◌, inl, inr, arith, Bor, append_assoc, append-nil}
 use Rattle.std.proofs.lemmas.List.{length-append, replicate_more, replicate-append-replicate, take_more}
 use Rattle.std.proofs.lemmas.List.Elements.{All-nil, All-cons}
 use Rattle.std.proofs.lemmas.Grind.{flat_map-append}
@@ -7,13 +7,12 @@ use Rattle.std.proofs.lemmas.Option.{slice_get_read, slice_get_within}
 use Rattle.std.specs.Slice.{IsItemAt}
 use Rattle.hart.specs.declared.state.HartState.{HartState}
 use Rattle.machine.specs.Run.{Config, RunsTo, StepsTo}
-use Rattle.machine.specs.Refusals.{Refuses}
 use Rattle.machine.specs.Stands.{MachineView, Runs, Stands}
-use Rattle.machine.specs.Stops.{StopsAfter, is_stopped}
+use Rattle.machine.specs.Stops.{is_stopped}
 use Rattle.machine.specs.declared.fault.RunStop.{RunStop}
 use Rattle.machine.proofs.RunParts.{grows, run_grows}
 use Rattle.machine.proofs.Steps.{eviction_stops, hart_stops, item_stops, runs_more, runs_none, stopped_runs}
-use Rattle.run_trace.specs.Traced.{IsPcBefore, StopsTracing, TracedRun, TracedStep, Traces, events_in, passed}
+use Rattle.run_trace.specs.Traced.{IsPcBefore, StopsTracing, TracedRun, TracedStep, Traces, passed}
 use Rattle.run_trace.specs.Tracers.{Continues, HoldsAfter, HoldsAt, IsHeld, Tells, TracerView, passed_all}
 use Rattle.run_trace.specs.declared.traced_event.TracedEvent.{TracedEvent}
 use Rattle.schedule.specs.declared.items.Item.{Item}
@@ -36,9 +35,14 @@ hart_passed n (suc k) h = let rest = hart_passed (n + 1) k h in rest ∙ omega a
 traced_joined : (n : ℕ) (c d e : Config) (xs ys : List Step) (first others : List TracedEvent) → TracedRun n c xs d first
     → TracedRun (passed_all n xs) d ys e others → TracedRun n c (xs ++ ys) e (first ++ others)
 traced_joined n c d e [] ys first others a b = rw (a.1, ← a.0) b
-traced_joined n c d e (x ∷ xs) ys first others a b =
-    (a.0, a.1, a.2 ++ others, ap (λ (t : List TracedEvent). t ++ others) a.3 ∙ append_assoc a.1 a.2 others, a.4,
-    traced_joined (passed n x) a.0 d e xs ys a.2 others a.5 b)
+traced_joined n c d e (x ∷ xs) ys first others a b = (
+  a.0,
+  a.1,
+  a.2 ++ others,
+  ap (λ (t : List TracedEvent). t ++ others) a.3 ∙ append_assoc a.1 a.2 others,
+  a.4,
+  traced_joined (passed n x) a.0 d e xs ys a.2 others a.5 b,
+)
 
 -- a run that adds nothing to the trace makes no event
 is_empty : (xs : List Event) → length xs ≤ 0 → xs ≡ []
@@ -123,12 +127,19 @@ tells_event old new h s t runs there pc number got traced c stands =
     record {
       end = after.0;
       more = t ∷ [];
-      run = (after.0, t ∷ [], [], refl, record {
-            steps = moves;
-            events = g.trace ∙ ap (λ (m : List Event). c.common.trace ++ m) more;
-            numbers = All-cons (λ (u : TracedEvent). u.step ≡ old.made + 1) t [] number (All-nil (λ (u : TracedEvent). u.step ≡ old.made + 1));
-            pcs = All-cons (λ (u : TracedEvent). IsPcBefore c (Hart h) u.pc) t [] (s, hart, pc) (All-nil (λ (u : TracedEvent). IsPcBefore c (Hart h) u.pc));
-          }, (refl, refl));
+      run = (
+        after.0,
+        t ∷ [],
+        [],
+        refl,
+        record {
+          steps = moves;
+          events = g.trace ∙ ap (λ (m : List Event). c.common.trace ++ m) more;
+          numbers = All-cons (λ (u : TracedEvent). u.step ≡ old.made + 1) t [] number (All-nil (λ (u : TracedEvent). u.step ≡ old.made + 1));
+          pcs = All-cons (λ (u : TracedEvent). IsPcBefore c (Hart h) u.pc) t [] (s, hart, pc) (All-nil (λ (u : TracedEvent). IsPcBefore c (Hart h) u.pc));
+        },
+        (refl, refl),
+      );
       stands = after.2;
       traced = traced;
     }

@@ -1,6 +1,5 @@
-use Rattle.std.proofs.Common.{refl, ap, ◌∙◌, List, length, arith}
+use Rattle.std.proofs.Common.{refl, length}
 use Rattle.std.proofs.lemmas.Result.{on_ok_weaker}
-use Rattle.store_trace.specs.declared.event.Event.{Event}
 use Rattle.run_trace.proofs.Tracing.{continues_event, continues_silent, item_there, past_item}
 use Rattle.run_trace.proofs.tracer.Tracer.step_hart.Goals as goal
 
