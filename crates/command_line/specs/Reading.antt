@@ -1,14 +1,18 @@
 -- What the files say that a command reads.
-use Rattle.std.specs.Prelude.{◌≡◌, ◌≢◌, ◌⊎◌, ◌%◌, ◌/◌, ◌<◌, ℕ, List, Option, Some, None, Result, MatchResult, length, ⊤}
+use Rattle.std.specs.Prelude.{◌≡◌, ◌≢◌, ◌⊎◌, ◌%◌, ◌/◌, ◌<◌, ℕ, List, Option, Some, None, Result, MatchResult, length}
 use Rattle.std.specs.List.{concat}
 use Rattle.line_memory.specs.Lines.{IsMedium, zero_lines}
 use Rattle.line_memory.specs.declared.MediumFault.{MediumFault}
 use Rattle.line_memory.specs.declared.MediumFault.TheVariants as media
 use Rattle.object.specs.Sections.{Sections}
-use Rattle.plan.specs.Grammar.{IsFirstFault, IsPlan, OnText as OnPlanText}
+use Rattle.plan.specs.Grammar.{BeginsThrough, IsFirstFault, IsPlan}
 use Rattle.plan.specs.Plans.{PlanView}
+use Rattle.plan.specs.declared.fault.PlanCode.{PlanCode}
+use Rattle.plan.specs.declared.fault.PlanCode.TheVariants as plans
 use Rattle.plan.specs.declared.fault.PlanFault.{PlanFault}
-use Rattle.schedule.specs.Grammar.{IsSchedule, OnText}
+use Rattle.schedule.specs.Grammar.{IsSchedule}
+use Rattle.schedule.specs.declared.fault.ScheduleFault.{ScheduleFault}
+use Rattle.schedule.specs.declared.fault.ScheduleFault.TheVariants as schedules
 use Rattle.schedule.specs.declared.items.Item.{Item}
 use Rattle.tester.specs.Programs.{IsLoadFault, IsProgramOf}
 use Rattle.command_line.specs.Failures.{failure_of_medium, failure_of_plan, failure_of_program, failure_of_schedule}
@@ -20,25 +24,36 @@ use Rattle.command_line.specs.declared.failure.Failure.TheVariants.{Memory}
 pub record SaysProgram (file : List ℕ) (outcome : Result Sections Failure) : Type 0 where
   pub says : MatchResult outcome (IsProgramOf file) (Tells (IsLoadFault file) failure_of_program)
 
--- the plan of a text, or its first line at fault
+-- the plan of a text, or its first line at fault; memory is wanted at the line of an operation alone, with nothing at fault as far as it
+abbrev pub IsPlanFaultAt : List ℕ → ℕ → PlanCode → Type 0
+IsPlanFaultAt text line plans.Memory = BeginsThrough text line
+IsPlanFaultAt text line code = IsFirstFault text line code
+
 abbrev pub IsPlanFault : List ℕ → PlanFault → Type 0
-IsPlanFault text fault = OnPlanText fault.code (IsFirstFault text fault.line fault.code)
+IsPlanFault text fault = IsPlanFaultAt text fault.line fault.code
 
 pub record SaysPlan (text : List ℕ) (outcome : Result PlanView Failure) : Type 0 where
   pub says : MatchResult outcome (IsPlan text) (Tells (IsPlanFault text) failure_of_plan)
 
--- the schedule of a text, or that it says none
-pub record SaysSchedule (text : List ℕ) (outcome : Result (List Item) Failure) : Type 0 where
-  pub says : MatchResult outcome (IsSchedule text) (Tells (OnText ((schedule : List Item) → ¬ IsSchedule text schedule)) failure_of_schedule)
+-- the schedule of a text, or that it says none; memory is wanted for a schedule alone
+abbrev pub IsScheduleFault : List ℕ → ScheduleFault → Type 0
+IsScheduleFault text schedules.Text = (items : List Item) → ¬ (IsSchedule text items)
+IsScheduleFault text schedules.Memory = (items : List Item) × IsSchedule text items
 
--- the medium of these bytes, or that they aren't 512 to 16,384 whole lines
+pub record SaysSchedule (text : List ℕ) (outcome : Result (List Item) Failure) : Type 0 where
+  pub says : MatchResult outcome (IsSchedule text) (Tells (IsScheduleFault text) failure_of_schedule)
+
+-- the medium of these bytes, or that they aren't 512 to 16,384 whole lines; memory is wanted where they are
 pub record HasBytes (bytes : List ℕ) (lines : List (List ℕ)) : Type 0 where
   pub all : concat lines ≡ bytes
   pub whole : IsMedium lines
 
+abbrev pub IsNoMedium : List ℕ → Type 0
+IsNoMedium bytes = (length bytes % 64 ≢ 0) ⊎ (length bytes / 64 < 512) ⊎ (16384 < length bytes / 64)
+
 abbrev pub IsMediumFault : List ℕ → MediumFault → Type 0
-IsMediumFault bytes media.Size = (length bytes % 64 ≢ 0) ⊎ (length bytes / 64 < 512) ⊎ (16384 < length bytes / 64)
-IsMediumFault bytes media.Memory = ⊤
+IsMediumFault bytes media.Size = IsNoMedium bytes
+IsMediumFault bytes media.Memory = ¬ (IsNoMedium bytes)
 
 pub record SaysMedium (bytes : List ℕ) (outcome : Result (List (List ℕ)) Failure) : Type 0 where
   pub says : MatchResult outcome (HasBytes bytes) (Tells (IsMediumFault bytes) failure_of_medium)
