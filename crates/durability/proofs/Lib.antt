@@ -1,0 +1,6 @@
+pub mod Firsts
+pub mod Floors
+pub mod Givens
+pub mod Nexts
+pub mod Opens
+pub mod Tellings

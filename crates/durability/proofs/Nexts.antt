@@ -1,0 +1,232 @@
+-- What comes after an event, one event further back.
+use Rattle.std.proofs.Common.{◌≡◌, ℕ, ◌+◌, ◌<◌, ◌≤◌, ◌⊎◌, ◌≢◌, ◌==◌, false, inl, inr, List, Option, Some, None, length, get_or, take, drop, ◌++◌, arith, refl, subst, sym, ◌∙◌}
+use Rattle.std.specs.Prelude.{slice_set}
+use Rattle.std.proofs.lemmas.Bool.{cases_Bool}
+use Rattle.std.proofs.lemmas.Bool.Decides.{nat_tests}
+use Rattle.std.proofs.lemmas.Grind.{common_steps}
+use Rattle.std.proofs.lemmas.Option.{get_or_from_slice_get, slice_get_within}
+use Rattle.store_trace.specs.declared.event.Event.{Event}
+use Rattle.store_trace.specs.declared.event.Event.TheVariants.{Store, Clean, Fence, Begin, End}
+use Rattle.durability.proofs.Firsts.{event_within, first_of_both, first_same, none_first}
+use Rattle.durability.specs.Causes.{AreFates, AreNext, IsClean, IsCompletion, IsFate}
+use Rattle.durability.specs.Numbered.{earlier_of, event_at, IsCleanOf, IsFence, IsFirst, IsFirstIfAny}
+use Rattle.durability.specs.declared.cause.Fate.{Fate}
+
+-- an event after event `at` is the next one, or comes after that
+next_or_later : (at n : ℕ) → at < n → (at + 1 ≡ n) ⊎ (at + 1 < n)
+next_or_later at n h = grind (arith, nat_tests, h)
+
+some_same : (events : List Event) (at n : ℕ) (one other : Event) → event_at events (at + 1) ≡ Some one → event_at events n ≡ Some other →
+    at + 1 ≡ n → one ≡ other
+some_same events at n one other here there e = cc
+
+fence_before : (events : List Event) (h at n : ℕ) → IsFence events h (at + 1) n → IsFence events h at n
+fence_before events h at n f = record { later = omega (arith, f.later); is = f.is }
+
+clean_before : (events : List Event) (h l at n : ℕ) → IsCleanOf events h l (at + 1) n → IsCleanOf events h l at n
+clean_before events h l at n c = record { later = omega (arith, c.later); is = c.is }
+
+completion_before : (events : List Event) (l at n : ℕ) → IsCompletion events l (at + 1) n → IsCompletion events l at n
+completion_before events l at n c = record {
+  hart = c.hart;
+  clean = c.clean;
+  cleans = clean_before events c.hart l at c.clean c.cleans;
+  fences = c.fences;
+}
+
+-- the next event is no fence of the hart
+pub fence_stays : (events : List Event) (h at : ℕ) (event : Event) (o : Option ℕ) → event_at events (at + 1) ≡ Some event →
+    (event ≡ Fence h → ⊥) → IsFirstIfAny (IsFence events h (at + 1)) o → IsFirstIfAny (IsFence events h at) o
+fence_stays events h at event o here other f =
+    first_same (IsFence events h (at + 1)) (IsFence events h at) o (fence_before events h at)
+    (λ n fence. elim (next_or_later at n fence.later) [
+      | inl e ↦ absurd (other (some_same events at n event (Fence h) here fence.is e))
+      | inr later ↦ record { later = later; is = fence.is }
+    ])
+    f
+
+-- or it is one
+pub fence_here : (events : List Event) (h at : ℕ) → event_at events (at + 1) ≡ Some (Fence h) → IsFirst (IsFence events h at) (at + 1)
+fence_here events h at here = record {
+  holds = record { later = omega arith; is = here };
+  first = λ k fence. omega (arith, fence.later);
+}
+
+clean_stays : (events : List Event) (l at : ℕ) (event : Event) (o : Option ℕ) → event_at events (at + 1) ≡ Some event →
+    ((h : ℕ) → event ≡ Clean h l → ⊥) → IsFirstIfAny (IsClean events l (at + 1)) o → IsFirstIfAny (IsClean events l at) o
+clean_stays events l at event o here other f =
+    first_same (IsClean events l (at + 1)) (IsClean events l at) o
+    (λ n clean. record { hart = clean.hart; cleans = clean_before events clean.hart l at n clean.cleans })
+    (λ n clean. elim (next_or_later at n clean.cleans.later) [
+      | inl e ↦ absurd (other clean.hart (some_same events at n event (Clean clean.hart l) here clean.cleans.is e))
+      | inr later ↦ record { hart = clean.hart; cleans = record { later = later; is = clean.cleans.is } }
+    ])
+    f
+
+completion_stays : (events : List Event) (l at : ℕ) (event : Event) (o : Option ℕ) → event_at events (at + 1) ≡ Some event →
+    ((h : ℕ) → event ≡ Clean h l → ⊥) → IsFirstIfAny (IsCompletion events l (at + 1)) o → IsFirstIfAny (IsCompletion events l at) o
+completion_stays events l at event o here other f =
+    first_same (IsCompletion events l (at + 1)) (IsCompletion events l at) o (completion_before events l at)
+    (λ n c. elim (next_or_later at c.clean c.cleans.later) [
+      | inl e ↦ absurd (other c.hart (some_same events at c.clean event (Clean c.hart l) here c.cleans.is e))
+      | inr later ↦ record {
+        hart = c.hart;
+        clean = c.clean;
+        cleans = record { later = later; is = c.cleans.is };
+        fences = c.fences;
+      }
+    ])
+    f
+
+-- the next event is no clean of the line
+pub fate_stays : (events : List Event) (l at : ℕ) (event : Event) (fate : Fate) → event_at events (at + 1) ≡ Some event →
+    ((h : ℕ) → event ≡ Clean h l → ⊥) → IsFate events l (at + 1) fate → IsFate events l at fate
+fate_stays events l at event fate here other f = record {
+  clean = clean_stays events l at event fate.clean here other f.clean;
+  fence = completion_stays events l at event fate.fence here other f.fence;
+}
+
+line_of : (h g l m : ℕ) → Clean h l ≡ Clean g m → l ≡ m
+line_of h g l m e = cc
+
+fencer_of : (h g : ℕ) → Fence h ≡ Fence g → h ≡ g
+fencer_of h g e = cc
+
+hart_of : (h g l : ℕ) → Clean h l ≡ Clean g l → h ≡ g
+hart_of h g l e = cc
+
+-- a completed clean is the next event, or comes after it
+completion_split : (events : List Event) (h l at n : ℕ) → event_at events (at + 1) ≡ Some (Clean h l) → IsCompletion events l at n →
+    IsFence events h (at + 1) n ⊎ IsCompletion events l (at + 1) n
+completion_split events h l at n here c = elim (next_or_later at c.clean c.cleans.later) [
+  | inl e ↦
+      let hart : h ≡ c.hart = hart_of h c.hart l (some_same events at c.clean (Clean h l) (Clean c.hart l) here c.cleans.is e) in
+      inl (rw (hart, e) c.fences)
+  | inr later ↦ inr (record {
+    hart = c.hart;
+    clean = c.clean;
+    cleans = record { later = later; is = c.cleans.is };
+    fences = c.fences;
+  })
+]
+
+-- or it is one
+pub fate_here : (events : List Event) (h l at : ℕ) (fence : Option ℕ) (fate : Fate) → event_at events (at + 1) ≡ Some (Clean h l) →
+    IsFirstIfAny (IsFence events h (at + 1)) fence → IsFate events l (at + 1) fate →
+    IsFate events l at (record { clean = Some (at + 1); fence = earlier_of fate.fence fence })
+fate_here events h l at fence fate here f g = record {
+  clean = record {
+    holds = record { hart = h; cleans = record { later = omega arith; is = here } };
+    first = λ k clean. omega (arith, clean.cleans.later);
+  };
+  fence = first_of_both (IsCompletion events l (at + 1)) (IsFence events h (at + 1)) (IsCompletion events l at) fate.fence fence
+      (completion_before events l at)
+      (λ n made. record { hart = h; clean = at + 1; cleans = record { later = omega arith; is = here }; fences = made })
+      (λ n c. elim (completion_split events h l at n here c) [ inl made ↦ inr made | inr done ↦ inl done ])
+      g.fence f;
+}
+
+set_own : {X : Type 0} (xs : List X) (at : ℕ) (x : X) (i : ℕ) (d : X) → at < length xs → i ≡ at → get_or (slice_set xs at x) i d ≡ x
+set_own xs at x i d b e = grind (arith, common_steps, b, e)
+
+set_other : {X : Type 0} (xs : List X) (at : ℕ) (x : X) (i : ℕ) (d : X) → (at == i) ≡ false → get_or (slice_set xs at x) i d ≡ get_or xs i d
+set_other xs at x i d other =
+    let ne : i ≢ at = grind (arith, nat_tests, other) in
+    grind (arith, common_steps, ne)
+
+set_length : {X : Type 0} (xs : List X) (at : ℕ) (x : X) → length (slice_set xs at x) ≡ length xs
+set_length xs at x = grind (arith, common_steps)
+
+-- a clean of line l by hart h
+pub next_cleaned : (events : List Event) (at h l : ℕ) (fences : List (Option ℕ)) (lines : List Fate) (fence : Option ℕ) (fate : Fate) →
+    event_at events (at + 1) ≡ Some (Clean h l) → h < 8 → l < length lines →
+    AreNext events (at + 1) fences lines →
+    AreNext events at fences (slice_set lines l (record { clean = Some (at + 1); fence = earlier_of (get_or lines l fate).fence (get_or fences h fence) }))
+next_cleaned events at h l fences lines fence fate here hart line a = record {
+  fence = λ g d b. fence_stays events g at (Clean h l) (get_or fences g d) here (λ e. cc) (a.fence g d b);
+  fate = λ m d b.
+      let new : Fate = record { clean = Some (at + 1); fence = earlier_of (get_or lines l fate).fence (get_or fences h fence) } in
+      let within : m < length lines = omega (arith, b, set_length lines l new) in
+      elim (cases_Bool (l == m)) [
+        | inl same ↦
+            let e : m ≡ l = grind (arith, nat_tests, same) in
+            rw (set_own lines l new m d line e) (rw e (fate_here events h l at (get_or fences h fence) (get_or lines l fate) here (a.fence h fence hart) (a.fate l fate line)))
+        | inr other ↦
+            rw (set_other lines l new m d other) (fate_stays events m at (Clean h l) (get_or lines m d) here (λ g e. grind (arith, nat_tests, other, line_of h g l m e)) (a.fate m d within))
+      ];
+}
+
+-- a fence of hart h
+pub next_fenced : (events : List Event) (at h : ℕ) (fences : List (Option ℕ)) (lines : List Fate) →
+    event_at events (at + 1) ≡ Some (Fence h) → h < length fences →
+    AreNext events (at + 1) fences lines → AreNext events at (slice_set fences h (Some (at + 1))) lines
+next_fenced events at h fences lines here hart a = record {
+  fence = λ g d b. elim (cases_Bool (h == g)) [
+    | inl same ↦
+        let e : g ≡ h = grind (arith, nat_tests, same) in
+        rw (set_own fences h (Some (at + 1)) g d hart e) (rw e (fence_here events h at here))
+    | inr other ↦
+        rw (set_other fences h (Some (at + 1)) g d other) (fence_stays events g at (Fence h) (get_or fences g d) here (λ e. grind (arith, nat_tests, other, fencer_of h g e)) (a.fence g d b))
+  ];
+  fate = λ m d b. fate_stays events m at (Fence h) (get_or lines m d) here (λ g e. cc) (a.fate m d b);
+}
+
+-- any other event
+pub next_stays : (events : List Event) (at : ℕ) (event : Event) (fences : List (Option ℕ)) (lines : List Fate) →
+    event_at events (at + 1) ≡ Some event → ((h l : ℕ) → event ≡ Clean h l → ⊥) → ((h : ℕ) → event ≡ Fence h → ⊥) →
+    AreNext events (at + 1) fences lines → AreNext events at fences lines
+next_stays events at event fences lines here no_clean no_fence a = record {
+  fence = λ g d b. fence_stays events g at event (get_or fences g d) here (no_fence g) (a.fence g d b);
+  fate = λ m d b. fate_stays events m at event (get_or lines m d) here (λ g. no_clean g m) (a.fate m d b);
+}
+
+-- after the last event
+pub next_none : (events : List Event) (fences : List (Option ℕ)) (lines : List Fate) →
+    ((h : ℕ) (d : Option ℕ) → h < 8 → get_or fences h d ≡ None) →
+    ((l : ℕ) (d : Fate) → l < length lines → ((get_or lines l d).clean ≡ None) × ((get_or lines l d).fence ≡ None)) →
+    AreNext events (length events) fences lines
+next_none events fences lines no_fences no_fates = record {
+  fence = λ h d b. none_first (IsFence events h (length events)) (get_or fences h d) (no_fences h d b)
+      (λ n f. absurd (omega (arith, f.later, event_within events n (Fence h) f.is)));
+  fate = λ l d b. record {
+    clean = none_first (IsClean events l (length events)) (get_or lines l d).clean (no_fates l d b).0
+        (λ n c. absurd (omega (arith, c.cleans.later, event_within events n (Clean c.hart l) c.cleans.is)));
+    fence = none_first (IsCompletion events l (length events)) (get_or lines l d).fence (no_fates l d b).1
+        (λ n c. absurd (omega (arith, c.cleans.later, event_within events c.clean (Clean c.hart l) c.cleans.is)));
+  };
+}
+
+-- no store has its fate yet
+pub fates_none : (events : List Event) (fates : List Fate) → length fates ≡ length events → AreFates events (length events) fates
+fates_none events fates size = record {
+  size = size;
+  each = λ i h l o w v d past here. absurd (omega (arith, past, slice_get_within events i (Store h l o w v) here));
+}
+
+-- the event at this place too
+pub fates_more : (events : List Event) (at : ℕ) (none : Event) (fates : List Fate) (new : Fate) → at < length events →
+    ((h l o w v : ℕ) → get_or events at none ≡ Store h l o w v → IsFate events l (at + 1) new) →
+    AreFates events (at + 1) fates → AreFates events at (slice_set fates at new)
+fates_more events at none fates new there here a =
+    let within : at < length fates = omega (arith, there, a.size) in
+    record {
+      size = set_length fates at new ∙ a.size;
+      each = λ i h l o w v d past is. elim (cases_Bool (at == i)) [
+        | inl same ↦
+            let e : i ≡ at = grind (arith, nat_tests, same) in
+            let store : get_or events at none ≡ Store h l o w v = get_or_from_slice_get events at (Store h l o w v) none (rw e at is) in
+            rw (set_own fates at new i d within e) (rw e (here h l o w v store))
+        | inr other ↦
+            let after : at + 1 ≤ i = grind (arith, nat_tests, past, other) in
+            rw (set_other fates at new i d other) (a.each i h l o w v d after is)
+      ];
+    }
+
+-- the fate of the store at this place stands at its line
+pub fate_found : (events : List Event) (e l : ℕ) (fences : List (Option ℕ)) (next : List Fate) (new : Fate) →
+    AreNext events e fences next → l < length next → new ≡ get_or next l new → IsFate events l e new
+fate_found events e l fences next new a there is = subst (λ (fate : Fate). IsFate events l e fate) (sym is) (a.fate l new there)
+
+-- the slice of a whole Vec, given back
+pub slice_back : {X : Type 0} (n : ℕ) (new old : List X) → length new ≡ n → take n (new ++ drop (length new) old) ≡ new
+slice_back n new old e = grind (arith, common_steps, e)

@@ -1,0 +1,4 @@
+pub mod Causes
+pub mod Cuts
+pub mod Given
+pub mod Numbered

@@ -1,0 +1,75 @@
+//! The fates of all stores of a run, by one pass from the last event to the first.
+
+ghost use Rattle.durability.specs.Causes.{AreFates, AreNext, IsFate};
+ghost use Rattle.durability.specs.Numbered.{earlier_of};
+ghost use Rattle.std.specs.Prelude.{◌≡◌, ℕ, ◌+◌, ◌<◌, ◌≤◌, length, All, IfOk, slice_get, slice_index_or};
+ghost use Rattle.store_trace.specs.TraceView.{IsEvent, NamesLine};
+
+use crate::cause::Fate;
+use std::alloc::{AllocError, Global};
+use store_trace::Event;
+
+/// The number of harts.
+const HARTS: usize = 8;
+
+/// For each store among the events, at its place, its fate in the whole run. The events name lines below `lines`.
+pub fn fates_of(alloc: Global, events: &[Event], lines: u32) -> Result<Vec<Fate>, AllocError>
+    requires each { All IsEvent events.now }
+    requires named { All (NamesLine lines) events.now }
+    requires limit { length events.now ≤ 65536 }
+    ensures { IfOk result (λ fates. AreFates events.now 0 fates.items) }
+{
+    let mut fates = vec![in alloc; Fate::NOTHING; events.len()]?;
+    let mut fences = [None; HARTS];
+    let mut next = vec![in alloc; Fate::NOTHING; lines as usize]?;
+    for at in (0..events.len()).rev() {
+        fates[at] = fate_of(events[at], &next);
+        read(events, at, &mut fences, &mut next);
+    }
+    Ok(fates)
+}
+
+/// The fate of a store, of those of the lines after it.
+fn fate_of(event: Event, next: &[Fate]) -> Fate
+    requires { NamesLine (length next.now) event }
+    ensures { (hart line offset width value : ℕ) → event ≡ Event.Store hart line offset width value →
+        result ≡ slice_index_or next.now line result }
+{
+    match event {
+        Event::Store { line, .. } => next[line as usize],
+        _ => Fate::NOTHING,
+    }
+}
+
+/// Goes one event back.
+fn read(events: &[Event], at: usize, fences: &mut [Option<u32>; HARTS], next: &mut [Fate])
+    requires there { at < length events.now }
+    requires each { All IsEvent events.now }
+    requires named { All (NamesLine (length next.old)) events.now }
+    requires limit { length events.now ≤ 65536 }
+    requires after { AreNext events.now (at + 1) fences.old next.old }
+    ensures { AreNext events.now at fences.new next.new }
+{
+    let number = at as u32 + 1;
+    match events[at] {
+        Event::Clean { hart, line } => {
+            next[line as usize] = Fate {
+                clean: Some(number),
+                fence: earlier(next[line as usize].fence, fences[hart as usize]),
+            };
+        }
+        Event::Fence { hart } => fences[hart as usize] = Some(number),
+        Event::Store { .. } | Event::Begin { .. } | Event::End { .. } => {}
+    }
+}
+
+/// The lower of two numbers, where there is one.
+fn earlier(one: Option<u32>, other: Option<u32>) -> Option<u32>
+    ensures { result ≡ earlier_of one other }
+{
+    match (one, other) {
+        (Some(one), Some(other)) => Some(one.min(other)),
+        (None, other) => other,
+        (one, None) => one,
+    }
+}
