@@ -6,3 +6,4 @@ pub mod SecondPass
 pub mod OneAnswer
 pub mod OneObject
 pub mod Standing
+pub mod Numbers

@@ -8,3 +8,4 @@ pub mod Positions
 pub mod Passes
 pub mod Appending
 pub mod Emission
+pub mod LineNumbers

@@ -22,6 +22,7 @@ mod bytes;
 mod emission;
 mod fault;
 mod labels;
+mod numbering;
 mod placing;
 mod position;
 
@@ -30,6 +31,7 @@ pub use asm_line::AsmCode;
 use emission::sections_of;
 pub use fault::AsmFault;
 use labels::Labels;
+pub use numbering::{LineNumbers, line_numbers};
 use object::Object;
 use placing::{labels_of, place_line};
 use position::Position;
@@ -91,7 +93,7 @@ pub fn assemble(alloc: Global, source: &[u8]) -> Result<Object, AsmFault>
 }
 
 /// The fault of a source that passes its limit, which its first line does.
-fn too_long(alloc: Global, source: &[u8]) -> AsmFault
+pub(crate) fn too_long(alloc: Global, source: &[u8]) -> AsmFault
     requires { SOURCE_LIMIT < length source.now }
     ensures { result.code ≢ AsmCode.Memory → IsFirstFault source.now result }
 {

@@ -9,7 +9,7 @@ use asm_line::{AsmCode, NumberWidth, Section, Statement};
 use object::{DATA_LIMIT, TEXT_LIMIT};
 
 /// The place of the first byte of text.
-const TEXT_BASE: u32 = 0x1_0000;
+pub(crate) const TEXT_BASE: u32 = 0x1_0000;
 
 /// The place of the first byte of data.
 const DATA_BASE: u32 = 0x10_0000;
