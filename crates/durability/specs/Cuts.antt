@@ -1,5 +1,5 @@
 -- What a cut of a moment lacks of a line, and what it has past the line's floor.
-use Rattle.std.specs.Prelude.{◌≡◌, ℕ, ◌+◌, ◌<◌, ◌≤◌, ◌==◌, Bool, false, List, Option, Some, None}
+use Rattle.std.specs.Prelude.{◌≡◌, ℕ, ◌+◌, ◌<◌, ◌≤◌, ◌==◌, ◌⊎◌, Bool, false, List, Option, Some, None}
 use Rattle.crash_model.specs.Floor.{floor}
 use Rattle.crash_model.specs.Stores.{stores}
 use Rattle.store_trace.specs.History.{at_moment}
@@ -51,7 +51,8 @@ pub record IsLastKept (events : List Event) (m : ℕ) (entry : CutLine) (kept : 
   pub last : stores entry.line (at_moment events kept.store) ≡ entry.number
   pub made : kept.store ≤ m
 
--- what is kept of a line of a cut of moment m: nothing where it stands at its floor
+-- what is kept of a line of a cut of moment m: nothing where it stands at its floor, or has a number past all stores, as in no cut
 abbrev pub IsKeptOf : List Event → ℕ → CutLine → Option Kept → Type 0
-IsKeptOf events m entry None = entry.number ≤ floor entry.line (at_moment events m)
+IsKeptOf events m entry None =
+    (entry.number ≤ floor entry.line (at_moment events m)) ⊎ (stores entry.line (at_moment events m) < entry.number)
 IsKeptOf events m entry (Some kept) = IsLastKept events m entry kept

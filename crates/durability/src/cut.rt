@@ -1,11 +1,9 @@
 //! The lines of a cut that lack a store, and those that have one that no fence made sure of.
 
-ghost use Rattle.crash_model.specs.Stores.{stores};
 ghost use Rattle.durability.specs.Causes.{AreFates};
 ghost use Rattle.durability.specs.Cuts.{IsKeptOf, IsLostOf, IsStorePast, is_store_of};
 ghost use Rattle.durability.specs.Given.{AreGiven};
 ghost use Rattle.std.specs.Prelude.{◌≡◌, ◌≤◌, ◌++◌, length, option_to_list, All, IfOk};
-ghost use Rattle.store_trace.specs.History.{at_moment};
 ghost use Rattle.store_trace.specs.TraceView.{NamesLine};
 
 use crate::cause::{Cause, Fate};
@@ -55,7 +53,6 @@ pub fn tell_cut(
 ) -> Result<ToldCut, AllocError>
     requires named { All (NamesLine lines) trace.now.events }
     requires moment { moment ≤ length trace.now.events }
-    requires numbers { All (λ entry. entry.number ≤ stores entry.line (at_moment trace.now.events moment)) cut.now }
     ensures lost { IfOk result (λ told. AreGiven (IsLostOf trace.now.events moment) cut.now told.lost.items) }
     ensures kept { IfOk result (λ told. AreGiven (IsKeptOf trace.now.events moment) cut.now told.kept.items) }
 {
@@ -96,7 +93,6 @@ fn kept_lines(
     requires limit { length events.now ≤ 65536 }
     requires moment { moment ≤ length events.now }
     requires fates { AreFates events.now 0 fates.now }
-    requires numbers { All (λ entry. entry.number ≤ stores entry.line (at_moment events.now moment)) cut.now }
     ensures { IfOk result (λ told. AreGiven (IsKeptOf events.now moment) cut.now told.items) }
 {
     let mut told = Vec::new(alloc);
@@ -142,18 +138,18 @@ fn kept_of(events: &[Event], fates: &[Fate], moment: u32, entry: CutLine) -> Opt
     requires limit { length events.now ≤ 65536 }
     requires moment { moment ≤ length events.now }
     requires fates { AreFates events.now 0 fates.now }
-    requires number { entry.number ≤ stores entry.line (at_moment events.now moment) }
     ensures { IsKeptOf events.now moment entry result }
 {
     if entry.number == 0 {
         return None;
     }
     match store_past(events, moment, entry.line, entry.number - 1) {
+        None => None,
         Some(store) if fates[store as usize - 1].is_open(moment) => Some(Kept {
             line: entry.line,
             store,
         }),
-        _ => None,
+        Some(_) => None,
     }
 }
 

@@ -1,4 +1,4 @@
-use Rattle.std.proofs.Common.{◌≡◌, ◌≢◌, ◌-◌, ◌<◌, ◌≤◌, false, refl, subst, sym, arith}
+use Rattle.std.proofs.Common.{◌≡◌, ◌≢◌, ◌-◌, ◌<◌, ◌≤◌, false, refl, subst, sym, inl, inr, arith}
 use Rattle.std.specs.Prelude.{Bool, IsTrue}
 use Rattle.durability.proofs.Opens.{is_false, is_true}
 use Rattle.durability.proofs.Tellings.{fate_of_store, kept_above, kept_below}
@@ -20,11 +20,17 @@ returns-in-Some c =
       made = first.made;
     }
 
-pub returns-in_default : goal.returns-in_default
-returns-in_default c =
+pub returns-in-Some-2 : goal.returns-in-Some-2
+returns-in-Some-2 c =
     let first = c.in-Some.ensures in
     let fate = fate_of_store c.args.events.now c.args.entry.line first.hart c.in-Some.store c.args.fates.now _ c.requires.fates first.store in
     let is_open = c.is_open.ensures c.args.events.now c.args.entry.line c.in-Some.store fate in
     let below = kept_below c.args.events.now c.args.moment c.args.entry.line (c.args.entry.number - 1) c.in-Some.store first c.requires.moment
     (λ late. is_false (subst (λ (b : Bool). IsTrue b) c.if-is_open.false (is_open.1 late))) in
-    omega (arith, below, c.if-entry-eq0.false)
+    inl (omega (arith, below, c.if-entry-eq0.false))
+
+pub returns-then-entry-eq0 : goal.returns-then-entry-eq0
+returns-then-entry-eq0 c = inl (omega (arith, c.if-entry-eq0.true))
+
+pub returns-in-None : goal.returns-in-None
+returns-in-None c = inr (omega (arith, c.in-None.ensures, c.if-entry-eq0.false))
