@@ -26,7 +26,7 @@ use Rattle.recording.specs.Recorded.{RecordedView, Records}
 use Rattle.schedule.specs.Steps.{all_steps}
 use Rattle.schedule.specs.declared.items.Step.{Step}
 use Rattle.schedule.specs.declared.items.Step.TheVariants.{Hart, Evict}
-use Rattle.tester.specs.Runs.{AreThere, FailsTogether, HasRun, HasRunTogether, HaveMadeAll, IsRunOf, IsUnfinished, IsWithin, Setup, start_of, unfinished_of}
+use Rattle.tester.specs.Runs.{AreThere, FailsTogether, HasRun, HasRunTogether, HaveMadeAll, HaveMadeAtMost, IsRunOf, IsUnfinished, IsWithin, Setup, start_of, unfinished_of}
 use Rattle.tester.specs.declared.runs.TogetherFault.{TogetherFault}
 
 -- a run has as many harts at its end as at its start
@@ -148,6 +148,14 @@ all_made s steps bus seats recorded start run h state there running =
     let spent = run.ended h state there running in
     spent.spent ∙ (seat_of s steps seats start spent.at spent.seat spent.there).1
 
+most_made : (s : Setup) (steps : ℕ) (bus : BusView) (seats : List SeatView) (recorded : RecordedView)
+    → AreAtStart s.program s.medium s.harts steps seats → HaveRun bus seats recorded → HaveMadeAtMost steps recorded
+most_made s steps bus seats recorded start run h state there =
+    let made = run.within h state there in
+    let most = made.within in
+    let budget = (seat_of s steps seats start made.at made.seat made.there).1 in
+    omega arith
+
 pub has_run_together : (s : Setup) (steps : ℕ) (bus : BusView) (seats : List SeatView) (recorded : RecordedView)
     → AreWithin s.harts s.capacity steps → bus ≡ bus_of s → AreAtStart s.program s.medium s.harts steps seats
     → HaveRun bus seats recorded → HasRunTogether s steps recorded
@@ -161,6 +169,7 @@ has_run_together s steps bus seats recorded w is start run =
       capacity = r.capacity;
       count = hart_count_of s recorded r.records;
       records = r.records;
+      most = most_made s steps (bus_of s) seats recorded start r;
       ended = all_made s steps (bus_of s) seats recorded start r;
     }
 

@@ -123,6 +123,11 @@ abbrev pub HaveMadeAll : ℕ → RecordedView → Type 0
 HaveMadeAll steps recorded = (h : ℕ) (state : HartState) → slice_get recorded.harts h ≡ Some state → state.status ≡ Running
     → count_of h (all_steps recorded.items) ≡ steps
 
+-- no hart has made more steps of the schedule than so many
+abbrev pub HaveMadeAtMost : ℕ → RecordedView → Type 0
+HaveMadeAtMost steps recorded = (h : ℕ) (state : HartState) → slice_get recorded.harts h ≡ Some state
+    → count_of h (all_steps recorded.items) ≤ steps
+
 -- harts that have run together, none of them for more steps than so many, to what is recorded: one run of the setup, at whose
 -- end each hart has stopped or has made all its steps
 pub record HasRunTogether (s : Setup) (steps : ℕ) (recorded : RecordedView) : Type 0 where
@@ -133,6 +138,7 @@ pub record HasRunTogether (s : Setup) (steps : ℕ) (recorded : RecordedView) : 
   pub capacity : recorded.capacity ≡ s.capacity
   pub count : length recorded.harts ≡ s.harts
   pub records : Records (start_of s) recorded
+  pub most : HaveMadeAtMost steps recorded
   pub ended : HaveMadeAll steps recorded
 
 -- what is recorded is what comes of its schedule: a machine that has carried it out leaves the lines that are recorded, and any
