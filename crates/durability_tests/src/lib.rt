@@ -1,0 +1,8 @@
+//! Tests of `durability`: lost and kept lines of cuts, by event numbers. They stand apart, so that the crate isn't proved a second
+//! time for them. The crate has tests alone.
+#![tactic(auto)]
+
+#[cfg(test)]
+mod cuts;
+#[cfg(test)]
+mod events;
