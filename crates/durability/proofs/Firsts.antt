@@ -1,10 +1,10 @@
 -- The first number of which something holds.
 use Rattle.std.proofs.Common.{◌≡◌, ℕ, suc, ◌+◌, ◌<◌, ◌≤◌, ◌⊎◌, inl, inr, zero, List, Option, Some, None, length, get_or, ap, ◌∙◌, arith}
-use Rattle.std.specs.Prelude.{min, slice_get}
+use Rattle.std.specs.Prelude.{min}
 use Rattle.std.proofs.lemmas.Bool.Decides.{nat_tests}
 use Rattle.std.proofs.lemmas.Option.{slice_get-get_or, slice_get_within}
 use Rattle.store_trace.specs.declared.event.Event.{Event}
-use Rattle.durability.specs.Numbered.{earlier_of, event_at, IsFirst, IsFirstIfAny}
+use Rattle.durability.specs.Numbered.{earlier_of, event_at, IsFirstIfAny}
 
 -- what holds of the same numbers has the same first one
 pub first_same : (P Q : ℕ → Type 0) (o : Option ℕ) → ((n : ℕ) → P n → Q n) → ((n : ℕ) → Q n → P n) →

@@ -1,12 +1,12 @@
 -- What comes after an event, one event further back.
-use Rattle.std.proofs.Common.{◌≡◌, ℕ, ◌+◌, ◌<◌, ◌≤◌, ◌⊎◌, ◌≢◌, ◌==◌, false, inl, inr, List, Option, Some, None, length, get_or, take, drop, ◌++◌, arith, refl, subst, sym, ◌∙◌}
+use Rattle.std.proofs.Common.{◌≡◌, ℕ, ◌+◌, ◌<◌, ◌≤◌, ◌⊎◌, ◌≢◌, ◌==◌, false, inl, inr, List, Option, Some, None, length, get_or, take, drop, ◌++◌, arith, subst, sym, ◌∙◌}
 use Rattle.std.specs.Prelude.{slice_set}
 use Rattle.std.proofs.lemmas.Bool.{cases_Bool}
 use Rattle.std.proofs.lemmas.Bool.Decides.{nat_tests}
 use Rattle.std.proofs.lemmas.Grind.{common_steps}
 use Rattle.std.proofs.lemmas.Option.{get_or_from_slice_get, slice_get_within}
 use Rattle.store_trace.specs.declared.event.Event.{Event}
-use Rattle.store_trace.specs.declared.event.Event.TheVariants.{Store, Clean, Fence, Begin, End}
+use Rattle.store_trace.specs.declared.event.Event.TheVariants.{Store, Clean, Fence}
 use Rattle.durability.proofs.Firsts.{event_within, first_of_both, first_same, none_first}
 use Rattle.durability.specs.Causes.{AreFates, AreNext, IsClean, IsCompletion, IsFate}
 use Rattle.durability.specs.Numbered.{earlier_of, event_at, IsCleanOf, IsFence, IsFirst, IsFirstIfAny}

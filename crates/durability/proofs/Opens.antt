@@ -1,7 +1,6 @@
 -- No clean is complete by a moment, as a fate tells.
 use Rattle.std.proofs.Common.{◌≡◌, ℕ, ◌<◌, List, Option, Some, None, subst, arith, rules}
 use Rattle.std.specs.Prelude.{◌↔◌, IsTrue, true, false, nat_lt}
-use Rattle.std.proofs.lemmas.Bool.Decides.{nat_tests}
 use Rattle.store_trace.specs.declared.event.Event.{Event}
 use Rattle.durability.specs.Causes.{IsCompletion, IsFate}
 use Rattle.durability.specs.Numbered.{IsFirst, IsFirstIfAny}

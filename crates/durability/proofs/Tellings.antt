@@ -1,5 +1,5 @@
 -- Stores of a line by their numbers, and what comes after them.
-use Rattle.std.proofs.Common.{◌≡◌, ◌≢◌, ℕ, zero, suc, ◌+◌, ◌-◌, ◌<◌, ◌≤◌, true, inl, inr, List, Some, length, get_or, refl, subst, sym, arith}
+use Rattle.std.proofs.Common.{◌≡◌, ℕ, zero, suc, ◌+◌, ◌-◌, ◌<◌, ◌≤◌, true, inl, inr, List, Some, length, get_or, refl, subst, arith}
 use Rattle.std.proofs.lemmas.Bool.Decides.{nat_tests}
 use Rattle.crash_model.specs.Floor.{floor}
 use Rattle.crash_model.specs.Stores.{stores}
@@ -7,7 +7,7 @@ use Rattle.store_trace.specs.History.{at_moment}
 use Rattle.store_trace.specs.declared.event.Event.{Event}
 use Rattle.store_trace.specs.declared.event.Event.TheVariants.{Store, Clean, Fence, Begin, End}
 use Rattle.durability.proofs.Firsts.{event_here}
-use Rattle.durability.proofs.Floors.{le_or_gt, lt_itself, moment_more, no_event, past_is_open}
+use Rattle.durability.proofs.Floors.{le_or_gt, moment_more, no_event, past_is_open}
 use Rattle.durability.specs.Causes.{AreFates, IsCompletion, IsFate, IsPast}
 use Rattle.durability.specs.Cuts.{is_store_of, IsStoreNumber}
 use Rattle.durability.specs.Numbered.{event_at, IsStore}

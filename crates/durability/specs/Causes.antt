@@ -7,7 +7,7 @@ use Rattle.crash_model.specs.Stores.{stores}
 use Rattle.store_trace.specs.History.{at_moment}
 use Rattle.store_trace.specs.declared.event.Event.{Event}
 use Rattle.store_trace.specs.declared.event.Event.TheVariants.{Store}
-use Rattle.durability.specs.Numbered.{event_at, IsStore, IsCleanOf, IsFence, IsFirst, IsFirstIfAny}
+use Rattle.durability.specs.Numbered.{IsStore, IsCleanOf, IsFence, IsFirst, IsFirstIfAny}
 use Rattle.durability.specs.declared.cause.Cause.{Cause}
 use Rattle.durability.specs.declared.cause.Cause.TheVariants.{NeverCleaned, CleanedTooLate, NeverFenced, FencedTooLate}
 use Rattle.durability.specs.declared.cause.Fate.{Fate}

@@ -1,4 +1,4 @@
-use Rattle.std.proofs.Common.{◌≡◌, ◌<◌, List, [], ◌∷◌, ◌++◌, length, get_or, take, subst, sym, arith}
+use Rattle.std.proofs.Common.{◌<◌, List, [], ◌∷◌, ◌++◌, length, get_or, take, subst, sym, arith}
 use Rattle.std.proofs.lemmas.List.{take_more}
 use Rattle.durability.proofs.Givens.{given_more}
 use Rattle.durability.specs.Cuts.{IsKeptOf}

@@ -1,4 +1,4 @@
-use Rattle.std.proofs.Common.{◌≡◌, ◌≢◌, ◌-◌, ◌<◌, ◌≤◌, false, refl, subst, sym, inl, inr, arith}
+use Rattle.std.proofs.Common.{◌-◌, refl, subst, sym, inl, inr, arith}
 use Rattle.std.specs.Prelude.{Bool, IsTrue}
 use Rattle.durability.proofs.Opens.{is_false, is_true}
 use Rattle.durability.proofs.Tellings.{fate_of_store, kept_above, kept_below}

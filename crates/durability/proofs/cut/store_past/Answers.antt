@@ -1,6 +1,4 @@
-use Rattle.std.proofs.Common.{◌≡◌, true, get_or, sym, ◌∙◌, rules}
-use Rattle.std.proofs.lemmas.Bool.Decides.{nat_tests}
-use Rattle.std.proofs.Common.{arith}
+use Rattle.std.proofs.Common.{◌≡◌, true, get_or, sym, ◌∙◌}
 use Rattle.store_trace.specs.declared.event.Event.{Event}
 use Rattle.store_trace.specs.declared.event.Event.TheVariants.{Store}
 use Rattle.durability.proofs.Tellings.{store_found}

@@ -1,4 +1,3 @@
-use Rattle.std.proofs.Common.{ℕ}
 use Rattle.durability.proofs.Opens.{open_none, open_some}
 use Rattle.durability.proofs.cause.Fate.is_open.Goals as goal
 
