@@ -1,18 +1,14 @@
--- Answers at many branches: what they were while others are taken in, and how they are one run of recovery each.
-use Rattle.std.proofs.Common.{◌≡◌, inl, inr, ℕ, zero, suc, ◌+◌, ◌<◌, List, [], ◌∷◌, ◌++◌, Option, length, take, drop, get_or, Bool, sym, ap, subst, ◌∙◌, arith, append_assoc}
-use Rattle.std.proofs.lemmas.Bool.{cases_lt}
+-- What recovery came to at entries of the queue: what it was while others are taken in, and at entries side by side.
+use Rattle.std.proofs.Common.{◌≡◌, ◌⊎◌, inl, inr, ℕ, zero, suc, ◌+◌, ◌≤◌, ◌<◌, List, [], ◌∷◌, ◌++◌, Option, length, take, drop, get_or, refl, sym, ap, subst, ◌∙◌, arith, append_assoc}
 use Rattle.std.proofs.lemmas.List.{get_or_append_left, get_or-append-add, length-append}
 use Rattle.std.specs.List.{All, AllZip}
 use Rattle.std.specs.Prelude.{IfOk, Ok, Result}
 use Rattle.branches.specs.Branches.{IsAdaptive, IsWithin}
-use Rattle.branches.specs.Numbers.{number_over, AreAbove}
-use Rattle.branches.specs.Pieces.{AreAnswers, AreAnswersFrom, AreCuts, IsAnswer}
+use Rattle.branches.specs.Pieces.{AreAnswers, AreCuts, AreRuns, IsAnswer, IsPiece, all_branching}
 use Rattle.branches.specs.Queue.{branching, cut_at, entry, entry_at, IsTree}
-use Rattle.branches.specs.declared.pieces.Answer.{Answer}
 use Rattle.branches.specs.declared.pieces.Piece.{Piece}
 use Rattle.branches.specs.declared.queue.Entry.{Entry}
-use Rattle.branches.specs.Openings.{IsAt, IsRun, cuts_of}
-use Rattle.branches.proofs.Splitting.{all_at, split_apart}
+use Rattle.branches.specs.Openings.{Node}
 use Rattle.branches.proofs.Tables.{cut_more}
 
 -- what holds of each result of a list, whatever it was made from
@@ -27,85 +23,89 @@ zip_all Q (x ∷ xs) (y ∷ ys) h = λ k d less. zip_at Q x xs y ys h (zip_all Q
     zip_at Q x xs y ys h rest zero d less = h.0
     zip_at Q x xs y ys h rest (suc k) d less = rest k d (omega (arith, less))
 
+-- one of the list
+pub all_middle : {X : Type 0} (Q : X → Type 0) (before : List X) (x : X) (after xs : List X) → xs ≡ before ++ x ∷ after → All Q xs → Q x
+all_middle Q before x after xs e h =
+    let size = length-append before (x ∷ after) in
+    let all : All Q (before ++ x ∷ after) = subst (All Q) e h in
+    subst Q (get_or-append-add before (x ∷ after) 0 x) (all (length before + 0) x (omega (arith, size)))
+
 pub longer_still : (before more queue later next : List Entry) → queue ≡ before ++ more → next ≡ queue ++ later → next ≡ before ++ (more ++ later)
 longer_still before more queue later next e f = f ∙ ap (λ (q : List Entry). q ++ later) e ∙ append_assoc before more later
 
-module _ {Cause : Type 0} (asks : (ℕ → ℕ) → List ℕ → Type 0) (judged : (ℕ → ℕ) → Option Cause → Type 0) (low high : ℕ → ℕ) (lines : ℕ) where
-  -- the queue of an opening
-  pub at_cuts : (at : ℕ) (queue : List Entry) (numbers : List ℕ) (least : Option Cause) (flags : List Bool) → IsAdaptive asks →
-      IsAt asks judged low high lines at queue numbers least flags → AreCuts low high lines queue
-  at_cuts at queue numbers least flags adaptive o =
-      let apart = split_apart asks low high o.done o.left adaptive o.opening.split in
+-- all entries of the answers stand in the queue
+pub answers_end : (asks : (ℕ → ℕ) → List ℕ → Type 0) (low : ℕ → ℕ) (lines : ℕ) (queue : List Entry) (i : ℕ) (vs : List Node) → i ≤ length queue →
+    AreAnswers asks low lines queue i vs → i + length vs ≤ length queue
+answers_end asks low lines queue i [] le a = omega (arith, le)
+answers_end asks low lines queue i (v ∷ vs) le a =
+    let there = a.0.there in
+    let rest = answers_end asks low lines queue (i + 1) vs (omega (arith, there)) a.1 in omega (arith, rest)
+
+-- entries that come later change no answer,
+pub answers_later : (asks : (ℕ → ℕ) → List ℕ → Type 0) (low : ℕ → ℕ) (lines : ℕ) (queue more : List Entry) (i : ℕ) (vs : List Node) → IsTree lines queue →
+    AreAnswers asks low lines queue i vs → AreAnswers asks low lines (queue ++ more) i vs
+answers_later asks low lines queue more i [] tree a = tt
+answers_later asks low lines queue more i (v ∷ vs) tree a =
+    let cut : cut_at low (queue ++ more) i ≡ cut_at low queue i = cut_more low queue more i i tree.behind a.0.there in (
       record {
-        tree = o.opening.tree;
-        raised = o.opening.raised;
-        within = λ i less. let s = o.opening.same in
-            subst (IsWithin low high) (o.opening.cuts i less) (all_at (IsWithin low high) (cuts_of (o.done ++ o.left)) i low (omega (arith, less, s)) apart.each);
-      }
+        there = let there = a.0.there in let size = length-append queue more in omega (arith, there, size);
+        cut = a.0.cut ∙ sym cut;
+        asked = subst (λ (c : ℕ → ℕ). asks c v.decided) (sym cut) a.0.asked;
+        below = a.0.below;
+      },
+      answers_later asks low lines queue more (i + 1) vs tree a.1,
+    )
 
-  -- an answer is what one run of recovery came to
-  pub answer_run : (queue : List Entry) (i : ℕ) (numbers : List ℕ) (answer : Answer Cause) → number_over low numbers ≡ cut_at low queue i → AreAbove low numbers →
-      IsAnswer asks judged low high lines queue i answer → IsRun asks judged low high lines i queue numbers answer.asked.items answer.found.items answer.judged
-  answer_run queue i numbers answer cut above a = record {
-    cut = cut;
-    above = above;
-    asked = a.asked;
-    below = a.below;
-    judges = a.judges;
-    branches = a.branches;
-  }
+-- and nothing that branches off
+pub branching_later : (asks : (ℕ → ℕ) → List ℕ → Type 0) (low high : ℕ → ℕ) (lines : ℕ) (queue more : List Entry) (i : ℕ) (vs : List Node) →
+    AreAnswers asks low lines queue i vs → all_branching low high (queue ++ more) i vs ≡ all_branching low high queue i vs
+branching_later asks low high lines queue more i [] a = refl
+branching_later asks low high lines queue more i (v ∷ vs) a =
+    let same : entry_at (queue ++ more) i ≡ entry_at queue i = get_or_append_left queue more (entry 0 0 0 0) i a.0.there in
+    ap (λ (e : Entry). branching i low high (take e.decided v.decided) (drop e.decided v.decided) ++ all_branching low high (queue ++ more) (i + 1) vs) same
+    ∙ ap (λ (es : List Entry). branching i low high (take (entry_at queue i).decided v.decided) (drop (entry_at queue i).decided v.decided) ++ es)
+    (branching_later asks low high lines queue more (i + 1) vs a.1)
 
-  -- entries that come later change no answer
-  pub answer_later : (queue more : List Entry) (i : ℕ) (answer : Answer Cause) → IsTree lines queue →
-      IsAnswer asks judged low high lines queue i answer → IsAnswer asks judged low high lines (queue ++ more) i answer
-  answer_later queue more i answer tree a =
-      let cut : cut_at low (queue ++ more) i ≡ cut_at low queue i = cut_more low queue more i i tree.behind a.there in
-      let here : entry_at (queue ++ more) i ≡ entry_at queue i = get_or_append_left queue more (entry 0 0 0 0) i a.there in
-      let size = length-append queue more in
-      let there = a.there in
-      record {
-        there = omega (arith, there, size);
-        asked = subst (λ (c : ℕ → ℕ). asks c answer.asked.items) (sym cut) a.asked;
-        below = a.below;
-        judges = subst (λ (c : ℕ → ℕ). judged c answer.judged) (sym cut) a.judges;
-        branches = a.branches ∙ ap (λ (e : Entry). branching i low high (take e.decided answer.asked.items) (drop e.decided answer.asked.items)) (sym here);
-      }
+pub answers_join : (asks : (ℕ → ℕ) → List ℕ → Type 0) (low : ℕ → ℕ) (lines : ℕ) (queue : List Entry) (i : ℕ) (vs ws : List Node) →
+    AreAnswers asks low lines queue i vs → AreAnswers asks low lines queue (i + length vs) ws → AreAnswers asks low lines queue i (vs ++ ws)
+answers_join asks low lines queue i [] ws a b = subst (λ (n : ℕ). AreAnswers asks low lines queue n ws) (omega arith) b
+answers_join asks low lines queue i (v ∷ vs) ws a b =
+    (a.0, answers_join asks low lines queue (i + 1) vs ws a.1 (subst (λ (n : ℕ). AreAnswers asks low lines queue n ws) (omega arith) b))
 
-  pub answers_later : (queue more : List Entry) (first : ℕ) (answers : List (Answer Cause)) → IsTree lines queue →
-      AreAnswersFrom asks judged low high lines queue first answers → AreAnswersFrom asks judged low high lines (queue ++ more) first answers
-  answers_later queue more first answers tree h i d less = answer_later queue more (first + i) (get_or answers i d) tree (h i d less)
+pub branching_join : (low high : ℕ → ℕ) (queue : List Entry) (i : ℕ) (vs ws : List Node) →
+    all_branching low high queue i (vs ++ ws) ≡ all_branching low high queue i vs ++ all_branching low high queue (i + length vs) ws
+branching_join low high queue i [] ws = ap (λ (n : ℕ). all_branching low high queue n ws) (omega arith)
+branching_join low high queue i (v ∷ vs) ws =
+    let here : List Entry = branching i low high (take (entry_at queue i).decided v.decided) (drop (entry_at queue i).decided v.decided) in
+    let place : (i + 1) + length vs ≡ i + length (v ∷ vs) = omega arith in
+    ap (λ (es : List Entry). here ++ es) (branching_join low high queue (i + 1) vs ws
+    ∙ ap (λ (n : ℕ). all_branching low high queue (i + 1) vs ++ all_branching low high queue n ws) place)
+    ∙ sym (append_assoc here (all_branching low high queue (i + 1) vs) (all_branching low high queue (i + length (v ∷ vs)) ws))
 
-  -- one answer more
-  pub answers_more : (queue : List Entry) (first at : ℕ) (answers : List (Answer Cause)) (answer : Answer Cause) → at ≡ first + length answers →
-      IsAnswer asks judged low high lines queue at answer → AreAnswersFrom asks judged low high lines queue first answers →
-      AreAnswersFrom asks judged low high lines queue first (answers ++ answer ∷ [])
-  answers_more queue first at answers answer place a h i d less = elim (cases_lt i (length answers)) [
-    | inl before ↦
-        let same : get_or (answers ++ answer ∷ []) i d ≡ get_or answers i d = get_or_append_left answers (answer ∷ []) d i before in
-        subst (λ (x : Answer Cause). IsAnswer asks judged low high lines queue (first + i) x) (sym same) (h i d before)
-    | inr late ↦
-        let size = length-append answers (answer ∷ []) in
-        let last : i ≡ length answers + 0 = omega (arith, less, late, size) in
-        let same : get_or (answers ++ answer ∷ []) i d ≡ answer =
-        ap (λ (n : ℕ). get_or (answers ++ answer ∷ []) n d) last ∙ get_or-append-add answers (answer ∷ []) 0 d in
-        let here : at ≡ first + i = omega (arith, place, last) in
-        subst (λ (x : Answer Cause). IsAnswer asks judged low high lines queue (first + i) x) (sym same)
-        (subst (λ (n : ℕ). IsAnswer asks judged low high lines queue n answer) here a)
-  ]
+-- a piece, where more was found since
+pub piece_later : {Cause : Type 0} (asks : (ℕ → ℕ) → List ℕ → Type 0) (judged : (ℕ → ℕ) → Option Cause → Type 0) (low high : ℕ → ℕ) (lines : ℕ)
+    (before more queue : List Entry) (piece : Piece Cause) → IsTree lines before → queue ≡ before ++ more →
+    IsPiece asks judged low high lines before piece → IsPiece asks judged low high lines queue piece
+piece_later asks judged low high lines before more queue piece tree grown p =
+    subst (λ (q : List Entry). IsPiece asks judged low high lines q piece) (sym grown) (record {
+      done = p.done;
+      count = p.count;
+      least_size = p.least_size;
+      asked_size = p.asked_size;
+      runs = record {
+        answers = answers_later asks low lines before more piece.first p.done tree p.runs.answers;
+        asked = p.runs.asked;
+        best = p.runs.best;
+        branches = p.runs.branches ∙ sym (branching_later asks low high lines before more piece.first p.done p.runs.answers);
+      };
+    })
 
-  -- an answer or a piece of a round, where more was found since
-  pub answer_now : (before more queue : List Entry) (first at index : ℕ) (answers : List (Answer Cause)) (d : Answer Cause) → IsTree lines before →
-      queue ≡ before ++ more → at ≡ first + index → index < length answers →
-      AreAnswersFrom asks judged low high lines before first answers → IsAnswer asks judged low high lines queue at (get_or answers index d)
-  answer_now before more queue first at index answers d tree grown place less h =
-      subst (λ (q : List Entry). IsAnswer asks judged low high lines q at (get_or answers index d)) (sym grown)
-      (subst (λ (n : ℕ). IsAnswer asks judged low high lines (before ++ more) n (get_or answers index d)) (sym place)
-      (answer_later before more (first + index) (get_or answers index d) tree (h index d less)))
-
-  pub piece_now : {E : Type 0} (before more queue : List Entry) (pieces : List (Result (Piece Cause) E)) (index : ℕ) (found d : Result (Piece Cause) E) (piece : Piece Cause) →
-      IsTree lines before → queue ≡ before ++ more → index < length pieces → found ≡ get_or pieces index d → found ≡ Ok piece →
-      All (λ found. IfOk found (AreAnswers asks judged low high lines before)) pieces → AreAnswers asks judged low high lines queue piece
-  piece_now {E} before more queue pieces index found d piece tree grown less at is h =
-      let here : AreAnswers asks judged low high lines before piece =
-      subst (λ (r : Result (Piece Cause) E). IfOk r (AreAnswers asks judged low high lines before)) (sym at ∙ is) (h index d less) in
-      subst (λ (q : List Entry). AreAnswers asks judged low high lines q piece) (sym grown) (answers_later before more piece.first piece.answers.items tree here)
+-- a piece of a round, where more was found since
+pub piece_now : {Cause E : Type 0} (asks : (ℕ → ℕ) → List ℕ → Type 0) (judged : (ℕ → ℕ) → Option Cause → Type 0) (low high : ℕ → ℕ) (lines : ℕ)
+    (before more queue : List Entry) (taken rest pieces : List (Result (Piece Cause) E)) (found : Result (Piece Cause) E) (piece : Piece Cause) → IsTree lines before →
+    queue ≡ before ++ more → pieces ≡ taken ++ found ∷ rest → found ≡ Ok piece → All (λ found. IfOk found (IsPiece asks judged low high lines before)) pieces →
+    IsPiece asks judged low high lines queue piece
+piece_now {Cause} {E} asks judged low high lines before more queue taken rest pieces found piece tree grown whole is h =
+    let P : Piece Cause → Type 0 = IsPiece asks judged low high lines before in
+    piece_later asks judged low high lines before more queue piece tree grown
+    (subst (λ (x : Result (Piece Cause) E). IfOk x P) is (all_middle (λ (x : Result (Piece Cause) E). IfOk x P) taken found rest pieces whole h))

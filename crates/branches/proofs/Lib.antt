@@ -6,5 +6,5 @@ pub mod Splitting
 pub mod Counting
 pub mod Lowest
 pub mod Carrying
-pub mod Opening
 pub mod Answering
+pub mod Opening

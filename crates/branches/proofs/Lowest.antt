@@ -1,5 +1,5 @@
 -- The least bad cut is the least of the bad ones among the least cuts of the branches.
-use Rattle.std.proofs.Common.{◌≡◌, ℕ, zero, suc, ◌≤◌, ◌<◌, false, ltb, ◌⊎◌, inl, inr, List, [], ◌∷◌, Option, None, sym, ap, subst, ◌∙◌, arith}
+use Rattle.std.proofs.Common.{◌≡◌, ℕ, zero, suc, ◌≤◌, ◌<◌, ◌≢◌, false, ltb, ◌⊎◌, inl, inr, List, [], ◌∷◌, Option, None, sym, ap, subst, ◌∙◌, arith}
 use Rattle.std.proofs.lemmas.Bool.{cases_Bool, cases_eq}
 use Rattle.std.specs.List.{AllByRecursion}
 use Rattle.branches.specs.Branches.{Agree, IsWithin, ComesBefore}
@@ -57,6 +57,50 @@ before_over c k best a b = elim (cases_Bool (ltb a.line b.line)) [
       lower = let p = b.lower in let e : c b.line ≡ k b.line = a.same b.line (omega (arith, le, ne)) in omega (arith, p, e);
       same = λ m h. a.same m (omega (arith, h, le)) ∙ b.same m h;
     }
+  ]
+]
+
+-- they are the same below a line, or there is the first in which they differ
+first_difference : (c best : ℕ → ℕ) (n : ℕ) → ((m : ℕ) → m < n → c m ≡ best m) ⊎ ((l : ℕ) × (l < n) × (c l ≢ best l) × ((m : ℕ) → m < l → c m ≡ best m))
+first_difference c best zero = inl (λ m less. absurd (omega (arith, less)))
+first_difference c best (suc n) = elim (first_difference c best n) [
+  | inr d ↦ inr (d.0, (let less = d.1 in omega (arith, less)), d.2, d.3)
+  | inl same ↦ elim (cases_eq (c n) (best n)) [
+    | inr ne ↦ inr (n, omega arith, ne, same)
+    | inl e ↦ inl (λ m less. elim (cases_eq m n) [
+      | inl s ↦ ap c s ∙ e ∙ sym (ap best s)
+      | inr ne ↦ same m (omega (arith, less, ne))
+    ])
+  ]
+]
+
+-- what comes before a cut comes before each that doesn't come before that one
+pub before_other : (c k best : ℕ → ℕ) → ¬ ComesBefore k best → ComesBefore c best → ComesBefore c k
+before_other c k best n b = elim (first_difference k best (suc b.line)) [
+  | inl same ↦ record {
+    line = b.line;
+    lower = let h = b.lower in let e : k b.line ≡ best b.line = same b.line (omega arith) in omega (arith, h, e);
+    same = λ m less. b.same m less ∙ sym (same m (omega (arith, less)));
+  }
+  | inr d ↦ elim (cases_Bool (ltb (k d.0) (best d.0))) [
+    | inl t ↦ absurd (n (record { line = d.0; lower = grind (arith, t); same = d.3 }))
+    | inr f ↦
+        let l : ℕ = d.0 in
+        let upto : l < suc b.line = d.1 in
+        let ne : k l ≢ best l = d.2 in
+        let ge : best l ≤ k l = grind (arith, f) in
+        elim (cases_eq l b.line) [
+          | inl e ↦ record {
+            line = l;
+            lower = let h : c l < best l = subst (λ (m : ℕ). c m < best m) (sym e) b.lower in omega (arith, h, ge);
+            same = λ m less. b.same m (omega (arith, less, e)) ∙ sym (d.3 m less);
+          }
+          | inr other ↦ record {
+            line = l;
+            lower = let h : c l ≡ best l = b.same l (omega (arith, upto, other)) in omega (arith, h, ge, ne);
+            same = λ m less. b.same m (omega (arith, less, upto)) ∙ sym (d.3 m less);
+          }
+        ]
   ]
 ]
 

@@ -1,5 +1,5 @@
 -- An opening so far: the entries before a place are worked, the others are open.
-use Rattle.std.proofs.Common.{◌≡◌, ◌⊎◌, inl, inr, ℕ, zero, suc, ◌+◌, ◌-◌, ◌≤◌, ◌<◌, ◌||◌, if◌then◌else◌, Bool, true, false, eqb, ltb, cond, List, [], ◌∷◌, ◌++◌, Option, Some, None, IsSome, length, map, take, drop, get_or, refl, sym, ap, subst, ◌∙◌, arith, true≢false}
+use Rattle.std.proofs.Common.{◌≡◌, ◌⊎◌, inl, inr, ℕ, zero, suc, ◌+◌, ◌-◌, ◌≤◌, ◌<◌, ◌||◌, if◌then◌else◌, Bool, true, false, eqb, ltb, cond, List, [], ◌∷◌, ◌++◌, Option, Some, None, IsSome, length, map, take, drop, get_or, refl, sym, ap, subst, ◌∙◌, arith, append_assoc, true≢false}
 use Rattle.std.proofs.lemmas.List.{append-nil, map-append, get_or_append_left, get_or-append-add, drop_more, drop-append-le, length-append}
 use Rattle.std.proofs.lemmas.Bool.{cases_Bool}
 use Rattle.std.specs.List.{AllByRecursion}
@@ -8,9 +8,11 @@ use Rattle.branches.specs.Least.{IsLess}
 use Rattle.branches.specs.Numbers.{has, is_flagged, number_over, AreAbove}
 use Rattle.branches.specs.Queue.{entry, entry_at, with_number, siblings, branching, cut_at, IsTree, AreRaised}
 use Rattle.branches.specs.declared.queue.Entry.{Entry}
-use Rattle.branches.specs.Openings.{AreFlagged, Covers, IsAt, IsBest, IsFinished, IsOpening, IsPast, IsRun, Node, Split, cuts_of}
+use Rattle.branches.specs.Openings.{AreFlagged, AreNodes, Covers, IsAt, IsBest, IsFinished, IsPast, IsRun, Node, Split, cuts_of}
+use Rattle.branches.specs.Pieces.{AreAnswers, AreCuts, AreRuns, all_branching}
+use Rattle.branches.proofs.Answering.{answers_join, answers_later, branching_join, branching_later}
 use Rattle.branches.proofs.Counting.{not_over}
-use Rattle.branches.proofs.Lowest.{before_over, least_of, never_itself, pass_of}
+use Rattle.branches.proofs.Lowest.{before_other, before_over, least_of, never_itself, pass_of}
 use Rattle.branches.proofs.Nodes as nodes
 use Rattle.branches.proofs.Nodes.{node, opened, all_join, all_map}
 use Rattle.branches.proofs.Splitting.{all_at, asked_same, drop_whole, shared_of, split_apart, split_first, split_next, take_whole}
@@ -166,36 +168,49 @@ past_lower : {Cause : Type 0} (judged : (ℕ → ℕ) → Option Cause → Type 
 past_lower judged best lower vs b h =
     all_map (IsPast judged best) (IsPast judged lower) vs (λ v p. elim p [ inl q ↦ inl q | inr q ↦ inr (λ x. q (before_over v.numbers lower best x b)) ]) h
 
--- one more cut is judged
-best_more : {Cause : Type 0} (judged : (ℕ → ℕ) → Option Cause → Type 0) (low high : ℕ → ℕ) (cut kept new : List ℕ) (found least result : Option Cause) (done : List Node) (v : Node) →
-    number_over low cut ≡ v.numbers → AreAbove low cut → IsWithin low high v.numbers → judged v.numbers found →
-    IsLess low cut found kept least new result → IsBest judged low high kept least done → IsBest judged low high new result (done ++ v ∷ [])
-best_more judged low high cut kept new None None result done v e a w j h b =
-    rw h.0 (all_join (λ v. judged v.numbers None) done (v ∷ []) b (j, tt))
-best_more judged low high cut kept new None (Some other) result done v e a w j h b =
-    rw (h.0, h.1) (b.0, b.1, b.2, all_join (IsPast judged (number_over low kept)) done (v ∷ []) b.3 (inl j, tt))
-best_more judged low high cut kept new (Some cause) None result done v e a w j h b =
-    rw (h.0, h.1) (
-      subst (IsWithin low high) (sym e) w,
-      subst (λ (c : ℕ → ℕ). judged c (Some cause)) (sym e) j,
-      a,
-      all_join (IsPast judged (number_over low cut)) done (v ∷ []) (passes_past judged (number_over low cut) done b)
-          (inr (λ x. never_itself v.numbers (subst (ComesBefore v.numbers) e x)), tt),
-    )
-best_more judged low high cut kept new (Some cause) (Some other) result done v e a w j (inl h) b =
+past_other : {Cause : Type 0} (judged : (ℕ → ℕ) → Option Cause → Type 0) (best lower : ℕ → ℕ) (vs : List Node) → ¬ ComesBefore best lower →
+    AllByRecursion (IsPast judged best) vs → AllByRecursion (IsPast judged lower) vs
+past_other judged best lower vs n h =
+    all_map (IsPast judged best) (IsPast judged lower) vs (λ v p. elim p [ inl q ↦ inl q | inr q ↦ inr (λ x. q (before_other v.numbers best lower n x)) ]) h
+
+-- a cut alone is the least
+best_one : {Cause : Type 0} (judged : (ℕ → ℕ) → Option Cause → Type 0) (low high : ℕ → ℕ) (cut : List ℕ) (found : Option Cause) (v : Node) →
+    number_over low cut ≡ v.numbers → AreAbove low cut → IsWithin low high v.numbers → judged v.numbers found → IsBest judged low high cut found (v ∷ [])
+best_one judged low high cut None v e a w j = (j, tt)
+best_one judged low high cut (Some cause) v e a w j = (
+  subst (IsWithin low high) (sym e) w,
+  subst (λ (c : ℕ → ℕ). judged c (Some cause)) (sym e) j,
+  a,
+  (inr (λ x. never_itself v.numbers (subst (ComesBefore v.numbers) e x)), tt),
+)
+
+-- it gives no number that isn't above its floor
+pub best_above : {Cause : Type 0} (judged : (ℕ → ℕ) → Option Cause → Type 0) (low high : ℕ → ℕ) (numbers : List ℕ) (least : Option Cause) (done : List Node) →
+    IsBest judged low high numbers least done → IsSome least → AreAbove low numbers
+best_above judged low high numbers None done b s = absurd (true≢false (sym s))
+best_above judged low high numbers (Some cause) done b s = b.2
+
+-- the less of two least bad cuts is the least of all
+best_join : {Cause : Type 0} (judged : (ℕ → ℕ) → Option Cause → Type 0) (low high : ℕ → ℕ) (cut kept new : List ℕ) (found least result : Option Cause) (done vs : List Node) →
+    IsLess low cut found kept least new result → IsBest judged low high kept least done → IsBest judged low high cut found vs → IsBest judged low high new result (done ++ vs)
+best_join judged low high cut kept new None None result done vs h b t = rw h.0 (all_join (λ v. judged v.numbers None) done vs b t)
+best_join judged low high cut kept new None (Some other) result done vs h b t =
+    rw (h.0, h.1) (b.0, b.1, b.2, all_join (IsPast judged (number_over low kept)) done vs b.3 (passes_past judged (number_over low kept) vs t))
+best_join judged low high cut kept new (Some cause) None result done vs h b t =
+    rw (h.0, h.1) (t.0, t.1, t.2, all_join (IsPast judged (number_over low cut)) done vs (passes_past judged (number_over low cut) done b) t.3)
+best_join judged low high cut kept new (Some cause) (Some other) result done vs (inl h) b t =
     rw (h.1, h.2) (
-      subst (IsWithin low high) (sym e) w,
-      subst (λ (c : ℕ → ℕ). judged c (Some cause)) (sym e) j,
-      a,
-      all_join (IsPast judged (number_over low cut)) done (v ∷ []) (past_lower judged (number_over low kept) (number_over low cut) done h.0 b.3)
-          (inr (λ x. never_itself v.numbers (subst (ComesBefore v.numbers) e x)), tt),
+      t.0,
+      t.1,
+      t.2,
+      all_join (IsPast judged (number_over low cut)) done vs (past_lower judged (number_over low kept) (number_over low cut) done h.0 b.3) t.3,
     )
-best_more judged low high cut kept new (Some cause) (Some other) result done v e a w j (inr h) b =
+best_join judged low high cut kept new (Some cause) (Some other) result done vs (inr h) b t =
     rw (h.1, h.2) (
       b.0,
       b.1,
       b.2,
-      all_join (IsPast judged (number_over low kept)) done (v ∷ []) b.3 (inr (λ x. h.0 (subst (λ (c : ℕ → ℕ). ComesBefore c (number_over low kept)) (sym e) x)), tt),
+      all_join (IsPast judged (number_over low kept)) done vs b.3 (past_other judged (number_over low cut) (number_over low kept) vs h.0 t.3),
     )
 
 flagged_by : (flags : List Bool) (ls ms : List ℕ) → ((l : ℕ) → has l ms ≡ true → is_flagged l flags ≡ true) → ((l : ℕ) → has l ls ≡ true → has l ms ≡ true) → AreFlagged flags ls
@@ -205,9 +220,25 @@ flagged_by flags (x ∷ ls) ms h i = (
   flagged_by flags ls ms h (λ l t. i l (elim (eqb x l) as (λ e. (e || has l ls) ≡ true) [ true ↦ refl | false ↦ t ])),
 )
 
+-- of lines that were flagged and of those that are flagged now
+pub flagged_still : (old new : List Bool) (ls : List ℕ) → ((l : ℕ) → is_flagged l new ≡ (is_flagged l old || has l ls)) → (l : ℕ) → is_flagged l old ≡ true → is_flagged l new ≡ true
+flagged_still old new ls h l t = h l ∙ ap (λ (b : Bool). b || has l ls) t
+
+pub flagged_now : (old new : List Bool) (ls : List ℕ) → ((l : ℕ) → is_flagged l new ≡ (is_flagged l old || has l ls)) → (l : ℕ) → has l ls ≡ true → is_flagged l new ≡ true
+flagged_now old new ls h l t =
+    h l ∙ ap (λ (b : Bool). is_flagged l old || b) t ∙ (elim (is_flagged l old) as (λ b. (b || true) ≡ true) [ true ↦ refl | false ↦ refl ])
+
 flagged_more : (old new : List Bool) (ls : List ℕ) → ((l : ℕ) → is_flagged l old ≡ true → is_flagged l new ≡ true) → AreFlagged old ls → AreFlagged new ls
 flagged_more old new [] h f = tt
 flagged_more old new (x ∷ ls) h f = (h x f.0, flagged_more old new ls h f.1)
+
+asked_join : (flags theirs new : List Bool) (done vs : List Node) → ((l : ℕ) → is_flagged l flags ≡ true → is_flagged l new ≡ true) →
+    ((l : ℕ) → is_flagged l theirs ≡ true → is_flagged l new ≡ true) →
+    AllByRecursion (λ v. AreFlagged flags v.decided) done → AllByRecursion (λ v. AreFlagged theirs v.decided) vs → AllByRecursion (λ v. AreFlagged new v.decided) (done ++ vs)
+asked_join flags theirs new done vs mine others h t =
+    all_join (λ v. AreFlagged new v.decided) done vs
+    (all_map (λ v. AreFlagged flags v.decided) (λ v. AreFlagged new v.decided) done (λ v f. flagged_more flags new v.decided mine f) h)
+    (all_map (λ v. AreFlagged theirs v.decided) (λ v. AreFlagged new v.decided) vs (λ v f. flagged_more theirs new v.decided others f) t)
 
 below_drop : (n : ℕ) (ls : List ℕ) (i : ℕ) → AllByRecursion (λ l. l < n) ls → AllByRecursion (λ l. l < n) (drop i ls)
 below_drop n [] zero h = tt
@@ -222,24 +253,27 @@ cuts_at_seam : (done left : List Node) (v : Node) (low : ℕ → ℕ) → get_or
 cuts_at_seam [] left v low = refl
 cuts_at_seam (d ∷ done) left v low = cuts_at_seam done left v low
 
-count_last : (done : List Node) (v : Node) → length (done ++ v ∷ []) ≡ length done + 1
+pub count_last : (done : List Node) (v : Node) → length (done ++ v ∷ []) ≡ length done + 1
 count_last [] v = omega arith
 count_last (d ∷ done) v = let e = count_last done v in omega (arith, e)
 
+-- the cut of the next entry
+next_cut : (asks : (ℕ → ℕ) → List ℕ → Type 0) (low high : ℕ → ℕ) (lines at : ℕ) (queue : List Entry) (done left : List Node) (v : Node) →
+    at < length queue → AreNodes asks low high lines at queue done (v ∷ left) → v.numbers ≡ cut_at low queue at
+next_cut asks low high lines at queue done left v less o =
+    sym (cuts_at_seam done left v low) ∙ ap (λ (i : ℕ). get_or (cuts_of (done ++ v ∷ left)) i low) o.size ∙ o.cuts at less
+
 -- the next entry is worked
-opened_next : {Cause : Type 0} (asks : (ℕ → ℕ) → List ℕ → Type 0) (judged : (ℕ → ℕ) → Option Cause → Type 0) (low high : ℕ → ℕ) (lines at : ℕ)
-    (queue more : List Entry) (numbers kept new ls : List ℕ) (found least result : Option Cause) (flags flags' : List Bool) (done left : List Node) (v : Node) → IsAdaptive asks →
-    at < length queue → IsRun asks judged low high lines at queue numbers ls more found → IsLess low numbers found kept least new result →
-    ((l : ℕ) → is_flagged l flags' ≡ (is_flagged l flags || has l ls)) →
-    IsOpening asks judged low high lines at queue kept least flags done (v ∷ left) →
-    IsOpening asks judged low high lines (at + 1) (queue ++ more) new result flags' (done ++ node v.numbers ls ∷ [])
-    (left ++ opened low high v.numbers v.decided (drop (length v.decided) ls))
-opened_next asks judged low high lines at queue more numbers kept new ls found least result flags flags' done left v adaptive less run keeps flagged o =
+nodes_next : (asks : (ℕ → ℕ) → List ℕ → Type 0) (low high : ℕ → ℕ) (lines at : ℕ) (queue : List Entry) (ls : List ℕ) (done left : List Node) (v : Node) → IsAdaptive asks →
+    at < length queue → asks (cut_at low queue at) ls → AllByRecursion (λ l. l < lines) ls → AreNodes asks low high lines at queue done (v ∷ left) →
+    AreNodes asks low high lines (at + 1) (queue ++ branching at low high (take (entry_at queue at).decided ls) (drop (entry_at queue at).decided ls))
+    (done ++ node v.numbers ls ∷ []) (left ++ opened low high v.numbers v.decided (drop (length v.decided) ls))
+nodes_next asks low high lines at queue ls done left v adaptive less run_asked run_below o =
     let e0 : Entry = entry 0 0 0 0 in
     let c : ℕ → ℕ = v.numbers in
-    let cut : cut_at low queue at ≡ c =
-    sym (o.cuts at less) ∙ ap (λ (i : ℕ). get_or (cuts_of (done ++ v ∷ left)) i low) (sym o.size) ∙ cuts_at_seam done left v low in
-    let asked : asks c ls = subst (λ (k : ℕ → ℕ). asks k ls) cut run.asked in
+    let more : List Entry = branching at low high (take (entry_at queue at).decided ls) (drop (entry_at queue at).decided ls) in
+    let cut : cut_at low queue at ≡ c = sym (next_cut asks low high lines at queue done left v less o) in
+    let asked : asks c ls = subst (λ (k : ℕ → ℕ). asks k ls) cut run_asked in
     let b = o.split.nodes.0.begins ls asked in
     let rest : drop (length v.decided) ls ≡ b.rest = ap (λ (xs : List ℕ). drop (length v.decided) xs) b.begins ∙ drop_whole v.decided b.rest in
     let front : take (length v.decided) ls ≡ v.decided = ap (λ (xs : List ℕ). take (length v.decided) xs) b.begins ∙ take_whole v.decided b.rest in
@@ -247,11 +281,11 @@ opened_next asks judged low high lines at queue more numbers kept new ls found l
     let heads = head_same (length v.decided) (entry_at queue at).decided (map (λ w. length w.decided) left) (map (λ e. e.decided) (drop (at + 1) queue))
     (o.counts ∙ ap (λ (es : List Entry). map (λ e. e.decided) es) (drop_more queue at e0 less)) in
     let branches : more ≡ branching at low high v.decided (drop (length v.decided) ls) =
-    run.branches ∙ ap (λ (n : ℕ). branching at low high (take n ls) (drop n ls)) (sym heads.0) ∙ ap (λ (xs : List ℕ). branching at low high xs (drop (length v.decided) ls)) front in
+    ap (λ (n : ℕ). branching at low high (take n ls) (drop n ls)) (sym heads.0) ∙ ap (λ (xs : List ℕ). branching at low high xs (drop (length v.decided) ls)) front in
     let ops : List Node = opened low high c v.decided (drop (length v.decided) ls) in
     let lined = all_lined_up at low high c v.decided (drop (length v.decided) ls) in
     let child : AllByRecursion (IsChild at lines low) more =
-    subst (λ (es : List Entry). AllByRecursion (IsChild at lines low) es) (sym branches) (children at lines low high v.decided (drop (length v.decided) ls) (below_drop lines ls (length v.decided) run.below)) in
+    subst (λ (es : List Entry). AllByRecursion (IsChild at lines low) es) (sym branches) (children at lines low high v.decided (drop (length v.decided) ls) (below_drop lines ls (length v.decided) run_below)) in
     let tree' : IsTree lines (queue ++ more) = tree_more lines at low queue more less o.tree child in
     let joined : cuts_of ((done ++ node c ls ∷ []) ++ (left ++ ops)) ≡ cuts_of (done ++ v ∷ left) ++ cuts_of ops = cuts_join done left ops v ls in
     let new_cuts : map (λ e. with_number c e.line e.number) more ≡ cuts_of ops = ap (λ (es : List Entry). map (λ e. with_number c e.line e.number) es) branches ∙ lined.0 in
@@ -273,37 +307,86 @@ opened_next asks judged low high lines at queue more numbers kept new ls found l
           ∙ ap (λ (ns : List ℕ). map (λ (e : Entry). e.decided) (drop (at + 1) queue) ++ ns) (lined.1 ∙ ap (λ (es : List Entry). map (λ (e : Entry). e.decided) es) (sym branches))
           ∙ sym (map-append (λ (e : Entry). e.decided) (drop (at + 1) queue) more)
           ∙ ap (λ (es : List Entry). map (λ (e : Entry). e.decided) es) (sym (drop-append-le (at + 1) queue more (omega (arith, less))));
-      asked = all_join (λ w. AreFlagged flags' w.decided) done (node c ls ∷ [])
-          (all_map (λ w. AreFlagged flags w.decided) (λ w. AreFlagged flags' w.decided) done
-          (λ w h. flagged_more flags flags' w.decided (λ l t. flagged l ∙ ap (λ (x : Bool). x || has l ls) t) h) o.asked)
-          (flagged_by flags' ls ls (λ l t. flagged l ∙ ap (λ (x : Bool). is_flagged l flags || x) t ∙ (elim (is_flagged l flags) as (λ x. (x || true) ≡ true) [ true ↦ refl | false ↦ refl ])) (λ l t. t), tt);
-      best = best_more judged low high numbers kept new found least result done (node c ls) (run.cut ∙ cut) run.above o.split.nodes.0.within
-          (subst (λ (k : ℕ → ℕ). judged k found) cut run.judges) keeps o.best;
     }
 
 node_count : (done left : List Node) → length (cuts_of (done ++ left)) ≡ length done + length left
 node_count done left = mapped_count (λ (v : Node). v.numbers) (done ++ left) ∙ length-append done left
 
-next_of : {Cause : Type 0} (asks : (ℕ → ℕ) → List ℕ → Type 0) (judged : (ℕ → ℕ) → Option Cause → Type 0) (low high : ℕ → ℕ) (lines at : ℕ)
-    (queue more : List Entry) (numbers kept new ls : List ℕ) (found least result : Option Cause) (flags flags' : List Bool) (done left : List Node) → IsAdaptive asks →
-    at < length queue → IsRun asks judged low high lines at queue numbers ls more found → IsLess low numbers found kept least new result →
-    ((l : ℕ) → is_flagged l flags' ≡ (is_flagged l flags || has l ls)) →
-    IsOpening asks judged low high lines at queue kept least flags done left → IsAt asks judged low high lines (at + 1) (queue ++ more) new result flags'
-next_of asks judged low high lines at queue more numbers kept new ls found least result flags flags' done [] adaptive less run keeps flagged o =
-    let n = node_count done [] in let s = o.same in let z = o.size in absurd (omega (arith, less, n, s, z))
-next_of asks judged low high lines at queue more numbers kept new ls found least result flags flags' done (v ∷ left) adaptive less run keeps flagged o = record {
-  done = done ++ node v.numbers ls ∷ [];
-  left = left ++ opened low high v.numbers v.decided (drop (length v.decided) ls);
-  opening = opened_next asks judged low high lines at queue more numbers kept new ls found least result flags flags' done left v adaptive less run keeps flagged o;
+-- the entries of these nodes are worked, one after the other
+nodes_many : (asks : (ℕ → ℕ) → List ℕ → Type 0) (low high : ℕ → ℕ) (lines at : ℕ) (queue : List Entry) (done left vs : List Node) → IsAdaptive asks →
+    AreAnswers asks low lines queue at vs → AreNodes asks low high lines at queue done left →
+    (later : List Node) × AreNodes asks low high lines (at + length vs) (queue ++ all_branching low high queue at vs) (done ++ vs) later
+nodes_many asks low high lines at queue done left [] adaptive a o = (
+  left,
+  subst (λ (ds : List Node). AreNodes asks low high lines (at + 0) (queue ++ []) ds left) (sym (append-nil done))
+      (subst (λ (q : List Entry). AreNodes asks low high lines (at + 0) q done left) (sym (append-nil queue))
+      (subst (λ (n : ℕ). AreNodes asks low high lines n queue done left) (omega arith) o)),
+)
+nodes_many asks low high lines at queue done [] (v ∷ vs) adaptive a o =
+    let n = node_count done [] in let s = o.same in let z = o.size in let less = a.0.there in absurd (omega (arith, less, n, s, z))
+nodes_many asks low high lines at queue done (w ∷ left) (v ∷ vs) adaptive a o =
+    let less : at < length queue = a.0.there in
+    let here : List Entry = branching at low high (take (entry_at queue at).decided v.decided) (drop (entry_at queue at).decided v.decided) in
+    let ops : List Node = opened low high w.numbers w.decided (drop (length w.decided) v.decided) in
+    let same : node w.numbers v.decided ≡ v = ap (λ (c : ℕ → ℕ). node c v.decided) (next_cut asks low high lines at queue done left w less o ∙ sym a.0.cut) in
+    let next : AreNodes asks low high lines (at + 1) (queue ++ here) (done ++ v ∷ []) (left ++ ops) =
+    subst (λ (x : Node). AreNodes asks low high lines (at + 1) (queue ++ here) (done ++ x ∷ []) (left ++ ops)) same
+    (nodes_next asks low high lines at queue v.decided done left w adaptive less a.0.asked a.0.below o) in
+    let rest = nodes_many asks low high lines (at + 1) (queue ++ here) (done ++ v ∷ []) (left ++ ops) vs adaptive
+    (answers_later asks low lines queue here (at + 1) vs o.tree a.1) next in
+    let grown : (queue ++ here) ++ all_branching low high (queue ++ here) (at + 1) vs ≡ queue ++ (here ++ all_branching low high queue (at + 1) vs) =
+    ap (λ (es : List Entry). (queue ++ here) ++ es) (branching_later asks low high lines queue here (at + 1) vs a.1)
+    ∙ append_assoc queue here (all_branching low high queue (at + 1) vs) in (
+      rest.0,
+      subst (λ (n : ℕ). AreNodes asks low high lines n (queue ++ (here ++ all_branching low high queue (at + 1) vs)) (done ++ v ∷ vs) rest.0) (omega arith)
+          (subst (λ (q : List Entry). AreNodes asks low high lines ((at + 1) + length vs) q (done ++ v ∷ vs) rest.0) grown
+          (subst (λ (ds : List Node). AreNodes asks low high lines ((at + 1) + length vs) ((queue ++ here) ++ all_branching low high (queue ++ here) (at + 1) vs) ds rest.0)
+          (append_assoc done (v ∷ []) vs) rest.1)),
+    )
+
+-- what recovery came to at many entries is taken in
+pub at_many : {Cause : Type 0} (asks : (ℕ → ℕ) → List ℕ → Type 0) (judged : (ℕ → ℕ) → Option Cause → Type 0) (low high : ℕ → ℕ) (lines at : ℕ)
+    (queue more : List Entry) (numbers kept new : List ℕ) (found least result : Option Cause) (flags theirs flags' : List Bool) (vs : List Node) → IsAdaptive asks →
+    AreRuns asks judged low high lines at queue numbers found theirs more vs → IsLess low numbers found kept least new result →
+    ((l : ℕ) → is_flagged l flags ≡ true → is_flagged l flags' ≡ true) → ((l : ℕ) → is_flagged l theirs ≡ true → is_flagged l flags' ≡ true) →
+    IsAt asks judged low high lines at queue kept least flags → IsAt asks judged low high lines (at + length vs) (queue ++ more) new result flags'
+at_many asks judged low high lines at queue more numbers kept new found least result flags theirs flags' vs adaptive runs less mine others o =
+    let next = nodes_many asks low high lines at queue o.done o.left vs adaptive runs.answers o.opening.nodes in
+    record {
+      done = o.done ++ vs;
+      left = next.0;
+      opening = record {
+        nodes = subst (λ (es : List Entry). AreNodes asks low high lines (at + length vs) (queue ++ es) (o.done ++ vs) next.0) (sym runs.branches) next.1;
+        asked = asked_join flags theirs flags' o.done vs mine others o.opening.asked runs.asked;
+        best = best_join judged low high numbers kept new found least result o.done vs less o.opening.best runs.best;
+      };
+    }
+
+-- what recovery came to at one entry
+pub runs_one : {Cause : Type 0} (asks : (ℕ → ℕ) → List ℕ → Type 0) (judged : (ℕ → ℕ) → Option Cause → Type 0) (low high : ℕ → ℕ) (lines at : ℕ)
+    (queue more : List Entry) (numbers ls : List ℕ) (found : Option Cause) (flags : List Bool) →
+    at < length queue → IsWithin low high (cut_at low queue at) → ((l : ℕ) → has l ls ≡ true → is_flagged l flags ≡ true) →
+    IsRun asks judged low high lines at queue numbers ls more found → AreRuns asks judged low high lines at queue numbers found flags more (node (cut_at low queue at) ls ∷ [])
+runs_one asks judged low high lines at queue more numbers ls found flags less within flagged run = record {
+  answers = (record { there = less; cut = refl; asked = run.asked; below = run.below }, tt);
+  asked = (flagged_by flags ls ls flagged (λ l t. t), tt);
+  best = best_one judged low high numbers found (node (cut_at low queue at) ls) run.cut run.above within run.judges;
+  branches = run.branches ∙ sym (append-nil (branching at low high (take (entry_at queue at).decided ls) (drop (entry_at queue at).decided ls)));
 }
 
-pub at_next : {Cause : Type 0} (asks : (ℕ → ℕ) → List ℕ → Type 0) (judged : (ℕ → ℕ) → Option Cause → Type 0) (low high : ℕ → ℕ) (lines at : ℕ)
-    (queue more : List Entry) (numbers kept new ls : List ℕ) (found least result : Option Cause) (flags flags' : List Bool) → IsAdaptive asks →
-    at < length queue → IsRun asks judged low high lines at queue numbers ls more found → IsLess low numbers found kept least new result →
-    ((l : ℕ) → is_flagged l flags' ≡ (is_flagged l flags || has l ls)) →
-    IsAt asks judged low high lines at queue kept least flags → IsAt asks judged low high lines (at + 1) (queue ++ more) new result flags'
-at_next asks judged low high lines at queue more numbers kept new ls found least result flags flags' adaptive less run keeps flagged o =
-    next_of asks judged low high lines at queue more numbers kept new ls found least result flags flags' o.done o.left adaptive less run keeps flagged o.opening
+-- what it came to at further entries is added
+pub runs_join : {Cause : Type 0} (asks : (ℕ → ℕ) → List ℕ → Type 0) (judged : (ℕ → ℕ) → Option Cause → Type 0) (low high : ℕ → ℕ) (lines first : ℕ)
+    (queue before more : List Entry) (numbers kept new : List ℕ) (found least result : Option Cause) (flags theirs flags' : List Bool) (done vs : List Node) →
+    AreRuns asks judged low high lines (first + length done) queue numbers found theirs more vs → IsLess low numbers found kept least new result →
+    ((l : ℕ) → is_flagged l flags ≡ true → is_flagged l flags' ≡ true) → ((l : ℕ) → is_flagged l theirs ≡ true → is_flagged l flags' ≡ true) →
+    AreRuns asks judged low high lines first queue kept least flags before done → AreRuns asks judged low high lines first queue new result flags' (before ++ more) (done ++ vs)
+runs_join asks judged low high lines first queue before more numbers kept new found least result flags theirs flags' done vs runs less mine others r = record {
+  answers = answers_join asks low lines queue first done vs r.answers runs.answers;
+  asked = asked_join flags theirs flags' done vs mine others r.asked runs.asked;
+  best = best_join judged low high numbers kept new found least result done vs less r.best runs.best;
+  branches = ap (λ (es : List Entry). es ++ more) r.branches ∙ ap (λ (es : List Entry). all_branching low high queue first done ++ es) runs.branches
+      ∙ sym (branching_join low high queue first done vs);
+}
 
 pub at_first : {Cause : Type 0} (asks : (ℕ → ℕ) → List ℕ → Type 0) (judged : (ℕ → ℕ) → Option Cause → Type 0) (low high : ℕ → ℕ) (lines : ℕ)
     (queue : List Entry) (numbers : List ℕ) (flags : List Bool) → ((l : ℕ) → low l ≤ high l) → queue ≡ entry 0 0 0 0 ∷ [] → IsAt asks judged low high lines 0 queue numbers None flags
@@ -311,34 +394,57 @@ at_first asks judged low high lines queue numbers flags ordered e = rw e (record
   done = [];
   left = node low [] ∷ [];
   opening = record {
-    split = split_first asks low high ordered;
-    size = refl;
-    tree = record { behind = λ i pos less. absurd (omega (arith, pos, less)); below = λ i pos less. absurd (omega (arith, pos, less)) };
-    raised = λ i pos less. absurd (omega (arith, pos, less));
-    same = refl;
-    cuts = λ i less. (let z : i ≡ 0 = omega (arith, less) in rw z refl);
-    counts = refl;
+    nodes = record {
+      split = split_first asks low high ordered;
+      size = refl;
+      tree = record { behind = λ i pos less. absurd (omega (arith, pos, less)); below = λ i pos less. absurd (omega (arith, pos, less)) };
+      raised = λ i pos less. absurd (omega (arith, pos, less));
+      same = refl;
+      cuts = λ i less. (let z : i ≡ 0 = omega (arith, less) in rw z refl);
+      counts = refl;
+    };
     asked = tt;
     best = tt;
   };
 })
+
+-- the queue of an opening
+pub at_cuts : {Cause : Type 0} (asks : (ℕ → ℕ) → List ℕ → Type 0) (judged : (ℕ → ℕ) → Option Cause → Type 0) (low high : ℕ → ℕ) (lines at : ℕ)
+    (queue : List Entry) (numbers : List ℕ) (least : Option Cause) (flags : List Bool) → IsAdaptive asks →
+    IsAt asks judged low high lines at queue numbers least flags → AreCuts low high lines queue
+at_cuts asks judged low high lines at queue numbers least flags adaptive o =
+    let apart = split_apart asks low high o.done o.left adaptive o.opening.nodes.split in
+    record {
+      tree = o.opening.nodes.tree;
+      raised = o.opening.nodes.raised;
+      within = λ i less. let s = o.opening.nodes.same in
+          subst (IsWithin low high) (o.opening.nodes.cuts i less) (all_at (IsWithin low high) (cuts_of (o.done ++ o.left)) i low (omega (arith, less, s)) apart.each);
+    }
 
 -- the cut of an entry lies within the bounds
 pub at_within : {Cause : Type 0} (asks : (ℕ → ℕ) → List ℕ → Type 0) (judged : (ℕ → ℕ) → Option Cause → Type 0) (low high : ℕ → ℕ) (lines at : ℕ)
     (queue : List Entry) (numbers : List ℕ) (least : Option Cause) (flags : List Bool) → IsAdaptive asks → at < length queue →
     IsAt asks judged low high lines at queue numbers least flags → IsWithin low high (cut_at low queue at)
 at_within asks judged low high lines at queue numbers least flags adaptive less o =
-    let s = o.opening.same in
-    let apart = split_apart asks low high o.done o.left adaptive o.opening.split in
-    subst (IsWithin low high) (o.opening.cuts at less) (all_at (IsWithin low high) (cuts_of (o.done ++ o.left)) at low (omega (arith, less, s)) apart.each)
+    let s = o.opening.nodes.same in
+    let apart = split_apart asks low high o.done o.left adaptive o.opening.nodes.split in
+    subst (IsWithin low high) (o.opening.nodes.cuts at less) (all_at (IsWithin low high) (cuts_of (o.done ++ o.left)) at low (omega (arith, less, s)) apart.each)
+
+-- no entry past the queue's end is worked
+pub at_most : {Cause : Type 0} (asks : (ℕ → ℕ) → List ℕ → Type 0) (judged : (ℕ → ℕ) → Option Cause → Type 0) (low high : ℕ → ℕ) (lines at : ℕ)
+    (queue : List Entry) (numbers : List ℕ) (least : Option Cause) (flags : List Bool) → IsAt asks judged low high lines at queue numbers least flags → at ≤ length queue
+at_most asks judged low high lines at queue numbers least flags o =
+    let n = node_count o.done o.left in
+    let s = o.opening.nodes.same in
+    let z = o.opening.nodes.size in omega (arith, n, s, z)
 
 pub at_over : {Cause : Type 0} (asks : (ℕ → ℕ) → List ℕ → Type 0) (judged : (ℕ → ℕ) → Option Cause → Type 0) (low high : ℕ → ℕ) (lines at limit : ℕ)
     (queue : List Entry) (numbers : List ℕ) (least : Option Cause) (flags : List Bool) → IsAdaptive asks → limit < length queue →
     IsAt asks judged low high lines at queue numbers least flags → AreOver asks low high limit
 at_over asks judged low high lines at limit queue numbers least flags adaptive less o = record {
   cuts = cuts_of (o.done ++ o.left);
-  more = let s = o.opening.same in omega (arith, less, s);
-  apart = split_apart asks low high o.done o.left adaptive o.opening.split;
+  more = let s = o.opening.nodes.same in omega (arith, less, s);
+  apart = split_apart asks low high o.done o.left adaptive o.opening.nodes.split;
 }
 
 -- none is left
@@ -350,8 +456,8 @@ pub at_end : {Cause : Type 0} (asks : (ℕ → ℕ) → List ℕ → Type 0) (ju
     (queue : List Entry) (numbers : List ℕ) (least : Option Cause) (flags : List Bool) → length queue ≤ at →
     (o : IsAt asks judged low high lines at queue numbers least flags) → (k : ℕ → ℕ) → IsWithin low high k → Covers k o.done
 at_end asks judged low high lines at queue numbers least flags le o k w =
-    let none : o.left ≡ [] = none_left o.done o.left at (length queue) o.opening.size o.opening.same le in
-    subst (λ (vs : List Node). Covers k vs) (ap (λ (vs : List Node). o.done ++ vs) none ∙ append-nil o.done) (o.opening.split.covers k w)
+    let none : o.left ≡ [] = none_left o.done o.left at (length queue) o.opening.nodes.size o.opening.nodes.same le in
+    subst (λ (vs : List Node). Covers k vs) (ap (λ (vs : List Node). o.done ++ vs) none ∙ append-nil o.done) (o.opening.nodes.split.covers k w)
 
 pub at_few : {Cause : Type 0} (asks : (ℕ → ℕ) → List ℕ → Type 0) (judged : (ℕ → ℕ) → Option Cause → Type 0) (low high : ℕ → ℕ) (lines at limit : ℕ)
     (queue : List Entry) (numbers : List ℕ) (least : Option Cause) (flags : List Bool) → IsAdaptive asks → IsShared asks → length queue ≤ at → length queue ≤ limit →
@@ -359,9 +465,9 @@ pub at_few : {Cause : Type 0} (asks : (ℕ → ℕ) → List ℕ → Type 0) (ju
 at_few asks judged low high lines at limit queue numbers least flags adaptive shared le few o =
     let n = node_count o.done o.left in
     let m = mapped_count (λ (v : Node). v.numbers) o.done in
-    let s = o.opening.same in
+    let s = o.opening.nodes.same in
     not_over asks low high limit (cuts_of o.done) adaptive
-    (λ k w. shared_of asks low high k o.done shared o.opening.split.finished (at_end asks judged low high lines at queue numbers least flags le o k w))
+    (λ k w. shared_of asks low high k o.done shared o.opening.nodes.split.finished (at_end asks judged low high lines at queue numbers least flags le o k w))
     (omega (arith, n, m, s, few))
 
 pub at_pass : {Cause : Type 0} (asks : (ℕ → ℕ) → List ℕ → Type 0) (judged : (ℕ → ℕ) → Option Cause → Type 0) (low high : ℕ → ℕ) (lines at : ℕ)
@@ -369,7 +475,7 @@ pub at_pass : {Cause : Type 0} (asks : (ℕ → ℕ) → List ℕ → Type 0) (j
     ((c k : ℕ → ℕ) (ls : List ℕ) (found : Option Cause) → asks c ls → Agree k c ls → judged c found → judged k found) → length queue ≤ at →
     IsAt asks judged low high lines at queue numbers None flags → (k : ℕ → ℕ) → IsWithin low high k → judged k None
 at_pass asks judged low high lines at queue numbers flags branchwise le o k w =
-    pass_of asks judged low high k o.done branchwise o.opening.split.finished o.opening.best (at_end asks judged low high lines at queue numbers None flags le o k w)
+    pass_of asks judged low high k o.done branchwise o.opening.nodes.split.finished o.opening.best (at_end asks judged low high lines at queue numbers None flags le o k w)
 
 pub at_bad : {Cause : Type 0} (asks : (ℕ → ℕ) → List ℕ → Type 0) (judged : (ℕ → ℕ) → Option Cause → Type 0) (low high : ℕ → ℕ) (lines at : ℕ)
     (queue : List Entry) (numbers : List ℕ) (cause : Cause) (flags : List Bool) →
@@ -378,16 +484,9 @@ pub at_bad : {Cause : Type 0} (asks : (ℕ → ℕ) → List ℕ → Type 0) (ju
 at_bad asks judged low high lines at queue numbers cause flags branchwise le o = record {
   within = o.opening.best.0;
   bad = o.opening.best.1;
-  least = λ k w b. least_of asks judged low high (number_over low numbers) k o.done branchwise o.opening.split.finished o.opening.best.3 w b
+  least = λ k w b. least_of asks judged low high (number_over low numbers) k o.done branchwise o.opening.nodes.split.finished o.opening.best.3 w b
       (at_end asks judged low high lines at queue numbers (Some cause) flags le o k w);
 }
-
--- the least bad cut so far gives no number that isn't above its floor
-pub at_above : {Cause : Type 0} (asks : (ℕ → ℕ) → List ℕ → Type 0) (judged : (ℕ → ℕ) → Option Cause → Type 0) (low high : ℕ → ℕ) (lines at : ℕ)
-    (queue : List Entry) (numbers : List ℕ) (least : Option Cause) (flags : List Bool) →
-    IsAt asks judged low high lines at queue numbers least flags → IsSome least → AreAbove low numbers
-at_above asks judged low high lines at queue numbers None flags o s = absurd (true≢false (sym s))
-at_above asks judged low high lines at queue numbers (Some cause) flags o s = o.opening.best.2
 
 covered_asked : (asks : (ℕ → ℕ) → List ℕ → Type 0) (low high k : ℕ → ℕ) (ls : List ℕ) (flags : List Bool) (vs : List Node) → IsAdaptive asks →
     AllByRecursion (IsFinished asks low high) vs → AllByRecursion (λ v. AreFlagged flags v.decided) vs → asks k ls → Covers k vs → AreFlagged flags ls
@@ -400,4 +499,4 @@ pub at_asked : {Cause : Type 0} (asks : (ℕ → ℕ) → List ℕ → Type 0) (
     (queue : List Entry) (numbers : List ℕ) (least : Option Cause) (flags : List Bool) → IsAdaptive asks → length queue ≤ at →
     IsAt asks judged low high lines at queue numbers least flags → (k : ℕ → ℕ) → IsWithin low high k → (ls : List ℕ) → asks k ls → AreFlagged flags ls
 at_asked asks judged low high lines at queue numbers least flags adaptive le o k w ls h =
-    covered_asked asks low high k ls flags o.done adaptive o.opening.split.finished o.opening.asked h (at_end asks judged low high lines at queue numbers least flags le o k w)
+    covered_asked asks low high k ls flags o.done adaptive o.opening.nodes.split.finished o.opening.asked h (at_end asks judged low high lines at queue numbers least flags le o k w)

@@ -73,9 +73,8 @@ IsBest judged low high numbers (Some cause) done =
 abbrev pub AreFlagged : List Bool → List ℕ → Type 0
 AreFlagged flags ls = AllByRecursion (λ l. is_flagged l flags ≡ true) ls
 
--- The nodes of an opening: those of the entries before the place are finished, and the others are left.
-pub record IsOpening {Cause : Type 0} (asks : (ℕ → ℕ) → List ℕ → Type 0) (judged : (ℕ → ℕ) → Option Cause → Type 0) (low high : ℕ → ℕ) (lines at : ℕ)
-    (queue : List Entry) (numbers : List ℕ) (least : Option Cause) (flags : List Bool) (done left : List Node) : Type 0 where
+-- The nodes of the queue's entries: those of the entries before the place are finished, and the others are left.
+pub record AreNodes (asks : (ℕ → ℕ) → List ℕ → Type 0) (low high : ℕ → ℕ) (lines at : ℕ) (queue : List Entry) (done left : List Node) : Type 0 where
   pub split : Split asks low high done left
   pub size : length done ≡ at
   pub tree : IsTree lines queue
@@ -83,6 +82,11 @@ pub record IsOpening {Cause : Type 0} (asks : (ℕ → ℕ) → List ℕ → Typ
   pub same : length (cuts_of (done ++ left)) ≡ length queue
   pub cuts : (i : ℕ) → i < length queue → slice_index_or (cuts_of (done ++ left)) i low ≡ cut_at low queue i
   pub counts : map (λ v. length v.decided) left ≡ map (λ e. e.decided) (drop at queue)
+
+-- An opening: its nodes, the lines asked of the finished ones, and the least bad cut of these.
+pub record IsOpening {Cause : Type 0} (asks : (ℕ → ℕ) → List ℕ → Type 0) (judged : (ℕ → ℕ) → Option Cause → Type 0) (low high : ℕ → ℕ) (lines at : ℕ)
+    (queue : List Entry) (numbers : List ℕ) (least : Option Cause) (flags : List Bool) (done left : List Node) : Type 0 where
+  pub nodes : AreNodes asks low high lines at queue done left
   pub asked : AllByRecursion (λ v. AreFlagged flags v.decided) done
   pub best : IsBest judged low high numbers least done
 

@@ -6,6 +6,7 @@ pub use laws::{Asking, floor_adds_no_branches, store_adds_no_branches};
 pub use opener::{Opened, Opener};
 pub use recovery::Recovery;
 
+mod findings;
 mod laws;
 mod lines;
 mod numbers;

@@ -1,6 +1,6 @@
 //! Sets of lines.
 
-ghost use Rattle.std.specs.Prelude.{◌≡◌, ℕ, ◌<◌, ◌||◌, ◌==◌, false, not, length, replicate, IfOk, OnOk};
+ghost use Rattle.std.specs.Prelude.{◌≡◌, ℕ, ◌<◌, ◌||◌, ◌==◌, false, true, not, length, replicate, IfOk, OnOk};
 ghost use Rattle.std.specs.List.{AllByRecursion};
 ghost use Rattle.branches.specs.Numbers.{has, is_flagged};
 
@@ -41,6 +41,14 @@ impl LineSet {
         ensures { result ≡ is_flagged line self.now }
     {
         self.flags.get(line as usize) == Some(&true)
+    }
+
+    /// The lines that are in the set.
+    pub fn lines(&self) -> &[u32]
+        ensures all { (l : ℕ) → is_flagged l self.now ≡ true → has l result.now ≡ true }
+        ensures below { AllByRecursion (λ l. l < length self.now) result.now }
+    {
+        &self.lines
     }
 
     /// Puts a line into the set. True where it wasn't in it.

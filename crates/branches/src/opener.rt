@@ -38,9 +38,9 @@ impl Model for Opener {
     // whether each line was asked in the last opening
     ghost Value = { List Bool };
 
-    ghost view = { λ o. o.progress.asked };
+    ghost view = { λ o. o.progress.findings.asked };
 
-    ghost invariant = { λ o. (length o.run.numbers ≡ length o.progress.asked) × (length o.progress.least ≡ length o.progress.asked) };
+    ghost invariant = { λ o. (length o.run.numbers ≡ length o.progress.findings.asked) × (length o.progress.findings.least ≡ length o.progress.findings.asked) };
 }
 
 impl Opener {
@@ -58,7 +58,7 @@ impl Opener {
     pub fn was_asked(&self, line: u32) -> bool
         ensures { result ≡ is_flagged line self.now }
     {
-        self.progress.asked.contains(line)
+        self.progress.findings.asked.contains(line)
     }
 
     /// Opens the branches, up to `limit` and one more. The opener can be used again after an error too.
@@ -119,10 +119,7 @@ impl Opener {
             least = self
                 .progress
                 .open_next(alloc, recovery, &mut self.run, least)?;
-            let numbers = &mut self.run.numbers;
-            least = self
-                .progress
-                .open_many(rt, alloc, recovery, numbers, limit, least)?;
+            least = self.progress.open_many(rt, alloc, recovery, limit, least)?;
             if self.progress.is_over(limit) {
                 return Ok(Opened::Over);
             }

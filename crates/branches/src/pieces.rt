@@ -1,34 +1,27 @@
 //! What recovery comes to at branches that follow each other in the queue.
 
-ghost use Rattle.std.specs.Prelude.{◌≡◌, ◌<◌, length, IfOk};
-ghost use Rattle.branches.specs.Pieces.{AreAnswers, AreCuts, IsAnswer};
+ghost use Rattle.std.specs.Prelude.{◌≡◌, ◌+◌, ◌<◌, ◌≤◌, length, IfOk, OnOk};
+ghost use Rattle.branches.specs.Pieces.{AreCuts, IsPiece};
 
 use crate::Recovery;
+use crate::findings::Findings;
 use crate::queue::Entry;
 use crate::run::Run;
 use std::alloc::{AllocError, Global};
-use std::mem;
 
-/// After so many lines asked and branches found a piece ends early, so that a round takes little memory.
+/// A piece that found more branches than this ends early, so that a round takes little memory.
 const MUCH: usize = 65_536;
-
-/// What recovery came to at one branch.
-#[derive(Drop)]
-pub struct Answer<Cause> {
-    /// Why the image is bad, if it is.
-    pub judged: Option<Cause>,
-    /// The lines that recovery asked, in order.
-    pub asked: Vec<u32>,
-    /// The branches that are found there.
-    pub found: Vec<Entry>,
-}
 
 /// What recovery came to at branches that follow each other in the queue.
 #[derive(Drop)]
 pub struct Piece<Cause> {
     /// The place of the first of them.
     pub first: usize,
-    pub answers: Vec<Answer<Cause>>,
+    /// How many they are.
+    pub count: usize,
+    pub findings: Findings,
+    /// Why the least bad cut of them is bad, if one is.
+    pub cause: Option<Cause>,
 }
 
 /// Runs recovery at so many branches of the queue from place `first` on, or at fewer where the queue ends or much is found.
@@ -40,43 +33,53 @@ pub fn open_piece<R: Recovery>(
     count: usize,
 ) -> Result<Piece<R::Cause>, AllocError>
     requires { AreCuts (R.low recovery.now) (R.high recovery.now) (R.lines recovery.now) queue.now }
-    ensures { IfOk result (AreAnswers (R.asks recovery.now) (R.judged recovery.now) (R.low recovery.now) (R.high recovery.now) (R.lines recovery.now) queue.now) }
+    ensures { IfOk result (IsPiece (R.asks recovery.now) (R.judged recovery.now) (R.low recovery.now) (R.high recovery.now) (R.lines recovery.now) queue.now) }
 {
-    let mut run = Run::new(alloc, recovery.lines())?;
-    let mut answers = Vec::new(alloc);
-    let mut room = MUCH;
+    let lines = recovery.lines();
+    let mut run = Run::new(alloc, lines)?;
+    let mut piece = Piece {
+        first,
+        count: 0,
+        findings: Findings::new(alloc, lines)?,
+        cause: None,
+    };
     let end = first.saturating_add(count).min(queue.len());
     for place in first..end {
-        if room == 0 {
+        if piece.findings.found.len() > MUCH {
             break;
         }
-        let answer = answer_at(alloc, recovery, &mut run, queue, place)?;
-        room = room
-            .saturating_sub(answer.asked.len())
-            .saturating_sub(answer.found.len());
-        answers.push(answer)?;
+        open_at(alloc, recovery, &mut run, queue, place, &mut piece)?;
     }
-    Ok(Piece { first, answers })
+    Ok(piece)
 }
 
-/// Runs recovery at the branch at this place of the queue.
-fn answer_at<R: Recovery>(
+/// Runs recovery at the branch at this place of the queue, which is the next one of the piece.
+fn open_at<R: Recovery>(
     alloc: Global,
     recovery: &R,
     run: &mut Run,
     queue: &[Entry],
     place: usize,
-) -> Result<Answer<R::Cause>, AllocError>
+    piece: &mut Piece<R::Cause>,
+) -> Result<(), AllocError>
     requires there { place < length queue.now }
+    requires next { place ≡ piece.old.first + piece.old.count }
     requires cuts { AreCuts (R.low recovery.now) (R.high recovery.now) (R.lines recovery.now) queue.now }
     requires size { length run.old.numbers ≡ R.lines recovery.now }
-    ensures answer { IfOk result (IsAnswer (R.asks recovery.now) (R.judged recovery.now) (R.low recovery.now) (R.high recovery.now) (R.lines recovery.now) queue.now place) }
+    requires piece { IsPiece (R.asks recovery.now) (R.judged recovery.now) (R.low recovery.now) (R.high recovery.now) (R.lines recovery.now) queue.now piece.old }
+    ensures piece { OnOk result (IsPiece (R.asks recovery.now) (R.judged recovery.now) (R.low recovery.now) (R.high recovery.now) (R.lines recovery.now) queue.now piece.new) }
+    ensures first { piece.new.first ≡ piece.old.first }
+    ensures count { OnOk result (piece.new.count ≡ piece.old.count + 1) }
     ensures size { length run.new.numbers ≡ length run.old.numbers }
 {
     let judged = run.open(alloc, recovery, queue, place)?;
-    Ok(Answer {
+    piece.cause = piece.findings.add(
+        &mut run.numbers,
         judged,
-        asked: run.asked.to_vec(alloc)?,
-        found: mem::replace(&mut run.found, Vec::new(alloc)),
-    })
+        &run.asked,
+        &run.found,
+        piece.cause,
+    )?;
+    piece.count += 1;
+    Ok(())
 }

@@ -1,7 +1,7 @@
 //! Opening many branches at once, in rounds.
 
 ghost use Rattle.std.specs.Prelude.{◌≡◌, All, IfOk};
-ghost use Rattle.branches.specs.Pieces.{AreAnswers, AreCuts};
+ghost use Rattle.branches.specs.Pieces.{AreCuts, IsPiece};
 
 use crate::Recovery;
 use crate::pieces::{Piece, open_piece};
@@ -29,7 +29,7 @@ pub fn open_round<R: Recovery + Sync, T: Threads + Sync>(
     first: usize,
 ) -> Result<Vec<Result<Piece<R::Cause>, AllocError>>, AllocError>
     requires cuts { AreCuts (R.low recovery.now) (R.high recovery.now) (R.lines recovery.now) queue.now }
-    ensures { IfOk result (λ pieces. All (λ found. IfOk found (AreAnswers (R.asks recovery.now) (R.judged recovery.now) (R.low recovery.now) (R.high recovery.now)
+    ensures { IfOk result (λ pieces. All (λ found. IfOk found (IsPiece (R.asks recovery.now) (R.judged recovery.now) (R.low recovery.now) (R.high recovery.now)
         (R.lines recovery.now) queue.now)) pieces.items) }
 {
     let open = queue.len().saturating_sub(first).min(MOST_OF_ROUND);
@@ -56,7 +56,7 @@ fn open_pieces<R: Recovery + Sync, T: Threads + Sync>(
     size: usize,
 ) -> Result<Vec<Result<Piece<R::Cause>, AllocError>>, AllocError>
     requires cuts { AreCuts (R.low recovery.now) (R.high recovery.now) (R.lines recovery.now) queue.now }
-    ensures { IfOk result (λ pieces. All (λ found. IfOk found (AreAnswers (R.asks recovery.now) (R.judged recovery.now) (R.low recovery.now) (R.high recovery.now)
+    ensures { IfOk result (λ pieces. All (λ found. IfOk found (IsPiece (R.asks recovery.now) (R.judged recovery.now) (R.low recovery.now) (R.high recovery.now)
         (R.lines recovery.now) queue.now)) pieces.items) }
 {
     (0..PIECES)
@@ -65,7 +65,7 @@ fn open_pieces<R: Recovery + Sync, T: Threads + Sync>(
         .map(
             |number: u32| -> Result<Piece<R::Cause>, AllocError>
                 requires { AreCuts (R.low recovery.now) (R.high recovery.now) (R.lines recovery.now) queue.now }
-                ensures { IfOk result (AreAnswers (R.asks recovery.entry.now) (R.judged recovery.entry.now) (R.low recovery.entry.now) (R.high recovery.entry.now)
+                ensures { IfOk result (IsPiece (R.asks recovery.entry.now) (R.judged recovery.entry.now) (R.low recovery.entry.now) (R.high recovery.entry.now)
                     (R.lines recovery.entry.now) queue.entry.now) }
             {
                 let place = first.saturating_add(size.saturating_mul(number as usize));

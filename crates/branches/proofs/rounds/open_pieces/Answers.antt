@@ -1,6 +1,6 @@
 use Rattle.std.specs.Prelude.{IfOk}
 use Rattle.rayon.proofs.ListFacts.{IfOk-then}
-use Rattle.branches.specs.Pieces.{AreAnswers}
+use Rattle.branches.specs.Pieces.{IsPiece}
 use Rattle.branches.proofs.Answering.{zip_all}
 use Rattle.branches.proofs.rounds.open_pieces.Goals as goal
 
@@ -10,4 +10,4 @@ returns g c =
     let s = c.args.recovery.now in
     IfOk-then c.collect.result _ _ c.collect.ensures (λ v h.
     let chain = rw (c.map.ensures.base, c.map.ensures.f) at h.1 in
-    rw h.2 (zip_all (λ found. IfOk found (AreAnswers (r.asks s) (r.judged s) (r.low s) (r.high s) (r.lines s) c.args.queue.now)) chain.0 h.0 chain.2))
+    rw h.2 (zip_all (λ found. IfOk found (IsPiece (r.asks s) (r.judged s) (r.low s) (r.high s) (r.lines s) c.args.queue.now)) chain.0 h.0 chain.2))

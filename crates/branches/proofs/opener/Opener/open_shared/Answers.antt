@@ -11,9 +11,9 @@ loop-self-init g c =
     let laws = g.met.R.Recovery g.world.𝓛 g.world.𝓜 g.world.𝓡 ((λ s x. x), (λ x. x), (λ x. x), λ x. x) in
     let p = c.begin.new.self in
     let e = c.in_ok-begin.ensures in
-    let first = at_first (r.asks s) (r.judged s) (r.low s) (r.high s) (r.lines s) p.queue.items p.least p.asked (laws.ordered s) e.queue in
+    let first = at_first (r.asks s) (r.judged s) (r.low s) (r.high s) (r.lines s) p.findings.found.items p.findings.least p.findings.asked (laws.ordered s) e.queue in
     let size = c.begin.ensures.asked in (
-      subst (λ (n : ℕ). IsAt (r.asks s) (r.judged s) (r.low s) (r.high s) (r.lines s) n p.queue.items p.least None p.asked) (sym e.opened) first,
+      subst (λ (n : ℕ). IsAt (r.asks s) (r.judged s) (r.low s) (r.high s) (r.lines s) n p.findings.found.items p.findings.least None p.findings.asked) (sym e.opened) first,
       grind (arith, common_steps, e.queue, c.requires.some),
       size ∙ ap length c.self.view_is,
       c.self.invariant.0 ∙ sym size,
@@ -26,5 +26,5 @@ returns-then-is_over-clause-over g c =
     let s = c.args.recovery.now in
     let laws = g.met.R.Recovery g.world.𝓛 g.world.𝓜 g.world.𝓡 ((λ s x. x), (λ x. x), (λ x. x), λ x. x) in
     let p = c.open_many.new.self in
-    at_over (r.asks s) (r.judged s) (r.low s) (r.high s) (r.lines s) p.opened c.args.limit p.queue.items p.least c.in_ok-least-2.least p.asked
+    at_over (r.asks s) (r.judged s) (r.low s) (r.high s) (r.lines s) p.opened c.args.limit p.findings.found.items p.findings.least c.in_ok-least-2.least p.findings.asked
     (laws.adaptive s) (c.is_over.ensures.0 c.if-is_over.true) c.in_ok-least-2.ensures.at

@@ -10,7 +10,7 @@ returns-in_ok-to_vec-in-Some-clause-few g c =
     let r = g.R.Recovery in
     let s = c.args.recovery.now in
     let p = c.args.self.now in
-    at_few (r.asks s) (r.judged s) (r.low s) (r.high s) (r.lines s) p.opened c.args.limit p.queue.items p.least c.args.least p.asked
+    at_few (r.asks s) (r.judged s) (r.low s) (r.high s) (r.lines s) p.opened c.args.limit p.findings.found.items p.findings.least c.args.least p.findings.asked
     (g.met.R.Recovery.adaptive s) (g.met.R.Recovery.shared s) c.requires.whole c.requires.few c.requires.at
 
 pub returns-in_ok-to_vec-in-Some-clause-bad : goal.returns-in_ok-to_vec-in-Some-clause-bad
@@ -18,9 +18,9 @@ returns-in_ok-to_vec-in-Some-clause-bad g c =
     let r = g.R.Recovery in
     let s = c.args.recovery.now in
     let p = c.args.self.now in
-    let some = subst (λ (x : Option g.row.R-Cause.Denot). IsAt (r.asks s) (r.judged s) (r.low s) (r.high s) (r.lines s) p.opened p.queue.items p.least x p.asked) c.in-Some.is c.requires.at in
+    let some = subst (λ (x : Option g.row.R-Cause.Denot). IsAt (r.asks s) (r.judged s) (r.low s) (r.high s) (r.lines s) p.opened p.findings.found.items p.findings.least x p.findings.asked) c.in-Some.is c.requires.at in
     let e = c.in_ok-to_vec-in-Some.ensures.items_if_clones_equal (λ x y same. same) ∙ c.as_slice.ensures in
-    let bad = at_bad (r.asks s) (r.judged s) (r.low s) (r.high s) (r.lines s) p.opened p.queue.items p.least c.in-Some.cause p.asked
+    let bad = at_bad (r.asks s) (r.judged s) (r.low s) (r.high s) (r.lines s) p.opened p.findings.found.items p.findings.least c.in-Some.cause p.findings.asked
     (g.met.R.Recovery.branchwise s) c.requires.whole some in (
       subst (λ (numbers : List ℕ). IsLeastBad (r.low s) (r.high s) (r.judged s) (number_over (r.low s) numbers) c.in-Some.cause) (sym e) bad,
       ap (λ (numbers : List ℕ). length numbers) e ∙ c.requires.least_size,
@@ -31,7 +31,7 @@ returns-in_ok-to_vec-in-Some-clause-asked g c =
     let r = g.R.Recovery in
     let s = c.args.recovery.now in
     let p = c.args.self.now in
-    at_asked (r.asks s) (r.judged s) (r.low s) (r.high s) (r.lines s) p.opened p.queue.items p.least c.args.least p.asked
+    at_asked (r.asks s) (r.judged s) (r.low s) (r.high s) (r.lines s) p.opened p.findings.found.items p.findings.least c.args.least p.findings.asked
     (g.met.R.Recovery.adaptive s) c.requires.whole c.requires.at
 
 pub returns-in-None-clause-few : goal.returns-in-None-clause-few
@@ -39,7 +39,7 @@ returns-in-None-clause-few g c =
     let r = g.R.Recovery in
     let s = c.args.recovery.now in
     let p = c.args.self.now in
-    at_few (r.asks s) (r.judged s) (r.low s) (r.high s) (r.lines s) p.opened c.args.limit p.queue.items p.least c.args.least p.asked
+    at_few (r.asks s) (r.judged s) (r.low s) (r.high s) (r.lines s) p.opened c.args.limit p.findings.found.items p.findings.least c.args.least p.findings.asked
     (g.met.R.Recovery.adaptive s) (g.met.R.Recovery.shared s) c.requires.whole c.requires.few c.requires.at
 
 pub returns-in-None-clause-pass : goal.returns-in-None-clause-pass
@@ -47,13 +47,13 @@ returns-in-None-clause-pass g c =
     let r = g.R.Recovery in
     let s = c.args.recovery.now in
     let p = c.args.self.now in
-    let none = subst (λ (x : Option g.row.R-Cause.Denot). IsAt (r.asks s) (r.judged s) (r.low s) (r.high s) (r.lines s) p.opened p.queue.items p.least x p.asked) c.in-None.is c.requires.at in
-    at_pass (r.asks s) (r.judged s) (r.low s) (r.high s) (r.lines s) p.opened p.queue.items p.least p.asked (g.met.R.Recovery.branchwise s) c.requires.whole none
+    let none = subst (λ (x : Option g.row.R-Cause.Denot). IsAt (r.asks s) (r.judged s) (r.low s) (r.high s) (r.lines s) p.opened p.findings.found.items p.findings.least x p.findings.asked) c.in-None.is c.requires.at in
+    at_pass (r.asks s) (r.judged s) (r.low s) (r.high s) (r.lines s) p.opened p.findings.found.items p.findings.least p.findings.asked (g.met.R.Recovery.branchwise s) c.requires.whole none
 
 pub returns-in-None-clause-asked : goal.returns-in-None-clause-asked
 returns-in-None-clause-asked g c =
     let r = g.R.Recovery in
     let s = c.args.recovery.now in
     let p = c.args.self.now in
-    at_asked (r.asks s) (r.judged s) (r.low s) (r.high s) (r.lines s) p.opened p.queue.items p.least c.args.least p.asked
+    at_asked (r.asks s) (r.judged s) (r.low s) (r.high s) (r.lines s) p.opened p.findings.found.items p.findings.least c.args.least p.findings.asked
     (g.met.R.Recovery.adaptive s) c.requires.whole c.requires.at

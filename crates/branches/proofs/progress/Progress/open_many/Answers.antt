@@ -1,4 +1,4 @@
-use Rattle.branches.proofs.Answering.{at_cuts}
+use Rattle.branches.proofs.Opening.{at_cuts}
 use Rattle.branches.proofs.progress.Progress.open_many.Goals as goal
 
 pub open_round-requires-clause-cuts : goal.open_round-requires-clause-cuts
@@ -8,5 +8,5 @@ open_round-requires-clause-cuts g c κs within =
     let p = c.args.self.now in
     let laws = g.met.R.Recovery g.world.𝓛 g.world.𝓜 g.world.𝓡 ((λ s x. x), (λ x. x), (λ x. x), λ x. x) in
     rw c.deref.ensures.value
-    (at_cuts (r.asks s) (r.judged s) (r.low s) (r.high s) (r.lines s) p.opened p.queue.items p.least c.args.least p.asked
+    (at_cuts (r.asks s) (r.judged s) (r.low s) (r.high s) (r.lines s) p.opened p.findings.found.items p.findings.least c.args.least p.findings.asked
     (laws.adaptive s) c.requires.at)

@@ -1,4 +1,10 @@
-use Rattle.branches.proofs.Opening.{at_within}
+use Rattle.std.proofs.Common.{◌≡◌, ◌∙◌, ◌+◌, ◌∷◌, [], ◌++◌, ◌||◌, ℕ, List, ap, sym, subst}
+use Rattle.branches.specs.Numbers.{has, is_flagged}
+use Rattle.branches.specs.Openings.{IsAt, IsRun}
+use Rattle.branches.specs.declared.queue.Entry.{Entry}
+use Rattle.branches.proofs.Opening.{at_many, at_within, best_above, flagged_now, flagged_still, runs_one}
+use Rattle.branches.proofs.Nodes.{node}
+use Rattle.branches.specs.Queue.{cut_at}
 use Rattle.branches.proofs.progress.Progress.open_next.Goals as goal
 
 pub open-requires-clause-within : goal.open-requires-clause-within
@@ -7,5 +13,30 @@ open-requires-clause-within g c κs within =
     let s = c.args.recovery.now in
     let p = c.args.self.now in
     rw c.deref.ensures.value
-    (at_within (r.asks s) (r.judged s) (r.low s) (r.high s) (r.lines s) p.opened p.queue.items p.least c.args.least p.asked
+    (at_within (r.asks s) (r.judged s) (r.low s) (r.high s) (r.lines s) p.opened p.findings.found.items p.findings.least c.args.least p.findings.asked
     (g.met.R.Recovery.adaptive s) c.requires.there c.requires.at)
+
+pub returns-clause-at : goal.returns-clause-at
+returns-clause-at g c =
+    let r = g.R.Recovery in
+    let s = c.args.recovery.now in
+    let p = c.args.self.now in
+    let queue = p.findings.found.items in
+    let one = c.open.new.self in
+    let new = c.add.new.self in
+    let e = c.in_ok-judged.ensures in
+    let within = at_within (r.asks s) (r.judged s) (r.low s) (r.high s) (r.lines s) p.opened queue p.findings.least c.args.least p.findings.asked
+    (g.met.R.Recovery.adaptive s) c.requires.there c.requires.at in
+    let run : IsRun (r.asks s) (r.judged s) (r.low s) (r.high s) (r.lines s) p.opened queue one.numbers one.asked.items one.found.items c.in_ok-judged.judged =
+    subst (λ (q : List Entry). IsRun (r.asks s) (r.judged s) (r.low s) (r.high s) (r.lines s) p.opened q one.numbers one.asked.items one.found.items c.in_ok-judged.judged)
+    c.deref.ensures.value (record { cut = e.cut; above = e.above; asked = e.asked; below = e.below; judges = e.judged; branches = e.found }) in
+    let flags = subst (λ (ls : List ℕ). (l : ℕ) → is_flagged l new.asked ≡ (is_flagged l p.findings.asked || has l ls)) c.deref-2.ensures.value c.in_ok-kept.ensures.asked in
+    let runs = runs_one (r.asks s) (r.judged s) (r.low s) (r.high s) (r.lines s) p.opened queue one.found.items one.numbers one.asked.items c.in_ok-judged.judged new.asked
+    c.requires.there within (flagged_now p.findings.asked new.asked one.asked.items flags) run in
+    let less = c.in_ok-kept.ensures.less (r.low s) (λ some. e.above)
+    (best_above (r.judged s) (r.low s) (r.high s) p.findings.least c.args.least c.requires.at.done c.requires.at.opening.best) in
+    let next = at_many (r.asks s) (r.judged s) (r.low s) (r.high s) (r.lines s) p.opened queue one.found.items one.numbers p.findings.least new.least
+    c.in_ok-judged.judged c.args.least c.in_ok-kept.kept p.findings.asked new.asked new.asked (node (cut_at (r.low s) queue p.opened) one.asked.items ∷ [])
+    (g.met.R.Recovery.adaptive s) runs less (flagged_still p.findings.asked new.asked one.asked.items flags) (λ l t. t) c.requires.at in
+    let items = c.in_ok-kept.ensures.found ∙ ap (λ (es : List Entry). queue ++ es) c.deref-3.ensures.value in
+    subst (λ (q : List Entry). IsAt (r.asks s) (r.judged s) (r.low s) (r.high s) (r.lines s) (p.opened + 1) q new.least c.in_ok-kept.kept new.asked) (sym items) next

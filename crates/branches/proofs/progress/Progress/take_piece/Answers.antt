@@ -1,47 +1,50 @@
-use Rattle.std.proofs.Common.{◌≡◌, ◌∙◌, ◌++◌, ℕ, List, get_or, sym, subst, arith}
-use Rattle.branches.specs.Numbers.{number_over}
-use Rattle.branches.specs.Openings.{IsRun}
-use Rattle.branches.specs.Pieces.{IsAnswer}
-use Rattle.branches.specs.Queue.{AreRaised, cut_at}
-use Rattle.branches.specs.declared.pieces.Answer.{Answer}
+use Rattle.std.proofs.Common.{◌≡◌, ◌∙◌, ◌+◌, ◌++◌, ℕ, List, ◌≤◌, inl, inr, ap, length, sym, subst, arith, true≢false}
+use Rattle.std.proofs.lemmas.Bool.{cases_lt}
+use Rattle.branches.specs.Openings.{IsAt}
+use Rattle.branches.specs.Pieces.{AreRuns}
 use Rattle.branches.specs.declared.queue.Entry.{Entry}
-use Rattle.branches.proofs.Answering.{answer_now, answer_run, longer_still}
+use Rattle.branches.proofs.Answering.{answers_end}
+use Rattle.branches.proofs.Opening.{at_many, at_most, best_above, flagged_now, flagged_still}
 use Rattle.branches.proofs.progress.Progress.take_piece.Goals as goal
 
-pub take-requires-clause-run : goal.take-requires-clause-run
-take-requires-clause-run g c κs within =
+pub returns-clause-at : goal.returns-clause-at
+returns-clause-at g c =
     let r = g.R.Recovery in
     let s = c.args.recovery.now in
-    let i = c.loop-answer.invariant in
-    let p = c.loop-answer.self in
-    let answer = c.answer-item.result in
-    let now = answer_now (r.asks s) (r.judged s) (r.low s) (r.high s) (r.lines s) c.args.self.now.queue.items i.2.0 p.queue.items c.args.piece.now.first p.opened
-    c.loop-answer.answer-index c.args.piece.now.answers.items answer c.requires.at.opening.tree i.2.1 i.1 (rw c.deref-answer-items.ensures.value at c.loop-answer-test.true) c.requires.answers in
-    let here : IsAnswer (r.asks s) (r.judged s) (r.low s) (r.high s) (r.lines s) p.queue.items p.opened answer =
-    subst (λ (x : Answer g.row.R-Cause.Denot). IsAnswer (r.asks s) (r.judged s) (r.low s) (r.high s) (r.lines s) p.queue.items p.opened x)
-    (sym (subst (λ (xs : List (Answer g.row.R-Cause.Denot)). answer ≡ get_or xs c.loop-answer.answer-index answer) c.deref-answer-items.ensures.value c.answer-item.is)) now in
-    let cut = subst (λ (q : List Entry). AreRaised (r.low s) q → number_over (r.low s) c.set.new.self ≡ cut_at (r.low s) q p.opened) c.deref.ensures.value
-    (c.in_ok-set.ensures.cut (r.low s)) i.0.opening.raised in
-    let above = c.in_ok-set.ensures.above (r.low s) (subst (λ (q : List Entry). AreRaised (r.low s) q) (sym c.deref.ensures.value) i.0.opening.raised) in
-    let run = answer_run (r.asks s) (r.judged s) (r.low s) (r.high s) (r.lines s) p.queue.items p.opened c.set.new.self answer cut above here in
-    subst (λ (ls : List ℕ). IsRun (r.asks s) (r.judged s) (r.low s) (r.high s) (r.lines s) p.opened p.queue.items c.set.new.self ls c.deref-in-loop-answer-2.result.now answer.judged)
-    (sym c.deref-in-loop-answer.ensures.value)
-    (subst (λ (es : List Entry). IsRun (r.asks s) (r.judged s) (r.low s) (r.high s) (r.lines s) p.opened p.queue.items c.set.new.self answer.asked.items es answer.judged)
-    (sym c.deref-in-loop-answer-2.ensures.value) run)
+    let p = c.args.self.now in
+    let piece = c.args.piece.now in
+    let theirs = c.requires.piece in
+    let queue = p.findings.found.items in
+    let new = c.add.new.self in
+    let first : piece.first ≡ p.opened = c.if-piece-self.false in
+    let runs = subst (λ (n : ℕ). AreRuns (r.asks s) (r.judged s) (r.low s) (r.high s) (r.lines s) n queue piece.findings.least piece.cause piece.findings.asked
+    piece.findings.found.items theirs.done) first theirs.runs in
+    let less = c.in_ok-kept.ensures.less (r.low s) (best_above (r.judged s) (r.low s) (r.high s) piece.findings.least piece.cause theirs.done theirs.runs.best)
+    (best_above (r.judged s) (r.low s) (r.high s) p.findings.least c.args.least c.requires.at.done c.requires.at.opening.best) in
+    let flags = c.in_ok-kept.ensures.asked in
+    let lines = c.lines.result.now in
+    let next = at_many (r.asks s) (r.judged s) (r.low s) (r.high s) (r.lines s) p.opened queue piece.findings.found.items piece.findings.least p.findings.least new.least
+    piece.cause c.args.least c.in_ok-kept.kept p.findings.asked piece.findings.asked new.asked theirs.done (g.met.R.Recovery.adaptive s) runs less
+    (flagged_still p.findings.asked new.asked lines flags) (λ l t. flagged_now p.findings.asked new.asked lines flags l (c.lines.ensures.all l t)) c.requires.at in
+    let items = c.in_ok-kept.ensures.found ∙ ap (λ (es : List Entry). queue ++ es) c.deref.ensures.value in
+    subst (λ (n : ℕ). IsAt (r.asks s) (r.judged s) (r.low s) (r.high s) (r.lines s) (p.opened + n) new.found.items new.least c.in_ok-kept.kept new.asked) theirs.count
+    (subst (λ (q : List Entry). IsAt (r.asks s) (r.judged s) (r.low s) (r.high s) (r.lines s) (p.opened + length theirs.done) q new.least c.in_ok-kept.kept new.asked)
+    (sym items) next)
 
-pub loop-answer-preserved : goal.loop-answer-preserved
-loop-answer-preserved g c =
-    let i = c.loop-answer.invariant in
-    let e = c.in_ok-kept.ensures in
-    let one = e.one in
-    let at = i.1 in (
-      e.at,
-      omega (arith, one, at),
-      (
-        i.2.0 ++ c.deref-in-loop-answer-2.result.now,
-        longer_still c.args.self.now.queue.items i.2.0 c.loop-answer.self.queue.items c.deref-in-loop-answer-2.result.now c.take.new.self.queue.items i.2.1 e.longer,
-      ),
-      c.take.ensures.size ∙ i.3,
-      c.take.ensures.least_size ∙ i.4,
-      c.take.ensures.cut_size ∙ (c.set.ensures.size ∙ i.5),
-    )
+pub overflow_add-self : goal.overflow_add-self
+overflow_add-self g c =
+    let r = g.R.Recovery in
+    let s = c.args.recovery.now in
+    let p = c.args.self.now in
+    let piece = c.args.piece.now in
+    let theirs = c.requires.piece in
+    let queue = p.findings.found.items in
+    let first : piece.first ≡ p.opened = c.if-piece-self.false in
+    let count : length theirs.done ≡ piece.count = theirs.count in
+    let most = at_most (r.asks s) (r.judged s) (r.low s) (r.high s) (r.lines s) p.opened queue p.findings.least c.args.least p.findings.asked c.requires.at in
+    let end = answers_end (r.asks s) (r.low s) (r.lines s) queue piece.first theirs.done (omega (arith, first, most)) theirs.runs.answers in
+    let few : length queue ≤ c.args.limit = elim (cases_lt c.args.limit (length queue)) [
+      | inl more ↦ absurd (true≢false (sym (c.is_over.ensures.1 more) ∙ c.if-is_over.false))
+      | inr h ↦ omega (arith, h)
+    ] in
+    let fits = c.ranges.limit.fits in omega (arith, first, count, end, few, fits)

@@ -6,9 +6,10 @@ use Rattle.branches.proofs.progress.Progress.take_round.Given as goal
 abbrev pub invariant-loop-found : goal.invariant-loop-found
 invariant-loop-found g l =
     let r = g.R.Recovery in
-    IsAt (r.asks l.recovery) (r.judged l.recovery) (r.low l.recovery) (r.high l.recovery) (r.lines l.recovery) l.self.opened l.self.queue.items l.self.least l.kept l.self.asked
-    × (l.fn.self.opened ≤ l.self.opened)
-    × ((more : List Entry) × (l.self.queue.items ≡ l.fn.self.queue.items ++ more))
-    × (length l.self.asked ≡ length l.fn.self.asked)
-    × (length l.self.least ≡ length l.fn.self.least)
-    × (length l.numbers ≡ length l.fn.numbers)
+    let p = l.self in
+    IsAt (r.asks l.recovery) (r.judged l.recovery) (r.low l.recovery) (r.high l.recovery) (r.lines l.recovery) p.opened p.findings.found.items p.findings.least l.kept p.findings.asked
+    × (l.yielded ++ l.found-iterator.rest.items ≡ l.fn.pieces.items)
+    × (l.fn.self.opened ≤ p.opened)
+    × ((more : List Entry) × (p.findings.found.items ≡ l.fn.self.findings.found.items ++ more))
+    × (length p.findings.asked ≡ length l.fn.self.findings.asked)
+    × (length p.findings.least ≡ length l.fn.self.findings.least)
