@@ -1,4 +1,7 @@
 pub mod Causes
 pub mod Cuts
+pub mod Firsts
 pub mod Given
 pub mod Numbered
+pub mod Operations
+pub mod Unpersisted

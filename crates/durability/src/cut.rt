@@ -104,7 +104,7 @@ fn kept_lines(
 }
 
 /// Adds what there is at the end.
-fn add<T: Copy>(told: &mut Vec<T>, given: Option<T>) -> Result<(), AllocError>
+pub(crate) fn add<T: Copy>(told: &mut Vec<T>, given: Option<T>) -> Result<(), AllocError>
     ensures { IfOk result (λ _. told.new.items ≡ told.old.items ++ option_to_list given) }
 {
     match given {

@@ -1,13 +1,18 @@
-//! Which stores of a run a power cut may lose, and why: what the run lacks after such a store, or has too late.
+//! Which stores of a run a power cut may lose, and why: what the run lacks after such a store, or has too late. And which ones it
+//! could still lose when their operation had ended.
 //!
 //! Events are numbered from 1: the number of an event is that of the moment right after it.
 #![tactic(auto)]
 
 mod cause;
 mod cut;
+mod ends;
 mod fates;
 mod laws;
+mod losses;
+mod operations;
 
 pub use cause::Cause;
 pub use cut::{CutLine, Kept, Lost, ToldCut, tell_cut};
+pub use ends::{EndLoss, Unpersisted, tell_unpersisted};
 pub use laws::completions_come_late;

@@ -1,8 +1,10 @@
-//! Tests of `durability`: lost and kept lines of cuts, by event numbers. They stand apart, so that the crate isn't proved a second
-//! time for them. The crate has tests alone.
+//! Tests of `durability`: lost and kept lines of cuts, and stores that were not persisted in time, by event numbers. They stand
+//! apart, so that the crate isn't proved a second time for them. The crate has tests alone.
 #![tactic(auto)]
 
 #[cfg(test)]
 mod cuts;
+#[cfg(test)]
+mod ends;
 #[cfg(test)]
 mod events;
