@@ -1,5 +1,5 @@
 -- Operations by the marks of their harts. Marks have no faults here: a number may be used again, and operations of one hart may overlap.
-use Rattle.std.specs.Prelude.{◌≡◌, ℕ, ◌+◌, ◌-◌, ◌==◌, ◌&&◌, List, [], ◌∷◌, if◌then◌else◌, length, filter, map, reverse, take, drop, slice_get, Option, Some, None}
+use Rattle.std.specs.Prelude.{◌≡◌, ℕ, ◌+◌, ◌-◌, ◌<◌, ◌==◌, ◌&&◌, Bool, true, false, List, [], ◌∷◌, if◌then◌else◌, length, filter, map, reverse, take, drop, slice_get, slice_index_or, Option, Some, None, All}
 use Rattle.store_trace.specs.declared.event.Event.{Event}
 use Rattle.store_trace.specs.declared.event.Event.TheVariants.{Store, Clean, Fence, Begin, End}
 use Rattle.durability.specs.Numbered.{event_at}
@@ -31,13 +31,30 @@ pub record IsEndOf (events : List Event) (n h op b : ℕ) : Type 0 where
 abbrev pub IsOutside : List Event → ℕ → ℕ → Type 0
 IsOutside events m h = (op : ℕ) → open_at events m h op ≡ []
 
+-- this is operation op of hart h
+abbrev pub is_of : ℕ → ℕ → Begun → Bool
+is_of h op one = (one.hart == h) && (one.operation == op)
+
 -- the Begins of operation op by hart h among these, the last one first
 abbrev pub begins_of : ℕ → ℕ → List Begun → List ℕ
-begins_of h op begun = reverse (map (λ one. one.begin) (filter (λ one. (one.hart == h) && (one.operation == op)) begun))
+begins_of h op begun = reverse (map (λ one. one.begin) (filter (is_of h op) begun))
 
 -- these are the operations that are open at moment m
 abbrev pub AreOpen : List Event → ℕ → List Begun → Type 0
 AreOpen events m begun = (h op : ℕ) → begins_of h op begun ≡ open_at events m h op
+
+-- the place of the last one of these that is operation op of hart h, and None where none is
+abbrev pub IsLastOf : List Begun → ℕ → ℕ → Option ℕ → Type 0
+IsLastOf begun h op None = All (λ one. is_of h op one ≡ false) begun
+IsLastOf begun h op (Some i) =
+    (i < length begun) × ((d : Begun) → is_of h op (slice_index_or begun i d) ≡ true)
+    × ((k : ℕ) (d : Begun) → i < k → k < length begun → is_of h op (slice_index_or begun k d) ≡ false)
+
+-- of these the operation that an End of number n ends, of operation op by hart h, and None where it ends none
+abbrev pub IsEnding : List Begun → ℕ → ℕ → ℕ → Option Ended → Type 0
+IsEnding begun h op n None = begins_of h op begun ≡ []
+IsEnding begun h op n (Some ended) =
+    (ended.hart ≡ h) × (ended.operation ≡ op) × (ended.end ≡ n) × (slice_get (begins_of h op begun) 0 ≡ Some ended.begin)
 
 -- the operation that event n ends, and None where it ends none
 abbrev pub IsEndedBy : List Event → ℕ → Option Ended → Type 0

@@ -1,8 +1,8 @@
 //! Operations by the marks of their harts: those that are open, and the one that an End ends.
 
-ghost use Rattle.durability.specs.Operations.{AreOpen, begins_of, IsEndedBy, IsOutside};
-ghost use Rattle.std.specs.Prelude.{◌≡◌, ◌+◌, ◌<◌, ◌≤◌, ◌==◌, ◌&&◌, ◌↔◌, ℕ, drop, length, slice_get, if◌then◌else◌, All, IfOk, IsTrue, MatchOption, OnOk, false, slice_index_or};
-ghost use Rattle.store_trace.specs.TraceView.{IsEvent};
+ghost use Rattle.durability.specs.Operations.{AreOpen, begins_of, IsEndedBy, IsEnding, IsLastOf};
+ghost use Rattle.std.specs.List.{list_any};
+ghost use Rattle.std.specs.Prelude.{◌≡◌, ◌+◌, ◌<◌, ◌≤◌, ◌==◌, ◌&&◌, ℕ, drop, length, if◌then◌else◌, IfOk, OnOk};
 
 use std::alloc::AllocError;
 use store_trace::Event;
@@ -51,12 +51,13 @@ pub fn read_mark(
     }
 }
 
-/// Takes out the last one of these operations that is this one of the hart.
+/// Takes out the last one of these that is this operation of the hart, which ends with the event of number `end`.
 fn close(begun: &mut Vec<Begun>, hart: u32, operation: u64, end: u32) -> Option<Ended>
+    ensures ended { IsEnding begun.old.items hart operation end result }
+    ensures left { (h op : ℕ) → begins_of h op begun.new.items
+        ≡ (if (hart == h) && (operation == op) then drop 1 (begins_of h op begun.old.items) else begins_of h op begun.old.items) }
 {
-    let last = begun
-        .iter()
-        .rposition(|one| one.hart == hart && one.operation == operation)?;
+    let last = last_of(begun, hart, operation)?;
     let one = begun.remove(last);
     Some(Ended {
         hart,
@@ -66,8 +67,18 @@ fn close(begun: &mut Vec<Begun>, hart: u32, operation: u64, end: u32) -> Option<
     })
 }
 
+/// The place of the last one of these that is this operation of the hart.
+fn last_of(begun: &[Begun], hart: u32, operation: u64) -> Option<usize>
+    ensures { IsLastOf begun.now hart operation result }
+{
+    begun
+        .iter()
+        .rposition(|one| one.hart == hart && one.operation == operation)
+}
+
 /// Whether an operation of the hart is among these.
 pub fn has_begun(begun: &[Begun], hart: u32) -> bool
+    ensures { result ≡ list_any (λ one. one.hart == hart) begun.now }
 {
     begun.iter().any(|one| one.hart == hart)
 }
