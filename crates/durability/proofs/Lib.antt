@@ -2,6 +2,7 @@ pub mod Dedups
 pub mod Firsts
 pub mod Floors
 pub mod Givens
+pub mod Lates
 pub mod Marks
 pub mod Nexts
 pub mod Opens

@@ -1,0 +1,131 @@
+-- Stores that are lost at a moment, as they are found one after another.
+use Rattle.std.proofs.Common.{◌≡◌, ℕ, suc, ◌+◌, ◌<◌, ◌≤◌, ◌⊎◌, inl, inr, List, [], ◌∷◌, ◌++◌, Option, Some, None, length, get_or, refl, sym, ap, subst, ◌∙◌, arith}
+use Rattle.std.specs.Prelude.{All, Any, option_to_list}
+use Rattle.std.proofs.lemmas.Bool.Decides.{nat_tests}
+use Rattle.std.proofs.lemmas.List.{append-nil, get_or_append_left, length-append}
+use Rattle.std.proofs.lemmas.List.Elements.{All-contains, All-nil, All-push}
+use Rattle.std.proofs.lemmas.List.Quantifiers.{Any-push}
+use Rattle.std.proofs.lemmas.Option.{slice_get-get_or}
+use Rattle.store_trace.specs.declared.event.Event.{Event}
+use Rattle.store_trace.specs.declared.event.Event.TheVariants.{Store}
+use Rattle.durability.proofs.Dedups.{any_weaker}
+use Rattle.durability.proofs.Floors.{past_is_open}
+use Rattle.durability.proofs.Marks.{same_event}
+use Rattle.durability.specs.Causes.{AreFates, IsCause, IsCompletion, IsFate, IsPast}
+use Rattle.durability.specs.Firsts.{AreFirsts, IsLossAt}
+use Rattle.durability.specs.Numbered.{event_at, IsFirst, IsStore}
+use Rattle.durability.specs.Unpersisted.{AreFirstLosses, IsFirstLoss}
+use Rattle.durability.specs.declared.cause.Fate.{Fate}
+use Rattle.durability.specs.declared.cut.Lost.{Lost}
+
+-- it counts, and this is the cause of its loss
+record IsLost (events : List Event) (m : ℕ) (counts : ℕ → ℕ → Type 0) (lost : Lost) : Type 0 where
+  counts : counts lost.line lost.store
+  cause : IsCause events m lost.line lost.store lost.cause
+
+-- the stores that count among the first `end` events
+pub record AreLost (events : List Event) (m : ℕ) (counts : ℕ → ℕ → Type 0) (end : ℕ) (lost : List Lost) : Type 0 where
+  pub each : All (IsLost events m counts) lost
+  pub all : (l e : ℕ) → e ≤ end → counts l e → Any (λ x. (x.line ≡ l) × (x.store ≡ e)) lost
+
+pub none_lost : (events : List Event) (m : ℕ) (counts : ℕ → ℕ → Type 0) (end : ℕ) → ((l e : ℕ) → e ≤ end → counts l e → ⊥) →
+    AreLost events m counts end []
+none_lost events m counts end none = record {
+  each = All-nil (IsLost events m counts);
+  all = λ l e low c. absurd (none l e low c);
+}
+
+last_or_before : (e end : ℕ) → e ≤ end + 1 → (e ≡ end + 1) ⊎ (e ≤ end)
+last_or_before e end h = grind (arith, nat_tests, h)
+
+pub any_kept : {X : Type 0} (P : X → Type 0) (xs ys : List X) → Any P xs → Any P (xs ++ ys)
+any_kept P xs ys a =
+    let within : a.0 < length (xs ++ ys) = omega (arith, a.2, length-append xs ys) in
+    (a.0, a.1, within, get_or_append_left xs ys a.1 a.0 a.2 ∙ a.3, a.4)
+
+pub more_lost : (events : List Event) (m : ℕ) (counts : ℕ → ℕ → Type 0) (end : ℕ) (lost : List Lost) (o : Option Lost) →
+    ((k l e : ℕ) → counts k e → counts l e → k ≡ l) → AreLost events m counts end lost → IsLossAt events m counts (end + 1) o →
+    AreLost events m counts (end + 1) (lost ++ option_to_list o)
+more_lost events m counts end lost None one_line a none =
+    rw (append-nil lost) (record {
+      each = a.each;
+      all = λ l e low c. elim (last_or_before e end low) [
+        | inl last ↦ absurd (none l (subst (λ (n : ℕ). counts l n) last c))
+        | inr before ↦ a.all l e before c
+      ];
+    })
+more_lost events m counts end lost (Some new) one_line a is =
+    let own : counts new.line new.store = subst (λ (n : ℕ). counts new.line n) (sym is.0) is.1 in
+    let cause : IsCause events m new.line new.store new.cause = subst (λ (n : ℕ). IsCause events m new.line n new.cause) (sym is.0) is.2 in
+    record {
+      each = All-push (IsLost events m counts) lost new a.each (record { counts = own; cause = cause });
+      all = λ l e low c. elim (last_or_before e end low) [
+        | inl last ↦
+            let line : new.line ≡ l = one_line new.line l (end + 1) is.1 (subst (λ (n : ℕ). counts l n) last c) in
+            Any-push (λ x. (x.line ≡ l) × (x.store ≡ e)) lost new (line, is.0 ∙ sym last)
+        | inr before ↦ any_kept (λ x. (x.line ≡ l) × (x.store ≡ e)) lost (new ∷ []) (a.all l e before c)
+      ];
+    }
+
+-- of all that count the first of each line
+pub first_losses : (events : List Event) (m : ℕ) (counts : ℕ → ℕ → Type 0) (end : ℕ) (lost firsts : List Lost) →
+    ((l e : ℕ) → counts l e → e ≤ end) → AreLost events m counts end lost → AreFirsts lost firsts → AreFirstLosses events m counts firsts
+first_losses events m counts end lost firsts ends a f = record {
+  upwards = f.upwards;
+  each = λ k d h.
+      let x : Lost = get_or firsts k d in
+      let own = All-contains (IsLost events m counts) lost x a.each (f.each k d h).0 in
+      record {
+        first = record {
+          holds = own.counts;
+          first = λ e c.
+              let found = a.all x.line e (ends x.line e c) c in
+              let least : found.1.line ≡ x.line → x.store ≤ found.1.store =
+              rw found.3 at ((f.each k d h).1 found.0 found.1 found.2) in
+              omega (arith, least found.4.0, found.4.1);
+        };
+        cause = own.cause;
+      };
+  all = λ l e c.
+      let found = a.all l e (ends l e c) c in
+      let line : Any (λ x. x.line ≡ found.1.line) firsts = rw found.3 at (f.all found.0 found.1 found.2) in
+      any_weaker (λ x. x.line ≡ found.1.line) (λ x. x.line ≡ l) firsts (λ x e. e ∙ found.4.0) line;
+}
+
+line_of_store : (g h k l o w v p x y : ℕ) → Store g k o w v ≡ Store h l p x y → k ≡ l
+line_of_store g h k l o w v p x y e = cc
+
+pub hart_of_store : (g h k l o w v p x y : ℕ) → Store g k o w v ≡ Store h l p x y → g ≡ h
+hart_of_store g h k l o w v p x y e = cc
+
+-- an event stores to one line
+pub one_line : (events : List Event) (g h k l n : ℕ) → IsStore events g k n → IsStore events h l n → k ≡ l
+one_line events g h k l n one other =
+    line_of_store g h k l one.offset one.width one.value other.offset other.width other.value
+    (same_event events n (Store g k one.offset one.width one.value) (Store h l other.offset other.width other.value) one.is other.is)
+
+pub one_hart : (events : List Event) (g h k l n : ℕ) → IsStore events g k n → IsStore events h l n → g ≡ h
+one_hart events g h k l n one other =
+    hart_of_store g h k l one.offset one.width one.value other.offset other.width other.value
+    (same_event events n (Store g k one.offset one.width one.value) (Store h l other.offset other.width other.value) one.is other.is)
+
+-- a store of a run has its fate at its place
+pub fate_at : (events : List Event) (fates : List Fate) (at : ℕ) (none : Event) (d : Fate) (h l o w v : ℕ) → AreFates events 0 fates → at < length events →
+    get_or events at none ≡ Store h l o w v → IsFate events l (at + 1) (get_or fates at d)
+fate_at events fates at none d h l o w v a there is =
+    a.each at h l o w v d (omega arith) (slice_get-get_or events at none there ∙ ap (λ (x : Event). Some x) is)
+
+-- the store is another hart's, or not past its line's floor
+pub not_open : (events : List Event) (m h n : ℕ) (g k o w v : ℕ) → event_at events n ≡ Some (Store g k o w v) → m ≤ length events →
+    (g ≡ h → ((j : ℕ) → IsCompletion events k n j → m < j) → ⊥) → (l : ℕ) → IsPast events m h l n → ⊥
+not_open events m h n g k o w v here high closed l p =
+    let store : IsStore events g k n = record { offset = o; width = w; value = v; is = here } in
+    let line : l ≡ k = one_line events h g l k n p.store store in
+    let hart : g ≡ h = one_hart events g h k l n store p.store in
+    closed hart (rw (← line) ((past_is_open events h l n m p.store high).0 p.past))
+
+pub is_late : (events : List Event) (m h n l o w v : ℕ) → event_at events n ≡ Some (Store h l o w v) → n ≤ m → m ≤ length events →
+    ((j : ℕ) → IsCompletion events l n j → m < j) → IsPast events m h l n
+is_late events m h n l o w v here made high late =
+    let store : IsStore events h l n = record { offset = o; width = w; value = v; is = here } in
+    record { store = store; made = made; past = (past_is_open events h l n m store high).1 late }
