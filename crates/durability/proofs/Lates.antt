@@ -1,6 +1,7 @@
 -- Stores that are lost at a moment, as they are found one after another.
 use Rattle.std.proofs.Common.{◌≡◌, ℕ, suc, ◌+◌, ◌<◌, ◌≤◌, ◌⊎◌, inl, inr, List, [], ◌∷◌, ◌++◌, Option, Some, None, length, get_or, refl, sym, ap, subst, ◌∙◌, arith}
-use Rattle.std.specs.Prelude.{All, Any, option_to_list}
+use Rattle.std.specs.Prelude.{◌==◌, true, false, All, Any, option_to_list}
+use Rattle.std.specs.List.{list_any}
 use Rattle.std.proofs.lemmas.Bool.Decides.{nat_tests}
 use Rattle.std.proofs.lemmas.List.{append-nil, get_or_append_left, length-append}
 use Rattle.std.proofs.lemmas.List.Elements.{All-contains, All-nil, All-push}
@@ -9,19 +10,21 @@ use Rattle.std.proofs.lemmas.Option.{slice_get-get_or}
 use Rattle.store_trace.specs.declared.event.Event.{Event}
 use Rattle.store_trace.specs.declared.event.Event.TheVariants.{Store}
 use Rattle.durability.proofs.Dedups.{any_weaker}
-use Rattle.durability.proofs.Floors.{past_is_open}
-use Rattle.durability.proofs.Marks.{same_event}
+use Rattle.durability.proofs.Floors.{no_event, past_is_open}
+use Rattle.durability.proofs.Marks.{marks_inside, marks_outside, same_event}
 use Rattle.durability.specs.Causes.{AreFates, IsCause, IsCompletion, IsFate, IsPast}
 use Rattle.durability.specs.Firsts.{AreFirsts, IsLossAt}
 use Rattle.durability.specs.Numbered.{event_at, IsFirst, IsStore}
-use Rattle.durability.specs.Unpersisted.{AreFirstLosses, IsFirstLoss}
+use Rattle.durability.specs.Operations.{AreOpen, begins_of, IsOutside, open_at}
+use Rattle.durability.specs.Unpersisted.{AreFirstLosses, IsFirstLoss, IsUnpersisted, IsUnpersistedOutside}
 use Rattle.durability.specs.declared.cause.Fate.{Fate}
 use Rattle.durability.specs.declared.cut.Lost.{Lost}
+use Rattle.durability.specs.declared.operations.Begun.{Begun}
 
 -- it counts, and this is the cause of its loss
-record IsLost (events : List Event) (m : ℕ) (counts : ℕ → ℕ → Type 0) (lost : Lost) : Type 0 where
-  counts : counts lost.line lost.store
-  cause : IsCause events m lost.line lost.store lost.cause
+pub record IsLost (events : List Event) (m : ℕ) (counts : ℕ → ℕ → Type 0) (lost : Lost) : Type 0 where
+  pub own : counts lost.line lost.store
+  pub cause : IsCause events m lost.line lost.store lost.cause
 
 -- the stores that count among the first `end` events
 pub record AreLost (events : List Event) (m : ℕ) (counts : ℕ → ℕ → Type 0) (end : ℕ) (lost : List Lost) : Type 0 where
@@ -35,7 +38,7 @@ none_lost events m counts end none = record {
   all = λ l e low c. absurd (none l e low c);
 }
 
-last_or_before : (e end : ℕ) → e ≤ end + 1 → (e ≡ end + 1) ⊎ (e ≤ end)
+pub last_or_before : (e end : ℕ) → e ≤ end + 1 → (e ≡ end + 1) ⊎ (e ≤ end)
 last_or_before e end h = grind (arith, nat_tests, h)
 
 pub any_kept : {X : Type 0} (P : X → Type 0) (xs ys : List X) → Any P xs → Any P (xs ++ ys)
@@ -58,7 +61,7 @@ more_lost events m counts end lost (Some new) one_line a is =
     let own : counts new.line new.store = subst (λ (n : ℕ). counts new.line n) (sym is.0) is.1 in
     let cause : IsCause events m new.line new.store new.cause = subst (λ (n : ℕ). IsCause events m new.line n new.cause) (sym is.0) is.2 in
     record {
-      each = All-push (IsLost events m counts) lost new a.each (record { counts = own; cause = cause });
+      each = All-push (IsLost events m counts) lost new a.each (record { own = own; cause = cause });
       all = λ l e low c. elim (last_or_before e end low) [
         | inl last ↦
             let line : new.line ≡ l = one_line new.line l (end + 1) is.1 (subst (λ (n : ℕ). counts l n) last c) in
@@ -77,7 +80,7 @@ first_losses events m counts end lost firsts ends a f = record {
       let own = All-contains (IsLost events m counts) lost x a.each (f.each k d h).0 in
       record {
         first = record {
-          holds = own.counts;
+          holds = own.own;
           first = λ e c.
               let found = a.all x.line e (ends x.line e c) c in
               let least : found.1.line ≡ x.line → x.store ≤ found.1.store =
@@ -129,3 +132,70 @@ pub is_late : (events : List Event) (m h n l o w v : ℕ) → event_at events n 
 is_late events m h n l o w v here made high late =
     let store : IsStore events h l n = record { offset = o; width = w; value = v; is = here } in
     record { store = store; made = made; past = (past_is_open events h l n m store high).1 late }
+
+-- of an operation: no store of it comes before its Begin
+pub unpersisted_none : (events : List Event) (m h b : ℕ) → AreLost events m (IsUnpersisted events m h b) b []
+unpersisted_none events m h b = none_lost events m (IsUnpersisted events m h b) b (λ l e low u. absurd (omega (arith, low, u.after)))
+
+pub unpersisted_more : (events : List Event) (m h b end : ℕ) (lost : List Lost) (o : Option Lost) → b ≤ end →
+    AreLost events m (IsUnpersisted events m h b) end lost → IsLossAt events m (IsPast events m h) (end + 1) o →
+    AreLost events m (IsUnpersisted events m h b) (end + 1) (lost ++ option_to_list o)
+unpersisted_more events m h b end lost o begun a is =
+    more_lost events m (IsUnpersisted events m h b) end lost o (λ k l e p q. one_line events h h k l e p.past.store q.past.store) a
+    (unpersisted_at o is)
+  where
+    unpersisted_at : (o : Option Lost) → IsLossAt events m (IsPast events m h) (end + 1) o → IsLossAt events m (IsUnpersisted events m h b) (end + 1) o
+    unpersisted_at None none = λ l u. none l u.past
+    unpersisted_at (Some lost) is = (is.0, record { after = omega (arith, begun); past = is.1 }, is.2)
+
+pub unpersisted_losses : (events : List Event) (m h b end : ℕ) (lost firsts : List Lost) → m ≤ end →
+    AreLost events m (IsUnpersisted events m h b) end lost → AreFirsts lost firsts → AreFirstLosses events m (IsUnpersisted events m h b) firsts
+unpersisted_losses events m h b end lost firsts all a f =
+    first_losses events m (IsUnpersisted events m h b) end lost firsts (λ l e u. omega (arith, all, u.past.made)) a f
+
+-- outside operations
+nothing_before : (events : List Event) (l e : ℕ) → e ≤ 0 → IsUnpersistedOutside events l e → ⊥
+nothing_before events l e low u =
+    let s = u.past.store in
+    let first : e ≡ 0 = omega (arith, low) in
+    no_event events (Store u.hart l s.offset s.width s.value) (rw first at s.is)
+
+pub outside_none : (events : List Event) → AreLost events (length events) (IsUnpersistedOutside events) 0 []
+outside_none events = none_lost events (length events) (IsUnpersistedOutside events) 0 (nothing_before events)
+
+pub outside_more : (events : List Event) (end : ℕ) (lost : List Lost) (o : Option Lost) →
+    AreLost events (length events) (IsUnpersistedOutside events) end lost → IsLossAt events (length events) (IsUnpersistedOutside events) (end + 1) o →
+    AreLost events (length events) (IsUnpersistedOutside events) (end + 1) (lost ++ option_to_list o)
+outside_more events end lost o a is =
+    more_lost events (length events) (IsUnpersistedOutside events) end lost o
+    (λ k l e p q. one_line events p.hart q.hart k l e p.past.store q.past.store) a is
+
+pub outside_first : (events : List Event) (end : ℕ) (lost firsts : List Lost) → length events ≤ end →
+    AreLost events (length events) (IsUnpersistedOutside events) end lost → AreFirsts lost firsts →
+    AreFirstLosses events (length events) (IsUnpersistedOutside events) firsts
+outside_first events end lost firsts all a f =
+    first_losses events (length events) (IsUnpersistedOutside events) end lost firsts (λ l e u. omega (arith, all, u.past.made)) a f
+
+-- a store of a hart that has an operation open
+pub inside : (events : List Event) (begun : List Begun) (n h k o w v : ℕ) → event_at events n ≡ Some (Store h k o w v) → AreOpen events n begun →
+    list_any (λ one. one.hart == h) begun ≡ true → (l : ℕ) → IsUnpersistedOutside events l n → ⊥
+inside events begun n h k o w v here a some l u =
+    let store : IsStore events h k n = record { offset = o; width = w; value = v; is = here } in
+    let hart : u.hart ≡ h = one_hart events u.hart h l k n u.past.store store in
+    let outside : IsOutside events n h = rw hart at u.outside in
+    marks_inside begun h some (λ op. a h op ∙ outside op)
+
+-- and of one that has none
+pub outside_at : (events : List Event) (begun : List Begun) (n h k w v s : ℕ) (o : Option Lost) → event_at events n ≡ Some (Store h k w v s) →
+    AreOpen events n begun → list_any (λ one. one.hart == h) begun ≡ false → IsLossAt events (length events) (IsPast events (length events) h) n o →
+    IsLossAt events (length events) (IsUnpersistedOutside events) n o
+outside_at events begun n h k w v s None here a no_one none = λ l u.
+    let store : IsStore events h k n = record { offset = w; width = v; value = s; is = here } in
+    let hart : u.hart ≡ h = one_hart events u.hart h l k n u.past.store store in
+    let past : IsPast events (length events) h l n = rw hart at u.past in
+    none l past
+outside_at events begun n h k w v s (Some lost) here a no_one is = (
+  is.0,
+  record { hart = h; outside = λ op. sym (a h op) ∙ marks_outside begun h op no_one; past = is.1 },
+  is.2,
+)

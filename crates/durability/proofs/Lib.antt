@@ -1,4 +1,5 @@
 pub mod Dedups
+pub mod Endings
 pub mod Firsts
 pub mod Floors
 pub mod Givens

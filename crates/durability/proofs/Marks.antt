@@ -84,10 +84,10 @@ ends_nothing events n event here other = λ h op b e.
     let same : event ≡ End h op = cc in
     other h op same
 
-end_hart : (g h o op : ℕ) → End g o ≡ End h op → g ≡ h
+pub end_hart : (g h o op : ℕ) → End g o ≡ End h op → g ≡ h
 end_hart g h o op e = cc
 
-end_operation : (g h o op : ℕ) → End g o ≡ End h op → o ≡ op
+pub end_operation : (g h o op : ℕ) → End g o ≡ End h op → o ≡ op
 end_operation g h o op e = cc
 
 pub same_event : (events : List Event) (n : ℕ) (one other : Event) → event_at events n ≡ Some one → event_at events n ≡ Some other → one ≡ other
@@ -209,3 +209,25 @@ marks_outside begun h op none = ap (λ xs. reverse (map (λ (x : Begun). x.begin
         let test : is_of h op x ≡ false = grind (arith, nat_tests, e) in
         let rest : list_any (λ one. one.hart == h) xs ≡ false = grind (arith, nat_tests, e) in
         rw test (none_of_hart xs rest)
+
+not_empty : (n : ℕ) (ns : List ℕ) → reverse (n ∷ ns) ≡ [] → ⊥
+not_empty n ns e =
+    let none : length (reverse (n ∷ ns)) ≡ 0 = ap (λ (xs : List ℕ). length xs) e in
+    absurd (omega (arith, none, length-reverse (n ∷ ns)))
+
+-- one is there, so that its number has a Begin
+pub marks_inside : (begun : List Begun) (h : ℕ) → list_any (λ one. one.hart == h) begun ≡ true → ((op : ℕ) → begins_of h op begun ≡ []) → ⊥
+marks_inside [] h some none = cc
+marks_inside (x ∷ xs) h some none = elim (cases_Bool (x.hart == h)) [
+  | inl here ↦
+      let test : is_of h x.operation x ≡ true = grind (arith, nat_tests, here) in
+      let first : filter (is_of h x.operation) (x ∷ xs) ≡ x ∷ filter (is_of h x.operation) xs = rw test refl in
+      not_empty x.begin (map (λ (y : Begun). y.begin) (filter (is_of h x.operation) xs))
+      (ap (λ ys. reverse (map (λ (y : Begun). y.begin) ys)) (sym first) ∙ none x.operation)
+  | inr other ↦
+      let rest : list_any (λ one. one.hart == h) xs ≡ true = grind (arith, nat_tests, other, some) in
+      marks_inside xs h rest (λ op.
+        let test : is_of h op x ≡ false = grind (arith, nat_tests, other) in
+        let same : filter (is_of h op) (x ∷ xs) ≡ filter (is_of h op) xs = rw test refl in
+        ap (λ ys. reverse (map (λ (y : Begun). y.begin) ys)) (sym same) ∙ none op)
+]
