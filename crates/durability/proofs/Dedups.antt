@@ -1,8 +1,7 @@
 -- Of lost stores in the order of their lines, and of their numbers within a line, the first of each line.
-use Rattle.std.proofs.Common.{◌≡◌, ℕ, zero, suc, ◌+◌, ◌-◌, ◌<◌, ◌≤◌, ◌==◌, Bool, true, false, inl, inr, List, [], ◌∷◌, ◌++◌, length, get_or, refl, sym, subst, arith}
+use Rattle.std.proofs.Common.{◌≡◌, ℕ, suc, ◌+◌, ◌<◌, ◌≤◌, ◌==◌, Bool, true, false, inl, inr, List, [], ◌∷◌, length, get_or, refl, sym, subst, arith}
 use Rattle.std.specs.Prelude.{All, AllPairs, Any, Contains, IsPermutation, nat_lt}
 use Rattle.std.specs.List.{dedup, dedup_from}
-use Rattle.std.specs.List.Sorted.{IsSortedBy}
 use Rattle.std.specs.Ordering.{is_lt, nat_cmp, ordering_then}
 use Rattle.std.proofs.lemmas.Bool.{cases_Bool}
 use Rattle.std.proofs.lemmas.Bool.Decides.{nat_tests}
@@ -34,13 +33,15 @@ no_less a b c d test = elim (cases_Bool (nat_lt c a)) [
       cc
   | inr not_less ↦ elim (cases_Bool (c == a)) [
     | inl same ↦
-        let then : is_lt (nat_cmp d b) ≡ false = rw (not_less, same) at test in
-        (grind (arith, nat_tests, not_less), λ e. elim (cases_Bool (nat_lt d b)) [
-          | inl below ↦
-              let never : true ≡ false = rw below at then in
-              cc
-          | inr not_below ↦ grind (arith, nat_tests, not_below)
-        ])
+        let then : is_lt (nat_cmp d b) ≡ false = rw (not_less, same) at test in (
+          grind (arith, nat_tests, not_less),
+          λ e. elim (cases_Bool (nat_lt d b)) [
+            | inl below ↦
+                let never : true ≡ false = rw below at then in
+                cc
+            | inr not_below ↦ grind (arith, nat_tests, not_below)
+          ],
+        )
     | inr other ↦ (grind (arith, nat_tests, not_less), λ e. absurd (grind (arith, nat_tests, other, e)))
   ]
 ]
@@ -55,9 +56,9 @@ in_order (x ∷ []) next = (All-nil (NoLater x), tt)
 in_order (x ∷ (y ∷ ys)) next =
     let first : NoLater x y = next 0 x (omega arith) in
     let rest : InOrder (y ∷ ys) = in_order (y ∷ ys) (λ k d h.
-      let e : suc k + 1 ≡ suc (k + 1) = omega arith in
-      let within : suc k + 1 < length (x ∷ (y ∷ ys)) = omega (arith, h) in
-      subst (λ (n : ℕ). NoLater (get_or (y ∷ ys) k d) (get_or (x ∷ (y ∷ ys)) n d)) e (next (suc k) d within)) in
+    let e : suc k + 1 ≡ suc (k + 1) = omega arith in
+    let within : suc k + 1 < length (x ∷ (y ∷ ys)) = omega (arith, h) in
+    subst (λ (n : ℕ). NoLater (get_or (y ∷ ys) k d) (get_or (x ∷ (y ∷ ys)) n d)) e (next (suc k) d within)) in
     (All-cons (NoLater x) y ys first (All-weaker (NoLater y) (NoLater x) (λ z q. later_still x y z first q) ys rest.0), rest)
 
 abbrev same_line : Lost → Lost → Bool
@@ -102,12 +103,12 @@ are_least k (x ∷ xs) a o = elim (cases_Bool (x.line == k.line)) [
       rw same (
       All-weaker (IsLeast (k ∷ xs)) (IsLeast (k ∷ (x ∷ xs)))
       (λ y least.
-        let least_of : Lost → Type 0 = λ z. z.line ≡ y.line → y.store ≤ z.store in
-        let head : k.line ≡ y.line → y.store ≤ k.store = All-head (λ z. z.line ≡ y.line → y.store ≤ z.store) k xs least in
-        let tail = All-tail (λ z. z.line ≡ y.line → y.store ≤ z.store) k xs least in
-        All-cons (λ z. z.line ≡ y.line → y.store ≤ z.store) k (x ∷ xs) head
-        (All-cons (λ z. z.line ≡ y.line → y.store ≤ z.store) x xs
-        (λ e. let of_k : k.line ≡ y.line = omega (arith, line, e) in omega (arith, head of_k, next.store (sym line))) tail))
+      let least_of : Lost → Type 0 = λ z. z.line ≡ y.line → y.store ≤ z.store in
+      let head : k.line ≡ y.line → y.store ≤ k.store = All-head (λ z. z.line ≡ y.line → y.store ≤ z.store) k xs least in
+      let tail = All-tail (λ z. z.line ≡ y.line → y.store ≤ z.store) k xs least in
+      All-cons (λ z. z.line ≡ y.line → y.store ≤ z.store) k (x ∷ xs) head
+      (All-cons (λ z. z.line ≡ y.line → y.store ≤ z.store) x xs
+      (λ e. let of_k : k.line ≡ y.line = omega (arith, line, e) in omega (arith, head of_k, next.store (sym line))) tail))
       (dedup_from same_line k xs) (are_least k xs (All-tail (NoLater k) x xs a) o.1))
   | inr other ↦
       let next : NoLater k x = All-head (NoLater k) x xs a in
@@ -117,8 +118,8 @@ are_least k (x ∷ xs) a o = elim (cases_Bool (x.line == k.line)) [
       rw other (
       All-cons (IsLeast (k ∷ (x ∷ xs))) k (dedup_from same_line x xs) (first_is_least k (x ∷ xs) a)
       (λ i d h.
-        let y : Lost = get_or (dedup_from same_line x xs) i d in
-        All-cons (λ z. z.line ≡ y.line → y.store ≤ z.store) k (x ∷ xs) (λ e. absurd (omega (arith, below, low i d h, e))) (rest i d h)))
+      let y : Lost = get_or (dedup_from same_line x xs) i d in
+      All-cons (λ z. z.line ≡ y.line → y.store ≤ z.store) k (x ∷ xs) (λ e. absurd (omega (arith, below, low i d h, e))) (rest i d h)))
 ]
 
 any_here : {X : Type 0} (P : X → Type 0) (x : X) (xs : List X) → P x → Any P (x ∷ xs)
@@ -175,15 +176,15 @@ firsts_of_sorted (k ∷ xs) o = record {
 -- sorted by lines and numbers, and then with the first of each line alone
 pub are_firsts : (lost sorted firsts : List Lost) → IsPermutation lost sorted →
     ((k : ℕ) (d : Lost) → k + 1 < length sorted →
-      is_lt (ordering_then (nat_cmp (get_or sorted (k + 1) d).line (get_or sorted k d).line) (nat_cmp (get_or sorted (k + 1) d).store (get_or sorted k d).store)) ≡ false) →
+    is_lt (ordering_then (nat_cmp (get_or sorted (k + 1) d).line (get_or sorted k d).line) (nat_cmp (get_or sorted (k + 1) d).store (get_or sorted k d).store)) ≡ false) →
     firsts ≡ dedup same_line sorted → AreFirsts lost firsts
 are_firsts lost sorted firsts same_ones next is =
     let back = IsPermutation-sym lost sorted same_ones in
     let order : InOrder sorted = in_order sorted (λ k d h.
-      let x : Lost = get_or sorted k d in
-      let y : Lost = get_or sorted (k + 1) d in
-      let low = no_less x.line x.store y.line y.store (next k d h) in
-      record { line = low.0; store = low.1 }) in
+    let x : Lost = get_or sorted k d in
+    let y : Lost = get_or sorted (k + 1) d in
+    let low = no_less x.line x.store y.line y.store (next k d h) in
+    record { line = low.0; store = low.1 }) in
     let f = firsts_of_sorted sorted order in
     rw is (record {
       upwards = f.upwards;

@@ -1,5 +1,5 @@
 -- What Ends leave, one End more.
-use Rattle.std.proofs.Common.{◌≡◌, ℕ, ◌+◌, ◌-◌, ◌<◌, ◌≤◌, ◌⊎◌, inl, inr, List, [], ◌∷◌, ◌++◌, Option, Some, None, length, get_or, refl, sym, ap, subst, ◌∙◌, arith}
+use Rattle.std.proofs.Common.{◌≡◌, ℕ, ◌+◌, ◌-◌, ◌<◌, ◌≤◌, inl, inr, List, [], ◌++◌, Some, None, length, get_or, refl, sym, ap, subst, ◌∙◌, arith}
 use Rattle.std.specs.Prelude.{All, AllPairs, Any, map, slice_get}
 use Rattle.std.proofs.Math.ListN.{get_or-map}
 use Rattle.std.proofs.lemmas.List as lemmas
@@ -105,11 +105,11 @@ ends_more events last losses ended lost is f a =
     record {
       in_order = pairs_appended IsBefore losses (map (loss_of ended) lost) a.in_order
           (λ i j d before within.
-            let there : j < length lost = omega (arith, within, size) in
-            rw (at_map ended lost i d (omega (arith, before, there)), at_map ended lost j d there) (inr (refl, f.upwards i j d.lost before there)))
+          let there : j < length lost = omega (arith, within, size) in
+          rw (at_map ended lost i d (omega (arith, before, there)), at_map ended lost j d there) (inr (refl, f.upwards i j d.lost before there)))
           (λ i j d low within.
-            let there : j < length lost = omega (arith, within, size) in
-            rw (at_map ended lost j d there) (inl (omega (arith, a.made i d low, is.0))));
+          let there : j < length lost = omega (arith, within, size) in
+          rw (at_map ended lost j d there) (inl (omega (arith, a.made i d low, is.0))));
       each = All-append (IsEndLoss events) losses (map (loss_of ended) lost) a.each
           (All-map (IsEndLoss events) (loss_of ended) lost (λ k d h. record { hart = ended.hart; begin = ended.begin; ends = own; first = f.each k d h }));
       made = All-append (λ x. x.end ≤ last + 1) losses (map (loss_of ended) lost)

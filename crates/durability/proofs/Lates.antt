@@ -1,5 +1,5 @@
 -- Stores that are lost at a moment, as they are found one after another.
-use Rattle.std.proofs.Common.{◌≡◌, ℕ, suc, ◌+◌, ◌<◌, ◌≤◌, ◌⊎◌, inl, inr, List, [], ◌∷◌, ◌++◌, Option, Some, None, length, get_or, refl, sym, ap, subst, ◌∙◌, arith}
+use Rattle.std.proofs.Common.{◌≡◌, ℕ, ◌+◌, ◌<◌, ◌≤◌, ◌⊎◌, inl, inr, List, [], ◌∷◌, ◌++◌, Option, Some, None, length, get_or, sym, ap, subst, ◌∙◌, arith}
 use Rattle.std.specs.Prelude.{◌==◌, true, false, All, Any, option_to_list}
 use Rattle.std.specs.List.{list_any}
 use Rattle.std.proofs.lemmas.Bool.Decides.{nat_tests}
@@ -14,9 +14,9 @@ use Rattle.durability.proofs.Floors.{no_event, past_is_open}
 use Rattle.durability.proofs.Marks.{marks_inside, marks_outside, same_event}
 use Rattle.durability.specs.Causes.{AreFates, IsCause, IsCompletion, IsFate, IsPast}
 use Rattle.durability.specs.Firsts.{AreFirsts, IsLossAt}
-use Rattle.durability.specs.Numbered.{event_at, IsFirst, IsStore}
-use Rattle.durability.specs.Operations.{AreOpen, begins_of, IsOutside, open_at}
-use Rattle.durability.specs.Unpersisted.{AreFirstLosses, IsFirstLoss, IsUnpersisted, IsUnpersistedOutside}
+use Rattle.durability.specs.Numbered.{event_at, IsStore}
+use Rattle.durability.specs.Operations.{AreOpen, IsOutside}
+use Rattle.durability.specs.Unpersisted.{AreFirstLosses, IsUnpersisted, IsUnpersistedOutside}
 use Rattle.durability.specs.declared.cause.Fate.{Fate}
 use Rattle.durability.specs.declared.cut.Lost.{Lost}
 use Rattle.durability.specs.declared.operations.Begun.{Begun}

@@ -1,5 +1,5 @@
 -- The operations that are open, one event more.
-use Rattle.std.proofs.Common.{◌≡◌, ℕ, suc, ◌+◌, ◌-◌, ◌<◌, ◌≤◌, ◌==◌, ◌&&◌, Bool, true, false, inl, inr, List, [], ◌∷◌, ◌++◌, Option, Some, None, length, get_or, take, drop, refl, sym, ap, subst, ◌∙◌, arith}
+use Rattle.std.proofs.Common.{◌≡◌, ℕ, suc, ◌+◌, ◌-◌, ◌<◌, ◌==◌, ◌&&◌, Bool, true, false, inl, inr, List, [], ◌∷◌, ◌++◌, Option, Some, None, length, get_or, take, drop, refl, sym, ap, ◌∙◌, arith}
 use Rattle.std.specs.Prelude.{if◌then◌else◌, filter, map, remove, reverse, slice_get, All}
 use Rattle.std.specs.List.{list_any}
 use Rattle.std.proofs.lemmas.Bool.{cases_Bool}
@@ -9,9 +9,9 @@ use Rattle.std.proofs.lemmas.List.{append-nil, get_or-drop, length-drop, length-
 use Rattle.std.proofs.lemmas.List.Elements.{All-head, All-tail, filter-append}
 use Rattle.std.proofs.lemmas.Option.{get_or_from_slice_get, slice_get_within}
 use Rattle.store_trace.specs.declared.event.Event.{Event}
-use Rattle.store_trace.specs.declared.event.Event.TheVariants.{Store, Clean, Fence, Begin, End}
+use Rattle.store_trace.specs.declared.event.Event.TheVariants.{Begin, End}
 use Rattle.durability.specs.Numbered.{event_at}
-use Rattle.durability.specs.Operations.{AreOpen, begins_of, IsEndedBy, IsEnding, IsEndOf, IsLastOf, is_of, open_at, open_begins}
+use Rattle.durability.specs.Operations.{AreOpen, begins_of, IsEndedBy, IsEnding, IsLastOf, is_of, open_at, open_begins}
 use Rattle.durability.specs.declared.operations.Begun.{Begun}
 use Rattle.durability.specs.declared.operations.Ended.{Ended}
 
@@ -109,11 +109,13 @@ ends_this events i h op begun None here a none = λ g other b e.
     no_first b (open_at events i g other) empty begins
 ends_this events i h op begun (Some ended) here a is =
     let back : i + 1 - 1 ≡ i = omega arith in
-    let first : slice_get (open_at events i h op) 0 ≡ Some ended.begin = ap (λ (ns : List ℕ). slice_get ns 0) (sym (a h op)) ∙ is.3 in
-    (is.2, record {
-      ends = rw (is.0, is.1) here;
-      begins = rw (is.0, is.1, back) first;
-    })
+    let first : slice_get (open_at events i h op) 0 ≡ Some ended.begin = ap (λ (ns : List ℕ). slice_get ns 0) (sym (a h op)) ∙ is.3 in (
+      is.2,
+      record {
+        ends = rw (is.0, is.1) here;
+        begins = rw (is.0, is.1, back) first;
+      },
+    )
 
 filter_none : {X : Type 0} (p : X → Bool) (xs : List X) → All (λ x. p x ≡ false) xs → filter p xs ≡ []
 filter_none p [] a = refl
@@ -149,8 +151,8 @@ none_behind : {X : Type 0} (p : X → Bool) (xs : List X) (i : ℕ) →
     ((k : ℕ) (d : X) → i < k → k < length xs → p (get_or xs k d) ≡ false) → filter p (drop (suc i) xs) ≡ []
 none_behind p xs i none =
     filter_none p (drop (suc i) xs) (λ k d h.
-      let within : suc i + k < length xs = omega (arith, h, length-drop (suc i) xs) in
-      ap (λ x. p x) (get_or-drop (suc i) xs k d) ∙ none (suc i + k) d (omega arith) within)
+    let within : suc i + k < length xs = omega (arith, h, length-drop (suc i) xs) in
+    ap (λ x. p x) (get_or-drop (suc i) xs k d) ∙ none (suc i + k) d (omega arith) within)
 
 -- nothing to end
 pub marks_none : (begun : List Begun) (h op : ℕ) → IsLastOf begun h op None → begins_of h op begun ≡ []
@@ -227,7 +229,7 @@ marks_inside (x ∷ xs) h some none = elim (cases_Bool (x.hart == h)) [
   | inr other ↦
       let rest : list_any (λ one. one.hart == h) xs ≡ true = grind (arith, nat_tests, other, some) in
       marks_inside xs h rest (λ op.
-        let test : is_of h op x ≡ false = grind (arith, nat_tests, other) in
-        let same : filter (is_of h op) (x ∷ xs) ≡ filter (is_of h op) xs = rw test refl in
-        ap (λ ys. reverse (map (λ (y : Begun). y.begin) ys)) (sym same) ∙ none op)
+      let test : is_of h op x ≡ false = grind (arith, nat_tests, other) in
+      let same : filter (is_of h op) (x ∷ xs) ≡ filter (is_of h op) xs = rw test refl in
+      ap (λ ys. reverse (map (λ (y : Begun). y.begin) ys)) (sym same) ∙ none op)
 ]

@@ -39,11 +39,7 @@ pub struct Unpersisted {
 ///
 /// An End takes time for each event since its Begin, and for each operation that is open then. So operations that follow one
 /// another, whatever their number, take time for each event alone. Those of one hart that overlap by the thousands take the product.
-pub fn tell_unpersisted(
-    alloc: Global,
-    trace: &Trace,
-    lines: u32,
-) -> Result<Unpersisted, AllocError>
+pub fn tell_unpersisted(alloc: Global, trace: &Trace, lines: u32) -> Result<Unpersisted, AllocError>
     requires { All (NamesLine lines) trace.now.events }
     ensures ends { IfOk result (λ told. AreEndLosses trace.now.events told.ends.items) }
     ensures outside { IfOk result (λ told.
@@ -56,11 +52,7 @@ pub fn tell_unpersisted(
     Ok(Unpersisted { ends, outside })
 }
 
-fn end_losses(
-    alloc: Global,
-    events: &[Event],
-    fates: &[Fate],
-) -> Result<Vec<EndLoss>, AllocError>
+fn end_losses(alloc: Global, events: &[Event], fates: &[Fate]) -> Result<Vec<EndLoss>, AllocError>
     requires limit { length events.now ≤ 65536 }
     requires fates { AreFates events.now 0 fates.now }
     ensures { IfOk result (λ told. AreEndLosses events.now told.items) }
@@ -90,7 +82,10 @@ fn losses_of(
 {
     let mut lost = Vec::new(alloc);
     for at in ended.begin as usize..ended.end as usize {
-        add(&mut lost, late_store(events, fates, at, ended.hart, ended.end))?;
+        add(
+            &mut lost,
+            late_store(events, fates, at, ended.hart, ended.end),
+        )?;
     }
     first_of_each_line(&mut lost);
     Ok(lost)
@@ -111,11 +106,7 @@ fn add_losses(told: &mut Vec<EndLoss>, ended: Ended, lost: &[Lost]) -> Result<()
     Ok(())
 }
 
-fn outside_losses(
-    alloc: Global,
-    events: &[Event],
-    fates: &[Fate],
-) -> Result<Vec<Lost>, AllocError>
+fn outside_losses(alloc: Global, events: &[Event], fates: &[Fate]) -> Result<Vec<Lost>, AllocError>
     requires limit { length events.now ≤ 65536 }
     requires fates { AreFates events.now 0 fates.now }
     ensures { IfOk result (λ lost. AreFirstLosses events.now (length events.now) (IsUnpersistedOutside events.now) lost.items) }

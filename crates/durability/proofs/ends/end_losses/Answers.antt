@@ -1,7 +1,6 @@
 use Rattle.std.proofs.Common.{◌≡◌, ◌+◌, ◌++◌, length, List, subst, sym, arith}
 use Rattle.std.specs.Prelude.{map}
 use Rattle.durability.proofs.Endings.{AreEndsTo, ends_all, ends_more, ends_stay, loss_of}
-use Rattle.durability.specs.Operations.{IsEndedBy}
 use Rattle.durability.specs.declared.ends.EndLoss.{EndLoss}
 use Rattle.durability.proofs.ends.end_losses.Goals as goal
 use Rattle.durability.proofs.ends.end_losses.Goals.{in-Some+in_ok-lost+in_ok-add_losses, in_default}

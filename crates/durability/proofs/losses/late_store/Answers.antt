@@ -1,4 +1,4 @@
-use Rattle.std.proofs.Common.{◌≡◌, ◌+◌, ◌<◌, length, refl, subst, sym, arith}
+use Rattle.std.proofs.Common.{◌+◌, ◌<◌, length, refl, subst, sym, arith}
 use Rattle.std.specs.Prelude.{Bool, IsTrue}
 use Rattle.store_trace.specs.declared.event.Event.{Event}
 use Rattle.store_trace.specs.declared.event.Event.TheVariants.{Store}
@@ -23,7 +23,7 @@ returns-then-by-hart c =
           not_open c.args.events.now c.args.moment c.args.hart (c.args.at + 1) c.in-Store.by c.in-Store.line c.in-Store.offset c.in-Store.width c.in-Store.value here
           c.requires.moment
           (λ e late.
-            is_false (subst (λ (b : Bool). IsTrue b) w.if-not-is_open.true ((w.is_open.ensures c.args.events.now c.in-Store.line (c.args.at + 1) fate).1 late)))
+          is_false (subst (λ (b : Bool). IsTrue b) w.if-not-is_open.true ((w.is_open.ensures c.args.events.now c.in-Store.line (c.args.at + 1) fate).1 late)))
     ]
 
 pub returns : goal.returns

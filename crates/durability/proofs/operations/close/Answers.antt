@@ -1,8 +1,7 @@
-use Rattle.std.proofs.Common.{◌≡◌, List, Option, None, Some, refl, subst, sym, ap, ◌∙◌}
+use Rattle.std.proofs.Common.{List, None, Some, refl, subst, sym, ap, ◌∙◌}
 use Rattle.durability.proofs.Marks.{marks_first, marks_kept, marks_left, marks_none}
-use Rattle.durability.specs.Operations.{IsEnding, IsLastOf}
+use Rattle.durability.specs.Operations.{IsLastOf}
 use Rattle.durability.specs.declared.operations.Begun.{Begun}
-use Rattle.durability.specs.declared.operations.Ended.{Ended}
 use Rattle.durability.proofs.operations.close.Goals as goal
 
 pub returns-in_err-last-clause-ended : goal.returns-in_err-last-clause-ended
@@ -22,7 +21,7 @@ returns-clause-ended c =
       refl,
       refl,
       marks_first c.args.begun.now.items c.args.hart c.args.operation c.in_ok-last.last c.remove-one.result last
-      ∙ ap (λ (x : Begun). Some x.begin) (sym c.remove-one.ensures.value),
+          ∙ ap (λ (x : Begun). Some x.begin) (sym c.remove-one.ensures.value),
     )
 
 pub returns-clause-left : goal.returns-clause-left

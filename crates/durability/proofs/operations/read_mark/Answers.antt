@@ -2,7 +2,7 @@ use Rattle.std.proofs.Common.{◌+◌, inl, inr, refl}
 use Rattle.store_trace.specs.declared.event.Event.{Event}
 use Rattle.store_trace.specs.declared.event.Event.TheVariants.{Store}
 use Rattle.durability.proofs.Firsts.{event_here}
-use Rattle.durability.proofs.Marks.{ends_nothing, ends_this, marks_begin, marks_end, marks_stay}
+use Rattle.durability.proofs.Marks.{ends_nothing, ends_this, marks_end, marks_stay}
 use Rattle.durability.proofs.operations.read_mark.Goals as goal
 
 pub returns-in-End-clause-after : goal.returns-in-End-clause-after
