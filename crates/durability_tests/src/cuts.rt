@@ -322,7 +322,7 @@ static CASES: [Case; 10] = [
 ];
 
 /// What is told of a cut of the trace, where it has the moment and names lines of the medium alone.
-fn tell(
+pub(crate) fn tell(
     alloc: Global,
     trace: &Trace,
     moment: u32,

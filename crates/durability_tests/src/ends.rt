@@ -137,10 +137,7 @@ static CASES: [Case; 18] = [
     },
     // A line's first store is in the medium, and its second isn't.
     Case {
-        run: &[(
-            0,
-            &[Begin(1), Store(0), Clean(0), Fence, Store(0), End(1)],
-        )],
+        run: &[(0, &[Begin(1), Store(0), Clean(0), Fence, Store(0), End(1)])],
         ends: &[(1, 6, 0, 5, Cause::NeverCleaned)],
         outside: &[],
     },
@@ -269,7 +266,7 @@ static CASES: [Case; 18] = [
 ];
 
 /// What is told of the trace, where it names lines of the medium alone.
-fn tell(alloc: Global, trace: &Trace) -> Result<Option<Unpersisted>, AllocError> {
+pub(crate) fn tell(alloc: Global, trace: &Trace) -> Result<Option<Unpersisted>, AllocError> {
     if !names_lines(trace.events(), LINES) {
         return Ok(None);
     }
@@ -278,13 +275,7 @@ fn tell(alloc: Global, trace: &Trace) -> Result<Option<Unpersisted>, AllocError>
 
 fn at_end(loss: EndLoss) -> AtEnd {
     let lost = loss.lost;
-    (
-        loss.operation,
-        loss.end,
-        lost.line,
-        lost.store,
-        lost.cause,
-    )
+    (loss.operation, loss.end, lost.line, lost.store, lost.cause)
 }
 
 fn at_last(lost: Lost) -> AtLast {
@@ -295,8 +286,16 @@ fn at_last(lost: Lost) -> AtLast {
 fn tells(told: &Unpersisted, case: &Case) -> bool {
     told.ends.len() == case.ends.len()
         && told.outside.len() == case.outside.len()
-        && told.ends.iter().zip(case.ends).all(|(one, other)| at_end(*one) == *other)
-        && told.outside.iter().zip(case.outside).all(|(one, other)| at_last(*one) == *other)
+        && told
+            .ends
+            .iter()
+            .zip(case.ends)
+            .all(|(one, other)| at_end(*one) == *other)
+        && told
+            .outside
+            .iter()
+            .zip(case.outside)
+            .all(|(one, other)| at_last(*one) == *other)
 }
 
 /// Whether what is told of the case is what is to be told.
