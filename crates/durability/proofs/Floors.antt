@@ -48,11 +48,11 @@ moment_more events i event here =
     )
 
 -- each place has an event
-record Here (events : List Event) (i : ℕ) : Type 0 where
-  event : Event
-  is : event_at events (suc i) ≡ Some event
+pub record Here (events : List Event) (i : ℕ) : Type 0 where
+  pub event : Event
+  pub is : event_at events (suc i) ≡ Some event
 
-here_at : (events : List Event) (i : ℕ) → i < length events → Here events i
+pub here_at : (events : List Event) (i : ℕ) → i < length events → Here events i
 here_at events i h =
     let none : Event = Fence 0 in
     record { event = get_or events i none; is = slice_get-get_or events i none h }

@@ -7,4 +7,5 @@ pub mod Lates
 pub mod Marks
 pub mod Nexts
 pub mod Opens
+pub mod Pairs
 pub mod Tellings

@@ -15,7 +15,7 @@ use Rattle.durability.specs.Operations.{AreOpen, begins_of, IsEndedBy, IsEnding,
 use Rattle.durability.specs.declared.operations.Begun.{Begun}
 use Rattle.durability.specs.declared.operations.Ended.{Ended}
 
-open_more : (events : List Event) (i h op : ℕ) (event : Event) → event_at events (i + 1) ≡ Some event →
+pub open_more : (events : List Event) (i h op : ℕ) (event : Event) → event_at events (i + 1) ≡ Some event →
     open_at events (i + 1) h op ≡ open_begins h op (event ∷ reverse (take i events))
 open_more events i h op event here =
     let one : i + 1 ≡ suc i = omega arith in

@@ -1,5 +1,5 @@
 -- Operations by the marks of their harts. Marks have no faults here: a number may be used again, and operations of one hart may overlap.
-use Rattle.std.specs.Prelude.{◌≡◌, ℕ, ◌+◌, ◌-◌, ◌<◌, ◌==◌, ◌&&◌, Bool, true, false, List, [], ◌∷◌, if◌then◌else◌, length, filter, map, reverse, take, drop, slice_get, slice_index_or, Option, Some, None, All}
+use Rattle.std.specs.Prelude.{◌≡◌, ℕ, ◌+◌, ◌-◌, ◌<◌, ◌≤◌, ◌==◌, ◌&&◌, Bool, true, false, List, [], ◌∷◌, if◌then◌else◌, length, filter, map, reverse, take, drop, slice_get, slice_index_or, Option, Some, None, All}
 use Rattle.store_trace.specs.declared.event.Event.{Event}
 use Rattle.store_trace.specs.declared.event.Event.TheVariants.{Store, Clean, Fence, Begin, End}
 use Rattle.durability.specs.Numbered.{event_at}
@@ -26,6 +26,22 @@ open_at events m h op = open_begins h op (reverse (take m events))
 pub record IsEndOf (events : List Event) (n h op b : ℕ) : Type 0 where
   pub ends : event_at events n ≡ Some (End h op)
   pub begins : slice_get (open_at events (n - 1) h op) 0 ≡ Some b
+
+-- event b is a Begin of operation op by hart h, made by moment m, that no End by then has ended
+pub record IsOpenBegin (events : List Event) (m h op b : ℕ) : Type 0 where
+  pub made : b ≤ m
+  pub begins : event_at events b ≡ Some (Begin h op)
+  pub open_then : (n : ℕ) → n ≤ m → ¬ IsEndOf events n h op b
+
+-- b is the last number of which P holds
+pub record IsLast (P : ℕ → Type 0) (b : ℕ) : Type 0 where
+  pub holds : P b
+  pub last : (c : ℕ) → P c → c ≤ b
+
+-- event n is an End of operation op by hart h, and event b the last Begin of it before that no End before has ended
+pub record IsEndOfLast (events : List Event) (n h op b : ℕ) : Type 0 where
+  pub ends : event_at events n ≡ Some (End h op)
+  pub begins : IsLast (IsOpenBegin events (n - 1) h op) b
 
 -- no operation of hart h is open at moment m
 abbrev pub IsOutside : List Event → ℕ → ℕ → Type 0

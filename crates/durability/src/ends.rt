@@ -37,8 +37,9 @@ pub struct Unpersisted {
 /// the last moment, each with its cause then. An End ends the last Begin of its operation by its hart that none has ended; an
 /// End without one tells nothing, and an operation without an End neither. The events name lines below `lines`.
 ///
-/// An End takes time for each event since its Begin, and for each operation that is open then. So operations that follow one
-/// another, whatever their number, take time for each event alone. Those of one hart that overlap by the thousands take the product.
+/// Time goes by the events, and for each End by those since its Begin, the operations that are open then and the lines told of it. So
+/// operations that follow one another, however many, take time by the events alone; where one hart has thousands open at once, it is
+/// their product with the events, and so may be the number of losses.
 pub fn tell_unpersisted(alloc: Global, trace: &Trace, lines: u32) -> Result<Unpersisted, AllocError>
     requires { All (NamesLine lines) trace.now.events }
     ensures ends { IfOk result (λ told. AreEndLosses trace.now.events told.ends.items) }

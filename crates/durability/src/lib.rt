@@ -15,4 +15,4 @@ mod operations;
 pub use cause::Cause;
 pub use cut::{CutLine, Kept, Lost, ToldCut, tell_cut};
 pub use ends::{EndLoss, Unpersisted, tell_unpersisted};
-pub use laws::completions_come_late;
+pub use laws::{completions_come_late, ends_are_of_last_begins};
