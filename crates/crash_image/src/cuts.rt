@@ -243,6 +243,10 @@ impl<'a> Cuts<'a> {
         ensures cut { IsErrOf result ImageFault.NotACut
             → (cut : List (ℕ × ℕ)) → ¬ IsNamed self.now.steps name.now cut }
         ensures moment { ¬ IsErrOf result ImageFault.NoSuchMoment }
+
+        // A number is looked at before anything grows: memory is answered only for one that names a cut.
+        ensures memory { (n : ℕ) → name.now ≡ names.Number n → IsErrOf result ImageFault.Memory
+            → (cut : List (ℕ × ℕ)) × IsNamed self.now.steps (names.Number n) cut }
     {
         match name {
             ImageName::Number(number) => self.cut_of_number(alloc, *number),
@@ -256,6 +260,8 @@ impl<'a> Cuts<'a> {
         ensures cut { IsErrOf result ImageFault.NotACut
             → (cut : List (ℕ × ℕ)) → ¬ IsNamed self.now.steps (names.Number n) cut }
         ensures moment { ¬ IsErrOf result ImageFault.NoSuchMoment }
+        ensures memory { IsErrOf result ImageFault.Memory
+            → (cut : List (ℕ × ℕ)) × IsNamed self.now.steps (names.Number n) cut }
     {
         match self.count() {
             Some(count) if n < count => self.cut(alloc, n),
