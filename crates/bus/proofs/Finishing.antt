@@ -16,6 +16,9 @@ use Rattle.bus.specs.Finished.{AllAgree, all_of, last_steps}
 use Rattle.bus.specs.Gathered.{AreParts, gathered}
 use Rattle.bus.specs.Replays.{AreBelow, CoreView, IsReplay, common_of, replay}
 use Rattle.bus.specs.Seats.{SeatView}
+use Rattle.bus.specs.Listed.{numbered}
+use Rattle.recording.proofs.Numbering.{numbers_kept}
+use Rattle.bus.proofs.EventNumbers.{AreNumbered, events_numbered}
 use Rattle.bus.proofs.Gathering.{alone_runs, gathered_runs}
 use Rattle.bus.proofs.Replaying.{initial_is}
 
@@ -109,6 +112,27 @@ lists_long : (seats : List SeatView) → length (map (λ (seat : SeatView). seat
 lists_long [] = refl
 lists_long (seat ∷ seats) = ap suc (lists_long seats)
 
+-- the parts of agreeing seats
+pub record AgreeingParts (core : CoreView) (seats : List SeatView) : Type 0 where
+  pub found : Froms (starting_memory core.program core.start) core.history 0 seats
+  pub parts : AreParts (starting_memory core.program core.start) core.harts core.history (map (λ (seat : SeatView). seat.exchanges) seats) found.froms
+  pub first : starting_memory core.program core.start ≡ (replay core.program core.start []).initial
+
+agreeing_parts : (core : CoreView) (seats : List SeatView) → AllAgree core seats → AgreeingParts core seats
+agreeing_parts core seats all =
+    let initial : Memory = starting_memory core.program core.start in
+    let lists : List (List Exchange) = map (λ (seat : SeatView). seat.exchanges) seats in
+    let from_each = froms_of core 0 seats (λ i seat got. (all.numbered i seat got ∙ omega arith, all.each i seat got)) in
+    record {
+      found = from_each;
+      parts = record {
+        lists_of = lists_long seats ∙ all.count;
+        states_of = from_each.count ∙ all.count;
+        part = λ h s got. subst (λ (k : ℕ). IsPart initial k core.history (slice_index_or lists h []) s) (omega arith) (from_each.parts h s got);
+      };
+      first = sym (initial_is core.program core.start []);
+    }
+
 -- the theorem
 pub agreeing_runs : (core : CoreView) (seats : List SeatView) → IsReplay core.program core.start core.history core.shared
     → AreBelow core.harts core.history → AllAgree core seats
@@ -117,17 +141,28 @@ pub agreeing_runs : (core : CoreView) (seats : List SeatView) → IsReplay core.
 agreeing_runs core seats is below all =
     let initial : Memory = starting_memory core.program core.start in
     let lists : List (List Exchange) = map (λ (seat : SeatView). seat.exchanges) seats in
-    let found = froms_of core 0 seats (λ i seat got. (all.numbered i seat got ∙ omega arith, all.each i seat got)) in
-    let parts : AreParts initial core.harts core.history lists found.froms = record {
-      lists_of = lists_long seats ∙ all.count;
-      states_of = found.count ∙ all.count;
-      part = λ h s got. subst (λ (k : ℕ). IsPart initial k core.history (slice_index_or lists h []) s) (omega arith) (found.parts h s got);
-    } in
-    let first : initial ≡ (replay core.program core.start []).initial = sym (initial_is core.program core.start []) in
-    let runs = gathered_runs core.program core.start initial core.harts core.history lists found.froms first is.told below parts in
+    let p = agreeing_parts core seats all in
+    let found = p.found in
+    let runs = gathered_runs core.program core.start initial core.harts core.history lists found.froms p.first is.told below p.parts in
     let common : Common = common_of core in
     let first_memory : common.initial ≡ initial = initial_is core.program core.start core.history in
     let goes : GoOn common.initial common.history 0 seats found.froms = rw (first_memory, is.told) found.goes in
     let rest = last_run common 0 [] seats found.froms refl goes in
     run_joined (started core.program core.start core.harts) (record { harts = found.froms; common = common })
     (record { harts = map (λ (seat : SeatView). seat.state) seats; common = common }) (gathered core.history lists) (last_steps 0 seats) runs rest
+
+-- the numbers of their events
+pub agreeing_numbers : (core : CoreView) (seats : List SeatView) → IsReplay core.program core.start core.history core.shared
+    → AreBelow core.harts core.history → AllAgree core seats
+    → AreNumbered (started core.program core.start core.harts) (all_of core seats)
+    (numbered core.history (map (λ (seat : SeatView). seat.exchanges) seats)) (common_of core).trace
+agreeing_numbers core seats is below all =
+    let lists : List (List Exchange) = map (λ (seat : SeatView). seat.exchanges) seats in
+    let p = agreeing_parts core seats all in
+    let n = events_numbered core.program core.start (starting_memory core.program core.start) core.harts core.history lists p.found.froms p.first is.told
+    below p.parts in
+    record {
+      numbers = numbers_kept (started core.program core.start core.harts) (gathered core.history lists) (last_steps 0 seats) (numbered core.history lists)
+          n.numbers;
+      each = n.each;
+    }

@@ -29,7 +29,7 @@ use Rattle.bus.specs.declared.exchange.Exchange.{Exchange}
 use Rattle.bus.specs.declared.follower.Follower.{Follower}
 use Rattle.bus.specs.Agreeing.{Exchanges, IsPart}
 use Rattle.bus.specs.Alone.{Asks, GoesAlone, IsAsking, LeavesAlone, StepsAlone}
-use Rattle.bus.specs.Following.{AreGathered, ArePaired, Follows, IsFollowed, MakesAgain, all_made, hart_count, made_of, oldest, steps_of_all}
+use Rattle.bus.specs.Following.{AreGathered, ArePaired, Follows, IsFollowed, MakesAgain, hart_count, made_of, oldest, steps_of_all}
 use Rattle.bus.specs.Gathered.{gathered}
 use Rattle.bus.specs.Replays.{CoreView}
 use Rattle.bus.specs.Seats.{SeatView, steps_in}
@@ -58,26 +58,6 @@ pub asking_decided : (b : Bool) (text : Memory) (s t : HartState)
 asking_decided true text s t step = λ asking. asking_stays text s t asking.0 asking.1 step
 asking_decided false text s t asks = asks.1
 
--- so many steps alone, which come after others
-pub record Goes (text : Memory) (n : ℕ) (s t : HartState) (h : ℕ) (before after : List Step) : Type 0 where
-  pub alone : GoesAlone text n s t
-  pub added : after ≡ before ++ replicate n (Hart h)
-
-append_none : (xs : List Step) → xs ≡ xs ++ []
-append_none [] = refl
-append_none (x ∷ xs) = ap (λ (l : List Step). x ∷ l) (append_none xs)
-
-pub goes_none : (text : Memory) (s : HartState) (h : ℕ) (steps : List Step) → Goes text 0 s s h steps steps
-goes_none text s h steps = record { alone = refl; added = append_none steps }
-
-pub goes_one : (text : Memory) (n : ℕ) (s middle t : HartState) (h : ℕ) (before steps after : List Step) → Goes text n s middle h before steps
-    → StepsAlone text middle t → after ≡ steps ++ Hart h ∷ [] → Goes text (n + 1) s t h before after
-goes_one text n s middle t h before steps after goes step added = record {
-  alone = goes_more text n s middle t goes.alone step;
-  added = added ∙ ap (λ (l : List Step). l ++ Hart h ∷ []) goes.added ∙ append_assoc before (replicate n (Hart h)) (Hart h ∷ [])
-      ∙ ap (λ (l : List Step). before ++ l) (replicate_more n (Hart h));
-}
-
 -- the oldest of a list with one more
 pub oldest_more : (n : ℕ) (xs : List Exchange) (x : Exchange) → slice_get (reverse xs) n ≡ Some x → oldest (n + 1) xs ≡ x ∷ oldest n xs
 oldest_more n xs x got =
@@ -92,16 +72,16 @@ oldest_all n xs whole =
     ap reverse (take_all n (reverse xs) fits) ∙ reverse-reverse xs
 
 -- the pieces of an exchange that is made again
-pub makes_again : (old new : CoreView) (seat : SeatView) (before after : Follower) (request : Request) (reply : Reply) (steps middle all : List Step)
-    (x : Exchange) (at : HartState) (instr : Instr) → slice_get (reverse seat.exchanges) before.next ≡ Some x → x.request ≡ request → x.reply ≡ reply
-    → GoesAlone (text_bytes before.copy) x.steps before.state at → middle ≡ steps ++ replicate x.steps (Hart seat.hart)
+pub makes_again : (old new : CoreView) (seat : SeatView) (before after : Follower) (request : Request) (reply : Reply) (x : Exchange) (at : HartState)
+    (instr : Instr) → slice_get (reverse seat.exchanges) before.next ≡ Some x → x.request ≡ request → x.reply ≡ reply
+    → GoesAlone (text_bytes before.copy) x.steps before.state at
     → Asks (text_bytes before.copy) at request → IsSpelledBy (fetched (text_bytes before.copy) at.pc) instr
     → new ≡ record old { shared = new.shared; history = Asked seat.hart request reply ∷ old.history }
     → text_bytes new.shared.ram.text ≡ text_of (replayed (starting_memory old.program old.start) new.history)
-    → all ≡ middle ++ Hart seat.hart ∷ [] → after.next ≡ before.next + 1 → after.state ≡ answered at instr reply
+    → after.next ≡ before.next + 1 → after.state ≡ answered at instr reply
     → (is_renewing request ≡ true → after.copy ≡ new.shared.ram.text) → (is_renewing request ≡ false → after.copy ≡ before.copy)
-    → MakesAgain old new seat before after request reply steps all
-makes_again old new seat before after request reply steps middle all x at instr there asked told alone added asks spelled core text last next state renewed kept =
+    → MakesAgain old new seat before after request reply
+makes_again old new seat before after request reply x at instr there asked told alone asks spelled core text next state renewed kept =
     record {
       first = x;
       there = there;
@@ -119,14 +99,12 @@ makes_again old new seat before after request reply steps middle all x at instr 
       core = core;
       renewed = λ renews. ap (λ (bytes : List ℕ). text_bytes bytes) (renewed renews) ∙ text;
       kept = kept;
-      added = last ∙ ap (λ (l : List Step). l ++ Hart seat.hart ∷ []) added
-          ∙ append_assoc steps (replicate x.steps (Hart seat.hart)) (Hart seat.hart ∷ []);
     }
 
 -- what was made again
-made_more : (old new : CoreView) (seat : SeatView) (before after : Follower) (request : Request) (reply : Reply) (steps all : List Step)
-    → (m : MakesAgain old new seat before after request reply steps all) → made_of seat after ≡ m.first ∷ made_of seat before
-made_more old new seat before after request reply steps all m =
+made_more : (old new : CoreView) (seat : SeatView) (before after : Follower) (request : Request) (reply : Reply)
+    → (m : MakesAgain old new seat before after request reply) → made_of seat after ≡ m.first ∷ made_of seat before
+made_more old new seat before after request reply m =
     ap (λ (n : ℕ). oldest n seat.exchanges) m.next ∙ oldest_more before.next seat.exchanges m.first m.there
 
 -- the copy of the hart that asked
@@ -140,13 +118,13 @@ follower_copy initial h request reply history old new was renewed kept = elim (c
 ]
 
 -- the follower of the hart that asked
-follows_own : (old new : CoreView) (seat : SeatView) (before after : Follower) (request : Request) (reply : Reply) (steps all : List Step)
-    → MakesAgain old new seat before after request reply steps all → Follows old seat before → Follows new seat after
-follows_own old new seat before after request reply steps all m f =
+follows_own : (old new : CoreView) (seat : SeatView) (before after : Follower) (request : Request) (reply : Reply)
+    → MakesAgain old new seat before after request reply → Follows old seat before → Follows new seat after
+follows_own old new seat before after request reply m f =
     let initial : Memory = starting_memory old.program old.start in
     let h : ℕ = seat.hart in
     let x : Exchange = m.first in
-    let more : made_of seat after ≡ x ∷ made_of seat before = made_more old new seat before after request reply steps all m in
+    let more : made_of seat after ≡ x ∷ made_of seat before = made_more old new seat before after request reply m in
     let inside : before.next < length seat.exchanges =
     omega (arith, length-reverse seat.exchanges, slice_get_within (reverse seat.exchanges) before.next x m.there) in
     let next = m.next in
@@ -182,26 +160,6 @@ follows_evicted old new line seat f core follows =
 
 some_same : (A : Type 0) (a b : A) → Some a ≡ Some b → a ≡ b
 some_same A a b e = cc
-
--- the exchanges of all
-all_made_set : (seats : List SeatView) (fs : List Follower) (h : ℕ) (seat : SeatView) (f : Follower) → slice_get seats h ≡ Some seat → h < length fs
-    → all_made seats (slice_set fs h f) ≡ slice_set (all_made seats fs) h (made_of seat f)
-all_made_set [] fs h seat f got inside = absurd (cc)
-all_made_set (s ∷ seats) [] h seat f got inside = absurd (omega (arith, inside))
-all_made_set (s ∷ seats) (g ∷ fs) zero seat f got inside =
-    let same : s ≡ seat = cc in ap (λ (y : SeatView). made_of y f ∷ all_made seats fs) same
-all_made_set (s ∷ seats) (g ∷ fs) (suc h) seat f got inside =
-    ap (λ (l : List (List Exchange)). made_of s g ∷ l) (all_made_set seats fs h seat f got (omega (arith, inside)))
-
-all_made_got : (seats : List SeatView) (fs : List Follower) (h : ℕ) (seat : SeatView) (f : Follower) → slice_get seats h ≡ Some seat
-    → slice_get fs h ≡ Some f → slice_get (all_made seats fs) h ≡ Some (made_of seat f)
-all_made_got [] fs h seat f got there = absurd (cc)
-all_made_got (s ∷ seats) [] h seat f got there = absurd (cc)
-all_made_got (s ∷ seats) (g ∷ fs) zero seat f got there =
-    let same : s ≡ seat = cc in
-    let too : g ≡ f = cc in
-    rw (same, too) refl
-all_made_got (s ∷ seats) (g ∷ fs) (suc h) seat f got there = all_made_got seats fs h seat f got there
 
 -- how many steps there are
 pub count_append : (h : ℕ) (xs ys : List Step) → count_of h (xs ++ ys) ≡ count_of h xs + count_of h ys
@@ -252,7 +210,7 @@ exchange_other : (h g n : ℕ) → eqb g h ≡ false → count_of h (replicate n
 exchange_other h g n other =
     count_append h (replicate n (Hart g)) (Hart g ∷ []) ∙ rw (count_other h g n other, count_none h g other) refl
 
-exchange_total : (n h : ℕ) → hart_count (replicate n (Hart h) ++ Hart h ∷ []) ≡ n + 1
+pub exchange_total : (n h : ℕ) → hart_count (replicate n (Hart h) ++ Hart h ∷ []) ≡ n + 1
 exchange_total n h = total_append (replicate n (Hart h)) (Hart h ∷ []) ∙ ap (λ (k : ℕ). k + 1) (total_replicate n h)
 
 steps_set : (lists : List (List Exchange)) (h : ℕ) (x : Exchange) (xs : List Exchange) → slice_get lists h ≡ Some xs
@@ -312,10 +270,10 @@ gathered_evicted history lists steps line a = record {
 
 -- an entry that was made again
 pub asked_followed : (old new : CoreView) (seats : List SeatView) (before after : List Follower) (h : ℕ) (request : Request) (reply : Reply)
-    (steps all : List Step) (seat : SeatView) (f g : Follower) → ArePaired old.harts seats before → h < old.harts
+    (seat : SeatView) (f g : Follower) → ArePaired old.harts seats before → h < old.harts
     → seat ≡ slice_index_or seats h seat → f ≡ slice_index_or before h f → after ≡ slice_set before h g
-    → MakesAgain old new seat f g request reply steps all → IsFollowed old new seats before after (Asked h request reply) steps all
-asked_followed old new seats before after h request reply steps all seat f g paired inside seat_is f_is set m =
+    → MakesAgain old new seat f g request reply → IsFollowed old new seats before after (Asked h request reply)
+asked_followed old new seats before after h request reply seat f g paired inside seat_is f_is set m =
     let count = paired.count in
     let also = paired.paired in
     let in_seats : h < length seats = omega (arith, inside, count) in
@@ -332,33 +290,19 @@ asked_followed old new seats before after h request reply steps all seat f g pai
             let is : seat ≡ s = some_same SeatView seat s (sym got ∙ ap (λ (i : ℕ). slice_get seats i) (sym here) ∙ seat_got) in
             let too : g ≡ e = some_same Follower g e (sym (got_set before h g in_before) ∙ ap (λ (l : List Follower). slice_get l h) (sym set)
             ∙ ap (λ (i : ℕ). slice_get after i) (sym here) ∙ e_got) in
-            rw (← is, ← too) (follows_own old new seat f g request reply steps all m (all_follow h seat f got there))
+            rw (← is, ← too) (follows_own old new seat f g request reply m (all_follow h seat f got there))
         | inr apart ↦
             let was : slice_get before k ≡ Some e = sym (got_else before h k g apart) ∙ ap (λ (l : List Follower). slice_get l k) (sym set) ∙ e_got in
             let differs : s.hart ≢ h = λ same. apart (sym (paired.numbered k s seat_got) ∙ same) in
             follows_passed old new h request reply s e core differs (all_follow k s e seat_got was)
       ];
-      gathered = λ a.
-          let was : slice_get (all_made seats before) h ≡ Some (made_of seat f) = all_made_got seats before h seat f got there in
-          let made = made_more old new seat f g request reply steps all m in
-          let lists : all_made seats after ≡ slice_set (all_made seats before) h (m.first ∷ made_of seat f) =
-          ap (λ (l : List Follower). all_made seats l) set ∙ all_made_set seats before h seat g got in_before
-          ∙ ap (λ (l : List Exchange). slice_set (all_made seats before) h l) made in
-          let added : all ≡ steps ++ (replicate m.first.steps (Hart h) ++ Hart h ∷ []) =
-          m.added ∙ ap (λ (k : ℕ). steps ++ (replicate m.first.steps (Hart k) ++ Hart k ∷ [])) number in
-          let history : new.history ≡ Asked h request reply ∷ old.history = ap (λ (c : CoreView). c.history) core in
-          rw (history, lists, added) (gathered_asked old.history (all_made seats before) steps h request reply m.first (made_of seat f) was a);
     }
 
-pub evicted_followed : (old new : CoreView) (seats : List SeatView) (fs : List Follower) (line : ℕ) (steps all : List Step)
-    → new ≡ record old { shared = new.shared; history = Evicted line ∷ old.history } → all ≡ steps ++ Evict line ∷ []
-    → IsFollowed old new seats fs fs (Evicted line) steps all
-evicted_followed old new seats fs line steps all core added = record {
+pub evicted_followed : (old new : CoreView) (seats : List SeatView) (fs : List Follower) (line : ℕ)
+    → new ≡ record old { shared = new.shared; history = Evicted line ∷ old.history } → IsFollowed old new seats fs fs (Evicted line)
+evicted_followed old new seats fs line core = record {
   core = core;
   follow = λ all_follow k s f got there. follows_evicted old new line s f core (all_follow k s f got there);
-  gathered = λ a.
-      let history : new.history ≡ Evicted line ∷ old.history = ap (λ (c : CoreView). c.history) core in
-      rw (history, added) (gathered_evicted old.history (all_made seats fs) steps line a);
 }
 
 -- an eviction at the end of a schedule

@@ -23,7 +23,6 @@ use Rattle.line_memory.proofs.Accesses.{region_byte}
 use Rattle.machine.proofs.Determined.{needs_once}
 use Rattle.machine.specs.Run.{fetched}
 use Rattle.machine.specs.Stands.{text_bytes}
-use Rattle.schedule.specs.declared.items.Step.{Step}
 use Rattle.shared_memory.specs.Histories.{copied}
 use Rattle.shared_memory.specs.Served.{reply_after, starting_memory}
 use Rattle.shared_memory.specs.declared.history.Entry.{Entry}
@@ -41,7 +40,7 @@ use Rattle.bus.specs.Numbering.{ArePlaced}
 use Rattle.bus.specs.Replays.{CoreView, IsReplay, common_of, replay}
 use Rattle.bus.specs.Seats.{SeatView}
 use Rattle.bus.specs.Together.{RefusesFinish}
-use Rattle.bus.proofs.Following.{Goes, asking_stays}
+use Rattle.bus.proofs.Following.{asking_stays}
 use Rattle.bus.proofs.Gathering.{evicted_here, newest, told_here}
 use Rattle.bus.proofs.Replayed.{entry_is}
 
@@ -261,11 +260,10 @@ parted history i entry inside is =
     ∙ ap (λ (l : List Entry). reverse (drop (i + 1) history) ++ l) (reverse-append (take i history) (entry ∷ []))
 
 pub foreign_at : (core middle : CoreView) (seats : List SeatView) (fs gs : List Follower) (history : List Entry) (i : ℕ) (d : Entry)
-    (steps mids : List Step) → ((h : ℕ) (s : SeatView) → slice_get seats h ≡ Some s → s.hart ≡ h)
-    → i < length history
-    → HaveFollowed core middle seats fs gs (reverse (take i history)) steps mids → CannotFollow middle seats gs (slice_index_or history i d)
+    → ((h : ℕ) (s : SeatView) → slice_get seats h ≡ Some s → s.hart ≡ h) → i < length history
+    → HaveFollowed core middle seats fs gs (reverse (take i history)) → CannotFollow middle seats gs (slice_index_or history i d)
     → AllFollow core seats fs → AreForeign core seats (reverse history)
-foreign_at core middle seats fs gs history i d steps mids numbered inside before cannot all full program lines history_is told each =
+foreign_at core middle seats fs gs history i d numbered inside before cannot all full program lines history_is told each =
     let entry : Entry = slice_index_or history i d in
     let is : entry ≡ slice_index_or history i entry = entry_is history i d inside in
     let seat : SeatView = cannot.seat in
@@ -283,10 +281,9 @@ foreign_at core middle seats fs gs history i d steps mids numbered inside before
     cannot.cannot (each cannot.hart seat cannot.there)
 
 -- a seat whose last steps lead elsewhere doesn't agree
-pub foreign_end : (core new : CoreView) (text : List ℕ) (seats : List SeatView) (fs gs : List Follower) (history : List Entry) (steps all : List Step)
-    → text ≡ core.program.text → HaveFollowed core new seats fs gs history steps all → AllFollow core seats fs → EndsNot text seats gs
-    → AreForeign core seats history
-foreign_end core new text seats fs gs history steps all text_is after all_follow ends full program lines history_is told each =
+pub foreign_end : (core new : CoreView) (seats : List SeatView) (fs gs : List Follower) (history : List Entry)
+    → HaveFollowed core new seats fs gs history → AllFollow core seats fs → EndsNot seats gs → AreForeign core seats history
+foreign_end core new seats fs gs history after all_follow ends full program lines history_is told each =
     let seat : SeatView = ends.seat in
     let f : Follower = ends.follower in
     let follows = after.follow all_follow ends.hart seat f ends.there ends.beside in
@@ -309,7 +306,7 @@ foreign_end core new text seats fs gs history steps all text_is after all_follow
     let alone : GoesAlone (text_bytes f.copy) seat.since f.state seat.state =
     subst (λ (m : HartState). GoesAlone (text_bytes f.copy) seat.since m seat.state) one.1
     (subst (λ (t : Memory). GoesAlone t seat.since a.from seat.state) (sym copies) a.alone) in
-    ends.cannot (a.text ∙ ap (λ (p : Sections). p.text) program ∙ sym text_is) used alone copies
+    ends.cannot used alone copies
 
 -- the texts of two regions are one where their bytes are
 lists_same : (xs ys : List ℕ) → length xs ≡ length ys → ((i : ℕ) → i < length xs → slice_get xs i ≡ slice_get ys i) → xs ≡ ys
@@ -329,26 +326,23 @@ texts_same a b one other same =
     sym (region_byte TEXT_BASE TEXT_SIZE a i inside) ∙ ap (λ (m : Memory). m (TEXT_BASE + i)) same ∙ region_byte TEXT_BASE TEXT_SIZE b i inside)
 
 -- why the last steps can't be made
-pub other_text : (text : List ℕ) (seat : SeatView) (f : Follower) → seat.text ≢ text → CannotEnd text seat f
-other_text text seat f apart loaded used alone copy = apart loaded
+pub other_count : (seat : SeatView) (f : Follower) → f.next ≢ length seat.exchanges → CannotEnd seat f
+other_count seat f apart used alone copy = apart used
 
-pub other_count : (text : List ℕ) (seat : SeatView) (f : Follower) → f.next ≢ length seat.exchanges → CannotEnd text seat f
-other_count text seat f apart loaded used alone copy = apart used
+pub other_steps : (seat : SeatView) (f : Follower) → GoesNot (text_bytes f.copy) seat.since f.state → CannotEnd seat f
+other_steps seat f not used alone copy = not seat.state alone
 
-pub other_steps : (text : List ℕ) (seat : SeatView) (f : Follower) → GoesNot (text_bytes f.copy) seat.since f.state → CannotEnd text seat f
-other_steps text seat f not loaded used alone copy = not seat.state alone
+pub other_state : (seat : SeatView) (f : Follower) (t : HartState) → GoesAlone (text_bytes f.copy) seat.since f.state t → t ≢ seat.state
+    → CannotEnd seat f
+other_state seat f t goes apart used alone copy = apart (goes_once (text_bytes f.copy) seat.since f.state t seat.state goes alone)
 
-pub other_state : (text : List ℕ) (seat : SeatView) (f : Follower) (t : HartState) → GoesAlone (text_bytes f.copy) seat.since f.state t → t ≢ seat.state
-    → CannotEnd text seat f
-other_state text seat f t goes apart loaded used alone copy = apart (goes_once (text_bytes f.copy) seat.since f.state t seat.state goes alone)
+pub other_copy : (seat : SeatView) (f : Follower) → length f.copy ≡ TEXT_SIZE → length seat.copy ≡ TEXT_SIZE → f.copy ≢ seat.copy
+    → CannotEnd seat f
+other_copy seat f one other apart used alone copy = apart (texts_same f.copy seat.copy one other copy)
 
-pub other_copy : (text : List ℕ) (seat : SeatView) (f : Follower) → length f.copy ≡ TEXT_SIZE → length seat.copy ≡ TEXT_SIZE → f.copy ≢ seat.copy
-    → CannotEnd text seat f
-other_copy text seat f one other apart loaded used alone copy = apart (texts_same f.copy seat.copy one other copy)
-
-pub ends_not : (text : List ℕ) (seats : List SeatView) (fs : List Follower) (n : ℕ) (seat : SeatView) (f : Follower) → length fs ≡ length seats
-    → n < length seats → seat ≡ slice_index_or seats n seat → f ≡ slice_index_or fs n f → CannotEnd text seat f → EndsNot text seats fs
-ends_not text seats fs n seat f paired inside seat_is f_is cannot =
+pub ends_not : (seats : List SeatView) (fs : List Follower) (n : ℕ) (seat : SeatView) (f : Follower) → length fs ≡ length seats
+    → n < length seats → seat ≡ slice_index_or seats n seat → f ≡ slice_index_or fs n f → CannotEnd seat f → EndsNot seats fs
+ends_not seats fs n seat f paired inside seat_is f_is cannot =
     let also : n < length fs = omega (arith, inside, paired) in
     record {
       hart = n;
@@ -487,21 +481,15 @@ foreign_middle core fresh seats fs history is all turned replays foreign each =
     are_foreign core fresh seats is.program is.start_is replays
     (subst (λ (l : List Entry). AreForeign fresh seats l) turned (foreign all)) each
 
-pub foreign_last : (core fresh new : CoreView) (seats : List SeatView) (fs gs : List Follower) (history : List Entry) (steps all : List Step)
-    → IsFreshOf core fresh → AllFollow fresh seats fs → reverse history ≡ core.history
-    → IsReplay core.program core.start core.history core.shared → HaveFollowed fresh new seats fs gs (reverse history) steps all
-    → EndsNot core.program.text seats gs → ((h : ℕ) (seat : SeatView) → slice_get seats h ≡ Some seat → Agrees core seat) → ⊥
-foreign_last core fresh new seats fs gs history steps all is follow turned replays after ends each =
+pub foreign_last : (core fresh new : CoreView) (seats : List SeatView) (fs gs : List Follower) (history : List Entry) → IsFreshOf core fresh → AllFollow fresh seats fs → reverse history ≡ core.history
+    → IsReplay core.program core.start core.history core.shared → HaveFollowed fresh new seats fs gs (reverse history)
+    → EndsNot seats gs → ((h : ℕ) (seat : SeatView) → slice_get seats h ≡ Some seat → Agrees core seat) → ⊥
+foreign_last core fresh new seats fs gs history is follow turned replays after ends each =
     are_foreign core fresh seats is.program is.start_is replays
     (subst (λ (l : List Entry). AreForeign fresh seats l) turned
-    (foreign_end fresh new core.program.text seats fs gs (reverse history) steps all (ap (λ (p : Sections). p.text) (sym is.program)) after follow ends))
-    each
+    (foreign_end fresh new seats fs gs (reverse history) after follow ends)) each
 
 -- the faults of the calls
-pub stuck_going : (text : Memory) (n k : ℕ) (s t : HartState) (h : ℕ) (before after : List Step) → n < k → Goes text n s t h before after
-    → ((u : HartState) → StepsAlone text t u → ⊥) → GoesNot text k s
-stuck_going text n k s t h before after less goes stays = stuck text n k s t less goes.alone stays
-
 pub make_no_exchange : (core : CoreView) (seat : SeatView) (f : Follower) (request : Request) (reply : Reply) (fault : FinishFault)
     → IfForeign (IsNotNext seat.exchanges f.next request reply) fault → IfForeign (CannotMake core seat f request reply) fault
 make_no_exchange core seat f request reply fault refused =
@@ -537,24 +525,24 @@ follow_cannot core seats fs entry h request reply seat f fault paired inside sea
     (cannot_follow core seats fs entry h request reply seat f paired inside seat_is f_is asked) refused
 
 pub follow_fails : (core middle : CoreView) (seats : List SeatView) (fs gs : List Follower) (history : List Entry) (i : ℕ) (d : Entry)
-    (steps mids : List Step) (fault : FinishFault) → ((h : ℕ) (s : SeatView) → slice_get seats h ≡ Some s → s.hart ≡ h)
-    → i < length history → HaveFollowed core middle seats fs gs (reverse (take i history)) steps mids
+    (fault : FinishFault) → ((h : ℕ) (s : SeatView) → slice_get seats h ≡ Some s → s.hart ≡ h)
+    → i < length history → HaveFollowed core middle seats fs gs (reverse (take i history))
     → IfForeign (CannotFollow middle seats gs (slice_index_or history i d)) fault
     → IfForeign (AllFollow core seats fs → AreForeign core seats (reverse history)) fault
-follow_fails core middle seats fs gs history i d steps mids fault numbered inside before refused =
+follow_fails core middle seats fs gs history i d fault numbered inside before refused =
     foreign_weaker (CannotFollow middle seats gs (slice_index_or history i d)) (AllFollow core seats fs → AreForeign core seats (reverse history)) fault
-    (foreign_at core middle seats fs gs history i d steps mids numbered inside before) refused
+    (foreign_at core middle seats fs gs history i d numbered inside before) refused
 
-pub end_no_steps : (text : List ℕ) (seat : SeatView) (f : Follower) (fault : FinishFault) → IfForeign (GoesNot (text_bytes f.copy) seat.since f.state) fault
-    → IfForeign (CannotEnd text seat f) fault
-end_no_steps text seat f fault refused =
-    foreign_weaker (GoesNot (text_bytes f.copy) seat.since f.state) (CannotEnd text seat f) fault (other_steps text seat f) refused
+pub end_no_steps : (seat : SeatView) (f : Follower) (fault : FinishFault) → IfForeign (GoesNot (text_bytes f.copy) seat.since f.state) fault
+    → IfForeign (CannotEnd seat f) fault
+end_no_steps seat f fault refused =
+    foreign_weaker (GoesNot (text_bytes f.copy) seat.since f.state) (CannotEnd seat f) fault (other_steps seat f) refused
 
-pub end_fails : (text : List ℕ) (seats : List SeatView) (fs : List Follower) (n : ℕ) (seat : SeatView) (f : Follower) (fault : FinishFault)
+pub end_fails : (seats : List SeatView) (fs : List Follower) (n : ℕ) (seat : SeatView) (f : Follower) (fault : FinishFault)
     → length fs ≡ length seats → n < length seats → seat ≡ slice_index_or seats n seat → f ≡ slice_index_or fs n f
-    → IfForeign (CannotEnd text seat f) fault → IfForeign (EndsNot text seats fs) fault
-end_fails text seats fs n seat f fault paired inside seat_is f_is refused =
-    foreign_weaker (CannotEnd text seat f) (EndsNot text seats fs) fault (ends_not text seats fs n seat f paired inside seat_is f_is) refused
+    → IfForeign (CannotEnd seat f) fault → IfForeign (EndsNot seats fs) fault
+end_fails seats fs n seat f fault paired inside seat_is f_is refused =
+    foreign_weaker (CannotEnd seat f) (EndsNot seats fs) fault (ends_not seats fs n seat f paired inside seat_is f_is) refused
 
 -- no seats agree
 abbrev pub NoneAgree : CoreView → List SeatView → Type 0
@@ -567,13 +555,13 @@ middle_fails core fresh seats fs history fault is all turned replays refused =
     foreign_weaker (AllFollow fresh seats fs → AreForeign fresh seats (reverse history)) (NoneAgree core seats) fault
     (foreign_middle core fresh seats fs history is all turned replays) refused
 
-pub last_fails : (core fresh new : CoreView) (seats : List SeatView) (fs gs : List Follower) (history : List Entry) (steps all : List Step)
+pub last_fails : (core fresh new : CoreView) (seats : List SeatView) (fs gs : List Follower) (history : List Entry)
     (fault : FinishFault) → IsFreshOf core fresh → AllFollow fresh seats fs → reverse history ≡ core.history
-    → IsReplay core.program core.start core.history core.shared → HaveFollowed fresh new seats fs gs (reverse history) steps all
-    → IfForeign (EndsNot core.program.text seats gs) fault → IfForeign (NoneAgree core seats) fault
-last_fails core fresh new seats fs gs history steps all fault is follow turned replays after refused =
-    foreign_weaker (EndsNot core.program.text seats gs) (NoneAgree core seats) fault
-    (foreign_last core fresh new seats fs gs history steps all is follow turned replays after) refused
+    → IsReplay core.program core.start core.history core.shared → HaveFollowed fresh new seats fs gs (reverse history)
+    → IfForeign (EndsNot seats gs) fault → IfForeign (NoneAgree core seats) fault
+last_fails core fresh new seats fs gs history fault is follow turned replays after refused =
+    foreign_weaker (EndsNot seats gs) (NoneAgree core seats) fault
+    (foreign_last core fresh new seats fs gs history is follow turned replays after) refused
 
 pub other_answer : (core : CoreView) (h : ℕ) (request : Request) (reply answer : Reply) → answer ≡ reply_after (common_of core) h request → answer ≢ reply
     → reply ≢ reply_after (common_of core) h request

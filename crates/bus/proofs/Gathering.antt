@@ -88,12 +88,12 @@ evicted_here program lines before line told =
     let c : Common = replay program lines before in
     let all : Evicted line ∷ c.history ≡ Evicted line ∷ before = told in cc
 
-asked_here : (program : Sections) (lines : List (List ℕ)) (before : List Entry) (h : ℕ) (request : Request) (reply : Reply)
+pub asked_here : (program : Sections) (lines : List (List ℕ)) (before : List Entry) (h : ℕ) (request : Request) (reply : Reply)
     → replay program lines (Asked h request reply ∷ before) ≡ asked (replay program lines before) h request
 unfolding replay
 asked_here program lines before h request reply = refl
 
-eviction_here : (program : Sections) (lines : List (List ℕ)) (before : List Entry) (line : ℕ)
+pub eviction_here : (program : Sections) (lines : List (List ℕ)) (before : List Entry) (line : ℕ)
     → replay program lines (Evicted line ∷ before) ≡ with_eviction (replay program lines before) line
 unfolding replay
 eviction_here program lines before line = refl
@@ -165,6 +165,54 @@ parts_before initial harts h before request reply lists states from inside parts
       ];
     }
 
+-- the run up to the newest request, and the exchange that it is
+pub record Latest (program : Sections) (lines : List (List ℕ)) (initial : Memory) (harts : ℕ) (before : List Entry) (h : ℕ) (request : Request)
+    (reply : Reply) (lists : List (List Exchange)) (states : List HartState) : Type 0 where
+  pub first : Exchange
+  pub from : HartState
+  pub after : HartState
+  pub froms : List HartState
+  pub steps : steps_to (slice_index_or lists h []) ≡ first.steps
+  pub asks : first.request ≡ request
+  pub told : first.reply ≡ reply_after (replay program lines before) h first.request
+  pub reply_is : reply ≡ reply_after (replay program lines before) h request
+  pub told_before : (replay program lines before).history ≡ before
+  pub parts : AreParts initial harts before (slice_set lists h (earlier (slice_index_or lists h []))) froms
+  pub there : slice_get froms h ≡ Some from
+  pub exchanges : Exchanges (copied (replay program lines before).initial h (replay program lines before).history) from first after
+  pub back : slice_set froms h after ≡ states
+
+pub latest : (program : Sections) (lines : List (List ℕ)) (initial : Memory) (harts : ℕ) (before : List Entry) (h : ℕ) (request : Request)
+    (reply : Reply) (lists : List (List Exchange)) (states : List HartState) → initial ≡ (replay program lines []).initial
+    → (replay program lines (Asked h request reply ∷ before)).history ≡ Asked h request reply ∷ before → h < harts
+    → AreParts initial harts (Asked h request reply ∷ before) lists states
+    → Latest program lines initial harts before h request reply lists states
+latest program lines initial harts before h request reply lists states first told inside parts =
+    let told_both = told_here program lines before h request reply told in
+    let in_states : h < length states = rw parts.states_of inside in
+    let t : HartState = slice_index_or states h (start h) in
+    let got : slice_get states h ≡ Some t = get_of states h (start h) in_states in
+    let list : List Exchange = slice_index_or lists h [] in
+    let last = newest initial h before request reply list t (parts.part h t got) in
+    let x : Exchange = last.first in
+    let common : Common = replay program lines before in
+    let text : copied initial h before ≡ copied common.initial h common.history = rw (initial_of program lines before, ← first, told_both.1) refl in
+    record {
+      first = x;
+      from = last.from;
+      after = t;
+      froms = slice_set states h last.from;
+      steps = ap steps_to last.list_is;
+      asks = last.asks;
+      told = last.told ∙ told_both.0 ∙ ap (λ (r : Request). reply_after common h r) (sym last.asks);
+      reply_is = told_both.0;
+      told_before = told_both.1;
+      parts = parts_before initial harts h before request reply lists states last.from inside parts last.part;
+      there = got_set states h last.from in_states;
+      exchanges = rw text at last.exchanges;
+      back = set_set states h last.from t ∙ set_got states h t got;
+    }
+
 -- the theorem
 pub gathered_runs : (program : Sections) (lines : List (List ℕ)) (initial : Memory) (harts : ℕ) (history : List Entry) (lists : List (List Exchange))
     (states : List HartState) → initial ≡ (replay program lines []).initial → (replay program lines history).history ≡ history → AreBelow harts history
@@ -181,25 +229,12 @@ gathered_runs program lines initial harts (Evicted line ∷ before) lists states
     rw (eviction_here program lines before line)
     (run_joined (started program lines harts) middle end (gathered before lists) (Evict line ∷ []) runs (end, refl, refl))
 gathered_runs program lines initial harts (Asked h request reply ∷ before) lists states first told below parts =
-    let told_both = told_here program lines before h request reply told in
-    let in_states : h < length states = rw parts.states_of below.0 in
-    let t : HartState = slice_index_or states h (start h) in
-    let got : slice_get states h ≡ Some t = get_of states h (start h) in_states in
-    let list : List Exchange = slice_index_or lists h [] in
-    let last = newest initial h before request reply list t (parts.part h t got) in
-    let x : Exchange = last.first in
-    let others : List (List Exchange) = slice_set lists h (earlier list) in
-    let froms : List HartState = slice_set states h last.from in
-    let was = parts_before initial harts h before request reply lists states last.from below.0 parts last.part in
-    let runs = gathered_runs program lines initial harts before others froms first told_both.1 below.1 was in
+    let last = latest program lines initial harts before h request reply lists states first told below.0 parts in
+    let others : List (List Exchange) = slice_set lists h (earlier (slice_index_or lists h [])) in
     let common : Common = replay program lines before in
-    let middle : Config = record { harts = froms; common = common } in
-    let there : slice_get froms h ≡ Some last.from = got_set states h last.from in_states in
-    let told_x : x.reply ≡ reply_after common h x.request = last.told ∙ told_both.0 ∙ ap (λ (r : Request). reply_after common h r) (sym last.asks) in
-    let text : copied initial h before ≡ copied common.initial h common.history = rw (initial_of program lines before, ← first, told_both.1) refl in
-    let made = exchange_runs middle h last.from t x there told_x (rw text at last.exchanges) in
-    let back : slice_set froms h t ≡ states = set_set states h last.from t ∙ set_got states h t got in
-    let steps : steps_to list ≡ x.steps = ap steps_to last.list_is in
-    rw (asked_here program lines before h request reply, steps)
+    let middle : Config = record { harts = last.froms; common = common } in
+    let runs = gathered_runs program lines initial harts before others last.froms first last.told_before below.1 last.parts in
+    let made = exchange_runs middle h last.from last.after last.first last.there last.told last.exchanges in
+    rw (asked_here program lines before h request reply, last.steps)
     (run_joined (started program lines harts) middle (record { harts = states; common = asked common h request }) (gathered before others)
-    (replicate x.steps (Hart h) ++ Hart h ∷ []) runs (rw (back, last.asks) at made))
+    (replicate last.first.steps (Hart h) ++ Hart h ∷ []) runs (rw (last.back, last.asks) at made))

@@ -1,11 +1,15 @@
 pub mod Agreeing
+pub mod Comparing
 pub mod Counting
 pub mod Crews
+pub mod EventMade
+pub mod EventNumbers
 pub mod Finishing
 pub mod Following
 pub mod Foreign
 pub mod Gathering
 pub mod Joined
+pub mod Leading
 pub mod Numbering
 pub mod Places
 pub mod Recorded
@@ -13,6 +17,7 @@ pub mod Refusing
 pub mod Replayed
 pub mod Replaying
 pub mod Rounds
+pub mod Running
 pub mod SameStart
 pub mod Seating
 pub mod Starting

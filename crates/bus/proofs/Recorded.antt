@@ -1,52 +1,165 @@
 -- What seats have made, recorded.
-use Rattle.std.proofs.Common.{◌≡◌, ◌⊎◌, ◌<◌, ◌^◌, ℕ, List, map, sym, ap, subst, ◌∙◌, inl, inr}
-use Rattle.hart.specs.declared.state.HartState.{HartState}
-use Rattle.machine.proofs.Determined.{runs_once}
+use Rattle.std.proofs.Common.{◌≡◌, ◌⊎◌, ◌<◌, ◌≤◌, ◌+◌, ◌++◌, ◌^◌, ℕ, zero, suc, List, [], ◌∷◌, Some, All, length, map, replicate, slice_get, slice_index_or, slice_set, refl, sym, ap, subst, ◌∙◌, inl, inr, arith}
+use Rattle.std.proofs.lemmas.List.Elements.{All-append, All-replicate}
+use Rattle.line_memory.specs.Memory.{Memory}
 use Rattle.machine.specs.Run.{Config, RunsTo, started}
-use Rattle.recording.specs.Recorded.{RecordedView, Records}
+use Rattle.machine.specs.Stands.{MachineView, Stands, text_bytes}
+use Rattle.recording.specs.Recorded.{AreNumbers, IsAmong, RecordedView, Records}
 use Rattle.schedule.specs.Grammar.{hart_steps}
 use Rattle.schedule.specs.Steps.{all_steps}
 use Rattle.schedule.specs.declared.items.Item.{Item}
 use Rattle.schedule.specs.declared.items.Step.{Step}
+use Rattle.schedule.specs.declared.items.Step.TheVariants.{Hart, Evict}
+use Rattle.shared_memory.specs.declared.history.Entry.{Entry}
+use Rattle.shared_memory.specs.declared.history.Entry.TheVariants.{Asked, Evicted}
+use Rattle.shared_memory.specs.Histories.{copied}
+use Rattle.shared_memory.specs.Served.{starting_memory}
+use Rattle.store_trace.specs.declared.event.Event.{Event}
+use Rattle.bus.specs.declared.exchange.Exchange.{Exchange}
 use Rattle.bus.specs.declared.finish_fault.FinishFault.{FinishFault}
-use Rattle.bus.specs.declared.finish_fault.FinishFault.TheVariants.{SeatMissing, SeatNumber, Foreign, Memory}
+use Rattle.bus.specs.declared.finish_fault.FinishFault.TheVariants.{SeatMissing, SeatNumber, Foreign, Memory as NoMemory}
 use Rattle.bus.specs.Ending.{IsGathered, RefusesGathering}
-use Rattle.bus.specs.Finished.{all_of}
-use Rattle.bus.specs.Following.{AreRecorded, IsCoreOf, IsScheduleOf}
+use Rattle.bus.specs.Finished.{AllAgree, all_of, last_steps}
+use Rattle.bus.specs.Following.{AreRecorded, IsCoreOf}
+use Rattle.bus.specs.Gathered.{earlier, gathered, steps_to}
+use Rattle.bus.specs.Listed.{IsAccountOf, numbered}
 use Rattle.bus.specs.Numbering.{ArePlaced, RefusesNumbers}
-use Rattle.bus.specs.Replays.{AreBelow, CoreView, IsReplay, common_of}
+use Rattle.bus.specs.Replays.{AreBelow, CoreView, IsReplay, LinesBelow, common_of}
 use Rattle.bus.specs.Seats.{SeatView}
 use Rattle.bus.specs.Stepping.{BusView}
-use Rattle.bus.specs.Together.{IsFinished, RefusesFinish, count_of}
-use Rattle.bus.proofs.Finishing.{agreeing_runs}
+use Rattle.bus.specs.Together.{IsFinished, RefusesFinish}
+use Rattle.bus.proofs.Finishing.{agreeing_numbers, agreeing_runs}
+use Rattle.bus.proofs.Places.{there_is}
+use Rattle.bus.proofs.Replaying.{initial_is}
 
-pub are_recorded : (core : CoreView) (seats : List SeatView) (items : List Item) (recorded : RecordedView)
-    → IsReplay core.program core.start core.history core.shared → AreBelow core.harts core.history
-    → IsScheduleOf core seats items → Records (started core.program core.start core.harts) recorded
-    → recorded.start ≡ core.start → recorded.items ≡ items → recorded.capacity ≡ core.capacity → AreRecorded core seats recorded
-are_recorded core seats items recorded is below schedule records start items_are capacity =
+-- each step is there
+gathered_among : (harts lines : ℕ) (history : List Entry) (lists : List (List Exchange)) → AreBelow harts history → LinesBelow lines history
+    → All (IsAmong harts lines) (gathered history lists)
+unfolding gathered
+gathered_among harts lines [] lists below there = λ k d inside. absurd (omega (arith, inside))
+gathered_among harts lines (Evicted line ∷ before) lists below there =
+    All-append (IsAmong harts lines) (gathered before lists) (Evict line ∷ []) (gathered_among harts lines before lists below there.1)
+    (All-replicate (IsAmong harts lines) 1 (Evict line) there.0)
+gathered_among harts lines (Asked h request reply ∷ before) lists below there =
+    let others : List (List Exchange) = slice_set lists h (earlier (slice_index_or lists h [])) in
+    let n : ℕ = steps_to (slice_index_or lists h []) in
+    All-append (IsAmong harts lines) (gathered before others) (replicate n (Hart h) ++ Hart h ∷ [])
+    (gathered_among harts lines before others below.1 there)
+    (All-append (IsAmong harts lines) (replicate n (Hart h)) (Hart h ∷ []) (All-replicate (IsAmong harts lines) n (Hart h) below.0)
+    (All-replicate (IsAmong harts lines) 1 (Hart h) below.0))
+
+last_among : (harts lines h : ℕ) (seats : List SeatView) → h + length seats ≤ harts → All (IsAmong harts lines) (last_steps h seats)
+unfolding last_steps
+last_among harts lines h [] fits = λ k d inside. absurd (omega (arith, inside))
+last_among harts lines h (seat ∷ seats) fits =
+    let inside : h < harts = omega (arith, fits) in
+    All-append (IsAmong harts lines) (replicate seat.since (Hart h)) (last_steps (h + 1) seats)
+    (All-replicate (IsAmong harts lines) seat.since (Hart h) inside)
+    (last_among harts lines (h + 1) seats (omega (arith, fits)))
+
+-- what each hart fetches
+copy_at : (seats : List SeatView) (h : ℕ) (s : SeatView) → slice_get seats h ≡ Some s
+    → slice_index_or (map (λ (seat : SeatView). seat.copy) seats) h [] ≡ s.copy
+copy_at [] h s got = absurd (cc)
+copy_at (x ∷ seats) zero s got =
+    let same : x ≡ s = cc in ap (λ (y : SeatView). y.copy) same
+copy_at (x ∷ seats) (suc h) s got = copy_at seats h s got
+
+states_long : (seats : List SeatView) → length (map (λ (seat : SeatView). seat.state) seats) ≡ length seats
+states_long [] = refl
+states_long (seat ∷ seats) = ap suc (states_long seats)
+
+-- where all have come to
+abbrev end_of : CoreView → List SeatView → Config
+end_of core seats = record { harts = map (λ (seat : SeatView). seat.state) seats; common = common_of core }
+
+abbrev machine_of : CoreView → List SeatView → MachineView
+machine_of core seats = record {
+  harts = map (λ (seat : SeatView). seat.state) seats;
+  copies = map (λ (seat : SeatView). seat.copy) seats;
+  shared = core.shared;
+}
+
+stands_at : (core : CoreView) (seats : List SeatView) → IsReplay core.program core.start core.history core.shared → AllAgree core seats
+    → Stands (machine_of core seats) (end_of core seats)
+stands_at core seats is all = record {
+  harts = refl;
+  shared = is.shows;
+  copies = λ h less.
+      let seat = there_is seats h (omega (arith, less, states_long seats)) in
+      let a = all.each h seat.0 seat.1 in
+      let initial : Memory = starting_memory core.program core.start in
+      ap (λ (bytes : List ℕ). text_bytes bytes) (copy_at seats h seat.0 seat.1) ∙ a.copy
+      ∙ ap (λ (k : ℕ). copied initial k core.history) (all.numbered h seat.0 seat.1)
+      ∙ ap (λ (m : Memory). copied m h core.history) (sym (initial_is core.program core.start core.history))
+      ∙ ap (λ (l : List Entry). copied (common_of core).initial h l) (sym is.told);
+}
+
+-- what is recorded of seats that agree
+abbrev pub recorded_of : CoreView → List SeatView → List Item → List ℕ → RecordedView
+recorded_of core seats items numbers = record {
+  start = core.start;
+  capacity = core.capacity;
+  items = items;
+  trace = core.shared.trace;
+  harts = map (λ (seat : SeatView). seat.state) seats;
+  left = core.shared.cache.lines;
+  steps = numbers;
+}
+
+records_so : (core : CoreView) (seats : List SeatView) (items : List Item) (numbers : List ℕ)
+    → IsReplay core.program core.start core.history core.shared → AreBelow core.harts core.history → LinesBelow (length core.start) core.history
+    → core.shared.cache.cache.capacity ≡ core.capacity → AllAgree core seats → IsAccountOf core seats items numbers
+    → Records (started core.program core.start core.harts) (recorded_of core seats items numbers)
+records_so core seats items numbers is below lines capacity all account =
     let c : Config = started core.program core.start core.harts in
-    let states : List HartState = map (λ (seat : SeatView). seat.state) seats in
-    let end : Config = record { harts = states; common = common_of core } in
-    let runs : RunsTo c (all_of core seats) end = agreeing_runs core seats is below schedule.agree in
-    let steps : all_steps recorded.items ≡ all_of core seats = ap (λ (l : List Item). all_steps l) items_are ∙ schedule.steps in
-    let recorded_runs : RunsTo c (all_of core seats) records.end = subst (λ (l : List Step). RunsTo c l records.end) steps records.runs in
-    let same : records.end ≡ end = runs_once c (all_of core seats) records.end end recorded_runs runs in
+    let steps : all_of core seats ≡ all_steps items = sym account.schedule.steps in
+    let numbered_so = agreeing_numbers core seats is below all in
+    let count = all.count in
+    let size : length (map (λ (seat : SeatView). seat.state) seats) ≡ core.harts = states_long seats ∙ count in
+    let among : All (IsAmong core.harts (length core.start)) (all_of core seats) =
+    All-append (IsAmong core.harts (length core.start)) (gathered core.history (map (λ (seat : SeatView). seat.exchanges) seats)) (last_steps 0 seats)
+    (gathered_among core.harts (length core.start) core.history (map (λ (seat : SeatView). seat.exchanges) seats) below lines)
+    (last_among core.harts (length core.start) 0 seats (omega (arith, count))) in
     record {
-      agree = schedule.agree;
-      start_is = start;
-      capacity = capacity;
-      steps = steps;
-      harts = records.harts ∙ ap (λ (d : Config). d.harts) same;
-      trace = records.trace ∙ ap (λ (d : Config). d.common.trace) same ∙ sym is.shows.trace;
-      made = λ h seat got. ap (λ (l : List Item). count_of h (all_steps l)) items_are ∙ schedule.made h seat got;
-      within = schedule.within;
-      records = records;
+      end = end_of core seats;
+      there = subst (λ (n : ℕ). All (IsAmong n (length core.start)) (all_steps items)) (sym size)
+          (subst (λ (l : List Step). All (IsAmong core.harts (length core.start)) l) steps among);
+      runs = subst (λ (l : List Step). RunsTo c l (end_of core seats)) steps (agreeing_runs core seats is below all);
+      harts = refl;
+      trace = is.shows.trace;
+      numbers = subst (λ (l : List ℕ). AreNumbers c (all_steps items) l) (sym account.numbers_are)
+          (subst (λ (l : List Step). AreNumbers c l (numbered core.history (map (λ (seat : SeatView). seat.exchanges) seats))) steps numbered_so.numbers);
+      left = record { machine = machine_of core seats; stands = stands_at core seats is all; capacity_is = capacity; lines = refl };
     }
 
-pub few_recorded : (recorded : RecordedView) (items : List Item) (core : CoreView) (seats : List SeatView) → recorded.items ≡ items
-    → IsScheduleOf core seats items → hart_steps recorded.items < 2 ^ 32
-few_recorded recorded items core seats same schedule = subst (λ (l : List Item). hart_steps l < 2 ^ 32) (sym same) schedule.few
+-- there is a number for each event
+pub numbers_each : (core : CoreView) (seats : List SeatView) (items : List Item) (numbers : List ℕ) (trace : List Event)
+    → IsReplay core.program core.start core.history core.shared → AreBelow core.harts core.history → AllAgree core seats
+    → IsAccountOf core seats items numbers → trace ≡ core.shared.trace → length numbers ≡ length trace
+numbers_each core seats items numbers trace is below all account same =
+    let n = agreeing_numbers core seats is below all in
+    ap (λ (l : List ℕ). length l) account.numbers_are ∙ n.each ∙ ap (λ (l : List Event). length l) (sym is.shows.trace ∙ sym same)
+
+pub are_recorded : (core : CoreView) (seats : List SeatView) (items : List Item) (numbers : List ℕ) (recorded : RecordedView)
+    → IsReplay core.program core.start core.history core.shared → AreBelow core.harts core.history → LinesBelow (length core.start) core.history
+    → core.shared.cache.cache.capacity ≡ core.capacity → AllAgree core seats → IsAccountOf core seats items numbers
+    → recorded ≡ recorded_of core seats items numbers → AreRecorded core seats recorded
+are_recorded core seats items numbers recorded is below lines capacity all account same = rw same (record {
+  agree = all;
+  start_is = refl;
+  capacity = refl;
+  steps = account.schedule.steps;
+  harts = refl;
+  trace = refl;
+  made = account.schedule.made;
+  within = account.schedule.within;
+  records = records_so core seats items numbers is below lines capacity all account;
+})
+
+pub few_recorded : (core : CoreView) (seats : List SeatView) (items : List Item) (numbers : List ℕ) (recorded : RecordedView)
+    → IsAccountOf core seats items numbers → recorded ≡ recorded_of core seats items numbers → hart_steps recorded.items < 2 ^ 32
+few_recorded core seats items numbers recorded account same = rw same account.schedule.few
 
 pub is_gathered : (core : CoreView) (old new : List SeatView) (recorded : RecordedView) → ArePlaced core.harts old new
     → AreRecorded core new recorded → IsGathered core old recorded
@@ -82,9 +195,9 @@ pub refuses_finish : (harts : ℕ) (seats : List SeatView) (fault : FinishFault)
 refuses_finish harts seats SeatMissing refused = refused
 refuses_finish harts seats SeatNumber refused = refused.1
 refuses_finish harts seats Foreign refused = absurd refused
-refuses_finish harts seats Memory refused = absurd refused
+refuses_finish harts seats NoMemory refused = absurd refused
 
-pub refuses_later : (harts : ℕ) (seats : List SeatView) (fault : FinishFault) → (fault ≡ Memory) ⊎ (fault ≡ Foreign) → RefusesFinish harts seats fault
+pub refuses_later : (harts : ℕ) (seats : List SeatView) (fault : FinishFault) → (fault ≡ NoMemory) ⊎ (fault ≡ Foreign) → RefusesFinish harts seats fault
 refuses_later harts seats fault which = elim which [ inl memory ↦ rw memory tt | inr foreign ↦ rw foreign tt ]
 
 pub refuses_numbers : (core : CoreView) (seats : List SeatView) (fault : FinishFault) → RefusesNumbers core.harts seats fault
@@ -92,4 +205,4 @@ pub refuses_numbers : (core : CoreView) (seats : List SeatView) (fault : FinishF
 refuses_numbers core seats SeatMissing refused = refused
 refuses_numbers core seats SeatNumber refused = refused
 refuses_numbers core seats Foreign refused = absurd refused
-refuses_numbers core seats Memory refused = absurd refused
+refuses_numbers core seats NoMemory refused = absurd refused

@@ -28,7 +28,7 @@ use Rattle.bus.specs.declared.follower.Follower.{Follower}
 use Rattle.bus.specs.Agreeing.{Agrees, IsPart}
 use Rattle.bus.specs.Alone.{GoesAlone}
 use Rattle.bus.specs.Finished.{AllAgree, last_steps}
-use Rattle.bus.specs.Following.{AllFollow, AreGathered, ArePaired, EndsAt, Follows, HaveEnded, HaveFollowed, IsFollowed, IsFreshOf, IsScheduleOf, all_made, follower_at_start, hart_count, made_of, oldest, steps_of_all}
+use Rattle.bus.specs.Following.{AllEnd, AllFollow, AreGathered, ArePaired, EndsAt, Follows, HaveFollowed, IsFollowed, IsFreshOf, IsScheduleOf, follower_at_start, hart_count, made_of, oldest, steps_of_all}
 use Rattle.bus.specs.Gathered.{gathered}
 use Rattle.bus.specs.Replays.{AreBelow, CoreView, IsReplay, replay}
 use Rattle.bus.specs.Seats.{AreCounted, SeatView, steps_in}
@@ -36,7 +36,7 @@ use Rattle.bus.specs.Together.{count_of}
 use Rattle.bus.proofs.Following.{count_append, count_other, count_own, oldest_all, total_append, total_replicate}
 use Rattle.bus.proofs.Places.{there_is}
 
-append_nothing : (xs : List Step) → xs ≡ xs ++ []
+pub append_nothing : (xs : List Step) → xs ≡ xs ++ []
 append_nothing [] = refl
 append_nothing (x ∷ xs) = ap (λ (l : List Step). x ∷ l) (append_nothing xs)
 
@@ -49,20 +49,17 @@ pub entry_is : (xs : List Entry) (i : ℕ) (d : Entry) → i < length xs → sli
 entry_is xs i d less = index_same xs i d (slice_index_or xs i d) less
 
 -- the loop over a history
-pub followed_none : (old : CoreView) (seats : List SeatView) (fs : List Follower) (history : List Entry) (steps : List Step) → old.history ≡ []
-    → HaveFollowed old old seats fs fs (reverse (take 0 history)) steps steps
-followed_none old seats fs history steps none = record {
+pub followed_none : (old : CoreView) (seats : List SeatView) (fs : List Follower) (history : List Entry) → old.history ≡ []
+    → HaveFollowed old old seats fs fs (reverse (take 0 history))
+followed_none old seats fs history none = record {
   core = ap (λ (l : List Entry). record old { shared = old.shared; history = l }) none;
   follow = λ follow. follow;
-  gathered = λ a. a;
 }
 
 pub followed_one : (old middle new : CoreView) (seats : List SeatView) (fs gs hs : List Follower) (history : List Entry) (i : ℕ) (d : Entry)
-    (steps mids all : List Step) → i < length history
-    → HaveFollowed old middle seats fs gs (reverse (take i history)) steps mids
-    → IsFollowed middle new seats gs hs (slice_index_or history i d) mids all
-    → HaveFollowed old new seats fs hs (reverse (take (i + 1) history)) steps all
-followed_one old middle new seats fs gs hs history i d steps mids all inside before one =
+    → i < length history → HaveFollowed old middle seats fs gs (reverse (take i history))
+    → IsFollowed middle new seats gs hs (slice_index_or history i d) → HaveFollowed old new seats fs hs (reverse (take (i + 1) history))
+followed_one old middle new seats fs gs hs history i d inside before one =
     let entry : Entry = slice_index_or history i d in
     let is : entry ≡ slice_index_or history i entry = entry_is history i d inside in
     let more : entry ∷ reverse (take i history) ≡ reverse (take (i + 1) history) =
@@ -72,18 +69,16 @@ followed_one old middle new seats fs gs hs history i d steps mids all inside bef
       core = one.core ∙ ap (λ (c : CoreView). record c { shared = new.shared; history = entry ∷ c.history }) before.core
           ∙ ap (λ (l : List Entry). record old { shared = new.shared; history = l }) more;
       follow = λ follow. one.follow (before.follow follow);
-      gathered = λ a. one.gathered (before.gathered a);
     }
 
-pub followed_all : (old new : CoreView) (seats : List SeatView) (fs gs : List Follower) (history : List Entry) (i : ℕ) (steps all : List Step)
-    → length history ≤ i → HaveFollowed old new seats fs gs (reverse (take i history)) steps all
-    → HaveFollowed old new seats fs gs (reverse history) steps all
-followed_all old new seats fs gs history i steps all whole f =
-    subst (λ (l : List Entry). HaveFollowed old new seats fs gs (reverse l) steps all) (take_all i history whole) f
+pub followed_all : (old new : CoreView) (seats : List SeatView) (fs gs : List Follower) (history : List Entry) (i : ℕ)
+    → length history ≤ i → HaveFollowed old new seats fs gs (reverse (take i history)) → HaveFollowed old new seats fs gs (reverse history)
+followed_all old new seats fs gs history i whole f =
+    subst (λ (l : List Entry). HaveFollowed old new seats fs gs (reverse l)) (take_all i history whole) f
 
-pub paired_still : (old new : CoreView) (seats : List SeatView) (fs gs : List Follower) (history : List Entry) (steps all : List Step)
-    → ArePaired old.harts seats fs → HaveFollowed old new seats fs gs history steps all → length gs ≡ length fs → ArePaired new.harts seats gs
-paired_still old new seats fs gs history steps all p f size = record {
+pub paired_still : (old new : CoreView) (seats : List SeatView) (fs gs : List Follower) (history : List Entry)
+    → ArePaired old.harts seats fs → HaveFollowed old new seats fs gs history → length gs ≡ length fs → ArePaired new.harts seats gs
+paired_still old new seats fs gs history p f size = record {
   count = p.count ∙ sym (ap (λ (c : CoreView). c.harts) f.core);
   paired = size ∙ p.paired;
   numbered = p.numbered;
@@ -100,10 +95,9 @@ below_each n (Evicted line ∷ l) zero e below got =
 below_each n (Asked h request reply ∷ l) (suc k) e below got = below_each n l k e below.1 got
 below_each n (Evicted line ∷ l) (suc k) e below got = below_each n l k e below got
 
-pub below_at : (old new : CoreView) (seats : List SeatView) (fs gs : List Follower) (part : List Entry) (steps all : List Step) (history : List Entry)
-    (i : ℕ) (d : Entry) → i < length history → AreBelow old.harts (reverse history)
-    → HaveFollowed old new seats fs gs part steps all → AreBelow new.harts (slice_index_or history i d ∷ [])
-below_at old new seats fs gs part steps all history i d inside below f =
+pub below_there : (n : ℕ) (history : List Entry) (i : ℕ) (d : Entry) → i < length history → AreBelow n (reverse history)
+    → AreBelow n (slice_index_or history i d ∷ [])
+below_there n history i d inside below =
     let entry : Entry = slice_index_or history i d in
     let is : entry ≡ slice_index_or history i entry = entry_is history i d inside in
     let size = length-reverse history in
@@ -115,7 +109,13 @@ below_at old new seats fs gs part steps all history i d inside below f =
     get_or-reverse history k entry in_history ∙ ap (λ (j : ℕ). slice_index_or history j entry) back ∙ sym is in
     let got : slice_get (reverse history) k ≡ Some entry =
     slice_get-get_or (reverse history) k entry in_reverse ∙ ap (λ (e : Entry). Some e) read in
-    subst (λ (n : ℕ). AreBelow n (entry ∷ [])) (sym (ap (λ (c : CoreView). c.harts) f.core)) (below_each old.harts (reverse history) k entry below got)
+    below_each n (reverse history) k entry below got
+
+pub below_at : (old new : CoreView) (seats : List SeatView) (fs gs : List Follower) (part history : List Entry) (i : ℕ) (d : Entry)
+    → i < length history → AreBelow old.harts (reverse history) → HaveFollowed old new seats fs gs part
+    → AreBelow new.harts (slice_index_or history i d ∷ [])
+below_at old new seats fs gs part history i d inside below f =
+    subst (λ (n : ℕ). AreBelow n (slice_index_or history i d ∷ [])) (sym (ap (λ (c : CoreView). c.harts) f.core)) (below_there old.harts history i d inside below)
 
 -- the last steps
 last_more : (h : ℕ) (xs : List SeatView) (s : SeatView) → last_steps h (xs ++ s ∷ []) ≡ last_steps h xs ++ replicate s.since (Hart (h + length xs))
@@ -129,22 +129,12 @@ last_more h (x ∷ xs) s =
     ∙ sym (append_assoc (replicate x.since (Hart h)) (last_steps (h + 1) xs) (replicate s.since (Hart (h + 1 + length xs))))
     ∙ ap (λ (k : ℕ). (replicate x.since (Hart h) ++ last_steps (h + 1) xs) ++ replicate s.since (Hart k)) place
 
-pub ended_none : (text : List ℕ) (seats : List SeatView) (fs : List Follower) (steps : List Step) → HaveEnded text 0 seats fs steps steps
-unfolding last_steps
-ended_none text seats fs steps = record {
-  each = λ h seat f less got there. absurd (omega (arith, less));
-  added = append_nothing steps;
-}
-
-pub ended_one : (text : List ℕ) (n : ℕ) (seats : List SeatView) (fs : List Follower) (steps mids all : List Step) (seat : SeatView) (f : Follower)
-    → ((h : ℕ) (s : SeatView) → slice_get seats h ≡ Some s → s.hart ≡ h)
-    → length fs ≡ length seats → n < length seats → seat ≡ slice_index_or seats n seat → f ≡ slice_index_or fs n f
-    → HaveEnded text n seats fs steps mids → EndsAt text seat f → all ≡ mids ++ replicate seat.since (Hart seat.hart)
-    → HaveEnded text (n + 1) seats fs steps all
-ended_one text n seats fs steps mids all seat f numbered paired inside seat_is f_is before ends added =
-    let also : n < length fs = omega (arith, inside, paired) in
+pub last_added : (n : ℕ) (seats : List SeatView) (seat : SeatView) (steps mids all : List Step)
+    → ((h : ℕ) (s : SeatView) → slice_get seats h ≡ Some s → s.hart ≡ h) → n < length seats → seat ≡ slice_index_or seats n seat
+    → mids ≡ steps ++ last_steps 0 (take n seats) → all ≡ mids ++ replicate seat.since (Hart seat.hart)
+    → all ≡ steps ++ last_steps 0 (take (n + 1) seats)
+last_added n seats seat steps mids all numbered inside seat_is before added =
     let got : slice_get seats n ≡ Some seat = slice_get_read seats (length seats) n seat refl inside seat_is in
-    let there : slice_get fs n ≡ Some f = slice_get_read fs (length fs) n f refl also f_is in
     let more : take (n + 1) seats ≡ take n seats ++ seat ∷ [] =
     take_more seats n seat inside ∙ ap (λ (s : SeatView). take n seats ++ s ∷ []) (sym seat_is) in
     let size : 0 + length (take n seats) ≡ n = omega (arith, inside, length-take n seats) in
@@ -152,23 +142,31 @@ ended_one text n seats fs steps mids all seat f numbered paired inside seat_is f
     let last : last_steps 0 (take (n + 1) seats) ≡ last_steps 0 (take n seats) ++ replicate seat.since (Hart seat.hart) =
     ap (λ (l : List SeatView). last_steps 0 l) more ∙ last_more 0 (take n seats) seat
     ∙ ap (λ (k : ℕ). last_steps 0 (take n seats) ++ replicate seat.since (Hart k)) place in
-    record {
-      each = λ h s g less s_got g_got. elim (cases_eq h n) [
-        | inl here ↦
-            let one : Some seat ≡ Some s = sym got ∙ ap (λ (i : ℕ). slice_get seats i) (sym here) ∙ s_got in
-            let two : Some f ≡ Some g = sym there ∙ ap (λ (i : ℕ). slice_get fs i) (sym here) ∙ g_got in
-            let is : seat ≡ s = cc in
-            let too : f ≡ g = cc in
-            rw (← is, ← too) ends
-        | inr apart ↦ before.each h s g (omega (arith, less, apart)) s_got g_got
-      ];
-      added = added ∙ ap (λ (l : List Step). l ++ replicate seat.since (Hart seat.hart)) before.added
-          ∙ append_assoc steps (last_steps 0 (take n seats)) (replicate seat.since (Hart seat.hart)) ∙ ap (λ (l : List Step). steps ++ l) (sym last);
-    }
+    added ∙ ap (λ (l : List Step). l ++ replicate seat.since (Hart seat.hart)) before
+    ∙ append_assoc steps (last_steps 0 (take n seats)) (replicate seat.since (Hart seat.hart)) ∙ ap (λ (l : List Step). steps ++ l) (sym last)
 
-pub ended_all : (text : List ℕ) (n : ℕ) (seats : List SeatView) (fs : List Follower) (steps all : List Step) → n ≡ length seats
-    → HaveEnded text n seats fs steps all → HaveEnded text (length seats) seats fs steps all
-ended_all text n seats fs steps all whole h = subst (λ (k : ℕ). HaveEnded text k seats fs steps all) whole h
+pub ended_none : (seats : List SeatView) (fs : List Follower) → AllEnd 0 seats fs
+ended_none seats fs h seat f less got there = absurd (omega (arith, less))
+
+pub ended_one : (n : ℕ) (seats : List SeatView) (fs : List Follower) (seat : SeatView) (f : Follower)
+    → length fs ≡ length seats → n < length seats → seat ≡ slice_index_or seats n seat → f ≡ slice_index_or fs n f
+    → AllEnd n seats fs → EndsAt seat f → AllEnd (n + 1) seats fs
+ended_one n seats fs seat f paired inside seat_is f_is before ends h s g less s_got g_got =
+    let also : n < length fs = omega (arith, inside, paired) in
+    let got : slice_get seats n ≡ Some seat = slice_get_read seats (length seats) n seat refl inside seat_is in
+    let there : slice_get fs n ≡ Some f = slice_get_read fs (length fs) n f refl also f_is in
+    elim (cases_eq h n) [
+      | inl here ↦
+          let one : Some seat ≡ Some s = sym got ∙ ap (λ (i : ℕ). slice_get seats i) (sym here) ∙ s_got in
+          let two : Some f ≡ Some g = sym there ∙ ap (λ (i : ℕ). slice_get fs i) (sym here) ∙ g_got in
+          let is : seat ≡ s = cc in
+          let too : f ≡ g = cc in
+          rw (← is, ← too) ends
+      | inr apart ↦ before h s g (omega (arith, less, apart)) s_got g_got
+    ]
+
+pub ended_all : (n : ℕ) (seats : List SeatView) (fs : List Follower) → n ≡ length seats → AllEnd n seats fs → AllEnd (length seats) seats fs
+ended_all n seats fs whole h = subst (λ (k : ℕ). AllEnd k seats fs) whole h
 
 -- followers at the start
 follower_at : (f : ℕ → Follower) (k n i : ℕ) (g : Follower) → slice_get (map f (range_with_len k n)) i ≡ Some g → g ≡ f (k + i)
@@ -192,7 +190,7 @@ followers_more text n xs ys f before added is =
     added ∙ ap (λ (l : List Follower). l ++ f ∷ []) before ∙ ap (λ (x : Follower). map g (range_with_len 0 n) ++ x ∷ []) last
     ∙ sym (followers_map g 0 n) ∙ ap (λ (k : ℕ). map g (range_with_len 0 k)) count
 
-text_at_start : (core : CoreView) → IsReplay core.program core.start core.history core.shared → core.history ≡ []
+pub text_at_start : (core : CoreView) → IsReplay core.program core.start core.history core.shared → core.history ≡ []
     → text_bytes core.shared.ram.text ≡ text_of (starting_memory core.program core.start)
 unfolding replay
 text_at_start core is none =
@@ -223,47 +221,10 @@ follow_at_start core seats fs is none numbered are h seat f got there =
     } in
     subst (λ (g : Follower). Follows core seat g) (sym place) follows
 
-each_nothing : (xs : List Exchange) (lists : List (List Exchange)) → steps_in xs ≡ 0 → ((h : ℕ) → steps_in (slice_index_or lists h []) ≡ 0)
-    → (h : ℕ) → steps_in (slice_index_or (xs ∷ lists) h []) ≡ 0
-each_nothing xs lists first rest zero = first
-each_nothing xs lists first rest (suc h) = rest h
-
--- nothing was made again
-nothing_made : (seats : List SeatView) (fs : List Follower) → ((h : ℕ) (f : Follower) → slice_get fs h ≡ Some f → f.next ≡ 0)
-    → (steps_of_all (all_made seats fs) ≡ 0) × ((h : ℕ) → steps_in (slice_index_or (all_made seats fs) h []) ≡ 0)
-nothing_made [] fs zeros = (refl, λ h. refl)
-nothing_made (s ∷ seats) [] zeros = (refl, λ h. refl)
-nothing_made (s ∷ seats) (f ∷ fs) zeros =
-    let first : made_of s f ≡ [] = ap (λ (n : ℕ). oldest n s.exchanges) (zeros 0 f refl) in
-    let rest = nothing_made seats fs (λ h g got. zeros (suc h) g got) in
-    let own : steps_in (made_of s f) ≡ 0 = ap steps_in first in
-    let sum = rest.0 in
-    (omega (arith, own, sum), each_nothing (made_of s f) (all_made seats fs) own rest.1)
-
-gathered_at_start : (core : CoreView) (seats : List SeatView) (fs : List Follower) → core.history ≡ []
-    → fs ≡ map (follower_at_start core.shared.ram.text) (range_with_len 0 core.harts) → AreGathered core.history (all_made seats fs) []
-unfolding gathered count_of
-gathered_at_start core seats fs none are =
-    let zeros : (h : ℕ) (f : Follower) → slice_get fs h ≡ Some f → f.next ≡ 0 = λ h f got.
-    ap (λ (g : Follower). g.next) (follower_at (follower_at_start core.shared.ram.text) 0 core.harts h f (rw are at got)) in
-    let nothing = nothing_made seats fs zeros in
-    record { steps_are = rw none refl; made = λ h. sym (nothing.1 h); total = sym nothing.0 }
-
--- where all exchanges were made again, they are the seats' own
-all_made_used : (seats : List SeatView) (fs : List Follower) → length fs ≡ length seats
-    → ((h : ℕ) (s : SeatView) (f : Follower) → slice_get seats h ≡ Some s → slice_get fs h ≡ Some f → f.next ≡ length s.exchanges)
-    → all_made seats fs ≡ map (λ (seat : SeatView). seat.exchanges) seats
-all_made_used [] fs paired used = refl
-all_made_used (s ∷ seats) [] paired used = absurd (omega (arith, paired))
-all_made_used (s ∷ seats) (f ∷ fs) paired used =
-    let first : made_of s f ≡ s.exchanges = oldest_all f.next s.exchanges (used 0 s f refl refl) in
-    ap (λ (l : List Exchange). l ∷ all_made seats fs) first
-    ∙ ap (λ (l : List (List Exchange)). s.exchanges ∷ l) (all_made_used seats fs (omega (arith, paired)) (λ h t g got there. used (suc h) t g got there))
-
 -- a seat agrees whose exchanges were all made again
 agrees_at_end : (core fresh : CoreView) (seat : SeatView) (f : Follower) → fresh.program ≡ core.program → fresh.start ≡ core.start
-    → fresh.history ≡ core.history → Follows fresh seat f → EndsAt core.program.text seat f → Agrees core seat
-agrees_at_end core fresh seat f program lines history follows ends =
+    → fresh.history ≡ core.history → seat.text ≡ core.program.text → Follows fresh seat f → EndsAt seat f → Agrees core seat
+agrees_at_end core fresh seat f program lines history loaded follows ends =
     let was : Memory = starting_memory fresh.program fresh.start in
     let initial : was ≡ starting_memory core.program core.start =
     ap (λ (p : Sections). starting_memory p fresh.start) program ∙ ap (λ (l : List (List ℕ)). starting_memory core.program l) lines in
@@ -277,7 +238,7 @@ agrees_at_end core fresh seat f program lines history follows ends =
     ∙ ap (λ (l : List Entry). copied (starting_memory core.program core.start) seat.hart l) history in
     let alone : GoesAlone (text_bytes seat.copy) seat.since f.state seat.state =
     subst (λ (bytes : List ℕ). GoesAlone (text_bytes bytes) seat.since f.state seat.state) ends.copy ends.alone in
-    record { text = ends.loaded; copy = copy; from = f.state; part = part; alone = alone }
+    record { text = loaded; copy = copy; from = f.state; part = part; alone = alone }
 
 -- how many steps come last
 last_count : (h k : ℕ) (seats : List SeatView) → k < h → count_of k (last_steps h seats) ≡ 0
@@ -328,7 +289,7 @@ all_few h (s ∷ seats) each =
     let last = last_total h s seats in
     omega (arith, first, rest, last)
 
-hart_steps_are : (items : List Item) → hart_steps items ≡ hart_count (all_steps items)
+pub hart_steps_are : (items : List Item) → hart_steps items ≡ hart_count (all_steps items)
 hart_steps_are [] = refl
 hart_steps_are (items_of.Steps hart count ∷ items) =
     let sum = sum_by-cons steps_in_item (items_of.Steps hart count) items in
@@ -356,14 +317,12 @@ list_at (x ∷ seats) zero s got =
 list_at (x ∷ seats) (suc h) s got = list_at seats h s got
 
 -- the schedule of what all seats have made
-pub scheduled : (core : CoreView) (seats : List SeatView) (items : List Item) (middle : List Step) → core.harts ≤ 8 → AllAgree core seats
+pub scheduled : (core : CoreView) (seats : List SeatView) (items : List Item) (middle : List Step) → core.harts ≤ 8 → length seats ≡ core.harts
     → ((h : ℕ) (s : SeatView) → slice_get seats h ≡ Some s → AreCounted s.made s.budget s.since s.exchanges)
     → AreGathered core.history (map (λ (seat : SeatView). seat.exchanges) seats) middle → all_steps items ≡ middle ++ last_steps 0 seats
     → IsScheduleOf core seats items
-scheduled core seats items middle most agree counts made added =
-    let count = agree.count in
+scheduled core seats items middle most count counts made added =
     record {
-      agree = agree;
       steps = added ∙ ap (λ (l : List Step). l ++ last_steps 0 seats) made.steps_are;
       few =
           let items_are = hart_steps_are items in
@@ -384,64 +343,6 @@ scheduled core seats items middle most agree counts made added =
       within = λ h s got. let c = counts h s got in c.within;
     }
 
--- that of harts that were run once more
-pub is_schedule : (core fresh new : CoreView) (seats : List SeatView) (fs gs : List Follower) (items : List Item) (steps middle : List Step)
-    → length seats ≡ core.harts → core.harts ≤ 8 → ((h : ℕ) (s : SeatView) → slice_get seats h ≡ Some s → s.hart ≡ h)
-    → fresh.program ≡ core.program → fresh.start ≡ core.start → fresh.history ≡ [] → fresh.harts ≡ core.harts
-    → IsReplay fresh.program fresh.start fresh.history fresh.shared
-    → fs ≡ map (follower_at_start fresh.shared.ram.text) (range_with_len 0 core.harts) → length gs ≡ length fs → steps ≡ []
-    → HaveFollowed fresh new seats fs gs core.history steps middle
-    → HaveEnded core.program.text (length seats) seats gs middle (all_steps items) → IsScheduleOf core seats items
-is_schedule core fresh new seats fs gs items steps middle count most numbered program lines none same_harts is are size begin f e =
-    let fs_are : fs ≡ map (follower_at_start fresh.shared.ram.text) (range_with_len 0 fresh.harts) =
-    are ∙ ap (λ (n : ℕ). map (follower_at_start fresh.shared.ram.text) (range_with_len 0 n)) (sym same_harts) in
-    let pairs = paired_at_start core.harts fresh.shared.ram.text seats fs count numbered are in
-    let paired : length gs ≡ length seats = size ∙ pairs.paired in
-    let follow : AllFollow new seats gs = f.follow (follow_at_start fresh seats fs is none numbered fs_are) in
-    let began : AreGathered fresh.history (all_made seats fs) steps = rw begin (gathered_at_start fresh seats fs none fs_are) in
-    let made = f.gathered began in
-    let history : new.history ≡ core.history = ap (λ (c : CoreView). c.history) f.core in
-    let same_program : new.program ≡ core.program = ap (λ (c : CoreView). c.program) f.core ∙ program in
-    let same_lines : new.start ≡ core.start = ap (λ (c : CoreView). c.start) f.core ∙ lines in
-    let ends : (h : ℕ) (s : SeatView) (g : Follower) → slice_get seats h ≡ Some s → slice_get gs h ≡ Some g → EndsAt core.program.text s g = λ h s g got there.
-    e.each h s g (slice_get_within seats h s got) got there in
-    let lists : all_made seats gs ≡ map (λ (seat : SeatView). seat.exchanges) seats =
-    all_made_used seats gs paired (λ h s g got there. let x = ends h s g got there in x.used) in
-    let agree : AllAgree core seats = record {
-      count = count;
-      numbered = numbered;
-      each = λ h s got.
-          let inside = slice_get_within seats h s got in
-          let g = there_is gs h (omega (arith, inside, paired)) in
-          agrees_at_end core new s g.0 same_program same_lines history (follow h s g.0 got g.1) (ends h s g.0 got g.1);
-    } in
-    let counts : (h : ℕ) (s : SeatView) → slice_get seats h ≡ Some s → AreCounted s.made s.budget s.since s.exchanges = λ h s got.
-    let inside = slice_get_within seats h s got in
-    let g = there_is gs h (omega (arith, inside, paired)) in
-    let x = ends h s g.0 got g.1 in x.counted in
-    let added : all_steps items ≡ middle ++ last_steps 0 seats =
-    e.added ∙ ap (λ (l : List SeatView). middle ++ last_steps 0 l) (take_all (length seats) seats (omega arith)) in
-    let own : AreGathered core.history (map (λ (seat : SeatView). seat.exchanges) seats) middle =
-    subst (λ (l : List (List Exchange)). AreGathered core.history l middle) lists
-    (subst (λ (l : List Entry). AreGathered l (all_made seats gs) middle) history made) in
-    scheduled core seats items middle most agree counts own added
-
-pub is_fresh_of : (core fresh : CoreView) → fresh.program ≡ core.program → fresh.start ≡ core.start → fresh.harts ≡ core.harts → fresh.history ≡ []
-    → IsReplay fresh.program fresh.start fresh.history fresh.shared → IsFreshOf core fresh
-is_fresh_of core fresh program lines harts none is =
-    record { program = program; start_is = lines; harts = harts; none = none; replay_is = is }
-
-pub ends_at : (text : List ℕ) (seat : SeatView) (f : Follower) (t : HartState) (items : List Exchange) → seat.text ≡ text
-    → reverse items ≡ seat.exchanges → f.next ≡ length items → GoesAlone (text_bytes f.copy) seat.since f.state t → t ≡ seat.state
-    → f.copy ≡ seat.copy → AreCounted seat.made seat.budget seat.since seat.exchanges → EndsAt text seat f
-ends_at text seat f t items loaded turned used alone state copy counted = record {
-  loaded = loaded;
-  used = used ∙ sym (length-reverse items) ∙ ap (λ (l : List Exchange). length l) turned;
-  alone = subst (λ (m : HartState). GoesAlone (text_bytes f.copy) seat.since f.state m) state alone;
-  copy = copy;
-  counted = counted;
-}
-
 -- the start
 fresh_are : (core fresh : CoreView) (fs : List Follower) → IsFreshOf core fresh
     → fs ≡ map (follower_at_start fresh.shared.ram.text) (range_with_len 0 core.harts)
@@ -449,6 +350,42 @@ fresh_are : (core fresh : CoreView) (fs : List Follower) → IsFreshOf core fres
 fresh_are core fresh fs is are =
     are ∙ ap (λ (n : ℕ). map (follower_at_start fresh.shared.ram.text) (range_with_len 0 n)) (sym is.harts)
 
+-- seats agree whose harts were run once more
+pub all_agree : (core fresh new : CoreView) (seats : List SeatView) (fs gs : List Follower) (history : List Entry) → length seats ≡ core.harts
+    → ((h : ℕ) (s : SeatView) → slice_get seats h ≡ Some s → s.hart ≡ h)
+    → ((h : ℕ) (s : SeatView) → slice_get seats h ≡ Some s → s.text ≡ core.program.text) → IsFreshOf core fresh
+    → fs ≡ map (follower_at_start fresh.shared.ram.text) (range_with_len 0 core.harts) → length gs ≡ length fs → reverse history ≡ core.history
+    → HaveFollowed fresh new seats fs gs (reverse history) → AllEnd (length seats) seats gs → AllAgree core seats
+all_agree core fresh new seats fs gs history count numbered loaded is are size turned f ends =
+    let paired : length gs ≡ length seats = size ∙ (paired_at_start core.harts fresh.shared.ram.text seats fs count numbered are).paired in
+    let follow : AllFollow new seats gs =
+    f.follow (follow_at_start fresh seats fs is.replay_is is.none numbered (fresh_are core fresh fs is are)) in
+    let program : new.program ≡ core.program = ap (λ (c : CoreView). c.program) f.core ∙ is.program in
+    let lines : new.start ≡ core.start = ap (λ (c : CoreView). c.start) f.core ∙ is.start_is in
+    let same : new.history ≡ core.history = ap (λ (c : CoreView). c.history) f.core ∙ turned in
+    record {
+      count = count;
+      numbered = numbered;
+      each = λ h s got.
+          let inside = slice_get_within seats h s got in
+          let g = there_is gs h (omega (arith, inside, paired)) in
+          agrees_at_end core new s g.0 program lines same (loaded h s got) (follow h s g.0 got g.1) (ends h s g.0 inside got g.1);
+    }
+
+pub is_fresh_of : (core fresh : CoreView) → fresh.program ≡ core.program → fresh.start ≡ core.start → fresh.harts ≡ core.harts → fresh.history ≡ []
+    → IsReplay fresh.program fresh.start fresh.history fresh.shared → IsFreshOf core fresh
+is_fresh_of core fresh program lines harts none is =
+    record { program = program; start_is = lines; harts = harts; none = none; replay_is = is }
+
+pub ends_at : (seat : SeatView) (f : Follower) (t : HartState) (items : List Exchange) → reverse items ≡ seat.exchanges
+    → f.next ≡ length items → GoesAlone (text_bytes f.copy) seat.since f.state t → t ≡ seat.state → f.copy ≡ seat.copy → EndsAt seat f
+ends_at seat f t items turned used alone state copy = record {
+  used = used ∙ sym (length-reverse items) ∙ ap (λ (l : List Exchange). length l) turned;
+  alone = subst (λ (m : HartState). GoesAlone (text_bytes f.copy) seat.since f.state m) state alone;
+  copy = copy;
+}
+
+-- the beginning
 pub begin_paired : (core fresh : CoreView) (seats : List SeatView) (fs : List Follower) → IsFreshOf core fresh
     → fs ≡ map (follower_at_start fresh.shared.ram.text) (range_with_len 0 core.harts) → length seats ≡ core.harts
     → ((h : ℕ) (s : SeatView) → slice_get seats h ≡ Some s → s.hart ≡ h) → ArePaired fresh.harts seats fs
@@ -465,13 +402,3 @@ pub begin_follow : (core fresh : CoreView) (seats : List SeatView) (fs : List Fo
     → ((h : ℕ) (s : SeatView) → slice_get seats h ≡ Some s → s.hart ≡ h) → AllFollow fresh seats fs
 begin_follow core fresh seats fs is are numbered =
     follow_at_start fresh seats fs is.replay_is is.none numbered (fresh_are core fresh fs is are)
-
-pub schedule_made : (core fresh new : CoreView) (seats : List SeatView) (fs gs : List Follower) (old middle items : List Item) (history : List Entry)
-    → length seats ≡ core.harts → core.harts ≤ 8 → ((h : ℕ) (s : SeatView) → slice_get seats h ≡ Some s → s.hart ≡ h)
-    → IsFreshOf core fresh → fs ≡ map (follower_at_start fresh.shared.ram.text) (range_with_len 0 core.harts) → length gs ≡ length fs
-    → old ≡ [] → reverse history ≡ core.history → HaveFollowed fresh new seats fs gs (reverse history) (all_steps old) (all_steps middle)
-    → HaveEnded core.program.text (length seats) seats gs (all_steps middle) (all_steps items) → IsScheduleOf core seats items
-schedule_made core fresh new seats fs gs old middle items history count most numbered is are size empty turned f e =
-    is_schedule core fresh new seats fs gs items (all_steps old) (all_steps middle) count most numbered is.program is.start_is is.none is.harts
-    is.replay_is are size (ap (λ (l : List Item). all_steps l) empty)
-    (subst (λ (l : List Entry). HaveFollowed fresh new seats fs gs l (all_steps old) (all_steps middle)) turned f) e

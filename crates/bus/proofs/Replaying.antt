@@ -14,7 +14,7 @@ use Rattle.shared_memory.specs.Histories.{replayed, text_of}
 use Rattle.shared_memory.specs.Served.{Common, reply_after, starting_memory}
 use Rattle.shared_memory.specs.SharedView.{Evicts, Serves, SharedView, lines_shown}
 use Rattle.shared_memory.proofs.Shown.{evicted_shows, reply_stands, served_shows}
-use Rattle.bus.specs.Replays.{AreBelow, CoreView, IsReplay, replay}
+use Rattle.bus.specs.Replays.{AreBelow, CoreView, IsReplay, LinesBelow, replay}
 use Rattle.bus.specs.Serving.{Tells}
 
 -- the reply of what is shared is the one that the replay gives
@@ -89,6 +89,15 @@ asked_below harts entries all h request reply few below e = rw (e, reverse_more 
 pub evicted_below : (harts : ℕ) (entries all : List Entry) (line : ℕ)
     → AreBelow harts (reverse entries) → all ≡ entries ++ Evicted line ∷ [] → AreBelow harts (reverse all)
 evicted_below harts entries all line below e = rw (e, reverse_more entries (Evicted line)) below
+
+-- each line that was evicted is one of the medium's
+pub asked_lines : (lines : ℕ) (entries all : List Entry) (h : ℕ) (request : Request) (reply : Reply) → LinesBelow lines (reverse entries)
+    → all ≡ entries ++ Asked h request reply ∷ [] → LinesBelow lines (reverse all)
+asked_lines lines entries all h request reply below e = rw (e, reverse_more entries (Asked h request reply)) below
+
+pub evicted_lines : (lines : ℕ) (entries all : List Entry) (line : ℕ) → line < lines → LinesBelow lines (reverse entries)
+    → all ≡ entries ++ Evicted line ∷ [] → LinesBelow lines (reverse all)
+evicted_lines lines entries all line there below e = rw (e, reverse_more entries (Evicted line)) (there, below)
 
 -- what a core tells, by its fields
 pub tells_is : (program : Sections) (start : List (List ℕ)) (harts capacity : ℕ) (entries all : List Entry) (old new : SharedView) (h : ℕ)

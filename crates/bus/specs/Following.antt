@@ -44,12 +44,6 @@ pub record Follows (core : CoreView) (seat : SeatView) (f : Follower) : Type 0 w
   pub part : IsPart (starting_memory core.program core.start) seat.hart core.history (made_of seat f) f.state
   pub copy : text_bytes f.copy ≡ copied (starting_memory core.program core.start) seat.hart core.history
 
--- those of all seats
-abbrev pub all_made : List SeatView → List Follower → List (List Exchange)
-all_made [] fs = []
-all_made (seat ∷ seats) [] = []
-all_made (seat ∷ seats) (f ∷ fs) = made_of seat f ∷ all_made seats fs
-
 -- a seat for each of so many harts, by its number, and a follower for each seat
 pub record ArePaired (harts : ℕ) (seats : List SeatView) (fs : List Follower) : Type 0 where
   pub count : length seats ≡ harts
@@ -77,9 +71,8 @@ pub record AreGathered (history : List Entry) (lists : List (List Exchange)) (st
   pub made : (h : ℕ) → count_of h steps ≡ steps_in (slice_index_or lists h [])
   pub total : hart_count steps ≡ steps_of_all lists
 
--- a hart makes its seat's next exchange again, which is this request with this reply; the steps of it come after the others
-pub record MakesAgain (old new : CoreView) (seat : SeatView) (before after : Follower) (request : Request) (reply : Reply)
-    (steps all : List Step) : Type 0 where
+-- a hart makes its seat's next exchange again, which is this request with this reply
+pub record MakesAgain (old new : CoreView) (seat : SeatView) (before after : Follower) (request : Request) (reply : Reply) : Type 0 where
   pub first : Exchange
   pub there : slice_get (reverse seat.exchanges) before.next ≡ Some first
   pub asked : first.request ≡ request
@@ -89,42 +82,33 @@ pub record MakesAgain (old new : CoreView) (seat : SeatView) (before after : Fol
   pub core : new ≡ record old { shared = new.shared; history = Asked seat.hart request reply ∷ old.history }
   pub renewed : is_renewing request ≡ true → text_bytes after.copy ≡ text_of (replayed (starting_memory old.program old.start) new.history)
   pub kept : is_renewing request ≡ false → after.copy ≡ before.copy
-  pub added : all ≡ steps ++ (replicate first.steps (Hart seat.hart) ++ Hart seat.hart ∷ [])
 
--- an entry joins the core's history, and its steps the others
-pub record IsFollowed (old new : CoreView) (seats : List SeatView) (before after : List Follower) (entry : Entry)
-    (steps all : List Step) : Type 0 where
+-- an entry joins the core's history
+pub record IsFollowed (old new : CoreView) (seats : List SeatView) (before after : List Follower) (entry : Entry) : Type 0 where
   pub core : new ≡ record old { shared = new.shared; history = entry ∷ old.history }
   pub follow : AllFollow old seats before → AllFollow new seats after
-  pub gathered : AreGathered old.history (all_made seats before) steps → AreGathered new.history (all_made seats after) all
 
--- a whole history, which has its newest entry first, has joined the core's, and its steps the others
-pub record HaveFollowed (old new : CoreView) (seats : List SeatView) (before after : List Follower) (history : List Entry)
-    (steps all : List Step) : Type 0 where
+-- a whole history, which has its newest entry first, has joined the core's
+pub record HaveFollowed (old new : CoreView) (seats : List SeatView) (before after : List Follower) (history : List Entry) : Type 0 where
   pub core : new ≡ record old { shared = new.shared; history = history }
   pub follow : AllFollow old seats before → AllFollow new seats after
-  pub gathered : AreGathered old.history (all_made seats before) steps → AreGathered new.history (all_made seats after) all
 
 -- all of the seat's exchanges were made again, and its last steps lead to the seat's state
-pub record EndsAt (text : List ℕ) (seat : SeatView) (f : Follower) : Type 0 where
-  pub loaded : seat.text ≡ text
+pub record EndsAt (seat : SeatView) (f : Follower) : Type 0 where
   pub used : f.next ≡ length seat.exchanges
   pub alone : GoesAlone (text_bytes f.copy) seat.since f.state seat.state
   pub copy : f.copy ≡ seat.copy
-  pub counted : AreCounted seat.made seat.budget seat.since seat.exchanges
 
--- of the first n seats all exchanges were made again, and their last steps come after the others
-pub record HaveEnded (text : List ℕ) (n : ℕ) (seats : List SeatView) (fs : List Follower) (steps all : List Step) : Type 0 where
-  pub each : (h : ℕ) (seat : SeatView) (f : Follower) → h < n → slice_get seats h ≡ Some seat → slice_get fs h ≡ Some f → EndsAt text seat f
-  pub added : all ≡ steps ++ last_steps 0 (take n seats)
+-- so they were of each of the first n seats
+abbrev pub AllEnd : ℕ → List SeatView → List Follower → Type 0
+AllEnd n seats fs = (h : ℕ) (seat : SeatView) (f : Follower) → h < n → slice_get seats h ≡ Some seat → slice_get fs h ≡ Some f → EndsAt seat f
 
 -- the follower of hart h at the start
 abbrev pub follower_at_start : List ℕ → ℕ → Follower
 follower_at_start copy h = record { next = 0; state = start h; copy = copy }
 
--- each seat agrees with the core and has made no more steps than its budget, and the items are what all of them have made
+-- the items are what all of the seats have made, each of which has made no more steps than its budget
 pub record IsScheduleOf (core : CoreView) (seats : List SeatView) (items : List Item) : Type 0 where
-  pub agree : AllAgree core seats
   pub steps : all_steps items ≡ all_of core seats
   pub few : hart_steps items < 2 ^ 32
   pub made : (h : ℕ) (seat : SeatView) → slice_get seats h ≡ Some seat → count_of h (all_steps items) ≡ seat.made
@@ -178,17 +162,17 @@ AreForeign core seats history = (full : CoreView) → full.program ≡ core.prog
     → ((h : ℕ) (seat : SeatView) → slice_get seats h ≡ Some seat → Agrees full seat) → ⊥
 
 -- the seat's last steps don't lead to the state of its hart, after all of its exchanges
-abbrev pub CannotEnd : List ℕ → SeatView → Follower → Type 0
-CannotEnd text seat f = seat.text ≡ text → f.next ≡ length seat.exchanges → GoesAlone (text_bytes f.copy) seat.since f.state seat.state
+abbrev pub CannotEnd : SeatView → Follower → Type 0
+CannotEnd seat f = f.next ≡ length seat.exchanges → GoesAlone (text_bytes f.copy) seat.since f.state seat.state
     → text_bytes f.copy ≡ text_bytes seat.copy → ⊥
 
-pub record EndsNot (text : List ℕ) (seats : List SeatView) (fs : List Follower) : Type 0 where
+pub record EndsNot (seats : List SeatView) (fs : List Follower) : Type 0 where
   pub hart : ℕ
   pub seat : SeatView
   pub follower : Follower
   pub there : slice_get seats hart ≡ Some seat
   pub beside : slice_get fs hart ≡ Some follower
-  pub cannot : CannotEnd text seat follower
+  pub cannot : CannotEnd seat follower
 
 -- why what seats have made isn't made again: memory was refused, or this holds
 abbrev pub IfForeign : Type 0 → FinishFault → Type 0

@@ -6,10 +6,13 @@ pub mod Ending
 pub mod Finished
 pub mod Following
 pub mod Gathered
+pub mod Leading
 pub mod Limits
+pub mod Listed
 pub mod Numbering
 pub mod Refusals
 pub mod Replays
+pub mod Runs
 pub mod Seating
 pub mod Seats
 pub mod Serving

@@ -42,3 +42,9 @@ abbrev pub AreBelow : ℕ → List Entry → Type 0
 AreBelow harts [] = Unit {0}
 AreBelow harts (Evicted line ∷ before) = AreBelow harts before
 AreBelow harts (Asked h request reply ∷ before) = (h < harts) × AreBelow harts before
+
+-- each line that a history evicted is one of so many
+abbrev pub LinesBelow : ℕ → List Entry → Type 0
+LinesBelow lines [] = Unit {0}
+LinesBelow lines (Evicted line ∷ before) = (line < lines) × LinesBelow lines before
+LinesBelow lines (Asked h request reply ∷ before) = LinesBelow lines before

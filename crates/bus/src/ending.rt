@@ -1,8 +1,6 @@
 //! The end of a run of several harts: what their seats have made is gathered to one run.
 
-ghost use Rattle.std.specs.Prelude.{◌≡◌, ◌^◌, ◌<◌, IfErr, IfOk, List, ℕ, Some, length, slice_get};
-ghost use Rattle.machine.specs.Run.{started};
-ghost use Rattle.recording.specs.Recorded.{Records};
+ghost use Rattle.std.specs.Prelude.{◌≡◌, ◌^◌, ◌<◌, ◌++◌, ◌∷◌, [], IfErr, IfOk, List, ℕ, Some, length, map, slice_get};
 ghost use Rattle.schedule.specs.Grammar.{hart_steps};
 ghost use Rattle.bus.specs.Agreeing.{Agrees};
 ghost use Rattle.bus.specs.Ending.{IsGathered, RefusesGathering};
@@ -12,14 +10,14 @@ ghost use Rattle.bus.specs.Together.{IsFinished, RefusesFinish};
 
 use crate::by_number::place_seats;
 use crate::finish_fault::FinishFault;
+use crate::listing::{account_of, check_leading};
 use crate::locked::Core;
-use crate::made_again::schedule_of;
 use crate::same_start::is_core_of;
 use crate::seat::Seat;
+use hart::HartState;
 use line_memory::Medium;
 use program::Program;
-use recording::{Recorded, record};
-use schedule::Schedule;
+use recording::Recorded;
 use std::alloc::Global;
 
 /// Gathers what the seats of a core have made to one run, in the order of the core's history: each seat's register steps
@@ -34,19 +32,19 @@ pub fn gather(alloc: Global, core: Core<'_>, seats: Vec<Seat<'_>>) -> Result<Rec
     ensures err { IfErr result (RefusesGathering core.entry seats.entry.items) }
 {
     let mut seats = seats;
-    gather_seats(alloc, &core, &mut seats)
+    gather_seats(alloc, core, &mut seats)
 }
 
-/// The same of a core and seats that are lent: the seats are put in order.
+/// The same of seats that are lent: they are put in order.
 #[tactic(auto, using(crate::proofs::Recorded::is_gathered, crate::proofs::Recorded::refuses_numbers, crate::proofs::Foreign::refuses_gathering))]
 fn gather_seats(
     alloc: Global,
-    core: &Core<'_>,
+    core: Core<'_>,
     seats: &mut [Seat<'_>],
 ) -> Result<Recorded, FinishFault>
-    ensures ok { IfOk result (IsGathered core.now seats.old) }
+    ensures ok { IfOk result (IsGathered core.entry seats.old) }
     ensures few { IfOk result (λ recorded. hart_steps recorded.items < 2 ^ 32) }
-    ensures err { IfErr result (RefusesGathering core.now seats.old) }
+    ensures err { IfErr result (RefusesGathering core.entry seats.old) }
 {
     place_seats(core.harts(), seats)?;
     match gather_placed(alloc, core, seats) {
@@ -60,7 +58,7 @@ fn gather_seats(
 #[tactic(auto, using(crate::proofs::Recorded::refuses_finish))]
 pub(crate) fn finish_seats(
     alloc: Global,
-    core: &Core<'_>,
+    core: Core<'_>,
     seats: &mut [Seat<'_>],
     program: &Program,
     start: &Medium,
@@ -77,7 +75,7 @@ pub(crate) fn finish_seats(
     ensures err { IfErr result (RefusesFinish harts seats.old) }
 {
     place_seats(harts, seats)?;
-    if !is_core_of(core, program, start, harts, capacity) {
+    if !is_core_of(&core, program, start, harts, capacity) {
         return Err(FinishFault::Foreign);
     }
     match gather_placed(alloc, core, seats) {
@@ -87,55 +85,47 @@ pub(crate) fn finish_seats(
 }
 
 /// Gathers what seats have made that are in order, one for each hart of the core.
-#[tactic(auto, using(crate::proofs::Recorded::few_recorded, crate::proofs::Foreign::memory_is))]
+#[tactic(auto, using(crate::proofs::Foreign::memory_is))]
 pub(crate) fn gather_placed(
     alloc: Global,
-    core: &Core<'_>,
+    core: Core<'_>,
     seats: &[Seat<'_>],
 ) -> Result<Recorded, FinishFault>
-    requires count { length seats.now ≡ core.now.harts }
+    requires count { length seats.now ≡ core.harts }
     requires numbered { (h : ℕ) (seat : SeatView) → slice_get seats.now h ≡ Some seat → seat.hart ≡ h }
-    ensures ok { IfOk result (AreRecorded core.now seats.now) }
+    ensures ok { IfOk result (AreRecorded core.entry seats.now) }
     ensures few { IfOk result (λ recorded. hart_steps recorded.items < 2 ^ 32) }
-    ensures err { IfErr result (IfForeign (((h : ℕ) (seat : SeatView) → slice_get seats.now h ≡ Some seat → Agrees core.now seat) → ⊥)) }
+    ensures err { IfErr result (IfForeign (((h : ℕ) (seat : SeatView) → slice_get seats.now h ≡ Some seat → Agrees core.entry seat) → ⊥)) }
 {
-    let schedule = schedule_of(alloc, core, seats)?;
+    let account = account_of(alloc, &core, seats)?;
+    check_leading(alloc, &core, seats)?;
+    let states = states_of(alloc, seats)?;
     // What a core shares is the replay of its history, which this ensures.
     let _ = core.history();
-    match record_schedule(alloc, core, &schedule) {
-        Ok(recorded) => Ok(recorded),
-        Err(fault) => Err(fault),
-    }
+    let capacity = core.capacity();
+    let (schedule, numbers) = account;
+    let (start, left, trace) = core.power_cut();
+    Ok(Recorded::of(start, capacity, schedule, trace, states, left, numbers))
 }
 
-/// The run of a schedule from the start of a core.
-fn record_schedule(
-    alloc: Global,
-    core: &Core<'_>,
-    schedule: &Schedule,
-) -> Result<Recorded, FinishFault>
-    requires { hart_steps schedule.now < 2 ^ 32 }
-    ensures records { IfOk result (Records (started core.now.program core.now.start core.now.harts)) }
-    ensures start { IfOk result (λ recorded. recorded.start ≡ core.now.start) }
-    ensures items { IfOk result (λ recorded. recorded.items ≡ schedule.now) }
-    ensures capacity { IfOk result (λ recorded. recorded.capacity ≡ core.now.capacity) }
+/// The states of the harts of seats.
+fn states_of(alloc: Global, seats: &[Seat<'_>]) -> Result<Vec<HartState>, FinishFault>
+    ensures ok { IfOk result (λ states. states.items ≡ map (λ (seat : SeatView). seat.state) seats.now) }
     ensures err { IfErr result (λ fault. fault ≡ FinishFault.Memory) }
 {
-    let Ok(program) = core.program().copy(alloc) else {
-        return Err(FinishFault::Memory);
-    };
-    let Ok(medium) = core.start().copy(alloc) else {
-        return Err(FinishFault::Memory);
-    };
-    match record(
-        alloc,
-        program,
-        medium,
-        core.harts(),
-        core.capacity(),
-        schedule,
-    ) {
-        Ok(recorded) => Ok(recorded),
+    let mut states = Vec::new(alloc);
+    for place in 0..seats.len() {
+        push_state(&mut states, *seats[place].state())?;
+    }
+    Ok(states)
+}
+
+fn push_state(states: &mut Vec<HartState>, state: HartState) -> Result<(), FinishFault>
+    ensures ok { IfOk result (λ _. states.new.items ≡ states.old.items ++ state ∷ []) }
+    ensures err { IfErr result (λ fault. fault ≡ FinishFault.Memory) }
+{
+    match states.push(state) {
+        Ok(()) => Ok(()),
         Err(_) => Err(FinishFault::Memory),
     }
 }

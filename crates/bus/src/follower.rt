@@ -1,13 +1,11 @@
 //! Harts that are run once more.
 
-ghost use Rattle.std.specs.Prelude.{◌≡◌, ◌≢◌, ◌<◌, ◌+◌, ◌++◌, ◌^◌, ◌∷◌, [], IfErr, IfOk, MatchBool, OnOk, Some, replicate, reverse, slice_get};
+ghost use Rattle.std.specs.Prelude.{◌≡◌, ◌≢◌, ◌<◌, ◌+◌, ◌^◌, ◌∷◌, [], IfErr, IfOk, MatchBool, OnOk, Some, reverse, slice_get};
 ghost use Rattle.hart.specs.Needs.{IsSpelledBy};
 ghost use Rattle.hart.specs.Requests.{IsRequest};
 ghost use Rattle.hart.specs.declared.state.HartState.{HartState};
 ghost use Rattle.machine.specs.Run.{fetched};
 ghost use Rattle.machine.specs.Stands.{text_bytes};
-ghost use Rattle.schedule.specs.Steps.{all_steps};
-ghost use Rattle.schedule.specs.declared.items.Step.{Step};
 ghost use Rattle.shared_memory.specs.Histories.{replayed, text_of};
 ghost use Rattle.shared_memory.specs.Served.{reply_after, starting_memory};
 ghost use Rattle.shared_memory.specs.declared.history.Entry.{Entry};
@@ -24,7 +22,6 @@ use crate::seat::Seat;
 use hart::{HartState, Reply, Request, Status, take_reply};
 use isa_table::Instr;
 use machine::TextCopy;
-use schedule::{Item, Schedule};
 use shared_memory::Entry;
 
 /// A hart that is run once more beside its seat.
@@ -48,36 +45,18 @@ fn step_alone(state: &mut HartState, copy: &TextCopy) -> bool
     }
 }
 
-/// Makes so many steps without a request, which join the schedule.
-#[tactic(auto, using(crate::proofs::Following::goes_none, crate::proofs::Following::goes_one, crate::proofs::Foreign::stuck_going, crate::proofs::Foreign::memory_is))]
-pub(crate) fn go_on(
-    state: &mut HartState,
-    copy: &TextCopy,
-    steps: u32,
-    hart: u32,
-    schedule: &mut Schedule,
-) -> Result<(), FinishFault>
+/// Makes so many steps without a request.
+#[tactic(auto, using(crate::proofs::Agreeing::goes_more))]
+pub(crate) fn go_on(state: &mut HartState, copy: &TextCopy, steps: u32) -> Result<(), FinishFault>
     ensures alone { OnOk result (GoesAlone (text_bytes copy.now) steps state.old state.new) }
-    ensures steps { OnOk result (all_steps schedule.new ≡ all_steps schedule.old ++ replicate steps (Step.Hart hart)) }
     ensures err { IfErr result (IfForeign (GoesNot (text_bytes copy.now) steps state.old)) }
 {
     for _done in 0..steps {
         if !step_alone(state, copy) {
             return Err(FinishFault::Foreign);
         }
-        add_step(schedule, hart)?;
     }
     Ok(())
-}
-
-pub(crate) fn add_step(schedule: &mut Schedule, hart: u32) -> Result<(), FinishFault>
-    ensures ok { OnOk result (all_steps schedule.new ≡ all_steps schedule.old ++ Step.Hart hart ∷ []) }
-    ensures err { IfErr result (λ fault. fault ≡ FinishFault.Memory) }
-{
-    match schedule.push_step(hart) {
-        Ok(()) => Ok(()),
-        Err(_) => Err(FinishFault::Memory),
-    }
 }
 
 /// Whether the next step of a hart is a request.
@@ -143,7 +122,7 @@ fn answer_again(
 
 /// The next of a seat's exchanges, which is to be this request with this reply.
 #[tactic(auto, using(crate::proofs::Foreign::none_next, crate::proofs::Foreign::other_request, crate::proofs::Foreign::other_reply))]
-fn next_exchange(
+pub(crate) fn next_exchange(
     seat: &Seat<'_>,
     next: usize,
     request: Request,
@@ -177,25 +156,15 @@ pub(crate) fn make_again(
     follower: &mut Follower,
     request: Request,
     reply: Reply,
-    schedule: &mut Schedule,
 ) -> Result<(), FinishFault>
     requires { seat.now.hart < core.old.harts }
-    ensures ok { OnOk result (MakesAgain core.old core.new seat.now follower.old follower.new request reply
-        (all_steps schedule.old) (all_steps schedule.new)) }
+    ensures ok { OnOk result (MakesAgain core.old core.new seat.now follower.old follower.new request reply) }
     ensures err { IfErr result (IfForeign (CannotMake core.old seat.now follower.old request reply)) }
 {
-    let hart = seat.hart();
     let exchange = next_exchange(seat, follower.next, request, reply)?;
-    go_on(
-        &mut follower.state,
-        &follower.copy,
-        exchange.steps,
-        hart,
-        schedule,
-    )?;
+    go_on(&mut follower.state, &follower.copy, exchange.steps)?;
     let instr = asked(&mut follower.state, &follower.copy, request)?;
-    answer_again(core, hart, request, reply)?;
-    add_step(schedule, hart)?;
+    answer_again(core, seat.hart(), request, reply)?;
     take_reply(&mut follower.state, instr, reply);
     renew_after(&mut follower.copy, request, core.text());
     follower.next += 1;
@@ -208,12 +177,10 @@ pub(crate) fn follow(
     seats: &[Seat<'_>],
     followers: &mut [Follower],
     entry: Entry,
-    schedule: &mut Schedule,
 ) -> Result<(), FinishFault>
     requires paired { ArePaired core.old.harts seats.now followers.old }
     requires below { AreBelow core.old.harts (entry ∷ []) }
-    ensures ok { OnOk result (IsFollowed core.old core.new seats.now followers.old followers.new entry
-        (all_steps schedule.old) (all_steps schedule.new)) }
+    ensures ok { OnOk result (IsFollowed core.old core.new seats.now followers.old followers.new entry) }
     ensures err { IfErr result (IfForeign (CannotFollow core.old seats.now followers.old entry)) }
 {
     match entry {
@@ -223,36 +190,21 @@ pub(crate) fn follow(
             reply,
         } => {
             let place = hart as usize;
-            make_again(
-                core,
-                &seats[place],
-                &mut followers[place],
-                request,
-                reply,
-                schedule,
-            )
+            make_again(core, &seats[place], &mut followers[place], request, reply)
         }
-        Entry::Evicted { line } => follow_eviction(core, line, schedule),
+        Entry::Evicted { line } => follow_eviction(core, line),
     }
 }
 
 /// Evicts a line again.
-#[tactic(auto, using(crate::proofs::Following::one_eviction))]
-fn follow_eviction(
-    core: &mut Core<'_>,
-    line: u32,
-    schedule: &mut Schedule,
-) -> Result<(), FinishFault>
-    ensures ok { OnOk result ((core.new ≡ record core.old {
+fn follow_eviction(core: &mut Core<'_>, line: u32) -> Result<(), FinishFault>
+    ensures ok { OnOk result (core.new ≡ record core.old {
       shared = core.new.shared;
       history = Entry.Evicted line ∷ core.old.history;
-    }) × (all_steps schedule.new ≡ all_steps schedule.old ++ Step.Evict line ∷ [])) }
+    }) }
     ensures err { IfErr result (λ fault. fault ≡ FinishFault.Memory) }
 {
-    if serve_evict(core, line).is_err() {
-        return Err(FinishFault::Memory);
-    }
-    match schedule.push(Item::Evict { line }) {
+    match serve_evict(core, line) {
         Ok(()) => Ok(()),
         Err(_) => Err(FinishFault::Memory),
     }

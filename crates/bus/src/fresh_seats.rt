@@ -13,7 +13,7 @@ use shared_memory::StepFault;
 use std::alloc::Global;
 
 /// A seat for each of so many harts, by its number.
-#[tactic(auto, using(crate::proofs::Counting::counted_start))]
+#[tactic(auto, using(crate::proofs::Counting::counted_start, crate::proofs::Leading::led_start))]
 pub(crate) fn starting_seats<'p>(
     alloc: Global,
     program: &'p Program,
@@ -39,6 +39,7 @@ pub(crate) fn starting_seats<'p>(
             copy,
             exchanges: Vec::new(alloc),
             since: 0,
+            renewed: false,
         };
         push_seat(&mut seats, seat)?;
     }

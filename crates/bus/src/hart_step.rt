@@ -1,6 +1,6 @@
 //! One instruction of a hart, by its copy of the text.
 
-ghost use Rattle.std.specs.Prelude.{◌≡◌, true, false, MatchBool, length};
+ghost use Rattle.std.specs.Prelude.{◌≡◌, ◌||◌, true, false, MatchBool, length};
 ghost use Rattle.hart.specs.Needs.{IsSpelledBy};
 ghost use Rattle.hart.specs.Requests.{IsRequest};
 ghost use Rattle.hart.specs.declared.need.Request.{Request};
@@ -68,4 +68,17 @@ pub(crate) fn renew_after(copy: &mut TextCopy, request: Request, text: &[u8])
     if let Request::FenceI = request {
         copy.renew(text);
     }
+}
+
+/// Whether a hart's copy of the text has been renewed after a request, where it had or hadn't been before.
+pub(crate) fn is_renewed_after(renewed: bool, request: Request) -> bool
+    ensures { result ≡ (renewed || is_renewing request) }
+{
+    renewed || is_fence_i(request)
+}
+
+fn is_fence_i(request: Request) -> bool
+    ensures { result ≡ is_renewing request }
+{
+    matches!(request, Request::FenceI)
 }

@@ -136,7 +136,7 @@ impl<'p> Bus<'p> {
             core,
         } = self;
         let core = core.into_inner();
-        finish_seats(alloc, &core, &mut seats, program, &start, harts, capacity)
+        finish_seats(alloc, core, &mut seats, program, &start, harts, capacity)
     }
 
     /// The medium at the start, and the core, out of the lock.

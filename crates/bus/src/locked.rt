@@ -1,6 +1,6 @@
 //! What the lock guards: all that harts share, with the history of what was done to it.
 
-ghost use Rattle.std.specs.Prelude.{◌≡◌, ◌≢◌, ◌<◌, ◌≤◌, [], IfErr, IfOk, OnErr, OnOk, length, reverse};
+ghost use Rattle.std.specs.Prelude.{◌≡◌, ◌≢◌, ◌<◌, ◌≤◌, [], All, IfErr, IfOk, OnErr, OnOk, length, reverse};
 ghost use Rattle.hart.specs.Requests.{IsRequest};
 ghost use Rattle.line_memory.specs.declared.TheConstants.{TEXT_SIZE};
 ghost use Rattle.machine.specs.Stands.{text_bytes};
@@ -10,7 +10,8 @@ ghost use Rattle.bus.specs.Agreeing.{Agrees};
 ghost use Rattle.bus.specs.Finished.{AllAgree};
 ghost use Rattle.bus.specs.Limits.{AreWithin, RefusesStart};
 ghost use Rattle.bus.specs.Refusals.{RefusesLine, RefusesSeat, RefusesTelling};
-ghost use Rattle.bus.specs.Replays.{AreBelow, IsReplay};
+ghost use Rattle.bus.specs.Replays.{AreBelow, IsReplay, LinesBelow};
+ghost use Rattle.store_trace.specs.TraceView.{NamesLine};
 ghost use Rattle.bus.specs.Seating.{AsksNext};
 ghost use Rattle.bus.specs.Seats.{SeatView};
 ghost use Rattle.bus.specs.Serving.{EvictsLine, IsServed, Tells};
@@ -18,7 +19,7 @@ ghost use Rattle.bus.specs.Starting.{AreAtStart};
 
 use crate::exchange::Exchange;
 use crate::fresh_seats::starting_seats;
-use crate::hart_step::{renew_after, request_of};
+use crate::hart_step::{is_renewed_after, renew_after, request_of};
 use crate::limits::check_start;
 use crate::outcome::{Outcome, outcome_of};
 use crate::room::{add_entry, add_exchange, make_room};
@@ -29,7 +30,7 @@ use program::Program;
 use shared_memory::{Entry, Shared, StepFault};
 use std::alloc::Global;
 use std::marker::Model;
-use store_trace::Event;
+use store_trace::{Event, Trace};
 
 /// What harts share, what it began with, and the history of what was done to it.
 #[derive(Drop)]
@@ -44,8 +45,9 @@ pub struct Core<'p> {
 }
 
 impl<'p> Model for Core<'p> {
-    ghost use Rattle.bus.specs.Replays.{AreBelow, CoreView, IsReplay};
-    ghost use Rattle.std.specs.Prelude.{◌≡◌, ◌≤◌, length, reverse};
+    ghost use Rattle.bus.specs.Replays.{AreBelow, CoreView, IsReplay, LinesBelow};
+    ghost use Rattle.std.specs.Prelude.{◌≡◌, ◌≤◌, All, length, reverse};
+    ghost use Rattle.store_trace.specs.TraceView.{NamesLine};
 
     ghost Value = { CoreView };
 
@@ -60,7 +62,8 @@ impl<'p> Model for Core<'p> {
 
     ghost invariant = { λ c. IsReplay c.program.now c.start (reverse c.history.items) c.shared
         × AreBelow c.harts (reverse c.history.items) × (length c.shared.cache.lines ≡ length c.start)
-        × (c.shared.cache.cache.capacity ≡ c.capacity) × (c.harts ≤ 8) × (length c.shared.trace ≤ 65536) };
+        × (c.shared.cache.cache.capacity ≡ c.capacity) × (c.harts ≤ 8) × (length c.shared.trace ≤ 65536)
+        × LinesBelow (length c.start) (reverse c.history.items) × All (NamesLine (length c.shared.cache.lines)) c.shared.trace };
 }
 
 impl<'p> Core<'p> {
@@ -179,6 +182,21 @@ impl<'p> Core<'p> {
         self.shared.events()
     }
 
+    /// The medium that it began with, what a power cut leaves of the medium, and the events.
+    pub(crate) fn power_cut(self) -> (Medium, Medium, Trace)
+        ensures start { result.0 ≡ self.entry.start }
+        ensures left { result.1 ≡ self.entry.shared.cache.lines }
+        ensures lines { length result.1 ≡ length result.0 }
+        ensures trace { result.2.events ≡ self.entry.shared.trace }
+        ensures named { All (NamesLine (length result.0)) result.2.events }
+        ensures below { LinesBelow (length self.entry.start) self.entry.history }
+        ensures capacity { self.entry.shared.cache.cache.capacity ≡ self.entry.capacity }
+    {
+        let Core { start, shared, .. } = self;
+        let (left, trace) = shared.power_cut();
+        (start, left, trace)
+    }
+
     /// The bytes of the text region, as memory has them.
     pub(crate) fn text(&self) -> &[u8]
         ensures value { result.now ≡ self.now.shared.ram.text }
@@ -188,7 +206,7 @@ impl<'p> Core<'p> {
     }
 
     /// Answers a request of a hart, and adds both to the history.
-    #[tactic(auto, using(crate::proofs::Replaying::asked_kept, crate::proofs::Replaying::asked_below, crate::proofs::Refusing::refuses_telling, crate::proofs::Refusing::telling_for_memory))]
+    #[tactic(auto, using(crate::proofs::Replaying::asked_kept, crate::proofs::Replaying::asked_below, shared_memory::proofs::Naming::served_named, crate::proofs::Refusing::refuses_telling, crate::proofs::Refusing::telling_for_memory))]
     pub(crate) fn ask(&mut self, hart: u32, request: Request) -> Result<Reply, StepFault>
         requires hart { hart < self.old.harts }
         requires width { IsRequest request }
@@ -212,7 +230,7 @@ impl<'p> Core<'p> {
         Ok(reply)
     }
 
-    #[tactic(auto, using(crate::proofs::Replaying::evicted_kept, crate::proofs::Replaying::evicted_below, crate::proofs::Refusing::refuses_line, crate::proofs::Refusing::line_for_memory))]
+    #[tactic(auto, using(crate::proofs::Replaying::evicted_kept, crate::proofs::Replaying::evicted_below, shared_memory::proofs::Naming::evicted_named, crate::proofs::Refusing::refuses_line, crate::proofs::Refusing::line_for_memory))]
     fn evict(&mut self, line: u32) -> Result<(), StepFault>
         ensures ok { OnOk result (EvictsLine self.old self.new line) }
         ensures there { OnOk result (line < length self.old.start) }
@@ -258,6 +276,7 @@ pub fn serve(core: &mut Core<'_>, seat: &mut Seat<'_>) -> Result<Outcome, StepFa
     add_exchange(&mut seat.exchanges, exchange);
     take_reply(&mut seat.state, instr, reply);
     renew_after(&mut seat.copy, request, core.shared.text());
+    seat.renewed = is_renewed_after(seat.renewed, request);
     seat.made += 1;
     seat.since = 0;
     Ok(outcome_of(seat.state.status))

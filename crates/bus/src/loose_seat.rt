@@ -18,11 +18,13 @@ pub(crate) struct LooseSeat {
     copy: TextCopy,
     exchanges: Vec<Exchange>,
     since: u32,
+    renewed: bool,
 }
 
 impl Model for LooseSeat {
+    ghost use Rattle.bus.specs.Leading.{IsLed};
     ghost use Rattle.bus.specs.Seats.{AreCounted, SeatView};
-    ghost use Rattle.std.specs.Prelude.{[], reverse};
+    ghost use Rattle.std.specs.Prelude.{◌≡◌, [], false, reverse};
 
     ghost Value = { SeatView };
 
@@ -37,7 +39,8 @@ impl Model for LooseSeat {
       since = s.since;
     } };
 
-    ghost invariant = { λ s. AreCounted s.made s.budget s.since (reverse s.exchanges.items) };
+    ghost invariant = { λ s. AreCounted s.made s.budget s.since (reverse s.exchanges.items)
+        × (s.renewed ≡ false → IsLed s.hart s.copy (reverse s.exchanges.items) s.since s.state) };
 }
 
 impl LooseSeat {
@@ -62,6 +65,7 @@ impl LooseSeat {
             copy,
             exchanges,
             since,
+            renewed,
         } = seat;
         LooseSeat {
             hart,
@@ -71,6 +75,7 @@ impl LooseSeat {
             copy,
             exchanges,
             since,
+            renewed,
         }
     }
 
@@ -86,6 +91,7 @@ impl LooseSeat {
             copy,
             exchanges,
             since,
+            renewed,
         } = self;
         Seat {
             hart,
@@ -96,6 +102,7 @@ impl LooseSeat {
             copy,
             exchanges,
             since,
+            renewed,
         }
     }
 }

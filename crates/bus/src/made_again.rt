@@ -1,12 +1,11 @@
 //! What seats have made is made again, in the order of a core's history.
 
-ghost use Rattle.std.specs.Prelude.{◌≡◌, ◌≤◌, ◌++◌, ◌∷◌, [], IfErr, IfOk, OnOk, Some, ℕ, length, map, replicate, reverse, slice_get};
+ghost use Rattle.std.specs.Prelude.{◌≡◌, ◌≤◌, ◌++◌, ◌∷◌, [], IfErr, IfOk, OnOk, Some, ℕ, length, map, reverse, slice_get};
 ghost use Rattle.std.specs.List.{range_with_len};
 ghost use Rattle.line_memory.specs.declared.TheConstants.{TEXT_SIZE};
-ghost use Rattle.schedule.specs.Steps.{all_steps};
-ghost use Rattle.schedule.specs.declared.items.Step.{Step};
 ghost use Rattle.bus.specs.Agreeing.{Agrees};
-ghost use Rattle.bus.specs.Following.{AllFollow, AreForeign, ArePaired, CannotEnd, EndsAt, EndsNot, HaveEnded, HaveFollowed, IfForeign, IsFreshOf, IsScheduleOf, follower_at_start};
+ghost use Rattle.bus.specs.Finished.{AllAgree};
+ghost use Rattle.bus.specs.Following.{AllEnd, AllFollow, AreForeign, ArePaired, CannotEnd, EndsAt, EndsNot, HaveFollowed, IfForeign, IsFreshOf, follower_at_start};
 ghost use Rattle.bus.specs.Replays.{AreBelow};
 ghost use Rattle.bus.specs.Seats.{SeatView};
 
@@ -17,13 +16,12 @@ use crate::sameness::{are_same_bytes, is_same_state};
 use crate::seat::Seat;
 use hart::HartState;
 use machine::TextCopy;
-use schedule::Schedule;
 use shared_memory::Entry;
 use std::alloc::Global;
 
 /// A core at the start of another one.
 #[tactic(auto, using(crate::proofs::Replayed::is_fresh_of))]
-fn fresh_core<'p>(alloc: Global, core: &Core<'p>) -> Result<Core<'p>, FinishFault>
+pub(crate) fn fresh_core<'p>(alloc: Global, core: &Core<'p>) -> Result<Core<'p>, FinishFault>
     ensures ok { IfOk result (IsFreshOf core.now) }
     ensures err { IfErr result (λ fault. fault ≡ FinishFault.Memory) }
 {
@@ -94,112 +92,87 @@ fn follow_all(
     seats: &[Seat<'_>],
     followers: &mut [Follower],
     history: &[Entry],
-    schedule: &mut Schedule,
 ) -> Result<(), FinishFault>
     requires paired { ArePaired core.old.harts seats.now followers.old }
     requires below { AreBelow core.old.harts (reverse history.now) }
     requires start { core.old.history ≡ [] }
-    ensures ok { OnOk result (HaveFollowed core.old core.new seats.now followers.old followers.new (reverse history.now)
-        (all_steps schedule.old) (all_steps schedule.new)) }
+    ensures ok { OnOk result (HaveFollowed core.old core.new seats.now followers.old followers.new (reverse history.now)) }
     ensures err { IfErr result (IfForeign (AllFollow core.old seats.now followers.old →
         AreForeign core.old seats.now (reverse history.now))) }
 {
     for entry in history {
-        follow(core, seats, followers, *entry, schedule)?;
+        follow(core, seats, followers, *entry)?;
     }
     Ok(())
 }
 
 /// Makes the steps of a seat since the last of its exchanges again, which lead to the state of its hart.
-#[tactic(auto, using(crate::proofs::Replayed::ends_at, crate::proofs::Foreign::other_text, crate::proofs::Foreign::other_count, crate::proofs::Foreign::end_no_steps, crate::proofs::Foreign::other_state, crate::proofs::Foreign::other_copy))]
-fn end_one(
-    text: &[u8],
-    seat: &Seat<'_>,
-    follower: &Follower,
-    schedule: &mut Schedule,
-) -> Result<(), FinishFault>
-    ensures ends { OnOk result (EndsAt text.now seat.now follower.now) }
-    ensures steps { OnOk result (all_steps schedule.new
-        ≡ all_steps schedule.old ++ replicate seat.now.since (Step.Hart seat.now.hart)) }
-    ensures err { IfErr result (IfForeign (CannotEnd text.now seat.now follower.now)) }
+#[tactic(auto, using(crate::proofs::Replayed::ends_at, crate::proofs::Foreign::other_count, crate::proofs::Foreign::end_no_steps, crate::proofs::Foreign::other_state, crate::proofs::Foreign::other_copy))]
+fn end_one(seat: &Seat<'_>, follower: &Follower) -> Result<(), FinishFault>
+    ensures ends { OnOk result (EndsAt seat.now follower.now) }
+    ensures err { IfErr result (IfForeign (CannotEnd seat.now follower.now)) }
 {
-    if !are_same_bytes(seat.text(), text) {
-        return Err(FinishFault::Foreign);
-    }
     if follower.next != seat.exchanges().len() {
         return Err(FinishFault::Foreign);
     }
     let mut state = follower.state;
-    let since = seat.since();
-    go_on(&mut state, &follower.copy, since, seat.hart(), schedule)?;
+    go_on(&mut state, &follower.copy, seat.since())?;
     if !is_same_state(&state, seat.state()) {
         return Err(FinishFault::Foreign);
     }
     if !are_same_bytes(follower.copy.bytes(), seat.copy()) {
         return Err(FinishFault::Foreign);
     }
-    // It ensures that these are the steps of its exchanges and the ones since.
-    let _ = seat.made();
     Ok(())
 }
 
 /// Makes the last steps of all seats again.
-fn end_all(
-    text: &[u8],
-    seats: &[Seat<'_>],
-    followers: &[Follower],
-    schedule: &mut Schedule,
-) -> Result<(), FinishFault>
-    requires paired { length followers.now ≡ length seats.now }
-    requires numbered { (h : ℕ) (seat : SeatView) → slice_get seats.now h ≡ Some seat → seat.hart ≡ h }
-    ensures ok { OnOk result (HaveEnded text.now (length seats.now) seats.now followers.now (all_steps schedule.old) (all_steps schedule.new)) }
-    ensures err { IfErr result (IfForeign (EndsNot text.now seats.now followers.now)) }
+fn end_all(seats: &[Seat<'_>], followers: &[Follower]) -> Result<(), FinishFault>
+    requires { length followers.now ≡ length seats.now }
+    ensures ok { OnOk result (AllEnd (length seats.now) seats.now followers.now) }
+    ensures err { IfErr result (IfForeign (EndsNot seats.now followers.now)) }
 {
     for place in 0..seats.len() {
-        end_one(text, &seats[place], &followers[place], schedule)?;
+        end_one(&seats[place], &followers[place])?;
     }
     Ok(())
 }
 
-/// Makes all that the seats of a core have made again, by a fresh core and followers at the start.
+/// Makes all that the seats of a core have made again, by a fresh core: they agree where all comes out as before.
+pub(crate) fn make_all_again(
+    alloc: Global,
+    core: &Core<'_>,
+    fresh: &mut Core<'_>,
+    seats: &[Seat<'_>],
+) -> Result<(), FinishFault>
+    requires count { length seats.now ≡ core.now.harts }
+    requires numbered { (h : ℕ) (seat : SeatView) → slice_get seats.now h ≡ Some seat → seat.hart ≡ h }
+    requires loaded { (h : ℕ) (seat : SeatView) → slice_get seats.now h ≡ Some seat → seat.text ≡ core.now.program.text }
+    requires fresh { IsFreshOf core.now fresh.old }
+    ensures ok { OnOk result (AllAgree core.now seats.now) }
+    ensures err { IfErr result (IfForeign (((h : ℕ) (seat : SeatView) → slice_get seats.now h ≡ Some seat → Agrees core.now seat) → ⊥)) }
+{
+    let mut followers = starting_followers(alloc, core.harts(), fresh.text())?;
+    make_steps_again(core, fresh, seats, &mut followers)
+}
+
+/// The same by followers at the start.
 #[tactic(auto, using(crate::proofs::Replayed::begin_paired, crate::proofs::Replayed::begin_below))]
-fn make_all_again(
+fn make_steps_again(
     core: &Core<'_>,
     fresh: &mut Core<'_>,
     seats: &[Seat<'_>],
     followers: &mut [Follower],
-    schedule: &mut Schedule,
 ) -> Result<(), FinishFault>
     requires count { length seats.now ≡ core.now.harts }
     requires numbered { (h : ℕ) (seat : SeatView) → slice_get seats.now h ≡ Some seat → seat.hart ≡ h }
+    requires loaded { (h : ℕ) (seat : SeatView) → slice_get seats.now h ≡ Some seat → seat.text ≡ core.now.program.text }
     requires fresh { IsFreshOf core.now fresh.old }
     requires start { followers.old ≡ map (follower_at_start fresh.old.shared.ram.text) (range_with_len 0 core.now.harts) }
-    requires empty { schedule.old ≡ [] }
-    ensures ok { OnOk result (IsScheduleOf core.now seats.now schedule.new) }
+    ensures ok { OnOk result (AllAgree core.now seats.now) }
     ensures err { IfErr result (IfForeign (((h : ℕ) (seat : SeatView) → slice_get seats.now h ≡ Some seat → Agrees core.now seat) → ⊥)) }
 {
-    // It ensures that there are eight at most.
-    let _ = core.harts();
-    follow_all(fresh, seats, followers, core.history(), schedule)?;
-    end_all(core.program().text_bytes(), seats, followers, schedule)?;
+    follow_all(fresh, seats, followers, core.history())?;
+    end_all(seats, followers)?;
     Ok(())
-}
-
-/// The schedule of what the seats of a core have made, where each of them agrees with it.
-#[tactic(auto, using(crate::proofs::Foreign::memory_is))]
-pub(crate) fn schedule_of(
-    alloc: Global,
-    core: &Core<'_>,
-    seats: &[Seat<'_>],
-) -> Result<Schedule, FinishFault>
-    requires count { length seats.now ≡ core.now.harts }
-    requires numbered { (h : ℕ) (seat : SeatView) → slice_get seats.now h ≡ Some seat → seat.hart ≡ h }
-    ensures ok { IfOk result (IsScheduleOf core.now seats.now) }
-    ensures err { IfErr result (IfForeign (((h : ℕ) (seat : SeatView) → slice_get seats.now h ≡ Some seat → Agrees core.now seat) → ⊥)) }
-{
-    let mut fresh = fresh_core(alloc, core)?;
-    let mut followers = starting_followers(alloc, core.harts(), fresh.text())?;
-    let mut schedule = Schedule::new(alloc);
-    make_all_again(core, &mut fresh, seats, &mut followers, &mut schedule)?;
-    Ok(schedule)
 }

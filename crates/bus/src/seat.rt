@@ -1,8 +1,9 @@
 //! A seat: one hart with its copy of the text, and the list of what it asked.
 
-ghost use Rattle.std.specs.Prelude.{◌≡◌, ◌≤◌, IfNone, IfSome, length, reverse};
+ghost use Rattle.std.specs.Prelude.{◌≡◌, ◌≤◌, IfNone, IfSome, false, length, reverse};
 ghost use Rattle.line_memory.specs.declared.TheConstants.{TEXT_SIZE};
 ghost use Rattle.bus.specs.Agreeing.{Agrees};
+ghost use Rattle.bus.specs.Leading.{IsLed};
 ghost use Rattle.bus.specs.Replays.{CoreView};
 ghost use Rattle.bus.specs.Seating.{AsksNext, IsLocalStep};
 ghost use Rattle.bus.specs.Seats.{AreCounted};
@@ -29,11 +30,14 @@ pub struct Seat<'p> {
     pub(crate) exchanges: Vec<Exchange>,
     /// How many register steps it has made since the last of its exchanges.
     pub(crate) since: u32,
+    /// Whether a FENCE.I has renewed the copy.
+    pub(crate) renewed: bool,
 }
 
 impl<'p> Model for Seat<'p> {
+    ghost use Rattle.bus.specs.Leading.{IsLed};
     ghost use Rattle.bus.specs.Seats.{AreCounted, SeatView};
-    ghost use Rattle.std.specs.Prelude.{reverse};
+    ghost use Rattle.std.specs.Prelude.{◌≡◌, false, reverse};
 
     ghost Value = { SeatView };
 
@@ -48,7 +52,8 @@ impl<'p> Model for Seat<'p> {
       since = s.since;
     } };
 
-    ghost invariant = { λ s. AreCounted s.made s.budget s.since (reverse s.exchanges.items) };
+    ghost invariant = { λ s. AreCounted s.made s.budget s.since (reverse s.exchanges.items)
+        × (s.renewed ≡ false → IsLed s.hart s.copy (reverse s.exchanges.items) s.since s.state) };
 }
 
 impl<'p> Seat<'p> {
@@ -114,9 +119,17 @@ impl<'p> Seat<'p> {
         self.since
     }
 
+    /// Whether a FENCE.I has renewed its hart's copy of the text. Where none has, its exchanges and the steps since lead its hart
+    /// by that text from the start to where it is.
+    pub(crate) fn is_renewed(&self) -> bool
+        ensures { result ≡ false → IsLed self.now.hart self.now.copy self.now.exchanges self.now.since self.now.state }
+    {
+        self.renewed
+    }
+
     /// Makes the next step where it needs no request, without lock or memory. None says that the next step is a request, and
     /// then nothing has changed.
-    #[tactic(auto, using(crate::proofs::Agreeing::local_agrees, crate::proofs::Counting::since_fits, crate::proofs::Counting::counted_step))]
+    #[tactic(auto, using(crate::proofs::Agreeing::local_agrees, crate::proofs::Counting::since_fits, crate::proofs::Counting::counted_step, crate::proofs::Leading::led_step_if))]
     pub fn step_local(&mut self) -> Option<Outcome>
         ensures none { IfNone result ((self.new ≡ self.old) × AsksNext self.old) }
         ensures some { IfSome result (IsLocalStep self.old self.new) }

@@ -1,7 +1,8 @@
 //! What seats that took turns are gathered to.
 
-use crate::programs::{COUNT_ONCE, FIRST_RUN, start_of};
+use crate::programs::{COUNT_ONCE, FIRST_RUN, REWRITTEN, start_of};
 use bus::{Bus, FinishFault, Seat, StepFault};
+use hart::Status;
 use isa_table::Reg;
 use recording::Recorded;
 use std::alloc::Global;
@@ -58,6 +59,23 @@ fn gathers_counts<R: Wait>(rt: &R, alloc: Global) -> Option<bool> {
 #[test]
 fn seats_share_the_bus(rt: HostRuntime) {
     assert!(rt; gathers_counts(&rt, rt.alloc()) == Some(true));
+}
+
+/// Seat 0 of two harts writes a word over its program and has it fetched by a FENCE.I in ten steps; then seat 1 makes two.
+fn gathers_a_renewed_text<R: Wait>(rt: &R, alloc: Global) -> Option<bool> {
+    let (program, medium) = start_of(alloc, &REWRITTEN)?;
+    let (bus, mut seats) = Bus::new(alloc, &program, medium, 2, 512, 500_000_000).ok()?;
+    let is_made = make_steps(rt, &bus, &mut seats, 0, 10) && make_steps(rt, &bus, &mut seats, 1, 2);
+    let recorded = bus.finish(alloc, seats).ok()?;
+    let is_so = is_made
+        && is_schedule(alloc, &recorded, "h0*10 h1*2")
+        && is_recorded(&recorded, 0, &[0x1001c, 0x1001c]);
+    Some(is_so && recorded.harts().first()?.status == Status::Exited(2))
+}
+
+#[test]
+fn a_renewed_text_is_gathered(rt: HostRuntime) {
+    assert!(rt; gathers_a_renewed_text(&rt, rt.alloc()) == Some(true));
 }
 
 /// The first doubleword of the medium that a run leaves, where it is gathered in the order in which two harts stored around

@@ -40,7 +40,7 @@ made_kept c steps more i n m = record {
   event = m.event;
 }
 
-numbers_kept : (c : Config) (steps more : List Step) (numbers : List ℕ) → AreNumbers c steps numbers → AreNumbers c (steps ++ more) numbers
+pub numbers_kept : (c : Config) (steps more : List Step) (numbers : List ℕ) → AreNumbers c steps numbers → AreNumbers c (steps ++ more) numbers
 numbers_kept c steps more numbers all i n got = made_kept c steps more i n (all i n got)
 
 -- one number more
@@ -53,7 +53,7 @@ pushed_get (y ∷ xs) x (suc i) n e = elim (pushed_get xs x i n e) [
   | inr last ↦ inr (ap (λ (k : ℕ). suc k) last.0, last.1)
 ]
 
-numbers_pushed : (c : Config) (steps : List Step) (numbers : List ℕ) (number : ℕ) → AreNumbers c steps numbers
+pub numbers_pushed : (c : Config) (steps : List Step) (numbers : List ℕ) (number : ℕ) → AreNumbers c steps numbers
     → IsMadeBy c steps (length numbers) number → AreNumbers c steps (numbers ++ number ∷ [])
 numbers_pushed c steps numbers number all made i n got = elim (pushed_get numbers number i n got) [
   | inl before ↦ all i n before

@@ -44,6 +44,43 @@ impl Model for Recorded {
 }
 
 impl Recorded {
+    /// What is kept of a run that began with `start` and went by `schedule`: its trace, the harts' states at its end, what a
+    /// power cut there leaves, and for each event the number of hart steps through its own.
+    pub fn of(
+        start: Medium,
+        capacity: u32,
+        schedule: Schedule,
+        trace: Trace,
+        harts: Vec<HartState>,
+        left: Medium,
+        steps: Vec<u32>,
+    ) -> Recorded
+        requires each { length steps.items ≡ length trace.events }
+        requires named { All (NamesLine (length start)) trace.events }
+        requires lines { length left ≡ length start }
+        ensures { result ≡ record {
+          start = start;
+          capacity = capacity;
+          items = schedule;
+          trace = trace.events;
+          harts = harts.items;
+          left = left;
+          steps = steps.items;
+        } }
+    {
+        // It ensures that there are no more events than a trace may have.
+        let _ = trace.events();
+        Recorded {
+            start,
+            capacity,
+            schedule,
+            trace,
+            harts,
+            left,
+            steps,
+        }
+    }
+
     /// The medium at the start.
     pub fn start(&self) -> &Medium
         ensures value { result.now ≡ self.now.start }

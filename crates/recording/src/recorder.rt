@@ -156,15 +156,7 @@ impl Recorder {
         } = self;
         let (harts, schedule) = copies_of(alloc, &machine, schedule)?;
         let (left, trace) = machine.power_cut();
-        Ok(Recorded {
-            start,
-            capacity,
-            schedule,
-            trace,
-            harts,
-            left,
-            steps: numbers,
-        })
+        Ok(Recorded::of(start, capacity, schedule, trace, harts, left, numbers))
     }
 }
 

@@ -4,7 +4,7 @@ use Rattle.bus.proofs.ending.finish_seats.Goals as goal
 
 pub returns-in-Ok-clause-ok : goal.returns-in-Ok-clause-ok
 returns-in-Ok-clause-ok c =
-    is_finished _ c.args.core.now c.args.seats.now c.place_seats.new.seats c.in-Ok.recorded (c.is_core_of.ensures c.if-not-is_core_of.false)
+    is_finished _ c.args.core c.args.seats.now c.place_seats.new.seats c.in-Ok.recorded (c.is_core_of.ensures c.if-not-is_core_of.false)
     c.in_ok-place_seats.ensures.ok c.in-Ok.ensures.ok
 
 pub returns-in-Err-clause-err : goal.returns-in-Err-clause-err

@@ -2,7 +2,6 @@ use Rattle.std.proofs.Common.{◌≡◌, List, ap, refl, slice_index_or}
 use Rattle.std.proofs.lemmas.Result.{IfErr-weaker, on_ok_weaker}
 use Rattle.bus.specs.declared.finish_fault.FinishFault.TheVariants.{Memory as NoMemory}
 use Rattle.bus.specs.declared.follower.Follower.{Follower}
-use Rattle.schedule.specs.Steps.{all_steps}
 use Rattle.bus.specs.Following.{CannotFollow, CannotMake, IfForeign}
 use Rattle.bus.proofs.Following.{asked_followed, evicted_followed}
 use Rattle.bus.proofs.Foreign.{follow_cannot, memory_is}
@@ -15,7 +14,7 @@ returns-in-Asked-clause-ok c =
     let f : Follower = slice_index_or fs c.in-Asked.hart c.index-followers-place.result in
     rw c.in-Asked.is (on_ok_weaker c.make_again.result
     (λ m. asked_followed c.args.core.now c.make_again.new.core c.args.seats.now fs _ c.in-Asked.hart c.in-Asked.request c.in-Asked.reply
-    (all_steps c.args.schedule.now) (all_steps c.make_again.new.schedule) c.index-seats-place.result f c.make_again.new.follower c.requires.paired
+    c.index-seats-place.result f c.make_again.new.follower c.requires.paired
     below.0 c.index-seats-place.is (ap (λ (x : Follower). slice_index_or fs c.in-Asked.hart x) c.index-followers-place.is) refl m)
     c.make_again.ensures.ok)
 
@@ -34,7 +33,7 @@ returns-in-Asked-clause-err c =
 pub returns-in-Evicted-clause-ok : goal.returns-in-Evicted-clause-ok
 returns-in-Evicted-clause-ok c =
     rw c.in-Evicted.is (on_ok_weaker c.follow_eviction.result
-    (λ m. evicted_followed c.args.core.now c.follow_eviction.new.core c.args.seats.now c.args.followers.now c.in-Evicted.line _ _ m.0 m.1)
+    (λ m. evicted_followed c.args.core.now c.follow_eviction.new.core c.args.seats.now c.args.followers.now c.in-Evicted.line m)
     c.follow_eviction.ensures.ok)
 
 pub returns-in-Evicted-clause-err : goal.returns-in-Evicted-clause-err

@@ -1,6 +1,7 @@
 use Rattle.std.proofs.Common.{◌<◌, ◌∙◌, sym, subst, arith}
 use Rattle.bus.specs.Replays.{CoreView}
-use Rattle.bus.proofs.Replaying.{asked_below, asked_kept, renews_is, tells_is}
+use Rattle.shared_memory.proofs.Naming.{served_named}
+use Rattle.bus.proofs.Replaying.{asked_below, asked_kept, asked_lines, renews_is, tells_is}
 use Rattle.bus.proofs.locked.Core.ask.Goals as goal
 
 pub returns-clause-ok : goal.returns-clause-ok
@@ -30,4 +31,6 @@ invariant_of-self-2 c =
       serves.steps.sizes.capacity ∙ i.3,
       i.4,
       c.request.ensures.limit,
+      asked_lines _ c.self.inside.history.items c.add_entry.new.history.items c.args.hart c.args.request c.in_ok-reply.reply i.6 added,
+      served_named c.self.inside.shared c.request.new.self c.args.hart c.args.request c.in_ok-reply.reply c.requires.width serves i.7,
     )

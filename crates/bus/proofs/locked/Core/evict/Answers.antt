@@ -1,5 +1,6 @@
 use Rattle.std.proofs.Common.{◌∙◌}
-use Rattle.bus.proofs.Replaying.{evicted_below, evicted_kept}
+use Rattle.shared_memory.proofs.Naming.{evicted_named}
+use Rattle.bus.proofs.Replaying.{evicted_below, evicted_kept, evicted_lines}
 use Rattle.bus.proofs.locked.Core.evict.Goals as goal
 
 pub invariant_of-self-2 : goal.invariant_of-self-2
@@ -13,4 +14,6 @@ invariant_of-self-2 c =
       evicts.steps.sizes.capacity ∙ i.3,
       i.4,
       c.evict.ensures.limit,
+      evicted_lines _ c.self.inside.history.items c.add_entry.new.history.items c.args.line (rw i.2 at c.in_ok-evict.ensures.there) i.6 added,
+      evicted_named c.self.inside.shared c.evict.new.self c.args.line evicts i.7,
     )

@@ -1,0 +1,6 @@
+use Rattle.std.proofs.Common.{◌≡◌, ℕ, ◌<◌, Some, slice_get}
+use Rattle.bus.specs.Seats.{SeatView}
+use Rattle.bus.proofs.listing.have_copies.Given as goal
+
+abbrev pub invariant-loop-place : goal.invariant-loop-place
+invariant-loop-place l = (h : ℕ) (seat : SeatView) → h < l.place → slice_get l.seats h ≡ Some seat → seat.copy ≡ l.copy
