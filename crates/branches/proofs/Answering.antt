@@ -1,10 +1,9 @@
 -- What recovery came to at entries of the queue: what it was while others are taken in, and at entries side by side.
-use Rattle.std.proofs.Common.{◌≡◌, ◌⊎◌, inl, inr, ℕ, zero, suc, ◌+◌, ◌≤◌, ◌<◌, List, [], ◌∷◌, ◌++◌, Option, length, take, drop, get_or, refl, sym, ap, subst, ◌∙◌, arith, append_assoc}
+use Rattle.std.proofs.Common.{◌≡◌, ℕ, zero, suc, ◌+◌, ◌≤◌, ◌<◌, List, [], ◌∷◌, ◌++◌, Option, length, take, drop, get_or, refl, sym, ap, subst, ◌∙◌, arith, append_assoc}
 use Rattle.std.proofs.lemmas.List.{get_or_append_left, get_or-append-add, length-append}
 use Rattle.std.specs.List.{All, AllZip}
 use Rattle.std.specs.Prelude.{IfOk, Ok, Result}
-use Rattle.branches.specs.Branches.{IsAdaptive, IsWithin}
-use Rattle.branches.specs.Pieces.{AreAnswers, AreCuts, AreRuns, IsAnswer, IsPiece, all_branching}
+use Rattle.branches.specs.Pieces.{AreAnswers, IsPiece, all_branching}
 use Rattle.branches.specs.Queue.{branching, cut_at, entry, entry_at, IsTree}
 use Rattle.branches.specs.declared.pieces.Piece.{Piece}
 use Rattle.branches.specs.declared.queue.Entry.{Entry}

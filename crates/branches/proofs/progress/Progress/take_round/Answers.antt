@@ -1,5 +1,4 @@
 use Rattle.std.proofs.Common.{rules, ◌≡◌, ◌∙◌, ◌++◌, ◌∷◌, [], refl, append-nil, append_assoc, ap, sym, arith}
-use Rattle.std.specs.Prelude.{Ok}
 use Rattle.branches.proofs.Answering.{longer_still, piece_now}
 use Rattle.branches.proofs.progress.Progress.take_round.Goals as goal
 
