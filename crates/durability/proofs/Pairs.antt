@@ -1,6 +1,6 @@
 -- An End ends the last Begin of its operation by its hart that no End has ended.
-use Rattle.std.proofs.Common.{◌≡◌, ℕ, zero, suc, ◌+◌, ◌-◌, ◌<◌, ◌≤◌, ◌==◌, ◌&&◌, ◌⊎◌, true, false, inl, inr, List, [], ◌∷◌, Option, Some, None, length, take, drop, refl, sym, ap, subst, ◌∙◌, arith}
-use Rattle.std.specs.Prelude.{◌↔◌, reverse, slice_get}
+use Rattle.std.proofs.Common.{◌≡◌, ℕ, zero, suc, ◌+◌, ◌-◌, ◌<◌, ◌≤◌, ◌==◌, ◌&&◌, ◌⊎◌, false, inl, inr, List, [], ◌∷◌, Some, None, length, take, drop, refl, sym, ap, subst, ◌∙◌, arith}
+use Rattle.std.specs.Prelude.{reverse, slice_get}
 use Rattle.std.proofs.lemmas.Bool.{cases_Bool}
 use Rattle.std.proofs.lemmas.Bool.Decides.{nat_tests}
 use Rattle.std.proofs.lemmas.List.{length-reverse, length-take-le}
@@ -11,7 +11,7 @@ use Rattle.durability.proofs.Floors.{here_at, no_event}
 use Rattle.durability.proofs.Lates.{last_or_before}
 use Rattle.durability.proofs.Marks.{open_more, same_event}
 use Rattle.durability.specs.Numbered.{event_at}
-use Rattle.durability.specs.Operations.{IsEndOf, IsEndOfLast, IsLast, IsOpenBegin, open_at, open_begins}
+use Rattle.durability.specs.Operations.{IsEndOf, IsEndOfLast, IsOpenBegin, open_at, open_begins}
 
 abbrev In : ℕ → List ℕ → Type 0
 In b [] = ⊥
