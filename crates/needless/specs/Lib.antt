@@ -1,0 +1,4 @@
+pub mod Found
+pub mod Needless
+pub mod Reasons
+pub mod Words
