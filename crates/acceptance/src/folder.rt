@@ -28,6 +28,14 @@ impl Folder {
         self.files.insert(0, (name, bytes))?;
         Ok(())
     }
+
+    /// Puts texts into files of these names.
+    fn put_all(&mut self, files: &[(&str, &str)]) -> Result<(), AllocError> {
+        for (name, text) in files {
+            self.put(name, text.as_bytes())?;
+        }
+        Ok(())
+    }
 }
 
 impl Files for Folder {
@@ -51,9 +59,7 @@ impl Files for Folder {
 /// A folder of the files of the examples.
 pub(crate) fn folder_of_examples(alloc: Global) -> Result<Folder, AllocError> {
     let mut folder = Folder::new(alloc);
-    for (name, text) in FILES {
-        folder.put(name, text.as_bytes())?;
-    }
+    folder.put_all(&FILES)?;
     folder.put("filled", &filled_volume(alloc)?)?;
     Ok(folder)
 }

@@ -27,8 +27,12 @@ mod screen;
 #[cfg(test)]
 mod streams;
 #[cfg(test)]
+mod tracing;
+#[cfg(test)]
 mod transcripts;
 #[cfg(test)]
 mod tutorial;
 #[cfg(test)]
 mod upgrading;
+#[cfg(test)]
+mod wholes;

@@ -193,8 +193,28 @@ const FAR_TAIL: &str =
 /// Begins operation 7, ends it, and begins it again.
 const TWICE: &str = "li a7, 2001\nli a0, 7\necall\nli a7, 2002\necall\nli a7, 2001\necall\n";
 
+/// One store between the marks of an operation.
+const SMALL: &str =
+    "lui t1, 0x40004\nli t2, 1\nli a7, 2001\nli a0, 1\necall\nadd t0, t1, t2\nadd t0, t0, t2\nli a7, 2002\n\
+    sd t2, 0(t1)\ncbo.clean (t1)\nfence w, w\necall\n";
+
+/// Stores of several widths, a conditional store that is made and one that isn't, and an addition in memory.
+const WIDTHS: &str =
+    "# widths\nli t0, 0x12345678\nhere:\nli t1, -1\nsb t0, 1(a1)\nsw t0, 4(a1)\n\nlr.d t2, (a1)\n\
+    sc.d t3, t1, (a1)\nsc.d t3, t1, (a1)\namoadd.w t4, t0, (a1)\ncbo.flush (a1)\naddi t5, a1, 100\ncbo.inval (t5)\n\
+    fence r, r\nfence rw, rw\n";
+
+/// Writes its last instruction again behind it, and goes on there.
+const SPOT: &str = "la t0, spot\nlw t1, 0(t0)\nsw t1, 4(t0)\nfence.i\nspot: sd t1, 0(a1)\n";
+
+/// Hart 0 makes a call that there isn't, and hart 1 exits with its number.
+const ENDS: &str = "beqz a0, .+12\nli a7, 93\necall\nnop\nli a7, 5\necall\n";
+
+/// Begins operations 3 and 2, and ends neither.
+const MARKS: &str = "li a7, 2001\nli a0, 3\necall\nli a0, 2\necall\nli a7, 93\nli a0, 0\necall\n";
+
 /// Each file's name and text.
-pub(crate) const FILES: [(&str, &str); 69] = [
+pub(crate) static FILES: [(&str, &str); 80] = [
     ("first.s", FIRST),
     ("misaligned.s", MISALIGNED),
     ("empty.s", ""),
@@ -224,6 +244,11 @@ pub(crate) const FILES: [(&str, &str); 69] = [
     ("copy.s", COPY),
     ("copy-unlinked.s", COPY_UNLINKED),
     ("twice.s", TWICE),
+    ("small.s", SMALL),
+    ("widths.s", WIDTHS),
+    ("spot.s", SPOT),
+    ("ends.s", ENDS),
+    ("marks.s", MARKS),
     ("thirty-one.s", THIRTY_ONE),
     ("thirty-two.s", THIRTY_TWO),
     ("unlinked.s", UNLINKED),
@@ -276,6 +301,12 @@ pub(crate) const FILES: [(&str, &str); 69] = [
     ("eight.schedule", "h0*8\n"),
     ("nine.schedule", "h0*3 h0\nh0*5"),
     ("thirteen.schedule", "h0*13\n"),
+    ("two.schedule", "h0*2\n"),
+    ("five.schedule", "h0*5\n"),
+    ("seven.schedule", "h0*7\n"),
+    ("twelve.schedule", "h0*12\n"),
+    ("widths.schedule", "h1*14 h0*5\n"),
+    ("ends.schedule", "h0*9 h1*9\n"),
     ("nothing.schedule", "\n"),
     ("beyond.schedule", "h0*3 e512\n"),
     ("zero.schedule", "h0*0"),

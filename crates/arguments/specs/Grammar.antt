@@ -2,11 +2,11 @@
 use Rattle.std.specs.Prelude.{◌≡◌, Bool, List, [], ◌∷◌, ◌++◌, Some, codes, map, true, false}
 use Rattle.clap.specs.Words.{App, Rule, Shape, Text, app_of, new_rule}
 use Rattle.clap.specs.Simple.{new_shape}
-use Rattle.clap.specs.declared.builder.action.ArgAction.TheVariants.{Help}
+use Rattle.clap.specs.declared.builder.action.ArgAction.TheVariants.{Help, SetTrue}
 use Rattle.clap.specs.declared.builder.command.Command.{Command}
 use Rattle.clap.specs.declared.builder.command.Command.TheViews.{out-Command}
 use Rattle.arguments.specs.declared.grammar.Argument.{Argument}
-use Rattle.arguments.specs.declared.grammar.Argument.TheVariants.{Word, Optional, Valued}
+use Rattle.arguments.specs.declared.grammar.Argument.TheVariants.{Word, Optional, Valued, Flag}
 use Rattle.arguments.specs.declared.grammar.Subcommand.{Subcommand}
 
 -- `--help`, with no short form
@@ -24,6 +24,10 @@ optional_word name = new_rule name
 -- `--name VALUE`, which may be left out
 abbrev pub valued_option : Text → Rule
 valued_option name = record (new_rule name) { long = Some name; value_names = 1 }
+
+-- `--name`, which may be left out
+abbrev pub flag_option : Text → Rule
+flag_option name = record (new_rule name) { long = Some name; action = Some SetTrue }
 
 -- `asm SOURCE OBJECT`
 unfoldable pub assemble_shape : Shape
@@ -67,25 +71,34 @@ debug_shape = record (new_shape (codes "debug")) {
       ∷ valued_option (codes "capacity") ∷ help_option ∷ [];
 }
 
--- `images PROGRAM SCHEDULE MOMENT [--medium FILE --harts N]`
+-- `trace PROGRAM SCHEDULE [--medium FILE --harts N --whole]`
+unfoldable pub trace_shape : Shape
+trace_shape = record (new_shape (codes "trace")) {
+  rules = needed_word (codes "PROGRAM") ∷ needed_word (codes "SCHEDULE") ∷ valued_option (codes "medium")
+      ∷ valued_option (codes "harts") ∷ flag_option (codes "whole") ∷ help_option ∷ [];
+}
+
+-- `images PROGRAM SCHEDULE MOMENT [--medium FILE --harts N --whole]`
 unfoldable pub images_shape : Shape
 images_shape = record (new_shape (codes "images")) {
   rules = needed_word (codes "PROGRAM") ∷ needed_word (codes "SCHEDULE") ∷ needed_word (codes "MOMENT")
-      ∷ valued_option (codes "medium") ∷ valued_option (codes "harts") ∷ help_option ∷ [];
+      ∷ valued_option (codes "medium") ∷ valued_option (codes "harts") ∷ flag_option (codes "whole") ∷ help_option ∷ [];
 }
 
--- `explain PROGRAM SCHEDULE MOMENT IMAGE [--medium FILE --harts N]`
+-- `explain PROGRAM SCHEDULE MOMENT IMAGE [--medium FILE --harts N --whole]`
 unfoldable pub explain_shape : Shape
 explain_shape = record (new_shape (codes "explain")) {
   rules = needed_word (codes "PROGRAM") ∷ needed_word (codes "SCHEDULE") ∷ needed_word (codes "MOMENT")
-      ∷ needed_word (codes "IMAGE") ∷ valued_option (codes "medium") ∷ valued_option (codes "harts") ∷ help_option ∷ [];
+      ∷ needed_word (codes "IMAGE") ∷ valued_option (codes "medium") ∷ valued_option (codes "harts")
+      ∷ flag_option (codes "whole") ∷ help_option ∷ [];
 }
 
--- `check PLAN PROGRAM SCHEDULE [--medium FILE --harts N --workers N]`
+-- `check PLAN PROGRAM SCHEDULE [--medium FILE --harts N --workers N --whole]`
 unfoldable pub check_shape : Shape
 check_shape = record (new_shape (codes "check")) {
   rules = needed_word (codes "PLAN") ∷ needed_word (codes "PROGRAM") ∷ needed_word (codes "SCHEDULE")
-      ∷ valued_option (codes "medium") ∷ valued_option (codes "harts") ∷ valued_option (codes "workers") ∷ help_option ∷ [];
+      ∷ valued_option (codes "medium") ∷ valued_option (codes "harts") ∷ valued_option (codes "workers")
+      ∷ flag_option (codes "whole") ∷ help_option ∷ [];
 }
 
 -- `code [CODE]`
@@ -117,13 +130,14 @@ line shapes = record { top = record bare { is_leaf = is_none shapes }; subs = sh
 -- the whole line
 abbrev pub novacrash : App
 novacrash = line (assemble_shape ∷ make_volume_shape ∷ upgrade_shape ∷ run_shape ∷ replay_shape ∷ debug_shape
-    ∷ images_shape ∷ explain_shape ∷ check_shape ∷ code_shape ∷ [])
+    ∷ trace_shape ∷ images_shape ∷ explain_shape ∷ check_shape ∷ code_shape ∷ [])
 
 -- the rule of an argument of the table
 abbrev pub rule : Argument → Rule
 rule (Word name about) = needed_word name.now
 rule (Optional name about) = optional_word name.now
 rule (Valued name value about) = valued_option name.now
+rule (Flag name about) = flag_option name.now
 
 -- the shape of a subcommand with these arguments alone
 abbrev pub shape_with : Text → List Argument → Shape

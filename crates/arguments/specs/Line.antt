@@ -6,12 +6,12 @@ use Rattle.clap.specs.declared.error.ErrorKind.{ErrorKind}
 use Rattle.clap.specs.declared.error.ErrorKind.TheVariants as kinds
 use Rattle.image_name.specs.Texts.{IsProper}
 use Rattle.arguments.specs.Grammar.{novacrash}
-use Rattle.arguments.specs.Values.{IsCapacity, IsCodeWord, IsHarts, IsImageWord, IsNumberWord, IsOptional, IsSteps, IsWord, IsWorkers}
+use Rattle.arguments.specs.Values.{IsCapacity, IsCodeWord, IsHarts, IsImageWord, IsNumberWord, IsOptional, IsSteps, IsWord, IsWorkers, is_set}
 use Rattle.arguments.specs.declared.asked.AssembleCommand.{AssembleCommand}
 use Rattle.arguments.specs.declared.asked.CheckCommand.{CheckCommand}
 use Rattle.arguments.specs.declared.asked.CodeCommand.{CodeCommand}
 use Rattle.arguments.specs.declared.asked.Command.{Command}
-use Rattle.arguments.specs.declared.asked.Command.TheVariants.{Assemble, Check, Code, Debug, Explain, Images, MakeVolume, Replay, Run, Upgrade}
+use Rattle.arguments.specs.declared.asked.Command.TheVariants.{Assemble, Check, Code, Debug, Explain, Images, MakeVolume, Replay, Run, Trace, Upgrade}
 use Rattle.arguments.specs.declared.asked.DebugCommand.{DebugCommand}
 use Rattle.arguments.specs.declared.asked.ExplainCommand.{ExplainCommand}
 use Rattle.arguments.specs.declared.asked.ImagesCommand.{ImagesCommand}
@@ -21,6 +21,7 @@ use Rattle.arguments.specs.declared.asked.MachineOptions.{MachineOptions}
 use Rattle.arguments.specs.declared.asked.MakeVolumeCommand.{MakeVolumeCommand}
 use Rattle.arguments.specs.declared.asked.ReplayCommand.{ReplayCommand}
 use Rattle.arguments.specs.declared.asked.RunCommand.{RunCommand}
+use Rattle.arguments.specs.declared.asked.ScheduledRun.{ScheduledRun}
 use Rattle.arguments.specs.declared.asked.UpgradeCommand.{UpgradeCommand}
 
 -- the machine of a command that has no option of a capacity
@@ -74,27 +75,28 @@ pub record IsDebug (rows : List Row) (command : DebugCommand) : Type 0 where
   pub program : IsWord (codes "PROGRAM") rows command.program
   pub machine : IsCachedMachine rows command.machine
 
--- `images` with these files, this moment and these options
-pub record IsImages (rows : List Row) (command : ImagesCommand) : Type 0 where
-  pub program : IsWord (codes "PROGRAM") rows command.program
-  pub schedule : IsWord (codes "SCHEDULE") rows command.schedule
-  pub moment : IsNumberWord (first_of (codes "MOMENT") rows) command.moment
-  pub machine : IsWholeMachine rows command.machine
+-- a run of this program by this schedule with these options
+pub record IsScheduledRun (rows : List Row) (run : ScheduledRun) : Type 0 where
+  pub program : IsWord (codes "PROGRAM") rows run.program
+  pub schedule : IsWord (codes "SCHEDULE") rows run.schedule
+  pub machine : IsWholeMachine rows run.machine
+  pub whole : run.whole ≡ is_set (first_of (codes "whole") rows)
 
--- `explain` with these files, this moment and image, and these options
+-- `images` of this moment of this run
+pub record IsImages (rows : List Row) (command : ImagesCommand) : Type 0 where
+  pub run : IsScheduledRun rows command.run
+  pub moment : IsNumberWord (first_of (codes "MOMENT") rows) command.moment
+
+-- `explain` of this image of this moment of this run
 pub record IsExplain (rows : List Row) (command : ExplainCommand) : Type 0 where
-  pub program : IsWord (codes "PROGRAM") rows command.program
-  pub schedule : IsWord (codes "SCHEDULE") rows command.schedule
+  pub run : IsScheduledRun rows command.run
   pub moment : IsNumberWord (first_of (codes "MOMENT") rows) command.moment
   pub image : IsImageWord (first_of (codes "IMAGE") rows) command.image
-  pub machine : IsWholeMachine rows command.machine
 
--- `check` with these files and options
+-- `check` of this run by this plan and so many workers
 pub record IsCheck (rows : List Row) (command : CheckCommand) : Type 0 where
   pub plan : IsWord (codes "PLAN") rows command.plan
-  pub program : IsWord (codes "PROGRAM") rows command.program
-  pub schedule : IsWord (codes "SCHEDULE") rows command.schedule
-  pub machine : IsWholeMachine rows command.machine
+  pub run : IsScheduledRun rows command.run
   pub workers : IsWorkers rows command.workers
 
 -- `code` with this code, or with none
@@ -109,6 +111,7 @@ IsOf name rows (Upgrade command) = (name ≡ codes "upgrade") × IsUpgrade rows 
 IsOf name rows (Run command) = (name ≡ codes "run") × IsRun rows command
 IsOf name rows (Replay command) = (name ≡ codes "replay") × IsReplay rows command
 IsOf name rows (Debug command) = (name ≡ codes "debug") × IsDebug rows command
+IsOf name rows (Trace run) = (name ≡ codes "trace") × IsScheduledRun rows run
 IsOf name rows (Images command) = (name ≡ codes "images") × IsImages rows command
 IsOf name rows (Explain command) = (name ≡ codes "explain") × IsExplain rows command
 IsOf name rows (Check command) = (name ≡ codes "check") × IsCheck rows command
@@ -141,9 +144,10 @@ IsWithinLimits (Upgrade command) = (command.pages < 2 ^ 32) × (command.lines < 
 IsWithinLimits (Run command) = IsMachineWithin command.machine × IsWithin 1 500000000 command.steps
 IsWithinLimits (Replay command) = IsMachineWithin command.machine
 IsWithinLimits (Debug command) = IsMachineWithin command.machine
-IsWithinLimits (Images command) = IsMachineWithin command.machine × (command.moment < 2 ^ 32)
-IsWithinLimits (Explain command) = IsMachineWithin command.machine × (command.moment < 2 ^ 32) × IsProper command.image
-IsWithinLimits (Check command) = IsMachineWithin command.machine × IsWithin 1 8 command.workers
+IsWithinLimits (Trace run) = IsMachineWithin run.machine
+IsWithinLimits (Images command) = IsMachineWithin command.run.machine × (command.moment < 2 ^ 32)
+IsWithinLimits (Explain command) = IsMachineWithin command.run.machine × (command.moment < 2 ^ 32) × IsProper command.image
+IsWithinLimits (Check command) = IsMachineWithin command.run.machine × IsWithin 1 8 command.workers
 IsWithinLimits (Code command) = ⊤
 
 -- help comes where the grammar answers with help, and a fault where the line asks for no command

@@ -1,6 +1,7 @@
 -- What the values found for words and options say: names of files, numbers within their limits, and names of images.
-use Rattle.std.specs.Prelude.{◌≡◌, ◌≢◌, ◌≤◌, ℕ, List, [], ◌∷◌, IfSome, Option, Some, None, String, codes, option_map, string_bytes}
+use Rattle.std.specs.Prelude.{◌≡◌, ◌≢◌, ◌≤◌, ℕ, Bool, false, List, [], ◌∷◌, IfSome, Option, Some, None, String, codes, option_map, string_bytes}
 use Rattle.std.specs.declared.alloc.Global.{Global}
+use Rattle.std.specs.Str.{bytes_eq}
 use Rattle.std.specs.Str.Parse.{IsNumeral, digits_value}
 use Rattle.clap.specs.Words.{Row, Text, first_of}
 use Rattle.image_name.specs.Grammar.{IsImageName}
@@ -11,6 +12,11 @@ use Rattle.code_table.specs.declared.table.Meaning.{Meaning}
 -- the word that has to be given
 abbrev pub IsWord : Text → List Row → String Global → Type 0
 IsWord name rows word = first_of name rows ≡ Some (string_bytes word)
+
+-- clap's word for an option without a value that the line has
+abbrev pub is_set : Option Text → Bool
+is_set None = false
+is_set (Some text) = bytes_eq text (codes "true")
 
 -- a text that an option takes as a file's name: it has a first character, which isn't `-`
 abbrev pub IsFileName : Text → Type 0

@@ -20,11 +20,13 @@ pub enum Command {
     Replay(ReplayCommand),
     /// `debug PROGRAM [--medium FILE --harts N --capacity N]`.
     Debug(DebugCommand),
-    /// `images PROGRAM SCHEDULE MOMENT [--medium FILE --harts N]`.
+    /// `trace PROGRAM SCHEDULE [--medium FILE --harts N --whole]`.
+    Trace(ScheduledRun),
+    /// `images PROGRAM SCHEDULE MOMENT [--medium FILE --harts N --whole]`.
     Images(ImagesCommand),
-    /// `explain PROGRAM SCHEDULE MOMENT IMAGE [--medium FILE --harts N]`.
+    /// `explain PROGRAM SCHEDULE MOMENT IMAGE [--medium FILE --harts N --whole]`.
     Explain(ExplainCommand),
-    /// `check PLAN PROGRAM SCHEDULE [--medium FILE --harts N --workers N]`.
+    /// `check PLAN PROGRAM SCHEDULE [--medium FILE --harts N --workers N --whole]`.
     Check(CheckCommand),
     /// `code [CODE]`.
     Code(CodeCommand),
@@ -114,32 +116,35 @@ pub struct DebugCommand {
     pub machine: MachineOptions,
 }
 
-/// What `images` is to do.
+/// A run of a program by a schedule, over a cache that holds the whole medium.
 #[derive(Drop)]
-pub struct ImagesCommand {
+pub struct ScheduledRun {
     /// The name of the program's file.
     pub program: String,
     /// The name of the schedule's file.
     pub schedule: String,
-    /// The number of events before the power cut: any number below 2^32.
-    pub moment: u32,
     /// The machine, whose capacity is None.
     pub machine: MachineOptions,
+    /// Whether the run has to be whole: each hart exits with 0, and each operation ends.
+    pub whole: bool,
+}
+
+/// What `images` is to do.
+#[derive(Drop)]
+pub struct ImagesCommand {
+    pub run: ScheduledRun,
+    /// The number of events before the power cut: any number below 2^32.
+    pub moment: u32,
 }
 
 /// What `explain` is to do.
 #[derive(Drop)]
 pub struct ExplainCommand {
-    /// The name of the program's file.
-    pub program: String,
-    /// The name of the schedule's file.
-    pub schedule: String,
+    pub run: ScheduledRun,
     /// The number of events before the power cut: any number below 2^32.
     pub moment: u32,
     /// The crash image among those of the moment. Its lines go strictly upwards.
     pub image: ImageName,
-    /// The machine, whose capacity is None.
-    pub machine: MachineOptions,
 }
 
 /// What `check` is to do.
@@ -147,12 +152,7 @@ pub struct ExplainCommand {
 pub struct CheckCommand {
     /// The name of the plan's file.
     pub plan: String,
-    /// The name of the program's file.
-    pub program: String,
-    /// The name of the schedule's file.
-    pub schedule: String,
-    /// The machine, whose capacity is None.
-    pub machine: MachineOptions,
+    pub run: ScheduledRun,
     /// The number of workers that judge the run, from 1 to 8; 1 where the line doesn't say.
     pub workers: u32,
 }

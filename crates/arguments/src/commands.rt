@@ -3,9 +3,9 @@
 ghost use Rattle.std.specs.Prelude.{◌<◌, ◌^◌, IfOk, IfErr, String, codes};
 ghost use Rattle.std.specs.declared.alloc.Global.{Global as AGlobal};
 ghost use Rattle.clap.specs.Words.{found_of, rows_of};
-ghost use Rattle.arguments.specs.Line.{IsAssemble, IsCheck, IsCode, IsDebug, IsExplain, IsImages, IsMakeVolume, IsReplay, IsRun, IsUpgrade};
-ghost use Rattle.arguments.specs.Line.{IsCachedMachine, IsMachineWithin, IsWholeMachine, IsWithin, OnFault};
-ghost use Rattle.arguments.specs.Started.{IsRecorded, IsStarted};
+ghost use Rattle.arguments.specs.Line.{IsAssemble, IsCheck, IsCode, IsDebug, IsExplain, IsImages, IsMakeVolume, IsReplay, IsRun, IsScheduledRun, IsUpgrade};
+ghost use Rattle.arguments.specs.Line.{IsCachedMachine, IsMachineWithin, IsWithin, OnFault};
+ghost use Rattle.arguments.specs.Started.{IsStarted};
 ghost use Rattle.arguments.specs.Values.{IsWord};
 ghost use Rattle.image_name.specs.Texts.{IsProper};
 ghost use Rattle.arguments.specs.declared.asked.AssembleCommand.{AssembleCommand as AAssembleCommand};
@@ -19,13 +19,17 @@ ghost use Rattle.arguments.specs.declared.asked.ExplainCommand.{ExplainCommand a
 ghost use Rattle.arguments.specs.declared.asked.CheckCommand.{CheckCommand as ACheckCommand};
 ghost use Rattle.arguments.specs.declared.asked.CodeCommand.{CodeCommand as ACodeCommand};
 ghost use Rattle.arguments.specs.declared.asked.MachineOptions.{MachineOptions as AMachine};
+ghost use Rattle.arguments.specs.declared.asked.ScheduledRun.{ScheduledRun as AScheduledRun};
 
 use crate::asked::{
     AssembleCommand, CheckCommand, CodeCommand, DebugCommand, ExplainCommand, ImagesCommand,
-    LineFault, MachineOptions, MakeVolumeCommand, ReplayCommand, RunCommand, UpgradeCommand,
+    LineFault, MachineOptions, MakeVolumeCommand, ReplayCommand, RunCommand, ScheduledRun,
+    UpgradeCommand,
 };
 use crate::machine::{cached_machine, whole_machine};
-use crate::values::{NumberOption, code_word, image_word, number, number_word, optional, word};
+use crate::values::{
+    NumberOption, code_word, flag, image_word, number, number_word, optional, word,
+};
 use clap::ArgMatches;
 use std::alloc::Global;
 
@@ -52,14 +56,6 @@ pub(crate) struct Started {
     machine: MachineOptions,
 }
 
-/// A run by a schedule, whose cache holds the whole medium.
-#[derive(Drop)]
-pub(crate) struct Recorded {
-    program: String,
-    schedule: String,
-    machine: MachineOptions,
-}
-
 /// The program of a command with `--capacity`, and its machine.
 fn start_of(alloc: Global, found: &ArgMatches<'_>) -> Result<Started, LineFault>
     ensures ok { IfOk result (IsStarted (rows_of (found_of found.now))) }
@@ -75,15 +71,17 @@ fn start_of(alloc: Global, found: &ArgMatches<'_>) -> Result<Started, LineFault>
 }
 
 /// The run of a command without `--capacity`.
-fn recorded_of(alloc: Global, found: &ArgMatches<'_>) -> Result<Recorded, LineFault>
-    ensures ok { IfOk result (IsRecorded (rows_of (found_of found.now))) }
-    ensures within { IfOk result (λ recorded. IsMachineWithin recorded.machine) }
-    ensures err { IfErr result (OnFault ((program schedule : String AGlobal) (machine : AMachine)
-        → IsWord (codes "PROGRAM") (rows_of (found_of found.now)) program
-        → IsWord (codes "SCHEDULE") (rows_of (found_of found.now)) schedule
-        → ¬ (IsWholeMachine (rows_of (found_of found.now)) machine))) }
+pub(crate) fn scheduled_run(
+    alloc: Global,
+    found: &ArgMatches<'_>,
+) -> Result<ScheduledRun, LineFault>
+    ensures ok { IfOk result (IsScheduledRun (rows_of (found_of found.now))) }
+    ensures within { IfOk result (λ run. IsMachineWithin run.machine) }
+    ensures err { IfErr result (OnFault ((run : AScheduledRun)
+        → ¬ (IsScheduledRun (rows_of (found_of found.now)) run))) }
 {
-    Ok(Recorded {
+    Ok(ScheduledRun {
+        whole: flag(found, "whole"),
         machine: whole_machine(alloc, found)?,
         program: word(alloc, found, "PROGRAM")?,
         schedule: word(alloc, found, "SCHEDULE")?,
@@ -191,55 +189,42 @@ pub(crate) fn debug(alloc: Global, found: &ArgMatches<'_>) -> Result<DebugComman
 /// What `images` is to do.
 pub(crate) fn images(alloc: Global, found: &ArgMatches<'_>) -> Result<ImagesCommand, LineFault>
     ensures ok { IfOk result (IsImages (rows_of (found_of found.now))) }
-    ensures within { IfOk result (λ command. IsMachineWithin command.machine × (command.moment < 2 ^ 32)) }
+    ensures within { IfOk result (λ command. IsMachineWithin command.run.machine × (command.moment < 2 ^ 32)) }
     ensures err { IfErr result (OnFault ((command : AImagesCommand)
         → ¬ (IsImages (rows_of (found_of found.now)) command))) }
 {
-    let moment = number_word(alloc, found, "MOMENT")?;
-    let recorded = recorded_of(alloc, found)?;
     Ok(ImagesCommand {
-        program: recorded.program,
-        schedule: recorded.schedule,
-        moment,
-        machine: recorded.machine,
+        moment: number_word(alloc, found, "MOMENT")?,
+        run: scheduled_run(alloc, found)?,
     })
 }
 
 /// What `explain` is to do.
 pub(crate) fn explain(alloc: Global, found: &ArgMatches<'_>) -> Result<ExplainCommand, LineFault>
     ensures ok { IfOk result (IsExplain (rows_of (found_of found.now))) }
-    ensures within { IfOk result (λ command. IsMachineWithin command.machine
+    ensures within { IfOk result (λ command. IsMachineWithin command.run.machine
         × (command.moment < 2 ^ 32) × IsProper command.image) }
     ensures err { IfErr result (OnFault ((command : AExplainCommand)
         → ¬ (IsExplain (rows_of (found_of found.now)) command))) }
 {
-    let moment = number_word(alloc, found, "MOMENT")?;
-    let image = image_word(alloc, found, "IMAGE")?;
-    let recorded = recorded_of(alloc, found)?;
     Ok(ExplainCommand {
-        program: recorded.program,
-        schedule: recorded.schedule,
-        moment,
-        image,
-        machine: recorded.machine,
+        moment: number_word(alloc, found, "MOMENT")?,
+        image: image_word(alloc, found, "IMAGE")?,
+        run: scheduled_run(alloc, found)?,
     })
 }
 
 /// What `check` is to do.
 pub(crate) fn check(alloc: Global, found: &ArgMatches<'_>) -> Result<CheckCommand, LineFault>
     ensures ok { IfOk result (IsCheck (rows_of (found_of found.now))) }
-    ensures within { IfOk result (λ command. IsMachineWithin command.machine × IsWithin 1 8 command.workers) }
+    ensures within { IfOk result (λ command. IsMachineWithin command.run.machine × IsWithin 1 8 command.workers) }
     ensures err { IfErr result (OnFault ((command : ACheckCommand)
         → ¬ (IsCheck (rows_of (found_of found.now)) command))) }
 {
-    let recorded = recorded_of(alloc, found)?;
-    let workers = number(alloc, found, &WORKERS)?;
     Ok(CheckCommand {
+        workers: number(alloc, found, &WORKERS)?,
         plan: word(alloc, found, "PLAN")?,
-        program: recorded.program,
-        schedule: recorded.schedule,
-        machine: recorded.machine,
-        workers,
+        run: scheduled_run(alloc, found)?,
     })
 }
 

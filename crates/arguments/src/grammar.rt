@@ -26,6 +26,11 @@ pub(crate) enum Argument {
         value: &'static str,
         about: &'static str,
     },
+    /// An option without a value, which may be left out.
+    Flag {
+        name: &'static str,
+        about: &'static str,
+    },
 }
 
 /// A subcommand.
@@ -161,8 +166,13 @@ const OUT: Argument = Argument::Valued {
     about: "The file that gets the medium of a power cut at the end",
 };
 
+const WHOLE: Argument = Argument::Flag {
+    name: "whole",
+    about: "Refuse a run in which a hart doesn't exit with 0, or an operation doesn't end",
+};
+
 /// The subcommands, in the order in which help tells them.
-pub(crate) static SUBCOMMANDS: [Subcommand; 10] = [
+pub(crate) static SUBCOMMANDS: [Subcommand; 11] = [
     Subcommand {
         name: "asm",
         about: "Assemble a source and write its object",
@@ -203,22 +213,28 @@ pub(crate) static SUBCOMMANDS: [Subcommand; 10] = [
         ),
     },
     Subcommand {
+        name: "trace",
+        about: "Print the events of a run by a schedule, each with its step, pc and source line",
+        arguments: &[PROGRAM, SCHEDULE, MEDIUM, HARTS, WHOLE],
+        ending: ending!("trace append.s append.schedule --medium fresh.medium --whole"),
+    },
+    Subcommand {
         name: "images",
         about: "Count the crash images of a moment of a run by a schedule",
-        arguments: &[PROGRAM, SCHEDULE, MOMENT, MEDIUM, HARTS],
-        ending: ending!("images append.s append.schedule 5 --medium fresh.medium"),
+        arguments: &[PROGRAM, SCHEDULE, MOMENT, MEDIUM, HARTS, WHOLE],
+        ending: ending!("images append.s append.schedule 5 --medium fresh.medium --whole"),
     },
     Subcommand {
         name: "explain",
         about: "Print a schedule that leaves a crash image of a moment of a run",
-        arguments: &[PROGRAM, SCHEDULE, MOMENT, IMAGE, MEDIUM, HARTS],
-        ending: ending!("explain append.s append.schedule 5 2 --medium fresh.medium"),
+        arguments: &[PROGRAM, SCHEDULE, MOMENT, IMAGE, MEDIUM, HARTS, WHOLE],
+        ending: ending!("explain append.s append.schedule 5 2 --medium fresh.medium --whole"),
     },
     Subcommand {
         name: "check",
         about: "Judge every crash image of a run by a schedule",
-        arguments: &[PLAN, PROGRAM, SCHEDULE, MEDIUM, HARTS, WORKERS],
-        ending: ending!("check append.plan append.s append.schedule --medium fresh.medium"),
+        arguments: &[PLAN, PROGRAM, SCHEDULE, MEDIUM, HARTS, WORKERS, WHOLE],
+        ending: ending!("check append.plan append.s append.schedule --medium fresh.medium --whole"),
     },
     Subcommand {
         name: "code",
@@ -240,6 +256,10 @@ impl Argument {
             Argument::Valued { name, value, about } => Arg::new(alloc, name)
                 .long(name)
                 .value_name(value)
+                .help(about),
+            Argument::Flag { name, about } => Arg::new(alloc, name)
+                .long(name)
+                .action(ArgAction::SetTrue)
                 .help(about),
         }
     }

@@ -11,6 +11,6 @@ mod values;
 pub use asked::{
     AssembleCommand, CheckCommand, CodeCommand, Command, DebugCommand, ExplainCommand,
     ImagesCommand, LineFault, MachineOptions, MakeVolumeCommand, ReplayCommand, RunCommand,
-    UpgradeCommand,
+    ScheduledRun, UpgradeCommand,
 };
 pub use line::command;

@@ -8,7 +8,7 @@ ghost use Rattle.arguments.specs.declared.asked.Command.{Command as ACommand};
 
 use crate::asked::{Command, LineFault};
 use crate::commands::{
-    assemble, check, code, debug, explain, images, make_volume, replay, run, upgrade,
+    assemble, check, code, debug, explain, images, make_volume, replay, run, scheduled_run, upgrade,
 };
 use crate::grammar::{SUBCOMMANDS, grammar};
 use clap::ArgMatches;
@@ -75,6 +75,7 @@ fn asked(alloc: Global, name: &str, found: &ArgMatches<'_>) -> Result<Command, L
         "run" => Command::Run(run(alloc, found)?),
         "replay" => Command::Replay(replay(alloc, found)?),
         "debug" => Command::Debug(debug(alloc, found)?),
+        "trace" => Command::Trace(scheduled_run(alloc, found)?),
         "images" => Command::Images(images(alloc, found)?),
         "explain" => Command::Explain(explain(alloc, found)?),
         "check" => Command::Check(check(alloc, found)?),
@@ -97,9 +98,10 @@ fn asked(alloc: Global, name: &str, found: &ArgMatches<'_>) -> Result<Command, L
 /// - `run PROGRAM [--medium FILE --harts N --capacity N --steps N --record FILE --out FILE]`
 /// - `replay PROGRAM SCHEDULE [--medium FILE --harts N --capacity N --out FILE]`
 /// - `debug PROGRAM [--medium FILE --harts N --capacity N]`
-/// - `images PROGRAM SCHEDULE MOMENT [--medium FILE --harts N]`
-/// - `explain PROGRAM SCHEDULE MOMENT IMAGE [--medium FILE --harts N]`
-/// - `check PLAN PROGRAM SCHEDULE [--medium FILE --harts N --workers N]`
+/// - `trace PROGRAM SCHEDULE [--medium FILE --harts N --whole]`
+/// - `images PROGRAM SCHEDULE MOMENT [--medium FILE --harts N --whole]`
+/// - `explain PROGRAM SCHEDULE MOMENT IMAGE [--medium FILE --harts N --whole]`
+/// - `check PLAN PROGRAM SCHEDULE [--medium FILE --harts N --workers N --whole]`
 /// - `code [CODE]`
 #[tactic(auto, using(crate::proofs::Lines::has_none))]
 pub fn command(alloc: Global, words: &[String]) -> Result<Command, LineFault>

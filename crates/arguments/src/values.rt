@@ -4,7 +4,7 @@ ghost use Rattle.std.specs.Prelude.{◌≡◌, ◌≤◌, ℕ, IfOk, IfErr, Matc
 ghost use Rattle.std.specs.declared.alloc.Global.{Global as AGlobal};
 ghost use Rattle.clap.specs.Words.{first_of, found_of, rows_of};
 ghost use Rattle.arguments.specs.Line.{OnFault};
-ghost use Rattle.arguments.specs.Values.{IsCodeWord, IsImageWord, IsNumber, IsNumberWord, IsOptional, IsWord};
+ghost use Rattle.arguments.specs.Values.{IsCodeWord, IsImageWord, IsNumber, IsNumberWord, IsOptional, IsWord, is_set};
 ghost use Rattle.code_table.specs.declared.table.Meaning.{Meaning as AMeaning};
 ghost use Rattle.image_name.specs.Texts.{IsProper};
 ghost use Rattle.image_name.specs.declared.name.ImageName.{ImageName as AnImageName};
@@ -23,6 +23,16 @@ fn value<'a>(found: &ArgMatches<'a>, name: &str) -> Option<&'a str>
         (λ value. first_of name.now (rows_of (found_of found.now)) ≡ Some value.now) }
 {
     found.get_str(name)
+}
+
+/// Whether the line has an option without a value.
+pub(crate) fn flag(found: &ArgMatches<'_>, name: &str) -> bool
+    ensures { result ≡ is_set (first_of name.now (rows_of (found_of found.now))) }
+{
+    match value(found, name) {
+        Some(set) => set == "true",
+        None => false,
+    }
 }
 
 /// The word that a command needs.

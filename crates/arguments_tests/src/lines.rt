@@ -1,6 +1,6 @@
 //! Lines that are read, and lines that are refused, for each rule of the command line.
 
-use arguments::{CodeCommand, Command, LineFault, MachineOptions, command};
+use arguments::{CodeCommand, Command, LineFault, MachineOptions, ScheduledRun, command};
 use std::alloc::{AllocError, Global};
 use std::test::Fail;
 
@@ -56,29 +56,31 @@ fn run_of(alloc: Global, command: &Command) -> Result<String, AllocError> {
     }
 }
 
-/// A command on the images of a run: its name and its words, and the machine.
+/// A run by a schedule: its words, the machine, and whether it has to be whole.
+fn scheduled_of(alloc: Global, run: &ScheduledRun) -> Result<String, AllocError> {
+    let machine = machine_of(alloc, &run.machine)?;
+    let whole = if run.whole { "must-be-whole" } else { "any" };
+    format!(in alloc; "{} {} / {machine} {whole}", run.program, run.schedule)
+}
+
+/// A command on a run by a schedule: its name, the run, and what else it has.
 fn images_of(alloc: Global, command: &Command) -> Result<String, AllocError> {
     match command {
+        Command::Trace(run) => {
+            let run = scheduled_of(alloc, run)?;
+            format!(in alloc; "trace {run}")
+        }
         Command::Images(images) => {
-            let machine = machine_of(alloc, &images.machine)?;
-            format!(in alloc;
-                "images {} {} {} / {machine}",
-                images.program, images.schedule, images.moment
-            )
+            let run = scheduled_of(alloc, &images.run)?;
+            format!(in alloc; "images {run} / {}", images.moment)
         }
         Command::Explain(explain) => {
-            let machine = machine_of(alloc, &explain.machine)?;
-            format!(in alloc;
-                "explain {} {} {} {} / {machine}",
-                explain.program, explain.schedule, explain.moment, explain.image
-            )
+            let run = scheduled_of(alloc, &explain.run)?;
+            format!(in alloc; "explain {run} / {} {}", explain.moment, explain.image)
         }
         Command::Check(check) => {
-            let machine = machine_of(alloc, &check.machine)?;
-            format!(in alloc;
-                "check {} {} {} / {machine} / {}",
-                check.plan, check.program, check.schedule, check.workers
-            )
+            let run = scheduled_of(alloc, &check.run)?;
+            format!(in alloc; "check {} {run} / {}", check.plan, check.workers)
         }
         _ => run_of(alloc, command),
     }
@@ -158,20 +160,27 @@ fn defaults_stand_where_options_are_left_out(rt: HostRuntime) -> Result<(), Fail
         ("novacrash run a.s", "run a.s / - 1 16 / 1000000 - -"),
         ("novacrash replay a.s s", "replay a.s s / - 1 16 / -"),
         ("novacrash debug a.s", "debug a.s / - 1 16"),
-        ("novacrash images a.s s 7", "images a.s s 7 / - 1 whole"),
+        ("novacrash trace a.s s", "trace a.s s / - 1 whole any"),
+        (
+            "novacrash images a.s s 7",
+            "images a.s s / - 1 whole any / 7",
+        ),
         (
             "novacrash explain a.s s 7 4",
-            "explain a.s s 7 4 / - 1 whole",
+            "explain a.s s / - 1 whole any / 7 4",
         ),
         (
             "novacrash explain a.s s 7 floor",
-            "explain a.s s 7 floor / - 1 whole",
+            "explain a.s s / - 1 whole any / 7 floor",
         ),
         (
             "novacrash explain a.s s 7 l1:1,l300:1",
-            "explain a.s s 7 l1:1,l300:1 / - 1 whole",
+            "explain a.s s / - 1 whole any / 7 l1:1,l300:1",
         ),
-        ("novacrash check p a.s s", "check p a.s s / - 1 whole / 1"),
+        (
+            "novacrash check p a.s s",
+            "check p a.s s / - 1 whole any / 1",
+        ),
     ];
     let misread = first_misread(rt.alloc(), &lines)?;
     assert!(rt; misread.is_none(), "{misread:?}");
@@ -179,7 +188,27 @@ fn defaults_stand_where_options_are_left_out(rt: HostRuntime) -> Result<(), Fail
 }
 
 /// Lines with options, before and after the words, and what they are read as.
-const WITH_OPTIONS: [(&str, &str); 15] = [
+const WITH_OPTIONS: [(&str, &str); 20] = [
+    (
+        "novacrash trace --whole a.s s --harts 2 --medium m",
+        "trace a.s s / m 2 whole must-be-whole",
+    ),
+    (
+        "novacrash trace a.s s --harts 2",
+        "trace a.s s / - 2 whole any",
+    ),
+    (
+        "novacrash images a.s s --whole 7",
+        "images a.s s / - 1 whole must-be-whole / 7",
+    ),
+    (
+        "novacrash explain a.s s 7 4 --whole",
+        "explain a.s s / - 1 whole must-be-whole / 7 4",
+    ),
+    (
+        "novacrash check p --whole a.s s --workers 2",
+        "check p a.s s / - 1 whole must-be-whole / 2",
+    ),
     (
         "novacrash run a.s --medium m --harts 2 --capacity 3 --steps 4 --record r --out o",
         "run a.s / m 2 3 / 4 r o",
@@ -198,19 +227,19 @@ const WITH_OPTIONS: [(&str, &str); 15] = [
     ),
     (
         "novacrash images --medium m a.s s 7 --harts=2",
-        "images a.s s 7 / m 2 whole",
+        "images a.s s / m 2 whole any / 7",
     ),
     (
         "novacrash explain a.s s 7 4 --harts 2 --medium m",
-        "explain a.s s 7 4 / m 2 whole",
+        "explain a.s s / m 2 whole any / 7 4",
     ),
     (
         "novacrash check --harts 2 p --medium=m a.s s",
-        "check p a.s s / m 2 whole / 1",
+        "check p a.s s / m 2 whole any / 1",
     ),
     (
         "novacrash check p --workers=4 a.s s --harts 2",
-        "check p a.s s / - 2 whole / 4",
+        "check p a.s s / - 2 whole any / 4",
     ),
     (
         "novacrash run a.s --out o",
@@ -235,7 +264,7 @@ const WITH_OPTIONS: [(&str, &str); 15] = [
     ("novacrash asm -- -a.s -a.o", "asm -a.s -a.o"),
     (
         "novacrash images -- a.s -s 7",
-        "images a.s -s 7 / - 1 whole",
+        "images a.s -s / - 1 whole any / 7",
     ),
 ];
 
@@ -268,15 +297,15 @@ const AT_LIMITS: [(&str, &str); 17] = [
     ),
     (
         "novacrash check p a s --harts 008",
-        "check p a s / - 8 whole / 1",
+        "check p a s / - 8 whole any / 1",
     ),
     (
         "novacrash check p a s --workers 8",
-        "check p a s / - 1 whole / 8",
+        "check p a s / - 1 whole any / 8",
     ),
     (
         "novacrash check p a s --workers 1",
-        "check p a s / - 1 whole / 1",
+        "check p a s / - 1 whole any / 1",
     ),
     ("novacrash mkfs p 0 m", "mkfs p 0 m"),
     ("novacrash upgrade o 0 00 n", "upgrade o 0 0 n"),
@@ -285,18 +314,18 @@ const AT_LIMITS: [(&str, &str); 17] = [
         "upgrade o 4294967295 4294967294 n",
     ),
     ("novacrash mkfs p 4294967295 m", "mkfs p 4294967295 m"),
-    ("novacrash images a s 0", "images a s 0 / - 1 whole"),
+    ("novacrash images a s 0", "images a s / - 1 whole any / 0"),
     (
         "novacrash images a s 0004294967295",
-        "images a s 4294967295 / - 1 whole",
+        "images a s / - 1 whole any / 4294967295",
     ),
     (
         "novacrash explain a s 0 4294967295",
-        "explain a s 0 4294967295 / - 1 whole",
+        "explain a s / - 1 whole any / 0 4294967295",
     ),
     (
         "novacrash explain a s 4294967295 0",
-        "explain a s 4294967295 0 / - 1 whole",
+        "explain a s / - 1 whole any / 4294967295 0",
     ),
 ];
 
@@ -376,6 +405,9 @@ fn missing_and_further_words_are_faults(rt: HostRuntime) -> Result<(), Fail> {
         "novacrash replay a.s s t",
         "novacrash debug",
         "novacrash debug a.s s",
+        "novacrash trace",
+        "novacrash trace a.s",
+        "novacrash trace a.s s t",
         "novacrash images",
         "novacrash images a.s s",
         "novacrash images a.s s 0 1",
@@ -432,6 +464,14 @@ fn options_out_of_place_are_faults(rt: HostRuntime) -> Result<(), Fail> {
         "novacrash replay a.s s --record r",
         "novacrash debug a.s --steps 5",
         "novacrash debug a.s --out o",
+        "novacrash trace a.s s --capacity 2",
+        "novacrash trace a.s s --workers 2",
+        "novacrash trace a.s s --whole=yes",
+        "novacrash trace a.s s --whole --whole",
+        "novacrash trace a.s s --who",
+        "novacrash check p a.s s --whole --workers 2 --whole",
+        "novacrash run a.s --whole",
+        "novacrash replay a.s s --whole",
         "novacrash images a.s s 1 --capacity 2",
         "novacrash images a.s s 1 --steps 2",
         "novacrash explain a.s s 1 1 --out o",
@@ -459,6 +499,7 @@ fn help_is_asked_for(rt: HostRuntime) -> Result<(), Fail> {
         "novacrash run --help",
         "novacrash replay --help",
         "novacrash debug --help",
+        "novacrash trace --help",
         "novacrash images --help",
         "novacrash explain --help",
         "novacrash check --help",

@@ -15,7 +15,7 @@ fn text_of(alloc: Global, line: &str) -> Result<Option<String>, AllocError> {
 }
 
 /// Lines at fault, and what is told of them.
-const FAULTS: [(&str, &str); 17] = [
+const FAULTS: [(&str, &str); 19] = [
     (
         "novacrash run a.s --steps 0",
         "error: --steps takes a decimal number from 1 to 500000000\n",
@@ -88,6 +88,18 @@ const FAULTS: [(&str, &str); 17] = [
          For more information, try '--help'.\n",
     ),
     (
+        "novacrash trace a.s s --whole --whole",
+        "error: the argument '--whole' cannot be used multiple times\n\n\
+         Usage: novacrash trace [OPTIONS] <PROGRAM> <SCHEDULE>\n\n\
+         For more information, try '--help'.\n",
+    ),
+    (
+        "novacrash trace a.s s --whole=yes",
+        "error: unexpected value 'yes' for '--whole' found; no more were expected\n\n\
+         Usage: novacrash trace --whole <PROGRAM> <SCHEDULE>\n\n\
+         For more information, try '--help'.\n",
+    ),
+    (
         "novacrash run a.s --steps 5 --steps 5",
         "error: the argument '--steps <N>' cannot be used multiple times\n\n\
          Usage: novacrash run [OPTIONS] <PROGRAM>\n\n\
@@ -105,13 +117,14 @@ fn faults_are_told(rt: HostRuntime) -> Result<(), Fail> {
 }
 
 /// Whole lines of each command, and its usage.
-const USAGES: [(&str, &str); 10] = [
+const USAGES: [(&str, &str); 11] = [
     ("asm a.s a.o", "asm <SOURCE> <OBJECT>"),
     ("mkfs p 512 m", "mkfs <PLAN> <LINES> <MEDIUM>"),
     ("upgrade o 1 512 n", "upgrade <OLD> <PAGES> <LINES> <NEW>"),
     ("run a.s", "run [OPTIONS] <PROGRAM>"),
     ("replay a.s s", "replay [OPTIONS] <PROGRAM> <SCHEDULE>"),
     ("debug a.s", "debug [OPTIONS] <PROGRAM>"),
+    ("trace a.s s", "trace [OPTIONS] <PROGRAM> <SCHEDULE>"),
     (
         "images a.s s 1",
         "images [OPTIONS] <PROGRAM> <SCHEDULE> <MOMENT>",
@@ -149,7 +162,7 @@ Formats and codes: docs/FORMATS.md; `novacrash code CODE` says what a code means
 ";
 
 /// The help of each command, before that.
-const HELPS: [(&str, &str); 10] = [
+const HELPS: [(&str, &str); 11] = [
     (
         "asm",
         "\
@@ -269,6 +282,26 @@ Commands of the session: break A, watch A, clear A, step H, go [ITEMS], regs H, 
 ",
     ),
     (
+        "trace",
+        "\
+Print the events of a run by a schedule, each with its step, pc and source line
+
+Usage: novacrash trace [OPTIONS] <PROGRAM> <SCHEDULE>
+
+Arguments:
+  <PROGRAM>   The program's file: an object or a source
+  <SCHEDULE>  The schedule's file
+
+Options:
+      --medium <FILE>  The medium's file [default: 512 lines of zeros]
+      --harts <N>      The number of harts, from 1 to 8 [default: 1]
+      --whole          Refuse a run in which a hart doesn't exit with 0, or an operation doesn't end
+      --help           Print help
+
+Example: novacrash trace append.s append.schedule --medium fresh.medium --whole
+",
+    ),
+    (
         "images",
         "\
 Count the crash images of a moment of a run by a schedule
@@ -283,9 +316,10 @@ Arguments:
 Options:
       --medium <FILE>  The medium's file [default: 512 lines of zeros]
       --harts <N>      The number of harts, from 1 to 8 [default: 1]
+      --whole          Refuse a run in which a hart doesn't exit with 0, or an operation doesn't end
       --help           Print help
 
-Example: novacrash images append.s append.schedule 5 --medium fresh.medium
+Example: novacrash images append.s append.schedule 5 --medium fresh.medium --whole
 ",
     ),
     (
@@ -304,9 +338,10 @@ Arguments:
 Options:
       --medium <FILE>  The medium's file [default: 512 lines of zeros]
       --harts <N>      The number of harts, from 1 to 8 [default: 1]
+      --whole          Refuse a run in which a hart doesn't exit with 0, or an operation doesn't end
       --help           Print help
 
-Example: novacrash explain append.s append.schedule 5 2 --medium fresh.medium
+Example: novacrash explain append.s append.schedule 5 2 --medium fresh.medium --whole
 ",
     ),
     (
@@ -325,9 +360,10 @@ Options:
       --medium <FILE>  The medium's file [default: 512 lines of zeros]
       --harts <N>      The number of harts, from 1 to 8 [default: 1]
       --workers <N>    The number of workers that judge the run, from 1 to 8 [default: 1]
+      --whole          Refuse a run in which a hart doesn't exit with 0, or an operation doesn't end
       --help           Print help
 
-Example: novacrash check append.plan append.s append.schedule --medium fresh.medium
+Example: novacrash check append.plan append.s append.schedule --medium fresh.medium --whole
 ",
     ),
     (
@@ -372,6 +408,7 @@ Commands:
   run      Run a program
   replay   Run a program by a schedule
   debug    Debug a program by commands on standard input
+  trace    Print the events of a run by a schedule, each with its step, pc and source line
   images   Count the crash images of a moment of a run by a schedule
   explain  Print a schedule that leaves a crash image of a moment of a run
   check    Judge every crash image of a run by a schedule

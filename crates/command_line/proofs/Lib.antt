@@ -2,3 +2,4 @@ mod Held
 mod Kept
 mod Loops
 pub mod Written
+mod SourceLines

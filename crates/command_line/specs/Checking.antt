@@ -1,5 +1,5 @@
 -- What `check` comes to.
-use Rattle.std.specs.Prelude.{ℕ, List, Option, Some, None, Result, MatchResult, ◌++◌, codes, decimal, option_map, string_bytes}
+use Rattle.std.specs.Prelude.{ℕ, List, Option, Some, None, Result, MatchResult, ◌++◌, codes, decimal, string_bytes}
 use Rattle.arguments.specs.declared.asked.CheckCommand.{CheckCommand}
 use Rattle.image_check.specs.declared.verdict.Cause.{Cause}
 use Rattle.image_check.specs.declared.verdict.Cause.TheVariants as causes
@@ -9,10 +9,12 @@ use Rattle.image_name.specs.Texts.{image_text}
 use Rattle.plan.specs.declared.operation.Operation.{Operation}
 use Rattle.schedule.specs.declared.items.Item.{Item}
 use Rattle.tester.specs.Checking.{HasNoVerdict, HasVerdict}
-use Rattle.tester.specs.Runs.{Setup, with_room}
+use Rattle.tester.specs.Runs.{Setup}
+use Rattle.whole_run.specs.Causes.{numbers_of}
 use Rattle.command_line.specs.Codes.{volume_code}
 use Rattle.command_line.specs.Failures.{failure_of_verdict}
-use Rattle.command_line.specs.Reading.{ReadsMedium, ReadsPlan, ReadsProgram, ReadsSchedule}
+use Rattle.command_line.specs.Demanding.{MeetsWhole}
+use Rattle.command_line.specs.Reading.{ReadsPlan, ReadsRun, setup_of}
 use Rattle.command_line.specs.Reports.{line_end}
 use Rattle.command_line.specs.Steps.{First, Prints, Reads, Step, Still, Tells}
 use Rattle.command_line.specs.declared.answer.Answer.{Answer}
@@ -48,11 +50,12 @@ verdict_status (verdicts.Pass moments images) = 0
 verdict_status (verdicts.Fail moment image cause) = 1
 verdict_status (verdicts.TooMany moment) = 3
 
+-- With `--whole` there is a verdict on a whole run alone: a pass then also says that each hart has exited with 0, and that each
+-- planned operation has ended.
 abbrev pub ChecksFile : {F : Type 0} → Reads F → CheckCommand → Step F Answer
 ChecksFile reads command =
     First (ReadsPlan reads (string_bytes command.plan)) (λ plan.
-    First (ReadsProgram reads (string_bytes command.program)) (λ program.
-    First (ReadsSchedule reads (string_bytes command.schedule)) (λ schedule.
-    First (ReadsMedium reads (option_map string_bytes command.machine.medium)) (λ medium.
-    First (Still (Judges plan.operations (with_room program medium command.machine.harts) schedule)) (λ verdict.
-    Still (Prints (verdict_line verdict) (verdict_status verdict)))))))
+    First (ReadsRun reads command.run) (λ run.
+    First (Still (MeetsWhole command.run run (numbers_of plan.operations))) (λ _.
+    First (Still (Judges plan.operations (setup_of command.run run) run.schedule)) (λ verdict.
+    Still (Prints (verdict_line verdict) (verdict_status verdict))))))

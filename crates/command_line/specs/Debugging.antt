@@ -60,3 +60,4 @@ FailsBy source source' sink sink' failures.File =
 FailsBy source source' sink sink' failures.Memory = (source' ≡ source) × (sink' ≡ sink)
 FailsBy source source' sink sink' (failures.Line text) = ⊥
 FailsBy source source' sink sink' (failures.Refused refusal) = ⊥
+FailsBy source source' sink sink' (failures.Unfinished text) = ⊥

@@ -1,12 +1,13 @@
 -- What `explain` comes to.
-use Rattle.std.specs.Prelude.{ℕ, List, Result, MatchResult, option_map, string_bytes}
+use Rattle.std.specs.Prelude.{ℕ, List, [], Result, MatchResult}
 use Rattle.arguments.specs.declared.asked.ExplainCommand.{ExplainCommand}
 use Rattle.image_name.specs.declared.name.ImageName.{ImageName}
 use Rattle.schedule.specs.declared.items.Item.{Item}
 use Rattle.tester.specs.Explaining.{ExplainsImage, FailsToExplain}
-use Rattle.tester.specs.Runs.{Setup, with_room}
+use Rattle.tester.specs.Runs.{Setup}
 use Rattle.command_line.specs.Failures.{failure_of_explanation}
-use Rattle.command_line.specs.Reading.{ReadsMedium, ReadsProgram, ReadsSchedule}
+use Rattle.command_line.specs.Demanding.{MeetsWhole}
+use Rattle.command_line.specs.Reading.{ReadsRun, setup_of}
 use Rattle.command_line.specs.Steps.{First, Prints, Reads, Step, Still, Tells}
 use Rattle.command_line.specs.Writing.{schedule_line}
 use Rattle.command_line.specs.declared.answer.Answer.{Answer}
@@ -18,8 +19,7 @@ pub record Explained (s : Setup) (schedule : List Item) (moment : ℕ) (image : 
 
 abbrev pub ExplainsFile : {F : Type 0} → Reads F → ExplainCommand → Step F Answer
 ExplainsFile reads command =
-    First (ReadsProgram reads (string_bytes command.program)) (λ program.
-    First (ReadsSchedule reads (string_bytes command.schedule)) (λ schedule.
-    First (ReadsMedium reads (option_map string_bytes command.machine.medium)) (λ medium.
-    First (Still (Explained (with_room program medium command.machine.harts) schedule command.moment command.image)) (λ explanation.
-    Still (Prints (schedule_line explanation) 0)))))
+    First (ReadsRun reads command.run) (λ run.
+    First (Still (MeetsWhole command.run run [])) (λ _.
+    First (Still (Explained (setup_of command.run run) run.schedule command.moment command.image)) (λ explanation.
+    Still (Prints (schedule_line explanation) 0))))

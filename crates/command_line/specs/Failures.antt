@@ -31,7 +31,7 @@ use Rattle.command_line.specs.Codes.{assembly_code, load_code, operation_code, p
 use Rattle.session.specs.Answers.{step_code}
 use Rattle.command_line.specs.Reports.{line_end}
 use Rattle.command_line.specs.declared.failure.Failure.{Failure}
-use Rattle.command_line.specs.declared.failure.Failure.TheVariants.{Line, Refused, Memory, File}
+use Rattle.command_line.specs.declared.failure.Failure.TheVariants.{Line, Refused, Unfinished, Memory, File}
 use Rattle.command_line.specs.declared.failure.Refusal.{Refusal}
 use Rattle.command_line.specs.declared.failure.Refusal.TheVariants.{Assembly, Object, Plan, ScheduleText, Medium, Volume, Step, Foreign, Moment, Image, Operation}
 use Rattle.command_line.specs.declared.files.FileFault.{FileFault}
@@ -51,16 +51,18 @@ refusal_text Moment = codes "refused C1"
 refusal_text Image = codes "refused C2"
 refusal_text (Operation fault) = codes "refused " ++ operation_code fault
 
--- the lines of a failure; those of a fault of the command line are given
+-- the lines of a failure; those of a fault of the command line, and of a run that isn't whole, are given
 abbrev pub failure_text : Failure → List ℕ
 failure_text (Line text) = string_bytes text
 failure_text (Refused refusal) = refusal_text refusal ++ line_end
+failure_text (Unfinished text) = string_bytes text
 failure_text Memory = codes "memory" ++ line_end
 failure_text File = codes "file" ++ line_end
 
 abbrev pub failure_status : Failure → ℕ
 failure_status (Line text) = 2
 failure_status (Refused refusal) = 2
+failure_status (Unfinished text) = 2
 failure_status Memory = 4
 failure_status File = 5
 

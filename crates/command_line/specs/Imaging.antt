@@ -1,11 +1,12 @@
 -- What `images` comes to.
-use Rattle.std.specs.Prelude.{ℕ, List, Option, Some, None, Result, MatchResult, ◌++◌, codes, decimal, option_map, string_bytes}
+use Rattle.std.specs.Prelude.{ℕ, List, [], Option, Some, None, Result, MatchResult, ◌++◌, codes, decimal}
 use Rattle.arguments.specs.declared.asked.ImagesCommand.{ImagesCommand}
 use Rattle.schedule.specs.declared.items.Item.{Item}
 use Rattle.tester.specs.Images.{CountsImages, FailsToCount}
-use Rattle.tester.specs.Runs.{Setup, with_room}
+use Rattle.tester.specs.Runs.{Setup}
 use Rattle.command_line.specs.Failures.{failure_of_count}
-use Rattle.command_line.specs.Reading.{ReadsMedium, ReadsProgram, ReadsSchedule}
+use Rattle.command_line.specs.Demanding.{MeetsWhole}
+use Rattle.command_line.specs.Reading.{ReadsRun, setup_of}
 use Rattle.command_line.specs.Reports.{line_end}
 use Rattle.command_line.specs.Steps.{First, Prints, Reads, Step, Still, Tells}
 use Rattle.command_line.specs.declared.answer.Answer.{Answer}
@@ -26,8 +27,7 @@ images_line moment count = codes "moment " ++ (decimal moment ++ (codes " images
 
 abbrev pub CountsFile : {F : Type 0} → Reads F → ImagesCommand → Step F Answer
 CountsFile reads command =
-    First (ReadsProgram reads (string_bytes command.program)) (λ program.
-    First (ReadsSchedule reads (string_bytes command.schedule)) (λ schedule.
-    First (ReadsMedium reads (option_map string_bytes command.machine.medium)) (λ medium.
-    First (Still (Counts (with_room program medium command.machine.harts) schedule command.moment)) (λ count.
-    Still (Prints (images_line command.moment count) 0)))))
+    First (ReadsRun reads command.run) (λ run.
+    First (Still (MeetsWhole command.run run [])) (λ _.
+    First (Still (Counts (setup_of command.run run) run.schedule command.moment)) (λ count.
+    Still (Prints (images_line command.moment count) 0))))

@@ -3,6 +3,7 @@ pub mod Checking
 pub mod Codes
 pub mod Coding
 pub mod Debugging
+pub mod Demanding
 pub mod Explaining
 pub mod Failures
 pub mod Imaging
@@ -12,5 +13,6 @@ pub mod Reading
 pub mod Reports
 pub mod Running
 pub mod Steps
+pub mod Tracing
 pub mod Upgrading
 pub mod Writing

@@ -1,6 +1,7 @@
 -- What the files say that a command reads.
-use Rattle.std.specs.Prelude.{◌≡◌, ◌≢◌, ◌⊎◌, ◌%◌, ◌/◌, ◌<◌, ℕ, List, Option, Some, None, Result, MatchResult, length}
+use Rattle.std.specs.Prelude.{◌≡◌, ◌≢◌, ◌⊎◌, ◌%◌, ◌/◌, ◌<◌, ℕ, List, Option, Some, None, Result, MatchResult, length, option_map, string_bytes}
 use Rattle.std.specs.List.{concat}
+use Rattle.arguments.specs.declared.asked.ScheduledRun.{ScheduledRun}
 use Rattle.line_memory.specs.Lines.{IsMedium, zero_lines}
 use Rattle.line_memory.specs.declared.MediumFault.{MediumFault}
 use Rattle.line_memory.specs.declared.MediumFault.TheVariants as media
@@ -15,10 +16,12 @@ use Rattle.schedule.specs.declared.fault.ScheduleFault.{ScheduleFault}
 use Rattle.schedule.specs.declared.fault.ScheduleFault.TheVariants as schedules
 use Rattle.schedule.specs.declared.items.Item.{Item}
 use Rattle.tester.specs.Programs.{IsLoadFault, IsProgramOf}
+use Rattle.tester.specs.Runs.{Setup, with_room}
 use Rattle.command_line.specs.Failures.{failure_of_medium, failure_of_plan, failure_of_program, failure_of_schedule}
 use Rattle.command_line.specs.Steps.{First, Reads, ReadsFile, Step, Still, Tells}
 use Rattle.command_line.specs.declared.failure.Failure.{Failure}
 use Rattle.command_line.specs.declared.failure.Failure.TheVariants.{Memory}
+use Rattle.command_line.specs.declared.reading.RunFiles.{RunFiles}
 
 -- the program of a file, or why it gives none
 pub record SaysProgram (file : List ℕ) (outcome : Result Sections Failure) : Type 0 where
@@ -75,3 +78,25 @@ ReadsSchedule reads name = First (ReadsFile reads name) (λ text. Still (SaysSch
 abbrev pub ReadsMedium : {F : Type 0} → Reads F → Option (List ℕ) → Step F (List (List ℕ))
 ReadsMedium reads None = Still IsDefaultMedium
 ReadsMedium reads (Some name) = First (ReadsFile reads name) (λ bytes. Still (SaysMedium bytes))
+
+-- the files of a run have been read: the bytes of the program's, and what each of them says
+pub record HasRead (file : List ℕ) (program : Sections) (schedule : List Item) (medium : List (List ℕ)) (run : RunFiles) : Type 0 where
+  pub file_is : run.file.items ≡ file
+  pub program_is : run.program ≡ program
+  pub schedule_is : run.schedule ≡ schedule
+  pub medium_is : run.medium ≡ medium
+
+pub record GivesRun (file : List ℕ) (program : Sections) (schedule : List Item) (medium : List (List ℕ)) (outcome : Result RunFiles Failure) : Type 0 where
+  pub gives : MatchResult outcome (HasRead file program schedule medium) (λ failure. ⊥)
+
+abbrev pub ReadsRun : {F : Type 0} → Reads F → ScheduledRun → Step F RunFiles
+ReadsRun reads command =
+    First (ReadsFile reads (string_bytes command.program)) (λ file.
+    First (Still (SaysProgram file)) (λ program.
+    First (ReadsSchedule reads (string_bytes command.schedule)) (λ schedule.
+    First (ReadsMedium reads (option_map string_bytes command.machine.medium)) (λ medium.
+    Still (GivesRun file program schedule medium)))))
+
+-- what the run starts from: a cache with a line for each of the medium's
+abbrev pub setup_of : ScheduledRun → RunFiles → Setup
+setup_of command run = with_room run.program run.medium command.machine.harts

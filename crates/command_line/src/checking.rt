@@ -4,19 +4,17 @@ ghost use Rattle.std.specs.Prelude.{◌≡◌, IfOk, string_bytes};
 ghost use Rattle.arguments.specs.Line.{IsWithin};
 ghost use Rattle.command_line.specs.Checking.{ChecksFile, Judges, cause_text, pass_line, verdict_line, verdict_status};
 ghost use Rattle.command_line.specs.Steps.{Prints};
-ghost use Rattle.tester.specs.Runs.{with_room};
+ghost use Rattle.command_line.specs.Reading.{setup_of};
 
 use crate::answer::Answer;
 use crate::codes::volume_code;
+use crate::demanding::demand_whole;
 use crate::failure::Failure;
 use crate::files::Files;
-use crate::reading::{read_medium, read_plan, read_program, read_schedule};
+use crate::reading::{RunFiles, read_plan, read_run};
 use arguments::CheckCommand;
 use image_check::{Cause, Verdict};
-use line_memory::Medium;
 use plan::Plan;
-use program::Program;
-use schedule::Schedule;
 use std::alloc::{AllocError, Global};
 use std::thread::Threads;
 use tester::check_program;
@@ -32,10 +30,9 @@ pub(crate) fn check_file<T: Threads + Sync, F: Files>(
     ensures { ChecksFile F.read_gives command.now files.old result files.new }
 {
     let plan = read_plan(alloc, command.plan.as_str(), files)?;
-    let program = read_program(alloc, command.program.as_str(), files)?;
-    let schedule = read_schedule(alloc, command.schedule.as_str(), files)?;
-    let medium = read_medium(alloc, &command.machine.medium, files)?;
-    let verdict = verdict(rt, alloc, command, &plan, program, medium, &schedule)?;
+    let run = read_run(alloc, &command.run, files)?;
+    demand_whole(alloc, &command.run, &run, plan.operations())?;
+    let verdict = verdict(rt, alloc, command, &plan, run)?;
     verdict_answer(alloc, &verdict)
 }
 
@@ -44,16 +41,20 @@ fn verdict<T: Threads + Sync>(
     alloc: Global,
     command: &CheckCommand,
     plan: &Plan,
-    program: Program,
-    medium: Medium,
-    schedule: &Schedule,
+    run: RunFiles,
 ) -> Result<Verdict, Failure>
     requires { IsWithin 1 8 command.now.workers }
-    ensures { Judges plan.now.operations (with_room program medium command.now.machine.harts) schedule.now result }
+    ensures { Judges plan.now.operations (setup_of command.now.run run) run.schedule result }
 {
-    let harts = command.machine.harts;
+    let RunFiles {
+        program,
+        schedule,
+        medium,
+        ..
+    } = run;
+    let harts = command.run.machine.harts;
     let workers = command.workers;
-    Ok(check_program(rt, alloc, plan, program, medium, harts, schedule, workers)?)
+    Ok(check_program(rt, alloc, plan, program, medium, harts, &schedule, workers)?)
 }
 
 fn verdict_answer(alloc: Global, verdict: &Verdict) -> Result<Answer, Failure>

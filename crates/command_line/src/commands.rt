@@ -17,6 +17,7 @@ use crate::files::Files;
 use crate::imaging::count_file;
 use crate::making::make_file;
 use crate::running::{replay_file, run_file};
+use crate::tracing::trace_file;
 use crate::upgrading::upgrade_file;
 use arguments::{Command, LineFault, command};
 use machine::Machine;
@@ -56,6 +57,7 @@ fn carry_out<T: Threads + Wait + Sync, F: Files>(
         Command::Run(command) => printed(run_file(rt, alloc, &command, files)),
         Command::Replay(command) => printed(replay_file(alloc, &command, files)),
         Command::Debug(command) => debugged(open_file(alloc, &command, files)),
+        Command::Trace(command) => printed(trace_file(alloc, &command, files)),
         Command::Images(command) => printed(count_file(alloc, &command, files)),
         Command::Explain(command) => printed(explain_file(alloc, &command, files)),
         Command::Check(command) => printed(check_file(rt, alloc, &command, files)),

@@ -5,16 +5,15 @@ ghost use Rattle.schedule.specs.Grammar.{hart_steps};
 ghost use Rattle.command_line.specs.Explaining.{Explained, ExplainsFile};
 ghost use Rattle.command_line.specs.Steps.{Prints};
 ghost use Rattle.command_line.specs.Writing.{schedule_line};
-ghost use Rattle.tester.specs.Runs.{with_room};
+ghost use Rattle.command_line.specs.Reading.{setup_of};
 
 use crate::answer::Answer;
+use crate::demanding::demand_whole;
 use crate::failure::Failure;
 use crate::files::Files;
-use crate::reading::{read_medium, read_program, read_schedule};
+use crate::reading::{RunFiles, read_run};
 use crate::writing::schedule_line;
 use arguments::ExplainCommand;
-use line_memory::Medium;
-use program::Program;
 use schedule::Schedule;
 use std::alloc::Global;
 use tester::explain_image;
@@ -28,31 +27,30 @@ pub(crate) fn explain_file<F: Files>(
 ) -> Result<Answer, Failure>
     ensures { ExplainsFile F.read_gives command.now files.old result files.new }
 {
-    let program = read_program(alloc, command.program.as_str(), files)?;
-    let schedule = read_schedule(alloc, command.schedule.as_str(), files)?;
-    let medium = read_medium(alloc, &command.machine.medium, files)?;
-    let explanation = explanation(alloc, program, medium, &schedule, command)?;
+    let run = read_run(alloc, &command.run, files)?;
+    demand_whole(alloc, &command.run, &run, &[])?;
+    let explanation = explanation(alloc, run, command)?;
     printed(alloc, &explanation)
 }
 
-fn explanation(
-    alloc: Global,
-    program: Program,
-    medium: Medium,
-    schedule: &Schedule,
-    command: &ExplainCommand,
-) -> Result<Schedule, Failure>
-    requires { hart_steps schedule.now < 2 ^ 32 }
-    ensures explained { Explained (with_room program medium command.now.machine.harts) schedule.now command.now.moment command.now.image result }
+fn explanation(alloc: Global, run: RunFiles, command: &ExplainCommand) -> Result<Schedule, Failure>
+    requires { hart_steps run.schedule < 2 ^ 32 }
+    ensures explained { Explained (setup_of command.now.run run) run.schedule command.now.moment command.now.image result }
     ensures few { IfOk result (λ explanation. hart_steps explanation < 2 ^ 32) }
 {
-    let harts = command.machine.harts;
+    let RunFiles {
+        program,
+        schedule,
+        medium,
+        ..
+    } = run;
+    let harts = command.run.machine.harts;
     Ok(explain_image(
         alloc,
         program,
         medium,
         harts,
-        schedule,
+        &schedule,
         command.moment,
         &command.image,
     )?)

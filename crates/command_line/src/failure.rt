@@ -78,6 +78,8 @@ pub enum Failure {
     Line(String),
     /// Its input is refused.
     Refused(Refusal),
+    /// The run was to be whole, and the text, of whole lines, says what keeps it from being so.
+    Unfinished(String),
     /// Memory was refused.
     Memory,
     /// A file, standard input or standard output couldn't be read or written.
@@ -93,7 +95,7 @@ impl Failure {
         ensures { result ≡ failure_status self.now }
     {
         match self {
-            Failure::Line(_) | Failure::Refused(_) => 2,
+            Failure::Line(_) | Failure::Refused(_) | Failure::Unfinished(_) => 2,
             Failure::Memory => 4,
             Failure::File => 5,
         }

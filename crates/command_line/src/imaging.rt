@@ -5,9 +5,10 @@ ghost use Rattle.command_line.specs.Steps.{Prints};
 ghost use Rattle.tester.specs.Runs.{with_room};
 
 use crate::answer::Answer;
+use crate::demanding::demand_whole;
 use crate::failure::Failure;
 use crate::files::Files;
-use crate::reading::{read_medium, read_program, read_schedule};
+use crate::reading::read_run;
 use arguments::ImagesCommand;
 use line_memory::Medium;
 use program::Program;
@@ -24,12 +25,12 @@ pub(crate) fn count_file<F: Files>(
 ) -> Result<Answer, Failure>
     ensures { CountsFile F.read_gives command.now files.old result files.new }
 {
-    let program = read_program(alloc, command.program.as_str(), files)?;
-    let schedule = read_schedule(alloc, command.schedule.as_str(), files)?;
-    let medium = read_medium(alloc, &command.machine.medium, files)?;
-    let harts = command.machine.harts;
-    let count = count(alloc, program, medium, harts, &schedule, command.moment)?;
-    images_line(alloc, command.moment, count)
+    let run = read_run(alloc, &command.run, files)?;
+    demand_whole(alloc, &command.run, &run, &[])?;
+    let harts = command.run.machine.harts;
+    let moment = command.moment;
+    let count = count(alloc, run.program, run.medium, harts, &run.schedule, moment)?;
+    images_line(alloc, moment, count)
 }
 
 fn count(

@@ -9,6 +9,7 @@ mod codes;
 mod coding;
 mod commands;
 mod debugging;
+mod demanding;
 mod executing;
 mod explaining;
 mod failure;
@@ -20,6 +21,7 @@ mod reporting;
 mod running;
 mod streams;
 mod telling;
+mod tracing;
 mod upgrading;
 mod writing;
 

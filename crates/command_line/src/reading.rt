@@ -3,18 +3,52 @@
 ghost use Rattle.std.specs.Prelude.{◌<◌, ◌^◌, IfOk, option_map, string_bytes};
 ghost use Rattle.std.specs.Result.{result_map_both};
 ghost use Rattle.schedule.specs.Grammar.{hart_steps};
-ghost use Rattle.command_line.specs.Reading.{IsDefaultMedium, ReadsMedium, ReadsPlan, ReadsProgram, ReadsSchedule};
+ghost use Rattle.command_line.specs.Reading.{IsDefaultMedium, ReadsMedium, ReadsPlan, ReadsProgram, ReadsRun, ReadsSchedule};
 ghost use Rattle.command_line.specs.Reading.{SaysMedium, SaysPlan, SaysProgram, SaysSchedule};
 ghost use Rattle.command_line.specs.Steps.{ReadsFile};
+ghost use Rattle.tester.specs.Programs.{IsProgramOf};
 
 use crate::failure::Failure;
 use crate::files::Files;
+use arguments::ScheduledRun;
 use line_memory::Medium;
 use plan::Plan;
 use program::Program;
 use schedule::Schedule;
 use std::alloc::Global;
 use tester::{default_medium, load_program};
+
+/// A run by a schedule, as its files give it.
+#[derive(Drop)]
+pub(crate) struct RunFiles {
+    /// The bytes of the program's file.
+    pub(crate) file: Vec<u8>,
+    pub(crate) program: Program,
+    pub(crate) schedule: Schedule,
+    pub(crate) medium: Medium,
+}
+
+/// The run that the files of a command give.
+pub(crate) fn read_run<F: Files>(
+    alloc: Global,
+    command: &ScheduledRun,
+    files: &mut F,
+) -> Result<RunFiles, Failure>
+    ensures reads { ReadsRun F.read_gives command.now files.old result files.new }
+    ensures few { IfOk result (λ run. hart_steps run.schedule < 2 ^ 32) }
+    ensures program { IfOk result (λ run. IsProgramOf run.file.items run.program) }
+{
+    let file = read_file(command.program.as_str(), files)?;
+    let program = program_of(alloc, &file)?;
+    let schedule = read_schedule(alloc, command.schedule.as_str(), files)?;
+    let medium = read_medium(alloc, &command.machine.medium, files)?;
+    Ok(RunFiles {
+        file,
+        program,
+        schedule,
+        medium,
+    })
+}
 
 /// The bytes of a file.
 pub(crate) fn read_file<F: Files>(name: &str, files: &mut F) -> Result<Vec<u8>, Failure>
@@ -36,7 +70,8 @@ pub(crate) fn read_program<F: Files>(
 }
 
 fn program_of(alloc: Global, file: &[u8]) -> Result<Program, Failure>
-    ensures { SaysProgram file.now result }
+    ensures says { SaysProgram file.now result }
+    ensures program { IfOk result (IsProgramOf file.now) }
 {
     Ok(load_program(alloc, file)?)
 }

@@ -23,7 +23,7 @@ pub fn tell<E: io::Write>(failure: &Failure, errors: &mut E) -> Result<(), Faile
     ensures front { AppendsFront (E.contents errors.old) (E.contents errors.new) (failure_text failure.now) }
 {
     match failure {
-        Failure::Line(text) => print(text.as_bytes(), errors),
+        Failure::Line(text) | Failure::Unfinished(text) => print(text.as_bytes(), errors),
         Failure::Refused(refusal) => match refusal_line(refusal) {
             Some(line) => print(line.as_str().as_bytes(), errors),
             None => Err(Failed),

@@ -68,7 +68,7 @@ fn command_of_help(rt: HostRuntime) -> Result<(), Refused> {
 }
 
 /// The files, by their names.
-const FILES: [(&str, &str); 6] = [
+const FILES: [(&str, &str); 7] = [
     (
         "first.s",
         "addi x5, x0, 7\nlui x6, 0x40000\nsd x5, 0(x6)\ncbo.clean (x6)\nfence w, w\n\
@@ -79,6 +79,7 @@ const FILES: [(&str, &str); 6] = [
         "addi x5, x0, 1\naddi x6, x11, 320\nsd x5, 0(x6)\naddi x5, x5, 1\nsd x5, 0(x6)\n\
         cbo.clean (x6)\naddi x5, x5, 1\nsd x5, 0(x6)\nfence w, w\n",
     ),
+    ("two", "h0*2"),
     ("eight", "h0*8"),
     ("nine", "h0*9"),
     ("bad.s", "addi x5, x0, 7\nadd\n"),
@@ -286,6 +287,32 @@ const REPLAY: Example = Example {
 #[test]
 fn execute_replay(rt: HostRuntime) -> Result<(), Refused> {
     ended(&rt, typed(&rt, &REPLAY))
+}
+
+const TRACE: Example = Example {
+    line: "novacrash trace first.s eight --whole",
+    typed: "",
+    status: 0,
+    printed: "1 h0 step=3 pc=0x10008 line=3 store l0+0 w8 0x7\n2 h0 step=4 pc=0x1000c line=4 clean l0\n\
+        3 h0 step=5 pc=0x10010 line=5 fence\nevents 3\n",
+};
+
+#[test]
+fn execute_trace(rt: HostRuntime) -> Result<(), Refused> {
+    ended(&rt, typed(&rt, &TRACE))
+}
+
+/// A run that has to be whole, and is cut off before the planned operation began.
+const WHOLE: Example = Example {
+    line: "novacrash check one.plan first.s two --whole",
+    typed: "",
+    status: 2,
+    printed: "not whole: h0 running pc=0x10008 line=3\nnot whole: operation 1 never began\n",
+};
+
+#[test]
+fn execute_check_of_a_run_that_is_not_whole(rt: HostRuntime) -> Result<(), Refused> {
+    ended(&rt, typed(&rt, &WHOLE))
 }
 
 const IMAGES: Example = Example {

@@ -5,7 +5,7 @@ use Rattle.command_line.specs.Outcomes.{EndsWith}
 use Rattle.command_line.specs.Reports.{line_end}
 use Rattle.command_line.specs.Steps.{Reads, Writes}
 use Rattle.command_line.specs.declared.failure.Failure.{Failure}
-use Rattle.command_line.specs.declared.failure.Failure.TheVariants.{File, Line, Memory, Refused}
+use Rattle.command_line.specs.declared.failure.Failure.TheVariants.{File, Line, Memory, Refused, Unfinished}
 use Rattle.session.specs.Failing.{AppendsFront}
 
 -- why the words of a line can't be had: memory was refused, or one of them is no text
@@ -13,6 +13,7 @@ abbrev pub IsLost : Failure → Type 0
 IsLost (Line text) = string_bytes text ≡ codes "error: a word of the command line isn't UTF-8" ++ line_end
 IsLost Memory = ⊤
 IsLost (Refused refusal) = ⊥
+IsLost (Unfinished text) = ⊥
 IsLost File = ⊥
 
 -- a line whose words were lost: nothing of it is carried out, and at most the failure's lines are told

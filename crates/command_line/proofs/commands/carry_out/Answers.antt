@@ -20,6 +20,9 @@ returns-in-Replay g c = rw c.in-Replay.is (record { found = c.replay_file.result
 pub returns-in-Debug : goal.returns-in-Debug
 returns-in-Debug g c = rw c.in-Debug.is (record { found = c.open_file.result; finding = c.open_file.ensures; leads = c.debugged.ensures })
 
+pub returns-in-Trace : goal.returns-in-Trace
+returns-in-Trace g c = rw c.in-Trace.is (record { found = c.trace_file.result; finding = c.trace_file.ensures; leads = c.printed-in-Trace.ensures })
+
 pub returns-in-Images : goal.returns-in-Images
 returns-in-Images g c = rw c.in-Images.is (record { found = c.count_file.result; finding = c.count_file.ensures; leads = c.printed-in-Images.ensures })
 

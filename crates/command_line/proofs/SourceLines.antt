@@ -1,0 +1,17 @@
+-- Texts by the line numbers of a program's file are those by its source's lines.
+use Rattle.std.proofs.Common.{◌≡◌, ◌∙◌, ◌≢◌, ℕ, List, [], Option, ap}
+use Rattle.std.proofs.Math.Path.{fun_ext}
+use Rattle.program_trace.specs.Lines.{line_of}
+use Rattle.run_text.specs.Causes.{unfinished_text}
+use Rattle.run_text.specs.Events.{trace_text}
+use Rattle.run_text.specs.Places.{line_in}
+use Rattle.run_trace.specs.declared.traced_event.TracedEvent.{TracedEvent}
+use Rattle.whole_run.specs.declared.unfinished.Unfinished.{Unfinished}
+
+pub traced_of_source : (file : List ℕ) (lines : Option (List ℕ)) (traced : List TracedEvent) → ((pc : ℕ) → line_in lines pc ≡ line_of file pc)
+    → trace_text (line_in lines) traced ≡ trace_text (line_of file) traced
+traced_of_source file lines traced same = ap (λ (f : ℕ → Option ℕ). trace_text f traced) (fun_ext same)
+
+pub unfinished_of_source : (file : List ℕ) (lines : Option (List ℕ)) (causes : List Unfinished) → ((pc : ℕ) → line_in lines pc ≡ line_of file pc)
+    → unfinished_text (line_in lines) causes ≡ unfinished_text (line_of file) causes
+unfinished_of_source file lines causes same = ap (λ (f : ℕ → Option ℕ). unfinished_text f causes) (fun_ext same)

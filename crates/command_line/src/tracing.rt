@@ -1,0 +1,62 @@
+//! The command that prints the events of a run.
+
+ghost use Rattle.command_line.specs.Reading.{setup_of};
+ghost use Rattle.command_line.specs.Steps.{Prints};
+ghost use Rattle.command_line.specs.Tracing.{Traced, TracesFile};
+ghost use Rattle.program_trace.specs.Lines.{line_of};
+ghost use Rattle.run_text.specs.Events.{trace_text};
+ghost use Rattle.schedule.specs.Grammar.{hart_steps};
+ghost use Rattle.std.specs.Prelude.{◌^◌, ◌<◌};
+ghost use Rattle.std.specs.Result.{result_map_both};
+ghost use Rattle.tester.specs.Programs.{IsProgramOf};
+ghost use Rattle.object.specs.Sections.{Sections};
+
+use crate::answer::Answer;
+use crate::demanding::demand_whole;
+use crate::failure::Failure;
+use crate::files::Files;
+use crate::reading::{RunFiles, read_run};
+use arguments::ScheduledRun;
+use program_trace::{source_lines, trace_program};
+use run_text::trace_text;
+use run_trace::TracedEvent;
+use std::alloc::Global;
+
+/// `trace`: reads the files of a program, a schedule and a medium, and prints the events of the run, each with its hart step,
+/// the pc before it and its line in the source.
+pub(crate) fn trace_file<F: Files>(
+    alloc: Global,
+    command: &ScheduledRun,
+    files: &mut F,
+) -> Result<Answer, Failure>
+    ensures { TracesFile F.read_gives command.now files.old result files.new }
+{
+    let run = read_run(alloc, command, files)?;
+    demand_whole(alloc, command, &run, &[])?;
+    let traced = traced(alloc, command, &run)?;
+    trace_answer(alloc, &run.file, &traced)
+}
+
+fn traced(
+    alloc: Global,
+    command: &ScheduledRun,
+    run: &RunFiles,
+) -> Result<Vec<TracedEvent>, Failure>
+    requires { hart_steps run.now.schedule < 2 ^ 32 }
+    ensures { Traced (setup_of command.now run.now) run.now.schedule (result_map_both (λ traced. traced.items) (λ failure. failure) result) }
+{
+    let harts = command.machine.harts;
+    let program = run.program.copy(alloc)?;
+    let medium = run.medium.copy(alloc)?;
+    Ok(trace_program(alloc, program, medium, harts, &run.schedule)?)
+}
+
+#[tactic(auto, using(crate::proofs::SourceLines::traced_of_source))]
+fn trace_answer(alloc: Global, file: &[u8], traced: &[TracedEvent]) -> Result<Answer, Failure>
+    requires { (program : Sections) × IsProgramOf file.now program }
+    ensures { Prints (trace_text (line_of file.now) traced.now) 0 result }
+{
+    let lines = source_lines(alloc, file)?;
+    let text = trace_text(alloc, traced, &lines)?;
+    Ok(Answer { text, status: 0 })
+}

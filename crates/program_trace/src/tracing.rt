@@ -1,0 +1,43 @@
+//! The events of a program's run, and where they come from.
+
+ghost use Rattle.program_trace.specs.Tracing.{IsTraced};
+ghost use Rattle.run_trace.specs.Traced.{events_in};
+ghost use Rattle.schedule.specs.Grammar.{hart_steps};
+ghost use Rattle.std.specs.Prelude.{◌^◌, ◌<◌, IfErr, IfOk};
+ghost use Rattle.tester.specs.Runs.{FailsToRun, HasTrace, with_room};
+
+use line_memory::Medium;
+use machine::{Schedule, StepFault};
+use program::Program;
+use run_trace::{TracedEvent, trace_run};
+use std::alloc::Global;
+use tester::start_program;
+
+/// The events of the run of a program by a schedule, over a medium behind a cache of as many lines, in order, each with the
+/// number of the hart step that made it, the first one's being 1, and the pc that its hart had before that step.
+///
+/// # Errors
+/// NoSuchHart where `harts` isn't from 1 to 8; else why the first step that is refused is so. Memory where a growth is
+/// refused.
+#[tactic(auto, using(crate::proofs::Ends::stops))]
+pub fn trace_program(
+    alloc: Global,
+    program: Program,
+    medium: Medium,
+    harts: u32,
+    schedule: &Schedule,
+) -> Result<Vec<TracedEvent>, StepFault>
+    requires { hart_steps schedule.now < 2 ^ 32 }
+    ensures ok { IfOk result (λ traced. IsTraced (with_room program medium harts) schedule.now traced.items) }
+
+    // They are the events of Run, all of them and no others.
+    ensures events { IfOk result (λ traced. HasTrace (with_room program medium harts) schedule.now (events_in traced.items)) }
+    ensures err { IfErr result (FailsToRun (with_room program medium harts) schedule.now) }
+{
+    let lines = medium.lines();
+    let machine = start_program(alloc, program, medium, harts, lines)?;
+    match trace_run(alloc, machine, schedule) {
+        Ok(traced) => Ok(traced),
+        Err(stop) => Err(stop.fault),
+    }
+}

@@ -1,0 +1,7 @@
+use Rattle.std.proofs.Common.{◌≡◌, string_bytes}
+use Rattle.run_text.specs.Places.{line_in}
+use Rattle.run_text.proofs.Lines.{lines_below}
+use Rattle.run_text.proofs.events.trace_text.Given as goal
+
+abbrev pub invariant-loop-index : goal.invariant-loop-index
+invariant-loop-index l = string_bytes l.text ≡ lines_below (line_in l.lines) l.traced l.index

@@ -1,0 +1,3 @@
+pub mod Places
+pub mod Events
+pub mod Causes

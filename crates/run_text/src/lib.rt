@@ -1,0 +1,10 @@
+//! What is printed of a run: its events, each with its place in the program, and what keeps it from being whole.
+#![tactic(auto)]
+
+mod causes;
+mod events;
+mod place;
+
+pub use causes::unfinished_text;
+pub use events::trace_text;
+pub use place::Place;

@@ -1,0 +1,3 @@
+mod Loops
+mod Numbers
+mod Wholes
