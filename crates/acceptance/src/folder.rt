@@ -1,6 +1,7 @@
 //! Files in memory, by their names.
 
 use crate::copying::filled_volume;
+use crate::loss_routines::LOSS_FILES;
 use crate::routines::FILES;
 use command_line::{FileFault, Files};
 use std::alloc::{AllocError, Global};
@@ -60,6 +61,7 @@ impl Files for Folder {
 pub(crate) fn folder_of_examples(alloc: Global) -> Result<Folder, AllocError> {
     let mut folder = Folder::new(alloc);
     folder.put_all(&FILES)?;
+    folder.put_all(&LOSS_FILES)?;
     folder.put("filled", &filled_volume(alloc)?)?;
     Ok(folder)
 }

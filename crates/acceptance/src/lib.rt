@@ -15,6 +15,10 @@ mod folder;
 #[cfg(test)]
 mod imaging;
 #[cfg(test)]
+mod loss_routines;
+#[cfg(test)]
+mod persisting;
+#[cfg(test)]
 mod racing;
 #[cfg(test)]
 mod refusing;

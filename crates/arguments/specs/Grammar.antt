@@ -78,6 +78,13 @@ trace_shape = record (new_shape (codes "trace")) {
       ∷ valued_option (codes "harts") ∷ flag_option (codes "whole") ∷ help_option ∷ [];
 }
 
+-- `unpersisted PROGRAM SCHEDULE [--medium FILE --harts N --whole]`
+unfoldable pub unpersisted_shape : Shape
+unpersisted_shape = record (new_shape (codes "unpersisted")) {
+  rules = needed_word (codes "PROGRAM") ∷ needed_word (codes "SCHEDULE") ∷ valued_option (codes "medium")
+      ∷ valued_option (codes "harts") ∷ flag_option (codes "whole") ∷ help_option ∷ [];
+}
+
 -- `images PROGRAM SCHEDULE MOMENT [--medium FILE --harts N --whole]`
 unfoldable pub images_shape : Shape
 images_shape = record (new_shape (codes "images")) {
@@ -130,7 +137,7 @@ line shapes = record { top = record bare { is_leaf = is_none shapes }; subs = sh
 -- the whole line
 abbrev pub novacrash : App
 novacrash = line (assemble_shape ∷ make_volume_shape ∷ upgrade_shape ∷ run_shape ∷ replay_shape ∷ debug_shape
-    ∷ trace_shape ∷ images_shape ∷ explain_shape ∷ check_shape ∷ code_shape ∷ [])
+    ∷ trace_shape ∷ unpersisted_shape ∷ images_shape ∷ explain_shape ∷ check_shape ∷ code_shape ∷ [])
 
 -- the rule of an argument of the table
 abbrev pub rule : Argument → Rule

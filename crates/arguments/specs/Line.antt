@@ -11,7 +11,7 @@ use Rattle.arguments.specs.declared.asked.AssembleCommand.{AssembleCommand}
 use Rattle.arguments.specs.declared.asked.CheckCommand.{CheckCommand}
 use Rattle.arguments.specs.declared.asked.CodeCommand.{CodeCommand}
 use Rattle.arguments.specs.declared.asked.Command.{Command}
-use Rattle.arguments.specs.declared.asked.Command.TheVariants.{Assemble, Check, Code, Debug, Explain, Images, MakeVolume, Replay, Run, Trace, Upgrade}
+use Rattle.arguments.specs.declared.asked.Command.TheVariants.{Assemble, Check, Code, Debug, Explain, Images, MakeVolume, Replay, Run, Trace, Unpersisted, Upgrade}
 use Rattle.arguments.specs.declared.asked.DebugCommand.{DebugCommand}
 use Rattle.arguments.specs.declared.asked.ExplainCommand.{ExplainCommand}
 use Rattle.arguments.specs.declared.asked.ImagesCommand.{ImagesCommand}
@@ -112,6 +112,7 @@ IsOf name rows (Run command) = (name ≡ codes "run") × IsRun rows command
 IsOf name rows (Replay command) = (name ≡ codes "replay") × IsReplay rows command
 IsOf name rows (Debug command) = (name ≡ codes "debug") × IsDebug rows command
 IsOf name rows (Trace run) = (name ≡ codes "trace") × IsScheduledRun rows run
+IsOf name rows (Unpersisted run) = (name ≡ codes "unpersisted") × IsScheduledRun rows run
 IsOf name rows (Images command) = (name ≡ codes "images") × IsImages rows command
 IsOf name rows (Explain command) = (name ≡ codes "explain") × IsExplain rows command
 IsOf name rows (Check command) = (name ≡ codes "check") × IsCheck rows command
@@ -145,6 +146,7 @@ IsWithinLimits (Run command) = IsMachineWithin command.machine × IsWithin 1 500
 IsWithinLimits (Replay command) = IsMachineWithin command.machine
 IsWithinLimits (Debug command) = IsMachineWithin command.machine
 IsWithinLimits (Trace run) = IsMachineWithin run.machine
+IsWithinLimits (Unpersisted run) = IsMachineWithin run.machine
 IsWithinLimits (Images command) = IsMachineWithin command.run.machine × (command.moment < 2 ^ 32)
 IsWithinLimits (Explain command) = IsMachineWithin command.run.machine × (command.moment < 2 ^ 32) × IsProper command.image
 IsWithinLimits (Check command) = IsMachineWithin command.run.machine × IsWithin 1 8 command.workers

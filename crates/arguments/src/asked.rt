@@ -22,6 +22,8 @@ pub enum Command {
     Debug(DebugCommand),
     /// `trace PROGRAM SCHEDULE [--medium FILE --harts N --whole]`.
     Trace(ScheduledRun),
+    /// `unpersisted PROGRAM SCHEDULE [--medium FILE --harts N --whole]`.
+    Unpersisted(ScheduledRun),
     /// `images PROGRAM SCHEDULE MOMENT [--medium FILE --harts N --whole]`.
     Images(ImagesCommand),
     /// `explain PROGRAM SCHEDULE MOMENT IMAGE [--medium FILE --harts N --whole]`.

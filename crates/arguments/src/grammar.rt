@@ -172,7 +172,7 @@ const WHOLE: Argument = Argument::Flag {
 };
 
 /// The subcommands, in the order in which help tells them.
-pub(crate) static SUBCOMMANDS: [Subcommand; 11] = [
+pub(crate) static SUBCOMMANDS: [Subcommand; 12] = [
     Subcommand {
         name: "asm",
         about: "Assemble a source and write its object",
@@ -217,6 +217,12 @@ pub(crate) static SUBCOMMANDS: [Subcommand; 11] = [
         about: "Print the events of a run by a schedule, each with its step, pc and source line",
         arguments: &[PROGRAM, SCHEDULE, MEDIUM, HARTS, WHOLE],
         ending: ending!("trace append.s append.schedule --medium fresh.medium --whole"),
+    },
+    Subcommand {
+        name: "unpersisted",
+        about: "Print the stores of a run that weren't durable when their operation ended",
+        arguments: &[PROGRAM, SCHEDULE, MEDIUM, HARTS, WHOLE],
+        ending: ending!("unpersisted append.s append.schedule --medium fresh.medium --whole"),
     },
     Subcommand {
         name: "images",

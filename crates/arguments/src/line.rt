@@ -76,6 +76,7 @@ fn asked(alloc: Global, name: &str, found: &ArgMatches<'_>) -> Result<Command, L
         "replay" => Command::Replay(replay(alloc, found)?),
         "debug" => Command::Debug(debug(alloc, found)?),
         "trace" => Command::Trace(scheduled_run(alloc, found)?),
+        "unpersisted" => Command::Unpersisted(scheduled_run(alloc, found)?),
         "images" => Command::Images(images(alloc, found)?),
         "explain" => Command::Explain(explain(alloc, found)?),
         "check" => Command::Check(check(alloc, found)?),
@@ -99,6 +100,7 @@ fn asked(alloc: Global, name: &str, found: &ArgMatches<'_>) -> Result<Command, L
 /// - `replay PROGRAM SCHEDULE [--medium FILE --harts N --capacity N --out FILE]`
 /// - `debug PROGRAM [--medium FILE --harts N --capacity N]`
 /// - `trace PROGRAM SCHEDULE [--medium FILE --harts N --whole]`
+/// - `unpersisted PROGRAM SCHEDULE [--medium FILE --harts N --whole]`
 /// - `images PROGRAM SCHEDULE MOMENT [--medium FILE --harts N --whole]`
 /// - `explain PROGRAM SCHEDULE MOMENT IMAGE [--medium FILE --harts N --whole]`
 /// - `check PLAN PROGRAM SCHEDULE [--medium FILE --harts N --workers N --whole]`

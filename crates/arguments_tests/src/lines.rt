@@ -70,6 +70,10 @@ fn images_of(alloc: Global, command: &Command) -> Result<String, AllocError> {
             let run = scheduled_of(alloc, run)?;
             format!(in alloc; "trace {run}")
         }
+        Command::Unpersisted(run) => {
+            let run = scheduled_of(alloc, run)?;
+            format!(in alloc; "unpersisted {run}")
+        }
         Command::Images(images) => {
             let run = scheduled_of(alloc, &images.run)?;
             format!(in alloc; "images {run} / {}", images.moment)
@@ -162,6 +166,10 @@ fn defaults_stand_where_options_are_left_out(rt: HostRuntime) -> Result<(), Fail
         ("novacrash debug a.s", "debug a.s / - 1 16"),
         ("novacrash trace a.s s", "trace a.s s / - 1 whole any"),
         (
+            "novacrash unpersisted a.s s",
+            "unpersisted a.s s / - 1 whole any",
+        ),
+        (
             "novacrash images a.s s 7",
             "images a.s s / - 1 whole any / 7",
         ),
@@ -188,7 +196,7 @@ fn defaults_stand_where_options_are_left_out(rt: HostRuntime) -> Result<(), Fail
 }
 
 /// Lines with options, before and after the words, and what they are read as.
-const WITH_OPTIONS: [(&str, &str); 20] = [
+const WITH_OPTIONS: [(&str, &str); 21] = [
     (
         "novacrash trace --whole a.s s --harts 2 --medium m",
         "trace a.s s / m 2 whole must-be-whole",
@@ -196,6 +204,10 @@ const WITH_OPTIONS: [(&str, &str); 20] = [
     (
         "novacrash trace a.s s --harts 2",
         "trace a.s s / - 2 whole any",
+    ),
+    (
+        "novacrash unpersisted a.s --whole s --harts 2 --medium m",
+        "unpersisted a.s s / m 2 whole must-be-whole",
     ),
     (
         "novacrash images a.s s --whole 7",
@@ -408,6 +420,8 @@ fn missing_and_further_words_are_faults(rt: HostRuntime) -> Result<(), Fail> {
         "novacrash trace",
         "novacrash trace a.s",
         "novacrash trace a.s s t",
+        "novacrash unpersisted a.s",
+        "novacrash unpersisted a.s s t",
         "novacrash images",
         "novacrash images a.s s",
         "novacrash images a.s s 0 1",
@@ -467,6 +481,7 @@ fn options_out_of_place_are_faults(rt: HostRuntime) -> Result<(), Fail> {
         "novacrash trace a.s s --capacity 2",
         "novacrash trace a.s s --workers 2",
         "novacrash trace a.s s --whole=yes",
+        "novacrash unpersisted a.s s --workers 2",
         "novacrash trace a.s s --whole --whole",
         "novacrash trace a.s s --who",
         "novacrash check p a.s s --whole --workers 2 --whole",
@@ -500,6 +515,7 @@ fn help_is_asked_for(rt: HostRuntime) -> Result<(), Fail> {
         "novacrash replay --help",
         "novacrash debug --help",
         "novacrash trace --help",
+        "novacrash unpersisted --help",
         "novacrash images --help",
         "novacrash explain --help",
         "novacrash check --help",

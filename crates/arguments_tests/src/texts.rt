@@ -117,7 +117,7 @@ fn faults_are_told(rt: HostRuntime) -> Result<(), Fail> {
 }
 
 /// Whole lines of each command, and its usage.
-const USAGES: [(&str, &str); 11] = [
+const USAGES: [(&str, &str); 12] = [
     ("asm a.s a.o", "asm <SOURCE> <OBJECT>"),
     ("mkfs p 512 m", "mkfs <PLAN> <LINES> <MEDIUM>"),
     ("upgrade o 1 512 n", "upgrade <OLD> <PAGES> <LINES> <NEW>"),
@@ -125,6 +125,10 @@ const USAGES: [(&str, &str); 11] = [
     ("replay a.s s", "replay [OPTIONS] <PROGRAM> <SCHEDULE>"),
     ("debug a.s", "debug [OPTIONS] <PROGRAM>"),
     ("trace a.s s", "trace [OPTIONS] <PROGRAM> <SCHEDULE>"),
+    (
+        "unpersisted a.s s",
+        "unpersisted [OPTIONS] <PROGRAM> <SCHEDULE>",
+    ),
     (
         "images a.s s 1",
         "images [OPTIONS] <PROGRAM> <SCHEDULE> <MOMENT>",
@@ -162,7 +166,7 @@ Formats and codes: docs/FORMATS.md; `novacrash code CODE` says what a code means
 ";
 
 /// The help of each command, before that.
-const HELPS: [(&str, &str); 11] = [
+const HELPS: [(&str, &str); 12] = [
     (
         "asm",
         "\
@@ -302,6 +306,26 @@ Example: novacrash trace append.s append.schedule --medium fresh.medium --whole
 ",
     ),
     (
+        "unpersisted",
+        "\
+Print the stores of a run that weren't durable when their operation ended
+
+Usage: novacrash unpersisted [OPTIONS] <PROGRAM> <SCHEDULE>
+
+Arguments:
+  <PROGRAM>   The program's file: an object or a source
+  <SCHEDULE>  The schedule's file
+
+Options:
+      --medium <FILE>  The medium's file [default: 512 lines of zeros]
+      --harts <N>      The number of harts, from 1 to 8 [default: 1]
+      --whole          Refuse a run in which a hart doesn't exit with 0, or an operation doesn't end
+      --help           Print help
+
+Example: novacrash unpersisted append.s append.schedule --medium fresh.medium --whole
+",
+    ),
+    (
         "images",
         "\
 Count the crash images of a moment of a run by a schedule
@@ -402,17 +426,18 @@ A crash tester for persistent-memory routines
 Usage: novacrash <COMMAND>
 
 Commands:
-  asm      Assemble a source and write its object
-  mkfs     Write a fresh log volume for the operations of a plan
-  upgrade  Move the logs of a volume to a new volume of the second layout
-  run      Run a program
-  replay   Run a program by a schedule
-  debug    Debug a program by commands on standard input
-  trace    Print the events of a run by a schedule, each with its step, pc and source line
-  images   Count the crash images of a moment of a run by a schedule
-  explain  Print a schedule that leaves a crash image of a moment of a run
-  check    Judge every crash image of a run by a schedule
-  code     Say what a code means that the program prints, and what to do
+  asm          Assemble a source and write its object
+  mkfs         Write a fresh log volume for the operations of a plan
+  upgrade      Move the logs of a volume to a new volume of the second layout
+  run          Run a program
+  replay       Run a program by a schedule
+  debug        Debug a program by commands on standard input
+  trace        Print the events of a run by a schedule, each with its step, pc and source line
+  unpersisted  Print the stores of a run that weren't durable when their operation ended
+  images       Count the crash images of a moment of a run by a schedule
+  explain      Print a schedule that leaves a crash image of a moment of a run
+  check        Judge every crash image of a run by a schedule
+  code         Say what a code means that the program prints, and what to do
 
 Options:
       --help  Print help

@@ -1,6 +1,9 @@
 -- Texts by the line numbers of a program's file are those by its source's lines.
 use Rattle.std.proofs.Common.{◌≡◌, ◌∙◌, ◌≢◌, ℕ, List, [], Option, ap}
 use Rattle.std.proofs.Math.Path.{fun_ext}
+use Rattle.durability.specs.declared.ends.Unpersisted.{Unpersisted}
+use Rattle.loss_text.specs.Events.{event_text}
+use Rattle.loss_text.specs.Unpersisted.{unpersisted_text}
 use Rattle.program_trace.specs.Lines.{line_of}
 use Rattle.run_text.specs.Causes.{unfinished_text}
 use Rattle.run_text.specs.Events.{trace_text}
@@ -15,3 +18,8 @@ traced_of_source file lines traced same = ap (λ (f : ℕ → Option ℕ). trace
 pub unfinished_of_source : (file : List ℕ) (lines : Option (List ℕ)) (causes : List Unfinished) → ((pc : ℕ) → line_in lines pc ≡ line_of file pc)
     → unfinished_text (line_in lines) causes ≡ unfinished_text (line_of file) causes
 unfinished_of_source file lines causes same = ap (λ (f : ℕ → Option ℕ). unfinished_text f causes) (fun_ext same)
+
+pub unpersisted_of_source : (file : List ℕ) (lines : Option (List ℕ)) (traced : List TracedEvent) (told : Unpersisted)
+    → ((pc : ℕ) → line_in lines pc ≡ line_of file pc)
+    → unpersisted_text (event_text (line_in lines) traced) told ≡ unpersisted_text (event_text (line_of file) traced) told
+unpersisted_of_source file lines traced told same = ap (λ (f : ℕ → Option ℕ). unpersisted_text (event_text f traced) told) (fun_ext same)

@@ -14,5 +14,6 @@ pub mod Reports
 pub mod Running
 pub mod Steps
 pub mod Tracing
+pub mod Persisting
 pub mod Upgrading
 pub mod Writing

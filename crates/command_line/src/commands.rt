@@ -16,6 +16,7 @@ use crate::failure::Failure;
 use crate::files::Files;
 use crate::imaging::count_file;
 use crate::making::make_file;
+use crate::persisting::unpersisted_file;
 use crate::running::{replay_file, run_file};
 use crate::tracing::trace_file;
 use crate::upgrading::upgrade_file;
@@ -58,6 +59,7 @@ fn carry_out<T: Threads + Wait + Sync, F: Files>(
         Command::Replay(command) => printed(replay_file(alloc, &command, files)),
         Command::Debug(command) => debugged(open_file(alloc, &command, files)),
         Command::Trace(command) => printed(trace_file(alloc, &command, files)),
+        Command::Unpersisted(command) => printed(unpersisted_file(alloc, &command, files)),
         Command::Images(command) => printed(count_file(alloc, &command, files)),
         Command::Explain(command) => printed(explain_file(alloc, &command, files)),
         Command::Check(command) => printed(check_file(rt, alloc, &command, files)),

@@ -16,6 +16,7 @@ mod failure;
 mod files;
 mod imaging;
 mod making;
+mod persisting;
 mod reading;
 mod reporting;
 mod running;

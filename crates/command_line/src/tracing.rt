@@ -48,7 +48,8 @@ fn traced(
     let harts = command.machine.harts;
     let program = run.program.copy(alloc)?;
     let medium = run.medium.copy(alloc)?;
-    Ok(trace_program(alloc, program, medium, harts, &run.schedule)?)
+    let events = trace_program(alloc, program, medium, harts, &run.schedule)?;
+    Ok(events.traced)
 }
 
 #[tactic(auto, using(crate::proofs::SourceLines::traced_of_source))]

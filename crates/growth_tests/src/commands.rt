@@ -68,7 +68,7 @@ fn command_of_help(rt: HostRuntime) -> Result<(), Refused> {
 }
 
 /// The files, by their names.
-const FILES: [(&str, &str); 7] = [
+const FILES: [(&str, &str); 9] = [
     (
         "first.s",
         "addi x5, x0, 7\nlui x6, 0x40000\nsd x5, 0(x6)\ncbo.clean (x6)\nfence w, w\n\
@@ -79,7 +79,13 @@ const FILES: [(&str, &str); 7] = [
         "addi x5, x0, 1\naddi x6, x11, 320\nsd x5, 0(x6)\naddi x5, x5, 1\nsd x5, 0(x6)\n\
         cbo.clean (x6)\naddi x5, x5, 1\nsd x5, 0(x6)\nfence w, w\n",
     ),
+    (
+        "bare.s",
+        "li a7, 2001\nli a0, 1\necall\nsd a0, 0(a1)\nli a7, 2002\necall\nsd a0, 64(a1)\nli a7, 93\n\
+        li a0, 0\necall\n",
+    ),
     ("two", "h0*2"),
+    ("ten", "h0*10"),
     ("eight", "h0*8"),
     ("nine", "h0*9"),
     ("bad.s", "addi x5, x0, 7\nadd\n"),
@@ -300,6 +306,20 @@ const TRACE: Example = Example {
 #[test]
 fn execute_trace(rt: HostRuntime) -> Result<(), Refused> {
     ended(&rt, typed(&rt, &TRACE))
+}
+
+/// A store of an operation and one behind it, neither of them cleaned.
+const UNPERSISTED: Example = Example {
+    line: "novacrash unpersisted bare.s ten --whole",
+    typed: "",
+    status: 1,
+    printed: "operation 1 ends at 3: lost l0 store 2 h0 pc=0x1000c line=4: never cleaned\n\
+        at the end: lost l1 store 4 h0 pc=0x10018 line=7: never cleaned\nunpersisted 2\n",
+};
+
+#[test]
+fn execute_unpersisted(rt: HostRuntime) -> Result<(), Refused> {
+    ended(&rt, typed(&rt, &UNPERSISTED))
 }
 
 /// A run that has to be whole, and is cut off before the planned operation began.

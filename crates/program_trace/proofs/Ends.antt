@@ -1,6 +1,7 @@
 -- What the end of a machine's run says of the run.
-use Rattle.std.proofs.Common.{◌≡◌, inl, inr, ◌≤◌, ℕ, List, [], ◌++◌, length, ap, refl, subst, sym, ◌∙◌}
+use Rattle.std.proofs.Common.{◌≡◌, inl, inr, ◌≤◌, ℕ, List, [], ◌++◌, All, length, ap, refl, subst, sym, ◌∙◌}
 use Rattle.std.proofs.lemmas.List.{length-map}
+use Rattle.store_trace.specs.TraceView.{NamesLine}
 use Rattle.store_trace.specs.declared.event.Event.{Event}
 use Rattle.machine.specs.Run.{Config, RunsTo}
 use Rattle.machine.specs.declared.fault.RunStop.{RunStop}
@@ -44,10 +45,10 @@ new_events : (c d : Config) (n : ℕ) (schedule : List Item) (traced : List Trac
 new_events c d n schedule traced empty run =
     sym (has_events n c d (all_steps schedule) traced run ∙ ap (λ (l : List Event). l ++ events_in traced) empty)
 
-pub is_traced : (s : Setup) (schedule : List Item) (old : MachineView) (traced : List TracedEvent) → IsAtStart s old
-    → Traces old (all_steps schedule) traced → IsTraced s schedule traced × HasTrace s schedule (events_in traced)
-is_traced s schedule old traced at traces =
-    let made = (has_run s schedule old traces.new at traces.runs traces.few).has_made in
+pub is_traced : (s : Setup) (schedule : List Item) (old new : MachineView) (traced : List TracedEvent) → IsAtStart s old
+    → Traces old new (all_steps schedule) traced → IsTraced s schedule traced × HasTrace s schedule (events_in traced)
+is_traced s schedule old new traced at traces =
+    let made = (has_run s schedule old new at traces.runs traces.few).has_made in
     let told = traces.traces (start_of s) at.stands in
     let events : events_in traced ≡ told.0.common.trace = new_events (start_of s) told.0 0 schedule traced refl told.1 in
     let few : length (events_in traced) ≤ 65536 = subst (λ (l : List Event). length l ≤ 65536) (told.2.shared.trace ∙ sym events) traces.few in (
@@ -67,6 +68,21 @@ is_traced s schedule old traced at traces =
         few = few;
       },
     )
+
+-- the trace of the machine after it
+pub trace_of_new : (s : Setup) (schedule : List Item) (old new : MachineView) (traced : List TracedEvent) → IsAtStart s old
+    → Traces old new (all_steps schedule) traced → new.shared.trace ≡ events_in traced
+trace_of_new s schedule old new traced at traces =
+    let told = traces.traces (start_of s) at.stands in
+    told.2.shared.trace ∙ sym (new_events (start_of s) told.0 0 schedule traced refl told.1)
+
+-- which names lines of the medium alone
+pub named_of_new : (s : Setup) (schedule : List Item) (old new : MachineView) (traced : List TracedEvent) (events : List Event)
+    → IsAtStart s old → Traces old new (all_steps schedule) traced → All (NamesLine (length new.shared.cache.lines)) events
+    → All (NamesLine (length s.medium)) events
+named_of_new s schedule old new traced events at traces named =
+    let lines : length new.shared.cache.lines ≡ length s.medium = traces.runs.lines ∙ ap length at.lines in
+    subst (λ (n : ℕ). All (NamesLine n) events) lines named
 
 -- why a run isn't traced is why there is none
 pub stops : (s : Setup) (schedule : List Item) (old : MachineView) (stop : RunStop) → IsAtStart s old → StopsTracing old schedule stop

@@ -6,5 +6,5 @@ mod tracing;
 mod whole;
 
 pub use lines::source_lines;
-pub use tracing::trace_program;
+pub use tracing::{RunEvents, trace_program};
 pub use whole::unfinished_program;

@@ -6,6 +6,7 @@ use Rattle.run_trace.specs.declared.traced_event.TracedEvent.{TracedEvent}
 use Rattle.store_trace.specs.declared.event.Event.{Event}
 use Rattle.store_trace.specs.declared.event.Event.TheVariants.{Store, Clean, Fence, Begin, End}
 use Rattle.run_text.specs.Places.{line_end, pc_text}
+use Rattle.run_text.specs.declared.place.Place.{Place}
 
 -- the hart that made an event
 abbrev pub hart_of : Event → ℕ
@@ -14,6 +15,10 @@ hart_of (Clean hart line) = hart
 hart_of (Fence hart) = hart
 hart_of (Begin hart op) = hart
 hart_of (End hart op) = hart
+
+-- where an event was made, by the line of the source at each pc
+abbrev pub place_of : (ℕ → Option ℕ) → TracedEvent → Place
+place_of lines traced = record { hart = hart_of traced.event; pc = traced.pc; line = lines traced.pc }
 
 -- what an event did: of a store the line, the offset in it, the width in bytes, and the number of the bytes that were stored
 abbrev pub event_text : Event → List ℕ

@@ -67,7 +67,7 @@ impl fmt::Display for ShownTraced {
 }
 
 /// The hart that made an event.
-fn hart_of(event: Event) -> u32
+pub(crate) fn hart_of(event: Event) -> u32
     ensures { result ≡ hart_of event }
 {
     match event {

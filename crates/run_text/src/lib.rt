@@ -7,4 +7,4 @@ mod place;
 
 pub use causes::unfinished_text;
 pub use events::trace_text;
-pub use place::Place;
+pub use place::{Place, place_of};

@@ -1,9 +1,12 @@
 //! Where in a program an instruction stands.
 
+ghost use Rattle.run_text.specs.Events.{place_of};
 ghost use Rattle.run_text.specs.Places.{line_in};
 ghost use Rattle.std.specs.Prelude.{◌≡◌};
 
+use crate::events::hart_of;
 use assemble::LineNumbers;
+use run_trace::TracedEvent;
 use std::fmt;
 
 /// The hart and the pc of an instruction, and the line of the source that it comes from where there is one:
@@ -27,6 +30,17 @@ impl fmt::Display for Place {
             line: self.line,
         };
         write!(f, "h{} {shown}", self.hart)
+    }
+}
+
+/// Where an event of a run was made.
+pub fn place_of(traced: &TracedEvent, lines: &Option<LineNumbers>) -> Place
+    ensures { result ≡ place_of (line_in lines.now) traced.now }
+{
+    Place {
+        hart: hart_of(traced.event),
+        pc: traced.pc,
+        line: line_of(lines, traced.pc),
     }
 }
 

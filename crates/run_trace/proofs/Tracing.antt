@@ -276,9 +276,8 @@ item_holds old middle new items stop d fits a b = elim b [
 
 -- all that a tracer tells which has told nothing before
 pub traces_all : (old new : TracerView) (steps : List Step) → old.made ≡ 0 → old.traced ≡ [] → Continues old new steps
-    → length new.machine.shared.trace ≤ 65536 → Traces old.machine steps new.traced
+    → length new.machine.shared.trace ≤ 65536 → Traces old.machine new.machine steps new.traced
 traces_all old new steps made none continues few = record {
-  new = new.machine;
   runs = continues.runs;
   few = few;
   traces = λ c stands.

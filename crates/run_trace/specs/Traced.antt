@@ -39,9 +39,9 @@ TracedRun n c (step ∷ steps) end traced =
     (d : Config) × (here : List TracedEvent) × (others : List TracedEvent) × (traced ≡ here ++ others)
     × TracedStep n c step d here × TracedRun (passed n step) d steps end others
 
--- what a machine's run by these steps makes, each of which is there: the events, 65,536 in its trace at most
-pub record Traces (old : MachineView) (steps : List Step) (traced : List TracedEvent) : Type 0 where
-  pub new : MachineView
+-- what a machine's run by these steps makes, each of which is there: the machine after them, with 65,536 events at most, and the
+-- events
+pub record Traces (old new : MachineView) (steps : List Step) (traced : List TracedEvent) : Type 0 where
   pub runs : Runs old new steps
   pub few : length new.shared.trace ≤ 65536
   pub traces : (c : Config) → Stands old c → (d : Config) × TracedRun 0 c steps d traced × Stands new d

@@ -7,4 +7,4 @@ mod tracer;
 
 pub use laws::traced_run_is_run;
 pub use traced_event::TracedEvent;
-pub use tracer::trace_run;
+pub use tracer::{TracedMachine, trace_run};

@@ -30,6 +30,13 @@ impl Model for Tracer {
     ghost view = { λ t. record { machine = t.machine; made = t.made; traced = t.traced.items } };
 }
 
+/// A machine that has carried out a schedule, and the events that this made.
+#[derive(Drop)]
+pub struct TracedMachine {
+    pub machine: Machine,
+    pub traced: Vec<TracedEvent>,
+}
+
 /// A step of an item that was refused, after as many as `steps` says.
 #[derive(Clone, Copy)]
 struct Hold {
@@ -37,9 +44,9 @@ struct Hold {
     fault: StepFault,
 }
 
-/// Carries out a schedule on a machine, and gives the events that this makes, in order, each with the number of its hart
-/// step, the schedule's first being hart step 1, and the pc that its hart had before that step. Steps of a hart that has
-/// stopped count, and evictions don't.
+/// Carries out a schedule on a machine, and gives the machine and the events that this makes, in order, each with the number of
+/// its hart step, the schedule's first being hart step 1, and the pc that its hart had before that step. Steps of a hart that
+/// has stopped count, and evictions don't.
 ///
 /// # Errors
 /// The first step that is refused, with its item and the steps made in it. Memory where a growth is refused.
@@ -47,9 +54,9 @@ pub fn trace_run(
     alloc: Global,
     machine: Machine,
     schedule: &Schedule,
-) -> Result<Vec<TracedEvent>, RunStop>
+) -> Result<TracedMachine, RunStop>
     requires { count_of_hart_steps schedule.now < 2 ^ 32 }
-    ensures ok { IfOk result (λ traced. Traces machine (all_steps schedule.now) traced.items) }
+    ensures ok { IfOk result (λ run. Traces machine run.machine (all_steps schedule.now) run.traced.items) }
     ensures err { IfErr result (StopsTracing machine schedule.now) }
 {
     let mut tracer = Tracer {
@@ -60,9 +67,13 @@ pub fn trace_run(
     let ended = tracer.run(schedule.items());
     // The trace is within its limit, also where a step was refused.
     prove!(tracer.machine.events().len() <= 65_536);
-    let Tracer { traced, .. } = tracer;
+    let Tracer {
+        machine,
+        traced,
+        ..
+    } = tracer;
     match ended {
-        Ok(()) => Ok(traced),
+        Ok(()) => Ok(TracedMachine { machine, traced }),
         Err(stop) => Err(stop),
     }
 }

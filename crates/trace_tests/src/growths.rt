@@ -24,7 +24,7 @@ fn is_traced(alloc: Global, machine: Machine, schedule: &Schedule) -> Result<boo
     requires { hart_steps schedule.now < 2 ^ 32 }
 {
     match trace_run(alloc, machine, schedule) {
-        Ok(traced) => Ok(traced.len() == 9),
+        Ok(run) => Ok(run.traced.len() == 9),
         Err(stop) => refusal(matches!(stop.fault, StepFault::Memory)),
     }
 }

@@ -83,7 +83,7 @@ fn traced_of(alloc: Global, text: &str) -> Result<Vec<TracedEvent>, StepFault> {
         return Err(StepFault::Memory);
     };
     match trace_run(alloc, machine, &schedule) {
-        Ok(traced) => Ok(traced),
+        Ok(run) => Ok(run.traced),
         Err(stop) => Err(stop.fault),
     }
 }

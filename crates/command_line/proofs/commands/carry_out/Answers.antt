@@ -23,6 +23,9 @@ returns-in-Debug g c = rw c.in-Debug.is (record { found = c.open_file.result; fi
 pub returns-in-Trace : goal.returns-in-Trace
 returns-in-Trace g c = rw c.in-Trace.is (record { found = c.trace_file.result; finding = c.trace_file.ensures; leads = c.printed-in-Trace.ensures })
 
+pub returns-in-Unpersisted : goal.returns-in-Unpersisted
+returns-in-Unpersisted g c = rw c.in-Unpersisted.is (record { found = c.unpersisted_file.result; finding = c.unpersisted_file.ensures; leads = c.printed-in-Unpersisted.ensures })
+
 pub returns-in-Images : goal.returns-in-Images
 returns-in-Images g c = rw c.in-Images.is (record { found = c.count_file.result; finding = c.count_file.ensures; leads = c.printed-in-Images.ensures })
 

@@ -1,0 +1,11 @@
+use Rattle.std.proofs.Common.{rules}
+use Rattle.loss_text.specs.Events.{event_text}
+use Rattle.loss_text.specs.Why.{kept_line}
+use Rattle.loss_text.proofs.Lines.{line_more}
+use Rattle.loss_text.proofs.why.tell_kept.Goals as goal
+use Rattle.run_text.specs.Places.{line_in}
+
+pub loop-one-preserved : goal.loop-one-preserved
+loop-one-preserved c =
+    line_more _ (kept_line (event_text (line_in c.args.lines.now) c.args.traced.now)) c.args.kept.now c.loop-one.one-index
+    (record { line = 0; store = 0 }) _ _ c.loop-one-test.true c.loop-one.invariant (search rules)

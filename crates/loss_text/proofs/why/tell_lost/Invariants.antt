@@ -1,0 +1,10 @@
+use Rattle.std.proofs.Common.{◌≡◌, string_bytes}
+use Rattle.loss_text.specs.Events.{event_text}
+use Rattle.loss_text.specs.Why.{lost_line}
+use Rattle.loss_text.proofs.Lines.{lines_below}
+use Rattle.loss_text.proofs.why.tell_lost.Given as goal
+use Rattle.run_text.specs.Places.{line_in}
+
+abbrev pub invariant-loop-one : goal.invariant-loop-one
+invariant-loop-one l =
+    string_bytes l.text ≡ lines_below (string_bytes l.initial.text) (lost_line (event_text (line_in l.lines) l.traced)) l.lost l.one-index

@@ -1,0 +1,5 @@
+pub mod Events
+pub mod Causes
+pub mod Named
+pub mod Unpersisted
+pub mod Why

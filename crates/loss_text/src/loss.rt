@@ -1,0 +1,49 @@
+//! A store that can be lost, as it is printed.
+
+ghost use Rattle.loss_text.specs.Causes.{loss_text};
+ghost use Rattle.loss_text.specs.Events.{event_text};
+ghost use Rattle.loss_text.specs.Named.{named_loss_text};
+ghost use Rattle.run_text.specs.Places.{line_in};
+ghost use Rattle.std.specs.Prelude.{◌≡◌};
+
+use crate::cause::{NamedCause, named_cause};
+use crate::event::{NamedEvent, named_event};
+use assemble::LineNumbers;
+use durability::Lost;
+use run_trace::TracedEvent;
+use std::fmt;
+
+/// A store of a line that can be lost, and why: `lost lL store N hH pc=0xP line=L: CAUSE`.
+#[derive(Clone, Copy)]
+pub(crate) struct NamedLoss {
+    line: u32,
+    store: NamedEvent,
+    cause: NamedCause,
+}
+
+impl fmt::Display for NamedLoss {
+    ghost use Rattle.loss_text.specs.Named.{named_loss_text};
+    ghost use Rattle.std.specs.Prelude.{Some};
+
+    ghost output = { λ loss. Some (named_loss_text loss) };
+
+    fn fmt<W: fmt::Write>(&self, f: &mut fmt::Formatter<W>) -> fmt::Result {
+        let NamedLoss { line, store, cause } = *self;
+        write!(f, "lost l{line} store {store}: {cause}")
+    }
+}
+
+/// The loss, with the places of its events.
+pub(crate) fn named_loss(
+    lost: Lost,
+    traced: &[TracedEvent],
+    lines: &Option<LineNumbers>,
+) -> NamedLoss
+    ensures { named_loss_text result ≡ loss_text (event_text (line_in lines.now) traced.now) lost }
+{
+    NamedLoss {
+        line: lost.line,
+        store: named_event(lost.store, traced, lines),
+        cause: named_cause(lost.cause, traced, lines),
+    }
+}
