@@ -1,7 +1,13 @@
 pub mod Alike
 pub mod Answers
 pub mod Back
+pub mod Completed
 pub mod Decisions
 pub mod Greedy
 pub mod Lacks
 pub mod Leaving
+pub mod Moments
+pub mod Readings
+pub mod Start
+pub mod Telling
+pub mod Whole

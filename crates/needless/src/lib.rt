@@ -9,7 +9,10 @@
 #![tactic(auto)]
 
 mod laws;
+mod reading;
 mod reason;
+mod told;
 
 pub use laws::{needless_leave_cuts, none_is_left, reasons_are_all};
 pub use reason::{Needless, Reason};
+pub use told::needless_events;
