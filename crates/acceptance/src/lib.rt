@@ -39,4 +39,6 @@ mod tutorial;
 #[cfg(test)]
 mod upgrading;
 #[cfg(test)]
+mod wasting;
+#[cfg(test)]
 mod wholes;

@@ -85,6 +85,13 @@ unpersisted_shape = record (new_shape (codes "unpersisted")) {
       ∷ valued_option (codes "harts") ∷ flag_option (codes "whole") ∷ help_option ∷ [];
 }
 
+-- `waste PROGRAM SCHEDULE [--medium FILE --harts N --whole]`
+unfoldable pub waste_shape : Shape
+waste_shape = record (new_shape (codes "waste")) {
+  rules = needed_word (codes "PROGRAM") ∷ needed_word (codes "SCHEDULE") ∷ valued_option (codes "medium")
+      ∷ valued_option (codes "harts") ∷ flag_option (codes "whole") ∷ help_option ∷ [];
+}
+
 -- `images PROGRAM SCHEDULE MOMENT [--medium FILE --harts N --whole]`
 unfoldable pub images_shape : Shape
 images_shape = record (new_shape (codes "images")) {
@@ -137,7 +144,7 @@ line shapes = record { top = record bare { is_leaf = is_none shapes }; subs = sh
 -- the whole line
 abbrev pub novacrash : App
 novacrash = line (assemble_shape ∷ make_volume_shape ∷ upgrade_shape ∷ run_shape ∷ replay_shape ∷ debug_shape
-    ∷ trace_shape ∷ unpersisted_shape ∷ images_shape ∷ explain_shape ∷ check_shape ∷ code_shape ∷ [])
+    ∷ trace_shape ∷ unpersisted_shape ∷ waste_shape ∷ images_shape ∷ explain_shape ∷ check_shape ∷ code_shape ∷ [])
 
 -- the rule of an argument of the table
 abbrev pub rule : Argument → Rule

@@ -11,7 +11,7 @@ use Rattle.arguments.specs.declared.asked.AssembleCommand.{AssembleCommand}
 use Rattle.arguments.specs.declared.asked.CheckCommand.{CheckCommand}
 use Rattle.arguments.specs.declared.asked.CodeCommand.{CodeCommand}
 use Rattle.arguments.specs.declared.asked.Command.{Command}
-use Rattle.arguments.specs.declared.asked.Command.TheVariants.{Assemble, Check, Code, Debug, Explain, Images, MakeVolume, Replay, Run, Trace, Unpersisted, Upgrade}
+use Rattle.arguments.specs.declared.asked.Command.TheVariants.{Assemble, Check, Code, Debug, Explain, Images, MakeVolume, Replay, Run, Trace, Unpersisted, Upgrade, Waste}
 use Rattle.arguments.specs.declared.asked.DebugCommand.{DebugCommand}
 use Rattle.arguments.specs.declared.asked.ExplainCommand.{ExplainCommand}
 use Rattle.arguments.specs.declared.asked.ImagesCommand.{ImagesCommand}
@@ -113,6 +113,7 @@ IsOf name rows (Replay command) = (name ≡ codes "replay") × IsReplay rows com
 IsOf name rows (Debug command) = (name ≡ codes "debug") × IsDebug rows command
 IsOf name rows (Trace run) = (name ≡ codes "trace") × IsScheduledRun rows run
 IsOf name rows (Unpersisted run) = (name ≡ codes "unpersisted") × IsScheduledRun rows run
+IsOf name rows (Waste run) = (name ≡ codes "waste") × IsScheduledRun rows run
 IsOf name rows (Images command) = (name ≡ codes "images") × IsImages rows command
 IsOf name rows (Explain command) = (name ≡ codes "explain") × IsExplain rows command
 IsOf name rows (Check command) = (name ≡ codes "check") × IsCheck rows command
@@ -147,6 +148,7 @@ IsWithinLimits (Replay command) = IsMachineWithin command.machine
 IsWithinLimits (Debug command) = IsMachineWithin command.machine
 IsWithinLimits (Trace run) = IsMachineWithin run.machine
 IsWithinLimits (Unpersisted run) = IsMachineWithin run.machine
+IsWithinLimits (Waste run) = IsMachineWithin run.machine
 IsWithinLimits (Images command) = IsMachineWithin command.run.machine × (command.moment < 2 ^ 32)
 IsWithinLimits (Explain command) = IsMachineWithin command.run.machine × (command.moment < 2 ^ 32) × IsProper command.image
 IsWithinLimits (Check command) = IsMachineWithin command.run.machine × IsWithin 1 8 command.workers

@@ -24,6 +24,8 @@ pub enum Command {
     Trace(ScheduledRun),
     /// `unpersisted PROGRAM SCHEDULE [--medium FILE --harts N --whole]`.
     Unpersisted(ScheduledRun),
+    /// `waste PROGRAM SCHEDULE [--medium FILE --harts N --whole]`.
+    Waste(ScheduledRun),
     /// `images PROGRAM SCHEDULE MOMENT [--medium FILE --harts N --whole]`.
     Images(ImagesCommand),
     /// `explain PROGRAM SCHEDULE MOMENT IMAGE [--medium FILE --harts N --whole]`.

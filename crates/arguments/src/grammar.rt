@@ -172,7 +172,7 @@ const WHOLE: Argument = Argument::Flag {
 };
 
 /// The subcommands, in the order in which help tells them.
-pub(crate) static SUBCOMMANDS: [Subcommand; 12] = [
+pub(crate) static SUBCOMMANDS: [Subcommand; 13] = [
     Subcommand {
         name: "asm",
         about: "Assemble a source and write its object",
@@ -223,6 +223,12 @@ pub(crate) static SUBCOMMANDS: [Subcommand; 12] = [
         about: "Print the stores of a run that weren't durable when their operation ended",
         arguments: &[PROGRAM, SCHEDULE, MEDIUM, HARTS, WHOLE],
         ending: ending!("unpersisted append.s append.schedule --medium fresh.medium --whole"),
+    },
+    Subcommand {
+        name: "waste",
+        about: "Print the cleans and fences that a run makes in vain",
+        arguments: &[PROGRAM, SCHEDULE, MEDIUM, HARTS, WHOLE],
+        ending: ending!("waste append.s append.schedule --medium fresh.medium --whole"),
     },
     Subcommand {
         name: "images",

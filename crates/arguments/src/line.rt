@@ -77,6 +77,7 @@ fn asked(alloc: Global, name: &str, found: &ArgMatches<'_>) -> Result<Command, L
         "debug" => Command::Debug(debug(alloc, found)?),
         "trace" => Command::Trace(scheduled_run(alloc, found)?),
         "unpersisted" => Command::Unpersisted(scheduled_run(alloc, found)?),
+        "waste" => Command::Waste(scheduled_run(alloc, found)?),
         "images" => Command::Images(images(alloc, found)?),
         "explain" => Command::Explain(explain(alloc, found)?),
         "check" => Command::Check(check(alloc, found)?),
@@ -101,6 +102,7 @@ fn asked(alloc: Global, name: &str, found: &ArgMatches<'_>) -> Result<Command, L
 /// - `debug PROGRAM [--medium FILE --harts N --capacity N]`
 /// - `trace PROGRAM SCHEDULE [--medium FILE --harts N --whole]`
 /// - `unpersisted PROGRAM SCHEDULE [--medium FILE --harts N --whole]`
+/// - `waste PROGRAM SCHEDULE [--medium FILE --harts N --whole]`
 /// - `images PROGRAM SCHEDULE MOMENT [--medium FILE --harts N --whole]`
 /// - `explain PROGRAM SCHEDULE MOMENT IMAGE [--medium FILE --harts N --whole]`
 /// - `check PLAN PROGRAM SCHEDULE [--medium FILE --harts N --workers N --whole]`

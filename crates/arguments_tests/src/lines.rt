@@ -74,6 +74,10 @@ fn images_of(alloc: Global, command: &Command) -> Result<String, AllocError> {
             let run = scheduled_of(alloc, run)?;
             format!(in alloc; "unpersisted {run}")
         }
+        Command::Waste(run) => {
+            let run = scheduled_of(alloc, run)?;
+            format!(in alloc; "waste {run}")
+        }
         Command::Images(images) => {
             let run = scheduled_of(alloc, &images.run)?;
             format!(in alloc; "images {run} / {}", images.moment)
@@ -169,6 +173,7 @@ fn defaults_stand_where_options_are_left_out(rt: HostRuntime) -> Result<(), Fail
             "novacrash unpersisted a.s s",
             "unpersisted a.s s / - 1 whole any",
         ),
+        ("novacrash waste a.s s", "waste a.s s / - 1 whole any"),
         (
             "novacrash images a.s s 7",
             "images a.s s / - 1 whole any / 7",
@@ -196,7 +201,7 @@ fn defaults_stand_where_options_are_left_out(rt: HostRuntime) -> Result<(), Fail
 }
 
 /// Lines with options, before and after the words, and what they are read as.
-const WITH_OPTIONS: [(&str, &str); 21] = [
+const WITH_OPTIONS: [(&str, &str); 22] = [
     (
         "novacrash trace --whole a.s s --harts 2 --medium m",
         "trace a.s s / m 2 whole must-be-whole",
@@ -208,6 +213,10 @@ const WITH_OPTIONS: [(&str, &str); 21] = [
     (
         "novacrash unpersisted a.s --whole s --harts 2 --medium m",
         "unpersisted a.s s / m 2 whole must-be-whole",
+    ),
+    (
+        "novacrash waste --harts 2 a.s --whole s --medium m",
+        "waste a.s s / m 2 whole must-be-whole",
     ),
     (
         "novacrash images a.s s --whole 7",
@@ -422,6 +431,8 @@ fn missing_and_further_words_are_faults(rt: HostRuntime) -> Result<(), Fail> {
         "novacrash trace a.s s t",
         "novacrash unpersisted a.s",
         "novacrash unpersisted a.s s t",
+        "novacrash waste a.s",
+        "novacrash waste a.s s t",
         "novacrash images",
         "novacrash images a.s s",
         "novacrash images a.s s 0 1",
@@ -482,6 +493,7 @@ fn options_out_of_place_are_faults(rt: HostRuntime) -> Result<(), Fail> {
         "novacrash trace a.s s --workers 2",
         "novacrash trace a.s s --whole=yes",
         "novacrash unpersisted a.s s --workers 2",
+        "novacrash waste a.s s --workers 2",
         "novacrash trace a.s s --whole --whole",
         "novacrash trace a.s s --who",
         "novacrash check p a.s s --whole --workers 2 --whole",
@@ -516,6 +528,7 @@ fn help_is_asked_for(rt: HostRuntime) -> Result<(), Fail> {
         "novacrash debug --help",
         "novacrash trace --help",
         "novacrash unpersisted --help",
+        "novacrash waste --help",
         "novacrash images --help",
         "novacrash explain --help",
         "novacrash check --help",

@@ -117,7 +117,7 @@ fn faults_are_told(rt: HostRuntime) -> Result<(), Fail> {
 }
 
 /// Whole lines of each command, and its usage.
-const USAGES: [(&str, &str); 12] = [
+const USAGES: [(&str, &str); 13] = [
     ("asm a.s a.o", "asm <SOURCE> <OBJECT>"),
     ("mkfs p 512 m", "mkfs <PLAN> <LINES> <MEDIUM>"),
     ("upgrade o 1 512 n", "upgrade <OLD> <PAGES> <LINES> <NEW>"),
@@ -129,6 +129,7 @@ const USAGES: [(&str, &str); 12] = [
         "unpersisted a.s s",
         "unpersisted [OPTIONS] <PROGRAM> <SCHEDULE>",
     ),
+    ("waste a.s s", "waste [OPTIONS] <PROGRAM> <SCHEDULE>"),
     (
         "images a.s s 1",
         "images [OPTIONS] <PROGRAM> <SCHEDULE> <MOMENT>",
@@ -166,7 +167,7 @@ Formats and codes: docs/FORMATS.md; `novacrash code CODE` says what a code means
 ";
 
 /// The help of each command, before that.
-const HELPS: [(&str, &str); 12] = [
+const HELPS: [(&str, &str); 13] = [
     (
         "asm",
         "\
@@ -326,6 +327,26 @@ Example: novacrash unpersisted append.s append.schedule --medium fresh.medium --
 ",
     ),
     (
+        "waste",
+        "\
+Print the cleans and fences that a run makes in vain
+
+Usage: novacrash waste [OPTIONS] <PROGRAM> <SCHEDULE>
+
+Arguments:
+  <PROGRAM>   The program's file: an object or a source
+  <SCHEDULE>  The schedule's file
+
+Options:
+      --medium <FILE>  The medium's file [default: 512 lines of zeros]
+      --harts <N>      The number of harts, from 1 to 8 [default: 1]
+      --whole          Refuse a run in which a hart doesn't exit with 0, or an operation doesn't end
+      --help           Print help
+
+Example: novacrash waste append.s append.schedule --medium fresh.medium --whole
+",
+    ),
+    (
         "images",
         "\
 Count the crash images of a moment of a run by a schedule
@@ -434,6 +455,7 @@ Commands:
   debug        Debug a program by commands on standard input
   trace        Print the events of a run by a schedule, each with its step, pc and source line
   unpersisted  Print the stores of a run that weren't durable when their operation ended
+  waste        Print the cleans and fences that a run makes in vain
   images       Count the crash images of a moment of a run by a schedule
   explain      Print a schedule that leaves a crash image of a moment of a run
   check        Judge every crash image of a run by a schedule

@@ -1,9 +1,11 @@
 -- Texts by the line numbers of a program's file are those by its source's lines.
-use Rattle.std.proofs.Common.{◌≡◌, ◌∙◌, ◌≢◌, ℕ, List, [], Option, ap}
+use Rattle.std.proofs.Common.{◌≡◌, ◌∙◌, ◌≢◌, ℕ, List, [], Option, ap, subst}
 use Rattle.std.proofs.Math.Path.{fun_ext}
 use Rattle.durability.specs.declared.ends.Unpersisted.{Unpersisted}
 use Rattle.loss_text.specs.Events.{event_text}
 use Rattle.loss_text.specs.Unpersisted.{unpersisted_text}
+use Rattle.needless_text.specs.Uses.{Judged}
+use Rattle.needless_text.specs.Waste.{IsWasteText}
 use Rattle.program_trace.specs.Lines.{line_of}
 use Rattle.run_text.specs.Causes.{unfinished_text}
 use Rattle.run_text.specs.Events.{trace_text}
@@ -23,3 +25,7 @@ pub unpersisted_of_source : (file : List ℕ) (lines : Option (List ℕ)) (trace
     → ((pc : ℕ) → line_in lines pc ≡ line_of file pc)
     → unpersisted_text (event_text (line_in lines) traced) told ≡ unpersisted_text (event_text (line_of file) traced) told
 unpersisted_of_source file lines traced told same = ap (λ (f : ℕ → Option ℕ). unpersisted_text (event_text f traced) told) (fun_ext same)
+
+pub waste_of_source : (file : List ℕ) (lines : Option (List ℕ)) (all : List Judged) (text : List ℕ) → ((pc : ℕ) → line_in lines pc ≡ line_of file pc)
+    → IsWasteText (line_in lines) all text → IsWasteText (line_of file) all text
+waste_of_source file lines all text same is = subst (λ (f : ℕ → Option ℕ). IsWasteText f all text) (fun_ext same) is

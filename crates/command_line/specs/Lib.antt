@@ -17,3 +17,4 @@ pub mod Tracing
 pub mod Persisting
 pub mod Upgrading
 pub mod Writing
+pub mod Wasting

@@ -4,7 +4,7 @@ use Rattle.std.specs.Io.KnownBytes.{Appends}
 use Rattle.std.specs.Result.{result_map_both}
 use Rattle.arguments.specs.Line.{IsCommand, Refuses}
 use Rattle.arguments.specs.declared.asked.Command.{Command}
-use Rattle.arguments.specs.declared.asked.Command.TheVariants.{Assemble, Check, Code, Debug, Explain, Images, MakeVolume, Replay, Run, Trace, Unpersisted, Upgrade}
+use Rattle.arguments.specs.declared.asked.Command.TheVariants.{Assemble, Check, Code, Debug, Explain, Images, MakeVolume, Replay, Run, Trace, Unpersisted, Upgrade, Waste}
 use Rattle.arguments.specs.declared.asked.LineFault.{LineFault}
 use Rattle.arguments.specs.declared.asked.LineFault.TheVariants as line_faults
 use Rattle.session.specs.Failing.{AppendsFront}
@@ -20,6 +20,7 @@ use Rattle.command_line.specs.Persisting.{UnpersistedFile}
 use Rattle.command_line.specs.Running.{ReplaysFile, RunsFile}
 use Rattle.command_line.specs.Steps.{Prints, Reads, Step, Still, Writes}
 use Rattle.command_line.specs.Tracing.{TracesFile}
+use Rattle.command_line.specs.Wasting.{WasteFile}
 use Rattle.command_line.specs.Upgrading.{UpgradesFile}
 use Rattle.command_line.specs.declared.answer.Action.{Action}
 use Rattle.command_line.specs.declared.answer.Action.TheVariants as actions
@@ -43,6 +44,7 @@ CarriesOut reads writes (Replay command) = LeadsTo (ReplaysFile reads writes com
 CarriesOut reads writes (Debug command) = LeadsTo (OpensFile reads command) actions.Debug
 CarriesOut reads writes (Trace command) = LeadsTo (TracesFile reads command) actions.Print
 CarriesOut reads writes (Unpersisted command) = LeadsTo (UnpersistedFile reads command) actions.Print
+CarriesOut reads writes (Waste command) = LeadsTo (WasteFile reads command) actions.Print
 CarriesOut reads writes (Images command) = LeadsTo (CountsFile reads command) actions.Print
 CarriesOut reads writes (Explain command) = LeadsTo (ExplainsFile reads command) actions.Print
 CarriesOut reads writes (Check command) = LeadsTo (ChecksFile reads command) actions.Print

@@ -20,6 +20,7 @@ use crate::persisting::unpersisted_file;
 use crate::running::{replay_file, run_file};
 use crate::tracing::trace_file;
 use crate::upgrading::upgrade_file;
+use crate::wasting::waste_file;
 use arguments::{Command, LineFault, command};
 use machine::Machine;
 use std::alloc::Global;
@@ -60,6 +61,7 @@ fn carry_out<T: Threads + Wait + Sync, F: Files>(
         Command::Debug(command) => debugged(open_file(alloc, &command, files)),
         Command::Trace(command) => printed(trace_file(alloc, &command, files)),
         Command::Unpersisted(command) => printed(unpersisted_file(alloc, &command, files)),
+        Command::Waste(command) => printed(waste_file(alloc, &command, files)),
         Command::Images(command) => printed(count_file(alloc, &command, files)),
         Command::Explain(command) => printed(explain_file(alloc, &command, files)),
         Command::Check(command) => printed(check_file(rt, alloc, &command, files)),

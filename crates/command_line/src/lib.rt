@@ -24,6 +24,7 @@ mod streams;
 mod telling;
 mod tracing;
 mod upgrading;
+mod wasting;
 mod writing;
 
 pub use answer::{Action, Answer};

@@ -68,7 +68,7 @@ fn command_of_help(rt: HostRuntime) -> Result<(), Refused> {
 }
 
 /// The files, by their names.
-const FILES: [(&str, &str); 9] = [
+const FILES: [(&str, &str); 10] = [
     (
         "first.s",
         "addi x5, x0, 7\nlui x6, 0x40000\nsd x5, 0(x6)\ncbo.clean (x6)\nfence w, w\n\
@@ -83,6 +83,10 @@ const FILES: [(&str, &str); 9] = [
         "bare.s",
         "li a7, 2001\nli a0, 1\necall\nsd a0, 0(a1)\nli a7, 2002\necall\nsd a0, 64(a1)\nli a7, 93\n\
         li a0, 0\necall\n",
+    ),
+    (
+        "vain.s",
+        "cbo.clean (a1)\nfence w, w\nli a7, 93\nli a0, 0\necall\n",
     ),
     ("two", "h0*2"),
     ("ten", "h0*10"),
@@ -320,6 +324,20 @@ const UNPERSISTED: Example = Example {
 #[test]
 fn execute_unpersisted(rt: HostRuntime) -> Result<(), Refused> {
     ended(&rt, typed(&rt, &UNPERSISTED))
+}
+
+/// A clean and a fence of a line that nothing is stored to.
+const WASTE: Example = Example {
+    line: "novacrash waste vain.s eight --whole",
+    typed: "",
+    status: 0,
+    printed: "1 h0 step=1 pc=0x10000 line=1 clean l0: already there\n2 h0 step=2 pc=0x10004 line=2 fence: nothing to complete\n\
+        always h0 pc=0x10000 line=1, 1 of 1\nalways h0 pc=0x10004 line=2, 1 of 1\nneedless 2 of 2, unfenced 0\n",
+};
+
+#[test]
+fn execute_waste(rt: HostRuntime) -> Result<(), Refused> {
+    ended(&rt, typed(&rt, &WASTE))
 }
 
 /// A run that has to be whole, and is cut off before the planned operation began.

@@ -1,1 +1,2 @@
 pub mod Unpersisted
+pub mod Vain

@@ -1,6 +1,9 @@
-//! The calls of the program that tell which stores of a run a power cut may lose, and why.
+//! The calls of the program that tell which stores of a run a power cut may lose, and why, and which cleans and fences it makes in
+//! vain.
 #![tactic(auto)]
 
 mod unpersisted;
+mod vain;
 
 pub use unpersisted::{UnpersistedRun, unpersisted_program};
+pub use vain::{NeedlessRun, needless_program};

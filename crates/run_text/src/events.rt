@@ -40,12 +40,12 @@ pub fn trace_text(
     Ok(text)
 }
 
-/// An event of a run, by its number, as it is printed.
+/// An event of a run, by its number from 1 on, as it is printed: `2 h0 step=9 pc=0x10020 line=9 store l256+0 w8 0x1`.
 #[derive(Clone, Copy)]
-struct ShownTraced {
-    number: u64,
-    traced: TracedEvent,
-    line: Option<u32>,
+pub struct ShownTraced {
+    pub number: u64,
+    pub traced: TracedEvent,
+    pub line: Option<u32>,
 }
 
 impl fmt::Display for ShownTraced {
@@ -67,7 +67,7 @@ impl fmt::Display for ShownTraced {
 }
 
 /// The hart that made an event.
-pub(crate) fn hart_of(event: Event) -> u32
+pub fn hart_of(event: Event) -> u32
     ensures { result ≡ hart_of event }
 {
     match event {

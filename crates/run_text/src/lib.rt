@@ -6,5 +6,5 @@ mod events;
 mod place;
 
 pub use causes::unfinished_text;
-pub use events::trace_text;
-pub use place::{Place, place_of};
+pub use events::{ShownTraced, hart_of, trace_text};
+pub use place::{Place, ShownPc, line_of, place_of};

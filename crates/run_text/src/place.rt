@@ -46,9 +46,9 @@ pub fn place_of(traced: &TracedEvent, lines: &Option<LineNumbers>) -> Place
 
 /// A pc and its line, as they are printed: `pc=0xP line=N`.
 #[derive(Clone, Copy)]
-pub(crate) struct ShownPc {
-    pub(crate) pc: u64,
-    pub(crate) line: Option<u32>,
+pub struct ShownPc {
+    pub pc: u64,
+    pub line: Option<u32>,
 }
 
 impl fmt::Display for ShownPc {
@@ -66,7 +66,7 @@ impl fmt::Display for ShownPc {
 }
 
 /// The line that an instruction comes from, by the line numbers of a program's source, where it has one.
-pub(crate) fn line_of(lines: &Option<LineNumbers>, pc: u64) -> Option<u32>
+pub fn line_of(lines: &Option<LineNumbers>, pc: u64) -> Option<u32>
     ensures { result ≡ line_in lines.now pc }
 {
     match lines {

@@ -26,6 +26,9 @@ returns-in-Trace g c = rw c.in-Trace.is (record { found = c.trace_file.result; f
 pub returns-in-Unpersisted : goal.returns-in-Unpersisted
 returns-in-Unpersisted g c = rw c.in-Unpersisted.is (record { found = c.unpersisted_file.result; finding = c.unpersisted_file.ensures; leads = c.printed-in-Unpersisted.ensures })
 
+pub returns-in-Waste : goal.returns-in-Waste
+returns-in-Waste g c = rw c.in-Waste.is (record { found = c.waste_file.result; finding = c.waste_file.ensures; leads = c.printed-in-Waste.ensures })
+
 pub returns-in-Images : goal.returns-in-Images
 returns-in-Images g c = rw c.in-Images.is (record { found = c.count_file.result; finding = c.count_file.ensures; leads = c.printed-in-Images.ensures })
 

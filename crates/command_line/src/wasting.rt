@@ -1,0 +1,56 @@
+//! The command that tells which cleans and fences are made in vain.
+
+ghost use Rattle.command_line.specs.Reading.{setup_of};
+ghost use Rattle.command_line.specs.Wasting.{FindsNeedless, PrintsWaste, WasteFile};
+ghost use Rattle.object.specs.Sections.{Sections};
+ghost use Rattle.program_trace.specs.Lines.{line_of};
+ghost use Rattle.schedule.specs.Grammar.{hart_steps};
+ghost use Rattle.std.specs.List.{zip};
+ghost use Rattle.std.specs.Prelude.{◌≡◌, ◌^◌, ◌<◌, length};
+ghost use Rattle.tester.specs.Programs.{IsProgramOf};
+
+use crate::answer::Answer;
+use crate::demanding::demand_whole;
+use crate::failure::Failure;
+use crate::files::Files;
+use crate::reading::{RunFiles, read_run};
+use arguments::ScheduledRun;
+use needless_text::waste_text;
+use program_losses::{NeedlessRun, needless_program};
+use program_trace::source_lines;
+use std::alloc::Global;
+
+/// `waste`: reads the files of a program, a schedule and a medium, and prints the cleans and fences that the run makes in vain, each
+/// with the reason, and the instructions that make none but such.
+pub(crate) fn waste_file<F: Files>(
+    alloc: Global,
+    command: &ScheduledRun,
+    files: &mut F,
+) -> Result<Answer, Failure>
+    ensures { WasteFile F.read_gives command.now files.old result files.new }
+{
+    let run = read_run(alloc, command, files)?;
+    demand_whole(alloc, command, &run, &[])?;
+    let found = found(alloc, command, &run)?;
+    found_answer(alloc, &run.file, &found)
+}
+
+fn found(alloc: Global, command: &ScheduledRun, run: &RunFiles) -> Result<NeedlessRun, Failure>
+    requires { hart_steps run.now.schedule < 2 ^ 32 }
+    ensures { FindsNeedless (setup_of command.now run.now) run.now.schedule result }
+{
+    let harts = command.machine.harts;
+    let program = run.program.copy(alloc)?;
+    let medium = run.medium.copy(alloc)?;
+    Ok(needless_program(alloc, program, medium, harts, &run.schedule)?)
+}
+
+fn found_answer(alloc: Global, file: &[u8], run: &NeedlessRun) -> Result<Answer, Failure>
+    requires program { (program : Sections) × IsProgramOf file.now program }
+    requires size { length run.now.reasons.items ≡ length run.now.traced.items }
+    ensures { PrintsWaste (line_of file.now) (zip run.now.traced.items run.now.reasons.items) result }
+{
+    let lines = source_lines(alloc, file)?;
+    let text = waste_text(alloc, &run.traced, &run.reasons, &lines)?;
+    Ok(Answer { text, status: 0 })
+}

@@ -1,0 +1,80 @@
+-- What one more event adds to the text and to the sums.
+use Rattle.std.proofs.Common.{◌≡◌, ◌∙◌, ℕ, ◌+◌, ◌<◌, ◌≤◌, List, [], ◌∷◌, ◌++◌, Option, Bool, false, cond, length, get_or, take, ap, sym, arith}
+use Rattle.std.specs.List.{count_by, enumerate_from, flat_map, zip}
+use Rattle.std.proofs.lemmas.Grind.{flat_map-append}
+use Rattle.std.proofs.lemmas.List.{append-nil, append_assoc, take_all, take_more}
+use Rattle.std.proofs.lemmas.List.FromFn.{get_or-enumerate_from, length-enumerate_from}
+use Rattle.std.proofs.lemmas.List.Sums.{sum_by_more}
+use Rattle.needless.specs.declared.reason.Reason.{Reason}
+use Rattle.store_trace.specs.declared.event.Event.TheVariants.{Store}
+use Rattle.run_trace.specs.declared.traced_event.TracedEvent.{TracedEvent}
+use Rattle.needless_text.specs.Uses.{Judged}
+use Rattle.needless_text.specs.Waste.{judged_line, judged_text}
+use Rattle.needless_text.proofs.Counting.{inside, judged, length_zip}
+
+-- what a place past the end is read as
+abbrev pub no_event : TracedEvent
+no_event = record { step = 0; pc = 0; event = Store 0 0 0 0 0 }
+
+-- the lines of the first events
+abbrev pub judged_below : (ℕ → Option ℕ) → List Judged → ℕ → List ℕ
+judged_below lines all i = flat_map (judged_line lines) (take i (enumerate_from 1 all))
+
+numbered : (i j : ℕ) (x y : Judged) → i ≡ j → x ≡ y → ◌≡◌ {A = ℕ × Judged} (i, x) (j, y)
+numbered i j x y e q = cc
+
+pub judged_next : (lines : ℕ → Option ℕ) (traced : List TracedEvent) (reasons : List (Option Reason)) (i : ℕ) (d : TracedEvent) (e : Option Reason) →
+    i < length traced → length reasons ≡ length traced →
+    judged_below lines (zip traced reasons) (i + 1)
+    ≡ judged_below lines (zip traced reasons) i ++ judged_text lines (i + 1) (get_or traced i d) (get_or reasons i e)
+judged_next lines traced reasons i d e within same =
+    let all : List Judged = zip traced reasons in
+    let numbers : List (ℕ × Judged) = enumerate_from 1 all in
+    let there : i < length all = inside traced reasons i within same in
+    let last : get_or numbers i (0, (d, e)) ≡ (i + 1, (get_or traced i d, get_or reasons i e)) =
+    get_or-enumerate_from 1 all i (0, (d, e)) there
+    ∙ numbered (1 + i) (i + 1) (get_or all i (d, e)) (get_or traced i d, get_or reasons i e) (omega arith) (judged traced reasons i d e within same) in
+    ap (flat_map (judged_line lines)) (take_more numbers i (0, (d, e)) (omega (arith, there, length-enumerate_from 1 all)))
+    ∙ flat_map-append (judged_line lines) (take i numbers) (get_or numbers i (0, (d, e)) ∷ [])
+    ∙ ap (λ (h : ℕ × Judged). flat_map (judged_line lines) (take i numbers) ++ (judged_line lines h ++ [])) last
+    ∙ ap (λ (l : List ℕ). flat_map (judged_line lines) (take i numbers) ++ l) (append-nil (judged_text lines (i + 1) (get_or traced i d) (get_or reasons i e)))
+
+pub judged_more : (lines : ℕ → Option ℕ) (traced : List TracedEvent) (reasons : List (Option Reason)) (i : ℕ) (d : TracedEvent) (e : Option Reason)
+    (text before after line : List ℕ) → i < length traced → length reasons ≡ length traced →
+    before ≡ text ++ judged_below lines (zip traced reasons) i → after ≡ before ++ line →
+    line ≡ judged_text lines (i + 1) (get_or traced i d) (get_or reasons i e) → after ≡ text ++ judged_below lines (zip traced reasons) (i + 1)
+judged_more lines traced reasons i d e text before after line within same was is says =
+    is ∙ ap (λ l. l ++ line) was ∙ append_assoc text (judged_below lines (zip traced reasons) i) line
+    ∙ ap (λ l. text ++ (judged_below lines (zip traced reasons) i ++ l)) says ∙ ap (λ l. text ++ l) (sym (judged_next lines traced reasons i d e within same))
+
+pub judged_all : (lines : ℕ → Option ℕ) (traced : List TracedEvent) (reasons : List (Option Reason)) (i : ℕ) → length traced ≤ i →
+    length reasons ≡ length traced →
+    judged_below lines (zip traced reasons) i ≡ flat_map (judged_line lines) (enumerate_from 1 (zip traced reasons))
+judged_all lines traced reasons i past same =
+    ap (flat_map (judged_line lines)) (take_all i (enumerate_from 1 (zip traced reasons))
+    (omega (arith, past, length-enumerate_from 1 (zip traced reasons), length_zip traced reasons same)))
+
+module _ (traced : List TracedEvent) (reasons : List (Option Reason)) (i : ℕ) (d : TracedEvent) (e : Option Reason) where
+  pub count_next : (p : Judged → Bool) (b : Bool) → i < length traced → length reasons ≡ length traced →
+      p (get_or traced i d, get_or reasons i e) ≡ b → count_by p (take (i + 1) (zip traced reasons)) ≡ count_by p (take i (zip traced reasons)) + cond b 1 0
+  count_next p b within same is =
+      sum_by_more (λ y. cond (p y) 1 0) (zip traced reasons) i (d, e) (inside traced reasons i within same)
+      ∙ ap (λ t. count_by p (take i (zip traced reasons)) + cond t 1 0) (ap p (judged traced reasons i d e within same) ∙ is)
+
+  -- the sum of those of a kind, by whether the next event is of it
+  pub sum_next : (p : Judged → Bool) (b : Bool) (sum add : ℕ) → i < length traced → length reasons ≡ length traced →
+      sum ≡ count_by p (take i (zip traced reasons)) → add ≡ cond b 1 0 → p (get_or traced i d, get_or reasons i e) ≡ b →
+      sum + add ≡ count_by p (take (i + 1) (zip traced reasons))
+  sum_next p b sum add within same was adds is = omega (arith, was, adds, count_next p b within same is)
+
+  -- and where it is neither a clean nor a fence
+  pub sum_stays : (p : Judged → Bool) (sum : ℕ) → i < length traced → length reasons ≡ length traced →
+      sum ≡ count_by p (take i (zip traced reasons)) → p (get_or traced i d, get_or reasons i e) ≡ false →
+      sum ≡ count_by p (take (i + 1) (zip traced reasons))
+  sum_stays p sum within same was is = omega (arith, was, count_next p false within same is)
+
+-- the sums of all events
+pub count_all : (p : Judged → Bool) (traced : List TracedEvent) (reasons : List (Option Reason)) (i : ℕ) → length traced ≤ i →
+    length reasons ≡ length traced → count_by p (take i (zip traced reasons)) ≡ count_by p (zip traced reasons)
+count_all p traced reasons i past same =
+    ap (count_by p) (take_all i (zip traced reasons) (omega (arith, past, length_zip traced reasons same)))

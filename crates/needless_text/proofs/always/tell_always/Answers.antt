@@ -1,0 +1,35 @@
+use Rattle.std.proofs.Common.{◌∙◌, ◌++◌, ℕ, Option, [], ◌∷◌, ap, string_bytes, sym}
+use Rattle.run_text.specs.Places.{line_end}
+use Rattle.needless_text.specs.Waste.{always_text}
+use Rattle.std.proofs.lemmas.List.{append-nil, append_assoc}
+use Rattle.run_text.specs.Places.{line_in}
+use Rattle.needless_text.proofs.Listing.{always_in, are_always, lines_of, told, untold}
+use Rattle.needless_text.proofs.always.tell_always.Goals as goal
+
+pub loop-pc-init : goal.loop-pc-init
+loop-pc-init c = (c.into_iter-pc-iterator.ensures.into_iter_gives.0, sym (append-nil _))
+
+pub loop-pc-preserved-in-Continue-1 : goal.loop-pc-preserved-in-Continue-1
+loop-pc-preserved-in-Continue-1 c =
+    let i = c.loop-pc.invariant in (
+      append_assoc c.loop-pc.yielded ((c.in-Some.pc, c.in-Some.one) ∷ []) c.next.new.self ∙ (ap (λ l. c.loop-pc.yielded ++ l) (sym (c.in-Some.ensures.steps)) ∙ i.0),
+      told (line_in c.args.lines.now) _ _ _ _ c.loop-pc.yielded (c.in-Some.pc, c.in-Some.one) c.if-one.true i.1 (c.in_ok-writeln.ensures.bytes)
+          (ap (λ (line : Option ℕ). always_text (record { pc = c.in-Some.pc; hart = c.in-Some.one.hart; count = c.in-Some.one.count }) line ++ line_end) c.line_of.ensures),
+    )
+
+pub loop-pc-preserved : goal.loop-pc-preserved
+loop-pc-preserved c =
+    let i = c.loop-pc.invariant in (
+      append_assoc c.loop-pc.yielded ((c.in-Some.pc, c.in-Some.one) ∷ []) c.next.new.self ∙ (ap (λ l. c.loop-pc.yielded ++ l) (sym (c.in-Some.ensures.steps)) ∙ i.0),
+      untold (line_in c.args.lines.now) _ _ c.loop-pc.yielded (c.in-Some.pc, c.in-Some.one) c.if-one.false i.1,
+    )
+
+pub returns : goal.returns
+returns c =
+    let i = c.loop-pc.invariant in
+    let whole = sym (append-nil c.loop-pc.yielded) ∙ (ap (λ l. c.loop-pc.yielded ++ l) (sym c.in-None.ensures.steps.0) ∙ i.0) in
+    λ all are. (
+      always_in c.args.uses.entries,
+      are_always all c.args.uses c.into_iter-pc-iterator.ensures.into_iter_gives.5 are,
+      i.1 ∙ ap (λ es. string_bytes c.args.text.now ++ lines_of (line_in c.args.lines.now) es) whole,
+    )

@@ -1,0 +1,129 @@
+//! The text of a run's needless cleans and fences.
+
+ghost use Rattle.needless_text.specs.Uses.{is_unfenced, is_use, is_vain};
+ghost use Rattle.needless_text.specs.Waste.{IsWasteText, judged_line, reason_line, summary_line};
+ghost use Rattle.run_text.specs.Places.{line_in};
+ghost use Rattle.std.specs.List.{count_by, enumerate_from, flat_map, zip};
+ghost use Rattle.std.specs.Prelude.{◌≡◌, ◌++◌, cond, IfOk, OnOk, length, string_bytes};
+
+use crate::always::tell_always;
+use crate::uses::{is_clean_or_fence, is_paid_in_vain, is_unfenced, uses_by_pc};
+use assemble::LineNumbers;
+use needless::Reason;
+use run_text::{ShownTraced, line_of};
+use run_trace::TracedEvent;
+use std::alloc::{AllocError, Global};
+use std::fmt::Write;
+
+/// A line for each needless event of a run with the reason, then one for each instruction all of whose cleans and fences are needless
+/// although they are fenced, by its pc, and then how many of all cleans and fences are so, and how many are needless for want of a
+/// fence:
+///
+/// ```text
+/// 2 h0 step=2 pc=0x10004 line=2 clean l0: cleaned again
+/// always h0 pc=0x10004 line=2, 1 of 1
+/// needless 1 of 2, unfenced 0
+/// ```
+///
+/// The hart is left out of the second where several made them.
+pub fn waste_text(
+    alloc: Global,
+    traced: &[TracedEvent],
+    reasons: &[Option<Reason>],
+    lines: &Option<LineNumbers>,
+) -> Result<String, AllocError>
+    requires { length reasons.now ≡ length traced.now }
+    ensures { IfOk result (λ text. IsWasteText (line_in lines.now) (zip traced.now reasons.now) (string_bytes text)) }
+{
+    let mut text = String::new(alloc);
+    tell_needless(&mut text, traced, reasons, lines)?;
+    let uses = uses_by_pc(alloc, traced, reasons)?;
+    tell_always(&mut text, uses, lines)?;
+    tell_sums(&mut text, traced, reasons)?;
+    Ok(text)
+}
+
+fn tell_needless(
+    text: &mut String,
+    traced: &[TracedEvent],
+    reasons: &[Option<Reason>],
+    lines: &Option<LineNumbers>,
+) -> Result<(), AllocError>
+    requires { length reasons.now ≡ length traced.now }
+    ensures { OnOk result (string_bytes text.new ≡ string_bytes text.old ++ flat_map (judged_line (line_in lines.now)) (enumerate_from 1 (zip traced.now reasons.now))) }
+{
+    for at in 0..traced.len() {
+        if let Some(reason) = reasons[at] {
+            tell_event(text, at as u64 + 1, traced[at], reason, lines)?;
+        }
+    }
+    Ok(())
+}
+
+fn tell_event(
+    text: &mut String,
+    number: u64,
+    traced: TracedEvent,
+    reason: Reason,
+    lines: &Option<LineNumbers>,
+) -> Result<(), AllocError>
+    ensures { OnOk result (string_bytes text.new ≡ string_bytes text.old ++ reason_line (line_in lines.now) number traced reason) }
+{
+    let shown = ShownTraced {
+        number,
+        traced,
+        line: line_of(lines, traced.pc),
+    };
+    writeln!(text, "{shown}: {reason}")
+}
+
+/// How many of a run's cleans and fences there are of each kind.
+#[derive(Clone, Copy)]
+struct Sums {
+    uses: u64,
+    vain: u64,
+    unfenced: u64,
+}
+
+fn tell_sums(
+    text: &mut String,
+    traced: &[TracedEvent],
+    reasons: &[Option<Reason>],
+) -> Result<(), AllocError>
+    requires { length reasons.now ≡ length traced.now }
+    ensures { OnOk result (string_bytes text.new ≡ string_bytes text.old ++ summary_line (zip traced.now reasons.now)) }
+{
+    let sums = sums_of(traced, reasons);
+    writeln!(
+        text,
+        "needless {} of {}, unfenced {}",
+        sums.vain, sums.uses, sums.unfenced
+    )
+}
+
+fn sums_of(traced: &[TracedEvent], reasons: &[Option<Reason>]) -> Sums
+    requires { length reasons.now ≡ length traced.now }
+    ensures uses { result.uses ≡ count_by is_use (zip traced.now reasons.now) }
+    ensures vain { result.vain ≡ count_by is_vain (zip traced.now reasons.now) }
+    ensures unfenced { result.unfenced ≡ count_by is_unfenced (zip traced.now reasons.now) }
+{
+    let mut sums = Sums {
+        uses: 0,
+        vain: 0,
+        unfenced: 0,
+    };
+    for at in 0..traced.len() {
+        if is_clean_or_fence(traced[at].event) {
+            sums.uses += 1;
+            sums.vain += one_where(is_paid_in_vain(reasons[at]));
+            sums.unfenced += one_where(is_unfenced(reasons[at]));
+        }
+    }
+    sums
+}
+
+fn one_where(is_so: bool) -> u64
+    ensures { result ≡ cond is_so 1 0 }
+{
+    u64::from(is_so)
+}
