@@ -15,6 +15,8 @@ mod folder;
 #[cfg(test)]
 mod imaging;
 #[cfg(test)]
+mod losing;
+#[cfg(test)]
 mod loss_routines;
 #[cfg(test)]
 mod persisting;

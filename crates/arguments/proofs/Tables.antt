@@ -1,6 +1,6 @@
 -- Grammars that grow by a row of a table.
 use Rattle.std.proofs.Common.{◌≡◌, ◌∙◌, ◌<◌, ◌+◌, ℕ, List, [], ◌∷◌, ◌++◌, length, map, take, get_or, ap, refl, sym, false}
-use Rattle.std.proofs.lemmas.List.{map_more}
+use Rattle.std.proofs.lemmas.List.{append_assoc, map_more}
 use Rattle.clap.specs.Built.{AddsArg, AddsSubcommand}
 use Rattle.clap.specs.Words.{App, Rule, Shape, Text, rule_of, shape_of, with_rule, with_subcommand}
 use Rattle.clap.specs.Simple.{new_shape}
@@ -25,13 +25,17 @@ line_more : (shapes : List Shape) (s : Shape) → with_subcommand (line shapes) 
 line_more [] s = refl
 line_more (x ∷ xs) s = refl
 
--- a subcommand more of the line
-pub subcommand_more : (xs : List Subcommand) (k : ℕ) (d : Subcommand) (old new sub : Clap) → k < length xs
-    → IsGrammar (line (map shape (take k xs))) old → IsGrammar (leaf (shape (get_or xs k d))) sub
-    → AddsSubcommand old sub new → IsGrammar (line (map shape (take (k + 1) xs))) new
-subcommand_more xs k d old new sub below by is adds = record {
-  shape = adds.shape is.local ∙ ap (λ (a : App). with_subcommand a (shape_of sub)) by.shape
-      ∙ ap (λ (a : App). with_subcommand (line (map shape (take k xs))) a.top) is.shape
-      ∙ line_more (map shape (take k xs)) (shape (get_or xs k d)) ∙ ap line (sym (map_more shape xs k d below));
-  local = adds.globals ∙ rw (by.local, is.local) refl;
-}
+-- a subcommand more of the line, behind those that it had
+pub subcommand_more : (before : List Shape) (xs : List Subcommand) (k : ℕ) (d : Subcommand) (old new sub : Clap) → k < length xs
+    → IsGrammar (line (before ++ map shape (take k xs))) old → IsGrammar (leaf (shape (get_or xs k d))) sub
+    → AddsSubcommand old sub new → IsGrammar (line (before ++ map shape (take (k + 1) xs))) new
+subcommand_more before xs k d old new sub below by is adds =
+    let shapes : List Shape = before ++ map shape (take k xs) in
+    let last : Shape = shape (get_or xs k d) in
+    record {
+      shape = adds.shape is.local ∙ ap (λ (a : App). with_subcommand a (shape_of sub)) by.shape
+          ∙ ap (λ (a : App). with_subcommand (line shapes) a.top) is.shape
+          ∙ line_more shapes last
+          ∙ ap line (append_assoc before (map shape (take k xs)) (last ∷ []) ∙ ap (λ (l : List Shape). before ++ l) (sym (map_more shape xs k d below)));
+      local = adds.globals ∙ rw (by.local, is.local) refl;
+    }

@@ -107,12 +107,12 @@ explain_shape = record (new_shape (codes "explain")) {
       ∷ flag_option (codes "whole") ∷ help_option ∷ [];
 }
 
--- `check PLAN PROGRAM SCHEDULE [--medium FILE --harts N --workers N --whole]`
+-- `check PLAN PROGRAM SCHEDULE [--medium FILE --harts N --workers N --whole --why]`
 unfoldable pub check_shape : Shape
 check_shape = record (new_shape (codes "check")) {
   rules = needed_word (codes "PLAN") ∷ needed_word (codes "PROGRAM") ∷ needed_word (codes "SCHEDULE")
       ∷ valued_option (codes "medium") ∷ valued_option (codes "harts") ∷ valued_option (codes "workers")
-      ∷ flag_option (codes "whole") ∷ help_option ∷ [];
+      ∷ flag_option (codes "whole") ∷ flag_option (codes "why") ∷ help_option ∷ [];
 }
 
 -- `code [CODE]`
@@ -141,10 +141,16 @@ is_none (s ∷ shapes) = false
 abbrev pub line : List Shape → App
 line shapes = record { top = record bare { is_leaf = is_none shapes }; subs = shapes }
 
+-- the subcommands that make files and run programs, and those that tell of a run, judge it, and tell of what is printed
+unfoldable pub making : List Shape
+making = assemble_shape ∷ make_volume_shape ∷ upgrade_shape ∷ run_shape ∷ replay_shape ∷ debug_shape ∷ []
+
+unfoldable pub judging : List Shape
+judging = trace_shape ∷ unpersisted_shape ∷ waste_shape ∷ images_shape ∷ explain_shape ∷ check_shape ∷ code_shape ∷ []
+
 -- the whole line
-abbrev pub novacrash : App
-novacrash = line (assemble_shape ∷ make_volume_shape ∷ upgrade_shape ∷ run_shape ∷ replay_shape ∷ debug_shape
-    ∷ trace_shape ∷ unpersisted_shape ∷ waste_shape ∷ images_shape ∷ explain_shape ∷ check_shape ∷ code_shape ∷ [])
+unfoldable pub novacrash : App
+novacrash = line (making ++ judging)
 
 -- the rule of an argument of the table
 abbrev pub rule : Argument → Rule

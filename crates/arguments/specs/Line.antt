@@ -93,11 +93,12 @@ pub record IsExplain (rows : List Row) (command : ExplainCommand) : Type 0 where
   pub moment : IsNumberWord (first_of (codes "MOMENT") rows) command.moment
   pub image : IsImageWord (first_of (codes "IMAGE") rows) command.image
 
--- `check` of this run by this plan and so many workers
+-- `check` of this run by this plan and so many workers, and whether a failure is explained
 pub record IsCheck (rows : List Row) (command : CheckCommand) : Type 0 where
   pub plan : IsWord (codes "PLAN") rows command.plan
   pub run : IsScheduledRun rows command.run
   pub workers : IsWorkers rows command.workers
+  pub why : command.why ≡ is_set (first_of (codes "why") rows)
 
 -- `code` with this code, or with none
 pub record IsCode (rows : List Row) (command : CodeCommand) : Type 0 where

@@ -30,7 +30,7 @@ pub enum Command {
     Images(ImagesCommand),
     /// `explain PROGRAM SCHEDULE MOMENT IMAGE [--medium FILE --harts N --whole]`.
     Explain(ExplainCommand),
-    /// `check PLAN PROGRAM SCHEDULE [--medium FILE --harts N --workers N --whole]`.
+    /// `check PLAN PROGRAM SCHEDULE [--medium FILE --harts N --workers N --whole --why]`.
     Check(CheckCommand),
     /// `code [CODE]`.
     Code(CodeCommand),
@@ -159,6 +159,8 @@ pub struct CheckCommand {
     pub run: ScheduledRun,
     /// The number of workers that judge the run, from 1 to 8; 1 where the line doesn't say.
     pub workers: u32,
+    /// Whether a failure is told with the stores that its image lacks and keeps, and a schedule that leaves it.
+    pub why: bool,
 }
 
 /// What `code` is to do.

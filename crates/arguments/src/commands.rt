@@ -222,6 +222,7 @@ pub(crate) fn check(alloc: Global, found: &ArgMatches<'_>) -> Result<CheckComman
         → ¬ (IsCheck (rows_of (found_of found.now)) command))) }
 {
     Ok(CheckCommand {
+        why: flag(found, "why"),
         workers: number(alloc, found, &WORKERS)?,
         plan: word(alloc, found, "PLAN")?,
         run: scheduled_run(alloc, found)?,

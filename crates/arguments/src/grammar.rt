@@ -1,8 +1,8 @@
 //! The grammar of the command line, as clap takes it.
 
-ghost use Rattle.std.specs.Prelude.{◌≡◌, IfOk, false, map};
-ghost use Rattle.clap.specs.Words.{rule_of};
-ghost use Rattle.arguments.specs.Grammar.{IsGrammar, help_option, leaf, line, rule, shape};
+ghost use Rattle.std.specs.Prelude.{◌≡◌, ◌++◌, [], IfOk, List, false, map};
+ghost use Rattle.clap.specs.Words.{Shape, rule_of};
+ghost use Rattle.arguments.specs.Grammar.{IsGrammar, help_option, leaf, line, making, novacrash, rule, shape};
 
 use clap::{Arg, ArgAction};
 use std::alloc::{AllocError, Global};
@@ -171,8 +171,13 @@ const WHOLE: Argument = Argument::Flag {
     about: "Refuse a run in which a hart doesn't exit with 0, or an operation doesn't end",
 };
 
-/// The subcommands, in the order in which help tells them.
-pub(crate) static SUBCOMMANDS: [Subcommand; 13] = [
+const WHY: Argument = Argument::Flag {
+    name: "why",
+    about: "Say which stores a failing image lacks and keeps, why each can be lost, and how it comes about",
+};
+
+/// The subcommands that make files and run programs, in the order in which help tells them.
+static MAKING: [Subcommand; 6] = [
     Subcommand {
         name: "asm",
         about: "Assemble a source and write its object",
@@ -212,6 +217,11 @@ pub(crate) static SUBCOMMANDS: [Subcommand; 13] = [
             "Commands of the session: break A, watch A, clear A, step H, go [ITEMS], regs H, peek A N, quit.\n\n"
         ),
     },
+];
+
+/// The subcommands that tell of a run and judge it, and of what the program prints, in the order in which help tells them, behind the
+/// others.
+static JUDGING: [Subcommand; 7] = [
     Subcommand {
         name: "trace",
         about: "Print the events of a run by a schedule, each with its step, pc and source line",
@@ -228,7 +238,10 @@ pub(crate) static SUBCOMMANDS: [Subcommand; 13] = [
         name: "waste",
         about: "Print the cleans and fences that a run makes in vain",
         arguments: &[PROGRAM, SCHEDULE, MEDIUM, HARTS, WHOLE],
-        ending: ending!("waste append.s append.schedule --medium fresh.medium --whole"),
+        ending: ending!(
+            "waste append.s append.schedule --medium fresh.medium --whole",
+            "This speaks of the run by this schedule alone: only an instruction with `always` can be deleted, where each run has it.\n\n"
+        ),
     },
     Subcommand {
         name: "images",
@@ -245,8 +258,10 @@ pub(crate) static SUBCOMMANDS: [Subcommand; 13] = [
     Subcommand {
         name: "check",
         about: "Judge every crash image of a run by a schedule",
-        arguments: &[PLAN, PROGRAM, SCHEDULE, MEDIUM, HARTS, WORKERS, WHOLE],
-        ending: ending!("check append.plan append.s append.schedule --medium fresh.medium --whole"),
+        arguments: &[PLAN, PROGRAM, SCHEDULE, MEDIUM, HARTS, WORKERS, WHOLE, WHY],
+        ending: ending!(
+            "check append.plan append.s append.schedule --medium fresh.medium --whole --why"
+        ),
     },
     Subcommand {
         name: "code",
@@ -303,19 +318,54 @@ impl Subcommand {
     }
 }
 
-/// The line with these subcommands, and `--help` anywhere.
-pub(crate) fn grammar<'a>(
-    alloc: Global,
-    subcommands: &[Subcommand],
-) -> Result<clap::Command<'a>, AllocError>
-    ensures { IfOk result (IsGrammar (line (map shape subcommands.now))) }
+/// The line of the program.
+pub(crate) fn grammar<'a>(alloc: Global) -> Result<clap::Command<'a>, AllocError>
+    ensures { IfOk result (IsGrammar novacrash) }
 {
-    let mut command = clap::Command::new(alloc, "novacrash")
+    let command = with_making(alloc, bare(alloc)?)?;
+    with_judging(alloc, command)
+}
+
+/// The line without subcommands, with `--help` anywhere.
+fn bare<'a>(alloc: Global) -> Result<clap::Command<'a>, AllocError>
+    ensures { IfOk result (IsGrammar (line [])) }
+{
+    clap::Command::new(alloc, "novacrash")
         .about("A crash tester for persistent-memory routines")
         .disable_help_flag(true)
         .disable_help_subcommand(true)
         .subcommand_required(true)
-        .arg(help_flag(alloc))?;
+        .arg(help_flag(alloc))
+}
+
+fn with_making<'a>(
+    alloc: Global,
+    command: clap::Command<'a>,
+) -> Result<clap::Command<'a>, AllocError>
+    requires { IsGrammar (line []) command }
+    ensures { IfOk result (IsGrammar (line making)) }
+{
+    with_all(alloc, command, &MAKING)
+}
+
+fn with_judging<'a>(
+    alloc: Global,
+    command: clap::Command<'a>,
+) -> Result<clap::Command<'a>, AllocError>
+    requires { IsGrammar (line making) command }
+    ensures { IfOk result (IsGrammar novacrash) }
+{
+    with_all(alloc, command, &JUDGING)
+}
+
+/// The line with these subcommands behind those that it has.
+fn with_all<'a>(
+    alloc: Global,
+    mut command: clap::Command<'a>,
+    subcommands: &[Subcommand],
+) -> Result<clap::Command<'a>, AllocError>
+    ensures { (shapes : List Shape) → IsGrammar (line shapes) command.entry → IfOk result (IsGrammar (line (shapes ++ map shape subcommands.now))) }
+{
     for subcommand in subcommands {
         command = command.subcommand(subcommand.to_clap(alloc)?)?;
     }

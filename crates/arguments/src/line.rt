@@ -10,7 +10,7 @@ use crate::asked::{Command, LineFault};
 use crate::commands::{
     assemble, check, code, debug, explain, images, make_volume, replay, run, scheduled_run, upgrade,
 };
-use crate::grammar::{SUBCOMMANDS, grammar};
+use crate::grammar::grammar;
 use clap::ArgMatches;
 use clap::error::ErrorKind;
 use std::alloc::{AllocError, Global};
@@ -38,7 +38,7 @@ fn matches<'a>(alloc: Global, words: &'a [String]) -> Result<ArgMatches<'a>, Lin
         ≡ subcommand_of novacrash (map string_bytes words.now)) }
     ensures err { IfErr result (Refuses (map string_bytes words.now)) }
 {
-    match grammar(alloc, &SUBCOMMANDS)?.try_get_matches_from(words) {
+    match grammar(alloc)?.try_get_matches_from(words) {
         Ok(found) => Ok(found),
         Err(error) => Err(refusal(alloc, &error)?),
     }
@@ -105,7 +105,7 @@ fn asked(alloc: Global, name: &str, found: &ArgMatches<'_>) -> Result<Command, L
 /// - `waste PROGRAM SCHEDULE [--medium FILE --harts N --whole]`
 /// - `images PROGRAM SCHEDULE MOMENT [--medium FILE --harts N --whole]`
 /// - `explain PROGRAM SCHEDULE MOMENT IMAGE [--medium FILE --harts N --whole]`
-/// - `check PLAN PROGRAM SCHEDULE [--medium FILE --harts N --workers N --whole]`
+/// - `check PLAN PROGRAM SCHEDULE [--medium FILE --harts N --workers N --whole --why]`
 /// - `code [CODE]`
 #[tactic(auto, using(crate::proofs::Lines::has_none))]
 pub fn command(alloc: Global, words: &[String]) -> Result<Command, LineFault>

@@ -88,7 +88,8 @@ fn images_of(alloc: Global, command: &Command) -> Result<String, AllocError> {
         }
         Command::Check(check) => {
             let run = scheduled_of(alloc, &check.run)?;
-            format!(in alloc; "check {} {run} / {}", check.plan, check.workers)
+            let why = if check.why { " why" } else { "" };
+            format!(in alloc; "check {} {run} / {}{why}", check.plan, check.workers)
         }
         _ => run_of(alloc, command),
     }
@@ -201,7 +202,7 @@ fn defaults_stand_where_options_are_left_out(rt: HostRuntime) -> Result<(), Fail
 }
 
 /// Lines with options, before and after the words, and what they are read as.
-const WITH_OPTIONS: [(&str, &str); 22] = [
+const WITH_OPTIONS: [(&str, &str); 23] = [
     (
         "novacrash trace --whole a.s s --harts 2 --medium m",
         "trace a.s s / m 2 whole must-be-whole",
@@ -225,6 +226,10 @@ const WITH_OPTIONS: [(&str, &str); 22] = [
     (
         "novacrash explain a.s s 7 4 --whole",
         "explain a.s s / - 1 whole must-be-whole / 7 4",
+    ),
+    (
+        "novacrash check p a.s --why s",
+        "check p a.s s / - 1 whole any / 1 why",
     ),
     (
         "novacrash check p --whole a.s s --workers 2",
@@ -497,6 +502,9 @@ fn options_out_of_place_are_faults(rt: HostRuntime) -> Result<(), Fail> {
         "novacrash trace a.s s --whole --whole",
         "novacrash trace a.s s --who",
         "novacrash check p a.s s --whole --workers 2 --whole",
+        "novacrash check p a.s s --why --whole --why",
+        "novacrash check p a.s s --why=yes",
+        "novacrash trace a.s s --why",
         "novacrash run a.s --whole",
         "novacrash replay a.s s --whole",
         "novacrash images a.s s 1 --capacity 2",

@@ -344,6 +344,8 @@ Options:
       --help           Print help
 
 Example: novacrash waste append.s append.schedule --medium fresh.medium --whole
+
+This speaks of the run by this schedule alone: only an instruction with `always` can be deleted, where each run has it.
 ",
     ),
     (
@@ -406,9 +408,10 @@ Options:
       --harts <N>      The number of harts, from 1 to 8 [default: 1]
       --workers <N>    The number of workers that judge the run, from 1 to 8 [default: 1]
       --whole          Refuse a run in which a hart doesn't exit with 0, or an operation doesn't end
+      --why            Say which stores a failing image lacks and keeps, why each can be lost, and how it comes about
       --help           Print help
 
-Example: novacrash check append.plan append.s append.schedule --medium fresh.medium --whole
+Example: novacrash check append.plan append.s append.schedule --medium fresh.medium --whole --why
 ",
     ),
     (

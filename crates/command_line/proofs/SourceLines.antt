@@ -6,6 +6,9 @@ use Rattle.loss_text.specs.Events.{event_text}
 use Rattle.loss_text.specs.Unpersisted.{unpersisted_text}
 use Rattle.needless_text.specs.Uses.{Judged}
 use Rattle.needless_text.specs.Waste.{IsWasteText}
+use Rattle.loss_text.specs.Why.{why_text}
+use Rattle.durability.specs.declared.cut.ToldCut.{ToldCut}
+use Rattle.schedule.specs.declared.items.Item.{Item}
 use Rattle.program_trace.specs.Lines.{line_of}
 use Rattle.run_text.specs.Causes.{unfinished_text}
 use Rattle.run_text.specs.Events.{trace_text}
@@ -29,3 +32,9 @@ unpersisted_of_source file lines traced told same = ap (λ (f : ℕ → Option �
 pub waste_of_source : (file : List ℕ) (lines : Option (List ℕ)) (all : List Judged) (text : List ℕ) → ((pc : ℕ) → line_in lines pc ≡ line_of file pc)
     → IsWasteText (line_in lines) all text → IsWasteText (line_of file) all text
 waste_of_source file lines all text same is = subst (λ (f : ℕ → Option ℕ). IsWasteText f all text) (fun_ext same) is
+
+
+pub why_of_source : (file : List ℕ) (lines : Option (List ℕ)) (traced : List TracedEvent) (told : ToldCut) (unread : ℕ) (schedule : List Item)
+    → ((pc : ℕ) → line_in lines pc ≡ line_of file pc)
+    → why_text (event_text (line_in lines) traced) told unread schedule ≡ why_text (event_text (line_of file) traced) told unread schedule
+why_of_source file lines traced told unread schedule same = ap (λ (f : ℕ → Option ℕ). why_text (event_text f traced) told unread schedule) (fun_ext same)

@@ -1,18 +1,26 @@
 -- What `check` comes to.
-use Rattle.std.specs.Prelude.{ℕ, List, Option, Some, None, Result, MatchResult, ◌++◌, codes, decimal, string_bytes}
+use Rattle.std.specs.Prelude.{◌≡◌, ℕ, Bool, true, false, List, [], Option, Some, None, Result, MatchResult, ◌++◌, codes, decimal, string_bytes}
 use Rattle.arguments.specs.declared.asked.CheckCommand.{CheckCommand}
 use Rattle.image_check.specs.declared.verdict.Cause.{Cause}
 use Rattle.image_check.specs.declared.verdict.Cause.TheVariants as causes
 use Rattle.image_check.specs.declared.verdict.Verdict.{Verdict}
 use Rattle.image_check.specs.declared.verdict.Verdict.TheVariants as verdicts
 use Rattle.image_name.specs.Texts.{image_text}
+use Rattle.image_name.specs.declared.name.ImageName.{ImageName}
+use Rattle.loss_text.specs.Events.{event_text}
+use Rattle.loss_text.specs.Why.{why_text}
 use Rattle.plan.specs.declared.operation.Operation.{Operation}
+use Rattle.program_losses.specs.Failing.{IsExplainedImage}
+use Rattle.program_losses.specs.declared.failing.ExplainedImage.{ExplainedImage}
+use Rattle.program_trace.specs.Lines.{line_of}
 use Rattle.schedule.specs.declared.items.Item.{Item}
 use Rattle.tester.specs.Checking.{HasNoVerdict, HasVerdict}
+use Rattle.tester.specs.Explaining.{FailsToExplain}
 use Rattle.tester.specs.Runs.{Setup}
+use Rattle.tester.specs.declared.explaining.ExplainFault.{ExplainFault}
 use Rattle.whole_run.specs.Causes.{numbers_of}
 use Rattle.command_line.specs.Codes.{volume_code}
-use Rattle.command_line.specs.Failures.{failure_of_verdict}
+use Rattle.command_line.specs.Failures.{failure_of_explanation, failure_of_verdict}
 use Rattle.command_line.specs.Demanding.{MeetsWhole}
 use Rattle.command_line.specs.Reading.{ReadsPlan, ReadsRun, setup_of}
 use Rattle.command_line.specs.Reports.{line_end}
@@ -50,6 +58,36 @@ verdict_status (verdicts.Pass moments images) = 0
 verdict_status (verdicts.Fail moment image cause) = 1
 verdict_status (verdicts.TooMany moment) = 3
 
+-- the moment and the image that are explained: those of a failure, where that is asked for
+abbrev pub failing : Bool → Verdict → Option (ℕ × ImageName)
+failing true (verdicts.Fail moment image cause) = Some (moment, image)
+failing true (verdicts.Pass moments images) = None
+failing true (verdicts.TooMany moment) = None
+failing false verdict = None
+
+-- what is told of it
+abbrev pub IsExplained : Setup → List Item → Option (ℕ × ImageName) → Option ExplainedImage → Type 0
+IsExplained s schedule None told = told ≡ None
+IsExplained s schedule (Some image) None = ⊥
+IsExplained s schedule (Some image) (Some explained) = IsExplainedImage s schedule image.0 image.1 explained
+
+-- why it isn't, as of `explain`
+abbrev pub IsUnexplained : Setup → List Item → Option (ℕ × ImageName) → ExplainFault → Type 0
+IsUnexplained s schedule None fault = ⊥
+IsUnexplained s schedule (Some image) fault = FailsToExplain s schedule image.0 image.1 fault
+
+pub record ExplainsOne (s : Setup) (schedule : List Item) (moment : ℕ) (image : ImageName) (outcome : Result ExplainedImage Failure) : Type 0 where
+  pub explains : MatchResult outcome (IsExplainedImage s schedule moment image) (Tells (FailsToExplain s schedule moment image) failure_of_explanation)
+
+pub record Explains (s : Setup) (schedule : List Item) (image : Option (ℕ × ImageName)) (outcome : Result (Option ExplainedImage) Failure) : Type 0 where
+  pub explains : MatchResult outcome (IsExplained s schedule image) (Tells (IsUnexplained s schedule image) failure_of_explanation)
+
+-- its lines, by the lines of the program's source
+abbrev pub why_lines : List ℕ → Option ExplainedImage → List ℕ
+why_lines file None = []
+why_lines file (Some explained) =
+    why_text (event_text (line_of file) explained.traced.items) explained.told.read explained.told.unread explained.schedule
+
 -- With `--whole` there is a verdict on a whole run alone: a pass then also says that each hart has exited with 0, and that each
 -- planned operation has ended.
 abbrev pub ChecksFile : {F : Type 0} → Reads F → CheckCommand → Step F Answer
@@ -58,4 +96,5 @@ ChecksFile reads command =
     First (ReadsRun reads command.run) (λ run.
     First (Still (MeetsWhole command.run run (numbers_of plan.operations))) (λ _.
     First (Still (Judges plan.operations (setup_of command.run run) run.schedule)) (λ verdict.
-    Still (Prints (verdict_line verdict) (verdict_status verdict))))))
+    First (Still (Explains (setup_of command.run run) run.schedule (failing command.why verdict))) (λ why.
+    Still (Prints (verdict_line verdict ++ why_lines run.file.items why) (verdict_status verdict)))))))

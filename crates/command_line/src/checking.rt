@@ -1,8 +1,14 @@
 //! The command that checks a run.
 
-ghost use Rattle.std.specs.Prelude.{◌≡◌, IfOk, string_bytes};
+ghost use Rattle.std.specs.Prelude.{◌≡◌, ◌++◌, ◌^◌, ◌<◌, IfOk, IfSome, string_bytes};
 ghost use Rattle.arguments.specs.Line.{IsWithin};
-ghost use Rattle.command_line.specs.Checking.{ChecksFile, Judges, cause_text, pass_line, verdict_line, verdict_status};
+ghost use Rattle.command_line.specs.Checking.{ChecksFile, Explains, ExplainsOne, Judges, cause_text, failing, pass_line, verdict_line, verdict_status, why_lines};
+ghost use Rattle.loss_text.specs.Events.{event_text};
+ghost use Rattle.loss_text.specs.Why.{why_text};
+ghost use Rattle.object.specs.Sections.{Sections};
+ghost use Rattle.program_trace.specs.Lines.{line_of};
+ghost use Rattle.schedule.specs.Grammar.{hart_steps};
+ghost use Rattle.tester.specs.Programs.{IsProgramOf};
 ghost use Rattle.command_line.specs.Steps.{Prints};
 ghost use Rattle.command_line.specs.Reading.{setup_of};
 
@@ -14,12 +20,17 @@ use crate::files::Files;
 use crate::reading::{RunFiles, read_plan, read_run};
 use arguments::CheckCommand;
 use image_check::{Cause, Verdict};
+use image_name::ImageName;
+use loss_text::why_text;
 use plan::Plan;
+use program_losses::{ExplainedImage, explain_losses};
+use program_trace::source_lines;
 use std::alloc::{AllocError, Global};
 use std::thread::Threads;
 use tester::check_program;
 
-/// `check`: reads the files of a plan, a program, a schedule and a medium, and gives the verdict on the run.
+/// `check`: reads the files of a plan, a program, a schedule and a medium, and gives the verdict on the run, with `--why` also what a
+/// failing image lacks and keeps.
 pub(crate) fn check_file<T: Threads + Sync, F: Files>(
     rt: &T,
     alloc: Global,
@@ -32,8 +43,9 @@ pub(crate) fn check_file<T: Threads + Sync, F: Files>(
     let plan = read_plan(alloc, command.plan.as_str(), files)?;
     let run = read_run(alloc, &command.run, files)?;
     demand_whole(alloc, &command.run, &run, plan.operations())?;
-    let verdict = verdict(rt, alloc, command, &plan, run)?;
-    verdict_answer(alloc, &verdict)
+    let verdict = verdict(rt, alloc, command, &plan, &run)?;
+    let why = why(alloc, command, &run, &verdict)?;
+    verdict_answer(alloc, &run.file, &verdict, &why)
 }
 
 fn verdict<T: Threads + Sync>(
@@ -41,32 +53,121 @@ fn verdict<T: Threads + Sync>(
     alloc: Global,
     command: &CheckCommand,
     plan: &Plan,
-    run: RunFiles,
+    run: &RunFiles,
 ) -> Result<Verdict, Failure>
     requires { IsWithin 1 8 command.now.workers }
-    ensures { Judges plan.now.operations (setup_of command.now.run run) run.schedule result }
+    ensures { Judges plan.now.operations (setup_of command.now.run run.now) run.now.schedule result }
 {
+    let harts = command.run.machine.harts;
+    let workers = command.workers;
+    let program = run.program.copy(alloc)?;
+    let medium = run.medium.copy(alloc)?;
+    Ok(check_program(
+        rt,
+        alloc,
+        plan,
+        program,
+        medium,
+        harts,
+        &run.schedule,
+        workers,
+    )?)
+}
+
+/// `--why`: of a failing image what it lacks and keeps, and how it comes about.
+fn why(
+    alloc: Global,
+    command: &CheckCommand,
+    run: &RunFiles,
+    verdict: &Verdict,
+) -> Result<Option<ExplainedImage>, Failure>
+    requires { hart_steps run.now.schedule < 2 ^ 32 }
+    ensures told { Explains (setup_of command.now.run run.now) run.now.schedule (failing command.now.why verdict.now) result }
+    ensures few { IfOk result (λ why. IfSome why (λ explained. hart_steps explained.schedule < 2 ^ 32)) }
+{
+    if !command.why {
+        return Ok(None);
+    }
+    match verdict {
+        Verdict::Fail { moment, image, .. } => {
+            let explained = explained(alloc, command, run, *moment, image)?;
+            Ok(Some(explained))
+        }
+        Verdict::Pass { .. } | Verdict::TooMany { .. } => Ok(None),
+    }
+}
+
+fn explained(
+    alloc: Global,
+    command: &CheckCommand,
+    run: &RunFiles,
+    moment: u32,
+    image: &ImageName,
+) -> Result<ExplainedImage, Failure>
+    requires { hart_steps run.now.schedule < 2 ^ 32 }
+    ensures told { ExplainsOne (setup_of command.now.run run.now) run.now.schedule moment image.now result }
+    ensures few { IfOk result (λ explained. hart_steps explained.schedule < 2 ^ 32) }
+{
+    let harts = command.run.machine.harts;
     let RunFiles {
         program,
         schedule,
         medium,
         ..
     } = run;
-    let harts = command.run.machine.harts;
-    let workers = command.workers;
-    Ok(check_program(rt, alloc, plan, program, medium, harts, &schedule, workers)?)
+    Ok(explain_losses(alloc, program, medium, harts, schedule, moment, image)?)
 }
 
-fn verdict_answer(alloc: Global, verdict: &Verdict) -> Result<Answer, Failure>
-    ensures { Prints (verdict_line verdict.now) (verdict_status verdict.now) result }
+fn verdict_answer(
+    alloc: Global,
+    file: &[u8],
+    verdict: &Verdict,
+    why: &Option<ExplainedImage>,
+) -> Result<Answer, Failure>
+    requires program { (program : Sections) × IsProgramOf file.now program }
+    requires few { IfSome why.now (λ explained. hart_steps explained.schedule < 2 ^ 32) }
+    ensures { Prints (verdict_line verdict.now ++ why_lines file.now why.now) (verdict_status verdict.now) result }
 {
-    let text = verdict_line(alloc, verdict)?;
+    let mut text = verdict_line(alloc, verdict)?;
+    let lines = why_lines(alloc, file, why)?;
+    text.push_str(lines.as_str())?;
     let status = match verdict {
         Verdict::Pass { .. } => 0,
         Verdict::Fail { .. } => 1,
         Verdict::TooMany { .. } => 3,
     };
     Ok(Answer { text, status })
+}
+
+/// What is told of a failing image.
+fn why_lines(alloc: Global, file: &[u8], why: &Option<ExplainedImage>) -> Result<String, AllocError>
+    requires program { (program : Sections) × IsProgramOf file.now program }
+    requires few { IfSome why.now (λ explained. hart_steps explained.schedule < 2 ^ 32) }
+    ensures { IfOk result (λ text. string_bytes text ≡ why_lines file.now why.now) }
+{
+    match why {
+        Some(explained) => explained_lines(alloc, file, explained),
+        None => Ok(String::new(alloc)),
+    }
+}
+
+#[tactic(auto, using(crate::proofs::SourceLines::why_of_source))]
+fn explained_lines(
+    alloc: Global,
+    file: &[u8],
+    explained: &ExplainedImage,
+) -> Result<String, AllocError>
+    requires program { (program : Sections) × IsProgramOf file.now program }
+    requires few { hart_steps explained.now.schedule < 2 ^ 32 }
+    ensures { IfOk result (λ text. string_bytes text ≡ why_lines file.now (Some explained.now)) }
+{
+    let lines = source_lines(alloc, file)?;
+    let ExplainedImage {
+        traced,
+        told,
+        schedule,
+    } = explained;
+    why_text(alloc, &told.read, told.unread, schedule, traced, &lines)
 }
 
 /// `pass moments=N images=N`, or `images=over` where a moment has over 65,536, `fail moment=M image=NAME cause=C` or

@@ -390,6 +390,19 @@ fn execute_check(rt: HostRuntime) -> Result<(), Refused> {
     ended(&rt, typed(&rt, &CHECK))
 }
 
+/// Nothing was stored yet.
+const CHECK_WHY: Example = Example {
+    line: "novacrash check one.plan first.s eight --why",
+    typed: "",
+    status: 1,
+    printed: "fail moment=0 image=0 cause=N1\nschedule\n",
+};
+
+#[test]
+fn execute_check_with_reasons(rt: HostRuntime) -> Result<(), Refused> {
+    ended(&rt, typed(&rt, &CHECK_WHY))
+}
+
 /// A session whose steps make no event: one that is refused there would be told as `fault G5`, and the session goes on.
 const DEBUG: Example = Example {
     line: "novacrash debug first.s",

@@ -2,8 +2,10 @@
 //! vain.
 #![tactic(auto)]
 
+mod failing;
 mod unpersisted;
 mod vain;
 
+pub use failing::{ExplainedImage, explain_losses};
 pub use unpersisted::{UnpersistedRun, unpersisted_program};
 pub use vain::{NeedlessRun, needless_program};
