@@ -1,11 +1,14 @@
+pub mod Counts
 pub mod Dedups
 pub mod Endings
 pub mod Firsts
 pub mod Floors
 pub mod Givens
 pub mod Lates
+pub mod Linked
 pub mod Marks
 pub mod Nexts
 pub mod Opens
 pub mod Pairs
+pub mod Stores
 pub mod Tellings

@@ -4,4 +4,5 @@ pub mod Firsts
 pub mod Given
 pub mod Numbered
 pub mod Operations
+pub mod Stores
 pub mod Unpersisted

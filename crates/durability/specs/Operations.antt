@@ -1,10 +1,13 @@
 -- Operations by the marks of their harts. Marks have no faults here: a number may be used again, and operations of one hart may overlap.
-use Rattle.std.specs.Prelude.{◌≡◌, ℕ, ◌+◌, ◌-◌, ◌<◌, ◌≤◌, ◌==◌, ◌&&◌, Bool, true, false, List, [], ◌∷◌, if◌then◌else◌, length, filter, map, reverse, take, drop, slice_get, slice_index_or, Option, Some, None, All}
+use Rattle.std.specs.Prelude.{◌≡◌, ℕ, ◌+◌, ◌-◌, ◌<◌, ◌≤◌, ◌==◌, ◌&&◌, Bool, List, [], ◌∷◌, if◌then◌else◌, length, filter, reverse, take, drop, slice_get, slice_index_or, Option, Some, None}
+use Rattle.std.specs.BTreeMap.{get}
+use Rattle.std.specs.Ordering.{nat_cmp, ordering_then}
+use Rattle.std.specs.declared.cmp.Ordering.{Ordering}
 use Rattle.store_trace.specs.declared.event.Event.{Event}
 use Rattle.store_trace.specs.declared.event.Event.TheVariants.{Store, Clean, Fence, Begin, End}
 use Rattle.durability.specs.Numbered.{event_at}
-use Rattle.durability.specs.declared.operations.Begun.{Begun}
 use Rattle.durability.specs.declared.operations.Ended.{Ended}
+use Rattle.durability.specs.declared.operations.OpenOperations.{OpenOperations}
 
 -- after these events, the newest first: the numbers of the Begins of operation op by hart h that no End has ended, the last one first.
 -- An End ends the first of them, where there is one.
@@ -47,30 +50,51 @@ pub record IsEndOfLast (events : List Event) (n h op b : ℕ) : Type 0 where
 abbrev pub IsOutside : List Event → ℕ → ℕ → Type 0
 IsOutside events m h = (op : ℕ) → open_at events m h op ≡ []
 
--- this is operation op of hart h
-abbrev pub is_of : ℕ → ℕ → Begun → Bool
-is_of h op one = (one.hart == h) && (one.operation == op)
+-- operations by their harts, and of each hart by their numbers
+abbrev pub operation_cmp : (ℕ × ℕ) → (ℕ × ℕ) → Ordering
+operation_cmp one other = ordering_then (nat_cmp one.0 other.0) (nat_cmp one.1 other.1)
 
--- the Begins of operation op by hart h among these, the last one first
-abbrev pub begins_of : ℕ → ℕ → List Begun → List ℕ
-begins_of h op begun = reverse (map (λ one. one.begin) (filter (is_of h op) begun))
+-- this is operation op of hart h
+abbrev pub is_operation : ℕ → ℕ → (ℕ × ℕ) → Bool
+is_operation h op one = (one.0 == h) && (one.1 == op)
+
+-- this is an operation of hart h
+abbrev pub is_of_hart : ℕ → (ℕ × ℕ) → Bool
+is_of_hart h one = one.0 == h
+
+-- these without the first one that is operation op of hart h
+abbrev pub without : ℕ → ℕ → List (ℕ × ℕ) → List (ℕ × ℕ)
+without h op [] = []
+without h op (x ∷ xs) = if is_operation h op x then xs else x ∷ without h op xs
+
+-- the operations that are open after these events, the newest first, each as often as it is open
+abbrev pub open_operations : List Event → List (ℕ × ℕ)
+open_operations [] = []
+open_operations (Store g l offset width value ∷ p) = open_operations p
+open_operations (Clean g l ∷ p) = open_operations p
+open_operations (Fence g ∷ p) = open_operations p
+open_operations (Begin g op ∷ p) = (g, op) ∷ open_operations p
+open_operations (End g op ∷ p) = without g op (open_operations p)
+
+-- how many operations of hart h are open after these events, the newest first
+abbrev pub open_of_hart : ℕ → List Event → ℕ
+open_of_hart h p = length (filter (is_of_hart h) (open_operations p))
+
+-- from the first one on, each with the one that is told at its place, these are the numbers
+abbrev pub AreLinked : List (Option ℕ) → Option ℕ → List ℕ → Type 0
+AreLinked before first [] = first ≡ None
+AreLinked before first (b ∷ bs) =
+    (first ≡ Some b) × (0 < b) × (b ≤ length before) × AreLinked before (slice_index_or before (b - 1) None) bs
+
+-- these are the operations that are open after these events, the newest first
+pub record AreOpenAfter (p : List Event) (now : OpenOperations) : Type 0 where
+  pub size : length now.before.items ≡ length p
+  pub begins : (h op : ℕ) → AreLinked now.before.items (get operation_cmp now.last (h, op)) (open_begins h op p)
+  pub counts : (h d : ℕ) → h < 8 → slice_index_or now.counts h d ≡ open_of_hart h p
 
 -- these are the operations that are open at moment m
-abbrev pub AreOpen : List Event → ℕ → List Begun → Type 0
-AreOpen events m begun = (h op : ℕ) → begins_of h op begun ≡ open_at events m h op
-
--- the place of the last one of these that is operation op of hart h, and None where none is
-abbrev pub IsLastOf : List Begun → ℕ → ℕ → Option ℕ → Type 0
-IsLastOf begun h op None = All (λ one. is_of h op one ≡ false) begun
-IsLastOf begun h op (Some i) =
-    (i < length begun) × ((d : Begun) → is_of h op (slice_index_or begun i d) ≡ true)
-    × ((k : ℕ) (d : Begun) → i < k → k < length begun → is_of h op (slice_index_or begun k d) ≡ false)
-
--- of these the operation that an End of number n ends, of operation op by hart h, and None where it ends none
-abbrev pub IsEnding : List Begun → ℕ → ℕ → ℕ → Option Ended → Type 0
-IsEnding begun h op n None = begins_of h op begun ≡ []
-IsEnding begun h op n (Some ended) =
-    (ended.hart ≡ h) × (ended.operation ≡ op) × (ended.end ≡ n) × (slice_get (begins_of h op begun) 0 ≡ Some ended.begin)
+abbrev pub AreOpen : List Event → ℕ → OpenOperations → Type 0
+AreOpen events m now = AreOpenAfter (reverse (take m events)) now
 
 -- the operation that event n ends, and None where it ends none
 abbrev pub IsEndedBy : List Event → ℕ → Option Ended → Type 0

@@ -10,7 +10,7 @@ use std::alloc::{AllocError, Global};
 use store_trace::Event;
 
 /// The number of harts.
-const HARTS: usize = 8;
+pub(crate) const HARTS: usize = 8;
 
 /// For each store among the events, at its place, its fate in the whole run. The events name lines below `lines`.
 pub fn fates_of(alloc: Global, events: &[Event], lines: u32) -> Result<Vec<Fate>, AllocError>

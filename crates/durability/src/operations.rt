@@ -1,18 +1,25 @@
 //! Operations by the marks of their harts: those that are open, and the one that an End ends.
 
-ghost use Rattle.durability.specs.Operations.{AreOpen, begins_of, IsEndedBy, IsEnding, IsLastOf};
-ghost use Rattle.std.specs.List.{list_any};
-ghost use Rattle.std.specs.Prelude.{◌≡◌, ◌+◌, ◌<◌, ◌≤◌, ◌==◌, ◌&&◌, ℕ, drop, length, if◌then◌else◌, IfOk, OnOk};
+ghost use Rattle.durability.specs.Operations.{AreOpen, IsEndedBy, operation_cmp};
+ghost use Rattle.std.specs.BTreeMap.{Updates, get};
+ghost use Rattle.std.specs.Prelude.{◌≡◌, ◌+◌, ◌<◌, ◌≤◌, ℕ, length, slice_index_or, All, IfOk, List, OnOk, nat_lt};
+ghost use Rattle.store_trace.specs.TraceView.{IsEvent};
+ghost use Rattle.store_trace.specs.declared.event.Event.{Event};
 
-use std::alloc::AllocError;
+use crate::fates::HARTS;
+use std::alloc::{AllocError, Global};
+use std::collections::BTreeMap;
 use store_trace::Event;
 
-/// An operation that a hart has begun, and the number of its Begin.
-#[derive(Clone, Copy)]
-pub struct Begun {
-    pub hart: u32,
-    pub operation: u64,
-    pub begin: u32,
+/// The operations that are open.
+#[derive(Drop)]
+pub struct OpenOperations {
+    /// Of each operation by its hart and its number, the number of its last Begin that is open.
+    last: BTreeMap<(u32, u64), u32>,
+    /// For each event so far that is a Begin, at its place, the number of the Begin of its operation that was the last one open.
+    before: Vec<Option<u32>>,
+    /// How many operations of each hart are open.
+    counts: [u32; HARTS],
 }
 
 /// An operation that has ended, and the numbers of its Begin and its End.
@@ -24,61 +31,90 @@ pub struct Ended {
     pub end: u32,
 }
 
-/// Reads the event at this place: which operations are open after it, and which one it ends.
-pub fn read_mark(
-    events: &[Event],
-    at: usize,
-    begun: &mut Vec<Begun>,
-) -> Result<Option<Ended>, AllocError>
-    requires there { at < length events.now }
-    requires limit { length events.now ≤ 65536 }
-    requires before { AreOpen events.now at begun.old.items }
-    ensures after { OnOk result (AreOpen events.now (at + 1) begun.new.items) }
-    ensures ended { IfOk result (IsEndedBy events.now (at + 1)) }
-{
-    let number = at as u32 + 1;
-    match events[at] {
-        Event::Begin { hart, op } => {
-            begun.push(Begun {
-                hart,
-                operation: op,
-                begin: number,
-            })?;
-            Ok(None)
+impl OpenOperations {
+    /// None, as before the first event.
+    pub fn none(alloc: Global) -> OpenOperations
+        ensures { (events : List Event) → AreOpen events 0 result }
+    {
+        OpenOperations {
+            last: BTreeMap::new(alloc),
+            before: Vec::new(alloc),
+            counts: [0; HARTS],
         }
-        Event::End { hart, op } => Ok(close(begun, hart, op, number)),
-        Event::Store { .. } | Event::Clean { .. } | Event::Fence { .. } => Ok(None),
+    }
+
+    /// Reads the event at this place: which operations are open after it, and which one it ends.
+    pub fn read(&mut self, events: &[Event], at: usize) -> Result<Option<Ended>, AllocError>
+        requires there { at < length events.now }
+        requires each { All IsEvent events.now }
+        requires limit { length events.now ≤ 65536 }
+        requires before { AreOpen events.now at self.old }
+        ensures after { OnOk result (AreOpen events.now (at + 1) self.new) }
+        ensures ended { IfOk result (IsEndedBy events.now (at + 1)) }
+    {
+        let number = at as u32 + 1;
+        match events[at] {
+            Event::Begin { hart, op } => {
+                let before = last_begin(&self.last, hart, op);
+                self.before.push(before)?;
+                set_last(&mut self.last, hart, op, Some(number))?;
+                self.counts[hart as usize] += 1;
+                Ok(None)
+            }
+            Event::End { hart, op } => {
+                self.before.push(None)?;
+                let Some(begin) = last_begin(&self.last, hart, op) else {
+                    return Ok(None);
+                };
+                let before = self.before[begin as usize - 1];
+                set_last(&mut self.last, hart, op, before)?;
+                self.counts[hart as usize] -= 1;
+                Ok(Some(Ended {
+                    hart,
+                    operation: op,
+                    begin,
+                    end: number,
+                }))
+            }
+            Event::Store { .. } | Event::Clean { .. } | Event::Fence { .. } => {
+                self.before.push(None)?;
+                Ok(None)
+            }
+        }
+    }
+
+    /// Whether an operation of the hart is open.
+    pub fn has(&self, hart: u32) -> bool
+        requires { hart < 8 }
+        ensures { result ≡ nat_lt 0 (slice_index_or self.now.counts hart 0) }
+    {
+        self.counts[hart as usize] > 0
     }
 }
 
-/// Takes out the last one of these that is this operation of the hart, which ends with the event of number `end`.
-fn close(begun: &mut Vec<Begun>, hart: u32, operation: u64, end: u32) -> Option<Ended>
-    ensures ended { IsEnding begun.old.items hart operation end result }
-    ensures left { (h op : ℕ) → begins_of h op begun.new.items
-        ≡ (if (hart == h) && (operation == op) then drop 1 (begins_of h op begun.old.items) else begins_of h op begun.old.items) }
+/// The number of the last open Begin of this operation of the hart.
+fn last_begin(last: &BTreeMap<(u32, u64), u32>, hart: u32, operation: u64) -> Option<u32>
+    ensures { result ≡ get operation_cmp last.now (hart, operation) }
 {
-    let last = last_of(begun, hart, operation)?;
-    let one = begun.remove(last);
-    Some(Ended {
-        hart,
-        operation,
-        begin: one.begin,
-        end,
-    })
+    last.get(&(hart, operation)).copied()
 }
 
-/// The place of the last one of these that is this operation of the hart.
-fn last_of(begun: &[Begun], hart: u32, operation: u64) -> Option<usize>
-    ensures { IsLastOf begun.now hart operation result }
+/// Makes this the last open Begin of this operation of the hart.
+fn set_last(
+    last: &mut BTreeMap<(u32, u64), u32>,
+    hart: u32,
+    operation: u64,
+    begin: Option<u32>,
+) -> Result<(), AllocError>
+    ensures { OnOk result (Updates operation_cmp last.old last.new (hart, operation) begin) }
 {
-    begun
-        .iter()
-        .rposition(|one| one.hart == hart && one.operation == operation)
-}
-
-/// Whether an operation of the hart is among these.
-pub fn has_begun(begun: &[Begun], hart: u32) -> bool
-    ensures { result ≡ list_any (λ one. one.hart == hart) begun.now }
-{
-    begun.iter().any(|one| one.hart == hart)
+    match begin {
+        Some(begin) => {
+            last.insert((hart, operation), begin)?;
+        }
+        None => {
+            last.remove(&(hart, operation));
+        }
+    }
+    Ok(())
 }

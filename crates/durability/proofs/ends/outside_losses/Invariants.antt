@@ -6,6 +6,6 @@ use Rattle.durability.proofs.ends.outside_losses.Given as goal
 
 abbrev pub invariant-loop-at : goal.invariant-loop-at
 invariant-loop-at l = record {
-  begun : AreOpen l.events l.at l.begun.items;
+  under_way : AreOpen l.events l.at l.under_way;
   lost : AreLost l.events (length l.events) (IsUnpersistedOutside l.events) l.at l.lost.items;
 }
