@@ -1,0 +1,3 @@
+mod TextWords
+mod SourceLines
+mod Listing

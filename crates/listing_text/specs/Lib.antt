@@ -1,0 +1,3 @@
+pub mod Words
+pub mod Begun
+pub mod Listing
