@@ -6,9 +6,10 @@ use listing_text::listing_text;
 use std::process::Abort;
 
 /// A line ends with CR and LF, and one has a byte that is no text.
-const SOURCE: &[u8] = b"# head\n li t0, 0x12345 # two words\r\nhere:\n  beqz t0, here\n.word 0, 0x13\n.data\n.word 5\n.text\nend: ecall # \xff\n";
+const SOURCE: &[u8] =
+    b"# head\nli t0, 0x12345 # two words\r\nhere:\n  beqz t0, here\n.word 0, 0x13\n.data\n.word 5\n.text\nend: ecall # \xff\n";
 
-const LISTING: &[u8] = b"0x10000 000122b7 lui x5, 18\t2  li t0, 0x12345 # two words\n\
+const LISTING: &[u8] = b"0x10000 000122b7 lui x5, 18\t2 li t0, 0x12345 # two words\n\
 0x10004 3452829b addiw x5, x5, 837\n\
 0x10008 00028063 beq x5, x0, .+0\t4   beqz t0, here\n\
 0x1000c 00000000 .word 0x0\t5 .word 0, 0x13\n\
@@ -22,7 +23,11 @@ const WORDS: &[u8] = b"0x10000 000122b7 lui x5, 18\n\
 0x10010 00000013 addi x0, x0, 0\n\
 0x10014 00000073 ecall\n";
 
-fn lists(rt: &(impl AllocGlobal + Abort), is_numbered: bool, expected: &[u8]) -> Result<bool, Refused> {
+fn lists(
+    rt: &(impl AllocGlobal + Abort),
+    is_numbered: bool,
+    expected: &[u8],
+) -> Result<bool, Refused> {
     let object = ready(assemble(rt.alloc(), SOURCE))?;
     let numbers = if is_numbered {
         Some(ready(line_numbers(rt.alloc(), SOURCE))?)

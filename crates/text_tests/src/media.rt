@@ -11,12 +11,14 @@ use std::process::Abort;
 
 /// How an entry begins that appends 77, and one that removes a name.
 const APPEND: [u8; 17] = [1, 0, 0, 0, 0, 0, 0, 0, 1, 0, 0, 0, 0, 0, 0, 0, 77];
+
 const REMOVE: [u8; 29] = [
     3, 5, 0, 0, 0, 0, 0, 0, 2, 0, 0, 0, 0, 0, 0, 0, 9, 0, 0, 0, 0, 0, 0, 0, b'a', b'\\', b' ',
     0x7f, b'\n',
 ];
 
-const VOLUME: &str = "layout 1 inodes 1 pages 1 journals 1\ninode 0: 2 entries\nop=1 append value=77\nop=2 remove a\\x5c \\x7f\\x0a value=9\n";
+const VOLUME: &str =
+    "layout 1 inodes 1 pages 1 journals 1\ninode 0: 2 entries\nop=1 append value=77\nop=2 remove a\\x5c \\x7f\\x0a value=9\n";
 
 const LINE: &str = "0x0 0x40004000 01 00 00 00 00 00 00 00 01 00 00 00 00 00 00 00\n\
 0x10 0x40004010 4d 00 00 00 00 00 00 00 00 00 00 00 00 00 00 00\n\
