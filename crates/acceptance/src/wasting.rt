@@ -4,16 +4,19 @@ use crate::transcripts::first_difference;
 use std::test::Fail;
 
 /// A clean that is made again, one of a line without a new store, and fences with nothing to complete.
-const WASTE: &str = "sd a1, 0(a1)\ncbo.clean (a1)\ncbo.clean (a1)\nfence w, w\ncbo.clean (a1)\nfence w, w\nfence w, w\nli a7, 93\necall\n";
+const WASTE: &str =
+    "sd a1, 0(a1)\ncbo.clean (a1)\ncbo.clean (a1)\nfence w, w\ncbo.clean (a1)\nfence w, w\nfence w, w\nli a7, 93\necall\n";
 
 /// The clean and the fence of a loop, which its first turn alone needs.
-const LOOP: &str = "li t0, 2\nsd t0, 0(a1)\nloop: cbo.clean (a1)\nfence w, w\naddi t0, t0, -1\nbnez t0, loop\nebreak\n";
+const LOOP: &str =
+    "li t0, 2\nsd t0, 0(a1)\nloop: cbo.clean (a1)\nfence w, w\naddi t0, t0, -1\nbnez t0, loop\nebreak\n";
 
 /// Cleans and fences of a line that nothing is stored to, the last clean without a fence.
 const VAIN: &str = "cbo.clean (a1)\nfence\ncbo.clean (a1)\nebreak\n";
 
 /// Two lines in turn; the second clean of the first line is needless in each turn.
-const TURNS: &str = "li t0, 3\nagain: sd t0, 0(a1)\ncbo.clean (a1)\nfence w, w\nsd t0, 64(a1)\ncbo.clean (a1)\naddi t1, a1, 64\n\
+const TURNS: &str =
+    "li t0, 3\nagain: sd t0, 0(a1)\ncbo.clean (a1)\nfence w, w\nsd t0, 64(a1)\ncbo.clean (a1)\naddi t1, a1, 64\n\
     cbo.clean (t1)\nfence w, w\naddi t0, t0, -1\nbnez t0, again\nli a7, 93\nli a0, 0\necall\n";
 
 /// Each file's name and text.

@@ -33,7 +33,6 @@ pub waste_of_source : (file : List ℕ) (lines : Option (List ℕ)) (all : List 
     → IsWasteText (line_in lines) all text → IsWasteText (line_of file) all text
 waste_of_source file lines all text same is = subst (λ (f : ℕ → Option ℕ). IsWasteText f all text) (fun_ext same) is
 
-
 pub why_of_source : (file : List ℕ) (lines : Option (List ℕ)) (traced : List TracedEvent) (told : ToldCut) (unread : ℕ) (schedule : List Item)
     → ((pc : ℕ) → line_in lines pc ≡ line_of file pc)
     → why_text (event_text (line_in lines) traced) told unread schedule ≡ why_text (event_text (line_of file) traced) told unread schedule
