@@ -68,7 +68,6 @@ pub(crate) fn tell_begun(
 }
 
 /// The line of a number, from 1.
-
 fn line_named<'a>(lines: &[&'a [u8]], number: u32) -> &'a [u8]
     requires { 1 ≤ number }
     ensures { result.now ≡ line_named (map (λ line. line.now) lines.now) number }

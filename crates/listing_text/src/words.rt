@@ -22,7 +22,6 @@ pub(crate) struct TextWord {
 }
 
 /// The words of a text, in order.
-#[tactic(auto)]
 pub(crate) fn words_of(alloc: Global, text: &[u8]) -> Result<Vec<TextWord>, AllocError>
     requires { length text.now ≤ TEXT_SIZE }
     ensures all { IfOk result (λ words. AreWords text.now words.items) }
