@@ -1,5 +1,5 @@
 -- The numbers of a history's events are those of the hart steps that made them.
-use Rattle.std.proofs.Common.{◌≡◌, ℕ, zero, suc, ◌+◌, ◌<◌, ◌≤◌, List, [], ◌∷◌, ◌++◌, Some, length, map, replicate, slice_get, slice_set, slice_index_or, refl, sym, ap, subst, ◌∙◌, append_assoc, arith}
+use Rattle.std.proofs.Common.{◌≡◌, ℕ, suc, ◌+◌, ◌≤◌, List, [], ◌∷◌, ◌++◌, Some, length, map, replicate, slice_get, slice_set, slice_index_or, refl, sym, ap, subst, ◌∙◌, append_assoc, arith}
 use Rattle.std.proofs.lemmas.List.{append-nil, length-append, length-map}
 use Rattle.std.proofs.lemmas.Option.{slice_get_within}
 use Rattle.object.specs.Sections.{Sections}
@@ -26,7 +26,7 @@ use Rattle.bus.specs.Agreeing.{Exchanges}
 use Rattle.bus.specs.Following.{hart_count}
 use Rattle.bus.specs.Gathered.{AreParts, earlier, gathered}
 use Rattle.bus.specs.Listed.{numbered}
-use Rattle.bus.specs.Replays.{AreBelow, replay, with_eviction}
+use Rattle.bus.specs.Replays.{AreBelow, replay}
 use Rattle.bus.proofs.Following.{total_append}
 use Rattle.bus.proofs.Gathering.{alone_runs, asked_here, evicted_here, eviction_here, gathered_runs, latest}
 use Rattle.bus.proofs.Places.{got_set}

@@ -1,7 +1,7 @@
 -- How the harts of seats are run once more, in the order of a core's history.
 use Rattle.std.proofs.Common.{◌≡◌, ◌≢◌, ℕ, zero, suc, ◌+◌, ◌<◌, ◌≤◌, List, [], ◌∷◌, ◌++◌, Some, Bool, MatchBool, true, false, not, eqb, length, replicate, reverse, slice_get, slice_set, slice_index_or, take, refl, sym, ap, subst, ◌∙◌, inl, inr, append_assoc, arith}
 use Rattle.std.proofs.lemmas.Bool.{cases_Bool, cases_eq, eq-eqb, ne_eqb}
-use Rattle.std.proofs.lemmas.List.{length-reverse, reverse-append, reverse-reverse, take_all, take_more, replicate_more}
+use Rattle.std.proofs.lemmas.List.{length-reverse, reverse-append, reverse-reverse, take_all, take_more}
 use Rattle.std.proofs.lemmas.Option.{get_or_from_slice_get, slice_get_read, slice_get_within}
 use Rattle.isa_table.specs.declared.instruction.Instr.{Instr}
 use Rattle.hart.specs.Effect.{answered}
@@ -34,7 +34,7 @@ use Rattle.bus.specs.Gathered.{gathered}
 use Rattle.bus.specs.Replays.{CoreView}
 use Rattle.bus.specs.Seats.{SeatView, steps_in}
 use Rattle.bus.specs.Together.{count_of}
-use Rattle.bus.proofs.Agreeing.{copy_passes, goes_more, own_part, passes}
+use Rattle.bus.proofs.Agreeing.{copy_passes, own_part, passes}
 use Rattle.bus.proofs.Places.{got_else, got_set, read_else, read_set, set_got, set_set}
 
 -- a hart that has stopped, or that asks, makes no step alone

@@ -14,7 +14,7 @@ use Rattle.bus.specs.Crews.{AreDone}
 use Rattle.bus.specs.Driving.{HasEnded, badge}
 use Rattle.bus.specs.Seats.{SeatView}
 use Rattle.bus.specs.Stepping.{BusView}
-use Rattle.bus.specs.Together.{HaveRun, IsAtBudget, IsFinished, IsWithinBudget, RefusesFinish, count_of}
+use Rattle.bus.specs.Together.{HaveRun, IsAtBudget, IsFinished, IsWithinBudget, RefusesFinish}
 
 -- what stands at one place of two lists whose images are the same
 twin : {A B : Type 0} (f : A → B) (xs ys : List A) (i : ℕ) (x : A) → map f xs ≡ map f ys → slice_get xs i ≡ Some x

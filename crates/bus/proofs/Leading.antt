@@ -5,8 +5,6 @@ use Rattle.std.proofs.lemmas.List.{reverse-append}
 use Rattle.hart.specs.Effect.{answered, start}
 use Rattle.hart.specs.Needs.{IsSpelledBy}
 use Rattle.hart.specs.declared.state.HartState.{HartState}
-use Rattle.hart.specs.declared.need.Request.{Request}
-use Rattle.hart.specs.declared.need.Reply.{Reply}
 use Rattle.isa_table.specs.declared.instruction.Instr.{Instr}
 use Rattle.machine.specs.Run.{fetched}
 use Rattle.machine.specs.Stands.{text_bytes}

@@ -28,8 +28,7 @@ use Rattle.bus.specs.declared.follower.Follower.{Follower}
 use Rattle.bus.specs.Agreeing.{Agrees, IsPart}
 use Rattle.bus.specs.Alone.{GoesAlone}
 use Rattle.bus.specs.Finished.{AllAgree, last_steps}
-use Rattle.bus.specs.Following.{AllEnd, AllFollow, AreGathered, ArePaired, EndsAt, Follows, HaveFollowed, IsFollowed, IsFreshOf, IsScheduleOf, follower_at_start, hart_count, made_of, oldest, steps_of_all}
-use Rattle.bus.specs.Gathered.{gathered}
+use Rattle.bus.specs.Following.{AllEnd, AllFollow, AreGathered, ArePaired, EndsAt, Follows, HaveFollowed, IsFollowed, IsFreshOf, IsScheduleOf, follower_at_start, hart_count, steps_of_all}
 use Rattle.bus.specs.Replays.{AreBelow, CoreView, IsReplay, replay}
 use Rattle.bus.specs.Seats.{AreCounted, SeatView, steps_in}
 use Rattle.bus.specs.Together.{count_of}

@@ -1,5 +1,5 @@
 -- Steps that are added to a schedule many at once.
-use Rattle.std.proofs.Common.{◌≡◌, ℕ, ◌+◌, List, [], ◌∷◌, ◌++◌, replicate, refl, sym, ap, ◌∙◌, append_assoc}
+use Rattle.std.proofs.Common.{◌≡◌, ℕ, ◌+◌, List, [], ◌∷◌, ◌++◌, replicate, sym, ap, ◌∙◌, append_assoc}
 use Rattle.std.proofs.lemmas.List.{replicate-append-replicate}
 use Rattle.schedule.specs.Steps.{all_steps, steps_of as steps_of_item}
 use Rattle.schedule.specs.declared.items.Item.{Item}

@@ -1,5 +1,5 @@
 -- How the harts of seats are run once more, in the order of a core's history.
-use Rattle.std.specs.Prelude.{◌≡◌, ◌<◌, ◌≤◌, ◌+◌, ◌++◌, ◌^◌, ℕ, List, [], ◌∷◌, Some, true, false, length, map, replicate, reverse, slice_get, slice_index_or, take}
+use Rattle.std.specs.Prelude.{◌≡◌, ◌<◌, ◌≤◌, ◌+◌, ◌^◌, ℕ, List, [], ◌∷◌, Some, true, false, length, map, reverse, slice_get, slice_index_or, take}
 use Rattle.hart.specs.Effect.{start}
 use Rattle.hart.specs.declared.state.HartState.{HartState}
 use Rattle.hart.specs.declared.need.Request.{Request}
@@ -23,10 +23,10 @@ use Rattle.bus.specs.declared.finish_fault.FinishFault.TheVariants.{SeatMissing,
 use Rattle.bus.specs.declared.follower.Follower.{Follower}
 use Rattle.bus.specs.Agreeing.{Agrees, Exchanges, IsPart}
 use Rattle.bus.specs.Alone.{GoesAlone}
-use Rattle.bus.specs.Finished.{AllAgree, all_of, last_steps}
+use Rattle.bus.specs.Finished.{AllAgree, all_of}
 use Rattle.bus.specs.Gathered.{gathered}
 use Rattle.bus.specs.Replays.{CoreView, IsReplay, common_of, replay}
-use Rattle.bus.specs.Seats.{AreCounted, SeatView, steps_in}
+use Rattle.bus.specs.Seats.{SeatView, steps_in}
 use Rattle.bus.specs.Stepping.{BusView}
 use Rattle.bus.specs.Together.{count_of}
 

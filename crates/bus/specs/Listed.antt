@@ -4,14 +4,12 @@ use Rattle.hart.specs.declared.need.Request.{Request}
 use Rattle.hart.specs.declared.need.Reply.{Reply}
 use Rattle.machine.specs.Stands.{text_bytes}
 use Rattle.schedule.specs.declared.items.Item.{Item}
-use Rattle.schedule.specs.declared.items.Step.{Step}
 use Rattle.schedule.specs.declared.items.Step.TheVariants.{Hart, Evict}
 use Rattle.shared_memory.specs.declared.history.Entry.{Entry}
 use Rattle.shared_memory.specs.declared.history.Entry.TheVariants.{Asked, Evicted}
 use Rattle.shared_memory.specs.Served.{events_of}
 use Rattle.store_trace.specs.declared.event.Event.{Event}
 use Rattle.bus.specs.declared.exchange.Exchange.{Exchange}
-use Rattle.bus.specs.Agreeing.{Exchanges}
 use Rattle.bus.specs.declared.runs.Runs.{Runs}
 use Rattle.bus.specs.Finished.{last_steps}
 use Rattle.bus.specs.Following.{AreGathered, IsScheduleOf, hart_count, oldest}

@@ -1,10 +1,13 @@
 //! The end of a run of several harts: what their seats have made is gathered to one run.
 
-ghost use Rattle.std.specs.Prelude.{◌≡◌, ◌^◌, ◌<◌, ◌++◌, ◌∷◌, [], IfErr, IfOk, List, ℕ, Some, length, map, slice_get};
+ghost use Rattle.std.specs.Prelude.{◌≡◌, ◌^◌, ◌<◌, ◌++◌, ◌∷◌, [], IfErr, IfOk, List, OnOk, ℕ, Some, length, map, slice_get};
 ghost use Rattle.schedule.specs.Grammar.{hart_steps};
 ghost use Rattle.bus.specs.Agreeing.{Agrees};
 ghost use Rattle.bus.specs.Ending.{IsGathered, RefusesGathering};
-ghost use Rattle.bus.specs.Following.{AreRecorded, IfForeign};
+ghost use Rattle.bus.specs.Finished.{AllAgree};
+ghost use Rattle.bus.specs.Following.{AreRecorded, IfForeign, IsCoreOf};
+ghost use Rattle.bus.specs.Listed.{IsAccountOf};
+ghost use Rattle.bus.specs.Numbering.{ArePlaced};
 ghost use Rattle.bus.specs.Seats.{SeatView};
 ghost use Rattle.bus.specs.Together.{IsFinished, RefusesFinish};
 
@@ -18,6 +21,7 @@ use hart::HartState;
 use line_memory::Medium;
 use program::Program;
 use recording::Recorded;
+use schedule::Schedule;
 use std::alloc::Global;
 
 /// Gathers what the seats of a core have made to one run, in the order of the core's history: each seat's register steps
@@ -55,7 +59,6 @@ fn gather_seats(
 
 /// Gathers what the seats of a bus have made, by the core that lay behind its lock. The bus began with this program, this
 /// medium, so many harts and a cache with room for so many lines.
-#[tactic(auto, using(crate::proofs::Recorded::refuses_finish))]
 pub(crate) fn finish_seats(
     alloc: Global,
     core: Core<'_>,
@@ -74,18 +77,42 @@ pub(crate) fn finish_seats(
     ensures few { IfOk result (λ recorded. hart_steps recorded.items < 2 ^ 32) }
     ensures err { IfErr result (RefusesFinish harts seats.old) }
 {
-    place_seats(harts, seats)?;
-    if !is_core_of(&core, program, start, harts, capacity) {
-        return Err(FinishFault::Foreign);
-    }
+    place_on_core(&core, seats, program, start, harts, capacity)?;
     match gather_placed(alloc, core, seats) {
         Ok(recorded) => Ok(recorded),
         Err(fault) => Err(fault),
     }
 }
 
+/// Puts seats in order for a core that began with this program, this medium, so many harts and a cache with room for so many
+/// lines.
+#[tactic(auto, using(crate::proofs::Recorded::refuses_finish))]
+fn place_on_core(
+    core: &Core<'_>,
+    seats: &mut [Seat<'_>],
+    program: &Program,
+    start: &Medium,
+    harts: u32,
+    capacity: u32,
+) -> Result<(), FinishFault>
+    ensures placed { OnOk result (ArePlaced harts seats.old seats.new) }
+    ensures core { OnOk result (IsCoreOf (record {
+      program = program.now;
+      start = start.now;
+      harts = harts;
+      capacity = capacity;
+    }) core.now) }
+    ensures err { IfErr result (RefusesFinish harts seats.old) }
+{
+    place_seats(harts, seats)?;
+    if is_core_of(core, program, start, harts, capacity) {
+        Ok(())
+    } else {
+        Err(FinishFault::Foreign)
+    }
+}
+
 /// Gathers what seats have made that are in order, one for each hart of the core.
-#[tactic(auto, using(crate::proofs::Foreign::memory_is))]
 pub(crate) fn gather_placed(
     alloc: Global,
     core: Core<'_>,
@@ -97,15 +124,33 @@ pub(crate) fn gather_placed(
     ensures few { IfOk result (λ recorded. hart_steps recorded.items < 2 ^ 32) }
     ensures err { IfErr result (IfForeign (((h : ℕ) (seat : SeatView) → slice_get seats.now h ≡ Some seat → Agrees core.entry seat) → ⊥)) }
 {
-    let account = account_of(alloc, &core, seats)?;
-    check_leading(alloc, &core, seats)?;
-    let states = states_of(alloc, seats)?;
+    let (account, states) = account_and_states(alloc, &core, seats)?;
     // What a core shares is the replay of its history, which this ensures.
     let _ = core.history();
     let capacity = core.capacity();
     let (schedule, numbers) = account;
     let (start, left, trace) = core.power_cut();
     Ok(Recorded::of(start, capacity, schedule, trace, states, left, numbers))
+}
+
+/// The account of what seats have made that agree with a core, and the states of their harts.
+#[tactic(auto, using(crate::proofs::Foreign::memory_is))]
+fn account_and_states(
+    alloc: Global,
+    core: &Core<'_>,
+    seats: &[Seat<'_>],
+) -> Result<((Schedule, Vec<u32>), Vec<HartState>), FinishFault>
+    requires count { length seats.now ≡ core.now.harts }
+    requires numbered { (h : ℕ) (seat : SeatView) → slice_get seats.now h ≡ Some seat → seat.hart ≡ h }
+    ensures account { IfOk result (λ made. IsAccountOf core.now seats.now made.0.0 made.0.1.items) }
+    ensures agree { OnOk result (AllAgree core.now seats.now) }
+    ensures states { IfOk result (λ made. made.1.items ≡ map (λ (seat : SeatView). seat.state) seats.now) }
+    ensures err { IfErr result (IfForeign (((h : ℕ) (seat : SeatView) → slice_get seats.now h ≡ Some seat → Agrees core.now seat) → ⊥)) }
+{
+    let account = account_of(alloc, core, seats)?;
+    check_leading(alloc, core, seats)?;
+    let states = states_of(alloc, seats)?;
+    Ok((account, states))
 }
 
 /// The states of the harts of seats.

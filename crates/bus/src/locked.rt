@@ -250,7 +250,7 @@ impl<'p> Core<'p> {
 /// # Errors
 /// A refusal leaves core and seat as they were. NoSuchHart where the core has no such hart; TraceFull where the request would
 /// make an event and the trace is full; Memory where a growth is refused.
-#[tactic(auto, using(crate::proofs::Agreeing::served_agrees, crate::proofs::Agreeing::served_others, crate::proofs::Refusing::refuses_seat, crate::proofs::Refusing::seat_for_memory, crate::proofs::Counting::counted_exchange))]
+#[tactic(auto, using(crate::proofs::Refusing::refuses_seat, crate::proofs::Refusing::seat_for_memory))]
 pub fn serve(core: &mut Core<'_>, seat: &mut Seat<'_>) -> Result<Outcome, StepFault>
     requires { AsksNext seat.old }
     ensures ok { IfOk result (IsServed core.old core.new seat.old seat.new) }

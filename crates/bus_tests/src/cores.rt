@@ -2,7 +2,7 @@
 
 ghost use Rattle.bus.specs.Seating.{AsksNext};
 
-use crate::programs::{FIRST_RUN, REWRITTEN, start_of};
+use crate::programs::{FIRST_RUN, REWRITTEN, program_of, zeros};
 use bus::{Core, Exchange, Outcome, Seat, StepFault, serve, serve_evict};
 use hart::{Reply, Request};
 use std::alloc::Global;
@@ -35,16 +35,18 @@ fn word_behind(seat: &Seat<'_>) -> Option<u32> {
     ]))
 }
 
-/// What the first hart came to after ten steps, and the words of both harts' copies behind the FENCE.I.
+/// What the first hart comes to after ten steps, and the words of both harts' copies behind the FENCE.I.
+fn words_behind(core: &mut Core<'_>, seats: &mut [Seat<'_>]) -> Option<(Outcome, u32, u32)> {
+    let outcome = last_outcome(core, seats.get_mut(0)?, 10)?;
+    let (first, second) = (word_behind(seats.first()?)?, word_behind(seats.get(1)?)?);
+    Some((outcome, first, second))
+}
+
+/// The same of a new core.
 fn words_after_fence_i(alloc: Global) -> Option<(Outcome, u32, u32)> {
-    let (program, medium) = start_of(alloc, &REWRITTEN)?;
-    let (mut core, mut seats) = Core::new(alloc, &program, medium, 2, 512, 10).ok()?;
-    let outcome = last_outcome(&mut core, seats.get_mut(0)?, 10)?;
-    Some((
-        outcome,
-        word_behind(seats.first()?)?,
-        word_behind(seats.get(1)?)?,
-    ))
+    let program = program_of(alloc, &REWRITTEN)?;
+    let (mut core, mut seats) = Core::new(alloc, &program, zeros(alloc)?, 2, 512, 10).ok()?;
+    words_behind(&mut core, &mut seats)
 }
 
 #[test]
@@ -53,15 +55,25 @@ fn own_copy_is_renewed(rt: HostRuntime) {
     assert!(rt; words == Some((Outcome::Exited(2), 0x0020_0513, 0x0010_0513)));
 }
 
-/// The exchanges of a seat that makes three steps, the steps since them, and what an eviction comes to then.
-fn exchange_and_eviction(alloc: Global) -> Option<(Exchange, u32, Outcome, bool)> {
-    let (program, medium) = start_of(alloc, &FIRST_RUN)?;
-    let (mut core, mut seats) = Core::new(alloc, &program, medium, 1, 1, 3).ok()?;
+/// The exchange of the first seat after three steps, the steps since it, what a fourth comes to, and whether the last line is
+/// evicted then, as the second entry of the core's history.
+fn exchange_of(
+    core: &mut Core<'_>,
+    seats: &mut [Seat<'_>],
+) -> Option<(Exchange, u32, Outcome, bool)> {
     let seat = seats.get_mut(0)?;
-    last_outcome(&mut core, seat, 3)?;
-    let spent = step(&mut core, seat).ok()?;
-    let is_evicted = serve_evict(&mut core, 511).is_ok() && core.history().len() == 2;
-    Some((*seat.exchanges().first()?, seat.since(), spent, is_evicted))
+    last_outcome(core, seat, 3)?;
+    let spent = step(core, seat).ok()?;
+    let exchange = *seat.exchanges().first()?;
+    let is_evicted = serve_evict(core, 511).is_ok() && core.history().len() == 2;
+    Some((exchange, seat.since(), spent, is_evicted))
+}
+
+/// The same of a new core and its seat.
+fn exchange_and_eviction(alloc: Global) -> Option<(Exchange, u32, Outcome, bool)> {
+    let program = program_of(alloc, &FIRST_RUN)?;
+    let (mut core, mut seats) = Core::new(alloc, &program, zeros(alloc)?, 1, 1, 3).ok()?;
+    exchange_of(&mut core, &mut seats)
 }
 
 #[test]

@@ -1,13 +1,21 @@
 //! What seats that took turns are gathered to.
 
-use crate::programs::{COUNT_ONCE, FIRST_RUN, REWRITTEN, start_of};
+use crate::programs::{BUDGET, COUNT_ONCE, FIRST_RUN, REWRITTEN, bus_of, program_of, seats_of};
 use bus::{Bus, FinishFault, Seat, StepFault};
 use hart::Status;
 use isa_table::Reg;
+use program::Program;
 use recording::Recorded;
 use std::alloc::Global;
 use std::sync::Wait;
 use store_trace::Event;
+
+/// What is done to a bus: so many steps of the seat of a hart, or an eviction of a line.
+#[derive(Clone, Copy)]
+enum Turn {
+    Steps(usize, u32),
+    Evict(u32),
+}
 
 /// Makes so many steps of the seat of a hart. False where there is no such seat, or a step is refused.
 fn make_steps<'p, R: Wait>(
@@ -22,6 +30,20 @@ fn make_steps<'p, R: Wait>(
     };
     for _ in 0..count {
         if seat.step(rt, bus).is_err() {
+            return false;
+        }
+    }
+    true
+}
+
+/// Makes turns. False where one is refused.
+fn make_turns<'p, R: Wait>(rt: &R, bus: &Bus<'p>, seats: &mut [Seat<'p>], turns: &[Turn]) -> bool {
+    for turn in turns {
+        let is_made = match *turn {
+            Turn::Steps(hart, count) => make_steps(rt, bus, seats, hart, count),
+            Turn::Evict(line) => bus.evict(rt, line).is_ok(),
+        };
+        if !is_made {
             return false;
         }
     }
@@ -45,76 +67,100 @@ fn is_recorded(recorded: &Recorded, events: usize, fifth: &[u64]) -> bool {
             == *value)
 }
 
-/// Seat 1 of two harts that count at one place makes two steps, then seat 0 two.
-fn gathers_counts<R: Wait>(rt: &R, alloc: Global) -> Option<bool> {
-    let (program, medium) = start_of(alloc, &COUNT_ONCE)?;
-    let (bus, mut seats) = Bus::new(alloc, &program, medium, 2, 512, 500_000_000).ok()?;
-    let is_made = make_steps(rt, &bus, &mut seats, 1, 2) && make_steps(rt, &bus, &mut seats, 0, 2);
-    let recorded = bus.finish(alloc, seats).ok()?;
-    Some(
-        is_made && is_schedule(alloc, &recorded, "h1*2 h0*2") && is_recorded(&recorded, 2, &[1, 0]),
-    )
+/// Turns of the seats of a bus of two harts, and the run that they are gathered to.
+struct Ending {
+    words: &'static [u32],
+    turns: &'static [Turn],
+    schedule: &'static str,
+    /// The number of events, and the hart whose store is the first of them.
+    events: (usize, Option<u32>),
+    /// Register x5 of each hart.
+    fifth: [u64; 2],
+    /// The status of hart 0.
+    status: Status,
+    /// The first doubleword of the medium that a power cut leaves.
+    left: u64,
 }
 
-#[test]
-fn seats_share_the_bus(rt: HostRuntime) {
-    assert!(rt; gathers_counts(&rt, rt.alloc()) == Some(true));
+static ENDINGS: [Ending; 3] = [
+    // two harts that count at one place
+    Ending {
+        words: &COUNT_ONCE,
+        turns: &[Turn::Steps(1, 2), Turn::Steps(0, 2)],
+        schedule: "h1*2 h0*2",
+        events: (2, Some(1)),
+        fifth: [1, 0],
+        status: Status::Running,
+        left: 0,
+    },
+    // a word that is written over the program and fetched by a FENCE.I
+    Ending {
+        words: &REWRITTEN,
+        turns: &[Turn::Steps(0, 10), Turn::Steps(1, 2)],
+        schedule: "h0*10 h1*2",
+        events: (0, None),
+        fifth: [0x1001c, 0x1001c],
+        status: Status::Exited(2),
+        left: 0,
+    },
+    // an eviction between the stores of two harts
+    Ending {
+        words: &FIRST_RUN,
+        turns: &[Turn::Steps(1, 3), Turn::Evict(0), Turn::Steps(0, 3)],
+        schedule: "h1*3 e0 h0*3",
+        events: (2, Some(1)),
+        fifth: [7, 7],
+        status: Status::Running,
+        left: 7,
+    },
+];
+
+/// The hart of the first event, where that is a store.
+fn first_to_store(events: &[Event]) -> Option<u32> {
+    match *events.first()? {
+        Event::Store { hart, .. } => Some(hart),
+        _ => None,
+    }
 }
 
-/// Seat 0 of two harts writes a word over its program and has it fetched by a FENCE.I in ten steps; then seat 1 makes two.
-fn gathers_a_renewed_text<R: Wait>(rt: &R, alloc: Global) -> Option<bool> {
-    let (program, medium) = start_of(alloc, &REWRITTEN)?;
-    let (bus, mut seats) = Bus::new(alloc, &program, medium, 2, 512, 500_000_000).ok()?;
-    let is_made = make_steps(rt, &bus, &mut seats, 0, 10) && make_steps(rt, &bus, &mut seats, 1, 2);
-    let recorded = bus.finish(alloc, seats).ok()?;
-    let is_so = is_made
-        && is_schedule(alloc, &recorded, "h0*10 h1*2")
-        && is_recorded(&recorded, 0, &[0x1001c, 0x1001c]);
-    Some(is_so && recorded.harts().first()?.status == Status::Exited(2))
-}
-
-#[test]
-fn a_renewed_text_is_gathered(rt: HostRuntime) {
-    assert!(rt; gathers_a_renewed_text(&rt, rt.alloc()) == Some(true));
-}
-
-/// The first doubleword of the medium that a run leaves, where it is gathered in the order in which two harts stored around
-/// an eviction.
-fn first_left_around_an_eviction<R: Wait>(rt: &R, alloc: Global) -> Option<u64> {
-    let (program, medium) = start_of(alloc, &FIRST_RUN)?;
-    let (bus, mut seats) = Bus::new(alloc, &program, medium, 2, 512, 500_000_000).ok()?;
-    let is_made = make_steps(rt, &bus, &mut seats, 1, 3)
-        && bus.evict(rt, 0).is_ok()
-        && make_steps(rt, &bus, &mut seats, 0, 3);
-    let recorded = bus.finish(alloc, seats).ok()?;
-    let is_so = is_made
-        && is_schedule(alloc, &recorded, "h1*3 e0 h0*3")
-        && is_recorded(&recorded, 2, &[7, 7])
-        && is_store_of(recorded.trace().events().first()?, 1);
+/// The first doubleword of the medium that a power cut leaves.
+fn left_of(recorded: &Recorded) -> Option<u64> {
     let left = recorded.left();
-    if is_so && left.lines() > 0 {
+    if left.lines() > 0 {
         Some(left.load(0, 8))
     } else {
         None
     }
 }
 
-fn is_store_of(event: &Event, number: u32) -> bool {
-    match *event {
-        Event::Store { hart, .. } => hart == number,
-        _ => false,
-    }
+fn is_so(alloc: Global, recorded: &Recorded, ending: &Ending) -> bool {
+    is_schedule(alloc, recorded, ending.schedule)
+        && is_recorded(recorded, ending.events.0, &ending.fifth)
+        && first_to_store(recorded.trace().events()) == ending.events.1
+        && recorded.harts().first().map(|hart| hart.status) == Some(ending.status)
+        && left_of(recorded) == Some(ending.left)
+}
+
+fn ends_so<R: Wait>(rt: &R, alloc: Global, ending: &Ending) -> Option<bool> {
+    let program = program_of(alloc, ending.words)?;
+    let (bus, mut seats) = bus_of(alloc, &program, 2, BUDGET)?;
+    let is_made = make_turns(rt, &bus, &mut seats, ending.turns);
+    let recorded = bus.finish(alloc, seats).ok()?;
+    Some(is_made && is_so(alloc, &recorded, ending))
 }
 
 #[test]
-fn evict_between_harts(rt: HostRuntime) {
-    assert!(rt; first_left_around_an_eviction(&rt, rt.alloc()) == Some(7));
+fn turns_are_gathered(rt: HostRuntime) {
+    let differing = ENDINGS
+        .iter()
+        .position(|ending| ends_so(&rt, rt.alloc(), ending) != Some(true));
+    assert_eq!(rt; differing, None);
 }
 
 /// Why the one seat of two harts isn't gathered.
 fn fault_of_one_seat(alloc: Global) -> Option<FinishFault> {
-    let (program, medium) = start_of(alloc, &COUNT_ONCE)?;
-    let (bus, mut seats) = Bus::new(alloc, &program, medium, 2, 512, 5).ok()?;
+    let program = program_of(alloc, &COUNT_ONCE)?;
+    let (bus, mut seats) = bus_of(alloc, &program, 2, 5)?;
     let _ = seats.pop();
     bus.finish(alloc, seats).err()
 }
@@ -124,29 +170,34 @@ fn missing_seat(rt: HostRuntime) {
     assert!(rt; fault_of_one_seat(rt.alloc()) == Some(FinishFault::SeatMissing));
 }
 
+/// The seats 0 of two buses of one hart.
+fn seats_of_two<'p>(alloc: Global, program: &'p Program) -> Option<Vec<Seat<'p>>> {
+    let mut seats = seats_of(alloc, program, 1, 5)?;
+    let other = seats_of(alloc, program, 1, 5)?.pop()?;
+    seats.push(other).ok()?;
+    Some(seats)
+}
+
 /// Why the seats 0 of two buses of one hart aren't gathered on a third.
 fn fault_of_two_seats(alloc: Global) -> Option<FinishFault> {
-    let (program, medium) = start_of(alloc, &FIRST_RUN)?;
-    let (_, second) = start_of(alloc, &FIRST_RUN)?;
-    let (_, third) = start_of(alloc, &FIRST_RUN)?;
-    let (bus, _) = Bus::new(alloc, &program, medium, 1, 512, 5).ok()?;
-    let (_, mut seats) = Bus::new(alloc, &program, second, 1, 512, 5).ok()?;
-    let (_, mut others) = Bus::new(alloc, &program, third, 1, 512, 5).ok()?;
-    seats.push(others.pop()?).ok()?;
-    bus.finish(alloc, seats).err()
+    let program = program_of(alloc, &FIRST_RUN)?;
+    let strangers = seats_of_two(alloc, &program)?;
+    let (bus, _seats) = bus_of(alloc, &program, 1, 5)?;
+    bus.finish(alloc, strangers).err()
+}
+
+/// Seat 0 after three steps on a bus of one hart.
+fn seats_used<'p, R: Wait>(rt: &R, alloc: Global, program: &'p Program) -> Option<Vec<Seat<'p>>> {
+    let (bus, mut seats) = bus_of(alloc, program, 1, 5)?;
+    make_steps(rt, &bus, &mut seats, 0, 3).then_some(seats)
 }
 
 /// Why seat 0 that made three steps on another bus isn't gathered.
 fn fault_of_a_stranger<R: Wait>(rt: &R, alloc: Global) -> Option<FinishFault> {
-    let (program, medium) = start_of(alloc, &FIRST_RUN)?;
-    let (_, second) = start_of(alloc, &FIRST_RUN)?;
-    let (bus, _) = Bus::new(alloc, &program, medium, 1, 512, 5).ok()?;
-    let (other, mut seats) = Bus::new(alloc, &program, second, 1, 512, 5).ok()?;
-    if make_steps(rt, &other, &mut seats, 0, 3) {
-        bus.finish(alloc, seats).err()
-    } else {
-        None
-    }
+    let program = program_of(alloc, &FIRST_RUN)?;
+    let strangers = seats_used(rt, alloc, &program)?;
+    let (bus, _seats) = bus_of(alloc, &program, 1, 5)?;
+    bus.finish(alloc, strangers).err()
 }
 
 #[test]
@@ -155,38 +206,48 @@ fn foreign_seats(rt: HostRuntime) {
     assert!(rt; fault_of_a_stranger(&rt, rt.alloc()) == Some(FinishFault::Foreign));
 }
 
-/// What is refused on a fresh bus of one hart, and whether its own seat is gathered to a run of no step after that.
+/// Why the third step of seat 1 of another bus is refused, which is a request.
+fn fault_of_a_step<'p, R: Wait>(
+    rt: &R,
+    bus: &Bus<'p>,
+    strangers: &mut [Seat<'p>],
+) -> Option<StepFault> {
+    if make_steps(rt, bus, strangers, 1, 2) {
+        strangers.get_mut(1)?.step(rt, bus).err()
+    } else {
+        None
+    }
+}
+
+/// What is refused on a fresh bus of one hart: an eviction past its lines, and a step of another bus's seat.
+fn refusals<'p, R: Wait>(
+    rt: &R,
+    alloc: Global,
+    bus: &Bus<'p>,
+    program: &'p Program,
+) -> Option<[Option<StepFault>; 2]> {
+    let mut strangers = seats_of(alloc, program, 2, 5)?;
+    Some([
+        bus.evict(rt, 512).err(),
+        fault_of_a_step(rt, bus, &mut strangers),
+    ])
+}
+
+/// The refusals, and whether the bus's own seat is gathered to a run of no step after them.
 fn refusals_on_a_fresh_bus<R: Wait>(
     rt: &R,
     alloc: Global,
-) -> Option<(Option<StepFault>, Option<StepFault>, bool)> {
-    let (program, medium) = start_of(alloc, &FIRST_RUN)?;
-    let (_, second) = start_of(alloc, &FIRST_RUN)?;
-    let (bus, seats) = Bus::new(alloc, &program, medium, 1, 512, 5).ok()?;
-    let (_, mut others) = Bus::new(alloc, &program, second, 2, 512, 5).ok()?;
-    let line = bus.evict(rt, 512).err();
-    let hart = if make_steps(rt, &bus, &mut others, 1, 2) {
-        others.get_mut(1)?.step(rt, &bus).err()
-    } else {
-        None
-    };
+) -> Option<(Option<[Option<StepFault>; 2]>, bool)> {
+    let program = program_of(alloc, &FIRST_RUN)?;
+    let (bus, seats) = bus_of(alloc, &program, 1, 5)?;
+    let refused = refusals(rt, alloc, &bus, &program);
     let recorded = bus.finish(alloc, seats).ok()?;
-    Some((
-        line,
-        hart,
-        is_schedule(alloc, &recorded, "") && is_recorded(&recorded, 0, &[0]),
-    ))
+    let is_empty = is_schedule(alloc, &recorded, "") && is_recorded(&recorded, 0, &[0]);
+    Some((refused, is_empty))
 }
 
 #[test]
 fn fresh_bus(rt: HostRuntime) {
-    let found = refusals_on_a_fresh_bus(&rt, rt.alloc());
-    assert!(rt;
-        found
-            == Some((
-                Some(StepFault::NoSuchLine),
-                Some(StepFault::NoSuchHart),
-                true
-            ))
-    );
+    let refused = [Some(StepFault::NoSuchLine), Some(StepFault::NoSuchHart)];
+    assert!(rt; refusals_on_a_fresh_bus(&rt, rt.alloc()) == Some((Some(refused), true)));
 }

@@ -1,5 +1,6 @@
-//! Programs of a few words, and 512 lines of zeros for them.
+//! Programs of a few words, and buses over them and 512 lines of zeros.
 
+use bus::{Bus, Seat};
 use line_memory::Medium;
 use object::Object;
 use program::{Program, load};
@@ -28,6 +29,9 @@ pub(crate) const REWRITTEN: [u32; 11] = [
     0x05d00893, 0x00000073, 0x00200513,
 ];
 
+/// The most steps of a seat's budget.
+pub(crate) const BUDGET: u32 = 500_000_000;
+
 /// The bytes of words, the least significant of each first.
 fn bytes_of(alloc: Global, words: &[u32]) -> Result<Vec<u8>, AllocError> {
     let mut bytes = Vec::new(alloc);
@@ -37,7 +41,7 @@ fn bytes_of(alloc: Global, words: &[u32]) -> Result<Vec<u8>, AllocError> {
     Ok(bytes)
 }
 
-fn program_of(alloc: Global, words: &[u32]) -> Option<Program> {
+pub(crate) fn program_of(alloc: Global, words: &[u32]) -> Option<Program> {
     let text = bytes_of(alloc, words).ok()?;
     if text.len() % 4 == 0 && text.len() <= 65_536 {
         load(Object::new(text, Vec::new(alloc))).ok()
@@ -46,9 +50,35 @@ fn program_of(alloc: Global, words: &[u32]) -> Option<Program> {
     }
 }
 
+/// 512 lines of zeros.
+pub(crate) fn zeros(alloc: Global) -> Option<Medium> {
+    Medium::zero(alloc, 512).ok()
+}
+
+/// A bus of so many harts over a program and 512 lines of zeros, and its seats. (What takes it apart borrows it, since each value
+/// with a drop that lives over a `?` costs in the proof.)
+pub(crate) fn bus_of<'p>(
+    alloc: Global,
+    program: &'p Program,
+    harts: u32,
+    budget: u32,
+) -> Option<(Bus<'p>, Vec<Seat<'p>>)> {
+    Bus::new(alloc, program, zeros(alloc)?, harts, 512, budget).ok()
+}
+
+/// The seats of another such bus.
+pub(crate) fn seats_of<'p>(
+    alloc: Global,
+    program: &'p Program,
+    harts: u32,
+    budget: u32,
+) -> Option<Vec<Seat<'p>>> {
+    let (_bus, seats) = bus_of(alloc, program, harts, budget)?;
+    Some(seats)
+}
+
 /// A program, and 512 lines of zeros for it.
 pub(crate) fn start_of(alloc: Global, words: &[u32]) -> Option<(Program, Medium)> {
     let program = program_of(alloc, words)?;
-    let medium = Medium::zero(alloc, 512).ok()?;
-    Some((program, medium))
+    Some((program, zeros(alloc)?))
 }

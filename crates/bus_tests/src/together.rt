@@ -2,7 +2,7 @@
 
 ghost use Rattle.std.specs.Prelude.{◌<◌};
 
-use crate::programs::{COUNT_1000, FIRST_RUN, start_of};
+use crate::programs::{BUDGET, COUNT_1000, FIRST_RUN, bus_of, program_of, seats_of, start_of};
 use bus::{Bus, RunFault, Seat, StepFault, run_harts};
 use gate::{Gate, Open};
 use hart::{HartState, Status};
@@ -134,26 +134,30 @@ fn is_replayed(alloc: Global, recorded: &Recorded) -> bool {
     }
 }
 
+/// Whether a run is that of two harts that have counted to 2000, with so many evictions.
+fn is_count(alloc: Global, recorded: &Recorded, evictions: usize) -> bool {
+    let schedule = recorded.schedule();
+    have_counted(recorded.harts())
+        && steps_of(schedule, 0) == 3005
+        && steps_of(schedule, 1) == 3005
+        && evictions_of(schedule) == evictions
+        && recorded.trace().events().len() == 2000
+        && is_replayed(alloc, recorded)
+}
+
 /// Whether two harts count to 2000 beside each other.
 fn count_together<G: Gate, R: Threads + Wait + Sync>(
     rt: &R,
     alloc: Global,
     gate: &G,
 ) -> Option<bool> {
-    let (program, medium) = start_of(alloc, &COUNT_1000)?;
-    let (bus, seats) = Bus::new(alloc, &program, medium, 2, 512, 500_000_000).ok()?;
+    let program = program_of(alloc, &COUNT_1000)?;
+    let (bus, seats) = bus_of(alloc, &program, 2, BUDGET)?;
     if seats.len() != 2 {
         return None;
     }
     let recorded = run_harts(rt, alloc, bus, seats, gate).ok()?;
-    Some(
-        have_counted(recorded.harts())
-            && steps_of(recorded.schedule(), 0) == 3005
-            && steps_of(recorded.schedule(), 1) == 3005
-            && evictions_of(recorded.schedule()) == 0
-            && recorded.trace().events().len() == 2000
-            && is_replayed(alloc, &recorded),
-    )
+    Some(is_count(alloc, &recorded, 0))
 }
 
 #[test]
@@ -171,14 +175,13 @@ fn harts_run_together(rt: HostRuntime) {
 
 /// The fault of running both harts of a bus of one hart, of which the second is none.
 fn fault_of_a_stranger<R: Threads + Wait + Sync>(rt: &R, alloc: Global) -> Option<RunFault> {
-    let (program, medium) = start_of(alloc, &FIRST_RUN)?;
-    let (_, second) = start_of(alloc, &FIRST_RUN)?;
-    let (bus, _) = Bus::new(alloc, &program, medium, 1, 512, 8).ok()?;
-    let (_, seats) = Bus::new(alloc, &program, second, 2, 512, 8).ok()?;
-    if seats.len() != 2 {
+    let program = program_of(alloc, &FIRST_RUN)?;
+    let strangers = seats_of(alloc, &program, 2, 8)?;
+    if strangers.len() != 2 {
         return None;
     }
-    run_harts(rt, alloc, bus, seats, &Open).err()
+    let (bus, _seats) = bus_of(alloc, &program, 1, 8)?;
+    run_harts(rt, alloc, bus, strangers, &Open).err()
 }
 
 #[test]
@@ -206,31 +209,52 @@ fn evict_often<R: Wait>(rt: &R, bus: &Bus<'_>) -> bool {
     true
 }
 
-/// Whether two threads that drive the seats beside one that evicts come to a run with all evictions.
-fn count_beside_evictions<R: Threads + Sync + Wait>(rt: &R, alloc: Global) -> Option<bool> {
-    let (program, medium) = start_of(alloc, &COUNT_1000)?;
-    let (bus, mut seats) = Bus::new(alloc, &program, medium, 2, 512, 500_000_000).ok()?;
+/// The two seats of a bus.
+fn both_of<'p>(seats: Vec<Seat<'p>>) -> Option<(Seat<'p>, Seat<'p>)> {
+    let mut seats = seats;
     let second = seats.pop()?;
-    let first = seats.pop()?;
-    let shared = &bus;
+    Some((seats.pop()?, second))
+}
+
+/// Two seats in their order.
+fn in_order<'p>(alloc: Global, first: Seat<'p>, second: Seat<'p>) -> Option<Vec<Seat<'p>>> {
+    let mut seats = Vec::new(alloc);
+    seats.push(first).ok()?;
+    seats.push(second).ok()?;
+    Some(seats)
+}
+
+/// Drives the seats in two threads beside one that evicts. None where an eviction is refused.
+fn drive_beside_evictions<'p, R: Threads + Sync + Wait>(
+    rt: &R,
+    alloc: Global,
+    bus: &Bus<'p>,
+    seats: Vec<Seat<'p>>,
+) -> Option<Vec<Seat<'p>>> {
+    let (first, second) = both_of(seats)?;
     let ((first, second), is_evicted) = thread::join(
         rt,
         || thread::join(
             rt,
-            || finish_steps(rt, shared, first),
-            || finish_steps(rt, shared, second),
+            || finish_steps(rt, bus, first),
+            || finish_steps(rt, bus, second),
         ),
-        || evict_often(rt, shared),
+        || evict_often(rt, bus),
     );
-    seats.push(first).ok()?;
-    seats.push(second).ok()?;
-    let recorded = bus.finish(alloc, seats).ok()?;
-    Some(
-        is_evicted
-            && have_counted(recorded.harts())
-            && evictions_of(recorded.schedule()) == 100
-            && is_replayed(alloc, &recorded),
-    )
+    if is_evicted {
+        in_order(alloc, first, second)
+    } else {
+        None
+    }
+}
+
+/// Whether two threads that drive the seats beside one that evicts come to a run with all evictions.
+fn count_beside_evictions<R: Threads + Sync + Wait>(rt: &R, alloc: Global) -> Option<bool> {
+    let program = program_of(alloc, &COUNT_1000)?;
+    let (bus, seats) = bus_of(alloc, &program, 2, BUDGET)?;
+    let driven = drive_beside_evictions(rt, alloc, &bus, seats)?;
+    let recorded = bus.finish(alloc, driven).ok()?;
+    Some(is_count(alloc, &recorded, 100))
 }
 
 #[test]

@@ -1,6 +1,6 @@
 //! Seats that take turns at one bus, on one thread.
 
-use crate::programs::{COUNT_ONCE, FIRST_RUN, start_of};
+use crate::programs::{COUNT_ONCE, FIRST_RUN, bus_of, program_of, seats_of, zeros};
 use bus::{Bus, Core, Entry, Outcome, Seat, StepFault};
 use hart::{Reply, Request};
 use isa_table::{AtomicOp, Reg};
@@ -176,28 +176,27 @@ fn hold(seats: &[Seat<'_>], wanted: &[u64]) -> bool {
             == *value)
 }
 
-fn ends_so<R: Wait>(rt: &R, alloc: Global, shift: &Shift) -> bool {
-    let Some((program, medium)) = start_of(alloc, shift.words) else {
-        return false;
-    };
-    match Bus::new(alloc, &program, medium, shift.harts, 512, shift.budget) {
-        Ok((bus, mut seats)) => {
-            let are_answered = are_answered_so(rt, &bus, &mut seats, shift.turns);
-            let (_, core) = bus.into_parts();
-            are_answered
-                && is_history(&core, shift.history)
-                && core.events().len() == shift.events
-                && hold(&seats, shift.fifth)
-        }
-        Err(_) => false,
-    }
+/// Whether the turns are answered so, and the core behind the lock and the seats show what is to be seen then.
+fn shows<'p, R: Wait>(rt: &R, bus: Bus<'p>, seats: &mut [Seat<'p>], shift: &Shift) -> bool {
+    let are_answered = are_answered_so(rt, &bus, seats, shift.turns);
+    let (_, core) = bus.into_parts();
+    are_answered
+        && is_history(&core, shift.history)
+        && core.events().len() == shift.events
+        && hold(seats, shift.fifth)
+}
+
+fn ends_so<R: Wait>(rt: &R, alloc: Global, shift: &Shift) -> Option<bool> {
+    let program = program_of(alloc, shift.words)?;
+    let (bus, mut seats) = bus_of(alloc, &program, shift.harts, shift.budget)?;
+    Some(shows(rt, bus, &mut seats, shift))
 }
 
 #[test]
 fn turns_end_so(rt: HostRuntime) {
     let differing = SHIFTS
         .iter()
-        .position(|shift| !ends_so(&rt, rt.alloc(), shift));
+        .position(|shift| ends_so(&rt, rt.alloc(), shift) != Some(true));
     assert_eq!(rt; differing, None);
 }
 
@@ -211,23 +210,19 @@ static LIMITS: [(u32, u32, u32, StepFault); 6] = [
     (1, 512, 500_000_001, StepFault::OutOfLimits),
 ];
 
-fn is_refused_so(
+fn refusal(
     alloc: Global,
-    (harts, capacity, budget, fault): (u32, u32, u32, StepFault),
-) -> bool {
-    match start_of(alloc, &FIRST_RUN) {
-        Some((program, medium)) => {
-            Bus::new(alloc, &program, medium, harts, capacity, budget).err() == Some(fault)
-        }
-        None => false,
-    }
+    (harts, capacity, budget, _): (u32, u32, u32, StepFault),
+) -> Option<StepFault> {
+    let program = program_of(alloc, &FIRST_RUN)?;
+    Bus::new(alloc, &program, zeros(alloc)?, harts, capacity, budget).err()
 }
 
 #[test]
 fn numbers_out_of_limits(rt: HostRuntime) {
     let differing = LIMITS
         .iter()
-        .position(|limits| !is_refused_so(rt.alloc(), *limits));
+        .position(|limits| refusal(rt.alloc(), *limits) != Some(limits.3));
     assert_eq!(rt; differing, None);
 }
 
@@ -236,16 +231,18 @@ fn answers_to_a_stranger<R: Wait>(
     rt: &R,
     alloc: Global,
 ) -> Option<[Result<Outcome, StepFault>; 3]> {
-    let (program, medium) = start_of(alloc, &FIRST_RUN)?;
-    let (_, other) = start_of(alloc, &FIRST_RUN)?;
-    let (bus, _) = Bus::new(alloc, &program, medium, 1, 512, 3).ok()?;
-    let (_, mut seats) = Bus::new(alloc, &program, other, 2, 512, 3).ok()?;
-    let seat = seats.get_mut(1)?;
-    Some([
-        seat.step(rt, &bus),
-        seat.step(rt, &bus),
-        seat.step(rt, &bus),
-    ])
+    let program = program_of(alloc, &FIRST_RUN)?;
+    let mut strangers = seats_of(alloc, &program, 2, 3)?;
+    let (bus, _seats) = bus_of(alloc, &program, 1, 3)?;
+    Some(three_steps(rt, &bus, strangers.get_mut(1)?))
+}
+
+fn three_steps<'p, R: Wait>(
+    rt: &R,
+    bus: &Bus<'p>,
+    seat: &mut Seat<'p>,
+) -> [Result<Outcome, StepFault>; 3] {
+    [seat.step(rt, bus), seat.step(rt, bus), seat.step(rt, bus)]
 }
 
 #[test]

@@ -75,10 +75,31 @@ fn judge_moment(
     ensures err { IfErr result (λ fault. fault ≡ CheckFault.Memory) }
 {
     let index = TraceIndex::new(alloc, medium, trace)?;
-    let mut opener = Opener::new(alloc, index.lines())?;
+    let lines = index.lines();
     let outcomes = Outcomes::after(alloc, plan, start, first_events(trace, moment))?;
     let images = MomentImages::new(&index, plan, &outcomes, moment);
-    open_moment(alloc, medium, trace, &images, &mut opener)
+    open_first(alloc, medium, trace, &images, lines)
+}
+
+/// The verdict on a moment of a medium of so many lines, of which no branch was opened before.
+fn open_first(
+    alloc: Global,
+    medium: &Medium,
+    trace: &Trace,
+    images: &MomentImages,
+    lines: u32,
+) -> Result<MomentVerdict, CheckFault>
+    requires lines { HasLines medium.now trace.now.events }
+    requires medium { images.now.index.now.start ≡ medium.now }
+    requires trace { images.now.index.now.events ≡ trace.now.events }
+    requires there { images.now.moment ≤ length trace.now.events }
+    requires size { lines ≡ length medium.now }
+    ensures ok { IfOk result (λ verdict.
+        IsMomentVerdict images.now.plan.now.operations medium.now (take images.now.moment trace.now.events) verdict) }
+    ensures err { IfErr result (λ fault. fault ≡ CheckFault.Memory) }
+{
+    let mut opener = Opener::new(alloc, lines)?;
+    open_moment(alloc, medium, trace, images, &mut opener)
 }
 
 /// The verdict on a moment, whose branches are opened. Where it passes, the opener has each line that recovery asks.

@@ -3,15 +3,17 @@
 ghost use Rattle.crash_image.specs.View.{HasLines};
 ghost use Rattle.crash_model.specs.Cut.{IsCut, number_in};
 ghost use Rattle.crash_model.specs.Image.{image};
+ghost use Rattle.image_check.specs.Growth.{AreOutcomes};
 ghost use Rattle.image_check.specs.Keeping.{KeepsPass};
 ghost use Rattle.image_check.specs.Legal.{IsLegal};
 ghost use Rattle.image_check.specs.OrderFaults.{AreSound};
 ghost use Rattle.image_check.specs.Verdicts.{AreFlagged, IfPassed, IsMomentVerdict, IsRefusal, IsVerdict};
+ghost use Rattle.line_memory.specs.Lines.{IsMedium};
 ghost use Rattle.nova_log.specs.Volumes.{volume_of};
 ghost use Rattle.store_trace.specs.History.{at_moment};
 ghost use Rattle.store_trace.specs.declared.event.Event.{Event as AnEvent};
 ghost use Rattle.volume.specs.declared.entry.Entry.{Entry as AnEntry};
-ghost use Rattle.std.specs.Prelude.{◌≡◌, ◌↔◌, ℕ, ◌-◌, ◌<◌, ◌≤◌, List, Option, length, take, slice_index_or, IfErr, IfOk, IsTrue};
+ghost use Rattle.std.specs.Prelude.{◌≡◌, ◌↔◌, ℕ, ◌-◌, ◌<◌, ◌≤◌, [], List, Option, length, take, slice_index_or, IfErr, IfOk, IsTrue};
 ghost use Rattle.std.specs.Result.{result_ok};
 
 use crate::judge::{note_next, starting_volume};
@@ -74,14 +76,45 @@ fn judge_run(
     ensures ok { IfOk result (λ verdict. IsVerdict plan.now.operations medium.now trace.now.events verdict) }
     ensures err { IfErr result (λ fault. fault ≡ CheckFault.Memory) }
 {
-    let moments = trace.events().len() as u32 + 1;
     let index = TraceIndex::new(alloc, medium, trace)?;
     let mut opener = Opener::new(alloc, index.lines())?;
     let mut outcomes = Outcomes::new(alloc, start);
+    judge_moments(
+        alloc,
+        plan,
+        medium,
+        trace,
+        &index,
+        &mut opener,
+        &mut outcomes,
+    )
+}
+
+/// The verdict on a trace by its index, of which no branch was opened before; the outcomes are those of no event.
+fn judge_moments(
+    alloc: Global,
+    plan: &Plan,
+    medium: &Medium,
+    trace: &Trace,
+    index: &TraceIndex,
+    opener: &mut Opener,
+    outcomes: &mut Outcomes,
+) -> Result<Verdict, CheckFault>
+    requires lines { HasLines medium.now trace.now.events }
+    requires sound { AreSound plan.now.operations trace.now.events (length trace.now.events) }
+    requires whole { IsMedium index.now.start }
+    requires start { index.now.start ≡ medium.now }
+    requires events { index.now.events ≡ trace.now.events }
+    requires size { length opener.old ≡ length medium.now }
+    requires outcomes { AreOutcomes plan.now.operations (result_ok (volume_of medium.now)) [] outcomes.old.settled outcomes.old.under_way.items }
+    ensures ok { IfOk result (λ verdict. IsVerdict plan.now.operations medium.now trace.now.events verdict) }
+    ensures err { IfErr result (λ fault. fault ≡ CheckFault.Memory) }
+{
+    let moments = trace.events().len() as u32 + 1;
     for moment in 0..moments {
-        let images = MomentImages::new(&index, plan, &outcomes, moment);
-        match judge_next(alloc, medium, trace, &images, &mut opener)? {
-            MomentVerdict::Pass => note_next(&mut outcomes, plan, trace, moment)?,
+        let images = MomentImages::new(index, plan, outcomes, moment);
+        match judge_next(alloc, medium, trace, &images, opener)? {
+            MomentVerdict::Pass => note_next(outcomes, plan, trace, moment)?,
             MomentVerdict::Fail { image, cause } => {
                 return Ok(Verdict::Fail {
                     moment,

@@ -4,8 +4,8 @@ use Rattle.bus.proofs.ending.finish_seats.Goals as goal
 
 pub returns-in-Ok-clause-ok : goal.returns-in-Ok-clause-ok
 returns-in-Ok-clause-ok c =
-    is_finished _ c.args.core c.args.seats.now c.place_seats.new.seats c.in-Ok.recorded (c.is_core_of.ensures c.if-not-is_core_of.false)
-    c.in_ok-place_seats.ensures.ok c.in-Ok.ensures.ok
+    is_finished _ c.args.core c.args.seats.now c.place_on_core.new.seats c.in-Ok.recorded c.in_ok-place_on_core.ensures.core
+    c.in_ok-place_on_core.ensures.placed c.in-Ok.ensures.ok
 
 pub returns-in-Err-clause-err : goal.returns-in-Err-clause-err
 returns-in-Err-clause-err c = refuses_after _ c.args.harts c.args.seats.now c.in-Err.fault c.in-Err.ensures.err

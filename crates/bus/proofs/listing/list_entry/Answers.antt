@@ -1,7 +1,5 @@
 use Rattle.std.proofs.Common.{◌≡◌, refl}
 use Rattle.std.proofs.lemmas.Result.{IfErr-weaker, on_ok_weaker}
-use Rattle.shared_memory.specs.declared.history.Entry.{Entry}
-use Rattle.shared_memory.specs.declared.history.Entry.TheVariants.{Asked, Evicted}
 use Rattle.bus.specs.declared.finish_fault.FinishFault.TheVariants.{Memory as NoMemory}
 use Rattle.bus.proofs.Foreign.{memory_is}
 use Rattle.bus.proofs.Comparing.{asked_listed, asked_unlisted, listed_evicted}

@@ -12,7 +12,7 @@ new-images-requires-clause-there c =
 pub new-images-requires-clause-whole : goal.new-images-requires-clause-whole
 new-images-requires-clause-whole c =
     images_whole c.in_ok-index.index.start c.in_ok-index.index.events c.args.trace.now.events c.args.moment c.in_ok-index.ensures.events
-    c.lines.ensures.whole c.first_events.ensures.each
+    c.lines-lines.ensures.whole c.first_events.ensures.each
 
 pub new-images-requires-clause-apart : goal.new-images-requires-clause-apart
 new-images-requires-clause-apart c =

@@ -1,70 +1,14 @@
-use Rattle.std.proofs.Common.{◌≡◌, ◌≤◌, ◌∙◌, ap, subst, arith, length, Option, List, []}
-use Rattle.std.specs.Result.{result_ok}
-use Rattle.nova_log.specs.Volumes.{volume_of}
-use Rattle.store_trace.specs.declared.event.Event.{Event}
+use Rattle.std.proofs.Common.{subst, Option, List, []}
 use Rattle.volume.specs.declared.entry.Entry.{Entry}
 use Rattle.image_check.specs.Growth.{AreOutcomes}
-use Rattle.image_check.specs.declared.verdict.MomentVerdict.TheVariants as moments
-use Rattle.image_check.proofs.Opening.{asked_next, images_apart, images_whole, opener_size, passes_named, verdict_named}
-use Rattle.image_check.proofs.Passing.{pass_more}
+use Rattle.image_check.proofs.Opening.{opener_size}
 use Rattle.image_check.proofs.run.judge_run.Goals as goal
 
-pub loop-moment-init : goal.loop-moment-init
-loop-moment-init c = (
-  λ m l. absurd (omega arith),
-  λ l. absurd (omega arith),
-  opener_size c.lines.result c.in_ok-index.index.start c.args.medium.now c.in_ok-opener.opener c.lines.ensures.count c.in_ok-index.ensures.start c.in_ok-opener.ensures,
-  subst (λ (start : Option (List (List Entry))). AreOutcomes c.args.plan.now.operations start [] c.new-outcomes.result.settled c.new-outcomes.result.under_way.items)
-      c.requires.start (c.new-outcomes.ensures c.args.plan.now.operations),
-)
+pub judge_moments-requires-clause-size : goal.judge_moments-requires-clause-size
+judge_moments-requires-clause-size c =
+    opener_size c.lines.result c.in_ok-index.index.start c.args.medium.now c.in_ok-opener.opener c.lines.ensures.count c.in_ok-index.ensures.start c.in_ok-opener.ensures
 
-pub new-images-requires-clause-whole : goal.new-images-requires-clause-whole
-new-images-requires-clause-whole c =
-    images_whole c.in_ok-index.index.start c.in_ok-index.index.events c.args.trace.now.events c.loop-moment.moment c.in_ok-index.ensures.events
-    c.lines.ensures.whole c.events.ensures.each
-
-pub new-images-requires-clause-apart : goal.new-images-requires-clause-apart
-new-images-requires-clause-apart c =
-    let whole : length c.events.result.now ≡ length c.args.trace.now.events = ap (λ (es : List Event). length es) c.events.ensures.value in
-    let test = c.loop-moment-test.true in
-    let there : c.loop-moment.moment ≤ length c.args.trace.now.events = omega (arith, whole, test) in
-    images_apart c.args.plan.now.operations c.in_ok-index.index.events c.args.trace.now.events c.loop-moment.moment c.in_ok-index.ensures.events there c.requires.sound
-
-pub judge_next-requires-clause-passes : goal.judge_next-requires-clause-passes
-judge_next-requires-clause-passes c =
-    passes_named c.args.plan.now.operations c.new-images.result.plan.now.operations c.args.medium.now c.args.trace.now.events c.loop-moment.moment c.new-images.result.moment
-    c.new-images.ensures.plan c.new-images.ensures.moment c.loop-moment.invariant.0
-
-pub loop-moment-preserved : goal.loop-moment-preserved
-loop-moment-preserved c =
-    let passed =
-    verdict_named c.args.plan.now.operations c.new-images.result.plan.now.operations c.args.medium.now c.args.trace.now.events c.loop-moment.moment c.new-images.result.moment
-    moments.Pass c.new-images.ensures.plan c.new-images.ensures.moment (rw c.in-Pass.is at c.in_ok-judge_next.ensures.ok) in (
-      pass_more c.args.plan.now.operations c.args.medium.now c.args.trace.now.events c.loop-moment.moment c.loop-moment.invariant.0 passed,
-      λ some. asked_next c.args.medium.now c.args.trace.now.events c.loop-moment.moment c.new-images.result.moment c.judge_next.new.opener c.new-images.ensures.moment
-          (rw c.in-Pass.is at c.in_ok-judge_next.ensures.asked),
-      c.in_ok-judge_next.ensures.size ∙ c.loop-moment.invariant.2,
-      c.in_ok-note_next-in-Pass.ensures (result_ok (volume_of c.args.medium.now)) c.loop-moment.invariant.3,
-    )
-
-pub returns-clause-ok : goal.returns-clause-ok
-returns-clause-ok c =
-    let whole : length c.events.result.now ≡ length c.args.trace.now.events = ap (λ (es : List Event). length es) c.events.ensures.value in
-    let test = c.loop-moment-test.false in
-    let from = c.from.ensures in (
-      omega (arith, whole, from),
-      c.in_ok-images_of_moments.ensures,
-      λ m l. c.loop-moment.invariant.0 m (omega (arith, whole, test, l)),
-    )
-
-pub returns-in-Fail-clause-ok : goal.returns-in-Fail-clause-ok
-returns-in-Fail-clause-ok c =
-    let whole : length c.events.result.now ≡ length c.args.trace.now.events = ap (λ (es : List Event). length es) c.events.ensures.value in
-    let test = c.loop-moment-test.true in
-    record {
-      there = omega (arith, whole, test);
-      below = c.loop-moment.invariant.0;
-      here =
-          verdict_named c.args.plan.now.operations c.new-images.result.plan.now.operations c.args.medium.now c.args.trace.now.events c.loop-moment.moment c.new-images.result.moment
-          (moments.Fail c.in-Fail.image c.in-Fail.cause) c.new-images.ensures.plan c.new-images.ensures.moment (rw c.in-Fail.is at c.in_ok-judge_next.ensures.ok);
-    }
+pub judge_moments-requires-clause-outcomes : goal.judge_moments-requires-clause-outcomes
+judge_moments-requires-clause-outcomes c =
+    subst (λ (start : Option (List (List Entry))). AreOutcomes c.args.plan.now.operations start [] c.new-outcomes.result.settled c.new-outcomes.result.under_way.items)
+    c.requires.start (c.new-outcomes.ensures c.args.plan.now.operations)

@@ -4,7 +4,7 @@ use Rattle.nova_log.specs.Volumes.{volume_of}
 use Rattle.store_trace.specs.History.{at_moment}
 use Rattle.image_check.specs.Growth.{AreOutcomes}
 use Rattle.image_check.specs.Verdicts.{AreFlagged, PassBelow}
-use Rattle.image_check.proofs.run.judge_run.Given as goal
+use Rattle.image_check.proofs.run.judge_moments.Given as goal
 
 abbrev pub invariant-loop-moment : goal.invariant-loop-moment
 invariant-loop-moment l =
