@@ -1,0 +1,4 @@
+pub mod MarkFaults
+pub mod Operations
+pub mod Spans
+pub mod Windows

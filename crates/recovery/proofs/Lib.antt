@@ -1,0 +1,4 @@
+pub mod Serving
+pub mod Stepping
+pub mod Running
+pub mod Resting

@@ -1,0 +1,67 @@
+-- A routine under way: what it stands for in terms of Run, and what its steps do to that.
+use Rattle.std.specs.Prelude.{◌≡◌, ◌<◌, ◌≤◌, ℕ, List, [], ◌∷◌, Bool, true, false, Result, Err, length, flat_map}
+use Rattle.isa_table.specs.declared.instruction.Instr.{Instr}
+use Rattle.hart.specs.Effect.{answered}
+use Rattle.hart.specs.declared.need.Reply.{Reply}
+use Rattle.hart.specs.declared.need.Request.{Request}
+use Rattle.schedule.specs.declared.items.Step.TheVariants.{Hart}
+use Rattle.shared_memory.specs.Histories.{calls_of, copied, replayed}
+use Rattle.machine.specs.Run.{Config, StepsTo}
+use Rattle.machine.specs.Stands.{text_bytes}
+use Rattle.held_memory.specs.Memory.{IsSame, memory_of}
+use Rattle.recovery_run.specs.declared.Cause.{Cause}
+use Rattle.recovery_run.specs.declared.Cause.TheVariants.{Events}
+use Rattle.recovery_run.specs.Answers.{answer_by}
+use Rattle.recovery_run.specs.Loading.{loaded}
+use Rattle.recovery_run.specs.Recovery.{RunsFor}
+use Rattle.recovery.specs.Fetched.{Refetches}
+use Rattle.recovery.specs.World.{Holds, IsTooMany, Serves}
+use Rattle.recovery.specs.declared.engine.Engine.{Engine}
+
+-- over the lines of an image, it stands for a configuration of hart 0 alone
+pub record Stands (engine : Engine) (image : List (List ℕ)) (c : Config) : Type 0 where
+  pub harts : c.harts ≡ engine.hart ∷ []
+  pub memory : memory_of engine.world.held image ≡ c.common.memory
+  pub replays : c.common.memory ≡ replayed c.common.initial c.common.history
+  pub text : text_bytes engine.text.bytes ≡ copied c.common.initial 0 c.common.history
+  pub reserved : Holds engine.world.reserved (flat_map calls_of c.common.history)
+  pub events : engine.world.events ≡ length c.common.trace
+  pub few : length c.common.trace ≤ 65536
+  pub lines : engine.world.loaded ≡ loaded c.common.history
+
+-- what stays the same in all that a routine does
+pub record IsKept (old new : Engine) : Type 0 where
+  pub held : IsSame old.world.held new.world.held
+  pub start : new.text.start ≡ old.text.start
+
+-- a request of its hart, whose instruction is i, was served, or wasn't as its event would be one too many
+pub record Answers (old new : Engine) (image : List (List ℕ)) (i : Instr) (request : Request) : Type 0 where
+  pub reply : Reply
+  pub serves : Serves old.world new.world image request reply
+  pub hart : new.hart ≡ answered old.hart i reply
+  pub text : Refetches old.text new.text new.world.held request
+
+abbrev pub IsAsked : Engine → Engine → List (List ℕ) → Instr → Request → Bool → Type 0
+IsAsked old new image i request true = Answers old new image i request
+IsAsked old new image i request false = (new ≡ old) × IsTooMany old.world image request
+
+-- A step was made: whatever it stood for before, it stands for what the step makes of that. Or it wasn't: it would make an event too
+-- many.
+abbrev pub Goes : Engine → Engine → List (List ℕ) → Bool → Type 0
+Goes old new image true = (c : Config) → Stands old image c → (d : Config) × StepsTo c (Hart 0) d × Stands new image d
+Goes old new image false = (new ≡ old) × ((c : Config) → Stands old image c → (d : Config) × StepsTo c (Hart 0) d × (65536 < length d.common.trace))
+
+-- it ran for so many steps, and is full or not
+pub record Runs (old new : Engine) (image : List (List ℕ)) (steps : ℕ) (full : Bool) : Type 0 where
+  pub runs : (c : Config) → Stands old image c → (d : Config) × RunsFor c steps d full × Stands new image d
+
+-- what a run came to that ended here
+abbrev pub ending : Engine → List (List ℕ) → Bool → Result (List ℕ) Cause
+ending engine image true = Err Events
+ending engine image false = answer_by (memory_of engine.world.held image) engine.hart engine.hart.status
+
+-- it ran for so many steps, and this is what that came to
+pub record Comes (old new : Engine) (image : List (List ℕ)) (steps : ℕ) (found : Result (List ℕ) Cause) : Type 0 where
+  pub full : Bool
+  pub runs : Runs old new image steps full
+  pub comes : found ≡ ending new image full

@@ -1,0 +1,4 @@
+pub mod World
+pub mod Fetched
+pub mod Engine
+pub mod Routine

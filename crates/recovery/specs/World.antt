@@ -1,0 +1,69 @@
+-- What a recovery routine has round it, and what its requests do to that: the same as in Run, over the history of hart 0 alone.
+use Rattle.std.specs.Prelude.{◌≡◌, ℕ, ◌+◌, ◌++◌, ◌<◌, ◌≤◌, List, Option, Some, None, Bool, false, eqb, length, nat_le, if◌then◌else◌}
+use Rattle.line_memory.specs.Memory.{stored_to}
+use Rattle.line_memory.specs.declared.TheConstants.{PERSISTENT_BASE}
+use Rattle.hart.specs.declared.need.Request.{Request}
+use Rattle.hart.specs.declared.need.Reply.{Reply}
+use Rattle.hart.specs.declared.need.Reply.TheVariants.{Done}
+use Rattle.reservation.specs.Reserved.{Call, is_reserved}
+use Rattle.shared_memory.specs.declared.history.Entry.TheVariants.{Asked}
+use Rattle.shared_memory.specs.Histories.{calls_of, memory_after}
+use Rattle.shared_memory.specs.Served.{events_of, replied}
+use Rattle.held_memory.specs.Memory.{HeldView, memory_of}
+use Rattle.recovery_run.specs.Loading.{lines_loaded}
+use Rattle.recovery.specs.declared.world.Served.{Served}
+use Rattle.recovery.specs.declared.world.Served.TheVariants.{Full, Replied}
+
+-- what a contract sees of it: the memory, the line of the address space that hart 0 has reserved, how many events it made, and the
+-- lines that it loaded, the oldest first
+pub record WorldView : Type 0 where
+  pub held : HeldView
+  pub reserved : Option ℕ
+  pub events : ℕ
+  pub loaded : List ℕ
+
+-- whether hart 0 has reserved line l
+abbrev pub is_line : Option ℕ → ℕ → Bool
+is_line None l = false
+is_line (Some line) l = eqb line l
+
+-- the word names the line that hart 0 has reserved by these calls
+abbrev pub Holds : Option ℕ → List Call → Type 0
+Holds word calls = (l : ℕ) → is_line word l ≡ is_reserved 0 l calls
+
+-- the reply to a request, over the lines of an image
+abbrev pub reply_to : WorldView → List (List ℕ) → Request → Reply
+reply_to world image request = replied (memory_of world.held image) (is_line world.reserved) request
+
+-- how many events a write makes
+abbrev pub event_count : ℕ → ℕ
+event_count address = if nat_le PERSISTENT_BASE address then 1 else 0
+
+-- a request of hart 0 is served: the reply by flat memory and the reservation, and what is round it then
+pub record Serves (old new : WorldView) (image : List (List ℕ)) (request : Request) (r : Reply) : Type 0 where
+  pub reply : r ≡ reply_to old image request
+  pub memory : memory_of new.held image ≡ memory_after (memory_of old.held image) request r
+  pub reserved : (calls : List Call) → Holds old.reserved calls → Holds new.reserved (calls_of (Asked 0 request r) ++ calls)
+  pub events : new.events ≡ old.events + length (events_of 0 request r)
+  pub few : new.events ≤ 65536
+  pub loaded : new.loaded ≡ old.loaded ++ lines_loaded request r
+
+-- a request whose event would be event 65,537 isn't
+pub record IsTooMany (world : WorldView) (image : List (List ℕ)) (request : Request) : Type 0 where
+  pub more : 65536 < world.events + length (events_of 0 request (reply_to world image request))
+
+abbrev pub IsServed : WorldView → WorldView → List (List ℕ) → Request → Served → Type 0
+IsServed old new image request (Replied reply) = Serves old new image request reply
+IsServed old new image request Full = (new ≡ old) × IsTooMany old image request
+
+-- a write
+pub record Writes (old new : WorldView) (image : List (List ℕ)) (address width value : ℕ) : Type 0 where
+  pub memory : memory_of new.held image ≡ stored_to (memory_of old.held image) address width value
+  pub reserved : new.reserved ≡ old.reserved
+  pub events : new.events ≡ old.events + event_count address
+  pub loaded : new.loaded ≡ old.loaded
+
+-- so many events are counted, where there is room
+abbrev pub IsNoted : WorldView → WorldView → ℕ → Served → Type 0
+IsNoted old new count (Replied reply) = (reply ≡ Done) × (new ≡ record old { events = old.events + count }) × (new.events ≤ 65536)
+IsNoted old new count Full = (new ≡ old) × (65536 < old.events + count)

@@ -1,0 +1,123 @@
+//! A recovery routine, for any number of images.
+
+ghost use Rattle.std.specs.Prelude.{◌≡◌, ◌<◌, All, length, IfOk, IfErr};
+ghost use Rattle.line_memory.specs.declared.MediumFault.{MediumFault};
+ghost use Rattle.machine.specs.Run.{started};
+ghost use Rattle.held_lines.specs.Held.{IsOver};
+ghost use Rattle.held_memory.specs.Memory.{IsAtStart};
+ghost use Rattle.recovery.specs.Engine.{IsKept, Stands};
+ghost use Rattle.recovery.specs.Routine.{IsAtRest, Recovers};
+
+use crate::engine::Engine;
+use crate::fetched::FetchedText;
+use crate::found::Answer;
+use crate::world::World;
+use hart::HartState;
+use held_memory::Source;
+use line_memory::MediumFault;
+use program::Program;
+use recovery_run::Cause;
+use std::alloc::{AllocError, Global};
+use std::marker::Model;
+
+/// A recovery routine, which is as new before and after each run: the next image can be any other.
+#[derive(Drop)]
+pub struct Routine {
+    engine: Engine,
+}
+
+impl Model for Routine {
+    ghost use Rattle.std.specs.Prelude.{length};
+    ghost use Rattle.recovery.specs.Routine.{IsAtRest, RoutineView};
+
+    ghost Value = { RoutineView };
+
+    ghost view = { λ r. record {
+      program = r.engine.world.held.program;
+      lines = length r.engine.world.held.image;
+      loaded = r.engine.world.loaded;
+    } };
+
+    ghost invariant = { λ r. IsAtRest r.engine };
+}
+
+impl Routine {
+    /// The routine of a program, for images of so many lines. All memory is taken here but for the lists of the lines that runs
+    /// store to and load, and for answers. The fault is Memory.
+    pub fn new(alloc: Global, program: Program, lines: u32) -> Result<Routine, MediumFault>
+        ensures program { IfOk result (λ routine. routine.program ≡ program) }
+        ensures lines { IfOk result (λ routine. routine.lines ≡ lines) }
+        ensures err { IfErr result (λ fault. fault ≡ MediumFault.Memory) }
+    {
+        let world = World::new(alloc, program, lines)?;
+        let text = match FetchedText::new(alloc, world.starting_text()) {
+            Ok(text) => text,
+            Err(_) => return Err(MediumFault::Memory),
+        };
+        Ok(Routine {
+            engine: Engine {
+                world,
+                text,
+                hart: HartState::start(0),
+            },
+        })
+    }
+
+    /// Runs the routine on an image from its start: hart 0 alone, with a line of cache for each line, for at most so many steps and
+    /// 65,536 events. What it names at its exit with code 0, or why it names nothing.
+    ///
+    /// # Errors
+    /// A growth was refused; the routine is as new then too.
+    pub fn run<S: Source>(
+        &mut self,
+        alloc: Global,
+        image: &S,
+        steps: u32,
+    ) -> Result<Result<Answer, Cause>, AllocError>
+        requires lines { length (S.medium image.now) ≡ self.old.lines }
+        ensures ok { IfOk result (λ found. Recovers self.old.program (S.medium image.now) steps self.new.loaded found) }
+        ensures program { self.new.program ≡ self.old.program }
+        ensures lines { self.new.lines ≡ self.old.lines }
+    {
+        self.engine.begin(image);
+        let found = self.engine.recover(alloc, image, steps);
+        self.engine.set_back();
+        found
+    }
+
+    /// The lines of the image that the last run loaded by loads, LRs and atomic operations that didn't trap, the first one first,
+    /// and each as often as it was loaded.
+    pub fn lines_loaded(&self) -> &[u32]
+        ensures lines { result.now ≡ self.now.loaded }
+        ensures below { All (λ line. line < self.now.lines) self.now.loaded }
+    {
+        self.engine.world.lines_loaded()
+    }
+}
+
+impl Engine {
+    /// Hart 0 begins, over an image.
+    fn begin<S: Source>(&mut self, image: &S)
+        requires rest { IsAtRest self.old }
+        requires lines { length (S.medium image.now) ≡ length self.old.world.held.image }
+        ensures stands { Stands self.new (S.medium image.now) (started self.old.world.held.program (S.medium image.now) 1) }
+        ensures over { IsOver self.new.world.held.image (S.medium image.now) }
+        ensures kept { IsKept self.old self.new }
+    {
+        // a look at the image, for its lines to be known as such
+        let _ = image.lines();
+        self.hart = HartState::start(0);
+        self.world.begin();
+    }
+
+    /// Memory and the text that is fetched are those of the start again.
+    fn set_back(&mut self)
+        ensures memory { IsAtStart self.new.world.held (length self.old.world.held.image) }
+        ensures fetched { self.new.text.bytes ≡ self.new.text.start }
+        ensures kept { IsKept self.old self.new }
+        ensures loaded { self.new.world.loaded ≡ self.old.world.loaded }
+    {
+        self.world.set_back();
+        self.text.set_back();
+    }
+}

@@ -1,0 +1,417 @@
+//! What a routine has round it: its memory over an image, its reservation, how many events it made, and the lines that it loaded.
+
+ghost use Rattle.std.specs.Prelude.{◌≡◌, ◌+◌, ◌^◌, ◌/◌, ◌<◌, ◌≤◌, ◌++◌, ℕ, List, [], slice_get, nat_lt, None, Some, All, length, IfOk, IfErr, OnOk, OnErr};
+ghost use Rattle.line_memory.specs.Memory.{IsWidth, fault_of, loaded_from};
+ghost use Rattle.line_memory.specs.declared.MediumFault.{MediumFault};
+ghost use Rattle.line_memory.specs.declared.TheConstants.{PERSISTENT_BASE, TEXT_SIZE};
+ghost use Rattle.hart.specs.Requests.{IsAtomicWidth, IsRequest};
+ghost use Rattle.hart.specs.declared.need.Request.{Request};
+ghost use Rattle.held_lines.specs.Held.{IsOver};
+ghost use Rattle.held_memory.specs.Memory.{IsAtStart, IsSame, IsWithin, address_of, memory_of};
+ghost use Rattle.shared_memory.specs.Persisted.{line_used};
+ghost use Rattle.shared_memory.specs.Served.{access_fault, line_of};
+ghost use Rattle.held_memory.specs.Regions.{bytes_of};
+ghost use Rattle.isa_table.specs.declared.instruction.CacheOp.{CacheOp};
+ghost use Rattle.hart.specs.declared.need.Reply.{Reply};
+ghost use Rattle.recovery.specs.World.{IsNoted, IsServed, Serves, Writes, event_count, is_line};
+ghost use Rattle.recovery.specs.declared.world.Served.{Served};
+
+use hart::{AccessFault, Reply, Request, amo_result};
+use held_memory::{HeldMemory, Place, Source};
+use isa_table::AtomicOp;
+use line_memory::{LINE_SIZE, MediumFault, MemFault, PERSISTENT_BASE};
+use program::Program;
+use std::alloc::{AllocError, Global};
+use std::marker::Model;
+
+/// How many events a run may make.
+const MAX_EVENTS: u32 = 65_536;
+
+/// What came of a request.
+#[derive(Clone, Copy, Debug, PartialEq, Eq)]
+pub enum Served {
+    /// It was served, with this reply.
+    Replied(Reply),
+    /// It wasn't, since its event would be one too many.
+    Full,
+}
+
+/// What hart 0, which runs alone, has round it. A call is given the image that it is over.
+#[derive(Drop)]
+pub struct World {
+    held: HeldMemory,
+    /// The line of the address space that an LR has reserved.
+    reserved: Option<u32>,
+    events: u32,
+    loaded: Vec<u32>,
+}
+
+impl Model for World {
+    ghost use Rattle.std.specs.Prelude.{◌<◌, ◌≤◌, All, length};
+    ghost use Rattle.recovery.specs.World.{WorldView};
+
+    ghost Value = { WorldView };
+
+    ghost view = { λ w. record { held = w.held; reserved = w.reserved; events = w.events; loaded = w.loaded.items } };
+
+    ghost invariant = { λ w. (w.events ≤ 65536) × All (λ line. line < length w.held.image) w.loaded.items };
+}
+
+impl World {
+    /// A program's memory over images of so many lines, at its start. The fault is Memory.
+    pub fn new(alloc: Global, program: Program, lines: u32) -> Result<World, MediumFault>
+        ensures program { IfOk result (λ world. world.held.program ≡ program) }
+        ensures start { IfOk result (λ world. IsAtStart world.held lines) }
+        ensures err { IfErr result (λ fault. fault ≡ MediumFault.Memory) }
+    {
+        let held = HeldMemory::new(alloc, program, lines)?;
+        Ok(World {
+            held,
+            reserved: None,
+            events: 0,
+            loaded: Vec::new(alloc),
+        })
+    }
+
+    /// Nothing is reserved, no event was made and no line loaded.
+    pub fn begin(&mut self)
+        ensures { self.new ≡ record self.old { reserved = None; events = 0; loaded = [] } }
+    {
+        self.reserved = None;
+        self.events = 0;
+        self.loaded.clear();
+    }
+
+    /// The memory is that at the start again, over any image.
+    pub fn set_back(&mut self)
+        ensures start { IsAtStart self.new.held (length self.old.held.image) }
+        ensures same { IsSame self.old.held self.new.held }
+        ensures loaded { self.new.loaded ≡ self.old.loaded }
+    {
+        self.held.set_back();
+    }
+
+    /// The bytes of the text region as they are at the start.
+    pub fn starting_text(&self) -> &[u8]
+        ensures text { result.now ≡ self.now.held.program.text }
+        ensures size { length result.now ≡ TEXT_SIZE }
+    {
+        self.held.starting_text()
+    }
+
+    /// Reads the bytes of the text region as they are.
+    pub fn read_text(&self, into: &mut [u8])
+        requires { length into.old ≡ TEXT_SIZE }
+        ensures bytes { (offset : ℕ) → offset < TEXT_SIZE → slice_get into.new offset ≡ bytes_of self.now.held.text offset }
+        ensures count { length into.new ≡ TEXT_SIZE }
+    {
+        self.held.read_text(into);
+    }
+
+    /// The byte at an address; None outside the regions.
+    pub fn peek<S: Source>(&self, image: &S, address: u64) -> Option<u8>
+        requires over { IsOver self.now.held.image (S.medium image.now) }
+        ensures { result ≡ memory_of self.now.held (S.medium image.now) address }
+    {
+        self.held.peek(image, address)
+    }
+
+    /// The lines of the image that were loaded, the oldest first, and each as often as it was.
+    pub fn lines_loaded(&self) -> &[u32]
+        ensures lines { result.now ≡ self.now.loaded }
+        ensures below { All (λ line. line < length self.now.held.image) self.now.loaded }
+    {
+        &self.loaded
+    }
+
+    /// Serves a request. Where memory is refused, what is round the routine is of no use before it is set back.
+    pub fn request<S: Source>(&mut self, image: &S, request: Request) -> Result<Served, AllocError>
+        requires over { IsOver self.old.held.image (S.medium image.now) }
+        requires request { IsRequest request }
+        ensures ok { IfOk result (λ served. IsServed self.old self.new (S.medium image.now) request served) }
+        ensures over { IsOver self.new.held.image (S.medium image.now) }
+        ensures same { IsSame self.old.held self.new.held }
+    {
+        match request {
+            Request::Load { address, width } => self.load(image, address, width),
+            Request::Store {
+                address,
+                width,
+                value,
+            } => self.store(image, address, width, value),
+            Request::Lr { address, width } => self.load_reserved(image, address, width),
+            Request::Sc {
+                address,
+                width,
+                value,
+            } => self.store_conditional(image, address, width, value),
+            Request::Amo {
+                op,
+                address,
+                width,
+                operand,
+            } => self.combine(image, op, address, width, operand),
+            Request::FenceI => Ok(self.renew()),
+            Request::Cbo { address, .. } => Ok(self.operate(image, address)),
+            Request::Fence | Request::Begin { .. } | Request::End { .. } => Ok(self.note(1)),
+        }
+    }
+
+    /// A FENCE.I changes nothing here: who keeps the fetched text renews it.
+    fn renew(&self) -> Served
+        ensures reply { result ≡ Served.Replied Reply.Done }
+        ensures limit { self.now.events ≤ 65536 }
+    {
+        // a look at the events, for their limit to be known
+        let _ = &self.events;
+        Served::Replied(Reply::Done)
+    }
+
+    fn load<S: Source>(&mut self, image: &S, address: u64, width: u32) -> Result<Served, AllocError>
+        requires over { IsOver self.old.held.image (S.medium image.now) }
+        requires width { IsWidth width }
+        ensures ok { IfOk result (λ served. IsServed self.old self.new (S.medium image.now) (Request.Load address width) served) }
+        ensures over { IsOver self.new.held.image (S.medium image.now) }
+        ensures same { IsSame self.old.held self.new.held }
+    {
+        match self.held.place(image, address, width) {
+            Ok(place) => {
+                let value = self.read(image, address, place, width)?;
+                Ok(Served::Replied(Reply::Value(value)))
+            }
+            Err(fault) => Ok(faulted(fault)),
+        }
+    }
+
+    fn load_reserved<S: Source>(
+        &mut self,
+        image: &S,
+        address: u64,
+        width: u32,
+    ) -> Result<Served, AllocError>
+        requires over { IsOver self.old.held.image (S.medium image.now) }
+        requires width { IsAtomicWidth width }
+        ensures ok { IfOk result (λ served. IsServed self.old self.new (S.medium image.now) (Request.Lr address width) served) }
+        ensures over { IsOver self.new.held.image (S.medium image.now) }
+        ensures same { IsSame self.old.held self.new.held }
+    {
+        match self.held.place(image, address, width) {
+            Ok(place) => {
+                let value = self.read(image, address, place, width)?;
+                self.reserved = Some(reserved_line(address));
+                Ok(Served::Replied(Reply::Value(value)))
+            }
+            Err(fault) => Ok(faulted(fault)),
+        }
+    }
+
+    fn store<S: Source>(
+        &mut self,
+        image: &S,
+        address: u64,
+        width: u32,
+        value: u64,
+    ) -> Result<Served, AllocError>
+        requires over { IsOver self.old.held.image (S.medium image.now) }
+        requires width { IsWidth width }
+        ensures ok { IfOk result (λ served. IsServed self.old self.new (S.medium image.now) (Request.Store address width value) served) }
+        ensures over { IsOver self.new.held.image (S.medium image.now) }
+        ensures same { IsSame self.old.held self.new.held }
+    {
+        let place = match self.held.place(image, address, width) {
+            Ok(place) => place,
+            Err(fault) => return Ok(faulted(fault)),
+        };
+        if self.is_full_at(address) {
+            return Ok(Served::Full);
+        }
+        self.write(image, address, place, width, value)?;
+        Ok(Served::Replied(Reply::Done))
+    }
+
+    /// The routine's own stores don't end its reservation.
+    fn store_conditional<S: Source>(
+        &mut self,
+        image: &S,
+        address: u64,
+        width: u32,
+        value: u64,
+    ) -> Result<Served, AllocError>
+        requires over { IsOver self.old.held.image (S.medium image.now) }
+        requires width { IsAtomicWidth width }
+        ensures ok { IfOk result (λ served. IsServed self.old self.new (S.medium image.now) (Request.Sc address width value) served) }
+        ensures over { IsOver self.new.held.image (S.medium image.now) }
+        ensures same { IsSame self.old.held self.new.held }
+    {
+        let place = match self.held.place(image, address, width) {
+            Ok(place) => place,
+            Err(fault) => return Ok(faulted(fault)),
+        };
+        if !self.has_reserved(address) {
+            self.reserved = None;
+            return Ok(Served::Replied(Reply::Value(1)));
+        }
+        if self.is_full_at(address) {
+            return Ok(Served::Full);
+        }
+        self.write(image, address, place, width, value)?;
+        self.reserved = None;
+        Ok(Served::Replied(Reply::Value(0)))
+    }
+
+    /// An atomic operation: what it stores is made of the value that it finds, which is the reply.
+    fn combine<S: Source>(
+        &mut self,
+        image: &S,
+        op: AtomicOp,
+        address: u64,
+        width: u32,
+        operand: u64,
+    ) -> Result<Served, AllocError>
+        requires over { IsOver self.old.held.image (S.medium image.now) }
+        requires width { IsAtomicWidth width }
+        ensures ok { IfOk result (λ served. IsServed self.old self.new (S.medium image.now) (Request.Amo op address width operand) served) }
+        ensures over { IsOver self.new.held.image (S.medium image.now) }
+        ensures same { IsSame self.old.held self.new.held }
+    {
+        let place = match self.held.place(image, address, width) {
+            Ok(place) => place,
+            Err(fault) => return Ok(faulted(fault)),
+        };
+        if self.is_full_at(address) {
+            return Ok(Served::Full);
+        }
+        let old = self.read(image, address, place, width)?;
+        let value = amo_result(op, width, old, operand);
+        self.write(image, address, place, width, value)?;
+        Ok(Served::Replied(Reply::Value(old)))
+    }
+
+    /// An operation on the line of an address, which changes no byte.
+    fn operate<S: Source>(&mut self, image: &S, address: u64) -> Served
+        requires over { IsOver self.old.held.image (S.medium image.now) }
+        ensures ok { (op : CacheOp) → IsServed self.old self.new (S.medium image.now) (Request.Cbo op address) result }
+        ensures over { IsOver self.new.held.image (S.medium image.now) }
+        ensures same { IsSame self.old.held self.new.held }
+    {
+        match self.held.peek(image, address) {
+            Some(_) => self.note(events_at(address)),
+            None => Served::Replied(Reply::Fault(AccessFault::Outside)),
+        }
+    }
+
+    /// Counts so many events, where there is room.
+    fn note(&mut self, count: u32) -> Served
+        requires { count ≤ 1 }
+        ensures { IsNoted self.old self.new count result }
+    {
+        if self.events + count > MAX_EVENTS {
+            return Served::Full;
+        }
+        self.events += count;
+        Served::Replied(Reply::Done)
+    }
+
+    /// Whether a write to an address would make one event too many.
+    fn is_full_at(&self, address: u64) -> bool
+        ensures { result ≡ nat_lt 65536 (self.now.events + event_count address) }
+    {
+        self.events + events_at(address) > MAX_EVENTS
+    }
+
+    /// Whether the line of an address is reserved.
+    fn has_reserved(&self, address: u64) -> bool
+        requires { address < 2 ^ 38 }
+        ensures { result ≡ is_line self.now.reserved (address / 64) }
+    {
+        match self.reserved {
+            Some(line) => line == reserved_line(address),
+            None => false,
+        }
+    }
+
+    /// The number that the bytes of an access spell; a line of the image is noted.
+    #[tactic(auto, using(crate::proofs::Serving::line_there))]
+    fn read<S: Source>(
+        &mut self,
+        image: &S,
+        address: u64,
+        place: Place,
+        width: u32,
+    ) -> Result<u64, AllocError>
+        requires over { IsOver self.old.held.image (S.medium image.now) }
+        requires width { IsWidth width }
+        requires within { IsWithin self.old.held width place }
+        requires address { address ≡ address_of place }
+        requires low { address < 2 ^ 38 }
+        ensures ok { IfOk result (λ value. loaded_from (memory_of self.old.held (S.medium image.now)) address width ≡ Some value) }
+        ensures changed { OnOk result (self.new ≡ record self.old { loaded = self.old.loaded ++ line_used address }) }
+        ensures err { OnErr result (self.new ≡ self.old) }
+    {
+        self.note_line(address)?;
+        Ok(self.held.load(image, place, width))
+    }
+
+    /// Notes that the line of an address is loaded, where it is a line of the image.
+    fn note_line(&mut self, address: u64) -> Result<(), AllocError>
+        requires low { address < 2 ^ 38 }
+        requires there { PERSISTENT_BASE ≤ address → line_of address < length self.old.held.image }
+        ensures ok { OnOk result (self.new ≡ record self.old { loaded = self.old.loaded ++ line_used address }) }
+        ensures err { OnErr result (self.new ≡ self.old) }
+    {
+        if address < PERSISTENT_BASE {
+            return Ok(());
+        }
+        let line = ((address - PERSISTENT_BASE) / LINE_SIZE as u64) as u32;
+        self.loaded.push(line)?;
+        Ok(())
+    }
+
+    /// Makes a write, and counts its event.
+    fn write<S: Source>(
+        &mut self,
+        image: &S,
+        address: u64,
+        place: Place,
+        width: u32,
+        value: u64,
+    ) -> Result<(), AllocError>
+        requires over { IsOver self.old.held.image (S.medium image.now) }
+        requires width { IsWidth width }
+        requires within { IsWithin self.old.held width place }
+        requires address { address ≡ address_of place }
+        requires room { self.old.events + event_count address ≤ 65536 }
+        ensures ok { OnOk result (Writes self.old self.new (S.medium image.now) address width value) }
+        ensures over { IsOver self.new.held.image (S.medium image.now) }
+        ensures same { IsSame self.old.held self.new.held }
+    {
+        self.held.store(image, place, width, value)?;
+        self.events += events_at(address);
+        Ok(())
+    }
+}
+
+/// How many events a write to an address makes, or an operation on its line.
+fn events_at(address: u64) -> u32
+    ensures { result ≡ event_count address }
+{
+    if address < PERSISTENT_BASE { 0 } else { 1 }
+}
+
+/// The line of the address space that holds an address of memory.
+fn reserved_line(address: u64) -> u32
+    requires { address < 2 ^ 38 }
+    ensures { result ≡ address / 64 }
+{
+    (address / 64) as u32
+}
+
+fn faulted(fault: MemFault) -> Served
+    ensures { result ≡ Served.Replied (Reply.Fault (access_fault fault)) }
+{
+    let met = match fault {
+        MemFault::Misaligned => AccessFault::Misaligned,
+        MemFault::Outside => AccessFault::Outside,
+    };
+    Served::Replied(Reply::Fault(met))
+}
