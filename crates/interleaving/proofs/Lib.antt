@@ -1,0 +1,13 @@
+pub mod Drawn
+pub mod Filters
+pub mod Final
+pub mod Lengths
+pub mod Makes
+pub mod Once
+pub mod Running
+pub mod Runs
+pub mod Status
+pub mod Stores
+pub mod Turns
+pub mod Weaves
+pub mod Woven

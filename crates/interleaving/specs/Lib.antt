@@ -1,0 +1,6 @@
+pub mod Drawing
+pub mod Evictions
+pub mod Interleaves
+pub mod Making
+pub mod SplitMix
+pub mod Weaving
