@@ -3,6 +3,7 @@
 use crate::copying::filled_volume;
 use crate::loss_routines::LOSS_FILES;
 use crate::routines::FILES;
+use crate::showing::SHOWN_FILES;
 use crate::wasting::WASTE_FILES;
 use command_line::{FileFault, Files};
 use std::alloc::{AllocError, Global};
@@ -63,6 +64,7 @@ pub(crate) fn folder_of_examples(alloc: Global) -> Result<Folder, AllocError> {
     let mut folder = Folder::new(alloc);
     folder.put_all(&FILES)?;
     folder.put_all(&LOSS_FILES)?;
+    folder.put_all(&SHOWN_FILES)?;
     folder.put_all(&WASTE_FILES)?;
     folder.put("filled", &filled_volume(alloc)?)?;
     Ok(folder)

@@ -11,6 +11,8 @@ mod copying;
 #[cfg(test)]
 mod debugging;
 #[cfg(test)]
+mod drawing;
+#[cfg(test)]
 mod folder;
 #[cfg(test)]
 mod imaging;
@@ -21,6 +23,8 @@ mod loss_routines;
 #[cfg(test)]
 mod persisting;
 #[cfg(test)]
+mod picturing;
+#[cfg(test)]
 mod racing;
 #[cfg(test)]
 mod refusing;
@@ -30,6 +34,8 @@ mod routines;
 mod running;
 #[cfg(test)]
 mod screen;
+#[cfg(test)]
+mod showing;
 #[cfg(test)]
 mod streams;
 #[cfg(test)]

@@ -1,2 +1,3 @@
 mod Lines
+mod Seeds
 pub mod Tables

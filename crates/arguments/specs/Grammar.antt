@@ -6,7 +6,7 @@ use Rattle.clap.specs.declared.builder.action.ArgAction.TheVariants.{Help, SetTr
 use Rattle.clap.specs.declared.builder.command.Command.{Command}
 use Rattle.clap.specs.declared.builder.command.Command.TheViews.{out-Command}
 use Rattle.arguments.specs.declared.grammar.Argument.{Argument}
-use Rattle.arguments.specs.declared.grammar.Argument.TheVariants.{Word, Optional, Valued, Flag}
+use Rattle.arguments.specs.declared.grammar.Argument.TheVariants.{Word, Optional, Valued, Needed, Flag}
 use Rattle.arguments.specs.declared.grammar.Subcommand.{Subcommand}
 
 -- `--help`, with no short form
@@ -24,6 +24,10 @@ optional_word name = new_rule name
 -- `--name VALUE`, which may be left out
 abbrev pub valued_option : Text → Rule
 valued_option name = record (new_rule name) { long = Some name; value_names = 1 }
+
+-- `--name VALUE`, which has to be given
+abbrev pub needed_option : Text → Rule
+needed_option name = record (valued_option name) { required = true }
 
 -- `--name`, which may be left out
 abbrev pub flag_option : Text → Rule
@@ -115,6 +119,31 @@ check_shape = record (new_shape (codes "check")) {
       ∷ flag_option (codes "whole") ∷ flag_option (codes "why") ∷ help_option ∷ [];
 }
 
+-- `picture PROGRAM SCHEDULE MOMENT FILE [--image IMAGE --medium FILE --harts N]`
+unfoldable pub picture_shape : Shape
+picture_shape = record (new_shape (codes "picture")) {
+  rules = needed_word (codes "PROGRAM") ∷ needed_word (codes "SCHEDULE") ∷ needed_word (codes "MOMENT")
+      ∷ needed_word (codes "FILE") ∷ valued_option (codes "image") ∷ valued_option (codes "medium")
+      ∷ valued_option (codes "harts") ∷ help_option ∷ [];
+}
+
+-- `interleave PROGRAM --seed N [--medium FILE --harts N --steps N --evictions N]`
+unfoldable pub interleave_shape : Shape
+interleave_shape = record (new_shape (codes "interleave")) {
+  rules = needed_word (codes "PROGRAM") ∷ needed_option (codes "seed") ∷ valued_option (codes "medium")
+      ∷ valued_option (codes "harts") ∷ valued_option (codes "steps") ∷ valued_option (codes "evictions") ∷ help_option ∷ [];
+}
+
+-- `show MEDIUM [LINE]`
+unfoldable pub show_shape : Shape
+show_shape = record (new_shape (codes "show")) {
+  rules = needed_word (codes "MEDIUM") ∷ optional_word (codes "LINE") ∷ help_option ∷ [];
+}
+
+-- `listing PROGRAM`
+unfoldable pub listing_shape : Shape
+listing_shape = record (new_shape (codes "listing")) { rules = needed_word (codes "PROGRAM") ∷ help_option ∷ [] }
+
 -- `code [CODE]`
 unfoldable pub code_shape : Shape
 code_shape = record (new_shape (codes "code")) { rules = optional_word (codes "CODE") ∷ help_option ∷ [] }
@@ -141,12 +170,13 @@ is_none (s ∷ shapes) = false
 abbrev pub line : List Shape → App
 line shapes = record { top = record bare { is_leaf = is_none shapes }; subs = shapes }
 
--- the subcommands that make files and run programs, and those that tell of a run, judge it, and tell of what is printed
+-- the subcommands that make files and run programs, and those that tell of a run, judge it, show files, and tell of what is printed
 unfoldable pub making : List Shape
 making = assemble_shape ∷ make_volume_shape ∷ upgrade_shape ∷ run_shape ∷ replay_shape ∷ debug_shape ∷ []
 
 unfoldable pub judging : List Shape
-judging = trace_shape ∷ unpersisted_shape ∷ waste_shape ∷ images_shape ∷ explain_shape ∷ check_shape ∷ code_shape ∷ []
+judging = trace_shape ∷ unpersisted_shape ∷ waste_shape ∷ images_shape ∷ explain_shape ∷ check_shape
+    ∷ picture_shape ∷ interleave_shape ∷ show_shape ∷ listing_shape ∷ code_shape ∷ []
 
 -- the whole line
 unfoldable pub novacrash : App
@@ -157,6 +187,7 @@ abbrev pub rule : Argument → Rule
 rule (Word name about) = needed_word name.now
 rule (Optional name about) = optional_word name.now
 rule (Valued name value about) = valued_option name.now
+rule (Needed name value about) = needed_option name.now
 rule (Flag name about) = flag_option name.now
 
 -- the shape of a subcommand with these arguments alone

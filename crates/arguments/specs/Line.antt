@@ -6,22 +6,26 @@ use Rattle.clap.specs.declared.error.ErrorKind.{ErrorKind}
 use Rattle.clap.specs.declared.error.ErrorKind.TheVariants as kinds
 use Rattle.image_name.specs.Texts.{IsProper}
 use Rattle.arguments.specs.Grammar.{novacrash}
-use Rattle.arguments.specs.Values.{IsCapacity, IsCodeWord, IsHarts, IsImageWord, IsNumberWord, IsOptional, IsSteps, IsWord, IsWorkers, is_set}
+use Rattle.arguments.specs.Values.{IsCapacity, IsCodeWord, IsEvictions, IsHarts, IsImageWord, IsNumberWord, IsOptional, IsOptionalImage, IsOptionalNumber, IsSeed, IsSteps, IsWord, IsWorkers, is_set}
 use Rattle.arguments.specs.declared.asked.AssembleCommand.{AssembleCommand}
 use Rattle.arguments.specs.declared.asked.CheckCommand.{CheckCommand}
 use Rattle.arguments.specs.declared.asked.CodeCommand.{CodeCommand}
 use Rattle.arguments.specs.declared.asked.Command.{Command}
-use Rattle.arguments.specs.declared.asked.Command.TheVariants.{Assemble, Check, Code, Debug, Explain, Images, MakeVolume, Replay, Run, Trace, Unpersisted, Upgrade, Waste}
+use Rattle.arguments.specs.declared.asked.Command.TheVariants.{Assemble, Check, Code, Debug, Explain, Images, Interleave, Listing, MakeVolume, Picture, Replay, Run, Show, Trace, Unpersisted, Upgrade, Waste}
 use Rattle.arguments.specs.declared.asked.DebugCommand.{DebugCommand}
 use Rattle.arguments.specs.declared.asked.ExplainCommand.{ExplainCommand}
 use Rattle.arguments.specs.declared.asked.ImagesCommand.{ImagesCommand}
+use Rattle.arguments.specs.declared.asked.InterleaveCommand.{InterleaveCommand}
 use Rattle.arguments.specs.declared.asked.LineFault.{LineFault}
 use Rattle.arguments.specs.declared.asked.LineFault.TheVariants.{Help, Fault, Memory}
+use Rattle.arguments.specs.declared.asked.ListingCommand.{ListingCommand}
 use Rattle.arguments.specs.declared.asked.MachineOptions.{MachineOptions}
 use Rattle.arguments.specs.declared.asked.MakeVolumeCommand.{MakeVolumeCommand}
+use Rattle.arguments.specs.declared.asked.PictureCommand.{PictureCommand}
 use Rattle.arguments.specs.declared.asked.ReplayCommand.{ReplayCommand}
 use Rattle.arguments.specs.declared.asked.RunCommand.{RunCommand}
 use Rattle.arguments.specs.declared.asked.ScheduledRun.{ScheduledRun}
+use Rattle.arguments.specs.declared.asked.ShowCommand.{ShowCommand}
 use Rattle.arguments.specs.declared.asked.UpgradeCommand.{UpgradeCommand}
 
 -- the machine of a command that has no option of a capacity
@@ -100,6 +104,30 @@ pub record IsCheck (rows : List Row) (command : CheckCommand) : Type 0 where
   pub workers : IsWorkers rows command.workers
   pub why : command.why ≡ is_set (first_of (codes "why") rows)
 
+-- `picture` of this moment of this run, with this image of it or none, into this file
+pub record IsPicture (rows : List Row) (command : PictureCommand) : Type 0 where
+  pub run : IsScheduledRun rows command.run
+  pub moment : IsNumberWord (first_of (codes "MOMENT") rows) command.moment
+  pub image : IsOptionalImage (first_of (codes "image") rows) command.image
+  pub picture : IsWord (codes "FILE") rows command.picture
+
+-- `interleave` of this program from this seed with these options
+pub record IsInterleave (rows : List Row) (command : InterleaveCommand) : Type 0 where
+  pub program : IsWord (codes "PROGRAM") rows command.program
+  pub machine : IsWholeMachine rows command.machine
+  pub seed : IsSeed rows command.seed
+  pub steps : IsSteps rows command.steps
+  pub evictions : IsEvictions rows command.evictions
+
+-- `show` of this medium, and of this line or of none
+pub record IsShow (rows : List Row) (command : ShowCommand) : Type 0 where
+  pub medium : IsWord (codes "MEDIUM") rows command.medium
+  pub line : IsOptionalNumber (first_of (codes "LINE") rows) command.line
+
+-- `listing` of this program
+pub record IsListing (rows : List Row) (command : ListingCommand) : Type 0 where
+  pub program : IsWord (codes "PROGRAM") rows command.program
+
 -- `code` with this code, or with none
 pub record IsCode (rows : List Row) (command : CodeCommand) : Type 0 where
   pub code : IsCodeWord (first_of (codes "CODE") rows) command.meaning
@@ -118,6 +146,10 @@ IsOf name rows (Waste run) = (name ≡ codes "waste") × IsScheduledRun rows run
 IsOf name rows (Images command) = (name ≡ codes "images") × IsImages rows command
 IsOf name rows (Explain command) = (name ≡ codes "explain") × IsExplain rows command
 IsOf name rows (Check command) = (name ≡ codes "check") × IsCheck rows command
+IsOf name rows (Picture command) = (name ≡ codes "picture") × IsPicture rows command
+IsOf name rows (Interleave command) = (name ≡ codes "interleave") × IsInterleave rows command
+IsOf name rows (Show command) = (name ≡ codes "show") × IsShow rows command
+IsOf name rows (Listing command) = (name ≡ codes "listing") × IsListing rows command
 IsOf name rows (Code command) = (name ≡ codes "code") × IsCode rows command
 
 -- the command that the subcommand of a line asks for
@@ -153,6 +185,10 @@ IsWithinLimits (Waste run) = IsMachineWithin run.machine
 IsWithinLimits (Images command) = IsMachineWithin command.run.machine × (command.moment < 2 ^ 32)
 IsWithinLimits (Explain command) = IsMachineWithin command.run.machine × (command.moment < 2 ^ 32) × IsProper command.image
 IsWithinLimits (Check command) = IsMachineWithin command.run.machine × IsWithin 1 8 command.workers
+IsWithinLimits (Picture command) = IsMachineWithin command.run.machine × (command.moment < 2 ^ 32) × IfSome command.image IsProper
+IsWithinLimits (Interleave command) = IsMachineWithin command.machine × IsWithin 1 500000000 command.steps × IsWithin 0 65536 command.evictions
+IsWithinLimits (Show command) = IfSome command.line (λ line. line < 2 ^ 32)
+IsWithinLimits (Listing command) = ⊤
 IsWithinLimits (Code command) = ⊤
 
 -- help comes where the grammar answers with help, and a fault where the line asks for no command

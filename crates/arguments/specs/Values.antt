@@ -1,5 +1,5 @@
 -- What the values found for words and options say: names of files, numbers within their limits, and names of images.
-use Rattle.std.specs.Prelude.{◌≡◌, ◌≢◌, ◌≤◌, ℕ, Bool, false, List, [], ◌∷◌, IfSome, Option, Some, None, String, codes, option_map, string_bytes}
+use Rattle.std.specs.Prelude.{◌≡◌, ◌≢◌, ◌≤◌, ◌<◌, ◌^◌, ℕ, Bool, false, List, [], ◌∷◌, IfSome, Option, Some, None, String, codes, option_map, string_bytes}
 use Rattle.std.specs.declared.alloc.Global.{Global}
 use Rattle.std.specs.Str.{bytes_eq}
 use Rattle.std.specs.Str.Parse.{IsNumeral, digits_value}
@@ -42,14 +42,36 @@ abbrev pub IsNumberWord : Option Text → ℕ → Type 0
 IsNumberWord None n = ⊥
 IsNumberWord (Some text) n = IsDecimal 0 4294967295 text n
 
+-- the number of a word that may be left out: any below 2^32
+abbrev pub IsOptionalNumber : Option Text → Option ℕ → Type 0
+IsOptionalNumber None number = number ≡ None
+IsOptionalNumber (Some text) number = (n : ℕ) × (number ≡ Some n) × IsDecimal 0 4294967295 text n
+
 -- the name of an image, of a word that has to be given
 abbrev pub IsImageWord : Option Text → ImageName → Type 0
 IsImageWord None image = ⊥
 IsImageWord (Some text) image = IsImageName text image
 
+-- the name of an image, the value of an option that may be left out
+abbrev pub IsOptionalImage : Option Text → Option ImageName → Type 0
+IsOptionalImage None image = image ≡ None
+IsOptionalImage (Some text) image = (i : ImageName) × (image ≡ Some i) × IsImageName text i
+
 -- the most steps of a run: 1,000,000 where the line doesn't say
 abbrev pub IsSteps : List Row → ℕ → Type 0
 IsSteps rows steps = IsNumber 1000000 1 500000000 (first_of (codes "steps") rows) steps
+
+-- the seed of an interleaving, which has to be given: any number below 2^64
+abbrev pub IsWideNumber : Option Text → ℕ → Type 0
+IsWideNumber None n = ⊥
+IsWideNumber (Some text) n = IsNumeral 10 text × (n ≡ digits_value 10 text) × (n < 2 ^ 64)
+
+abbrev pub IsSeed : List Row → ℕ → Type 0
+IsSeed rows seed = IsWideNumber (first_of (codes "seed") rows) seed
+
+-- the evictions of an interleaving: none where the line doesn't say
+abbrev pub IsEvictions : List Row → ℕ → Type 0
+IsEvictions rows evictions = IsNumber 0 0 65536 (first_of (codes "evictions") rows) evictions
 
 -- the harts of a machine: 1 where the line doesn't say
 abbrev pub IsHarts : List Row → ℕ → Type 0

@@ -32,6 +32,14 @@ pub enum Command {
     Explain(ExplainCommand),
     /// `check PLAN PROGRAM SCHEDULE [--medium FILE --harts N --workers N --whole --why]`.
     Check(CheckCommand),
+    /// `picture PROGRAM SCHEDULE MOMENT FILE [--image IMAGE --medium FILE --harts N]`.
+    Picture(PictureCommand),
+    /// `interleave PROGRAM --seed N [--medium FILE --harts N --steps N --evictions N]`.
+    Interleave(InterleaveCommand),
+    /// `show MEDIUM [LINE]`.
+    Show(ShowCommand),
+    /// `listing PROGRAM`.
+    Listing(ListingCommand),
     /// `code [CODE]`.
     Code(CodeCommand),
 }
@@ -161,6 +169,50 @@ pub struct CheckCommand {
     pub workers: u32,
     /// Whether a failure is told with the stores that its image lacks and keeps, and a schedule that leaves it.
     pub why: bool,
+}
+
+/// What `picture` is to do.
+#[derive(Drop)]
+pub struct PictureCommand {
+    /// The run, which need not be whole.
+    pub run: ScheduledRun,
+    /// The number of events before the power cut: any number below 2^32.
+    pub moment: u32,
+    /// The crash image whose stores are told, where the line has `--image`. Its lines go strictly upwards.
+    pub image: Option<ImageName>,
+    /// The name of the file that gets the picture.
+    pub picture: String,
+}
+
+/// What `interleave` is to do.
+#[derive(Drop)]
+pub struct InterleaveCommand {
+    /// The name of the program's file.
+    pub program: String,
+    /// The machine, whose capacity is None.
+    pub machine: MachineOptions,
+    /// What the interleaving is drawn from: any number below 2^64.
+    pub seed: u64,
+    /// The most steps of all harts together, from 1 to 500,000,000; 1,000,000 where the line doesn't say.
+    pub steps: u32,
+    /// The number of evictions, at most 65,536; 0 where the line doesn't say.
+    pub evictions: u32,
+}
+
+/// What `show` is to do.
+#[derive(Drop)]
+pub struct ShowCommand {
+    /// The name of the medium's file.
+    pub medium: String,
+    /// The number of the line that is asked for: any number below 2^32; None: the volume is.
+    pub line: Option<u32>,
+}
+
+/// What `listing` is to do.
+#[derive(Drop)]
+pub struct ListingCommand {
+    /// The name of the program's file.
+    pub program: String,
 }
 
 /// What `code` is to do.

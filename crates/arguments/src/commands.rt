@@ -1,9 +1,9 @@
 //! What each subcommand asks for, by the values found for its words and options.
 
-ghost use Rattle.std.specs.Prelude.{◌<◌, ◌^◌, IfOk, IfErr, String, codes};
+ghost use Rattle.std.specs.Prelude.{◌<◌, ◌^◌, IfOk, IfErr, IfSome, String, codes};
 ghost use Rattle.std.specs.declared.alloc.Global.{Global as AGlobal};
 ghost use Rattle.clap.specs.Words.{found_of, rows_of};
-ghost use Rattle.arguments.specs.Line.{IsAssemble, IsCheck, IsCode, IsDebug, IsExplain, IsImages, IsMakeVolume, IsReplay, IsRun, IsScheduledRun, IsUpgrade};
+ghost use Rattle.arguments.specs.Line.{IsAssemble, IsCheck, IsCode, IsDebug, IsExplain, IsImages, IsInterleave, IsListing, IsMakeVolume, IsPicture, IsReplay, IsRun, IsScheduledRun, IsShow, IsUpgrade};
 ghost use Rattle.arguments.specs.Line.{IsCachedMachine, IsMachineWithin, IsWithin, OnFault};
 ghost use Rattle.arguments.specs.Started.{IsStarted};
 ghost use Rattle.arguments.specs.Values.{IsWord};
@@ -17,18 +17,23 @@ ghost use Rattle.arguments.specs.declared.asked.DebugCommand.{DebugCommand as AD
 ghost use Rattle.arguments.specs.declared.asked.ImagesCommand.{ImagesCommand as AImagesCommand};
 ghost use Rattle.arguments.specs.declared.asked.ExplainCommand.{ExplainCommand as AExplainCommand};
 ghost use Rattle.arguments.specs.declared.asked.CheckCommand.{CheckCommand as ACheckCommand};
+ghost use Rattle.arguments.specs.declared.asked.InterleaveCommand.{InterleaveCommand as AnInterleaveCommand};
+ghost use Rattle.arguments.specs.declared.asked.PictureCommand.{PictureCommand as APictureCommand};
+ghost use Rattle.arguments.specs.declared.asked.ShowCommand.{ShowCommand as AShowCommand};
+ghost use Rattle.arguments.specs.declared.asked.ListingCommand.{ListingCommand as AListingCommand};
 ghost use Rattle.arguments.specs.declared.asked.CodeCommand.{CodeCommand as ACodeCommand};
 ghost use Rattle.arguments.specs.declared.asked.MachineOptions.{MachineOptions as AMachine};
 ghost use Rattle.arguments.specs.declared.asked.ScheduledRun.{ScheduledRun as AScheduledRun};
 
 use crate::asked::{
     AssembleCommand, CheckCommand, CodeCommand, DebugCommand, ExplainCommand, ImagesCommand,
-    LineFault, MachineOptions, MakeVolumeCommand, ReplayCommand, RunCommand, ScheduledRun,
-    UpgradeCommand,
+    InterleaveCommand, LineFault, ListingCommand, MachineOptions, MakeVolumeCommand,
+    PictureCommand, ReplayCommand, RunCommand, ScheduledRun, ShowCommand, UpgradeCommand,
 };
 use crate::machine::{cached_machine, whole_machine};
 use crate::values::{
-    NumberOption, code_word, flag, image_word, number, number_word, optional, word,
+    NumberOption, code_word, flag, image_word, number, number_word, optional, optional_image,
+    optional_number_word, seed, word,
 };
 use clap::ArgMatches;
 use std::alloc::Global;
@@ -39,6 +44,14 @@ const STEPS: NumberOption = NumberOption {
     default: 1_000_000,
     low: 1,
     high: 500_000_000,
+};
+
+/// The evictions of `interleave`.
+const EVICTIONS: NumberOption = NumberOption {
+    name: "evictions",
+    default: 0,
+    low: 0,
+    high: 65_536,
 };
 
 /// The workers of `check`.
@@ -226,6 +239,66 @@ pub(crate) fn check(alloc: Global, found: &ArgMatches<'_>) -> Result<CheckComman
         workers: number(alloc, found, &WORKERS)?,
         plan: word(alloc, found, "PLAN")?,
         run: scheduled_run(alloc, found)?,
+    })
+}
+
+/// What `picture` is to do.
+pub(crate) fn picture(alloc: Global, found: &ArgMatches<'_>) -> Result<PictureCommand, LineFault>
+    ensures ok { IfOk result (IsPicture (rows_of (found_of found.now))) }
+    ensures within { IfOk result (λ command. IsMachineWithin command.run.machine
+        × (command.moment < 2 ^ 32) × IfSome command.image IsProper) }
+    ensures err { IfErr result (OnFault ((command : APictureCommand)
+        → ¬ (IsPicture (rows_of (found_of found.now)) command))) }
+{
+    Ok(PictureCommand {
+        moment: number_word(alloc, found, "MOMENT")?,
+        image: optional_image(alloc, found, "image")?,
+        run: scheduled_run(alloc, found)?,
+        picture: word(alloc, found, "FILE")?,
+    })
+}
+
+/// What `interleave` is to do.
+pub(crate) fn interleave(
+    alloc: Global,
+    found: &ArgMatches<'_>,
+) -> Result<InterleaveCommand, LineFault>
+    ensures ok { IfOk result (IsInterleave (rows_of (found_of found.now))) }
+    ensures within { IfOk result (λ command. IsMachineWithin command.machine
+        × IsWithin 1 500000000 command.steps × IsWithin 0 65536 command.evictions) }
+    ensures err { IfErr result (OnFault ((command : AnInterleaveCommand)
+        → ¬ (IsInterleave (rows_of (found_of found.now)) command))) }
+{
+    Ok(InterleaveCommand {
+        seed: seed(alloc, found)?,
+        steps: number(alloc, found, &STEPS)?,
+        evictions: number(alloc, found, &EVICTIONS)?,
+        machine: whole_machine(alloc, found)?,
+        program: word(alloc, found, "PROGRAM")?,
+    })
+}
+
+/// What `show` is to do.
+pub(crate) fn show(alloc: Global, found: &ArgMatches<'_>) -> Result<ShowCommand, LineFault>
+    ensures ok { IfOk result (IsShow (rows_of (found_of found.now))) }
+    ensures within { IfOk result (λ command. IfSome command.line (λ line. line < 2 ^ 32)) }
+    ensures err { IfErr result (OnFault ((command : AShowCommand)
+        → ¬ (IsShow (rows_of (found_of found.now)) command))) }
+{
+    Ok(ShowCommand {
+        line: optional_number_word(alloc, found, "LINE")?,
+        medium: word(alloc, found, "MEDIUM")?,
+    })
+}
+
+/// What `listing` is to do.
+pub(crate) fn listing(alloc: Global, found: &ArgMatches<'_>) -> Result<ListingCommand, LineFault>
+    ensures ok { IfOk result (IsListing (rows_of (found_of found.now))) }
+    ensures err { IfErr result (OnFault ((command : AListingCommand)
+        → ¬ (IsListing (rows_of (found_of found.now)) command))) }
+{
+    Ok(ListingCommand {
+        program: word(alloc, found, "PROGRAM")?,
     })
 }
 

@@ -26,6 +26,12 @@ pub(crate) enum Argument {
         value: &'static str,
         about: &'static str,
     },
+    /// An option that has to be given, with the name of its value.
+    Needed {
+        name: &'static str,
+        value: &'static str,
+        about: &'static str,
+    },
     /// An option without a value, which may be left out.
     Flag {
         name: &'static str,
@@ -114,6 +120,16 @@ const CODE: Argument = Argument::Optional {
     about: "A code as it's printed, as A3, T5 or illegal [default: all codes]",
 };
 
+const SHOWN_MEDIUM: Argument = Argument::Word {
+    name: "MEDIUM",
+    about: "The medium's file",
+};
+
+const LINE: Argument = Argument::Optional {
+    name: "LINE",
+    about: "The number of the line whose bytes are printed, in place of the volume",
+};
+
 const MOMENT: Argument = Argument::Word {
     name: "MOMENT",
     about: "How many events come before the power cut",
@@ -122,6 +138,17 @@ const MOMENT: Argument = Argument::Word {
 const IMAGE: Argument = Argument::Word {
     name: "IMAGE",
     about: "The crash image: its number, or its lines above their floor, as in l1:1,l300:1, or floor",
+};
+
+const PICTURE: Argument = Argument::Word {
+    name: "FILE",
+    about: "The file that gets the picture, an SVG",
+};
+
+const SHOWN_IMAGE: Argument = Argument::Valued {
+    name: "image",
+    value: "IMAGE",
+    about: "The crash image whose stores are told, named as for `explain`",
 };
 
 const MEDIUM: Argument = Argument::Valued {
@@ -146,6 +173,24 @@ const STEPS: Argument = Argument::Valued {
     name: "steps",
     value: "N",
     about: "The most steps of each hart, from 1 to 500000000 [default: 1000000]",
+};
+
+const SEED: Argument = Argument::Needed {
+    name: "seed",
+    value: "N",
+    about: "What the interleaving is drawn from: a decimal number below 18446744073709551616",
+};
+
+const ALL_STEPS: Argument = Argument::Valued {
+    name: "steps",
+    value: "N",
+    about: "The most steps of all harts together, from 1 to 500000000 [default: 1000000]",
+};
+
+const EVICTIONS: Argument = Argument::Valued {
+    name: "evictions",
+    value: "N",
+    about: "The number of evictions, from 0 to 65536 [default: 0]",
 };
 
 const WORKERS: Argument = Argument::Valued {
@@ -219,9 +264,9 @@ static MAKING: [Subcommand; 6] = [
     },
 ];
 
-/// The subcommands that tell of a run and judge it, and of what the program prints, in the order in which help tells them, behind the
-/// others.
-static JUDGING: [Subcommand; 7] = [
+/// The subcommands that tell of a run and judge it, that draw a run, that show files, and that tell of what the program prints, in the order in which help
+/// tells them, behind the others.
+static JUDGING: [Subcommand; 11] = [
     Subcommand {
         name: "trace",
         about: "Print the events of a run by a schedule, each with its step, pc and source line",
@@ -264,6 +309,40 @@ static JUDGING: [Subcommand; 7] = [
         ),
     },
     Subcommand {
+        name: "picture",
+        about: "Draw a run up to a moment: its stores, cleans and fences, and what a power cut may lose",
+        arguments: &[
+            PROGRAM,
+            SCHEDULE,
+            MOMENT,
+            PICTURE,
+            SHOWN_IMAGE,
+            MEDIUM,
+            HARTS,
+        ],
+        ending: ending!(
+            "picture append.s append.schedule 6 append.svg --image 4 --medium fresh.medium"
+        ),
+    },
+    Subcommand {
+        name: "interleave",
+        about: "Print a schedule of a whole run, drawn from a seed",
+        arguments: &[PROGRAM, SEED, MEDIUM, HARTS, ALL_STEPS, EVICTIONS],
+        ending: ending!("interleave append2.s --seed 1 --harts 2 --medium fresh.medium"),
+    },
+    Subcommand {
+        name: "show",
+        about: "Print the volume that recovery finds on a medium, or the bytes of one of its lines",
+        arguments: &[SHOWN_MEDIUM, LINE],
+        ending: ending!("show left.medium"),
+    },
+    Subcommand {
+        name: "listing",
+        about: "Print the words of a program, each with its instruction and its source line",
+        arguments: &[PROGRAM],
+        ending: ending!("listing append.s"),
+    },
+    Subcommand {
         name: "code",
         about: "Say what a code means that the program prints, and what to do",
         arguments: &[CODE],
@@ -283,6 +362,11 @@ impl Argument {
             Argument::Valued { name, value, about } => Arg::new(alloc, name)
                 .long(name)
                 .value_name(value)
+                .help(about),
+            Argument::Needed { name, value, about } => Arg::new(alloc, name)
+                .long(name)
+                .value_name(value)
+                .required(true)
                 .help(about),
             Argument::Flag { name, about } => Arg::new(alloc, name)
                 .long(name)

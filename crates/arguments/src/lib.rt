@@ -10,7 +10,7 @@ mod values;
 
 pub use asked::{
     AssembleCommand, CheckCommand, CodeCommand, Command, DebugCommand, ExplainCommand,
-    ImagesCommand, LineFault, MachineOptions, MakeVolumeCommand, ReplayCommand, RunCommand,
-    ScheduledRun, UpgradeCommand,
+    ImagesCommand, InterleaveCommand, LineFault, ListingCommand, MachineOptions, MakeVolumeCommand,
+    PictureCommand, ReplayCommand, RunCommand, ScheduledRun, ShowCommand, UpgradeCommand,
 };
 pub use line::command;

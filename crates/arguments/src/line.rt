@@ -8,7 +8,8 @@ ghost use Rattle.arguments.specs.declared.asked.Command.{Command as ACommand};
 
 use crate::asked::{Command, LineFault};
 use crate::commands::{
-    assemble, check, code, debug, explain, images, make_volume, replay, run, scheduled_run, upgrade,
+    assemble, check, code, debug, explain, images, interleave, listing, make_volume, picture,
+    replay, run, scheduled_run, show, upgrade,
 };
 use crate::grammar::grammar;
 use clap::ArgMatches;
@@ -81,6 +82,10 @@ fn asked(alloc: Global, name: &str, found: &ArgMatches<'_>) -> Result<Command, L
         "images" => Command::Images(images(alloc, found)?),
         "explain" => Command::Explain(explain(alloc, found)?),
         "check" => Command::Check(check(alloc, found)?),
+        "picture" => Command::Picture(picture(alloc, found)?),
+        "interleave" => Command::Interleave(interleave(alloc, found)?),
+        "show" => Command::Show(show(alloc, found)?),
+        "listing" => Command::Listing(listing(alloc, found)?),
         "code" => Command::Code(code(alloc, found)?),
         _ => return Err(unknown(alloc)?),
     })
@@ -90,7 +95,7 @@ fn asked(alloc: Global, name: &str, found: &ArgMatches<'_>) -> Result<Command, L
 ///
 /// # Errors
 /// Help where the line asks for it, Memory where memory is refused, and else Fault where the line
-/// isn't one of these, with FILE any word that isn't empty and doesn't begin with `-`, PAGES, LINES and MOMENT
+/// isn't one of these, with FILE any word that isn't empty and doesn't begin with `-`, PAGES, LINES, LINE and MOMENT
 /// below 2^32 and each N within the limits that `Command` has for it, in decimal digits all, IMAGE a
 /// text that `ImageName::read` takes as a name, CODE one of `code_table`'s, and OBJECT another word than SOURCE:
 ///
@@ -106,6 +111,10 @@ fn asked(alloc: Global, name: &str, found: &ArgMatches<'_>) -> Result<Command, L
 /// - `images PROGRAM SCHEDULE MOMENT [--medium FILE --harts N --whole]`
 /// - `explain PROGRAM SCHEDULE MOMENT IMAGE [--medium FILE --harts N --whole]`
 /// - `check PLAN PROGRAM SCHEDULE [--medium FILE --harts N --workers N --whole --why]`
+/// - `picture PROGRAM SCHEDULE MOMENT FILE [--image IMAGE --medium FILE --harts N]`
+/// - `interleave PROGRAM --seed N [--medium FILE --harts N --steps N --evictions N]`
+/// - `show MEDIUM [LINE]`
+/// - `listing PROGRAM`
 /// - `code [CODE]`
 #[tactic(auto, using(crate::proofs::Lines::has_none))]
 pub fn command(alloc: Global, words: &[String]) -> Result<Command, LineFault>

@@ -1,10 +1,11 @@
 //! The values that clap found for a subcommand's words and options.
 
-ghost use Rattle.std.specs.Prelude.{◌≡◌, ◌≤◌, ℕ, IfOk, IfErr, MatchOption, Option, String as AString};
+ghost use Rattle.std.specs.Prelude.{◌≡◌, ◌≤◌, ◌<◌, ◌^◌, ℕ, IfOk, IfSome, SomeIff, IfErr, MatchOption, Option, String as AString};
 ghost use Rattle.std.specs.declared.alloc.Global.{Global as AGlobal};
+ghost use Rattle.std.specs.Str.Parse.{IsNumeral, digits_value};
 ghost use Rattle.clap.specs.Words.{first_of, found_of, rows_of};
 ghost use Rattle.arguments.specs.Line.{OnFault};
-ghost use Rattle.arguments.specs.Values.{IsCodeWord, IsImageWord, IsNumber, IsNumberWord, IsOptional, IsWord, is_set};
+ghost use Rattle.arguments.specs.Values.{IsCodeWord, IsImageWord, IsNumber, IsNumberWord, IsOptional, IsOptionalImage, IsOptionalNumber, IsSeed, IsWord, is_set};
 ghost use Rattle.code_table.specs.declared.table.Meaning.{Meaning as AMeaning};
 ghost use Rattle.image_name.specs.Texts.{IsProper};
 ghost use Rattle.image_name.specs.declared.name.ImageName.{ImageName as AnImageName};
@@ -87,6 +88,56 @@ pub(crate) fn number_word(
     }
 }
 
+/// The number, below 2^32, of a word that may be left out.
+pub(crate) fn optional_number_word(
+    alloc: Global,
+    found: &ArgMatches<'_>,
+    name: &str,
+) -> Result<Option<u32>, LineFault>
+    ensures ok { IfOk result (IsOptionalNumber (first_of name.now (rows_of (found_of found.now)))) }
+    ensures err { IfErr result (OnFault ((number : Option ℕ)
+        → ¬ (IsOptionalNumber (first_of name.now (rows_of (found_of found.now))) number))) }
+{
+    let Some(text) = value(found, name) else {
+        return Ok(None);
+    };
+    match decimal(text.as_bytes()) {
+        Some(number) => Ok(Some(number)),
+        None => Err(LineFault::Fault(format!(in alloc;
+            "error: {name} is a decimal number below 4294967296\n"
+        )?)),
+    }
+}
+
+/// The number, below 2^64, that the value of `--seed` writes, which has to be given.
+pub(crate) fn seed(alloc: Global, found: &ArgMatches<'_>) -> Result<u64, LineFault>
+    ensures ok { IfOk result (IsSeed (rows_of (found_of found.now))) }
+    ensures err { IfErr result (OnFault ((n : ℕ) → ¬ (IsSeed (rows_of (found_of found.now)) n))) }
+{
+    let Some(text) = value(found, "seed") else {
+        return Err(LineFault::Fault(format!(in alloc; "error: --seed is missing\n")?));
+    };
+    match wide_decimal(text) {
+        Some(number) => Ok(number),
+        None => Err(LineFault::Fault(format!(in alloc;
+            "error: --seed takes a decimal number below 18446744073709551616\n"
+        )?)),
+    }
+}
+
+/// The number that decimal digits write, where it is below 2^64: one digit or more, leading zeros among them, and nothing else.
+#[tactic(auto, using(crate::proofs::Seeds::signed_is_none, crate::proofs::Seeds::parsed))]
+fn wide_decimal(text: &str) -> Option<u64>
+    ensures { SomeIff result (IsNumeral 10 text.now × (digits_value 10 text.now < 2 ^ 64))
+        (digits_value 10 text.now) }
+{
+    match text.as_bytes() {
+        // std's reader of numbers takes a sign.
+        [b'+', ..] => None,
+        _ => text.parse().ok(),
+    }
+}
+
 /// The image that a word which a command needs names.
 pub(crate) fn image_word(
     alloc: Global,
@@ -104,6 +155,28 @@ pub(crate) fn image_word(
         Some(image) => Ok(image),
         None => Err(LineFault::Fault(format!(in alloc;
             "error: {name} is a decimal number below 4294967296, or lines as in l1:1,l300:1, or floor\n"
+        )?)),
+    }
+}
+
+/// The image that the value of an option names, which may be left out.
+pub(crate) fn optional_image(
+    alloc: Global,
+    found: &ArgMatches<'_>,
+    name: &str,
+) -> Result<Option<ImageName>, LineFault>
+    ensures ok { IfOk result (IsOptionalImage (first_of name.now (rows_of (found_of found.now)))) }
+    ensures proper { IfOk result (λ image. IfSome image IsProper) }
+    ensures err { IfErr result (OnFault ((image : Option AnImageName)
+        → ¬ (IsOptionalImage (first_of name.now (rows_of (found_of found.now))) image))) }
+{
+    let Some(text) = value(found, name) else {
+        return Ok(None);
+    };
+    match ImageName::read(alloc, text)? {
+        Some(image) => Ok(Some(image)),
+        None => Err(LineFault::Fault(format!(in alloc;
+            "error: --{name} takes a decimal number below 4294967296, or lines as in l1:1,l300:1, or floor\n"
         )?)),
     }
 }

@@ -1,6 +1,9 @@
 //! Lines that are read, and lines that are refused, for each rule of the command line.
 
-use arguments::{CodeCommand, Command, LineFault, MachineOptions, ScheduledRun, command};
+use arguments::{
+    CodeCommand, Command, InterleaveCommand, LineFault, MachineOptions, PictureCommand,
+    ScheduledRun, ShowCommand, command,
+};
 use std::alloc::{AllocError, Global};
 use std::test::Fail;
 
@@ -103,6 +106,37 @@ fn code_of(command: &CodeCommand) -> &str {
     }
 }
 
+/// A picture: its run, its moment, the image, and its file.
+fn picture_of(alloc: Global, picture: &PictureCommand) -> Result<String, AllocError> {
+    let run = scheduled_of(alloc, &picture.run)?;
+    let (moment, file) = (picture.moment, picture.picture.as_str());
+    match &picture.image {
+        Some(image) => format!(in alloc; "picture {run} / {moment} {image} {file}"),
+        None => format!(in alloc; "picture {run} / {moment} - {file}"),
+    }
+}
+
+/// The program of an interleaving, its machine, and the numbers that it is drawn by.
+fn interleave_of(alloc: Global, interleave: &InterleaveCommand) -> Result<String, AllocError> {
+    let InterleaveCommand {
+        program,
+        machine,
+        seed,
+        steps,
+        evictions,
+    } = interleave;
+    let machine = machine_of(alloc, machine)?;
+    format!(in alloc; "interleave {program} / {machine} / {seed} {steps} {evictions}")
+}
+
+/// A medium and the line of it that is shown, or that its volume is.
+fn show_of(alloc: Global, show: &ShowCommand) -> Result<String, AllocError> {
+    match show.line {
+        Some(line) => format!(in alloc; "show {} {line}", show.medium),
+        None => format!(in alloc; "show {} volume", show.medium),
+    }
+}
+
 /// A command: its name, its words and its options.
 fn shown(alloc: Global, command: &Command) -> Result<String, AllocError> {
     match command {
@@ -115,6 +149,10 @@ fn shown(alloc: Global, command: &Command) -> Result<String, AllocError> {
             "upgrade {} {} {} {}",
             upgrade.medium, upgrade.pages, upgrade.lines, upgrade.upgraded
         ),
+        Command::Picture(picture) => picture_of(alloc, picture),
+        Command::Interleave(interleave) => interleave_of(alloc, interleave),
+        Command::Show(show) => show_of(alloc, show),
+        Command::Listing(listing) => format!(in alloc; "listing {}", listing.program),
         Command::Code(code) => format!(in alloc; "code {}", code_of(code)),
         _ => images_of(alloc, command),
     }
@@ -163,6 +201,17 @@ fn defaults_stand_where_options_are_left_out(rt: HostRuntime) -> Result<(), Fail
         ("novacrash asm a.s a.o", "asm a.s a.o"),
         ("novacrash mkfs p 512 m", "mkfs p 512 m"),
         ("novacrash upgrade o 1 512 n", "upgrade o 1 512 n"),
+        (
+            "novacrash picture a.s s 7 o",
+            "picture a.s s / - 1 whole any / 7 - o",
+        ),
+        (
+            "novacrash interleave a.s --seed 1",
+            "interleave a.s / - 1 whole / 1 1000000 0",
+        ),
+        ("novacrash show m", "show m volume"),
+        ("novacrash show m 7", "show m 7"),
+        ("novacrash listing a.s", "listing a.s"),
         ("novacrash code", "code all"),
         ("novacrash code A3", "code A3"),
         ("novacrash code illegal", "code illegal"),
@@ -202,7 +251,15 @@ fn defaults_stand_where_options_are_left_out(rt: HostRuntime) -> Result<(), Fail
 }
 
 /// Lines with options, before and after the words, and what they are read as.
-const WITH_OPTIONS: [(&str, &str); 23] = [
+const WITH_OPTIONS: [(&str, &str); 25] = [
+    (
+        "novacrash picture a.s --image l1:1 s 7 --medium m o --harts 2",
+        "picture a.s s / m 2 whole any / 7 l1:1 o",
+    ),
+    (
+        "novacrash interleave --evictions=5 --steps 7 a.s --seed 2 --harts 3 --medium m",
+        "interleave a.s / m 3 whole / 2 7 5",
+    ),
     (
         "novacrash trace --whole a.s s --harts 2 --medium m",
         "trace a.s s / m 2 whole must-be-whole",
@@ -302,7 +359,15 @@ fn options_are_read(rt: HostRuntime) -> Result<(), Fail> {
 }
 
 /// Lines whose numbers are at their limits, and what they are read as.
-const AT_LIMITS: [(&str, &str); 17] = [
+const AT_LIMITS: [(&str, &str); 20] = [
+    (
+        "novacrash interleave a --seed 18446744073709551615 --steps 500000000 --evictions 65536",
+        "interleave a / - 1 whole / 18446744073709551615 500000000 65536",
+    ),
+    (
+        "novacrash interleave a --seed 000 --steps 1 --evictions 00",
+        "interleave a / - 1 whole / 0 1 0",
+    ),
     (
         "novacrash run a --harts 8 --capacity 16384",
         "run a / - 8 16384 / 1000000 - -",
@@ -341,6 +406,7 @@ const AT_LIMITS: [(&str, &str); 17] = [
     ),
     ("novacrash mkfs p 4294967295 m", "mkfs p 4294967295 m"),
     ("novacrash images a s 0", "images a s / - 1 whole any / 0"),
+    ("novacrash show m 004294967295", "show m 4294967295"),
     (
         "novacrash images a s 0004294967295",
         "images a s / - 1 whole any / 4294967295",
@@ -396,6 +462,17 @@ fn other_numbers_are_faults(rt: HostRuntime) -> Result<(), Fail> {
         "novacrash upgrade o 1 4294967296 n",
         "novacrash upgrade o +1 512 n",
         "novacrash upgrade o 1 0x200 n",
+        "novacrash interleave a --seed 18446744073709551616",
+        "novacrash interleave a --seed +1",
+        "novacrash interleave a --seed=-1",
+        "novacrash interleave a --seed=",
+        "novacrash interleave a --seed one",
+        "novacrash interleave a --seed 1 --steps 0",
+        "novacrash interleave a --seed 1 --steps 500000001",
+        "novacrash interleave a --seed 1 --evictions 65537",
+        "novacrash interleave a --seed 1 --harts 9",
+        "novacrash show m 4294967296",
+        "novacrash show m 0x10",
         "novacrash images a s 4294967296",
         "novacrash images a s +1",
         "novacrash images a s 0x1",
@@ -420,6 +497,15 @@ fn missing_and_further_words_are_faults(rt: HostRuntime) -> Result<(), Fail> {
         "novacrash mkfs p 512 m n",
         "novacrash upgrade o 1 512",
         "novacrash upgrade o 1 512 n m",
+        "novacrash picture a.s s 7",
+        "novacrash picture a.s s 7 o p",
+        "novacrash interleave a.s",
+        "novacrash interleave --seed 1",
+        "novacrash interleave a.s s --seed 1",
+        "novacrash show",
+        "novacrash show m 1 2",
+        "novacrash listing",
+        "novacrash listing a.s s",
         "novacrash code A3 A4",
         "novacrash code A11",
         "novacrash code a3",
@@ -489,6 +575,15 @@ fn options_out_of_place_are_faults(rt: HostRuntime) -> Result<(), Fail> {
         "novacrash asm a.s a.o --harts 1",
         "novacrash mkfs p 512 m --medium m",
         "novacrash upgrade o 1 512 n --harts 1",
+        "novacrash picture a.s s 7 o --whole",
+        "novacrash picture a.s s 7 o --image x",
+        "novacrash picture a.s s 7 o --image 0 --image 0",
+        "novacrash interleave a.s --seed 1 --seed 1",
+        "novacrash interleave a.s --seed",
+        "novacrash interleave a.s --seed 1 --capacity 2",
+        "novacrash run a.s --seed 1",
+        "novacrash show m --harts 1",
+        "novacrash listing a.s --medium m",
         "novacrash code A3 --harts 1",
         "novacrash replay a.s s --steps 5",
         "novacrash replay a.s s --record r",

@@ -15,7 +15,7 @@ fn text_of(alloc: Global, line: &str) -> Result<Option<String>, AllocError> {
 }
 
 /// Lines at fault, and what is told of them.
-const FAULTS: [(&str, &str); 19] = [
+const FAULTS: [(&str, &str); 23] = [
     (
         "novacrash run a.s --steps 0",
         "error: --steps takes a decimal number from 1 to 500000000\n",
@@ -59,6 +59,25 @@ const FAULTS: [(&str, &str); 19] = [
     (
         "novacrash explain a.s s 0 x",
         "error: IMAGE is a decimal number below 4294967296, or lines as in l1:1,l300:1, or floor\n",
+    ),
+    (
+        "novacrash picture a.s s 7 o --image x",
+        "error: --image takes a decimal number below 4294967296, or lines as in l1:1,l300:1, or floor\n",
+    ),
+    (
+        "novacrash interleave a.s --seed x",
+        "error: --seed takes a decimal number below 18446744073709551616\n",
+    ),
+    (
+        "novacrash interleave a.s",
+        "error: the following required arguments were not provided:\n  \
+         --seed <N>\n\n\
+         Usage: novacrash interleave --seed <N> <PROGRAM>\n\n\
+         For more information, try '--help'.\n",
+    ),
+    (
+        "novacrash show m x",
+        "error: LINE is a decimal number below 4294967296\n",
     ),
     (
         "novacrash asm a.s a.s",
@@ -117,7 +136,7 @@ fn faults_are_told(rt: HostRuntime) -> Result<(), Fail> {
 }
 
 /// Whole lines of each command, and its usage.
-const USAGES: [(&str, &str); 13] = [
+const USAGES: [(&str, &str); 17] = [
     ("asm a.s a.o", "asm <SOURCE> <OBJECT>"),
     ("mkfs p 512 m", "mkfs <PLAN> <LINES> <MEDIUM>"),
     ("upgrade o 1 512 n", "upgrade <OLD> <PAGES> <LINES> <NEW>"),
@@ -142,6 +161,16 @@ const USAGES: [(&str, &str); 13] = [
         "check p a.s s",
         "check [OPTIONS] <PLAN> <PROGRAM> <SCHEDULE>",
     ),
+    (
+        "picture a.s s 1 o",
+        "picture [OPTIONS] <PROGRAM> <SCHEDULE> <MOMENT> <FILE>",
+    ),
+    (
+        "interleave a.s --seed 1",
+        "interleave [OPTIONS] --seed <N> <PROGRAM>",
+    ),
+    ("show m 1", "show <MEDIUM> [LINE]"),
+    ("listing a.s", "listing <PROGRAM>"),
     ("code A3", "code [CODE]"),
 ];
 
@@ -167,7 +196,7 @@ Formats and codes: docs/FORMATS.md; `novacrash code CODE` says what a code means
 ";
 
 /// The help of each command, before that.
-const HELPS: [(&str, &str); 13] = [
+const HELPS: [(&str, &str); 17] = [
     (
         "asm",
         "\
@@ -415,6 +444,82 @@ Example: novacrash check append.plan append.s append.schedule --medium fresh.med
 ",
     ),
     (
+        "picture",
+        "\
+Draw a run up to a moment: its stores, cleans and fences, and what a power cut may lose
+
+Usage: novacrash picture [OPTIONS] <PROGRAM> <SCHEDULE> <MOMENT> <FILE>
+
+Arguments:
+  <PROGRAM>   The program's file: an object or a source
+  <SCHEDULE>  The schedule's file
+  <MOMENT>    How many events come before the power cut
+  <FILE>      The file that gets the picture, an SVG
+
+Options:
+      --image <IMAGE>  The crash image whose stores are told, named as for `explain`
+      --medium <FILE>  The medium's file [default: 512 lines of zeros]
+      --harts <N>      The number of harts, from 1 to 8 [default: 1]
+      --help           Print help
+
+Example: novacrash picture append.s append.schedule 6 append.svg --image 4 --medium fresh.medium
+",
+    ),
+    (
+        "interleave",
+        "\
+Print a schedule of a whole run, drawn from a seed
+
+Usage: novacrash interleave [OPTIONS] --seed <N> <PROGRAM>
+
+Arguments:
+  <PROGRAM>  The program's file: an object or a source
+
+Options:
+      --seed <N>       What the interleaving is drawn from: a decimal number below 18446744073709551616
+      --medium <FILE>  The medium's file [default: 512 lines of zeros]
+      --harts <N>      The number of harts, from 1 to 8 [default: 1]
+      --steps <N>      The most steps of all harts together, from 1 to 500000000 [default: 1000000]
+      --evictions <N>  The number of evictions, from 0 to 65536 [default: 0]
+      --help           Print help
+
+Example: novacrash interleave append2.s --seed 1 --harts 2 --medium fresh.medium
+",
+    ),
+    (
+        "show",
+        "\
+Print the volume that recovery finds on a medium, or the bytes of one of its lines
+
+Usage: novacrash show <MEDIUM> [LINE]
+
+Arguments:
+  <MEDIUM>  The medium's file
+  [LINE]    The number of the line whose bytes are printed, in place of the volume
+
+Options:
+      --help  Print help
+
+Example: novacrash show left.medium
+",
+    ),
+    (
+        "listing",
+        "\
+Print the words of a program, each with its instruction and its source line
+
+Usage: novacrash listing <PROGRAM>
+
+Arguments:
+  <PROGRAM>  The program's file: an object or a source
+
+Options:
+      --help  Print help
+
+Example: novacrash listing append.s
+",
+    ),
+    (
         "code",
         "\
 Say what a code means that the program prints, and what to do
@@ -462,6 +567,10 @@ Commands:
   images       Count the crash images of a moment of a run by a schedule
   explain      Print a schedule that leaves a crash image of a moment of a run
   check        Judge every crash image of a run by a schedule
+  picture      Draw a run up to a moment: its stores, cleans and fences, and what a power cut may lose
+  interleave   Print a schedule of a whole run, drawn from a seed
+  show         Print the volume that recovery finds on a medium, or the bytes of one of its lines
+  listing      Print the words of a program, each with its instruction and its source line
   code         Say what a code means that the program prints, and what to do
 
 Options:

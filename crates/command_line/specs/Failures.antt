@@ -6,6 +6,8 @@ use Rattle.asm_line.specs.declared.fault.AsmCode.TheVariants as asm
 use Rattle.assemble.specs.declared.fault.AsmFault.{AsmFault}
 use Rattle.debugger.specs.declared.fault.DebugFault.{DebugFault}
 use Rattle.debugger.specs.declared.fault.DebugFault.TheVariants as sessions
+use Rattle.interleaving.specs.declared.fault.InterleaveFault.{InterleaveFault}
+use Rattle.interleaving.specs.declared.fault.InterleaveFault.TheVariants as drawing
 use Rattle.line_memory.specs.declared.MediumFault.{MediumFault}
 use Rattle.line_memory.specs.declared.MediumFault.TheVariants as media
 use Rattle.nova_log.specs.declared.fault.VolumeFault.{VolumeFault}
@@ -112,6 +114,11 @@ failure_of_volume fault = Refused (Volume fault)
 abbrev pub failure_of_step : StepFault → Failure
 failure_of_step steps.Memory = Memory
 failure_of_step fault = Refused (Step fault)
+
+-- for an interleaving that wasn't drawn
+abbrev pub failure_of_drawing : InterleaveFault → Failure
+failure_of_drawing drawing.TraceFull = Refused (Step steps.TraceFull)
+failure_of_drawing drawing.Memory = Memory
 
 -- for harts that haven't run together
 abbrev pub failure_of_together : TogetherFault → Failure

@@ -1,10 +1,10 @@
 -- What a line of the program comes to: an answer or a failure, and how it is delivered.
-use Rattle.std.specs.Prelude.{◌≡◌, ◌⊎◌, ℕ, List, Option, Result, Ok, Err, IfErr, OnOk, string_bytes}
+use Rattle.std.specs.Prelude.{◌≡◌, ◌⊎◌, ℕ, List, Option, Result, Ok, Err, IfErr, MatchResult, OnOk, string_bytes}
 use Rattle.std.specs.Io.KnownBytes.{Appends}
 use Rattle.std.specs.Result.{result_map_both}
 use Rattle.arguments.specs.Line.{IsCommand, Refuses}
 use Rattle.arguments.specs.declared.asked.Command.{Command}
-use Rattle.arguments.specs.declared.asked.Command.TheVariants.{Assemble, Check, Code, Debug, Explain, Images, MakeVolume, Replay, Run, Trace, Unpersisted, Upgrade, Waste}
+use Rattle.arguments.specs.declared.asked.Command.TheVariants.{Assemble, Check, Code, Debug, Explain, Images, Interleave, Listing, MakeVolume, Picture, Replay, Run, Show, Trace, Unpersisted, Upgrade, Waste}
 use Rattle.arguments.specs.declared.asked.LineFault.{LineFault}
 use Rattle.arguments.specs.declared.asked.LineFault.TheVariants as line_faults
 use Rattle.session.specs.Failing.{AppendsFront}
@@ -12,12 +12,16 @@ use Rattle.command_line.specs.Assembling.{AssemblesFile}
 use Rattle.command_line.specs.Checking.{ChecksFile}
 use Rattle.command_line.specs.Coding.{code_text}
 use Rattle.command_line.specs.Debugging.{HoldsSession, OpensFile}
+use Rattle.command_line.specs.Drawing.{InterleavesFile}
 use Rattle.command_line.specs.Explaining.{ExplainsFile}
 use Rattle.command_line.specs.Failures.{failure_status, failure_text}
 use Rattle.command_line.specs.Imaging.{CountsFile}
+use Rattle.command_line.specs.Listing.{ListsFile}
 use Rattle.command_line.specs.Making.{MakesFile}
 use Rattle.command_line.specs.Persisting.{UnpersistedFile}
+use Rattle.command_line.specs.Picturing.{PicturesFile}
 use Rattle.command_line.specs.Running.{ReplaysFile, RunsFile}
+use Rattle.command_line.specs.Showing.{ShowsFile}
 use Rattle.command_line.specs.Steps.{Prints, Reads, Step, Still, Writes}
 use Rattle.command_line.specs.Tracing.{TracesFile}
 use Rattle.command_line.specs.Wasting.{WasteFile}
@@ -48,11 +52,22 @@ CarriesOut reads writes (Waste command) = LeadsTo (WasteFile reads command) acti
 CarriesOut reads writes (Images command) = LeadsTo (CountsFile reads command) actions.Print
 CarriesOut reads writes (Explain command) = LeadsTo (ExplainsFile reads command) actions.Print
 CarriesOut reads writes (Check command) = LeadsTo (ChecksFile reads command) actions.Print
+CarriesOut reads writes (Picture command) = LeadsTo (PicturesFile reads writes command) actions.Print
+CarriesOut reads writes (Interleave command) = LeadsTo (InterleavesFile reads command) actions.Print
+CarriesOut reads writes (Show command) = LeadsTo (ShowsFile reads command) actions.Print
+CarriesOut reads writes (Listing command) = LeadsTo (ListsFile reads command) actions.Print
 CarriesOut reads writes (Code command) = LeadsTo (Still (Prints (code_text command.meaning) 0)) actions.Print
+
+-- the text is to be printed with status 0
+pub record ShowsHelp (text : List ℕ) (action : Action) : Type 0 where
+  pub answer : Answer
+  pub prints : action ≡ actions.Print answer
+  pub text_is : answer.text.items ≡ text
+  pub done : answer.status ≡ 0
 
 -- what a line comes to that asks for no command
 abbrev pub AnswersFault : LineFault → Result Action Failure → Type 0
-AnswersFault (line_faults.Help text) outcome = outcome ≡ Ok (actions.Print (record { text = text; status = 0 }))
+AnswersFault (line_faults.Help text) outcome = MatchResult outcome (ShowsHelp (string_bytes text)) (λ failure. ⊥)
 AnswersFault (line_faults.Fault text) outcome = outcome ≡ Err (Line text)
 AnswersFault line_faults.Memory outcome = outcome ≡ Err Memory
 
@@ -76,8 +91,8 @@ ComesTo reads writes words old new outcome = ((command : Command) × IsCarriedOu
 -- front of the answer.
 -- `contents` is what is known of the bytes that a writer holds
 abbrev pub IsPrinted : {W : Type 0} → (W → Option (List ℕ)) → W → W → Answer → Result ℕ Failure → Type 0
-IsPrinted contents old new answer (Ok status) = (status ≡ answer.status) × Appends (contents old) (contents new) (string_bytes answer.text)
-IsPrinted contents old new answer (Err failure) = (failure ≡ File) × AppendsFront (contents old) (contents new) (string_bytes answer.text)
+IsPrinted contents old new answer (Ok status) = (status ≡ answer.status) × Appends (contents old) (contents new) answer.text.items
+IsPrinted contents old new answer (Err failure) = (failure ≡ File) × AppendsFront (contents old) (contents new) answer.text.items
 
 -- what is done on standard input and standard output, a pair: an answer is printed, or a session is held; nothing else
 -- reads standard input, and a failure of a command leaves both as they are. `remaining` is what is known of the bytes that a

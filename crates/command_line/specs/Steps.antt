@@ -55,4 +55,4 @@ pub record Tells {X : Type 0} (is_fault : X → Type 0) (failure_of : X → Fail
 
 -- this text is to be printed, with this status; memory for it may be refused
 pub record Prints (text : List ℕ) (status : ℕ) (outcome : Result Answer Failure) : Type 0 where
-  pub answer : MatchResult outcome (λ answer. (string_bytes answer.text ≡ text) × (answer.status ≡ status)) (λ failure. failure ≡ Memory)
+  pub answer : MatchResult outcome (λ answer. (answer.text.items ≡ text) × (answer.status ≡ status)) (λ failure. failure ≡ Memory)

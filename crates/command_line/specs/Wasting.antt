@@ -23,7 +23,7 @@ pub record FindsNeedless (s : Setup) (schedule : List Item) (outcome : Result Ne
 
 -- what is to be printed of events with their reasons, with status 0; memory for it may be refused
 pub record PrintsWaste (lines : ℕ → Option ℕ) (all : List Judged) (outcome : Result Answer Failure) : Type 0 where
-  pub answer : MatchResult outcome (λ answer. IsWasteText lines all (string_bytes answer.text) × (answer.status ≡ 0)) (λ failure. failure ≡ Memory)
+  pub answer : MatchResult outcome (λ answer. IsWasteText lines all answer.text.items × (answer.status ≡ 0)) (λ failure. failure ≡ Memory)
 
 abbrev pub WasteFile : {F : Type 0} → Reads F → ScheduledRun → Step F Answer
 WasteFile reads command =

@@ -1,12 +1,27 @@
 //! What a command comes to.
 
+ghost use Rattle.std.specs.Prelude.{◌≡◌, string_bytes};
+
 use machine::Machine;
 
 /// What a command prints on standard output, of whole lines, and the status that the program then ends with.
 #[derive(Drop)]
 pub struct Answer {
-    pub text: String,
+    pub text: Vec<u8>,
     pub status: u8,
+}
+
+impl Answer {
+    /// The answer of a text.
+    pub(crate) fn of(text: String, status: u8) -> Answer
+        ensures text { result.text.items ≡ string_bytes text }
+        ensures status { result.status ≡ status }
+    {
+        Answer {
+            text: text.into_bytes(),
+            status,
+        }
+    }
 }
 
 /// What is left to be done on the standard streams once a command has read and written its files.

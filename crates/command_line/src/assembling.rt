@@ -52,5 +52,5 @@ fn sizes(alloc: Global, object: &Object) -> Result<Answer, Failure>
     let text = object.text_bytes().len();
     let data = object.data_bytes().len();
     let text = format!(in alloc; "text {text} data {data}\n")?;
-    Ok(Answer { text, status: 0 })
+    Ok(Answer::of(text, 0))
 }

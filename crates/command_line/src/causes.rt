@@ -4,6 +4,7 @@ use crate::failure::{Failure, Refusal};
 use crate::files::FileFault;
 use assemble::{AsmCode, AsmFault};
 use debugger::DebugFault;
+use interleaving::InterleaveFault;
 use line_memory::MediumFault;
 use machine::StepFault;
 use nova_log::VolumeFault;
@@ -121,6 +122,20 @@ impl From<StepFault> for Failure {
         match fault {
             StepFault::Memory => Failure::Memory,
             _ => Failure::Refused(Refusal::Step(fault)),
+        }
+    }
+}
+
+impl From<InterleaveFault> for Failure {
+    ghost use Rattle.std.specs.Prelude.{◌≡◌};
+    ghost use Rattle.command_line.specs.Failures.{failure_of_drawing};
+
+    ghost from_gives = { λ fault failure. failure ≡ failure_of_drawing fault };
+
+    fn from(fault: InterleaveFault) -> Failure {
+        match fault {
+            InterleaveFault::TraceFull => Failure::Refused(Refusal::Step(StepFault::TraceFull)),
+            InterleaveFault::Memory => Failure::Memory,
         }
     }
 }

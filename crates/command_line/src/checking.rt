@@ -136,7 +136,7 @@ fn verdict_answer(
         Verdict::Fail { .. } => 1,
         Verdict::TooMany { .. } => 3,
     };
-    Ok(Answer { text, status })
+    Ok(Answer::of(text, status))
 }
 
 /// What is told of a failing image.

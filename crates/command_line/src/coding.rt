@@ -17,5 +17,5 @@ pub(crate) fn tell_code(alloc: Global, command: &CodeCommand) -> Result<Answer, 
         Some(meaning) => format!(in alloc; "{meaning}")?,
         None => list(alloc)?,
     };
-    Ok(Answer { text, status: 0 })
+    Ok(Answer::of(text, 0))
 }

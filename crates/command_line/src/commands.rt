@@ -11,13 +11,17 @@ use crate::assembling::assemble_file;
 use crate::checking::check_file;
 use crate::coding::tell_code;
 use crate::debugging::open_file;
+use crate::drawing::interleave_file;
 use crate::explaining::explain_file;
 use crate::failure::Failure;
 use crate::files::Files;
 use crate::imaging::count_file;
+use crate::listing::list_file;
 use crate::making::make_file;
 use crate::persisting::unpersisted_file;
+use crate::picturing::picture_file;
 use crate::running::{replay_file, run_file};
+use crate::showing::show_file;
 use crate::tracing::trace_file;
 use crate::upgrading::upgrade_file;
 use crate::wasting::waste_file;
@@ -65,6 +69,10 @@ fn carry_out<T: Threads + Wait + Sync, F: Files>(
         Command::Images(command) => printed(count_file(alloc, &command, files)),
         Command::Explain(command) => printed(explain_file(alloc, &command, files)),
         Command::Check(command) => printed(check_file(rt, alloc, &command, files)),
+        Command::Picture(command) => printed(picture_file(alloc, &command, files)),
+        Command::Interleave(command) => printed(interleave_file(alloc, &command, files)),
+        Command::Show(command) => printed(show_file(alloc, &command, files)),
+        Command::Listing(command) => printed(list_file(alloc, &command, files)),
         Command::Code(command) => printed(tell_code(alloc, &command)),
     }
 }
@@ -88,7 +96,7 @@ fn answer_to(fault: LineFault) -> Result<Action, Failure>
     ensures { AnswersFault fault result }
 {
     match fault {
-        LineFault::Help(text) => Ok(Action::Print(Answer { text, status: 0 })),
+        LineFault::Help(text) => Ok(Action::Print(Answer::of(text, 0))),
         LineFault::Fault(text) => Err(Failure::Line(text)),
         LineFault::Memory => Err(Failure::Memory),
     }

@@ -35,7 +35,7 @@ pub(crate) fn open_file<F: Files>(
 }
 
 /// The machine that the options ask for.
-fn start(
+pub(crate) fn start(
     alloc: Global,
     options: &MachineOptions,
     program: Program,

@@ -75,7 +75,7 @@ fn deliver<R: Read, W: Write>(
 fn print_answer<W: Write>(answer: Answer, output: &mut W) -> Result<u8, Failure>
     ensures { IsPrinted W.contents output.old output.new answer result }
 {
-    match print(answer.text.as_bytes(), output) {
+    match print(&answer.text, output) {
         Ok(()) => Ok(answer.status),
         Err(_) => Err(Failure::File),
     }

@@ -30,7 +30,7 @@ pub(crate) fn explain_file<F: Files>(
     let run = read_run(alloc, &command.run, files)?;
     demand_whole(alloc, &command.run, &run, &[])?;
     let explanation = explanation(alloc, run, command)?;
-    printed(alloc, &explanation)
+    schedule_answer(alloc, &explanation)
 }
 
 fn explanation(alloc: Global, run: RunFiles, command: &ExplainCommand) -> Result<Schedule, Failure>
@@ -56,10 +56,11 @@ fn explanation(alloc: Global, run: RunFiles, command: &ExplainCommand) -> Result
     )?)
 }
 
-fn printed(alloc: Global, schedule: &Schedule) -> Result<Answer, Failure>
+/// The line of a schedule.
+pub(crate) fn schedule_answer(alloc: Global, schedule: &Schedule) -> Result<Answer, Failure>
     requires { hart_steps schedule.now < 2 ^ 32 }
     ensures { Prints (schedule_line schedule.now) 0 result }
 {
     let text = schedule_line(alloc, schedule)?;
-    Ok(Answer { text, status: 0 })
+    Ok(Answer::of(text, 0))
 }

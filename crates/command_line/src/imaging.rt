@@ -54,5 +54,5 @@ fn images_line(alloc: Global, moment: u32, count: Option<u32>) -> Result<Answer,
         Some(images) => format!(in alloc; "moment {moment} images {images}\n")?,
         None => format!(in alloc; "moment {moment} images over 65536\n")?,
     };
-    Ok(Answer { text, status: 0 })
+    Ok(Answer::of(text, 0))
 }

@@ -40,5 +40,5 @@ pub(crate) fn lines_line(alloc: Global, volume: &Medium) -> Result<Answer, Failu
 {
     let lines = volume.lines();
     let text = format!(in alloc; "lines {lines}\n")?;
-    Ok(Answer { text, status: 0 })
+    Ok(Answer::of(text, 0))
 }

@@ -56,7 +56,7 @@ fn told_answer(alloc: Global, file: &[u8], run: &UnpersistedRun) -> Result<Answe
     let lines = source_lines(alloc, file)?;
     let text = unpersisted_text(alloc, &run.told, &run.traced, &lines)?;
     let status = status_of(&run.told);
-    Ok(Answer { text, status })
+    Ok(Answer::of(text, status))
 }
 
 /// 0 where every store was durable in time, else 1.

@@ -146,7 +146,7 @@ fn report_of(alloc: Global, harts: &[HartState], events: usize) -> Result<Answer
     ensures { Prints (run_report harts.now events) 0 result }
 {
     let text = report(alloc, harts, events)?;
-    Ok(Answer { text, status: 0 })
+    Ok(Answer::of(text, 0))
 }
 
 fn report_of_machine(alloc: Global, machine: &Machine) -> Result<Answer, Failure>

@@ -59,5 +59,5 @@ fn trace_answer(alloc: Global, file: &[u8], traced: &[TracedEvent]) -> Result<An
 {
     let lines = source_lines(alloc, file)?;
     let text = trace_text(alloc, traced, &lines)?;
-    Ok(Answer { text, status: 0 })
+    Ok(Answer::of(text, 0))
 }

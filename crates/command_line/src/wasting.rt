@@ -52,5 +52,5 @@ fn found_answer(alloc: Global, file: &[u8], run: &NeedlessRun) -> Result<Answer,
 {
     let lines = source_lines(alloc, file)?;
     let text = waste_text(alloc, &run.traced, &run.reasons, &lines)?;
-    Ok(Answer { text, status: 0 })
+    Ok(Answer::of(text, 0))
 }

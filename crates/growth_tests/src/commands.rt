@@ -68,7 +68,7 @@ fn command_of_help(rt: HostRuntime) -> Result<(), Refused> {
 }
 
 /// The files, by their names.
-const FILES: [(&str, &str); 10] = [
+const FILES: [(&str, &str); 11] = [
     (
         "first.s",
         "addi x5, x0, 7\nlui x6, 0x40000\nsd x5, 0(x6)\ncbo.clean (x6)\nfence w, w\n\
@@ -88,6 +88,7 @@ const FILES: [(&str, &str); 10] = [
         "vain.s",
         "cbo.clean (a1)\nfence w, w\nli a7, 93\nli a0, 0\necall\n",
     ),
+    ("listed.s", "addi x5, x0, 7\n# two words\nli x6, 0x12345\n"),
     ("two", "h0*2"),
     ("ten", "h0*10"),
     ("eight", "h0*8"),
@@ -106,11 +107,17 @@ struct Folder {
     written: Vec<u8>,
 }
 
-/// The text of a file.
-fn text_of(name: &str) -> Option<&'static str> {
+/// A medium of 512 lines of zeros.
+static ZEROS: [u8; 32_768] = [0; 32_768];
+
+/// The bytes of a file.
+fn bytes_of(name: &str) -> Option<&'static [u8]> {
+    if name == "zeros" {
+        return Some(&ZEROS);
+    }
     for (known, text) in FILES {
         if known == name {
-            return Some(text);
+            return Some(text.as_bytes());
         }
     }
     None
@@ -118,10 +125,10 @@ fn text_of(name: &str) -> Option<&'static str> {
 
 impl Files for Folder {
     fn read(&mut self, name: &str) -> Result<Vec<u8>, FileFault> {
-        let Some(text) = text_of(name) else {
+        let Some(bytes) = bytes_of(name) else {
             return Err(FileFault::Failed);
         };
-        match Vec::from_slice(self.alloc, text.as_bytes()) {
+        match Vec::from_slice(self.alloc, bytes) {
             Ok(bytes) => Ok(bytes),
             Err(_) => Err(FileFault::Memory),
         }
@@ -351,6 +358,60 @@ const WHOLE: Example = Example {
 #[test]
 fn execute_check_of_a_run_that_is_not_whole(rt: HostRuntime) -> Result<(), Refused> {
     ended(&rt, typed(&rt, &WHOLE))
+}
+
+const PICTURE: Example = Example {
+    line: "novacrash picture first.s eight 2 shot --image 1",
+    typed: "",
+    status: 0,
+    printed: "",
+};
+
+#[test]
+fn execute_picture(rt: HostRuntime) -> Result<(), Refused> {
+    ended(&rt, typed(&rt, &PICTURE))
+}
+
+/// Two evictions of the one line that is stored, each after the third step or a later one.
+const INTERLEAVE: Example = Example {
+    line: "novacrash interleave first.s --seed 1 --evictions 2",
+    typed: "",
+    status: 0,
+    printed: "h0*3 e0 h0*3 e0 h0*2\n",
+};
+
+#[test]
+fn execute_interleave(rt: HostRuntime) -> Result<(), Refused> {
+    ended(&rt, typed(&rt, &INTERLEAVE))
+}
+
+/// The bytes of a line, which need no volume.
+const SHOW: Example = Example {
+    line: "novacrash show zeros 511",
+    typed: "",
+    status: 0,
+    printed: "0x0 0x40007fc0 00 00 00 00 00 00 00 00 00 00 00 00 00 00 00 00\n\
+        0x10 0x40007fd0 00 00 00 00 00 00 00 00 00 00 00 00 00 00 00 00\n\
+        0x20 0x40007fe0 00 00 00 00 00 00 00 00 00 00 00 00 00 00 00 00\n\
+        0x30 0x40007ff0 00 00 00 00 00 00 00 00 00 00 00 00 00 00 00 00\n",
+};
+
+#[test]
+fn execute_show(rt: HostRuntime) -> Result<(), Refused> {
+    ended(&rt, typed(&rt, &SHOW))
+}
+
+const LISTING: Example = Example {
+    line: "novacrash listing listed.s",
+    typed: "",
+    status: 0,
+    printed: "0x10000 00700293 addi x5, x0, 7\t1 addi x5, x0, 7\n0x10004 00012337 lui x6, 18\t3 li x6, 0x12345\n\
+        0x10008 3453031b addiw x6, x6, 837\n",
+};
+
+#[test]
+fn execute_listing(rt: HostRuntime) -> Result<(), Refused> {
+    ended(&rt, typed(&rt, &LISTING))
 }
 
 const IMAGES: Example = Example {

@@ -34,15 +34,15 @@ pub fn load_program(alloc: Global, file: &[u8]) -> Result<Program, ProgramFault>
         (medium : List (List ℕ)) → HoldsSource file.now (starting_memory program medium)) }
     ensures err { IfErr result (IsLoadFault file.now) }
 {
-    let object = object_of(alloc, file)?;
+    let object = load_object(alloc, file)?;
     match load(object) {
         Ok(program) => Ok(program),
         Err(_) => Err(ProgramFault::Memory),
     }
 }
 
-/// The object of a program's file.
-fn object_of(alloc: Global, file: &[u8]) -> Result<Object, ProgramFault>
+/// The object of a program's file: the file is an object's where it begins with `RVXPROG1`, and else a source.
+pub fn load_object(alloc: Global, file: &[u8]) -> Result<Object, ProgramFault>
     ensures ok { IfOk result (λ object. IsObjectOf (begins_as_object file.now) file.now object) }
     ensures err { IfErr result (IsLoadFault file.now) }
 {

@@ -1,6 +1,6 @@
 -- The shapes of the table are those of the line.
 use Rattle.std.proofs.Common.{[]}
-use Rattle.arguments.specs.Grammar.{novacrash, making, judging, assemble_shape, make_volume_shape, upgrade_shape, run_shape, replay_shape, debug_shape}
+use Rattle.arguments.specs.Grammar.{making, assemble_shape, make_volume_shape, upgrade_shape, run_shape, replay_shape, debug_shape}
 use Rattle.arguments.proofs.grammar.with_making.Goals as goal
 
 pub returns : goal.returns

@@ -38,6 +38,18 @@ returns-in-Explain g c = rw c.in-Explain.is (record { found = c.explain_file.res
 pub returns-in-Check : goal.returns-in-Check
 returns-in-Check g c = rw c.in-Check.is (record { found = c.check_file.result; finding = c.check_file.ensures; leads = c.printed-in-Check.ensures })
 
+pub returns-in-Picture : goal.returns-in-Picture
+returns-in-Picture g c = rw c.in-Picture.is (record { found = c.picture_file.result; finding = c.picture_file.ensures; leads = c.printed-in-Picture.ensures })
+
+pub returns-in-Interleave : goal.returns-in-Interleave
+returns-in-Interleave g c = rw c.in-Interleave.is (record { found = c.interleave_file.result; finding = c.interleave_file.ensures; leads = c.printed-in-Interleave.ensures })
+
+pub returns-in-Show : goal.returns-in-Show
+returns-in-Show g c = rw c.in-Show.is (record { found = c.show_file.result; finding = c.show_file.ensures; leads = c.printed-in-Show.ensures })
+
+pub returns-in-Listing : goal.returns-in-Listing
+returns-in-Listing g c = rw c.in-Listing.is (record { found = c.list_file.result; finding = c.list_file.ensures; leads = c.printed-in-Listing.ensures })
+
 pub returns-in-Code : goal.returns-in-Code
 returns-in-Code g c = rw c.in-Code.is (record {
   found = c.tell_code.result;

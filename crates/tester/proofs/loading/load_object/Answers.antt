@@ -1,5 +1,5 @@
 use Rattle.std.proofs.Common.{rules}
-use Rattle.tester.proofs.loading.object_of.Goals as goal
+use Rattle.tester.proofs.loading.load_object.Goals as goal
 
 pub read_object-requires : goal.read_object-requires
 read_object-requires c = search rules

@@ -1,0 +1,45 @@
+//! The command that lists a program.
+
+ghost use Rattle.command_line.specs.Listing.{ListsFile, PrintsListing, SaysObject};
+ghost use Rattle.tester.specs.Programs.{IsObjectOf, begins_as_object};
+
+use crate::answer::Answer;
+use crate::failure::Failure;
+use crate::files::Files;
+use crate::reading::read_file;
+use arguments::ListingCommand;
+use listing_text::listing_text;
+use object::Object;
+use program_trace::source_lines;
+use std::alloc::Global;
+use tester::load_object;
+
+/// `listing`: reads the file of a program, and prints the words of its object's text, each with its instruction, and of a source
+/// the line that begins there.
+pub(crate) fn list_file<F: Files>(
+    alloc: Global,
+    command: &ListingCommand,
+    files: &mut F,
+) -> Result<Answer, Failure>
+    ensures { ListsFile F.read_gives command.now files.old result files.new }
+{
+    let file = read_file(command.program.as_str(), files)?;
+    let object = object_in(alloc, &file)?;
+    listed(alloc, &file, &object)
+}
+
+fn object_in(alloc: Global, file: &[u8]) -> Result<Object, Failure>
+    ensures says { SaysObject file.now result }
+{
+    Ok(load_object(alloc, file)?)
+}
+
+#[tactic(auto, using(crate::proofs::SourceLines::listed_of_source))]
+fn listed(alloc: Global, file: &[u8], object: &Object) -> Result<Answer, Failure>
+    requires { IsObjectOf (begins_as_object file.now) file.now object.now }
+    ensures { PrintsListing file.now object.now.text result }
+{
+    let numbers = source_lines(alloc, file)?;
+    let text = listing_text(alloc, object.text_bytes(), file, &numbers)?;
+    Ok(Answer { text, status: 0 })
+}

@@ -1,0 +1,10 @@
+//! A picture of a run up to a moment: which stores, cleans and fences were made, and what a power cut may lose then.
+#![tactic(auto)]
+
+mod drawing;
+mod marks;
+mod picture;
+mod rows;
+mod titles;
+
+pub use picture::{ImageLine, PicturedEvent, picture_text};

@@ -1,0 +1,58 @@
+//! The picture of a run.
+
+ghost use Rattle.std.specs.Prelude.{◌≤◌, length};
+
+use crate::drawing::draw;
+use crate::rows::{Row, rows_of};
+use std::alloc::{AllocError, Global};
+use store_trace::Event;
+
+/// An event of a run, and where in the run it was made.
+#[derive(Clone, Copy)]
+pub struct PicturedEvent {
+    pub event: Event,
+    /// How many hart steps there are up to and with the one that made it.
+    pub step: u32,
+    /// The pc that its hart had before that step.
+    pub pc: u64,
+    /// The number, from 1, of the line of the source at that pc.
+    pub source_line: Option<u32>,
+}
+
+/// How many stores of a cache line a crash image has.
+#[derive(Clone, Copy)]
+pub struct ImageLine {
+    pub line: u32,
+    pub stores: u32,
+}
+
+/// How many cache lines are shown at most, unless more of them may lose stores.
+const MOST_LINES: usize = 40;
+
+/// How many events are shown at most.
+const MOST_EVENTS: usize = 200;
+
+/// An SVG of the events of a run up to a moment: a row for each cache line that was stored, upwards, and a column for each event,
+/// with a title that tells where it was made. A store that a power cut may lose is hollow. Behind each row stand its floor and
+/// its number of stores, and that of the image, where `image` tells one.
+///
+/// Of more than 40 cache lines only those are shown whose stores may be lost, and of more than 200 events only the last 200.
+pub fn picture_text(
+    alloc: Global,
+    events: &[PicturedEvent],
+    image: Option<&[ImageLine]>,
+) -> Result<String, AllocError> {
+    let mut rows = rows_of(alloc, events)?;
+    if rows.len() > MOST_LINES {
+        rows.retain(Row::may_lose);
+    }
+    draw(alloc, last_events(events), &rows, image)
+}
+
+/// The last 200 events.
+fn last_events(events: &[PicturedEvent]) -> &[PicturedEvent]
+    ensures { length result.now ≤ 200 }
+{
+    let (_, last) = events.split_at(events.len().saturating_sub(MOST_EVENTS));
+    last
+}
