@@ -1,8 +1,11 @@
 //! Nothing is left of an earlier run: neither in data, text and the text that is fetched, nor of the image before.
 
+ghost use Rattle.std.specs.Prelude.{◌≡◌, length};
+
 use crate::samples::{Expected, READ, comes_to, image_of, routine_of};
-use recovery::Cause;
-use std::alloc::Global;
+use line_memory::Medium;
+use recovery::{Cause, Routine};
+use std::alloc::{AllocError, Global};
 use std::process::Abort;
 use std::test::Fail;
 
@@ -57,14 +60,41 @@ static ROUTINES: [(&[u8], Expected); 4] = [
     ),
 ];
 
-/// Whether three runs, of which one is cut short, come to the same.
+/// Whether runs of a routine come to the same before and after one that is cut short.
 fn is_as_new(alloc: Global, source: &[u8], expected: Expected) -> Option<bool> {
     let mut routine = routine_of(alloc, source)?;
+    runs_over_eight(alloc, &mut routine, expected)
+}
+
+fn runs_over_eight(alloc: Global, routine: &mut Routine, expected: Expected) -> Option<bool>
+    requires { routine.old.lines ≡ 512 }
+{
     let image = image_of(alloc, &[(0, 8)])?;
-    let first = comes_to(alloc, &mut routine, &image, 99, expected).ok()?;
-    let _ = routine.run(alloc, &image, 7).ok()?;
-    let last = comes_to(alloc, &mut routine, &image, 99, expected).ok()?;
-    Some(first && last)
+    runs_alike(alloc, routine, &image, expected).ok()
+}
+
+fn runs_alike(
+    alloc: Global,
+    routine: &mut Routine,
+    image: &Medium,
+    expected: Expected,
+) -> Result<bool, AllocError>
+    requires routine { routine.old.lines ≡ 512 }
+    requires image { length image.now ≡ 512 }
+{
+    let first = comes_to(alloc, routine, image, 99, expected)?;
+    cut_short(alloc, routine, image)?;
+    let last = comes_to(alloc, routine, image, 99, expected)?;
+    Ok(first && last)
+}
+
+fn cut_short(alloc: Global, routine: &mut Routine, image: &Medium) -> Result<(), AllocError>
+    requires routine { routine.old.lines ≡ 512 }
+    requires image { length image.now ≡ 512 }
+    ensures { routine.new.lines ≡ 512 }
+{
+    let _ = routine.run(alloc, image, 7)?;
+    Ok(())
 }
 
 fn first_wrong(rt: &(impl AllocGlobal + Abort)) -> Option<usize> {
@@ -96,11 +126,31 @@ const NEW: Expected = Expected {
 fn reads_both(alloc: Global) -> Option<bool> {
     let mut routine = routine_of(alloc, READ)?;
     let old = image_of(alloc, &[(0, 64), (64, 5), (72, 5)])?;
+    reads_another(alloc, &mut routine, &old)
+}
+
+fn reads_another(alloc: Global, routine: &mut Routine, old: &Medium) -> Option<bool>
+    requires routine { routine.old.lines ≡ 512 }
+    requires old { length old.now ≡ 512 }
+{
     let new = image_of(alloc, &[(0, 128), (128, 6), (136, 7)])?;
-    let first = comes_to(alloc, &mut routine, &old, 99, OLD).ok()?;
-    let second = comes_to(alloc, &mut routine, &new, 99, NEW).ok()?;
-    let third = comes_to(alloc, &mut routine, &old, 99, OLD).ok()?;
-    Some(first && second && third)
+    reads_in_turn(alloc, routine, old, &new).ok()
+}
+
+fn reads_in_turn(
+    alloc: Global,
+    routine: &mut Routine,
+    old: &Medium,
+    new: &Medium,
+) -> Result<bool, AllocError>
+    requires routine { routine.old.lines ≡ 512 }
+    requires old { length old.now ≡ 512 }
+    requires new { length new.now ≡ 512 }
+{
+    let first = comes_to(alloc, routine, old, 99, OLD)?;
+    let second = comes_to(alloc, routine, new, 99, NEW)?;
+    let third = comes_to(alloc, routine, old, 99, OLD)?;
+    Ok(first && second && third)
 }
 
 #[test]

@@ -1,8 +1,10 @@
 //! What routines answer, or why they have no answer, and the lines that they load.
 
+ghost use Rattle.std.specs.Prelude.{◌≡◌};
+
 use crate::samples::{Expected, READ, comes_to, image_of, routine_of};
 use hart::Trap;
-use recovery::Cause;
+use recovery::{Answer, Cause, Routine};
 use std::alloc::Global;
 use std::process::Abort;
 use std::test::Fail;
@@ -187,8 +189,14 @@ static CASES: [Case; 16] = [
 /// Whether a case comes to what it is to; None where memory was refused.
 fn is_right(alloc: Global, case: &Case) -> Option<bool> {
     let mut routine = routine_of(alloc, case.source)?;
+    is_right_of(alloc, &mut routine, case)
+}
+
+fn is_right_of(alloc: Global, routine: &mut Routine, case: &Case) -> Option<bool>
+    requires { routine.old.lines ≡ 512 }
+{
     let image = image_of(alloc, case.words)?;
-    comes_to(alloc, &mut routine, &image, case.steps, case.expected).ok()
+    comes_to(alloc, routine, &image, case.steps, case.expected).ok()
 }
 
 /// The first case that comes to something else; None where there is none.
@@ -252,10 +260,21 @@ static EDGES: [(&[u8], Option<usize>); 11] = [
 /// Whether a source answers so many bytes, or none as it names none.
 fn has_length(alloc: Global, source: &[u8], length: Option<usize>) -> Option<bool> {
     let mut routine = routine_of(alloc, source)?;
+    answers_so_many(alloc, &mut routine, length)
+}
+
+fn answers_so_many(alloc: Global, routine: &mut Routine, length: Option<usize>) -> Option<bool>
+    requires { routine.old.lines ≡ 512 }
+{
     let image = image_of(alloc, &[])?;
-    match routine.run(alloc, &image, 9).ok()? {
-        Ok(answer) => Some(length == Some(answer.bytes().len())),
-        Err(cause) => Some(length.is_none() && cause == Cause::Answer),
+    let found = routine.run(alloc, &image, 9).ok()?;
+    Some(is_so_long(&found, length))
+}
+
+fn is_so_long(found: &Result<Answer, Cause>, length: Option<usize>) -> bool {
+    match found {
+        Ok(answer) => length == Some(answer.bytes().len()),
+        Err(cause) => length.is_none() && *cause == Cause::Answer,
     }
 }
 

@@ -56,10 +56,16 @@ fn run(alloc: Global) -> Result<bool, Refused> {
     let Some(mut routine) = routine_of(alloc, WIDE) else {
         return Err(Refused::SetUp);
     };
+    run_over_zeros(alloc, &mut routine)
+}
+
+fn run_over_zeros(alloc: Global, routine: &mut Routine) -> Result<bool, Refused>
+    requires { routine.old.lines ≡ 512 }
+{
     let Some(image) = image_of(alloc, &[]) else {
         return Err(Refused::SetUp);
     };
-    is_run(alloc, &mut routine, &image)
+    is_run(alloc, routine, &image)
 }
 
 #[test]

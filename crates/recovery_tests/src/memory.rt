@@ -57,14 +57,27 @@ fn changed(held: &mut HeldMemory, image: &Medium, address: u64) -> Option<[u64; 
 }
 
 /// The numbers of text, data and the image before and after stores, and before others once memory was set back.
-#[tactic(auto, using(held_memory::proofs::Placing::over_at_start))]
 fn found(alloc: Global) -> Option<([[u64; 2]; 3], [[u64; 2]; 3])> {
     let mut held = memory_of(alloc)?;
+    found_over_five(alloc, &mut held)
+}
+
+fn found_over_five(alloc: Global, held: &mut HeldMemory) -> Option<([[u64; 2]; 3], [[u64; 2]; 3])>
+    requires { IsAtStart held.old 512 }
+{
     let image = image_of(alloc, &[(0x7ff8, 5)])?;
+    changed_twice(held, &image)
+}
+
+#[tactic(auto, using(held_memory::proofs::Placing::over_at_start))]
+fn changed_twice(held: &mut HeldMemory, image: &Medium) -> Option<([[u64; 2]; 3], [[u64; 2]; 3])>
+    requires start { IsAtStart held.old 512 }
+    requires image { length image.now ≡ 512 }
+{
     let _ = image.lines();
-    let first = all_changed(&mut held, &image)?;
+    let first = all_changed(held, image)?;
     held.set_back();
-    let second = all_changed(&mut held, &image)?;
+    let second = all_changed(held, image)?;
     Some((first, second))
 }
 
@@ -91,18 +104,28 @@ fn memory_is_set_back(rt: HostRuntime) -> Result<(), Fail> {
 }
 
 /// Places, bytes in each region and in none, and the first bytes of text at the start and after a store.
-#[tactic(auto, using(held_memory::proofs::Placing::over_at_start))]
 fn looks(alloc: Global) -> Option<bool> {
     let mut held = memory_of(alloc)?;
+    looks_over(alloc, &mut held)
+}
+
+fn looks_over(alloc: Global, held: &mut HeldMemory) -> Option<bool>
+    requires { IsAtStart held.old 512 }
+{
     let image = image_of(alloc, &[(0, 0x1234)])?;
+    is_seen(alloc, held, &image)
+}
+
+#[tactic(auto, using(held_memory::proofs::Placing::over_at_start))]
+fn is_seen(alloc: Global, held: &mut HeldMemory, image: &Medium) -> Option<bool>
+    requires start { IsAtStart held.old 512 }
+    requires image { length image.now ≡ 512 }
+{
     let _ = image.lines();
-    let mut text = zeros(alloc, 65_536)?;
-    changed(&mut held, &image, 0x1_0000)?;
-    Some(
-        places(&held, &image) == PLACES
-            && bytes(&held, &image) == [Some(0xdd), Some(0x88), Some(0x12), None]
-            && is_read(&held, &mut text),
-    )
+    changed(held, image, 0x1_0000)?;
+    let is_placed = places(held, image) == PLACES;
+    let has_bytes = bytes(held, image) == [Some(0xdd), Some(0x88), Some(0x12), None];
+    Some(is_placed && has_bytes && is_read(alloc, held)?)
 }
 
 fn zeros(alloc: Global, count: usize) -> Option<Vec<u8>> {
@@ -121,12 +144,13 @@ fn bytes(held: &HeldMemory, image: &Medium) -> [Option<u8>; 4]
 }
 
 /// Whether the text is read as it is, and the start still told as it was.
-fn is_read(held: &HeldMemory, text: &mut Vec<u8>) -> bool {
+fn is_read(alloc: Global, held: &HeldMemory) -> Option<bool> {
+    let mut text = zeros(alloc, 65_536)?;
     if text.len() != 65_536 {
-        return false;
+        return None;
     }
-    held.read_text(text);
-    text.starts_with(b"\xdd\xcc\xbb\xaa") && held.starting_text().starts_with(b"\x73\0\0\0")
+    held.read_text(&mut text);
+    Some(text.starts_with(b"\xdd\xcc\xbb\xaa") && held.starting_text().starts_with(b"\x73\0\0\0"))
 }
 
 #[test]
