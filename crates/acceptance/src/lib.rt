@@ -21,6 +21,10 @@ mod losing;
 #[cfg(test)]
 mod loss_routines;
 #[cfg(test)]
+mod objects;
+#[cfg(test)]
+mod parting;
+#[cfg(test)]
 mod persisting;
 #[cfg(test)]
 mod picturing;

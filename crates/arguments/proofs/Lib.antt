@@ -1,3 +1,4 @@
 mod Lines
 mod Seeds
+mod Spans
 pub mod Tables

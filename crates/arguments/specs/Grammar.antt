@@ -75,32 +75,33 @@ debug_shape = record (new_shape (codes "debug")) {
       ∷ valued_option (codes "capacity") ∷ help_option ∷ [];
 }
 
--- `trace PROGRAM SCHEDULE [--medium FILE --harts N --whole]`
+-- `trace PROGRAM SCHEDULE [--medium FILE --harts N --whole --json]`
 unfoldable pub trace_shape : Shape
 trace_shape = record (new_shape (codes "trace")) {
   rules = needed_word (codes "PROGRAM") ∷ needed_word (codes "SCHEDULE") ∷ valued_option (codes "medium")
-      ∷ valued_option (codes "harts") ∷ flag_option (codes "whole") ∷ help_option ∷ [];
+      ∷ valued_option (codes "harts") ∷ flag_option (codes "whole") ∷ flag_option (codes "json") ∷ help_option ∷ [];
 }
 
--- `unpersisted PROGRAM SCHEDULE [--medium FILE --harts N --whole]`
+-- `unpersisted PROGRAM SCHEDULE [--medium FILE --harts N --whole --json]`
 unfoldable pub unpersisted_shape : Shape
 unpersisted_shape = record (new_shape (codes "unpersisted")) {
   rules = needed_word (codes "PROGRAM") ∷ needed_word (codes "SCHEDULE") ∷ valued_option (codes "medium")
-      ∷ valued_option (codes "harts") ∷ flag_option (codes "whole") ∷ help_option ∷ [];
+      ∷ valued_option (codes "harts") ∷ flag_option (codes "whole") ∷ flag_option (codes "json") ∷ help_option ∷ [];
 }
 
--- `waste PROGRAM SCHEDULE [--medium FILE --harts N --whole]`
+-- `waste PROGRAM SCHEDULE [--medium FILE --harts N --whole --json]`
 unfoldable pub waste_shape : Shape
 waste_shape = record (new_shape (codes "waste")) {
   rules = needed_word (codes "PROGRAM") ∷ needed_word (codes "SCHEDULE") ∷ valued_option (codes "medium")
-      ∷ valued_option (codes "harts") ∷ flag_option (codes "whole") ∷ help_option ∷ [];
+      ∷ valued_option (codes "harts") ∷ flag_option (codes "whole") ∷ flag_option (codes "json") ∷ help_option ∷ [];
 }
 
--- `images PROGRAM SCHEDULE MOMENT [--medium FILE --harts N --whole]`
+-- `images PROGRAM SCHEDULE MOMENT [--medium FILE --harts N --whole --json]`
 unfoldable pub images_shape : Shape
 images_shape = record (new_shape (codes "images")) {
   rules = needed_word (codes "PROGRAM") ∷ needed_word (codes "SCHEDULE") ∷ needed_word (codes "MOMENT")
-      ∷ valued_option (codes "medium") ∷ valued_option (codes "harts") ∷ flag_option (codes "whole") ∷ help_option ∷ [];
+      ∷ valued_option (codes "medium") ∷ valued_option (codes "harts") ∷ flag_option (codes "whole")
+      ∷ flag_option (codes "json") ∷ help_option ∷ [];
 }
 
 -- `explain PROGRAM SCHEDULE MOMENT IMAGE [--medium FILE --harts N --whole]`
@@ -111,12 +112,12 @@ explain_shape = record (new_shape (codes "explain")) {
       ∷ flag_option (codes "whole") ∷ help_option ∷ [];
 }
 
--- `check PLAN PROGRAM SCHEDULE [--medium FILE --harts N --workers N --whole --why]`
+-- `check PLAN PROGRAM SCHEDULE [--medium FILE --harts N --workers N --moments A-B --whole --why --json]`
 unfoldable pub check_shape : Shape
 check_shape = record (new_shape (codes "check")) {
   rules = needed_word (codes "PLAN") ∷ needed_word (codes "PROGRAM") ∷ needed_word (codes "SCHEDULE")
       ∷ valued_option (codes "medium") ∷ valued_option (codes "harts") ∷ valued_option (codes "workers")
-      ∷ flag_option (codes "whole") ∷ flag_option (codes "why") ∷ help_option ∷ [];
+      ∷ valued_option (codes "moments") ∷ flag_option (codes "whole") ∷ flag_option (codes "why") ∷ flag_option (codes "json") ∷ help_option ∷ [];
 }
 
 -- `picture PROGRAM SCHEDULE MOMENT FILE [--image IMAGE --medium FILE --harts N]`

@@ -1,4 +1,5 @@
 pub mod Grammar
 pub mod Line
+pub mod Spans
 pub mod Started
 pub mod Values

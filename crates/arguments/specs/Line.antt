@@ -6,6 +6,7 @@ use Rattle.clap.specs.declared.error.ErrorKind.{ErrorKind}
 use Rattle.clap.specs.declared.error.ErrorKind.TheVariants as kinds
 use Rattle.image_name.specs.Texts.{IsProper}
 use Rattle.arguments.specs.Grammar.{novacrash}
+use Rattle.arguments.specs.Spans.{IsOptionalMoments, IsUpward}
 use Rattle.arguments.specs.Values.{IsCapacity, IsCodeWord, IsEvictions, IsHarts, IsImageWord, IsNumberWord, IsOptional, IsOptionalImage, IsOptionalNumber, IsSeed, IsSteps, IsWord, IsWorkers, is_set}
 use Rattle.arguments.specs.declared.asked.AssembleCommand.{AssembleCommand}
 use Rattle.arguments.specs.declared.asked.CheckCommand.{CheckCommand}
@@ -23,6 +24,7 @@ use Rattle.arguments.specs.declared.asked.MachineOptions.{MachineOptions}
 use Rattle.arguments.specs.declared.asked.MakeVolumeCommand.{MakeVolumeCommand}
 use Rattle.arguments.specs.declared.asked.PictureCommand.{PictureCommand}
 use Rattle.arguments.specs.declared.asked.ReplayCommand.{ReplayCommand}
+use Rattle.arguments.specs.declared.asked.ReportCommand.{ReportCommand}
 use Rattle.arguments.specs.declared.asked.RunCommand.{RunCommand}
 use Rattle.arguments.specs.declared.asked.ScheduledRun.{ScheduledRun}
 use Rattle.arguments.specs.declared.asked.ShowCommand.{ShowCommand}
@@ -86,10 +88,16 @@ pub record IsScheduledRun (rows : List Row) (run : ScheduledRun) : Type 0 where
   pub machine : IsWholeMachine rows run.machine
   pub whole : run.whole ≡ is_set (first_of (codes "whole") rows)
 
--- `images` of this moment of this run
+-- `trace`, `unpersisted` or `waste` of this run, as text or as JSON
+pub record IsReport (rows : List Row) (command : ReportCommand) : Type 0 where
+  pub run : IsScheduledRun rows command.run
+  pub json : command.json ≡ is_set (first_of (codes "json") rows)
+
+-- `images` of this moment of this run, as text or as JSON
 pub record IsImages (rows : List Row) (command : ImagesCommand) : Type 0 where
   pub run : IsScheduledRun rows command.run
   pub moment : IsNumberWord (first_of (codes "MOMENT") rows) command.moment
+  pub json : command.json ≡ is_set (first_of (codes "json") rows)
 
 -- `explain` of this image of this moment of this run
 pub record IsExplain (rows : List Row) (command : ExplainCommand) : Type 0 where
@@ -97,12 +105,14 @@ pub record IsExplain (rows : List Row) (command : ExplainCommand) : Type 0 where
   pub moment : IsNumberWord (first_of (codes "MOMENT") rows) command.moment
   pub image : IsImageWord (first_of (codes "IMAGE") rows) command.image
 
--- `check` of this run by this plan and so many workers, and whether a failure is explained
+-- `check` of this run or of these moments of it, by this plan and so many workers, whether a failure is explained, and as text or as JSON
 pub record IsCheck (rows : List Row) (command : CheckCommand) : Type 0 where
   pub plan : IsWord (codes "PLAN") rows command.plan
   pub run : IsScheduledRun rows command.run
   pub workers : IsWorkers rows command.workers
+  pub moments : IsOptionalMoments (first_of (codes "moments") rows) command.moments
   pub why : command.why ≡ is_set (first_of (codes "why") rows)
+  pub json : command.json ≡ is_set (first_of (codes "json") rows)
 
 -- `picture` of this moment of this run, with this image of it or none, into this file
 pub record IsPicture (rows : List Row) (command : PictureCommand) : Type 0 where
@@ -140,9 +150,9 @@ IsOf name rows (Upgrade command) = (name ≡ codes "upgrade") × IsUpgrade rows 
 IsOf name rows (Run command) = (name ≡ codes "run") × IsRun rows command
 IsOf name rows (Replay command) = (name ≡ codes "replay") × IsReplay rows command
 IsOf name rows (Debug command) = (name ≡ codes "debug") × IsDebug rows command
-IsOf name rows (Trace run) = (name ≡ codes "trace") × IsScheduledRun rows run
-IsOf name rows (Unpersisted run) = (name ≡ codes "unpersisted") × IsScheduledRun rows run
-IsOf name rows (Waste run) = (name ≡ codes "waste") × IsScheduledRun rows run
+IsOf name rows (Trace command) = (name ≡ codes "trace") × IsReport rows command
+IsOf name rows (Unpersisted command) = (name ≡ codes "unpersisted") × IsReport rows command
+IsOf name rows (Waste command) = (name ≡ codes "waste") × IsReport rows command
 IsOf name rows (Images command) = (name ≡ codes "images") × IsImages rows command
 IsOf name rows (Explain command) = (name ≡ codes "explain") × IsExplain rows command
 IsOf name rows (Check command) = (name ≡ codes "check") × IsCheck rows command
@@ -179,12 +189,12 @@ IsWithinLimits (Upgrade command) = (command.pages < 2 ^ 32) × (command.lines < 
 IsWithinLimits (Run command) = IsMachineWithin command.machine × IsWithin 1 500000000 command.steps
 IsWithinLimits (Replay command) = IsMachineWithin command.machine
 IsWithinLimits (Debug command) = IsMachineWithin command.machine
-IsWithinLimits (Trace run) = IsMachineWithin run.machine
-IsWithinLimits (Unpersisted run) = IsMachineWithin run.machine
-IsWithinLimits (Waste run) = IsMachineWithin run.machine
+IsWithinLimits (Trace command) = IsMachineWithin command.run.machine
+IsWithinLimits (Unpersisted command) = IsMachineWithin command.run.machine
+IsWithinLimits (Waste command) = IsMachineWithin command.run.machine
 IsWithinLimits (Images command) = IsMachineWithin command.run.machine × (command.moment < 2 ^ 32)
 IsWithinLimits (Explain command) = IsMachineWithin command.run.machine × (command.moment < 2 ^ 32) × IsProper command.image
-IsWithinLimits (Check command) = IsMachineWithin command.run.machine × IsWithin 1 8 command.workers
+IsWithinLimits (Check command) = IsMachineWithin command.run.machine × IsWithin 1 8 command.workers × IfSome command.moments IsUpward
 IsWithinLimits (Picture command) = IsMachineWithin command.run.machine × (command.moment < 2 ^ 32) × IfSome command.image IsProper
 IsWithinLimits (Interleave command) = IsMachineWithin command.machine × IsWithin 1 500000000 command.steps × IsWithin 0 65536 command.evictions
 IsWithinLimits (Show command) = IfSome command.line (λ line. line < 2 ^ 32)

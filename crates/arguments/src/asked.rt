@@ -20,17 +20,17 @@ pub enum Command {
     Replay(ReplayCommand),
     /// `debug PROGRAM [--medium FILE --harts N --capacity N]`.
     Debug(DebugCommand),
-    /// `trace PROGRAM SCHEDULE [--medium FILE --harts N --whole]`.
-    Trace(ScheduledRun),
-    /// `unpersisted PROGRAM SCHEDULE [--medium FILE --harts N --whole]`.
-    Unpersisted(ScheduledRun),
-    /// `waste PROGRAM SCHEDULE [--medium FILE --harts N --whole]`.
-    Waste(ScheduledRun),
-    /// `images PROGRAM SCHEDULE MOMENT [--medium FILE --harts N --whole]`.
+    /// `trace PROGRAM SCHEDULE [--medium FILE --harts N --whole --json]`.
+    Trace(ReportCommand),
+    /// `unpersisted PROGRAM SCHEDULE [--medium FILE --harts N --whole --json]`.
+    Unpersisted(ReportCommand),
+    /// `waste PROGRAM SCHEDULE [--medium FILE --harts N --whole --json]`.
+    Waste(ReportCommand),
+    /// `images PROGRAM SCHEDULE MOMENT [--medium FILE --harts N --whole --json]`.
     Images(ImagesCommand),
     /// `explain PROGRAM SCHEDULE MOMENT IMAGE [--medium FILE --harts N --whole]`.
     Explain(ExplainCommand),
-    /// `check PLAN PROGRAM SCHEDULE [--medium FILE --harts N --workers N --whole --why]`.
+    /// `check PLAN PROGRAM SCHEDULE [--medium FILE --harts N --workers N --moments A-B --whole --why --json]`.
     Check(CheckCommand),
     /// `picture PROGRAM SCHEDULE MOMENT FILE [--image IMAGE --medium FILE --harts N]`.
     Picture(PictureCommand),
@@ -141,12 +141,22 @@ pub struct ScheduledRun {
     pub whole: bool,
 }
 
+/// What `trace`, `unpersisted` or `waste` is to do.
+#[derive(Drop)]
+pub struct ReportCommand {
+    pub run: ScheduledRun,
+    /// Whether the answer is one JSON object a line.
+    pub json: bool,
+}
+
 /// What `images` is to do.
 #[derive(Drop)]
 pub struct ImagesCommand {
     pub run: ScheduledRun,
     /// The number of events before the power cut: any number below 2^32.
     pub moment: u32,
+    /// Whether the answer is a JSON object.
+    pub json: bool,
 }
 
 /// What `explain` is to do.
@@ -167,8 +177,21 @@ pub struct CheckCommand {
     pub run: ScheduledRun,
     /// The number of workers that judge the run, from 1 to 8; 1 where the line doesn't say.
     pub workers: u32,
+    /// The moments that are judged; None: all are.
+    pub moments: Option<Moments>,
     /// Whether a failure is told with the stores that its image lacks and keeps, and a schedule that leaves it.
     pub why: bool,
+    /// Whether the answer is one JSON object a line.
+    pub json: bool,
+}
+
+/// Moments of a run, one after another.
+#[derive(Clone, Copy, Debug, PartialEq, Eq)]
+pub struct Moments {
+    /// The first of them: any number below 2^32.
+    pub first: u32,
+    /// The last of them, which isn't before the first; None: the last one of the run.
+    pub last: Option<u32>,
 }
 
 /// What `picture` is to do.

@@ -3,8 +3,9 @@
 ghost use Rattle.std.specs.Prelude.{◌<◌, ◌^◌, IfOk, IfErr, IfSome, String, codes};
 ghost use Rattle.std.specs.declared.alloc.Global.{Global as AGlobal};
 ghost use Rattle.clap.specs.Words.{found_of, rows_of};
-ghost use Rattle.arguments.specs.Line.{IsAssemble, IsCheck, IsCode, IsDebug, IsExplain, IsImages, IsInterleave, IsListing, IsMakeVolume, IsPicture, IsReplay, IsRun, IsScheduledRun, IsShow, IsUpgrade};
+ghost use Rattle.arguments.specs.Line.{IsAssemble, IsCheck, IsCode, IsDebug, IsExplain, IsImages, IsInterleave, IsListing, IsMakeVolume, IsPicture, IsReplay, IsReport, IsRun, IsScheduledRun, IsShow, IsUpgrade};
 ghost use Rattle.arguments.specs.Line.{IsCachedMachine, IsMachineWithin, IsWithin, OnFault};
+ghost use Rattle.arguments.specs.Spans.{IsUpward};
 ghost use Rattle.arguments.specs.Started.{IsStarted};
 ghost use Rattle.arguments.specs.Values.{IsWord};
 ghost use Rattle.image_name.specs.Texts.{IsProper};
@@ -19,6 +20,7 @@ ghost use Rattle.arguments.specs.declared.asked.ExplainCommand.{ExplainCommand a
 ghost use Rattle.arguments.specs.declared.asked.CheckCommand.{CheckCommand as ACheckCommand};
 ghost use Rattle.arguments.specs.declared.asked.InterleaveCommand.{InterleaveCommand as AnInterleaveCommand};
 ghost use Rattle.arguments.specs.declared.asked.PictureCommand.{PictureCommand as APictureCommand};
+ghost use Rattle.arguments.specs.declared.asked.ReportCommand.{ReportCommand as AReportCommand};
 ghost use Rattle.arguments.specs.declared.asked.ShowCommand.{ShowCommand as AShowCommand};
 ghost use Rattle.arguments.specs.declared.asked.ListingCommand.{ListingCommand as AListingCommand};
 ghost use Rattle.arguments.specs.declared.asked.CodeCommand.{CodeCommand as ACodeCommand};
@@ -28,9 +30,11 @@ ghost use Rattle.arguments.specs.declared.asked.ScheduledRun.{ScheduledRun as AS
 use crate::asked::{
     AssembleCommand, CheckCommand, CodeCommand, DebugCommand, ExplainCommand, ImagesCommand,
     InterleaveCommand, LineFault, ListingCommand, MachineOptions, MakeVolumeCommand,
-    PictureCommand, ReplayCommand, RunCommand, ScheduledRun, ShowCommand, UpgradeCommand,
+    PictureCommand, ReplayCommand, ReportCommand, RunCommand, ScheduledRun, ShowCommand,
+    UpgradeCommand,
 };
 use crate::machine::{cached_machine, whole_machine};
+use crate::moments::optional_moments;
 use crate::values::{
     NumberOption, code_word, flag, image_word, number, number_word, optional, optional_image,
     optional_number_word, seed, word,
@@ -84,10 +88,7 @@ fn start_of(alloc: Global, found: &ArgMatches<'_>) -> Result<Started, LineFault>
 }
 
 /// The run of a command without `--capacity`.
-pub(crate) fn scheduled_run(
-    alloc: Global,
-    found: &ArgMatches<'_>,
-) -> Result<ScheduledRun, LineFault>
+fn scheduled_run(alloc: Global, found: &ArgMatches<'_>) -> Result<ScheduledRun, LineFault>
     ensures ok { IfOk result (IsScheduledRun (rows_of (found_of found.now))) }
     ensures within { IfOk result (λ run. IsMachineWithin run.machine) }
     ensures err { IfErr result (OnFault ((run : AScheduledRun)
@@ -199,6 +200,19 @@ pub(crate) fn debug(alloc: Global, found: &ArgMatches<'_>) -> Result<DebugComman
     Ok(DebugCommand { program, machine })
 }
 
+/// What `trace`, `unpersisted` or `waste` is to do.
+pub(crate) fn report(alloc: Global, found: &ArgMatches<'_>) -> Result<ReportCommand, LineFault>
+    ensures ok { IfOk result (IsReport (rows_of (found_of found.now))) }
+    ensures within { IfOk result (λ command. IsMachineWithin command.run.machine) }
+    ensures err { IfErr result (OnFault ((command : AReportCommand)
+        → ¬ (IsReport (rows_of (found_of found.now)) command))) }
+{
+    Ok(ReportCommand {
+        json: flag(found, "json"),
+        run: scheduled_run(alloc, found)?,
+    })
+}
+
 /// What `images` is to do.
 pub(crate) fn images(alloc: Global, found: &ArgMatches<'_>) -> Result<ImagesCommand, LineFault>
     ensures ok { IfOk result (IsImages (rows_of (found_of found.now))) }
@@ -207,6 +221,7 @@ pub(crate) fn images(alloc: Global, found: &ArgMatches<'_>) -> Result<ImagesComm
         → ¬ (IsImages (rows_of (found_of found.now)) command))) }
 {
     Ok(ImagesCommand {
+        json: flag(found, "json"),
         moment: number_word(alloc, found, "MOMENT")?,
         run: scheduled_run(alloc, found)?,
     })
@@ -230,13 +245,16 @@ pub(crate) fn explain(alloc: Global, found: &ArgMatches<'_>) -> Result<ExplainCo
 /// What `check` is to do.
 pub(crate) fn check(alloc: Global, found: &ArgMatches<'_>) -> Result<CheckCommand, LineFault>
     ensures ok { IfOk result (IsCheck (rows_of (found_of found.now))) }
-    ensures within { IfOk result (λ command. IsMachineWithin command.run.machine × IsWithin 1 8 command.workers) }
+    ensures within { IfOk result (λ command. IsMachineWithin command.run.machine
+        × IsWithin 1 8 command.workers × IfSome command.moments IsUpward) }
     ensures err { IfErr result (OnFault ((command : ACheckCommand)
         → ¬ (IsCheck (rows_of (found_of found.now)) command))) }
 {
     Ok(CheckCommand {
         why: flag(found, "why"),
+        json: flag(found, "json"),
         workers: number(alloc, found, &WORKERS)?,
+        moments: optional_moments(alloc, found, "moments")?,
         plan: word(alloc, found, "PLAN")?,
         run: scheduled_run(alloc, found)?,
     })

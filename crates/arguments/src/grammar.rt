@@ -199,6 +199,12 @@ const WORKERS: Argument = Argument::Valued {
     about: "The number of workers that judge the run, from 1 to 8 [default: 1]",
 };
 
+const MOMENTS: Argument = Argument::Valued {
+    name: "moments",
+    value: "A-B",
+    about: "The moments that are judged: A-B, A- to the last one, or A alone [default: all]",
+};
+
 const RECORD: Argument = Argument::Valued {
     name: "record",
     value: "FILE",
@@ -214,6 +220,11 @@ const OUT: Argument = Argument::Valued {
 const WHOLE: Argument = Argument::Flag {
     name: "whole",
     about: "Refuse a run in which a hart doesn't exit with 0, or an operation doesn't end",
+};
+
+const JSON: Argument = Argument::Flag {
+    name: "json",
+    about: "Print one JSON object a line",
 };
 
 const WHY: Argument = Argument::Flag {
@@ -270,19 +281,19 @@ static JUDGING: [Subcommand; 11] = [
     Subcommand {
         name: "trace",
         about: "Print the events of a run by a schedule, each with its step, pc and source line",
-        arguments: &[PROGRAM, SCHEDULE, MEDIUM, HARTS, WHOLE],
+        arguments: &[PROGRAM, SCHEDULE, MEDIUM, HARTS, WHOLE, JSON],
         ending: ending!("trace append.s append.schedule --medium fresh.medium --whole"),
     },
     Subcommand {
         name: "unpersisted",
         about: "Print the stores of a run that weren't durable when their operation ended",
-        arguments: &[PROGRAM, SCHEDULE, MEDIUM, HARTS, WHOLE],
+        arguments: &[PROGRAM, SCHEDULE, MEDIUM, HARTS, WHOLE, JSON],
         ending: ending!("unpersisted append.s append.schedule --medium fresh.medium --whole"),
     },
     Subcommand {
         name: "waste",
         about: "Print the cleans and fences that a run makes in vain",
-        arguments: &[PROGRAM, SCHEDULE, MEDIUM, HARTS, WHOLE],
+        arguments: &[PROGRAM, SCHEDULE, MEDIUM, HARTS, WHOLE, JSON],
         ending: ending!(
             "waste append.s append.schedule --medium fresh.medium --whole",
             "This speaks of the run by this schedule alone: only an instruction with `always` can be deleted, where each run has it.\n\n"
@@ -291,7 +302,7 @@ static JUDGING: [Subcommand; 11] = [
     Subcommand {
         name: "images",
         about: "Count the crash images of a moment of a run by a schedule",
-        arguments: &[PROGRAM, SCHEDULE, MOMENT, MEDIUM, HARTS, WHOLE],
+        arguments: &[PROGRAM, SCHEDULE, MOMENT, MEDIUM, HARTS, WHOLE, JSON],
         ending: ending!("images append.s append.schedule 5 --medium fresh.medium --whole"),
     },
     Subcommand {
@@ -303,7 +314,9 @@ static JUDGING: [Subcommand; 11] = [
     Subcommand {
         name: "check",
         about: "Judge every crash image of a run by a schedule",
-        arguments: &[PLAN, PROGRAM, SCHEDULE, MEDIUM, HARTS, WORKERS, WHOLE, WHY],
+        arguments: &[
+            PLAN, PROGRAM, SCHEDULE, MEDIUM, HARTS, WORKERS, MOMENTS, WHOLE, WHY, JSON,
+        ],
         ending: ending!(
             "check append.plan append.s append.schedule --medium fresh.medium --whole --why"
         ),

@@ -6,11 +6,13 @@ mod commands;
 mod grammar;
 mod line;
 mod machine;
+mod moments;
 mod values;
 
 pub use asked::{
     AssembleCommand, CheckCommand, CodeCommand, Command, DebugCommand, ExplainCommand,
     ImagesCommand, InterleaveCommand, LineFault, ListingCommand, MachineOptions, MakeVolumeCommand,
-    PictureCommand, ReplayCommand, RunCommand, ScheduledRun, ShowCommand, UpgradeCommand,
+    Moments, PictureCommand, ReplayCommand, ReportCommand, RunCommand, ScheduledRun, ShowCommand,
+    UpgradeCommand,
 };
 pub use line::command;

@@ -9,7 +9,7 @@ ghost use Rattle.arguments.specs.declared.asked.Command.{Command as ACommand};
 use crate::asked::{Command, LineFault};
 use crate::commands::{
     assemble, check, code, debug, explain, images, interleave, listing, make_volume, picture,
-    replay, run, scheduled_run, show, upgrade,
+    replay, report, run, show, upgrade,
 };
 use crate::grammar::grammar;
 use clap::ArgMatches;
@@ -76,9 +76,9 @@ fn asked(alloc: Global, name: &str, found: &ArgMatches<'_>) -> Result<Command, L
         "run" => Command::Run(run(alloc, found)?),
         "replay" => Command::Replay(replay(alloc, found)?),
         "debug" => Command::Debug(debug(alloc, found)?),
-        "trace" => Command::Trace(scheduled_run(alloc, found)?),
-        "unpersisted" => Command::Unpersisted(scheduled_run(alloc, found)?),
-        "waste" => Command::Waste(scheduled_run(alloc, found)?),
+        "trace" => Command::Trace(report(alloc, found)?),
+        "unpersisted" => Command::Unpersisted(report(alloc, found)?),
+        "waste" => Command::Waste(report(alloc, found)?),
         "images" => Command::Images(images(alloc, found)?),
         "explain" => Command::Explain(explain(alloc, found)?),
         "check" => Command::Check(check(alloc, found)?),
@@ -97,7 +97,8 @@ fn asked(alloc: Global, name: &str, found: &ArgMatches<'_>) -> Result<Command, L
 /// Help where the line asks for it, Memory where memory is refused, and else Fault where the line
 /// isn't one of these, with FILE any word that isn't empty and doesn't begin with `-`, PAGES, LINES, LINE and MOMENT
 /// below 2^32 and each N within the limits that `Command` has for it, in decimal digits all, IMAGE a
-/// text that `ImageName::read` takes as a name, CODE one of `code_table`'s, and OBJECT another word than SOURCE:
+/// text that `ImageName::read` takes as a name, A-B two such numbers of which the second isn't the lesser, or the first alone, with or
+/// without the dash, CODE one of `code_table`'s, and OBJECT another word than SOURCE:
 ///
 /// - `asm SOURCE OBJECT`
 /// - `mkfs PLAN LINES MEDIUM`
@@ -105,12 +106,12 @@ fn asked(alloc: Global, name: &str, found: &ArgMatches<'_>) -> Result<Command, L
 /// - `run PROGRAM [--medium FILE --harts N --capacity N --steps N --record FILE --out FILE]`
 /// - `replay PROGRAM SCHEDULE [--medium FILE --harts N --capacity N --out FILE]`
 /// - `debug PROGRAM [--medium FILE --harts N --capacity N]`
-/// - `trace PROGRAM SCHEDULE [--medium FILE --harts N --whole]`
-/// - `unpersisted PROGRAM SCHEDULE [--medium FILE --harts N --whole]`
-/// - `waste PROGRAM SCHEDULE [--medium FILE --harts N --whole]`
-/// - `images PROGRAM SCHEDULE MOMENT [--medium FILE --harts N --whole]`
+/// - `trace PROGRAM SCHEDULE [--medium FILE --harts N --whole --json]`
+/// - `unpersisted PROGRAM SCHEDULE [--medium FILE --harts N --whole --json]`
+/// - `waste PROGRAM SCHEDULE [--medium FILE --harts N --whole --json]`
+/// - `images PROGRAM SCHEDULE MOMENT [--medium FILE --harts N --whole --json]`
 /// - `explain PROGRAM SCHEDULE MOMENT IMAGE [--medium FILE --harts N --whole]`
-/// - `check PLAN PROGRAM SCHEDULE [--medium FILE --harts N --workers N --whole --why]`
+/// - `check PLAN PROGRAM SCHEDULE [--medium FILE --harts N --workers N --moments A-B --whole --why --json]`
 /// - `picture PROGRAM SCHEDULE MOMENT FILE [--image IMAGE --medium FILE --harts N]`
 /// - `interleave PROGRAM --seed N [--medium FILE --harts N --steps N --evictions N]`
 /// - `show MEDIUM [LINE]`

@@ -19,7 +19,7 @@ use std::alloc::Global;
 
 /// The value of an option or a word, where the line has it.
 #[tactic(auto, using(crate::proofs::Lines::value_found))]
-fn value<'a>(found: &ArgMatches<'a>, name: &str) -> Option<&'a str>
+pub(crate) fn value<'a>(found: &ArgMatches<'a>, name: &str) -> Option<&'a str>
     ensures { MatchOption result (first_of name.now (rows_of (found_of found.now)) ≡ None)
         (λ value. first_of name.now (rows_of (found_of found.now)) ≡ Some value.now) }
 {

@@ -1,8 +1,8 @@
 //! Lines that are read, and lines that are refused, for each rule of the command line.
 
 use arguments::{
-    CodeCommand, Command, InterleaveCommand, LineFault, MachineOptions, PictureCommand,
-    ScheduledRun, ShowCommand, command,
+    CheckCommand, CodeCommand, Command, InterleaveCommand, LineFault, MachineOptions, Moments,
+    PictureCommand, ReportCommand, ScheduledRun, ShowCommand, command,
 };
 use std::alloc::{AllocError, Global};
 use std::test::Fail;
@@ -66,34 +66,66 @@ fn scheduled_of(alloc: Global, run: &ScheduledRun) -> Result<String, AllocError>
     format!(in alloc; "{} {} / {machine} {whole}", run.program, run.schedule)
 }
 
+/// How an answer is printed.
+fn form_of(json: bool) -> &'static str {
+    if json { " json" } else { "" }
+}
+
+/// A run by a schedule, and how what is told of it is printed.
+fn report_of(alloc: Global, report: &ReportCommand) -> Result<String, AllocError> {
+    let run = scheduled_of(alloc, &report.run)?;
+    let form = form_of(report.json);
+    format!(in alloc; "{run}{form}")
+}
+
+/// The moments that are judged.
+fn moments_of(alloc: Global, moments: Option<Moments>) -> Result<String, AllocError> {
+    let Some(moments) = moments else {
+        return String::from_str(alloc, "all");
+    };
+    match moments.last {
+        Some(last) => format!(in alloc; "{}-{last}", moments.first),
+        None => format!(in alloc; "{}-", moments.first),
+    }
+}
+
+/// A check: its plan, its run, its workers, and what else it has.
+fn check_of(alloc: Global, check: &CheckCommand) -> Result<String, AllocError> {
+    let run = scheduled_of(alloc, &check.run)?;
+    let moments = moments_of(alloc, check.moments)?;
+    let why = if check.why { " why" } else { "" };
+    let form = form_of(check.json);
+    format!(in alloc;
+        "check {} {run} / {} {moments}{why}{form}",
+        check.plan, check.workers
+    )
+}
+
 /// A command on a run by a schedule: its name, the run, and what else it has.
 fn images_of(alloc: Global, command: &Command) -> Result<String, AllocError> {
     match command {
-        Command::Trace(run) => {
-            let run = scheduled_of(alloc, run)?;
-            format!(in alloc; "trace {run}")
+        Command::Trace(report) => {
+            let report = report_of(alloc, report)?;
+            format!(in alloc; "trace {report}")
         }
-        Command::Unpersisted(run) => {
-            let run = scheduled_of(alloc, run)?;
-            format!(in alloc; "unpersisted {run}")
+        Command::Unpersisted(report) => {
+            let report = report_of(alloc, report)?;
+            format!(in alloc; "unpersisted {report}")
         }
-        Command::Waste(run) => {
-            let run = scheduled_of(alloc, run)?;
-            format!(in alloc; "waste {run}")
+        Command::Waste(report) => {
+            let report = report_of(alloc, report)?;
+            format!(in alloc; "waste {report}")
         }
         Command::Images(images) => {
             let run = scheduled_of(alloc, &images.run)?;
-            format!(in alloc; "images {run} / {}", images.moment)
+            let form = form_of(images.json);
+            format!(in alloc; "images {run} / {}{form}", images.moment)
         }
         Command::Explain(explain) => {
             let run = scheduled_of(alloc, &explain.run)?;
             format!(in alloc; "explain {run} / {} {}", explain.moment, explain.image)
         }
-        Command::Check(check) => {
-            let run = scheduled_of(alloc, &check.run)?;
-            let why = if check.why { " why" } else { "" };
-            format!(in alloc; "check {} {run} / {}{why}", check.plan, check.workers)
-        }
+        Command::Check(check) => check_of(alloc, check),
         _ => run_of(alloc, command),
     }
 }
@@ -242,7 +274,7 @@ fn defaults_stand_where_options_are_left_out(rt: HostRuntime) -> Result<(), Fail
         ),
         (
             "novacrash check p a.s s",
-            "check p a.s s / - 1 whole any / 1",
+            "check p a.s s / - 1 whole any / 1 all",
         ),
     ];
     let misread = first_misread(rt.alloc(), &lines)?;
@@ -251,7 +283,35 @@ fn defaults_stand_where_options_are_left_out(rt: HostRuntime) -> Result<(), Fail
 }
 
 /// Lines with options, before and after the words, and what they are read as.
-const WITH_OPTIONS: [(&str, &str); 25] = [
+const WITH_OPTIONS: [(&str, &str); 32] = [
+    (
+        "novacrash trace --json a.s s",
+        "trace a.s s / - 1 whole any json",
+    ),
+    (
+        "novacrash unpersisted a.s s --json --whole",
+        "unpersisted a.s s / - 1 whole must-be-whole json",
+    ),
+    (
+        "novacrash waste a.s --json s",
+        "waste a.s s / - 1 whole any json",
+    ),
+    (
+        "novacrash images a.s s 7 --json",
+        "images a.s s / - 1 whole any / 7 json",
+    ),
+    (
+        "novacrash check p a.s s --json --moments 2-5 --why",
+        "check p a.s s / - 1 whole any / 1 2-5 why json",
+    ),
+    (
+        "novacrash check p --moments=5- a.s s",
+        "check p a.s s / - 1 whole any / 1 5-",
+    ),
+    (
+        "novacrash check p a.s s --moments 5",
+        "check p a.s s / - 1 whole any / 1 5-5",
+    ),
     (
         "novacrash picture a.s --image l1:1 s 7 --medium m o --harts 2",
         "picture a.s s / m 2 whole any / 7 l1:1 o",
@@ -286,11 +346,11 @@ const WITH_OPTIONS: [(&str, &str); 25] = [
     ),
     (
         "novacrash check p a.s --why s",
-        "check p a.s s / - 1 whole any / 1 why",
+        "check p a.s s / - 1 whole any / 1 all why",
     ),
     (
         "novacrash check p --whole a.s s --workers 2",
-        "check p a.s s / - 1 whole must-be-whole / 2",
+        "check p a.s s / - 1 whole must-be-whole / 2 all",
     ),
     (
         "novacrash run a.s --medium m --harts 2 --capacity 3 --steps 4 --record r --out o",
@@ -318,11 +378,11 @@ const WITH_OPTIONS: [(&str, &str); 25] = [
     ),
     (
         "novacrash check --harts 2 p --medium=m a.s s",
-        "check p a.s s / m 2 whole any / 1",
+        "check p a.s s / m 2 whole any / 1 all",
     ),
     (
         "novacrash check p --workers=4 a.s s --harts 2",
-        "check p a.s s / - 2 whole any / 4",
+        "check p a.s s / - 2 whole any / 4 all",
     ),
     (
         "novacrash run a.s --out o",
@@ -359,7 +419,19 @@ fn options_are_read(rt: HostRuntime) -> Result<(), Fail> {
 }
 
 /// Lines whose numbers are at their limits, and what they are read as.
-const AT_LIMITS: [(&str, &str); 20] = [
+const AT_LIMITS: [(&str, &str); 23] = [
+    (
+        "novacrash check p a s --moments 0-4294967295",
+        "check p a s / - 1 whole any / 1 0-4294967295",
+    ),
+    (
+        "novacrash check p a s --moments 4294967295-",
+        "check p a s / - 1 whole any / 1 4294967295-",
+    ),
+    (
+        "novacrash check p a s --moments 007-07",
+        "check p a s / - 1 whole any / 1 7-7",
+    ),
     (
         "novacrash interleave a --seed 18446744073709551615 --steps 500000000 --evictions 65536",
         "interleave a / - 1 whole / 18446744073709551615 500000000 65536",
@@ -388,15 +460,15 @@ const AT_LIMITS: [(&str, &str); 20] = [
     ),
     (
         "novacrash check p a s --harts 008",
-        "check p a s / - 8 whole any / 1",
+        "check p a s / - 8 whole any / 1 all",
     ),
     (
         "novacrash check p a s --workers 8",
-        "check p a s / - 1 whole any / 8",
+        "check p a s / - 1 whole any / 8 all",
     ),
     (
         "novacrash check p a s --workers 1",
-        "check p a s / - 1 whole any / 1",
+        "check p a s / - 1 whole any / 1 all",
     ),
     ("novacrash mkfs p 0 m", "mkfs p 0 m"),
     ("novacrash upgrade o 0 00 n", "upgrade o 0 0 n"),
@@ -454,6 +526,17 @@ fn other_numbers_are_faults(rt: HostRuntime) -> Result<(), Fail> {
         "novacrash explain a s 1 1 --harts 9",
         "novacrash check p a s --harts 9",
         "novacrash check p a s --workers 0",
+        "novacrash check p a s --moments -",
+        "novacrash check p a s --moments=-",
+        "novacrash check p a s --moments=-5",
+        "novacrash check p a s --moments=",
+        "novacrash check p a s --moments 5-4",
+        "novacrash check p a s --moments a-b",
+        "novacrash check p a s --moments 1-b",
+        "novacrash check p a s --moments 1--2",
+        "novacrash check p a s --moments 0x1-2",
+        "novacrash check p a s --moments 0-4294967296",
+        "novacrash check p a s --moments 4294967296-",
         "novacrash check p a s --workers 9",
         "novacrash check p a s --workers two",
         "novacrash mkfs p 4294967296 m",

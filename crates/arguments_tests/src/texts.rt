@@ -15,7 +15,7 @@ fn text_of(alloc: Global, line: &str) -> Result<Option<String>, AllocError> {
 }
 
 /// Lines at fault, and what is told of them.
-const FAULTS: [(&str, &str); 23] = [
+const FAULTS: [(&str, &str); 24] = [
     (
         "novacrash run a.s --steps 0",
         "error: --steps takes a decimal number from 1 to 500000000\n",
@@ -31,6 +31,10 @@ const FAULTS: [(&str, &str); 23] = [
     (
         "novacrash check p a.s s --workers 9",
         "error: --workers takes a decimal number from 1 to 8\n",
+    ),
+    (
+        "novacrash check p a.s s --moments 5-4",
+        "error: --moments takes A-B, A- or A, decimal numbers below 4294967296, A at most B\n",
     ),
     (
         "novacrash run a.s --medium=-m",
@@ -330,6 +334,7 @@ Options:
       --medium <FILE>  The medium's file [default: 512 lines of zeros]
       --harts <N>      The number of harts, from 1 to 8 [default: 1]
       --whole          Refuse a run in which a hart doesn't exit with 0, or an operation doesn't end
+      --json           Print one JSON object a line
       --help           Print help
 
 Example: novacrash trace append.s append.schedule --medium fresh.medium --whole
@@ -350,6 +355,7 @@ Options:
       --medium <FILE>  The medium's file [default: 512 lines of zeros]
       --harts <N>      The number of harts, from 1 to 8 [default: 1]
       --whole          Refuse a run in which a hart doesn't exit with 0, or an operation doesn't end
+      --json           Print one JSON object a line
       --help           Print help
 
 Example: novacrash unpersisted append.s append.schedule --medium fresh.medium --whole
@@ -370,6 +376,7 @@ Options:
       --medium <FILE>  The medium's file [default: 512 lines of zeros]
       --harts <N>      The number of harts, from 1 to 8 [default: 1]
       --whole          Refuse a run in which a hart doesn't exit with 0, or an operation doesn't end
+      --json           Print one JSON object a line
       --help           Print help
 
 Example: novacrash waste append.s append.schedule --medium fresh.medium --whole
@@ -393,6 +400,7 @@ Options:
       --medium <FILE>  The medium's file [default: 512 lines of zeros]
       --harts <N>      The number of harts, from 1 to 8 [default: 1]
       --whole          Refuse a run in which a hart doesn't exit with 0, or an operation doesn't end
+      --json           Print one JSON object a line
       --help           Print help
 
 Example: novacrash images append.s append.schedule 5 --medium fresh.medium --whole
@@ -436,8 +444,10 @@ Options:
       --medium <FILE>  The medium's file [default: 512 lines of zeros]
       --harts <N>      The number of harts, from 1 to 8 [default: 1]
       --workers <N>    The number of workers that judge the run, from 1 to 8 [default: 1]
+      --moments <A-B>  The moments that are judged: A-B, A- to the last one, or A alone [default: all]
       --whole          Refuse a run in which a hart doesn't exit with 0, or an operation doesn't end
       --why            Say which stores a failing image lacks and keeps, why each can be lost, and how it comes about
+      --json           Print one JSON object a line
       --help           Print help
 
 Example: novacrash check append.plan append.s append.schedule --medium fresh.medium --whole --why

@@ -8,7 +8,7 @@ use crate::mishaps::{UNREAD, add_spoiled, any_value, any_word};
 use crate::routine::Routine;
 use crate::runs::{Run, store_lines};
 use crate::setting::{Setting, page_entries};
-use crash_image::images_of_moments;
+use crash_image::images_between;
 use line_memory::Medium;
 use nova_log::{Layout, mkfs};
 use plan::{Action, Operation, Plan};
@@ -275,7 +275,8 @@ fn shortened(alloc: Global, whole: Trace) -> Result<Trace, TraceFault> {
 }
 
 fn has_few_images(alloc: Global, trace: &Trace) -> Result<bool, TraceFault> {
-    match images_of_moments(alloc, trace) {
+    let end = trace.events().len() as u32 + 1;
+    match images_between(alloc, trace, 0, end) {
         Ok(Some(images)) => Ok(images <= MANY_IMAGES),
         Ok(None) => Ok(false),
         Err(_refused) => Err(TraceFault::Memory),

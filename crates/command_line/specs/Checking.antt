@@ -1,6 +1,7 @@
 -- What `check` comes to.
 use Rattle.std.specs.Prelude.{◌≡◌, ℕ, Bool, true, false, List, [], Option, Some, None, Result, MatchResult, ◌++◌, codes, decimal, string_bytes}
 use Rattle.arguments.specs.declared.asked.CheckCommand.{CheckCommand}
+use Rattle.arguments.specs.declared.asked.Moments.{Moments}
 use Rattle.image_check.specs.declared.verdict.Cause.{Cause}
 use Rattle.image_check.specs.declared.verdict.Cause.TheVariants as causes
 use Rattle.image_check.specs.declared.verdict.Verdict.{Verdict}
@@ -8,13 +9,14 @@ use Rattle.image_check.specs.declared.verdict.Verdict.TheVariants as verdicts
 use Rattle.image_name.specs.Texts.{image_text}
 use Rattle.image_name.specs.declared.name.ImageName.{ImageName}
 use Rattle.loss_text.specs.Events.{event_text}
+use Rattle.loss_text.specs.Json.{event_object, why_json}
 use Rattle.loss_text.specs.Why.{why_text}
 use Rattle.plan.specs.declared.operation.Operation.{Operation}
 use Rattle.program_losses.specs.Failing.{IsExplainedImage}
 use Rattle.program_losses.specs.declared.failing.ExplainedImage.{ExplainedImage}
 use Rattle.program_trace.specs.Lines.{line_of}
 use Rattle.schedule.specs.declared.items.Item.{Item}
-use Rattle.tester.specs.Checking.{HasNoVerdict, HasVerdict}
+use Rattle.tester.specs.Checking.{HasNoVerdict, HasVerdictOn}
 use Rattle.tester.specs.Explaining.{FailsToExplain}
 use Rattle.tester.specs.Runs.{Setup}
 use Rattle.tester.specs.declared.explaining.ExplainFault.{ExplainFault}
@@ -28,9 +30,19 @@ use Rattle.command_line.specs.Steps.{First, Prints, Reads, Step, Still, Tells}
 use Rattle.command_line.specs.declared.answer.Answer.{Answer}
 use Rattle.command_line.specs.declared.failure.Failure.{Failure}
 
--- the verdict on the run by a schedule, or why there is none
-pub record Judges (plan : List Operation) (s : Setup) (schedule : List Item) (outcome : Result Verdict Failure) : Type 0 where
-  pub judges : MatchResult outcome (HasVerdict plan s schedule) (Tells (HasNoVerdict plan s schedule) failure_of_verdict)
+-- the first of the moments that are judged, and the last one, where they don't go on to the last of the run
+abbrev pub first_of : Option Moments → ℕ
+first_of None = 0
+first_of (Some moments) = moments.first
+
+abbrev pub last_of : Option Moments → Option ℕ
+last_of None = None
+last_of (Some moments) = moments.last
+
+-- the verdict on these moments of the run by a schedule, or why there is none
+pub record Judges (plan : List Operation) (s : Setup) (schedule : List Item) (moments : Option Moments) (outcome : Result Verdict Failure) : Type 0 where
+  pub judges : MatchResult outcome (HasVerdictOn plan s schedule (first_of moments) (last_of moments))
+      (Tells (HasNoVerdict plan s schedule (first_of moments)) failure_of_verdict)
 
 -- why an image is bad: the code of the fault that recovery finds in it, or `illegal`
 abbrev pub cause_text : Cause → List ℕ
@@ -52,6 +64,25 @@ verdict_line (verdicts.Pass moments images) = pass_line moments images
 verdict_line (verdicts.Fail moment image cause) =
     codes "fail moment=" ++ (decimal moment ++ (codes " image=" ++ (image_text image ++ (codes " cause=" ++ (cause_text cause ++ line_end)))))
 verdict_line (verdicts.TooMany moment) = codes "too many moment=" ++ (decimal moment ++ line_end)
+
+-- the sum of the numbers of images in JSON; `null` where a moment has over 65,536
+abbrev pub total_json : Option ℕ → List ℕ
+total_json (Some images) = decimal images
+total_json None = codes "null"
+
+-- `{"kind":"pass","moments":N,"images":N}`, `{"kind":"fail","moment":M,"image":"NAME","cause":"C"}` or `{"kind":"too many","moment":M}`
+abbrev pub verdict_json : Verdict → List ℕ
+verdict_json (verdicts.Pass moments images) =
+    codes "{\"kind\":\"pass\",\"moments\":" ++ (decimal moments ++ (codes ",\"images\":" ++ (total_json images ++ (codes "}" ++ line_end))))
+verdict_json (verdicts.Fail moment image cause) =
+    codes "{\"kind\":\"fail\",\"moment\":" ++ (decimal moment ++ (codes ",\"image\":\"" ++ (image_text image
+    ++ (codes "\",\"cause\":\"" ++ (cause_text cause ++ (codes "\"}" ++ line_end))))))
+verdict_json (verdicts.TooMany moment) = codes "{\"kind\":\"too many\",\"moment\":" ++ (decimal moment ++ (codes "}" ++ line_end))
+
+-- as text or as JSON
+abbrev pub told_verdict : Bool → Verdict → List ℕ
+told_verdict true verdict = verdict_json verdict
+told_verdict false verdict = verdict_line verdict
 
 abbrev pub verdict_status : Verdict → ℕ
 verdict_status (verdicts.Pass moments images) = 0
@@ -82,11 +113,17 @@ pub record ExplainsOne (s : Setup) (schedule : List Item) (moment : ℕ) (image 
 pub record Explains (s : Setup) (schedule : List Item) (image : Option (ℕ × ImageName)) (outcome : Result (Option ExplainedImage) Failure) : Type 0 where
   pub explains : MatchResult outcome (IsExplained s schedule image) (Tells (IsUnexplained s schedule image) failure_of_explanation)
 
--- its lines, by the lines of the program's source
-abbrev pub why_lines : List ℕ → Option ExplainedImage → List ℕ
-why_lines file None = []
-why_lines file (Some explained) =
-    why_text (event_text (line_of file) explained.traced.items) explained.told.read explained.told.unread explained.schedule
+-- what is told of it as text or as JSON, by the line of the source at each pc
+abbrev pub told_losses : Bool → (ℕ → Option ℕ) → ExplainedImage → List ℕ
+told_losses true lines explained =
+    why_json (event_object lines explained.traced.items) explained.told.read explained.told.unread explained.schedule
+told_losses false lines explained =
+    why_text (event_text lines explained.traced.items) explained.told.read explained.told.unread explained.schedule
+
+-- by the lines of the program's source, where there is such an image
+abbrev pub told_why : Bool → List ℕ → Option ExplainedImage → List ℕ
+told_why json file None = []
+told_why json file (Some explained) = told_losses json (line_of file) explained
 
 -- With `--whole` there is a verdict on a whole run alone: a pass then also says that each hart has exited with 0, and that each
 -- planned operation has ended.
@@ -95,6 +132,6 @@ ChecksFile reads command =
     First (ReadsPlan reads (string_bytes command.plan)) (λ plan.
     First (ReadsRun reads command.run) (λ run.
     First (Still (MeetsWhole command.run run (numbers_of plan.operations))) (λ _.
-    First (Still (Judges plan.operations (setup_of command.run run) run.schedule)) (λ verdict.
+    First (Still (Judges plan.operations (setup_of command.run run) run.schedule command.moments)) (λ verdict.
     First (Still (Explains (setup_of command.run run) run.schedule (failing command.why verdict))) (λ why.
-    Still (Prints (verdict_line verdict ++ why_lines run.file.items why) (verdict_status verdict)))))))
+    Still (Prints (told_verdict command.json verdict ++ told_why command.json run.file.items why) (verdict_status verdict)))))))

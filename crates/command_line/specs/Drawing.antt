@@ -1,5 +1,5 @@
 -- What `interleave` comes to.
-use Rattle.std.specs.Prelude.{ℕ, List, Result, MatchResult, option_map, string_bytes}
+use Rattle.std.specs.Prelude.{List, Result, MatchResult, option_map, string_bytes}
 use Rattle.arguments.specs.declared.asked.InterleaveCommand.{InterleaveCommand}
 use Rattle.interleaving.specs.Drawing.{IsDrawn, StopsDrawing}
 use Rattle.interleaving.specs.Interleaves.{IsWhole}

@@ -142,6 +142,7 @@ failure_of_explanation explanations.Memory = Memory
 abbrev pub failure_of_verdict : VerdictFault → Failure
 failure_of_verdict (verdicts.Step fault) = Refused (Step fault)
 failure_of_verdict (verdicts.Operation fault) = Refused (Operation fault)
+failure_of_verdict verdicts.NoSuchMoment = Refused Moment
 failure_of_verdict verdicts.Memory = Memory
 
 -- for a session that ended by a fault: want of memory, or a standard stream that failed

@@ -1,5 +1,5 @@
 -- What `images` comes to.
-use Rattle.std.specs.Prelude.{ℕ, List, [], Option, Some, None, Result, MatchResult, ◌++◌, codes, decimal}
+use Rattle.std.specs.Prelude.{ℕ, Bool, true, false, List, [], Option, Some, None, Result, MatchResult, ◌++◌, codes, decimal}
 use Rattle.arguments.specs.declared.asked.ImagesCommand.{ImagesCommand}
 use Rattle.schedule.specs.declared.items.Item.{Item}
 use Rattle.tester.specs.Images.{CountsImages, FailsToCount}
@@ -25,9 +25,23 @@ count_text (Some n) = decimal n
 abbrev pub images_line : ℕ → Option ℕ → List ℕ
 images_line moment count = codes "moment " ++ (decimal moment ++ (codes " images " ++ (count_text count ++ line_end)))
 
+-- the number, and `null` where there are more
+abbrev pub count_json : Option ℕ → List ℕ
+count_json None = codes "null"
+count_json (Some n) = decimal n
+
+-- `{"kind":"images","moment":M,"images":N}`
+abbrev pub images_json : ℕ → Option ℕ → List ℕ
+images_json moment count = codes "{\"kind\":\"images\",\"moment\":" ++ (decimal moment ++ (codes ",\"images\":" ++ (count_json count ++ (codes "}" ++ line_end))))
+
+-- as text or as JSON
+abbrev pub told_count : Bool → ℕ → Option ℕ → List ℕ
+told_count true moment count = images_json moment count
+told_count false moment count = images_line moment count
+
 abbrev pub CountsFile : {F : Type 0} → Reads F → ImagesCommand → Step F Answer
 CountsFile reads command =
     First (ReadsRun reads command.run) (λ run.
     First (Still (MeetsWhole command.run run [])) (λ _.
     First (Still (Counts (setup_of command.run run) run.schedule command.moment)) (λ count.
-    Still (Prints (images_line command.moment count) 0))))
+    Still (Prints (told_count command.json command.moment count) 0))))

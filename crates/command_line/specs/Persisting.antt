@@ -1,12 +1,14 @@
 -- What `unpersisted` comes to.
-use Rattle.std.specs.Prelude.{◌==◌, ℕ, List, [], Result, MatchResult, if◌then◌else◌}
-use Rattle.arguments.specs.declared.asked.ScheduledRun.{ScheduledRun}
+use Rattle.std.specs.Prelude.{◌==◌, ℕ, Bool, true, false, List, [], Option, Result, MatchResult, if◌then◌else◌}
+use Rattle.arguments.specs.declared.asked.ReportCommand.{ReportCommand}
 use Rattle.durability.specs.declared.ends.Unpersisted.{Unpersisted}
 use Rattle.loss_text.specs.Events.{event_text}
+use Rattle.loss_text.specs.Json.{event_object, unpersisted_json}
 use Rattle.loss_text.specs.Unpersisted.{count_of, unpersisted_text}
 use Rattle.program_losses.specs.Unpersisted.{IsUnpersistedRun}
 use Rattle.program_losses.specs.declared.unpersisted.UnpersistedRun.{UnpersistedRun}
 use Rattle.program_trace.specs.Lines.{line_of}
+use Rattle.run_trace.specs.declared.traced_event.TracedEvent.{TracedEvent}
 use Rattle.schedule.specs.declared.items.Item.{Item}
 use Rattle.tester.specs.Runs.{FailsToRun, Setup}
 use Rattle.command_line.specs.Demanding.{MeetsWhole}
@@ -24,9 +26,14 @@ pub record Told (s : Setup) (schedule : List Item) (outcome : Result Unpersisted
 abbrev pub status_of : Unpersisted → ℕ
 status_of told = if count_of told == 0 then 0 else 1
 
-abbrev pub UnpersistedFile : {F : Type 0} → Reads F → ScheduledRun → Step F Answer
+-- as text or as JSON, by the line of the source at each pc
+abbrev pub told_stores : Bool → (ℕ → Option ℕ) → List TracedEvent → Unpersisted → List ℕ
+told_stores true lines traced told = unpersisted_json (event_object lines traced) told
+told_stores false lines traced told = unpersisted_text (event_text lines traced) told
+
+abbrev pub UnpersistedFile : {F : Type 0} → Reads F → ReportCommand → Step F Answer
 UnpersistedFile reads command =
-    First (ReadsRun reads command) (λ run.
-    First (Still (MeetsWhole command run [])) (λ _.
-    First (Still (Told (setup_of command run) run.schedule)) (λ found.
-    Still (Prints (unpersisted_text (event_text (line_of run.file.items) found.traced.items) found.told) (status_of found.told)))))
+    First (ReadsRun reads command.run) (λ run.
+    First (Still (MeetsWhole command.run run [])) (λ _.
+    First (Still (Told (setup_of command.run run) run.schedule)) (λ found.
+    Still (Prints (told_stores command.json (line_of run.file.items) found.traced.items found.told) (status_of found.told)))))

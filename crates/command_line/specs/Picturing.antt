@@ -2,7 +2,7 @@
 use Rattle.std.specs.Prelude.{ℕ, List, [], Option, Result, MatchResult, string_bytes}
 use Rattle.arguments.specs.declared.asked.PictureCommand.{PictureCommand}
 use Rattle.image_name.specs.declared.name.ImageName.{ImageName}
-use Rattle.program_picture.specs.Picturing.{FailsToPicture, HasMoment}
+use Rattle.program_picture.specs.Picturing.{FailsToPicture, HasPicture}
 use Rattle.schedule.specs.declared.items.Item.{Item}
 use Rattle.tester.specs.Runs.{Setup}
 use Rattle.command_line.specs.Failures.{failure_of_explanation}
@@ -13,7 +13,7 @@ use Rattle.command_line.specs.declared.failure.Failure.{Failure}
 
 -- a picture of the run at this moment, which it has, or why there is none; tests show what is drawn
 pub record DrawsPicture (s : Setup) (schedule : List Item) (moment : ℕ) (image : Option ImageName) (outcome : Result (List ℕ) Failure) : Type 0 where
-  pub draws : MatchResult outcome (λ picture. HasMoment s schedule moment) (Tells (FailsToPicture s schedule moment image) failure_of_explanation)
+  pub draws : MatchResult outcome (λ picture. HasPicture s schedule moment image) (Tells (FailsToPicture s schedule moment image) failure_of_explanation)
 
 abbrev pub PicturesFile : {F : Type 0} → Reads F → Writes F → PictureCommand → Step F Answer
 PicturesFile reads writes command =

@@ -1,6 +1,6 @@
 -- The steps of a command, one after another. A step is said by the files before it, its outcome and the files after it: it
 -- finds something, or it fails, and then the command does nothing more.
-use Rattle.std.specs.Prelude.{◌≡◌, ℕ, List, Result, Ok, Err, MatchResult, string_bytes}
+use Rattle.std.specs.Prelude.{◌≡◌, ℕ, List, Result, Ok, Err, MatchResult}
 use Rattle.std.specs.Result.{result_map_both}
 use Rattle.command_line.specs.Failures.{failure_of_file}
 use Rattle.command_line.specs.declared.answer.Answer.{Answer}

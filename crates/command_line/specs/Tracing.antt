@@ -1,9 +1,10 @@
 -- What `trace` comes to.
-use Rattle.std.specs.Prelude.{List, [], Result, MatchResult}
-use Rattle.arguments.specs.declared.asked.ScheduledRun.{ScheduledRun}
+use Rattle.std.specs.Prelude.{ℕ, Bool, true, false, List, [], Option, Result, MatchResult}
+use Rattle.arguments.specs.declared.asked.ReportCommand.{ReportCommand}
 use Rattle.program_trace.specs.Lines.{line_of}
 use Rattle.program_trace.specs.Tracing.{IsTraced}
 use Rattle.run_text.specs.Events.{trace_text}
+use Rattle.run_text.specs.Json.{trace_json}
 use Rattle.run_trace.specs.declared.traced_event.TracedEvent.{TracedEvent}
 use Rattle.schedule.specs.declared.items.Item.{Item}
 use Rattle.tester.specs.Runs.{FailsToRun, Setup}
@@ -18,9 +19,14 @@ use Rattle.command_line.specs.declared.failure.Failure.{Failure}
 pub record Traced (s : Setup) (schedule : List Item) (outcome : Result (List TracedEvent) Failure) : Type 0 where
   pub traces : MatchResult outcome (IsTraced s schedule) (Tells (FailsToRun s schedule) failure_of_step)
 
-abbrev pub TracesFile : {F : Type 0} → Reads F → ScheduledRun → Step F Answer
+-- the events as text or as JSON, by the line of the source at each pc
+abbrev pub told_events : Bool → (ℕ → Option ℕ) → List TracedEvent → List ℕ
+told_events true lines traced = trace_json lines traced
+told_events false lines traced = trace_text lines traced
+
+abbrev pub TracesFile : {F : Type 0} → Reads F → ReportCommand → Step F Answer
 TracesFile reads command =
-    First (ReadsRun reads command) (λ run.
-    First (Still (MeetsWhole command run [])) (λ _.
-    First (Still (Traced (setup_of command run) run.schedule)) (λ traced.
-    Still (Prints (trace_text (line_of run.file.items) traced) 0))))
+    First (ReadsRun reads command.run) (λ run.
+    First (Still (MeetsWhole command.run run [])) (λ _.
+    First (Still (Traced (setup_of command.run run) run.schedule)) (λ traced.
+    Still (Prints (told_events command.json (line_of run.file.items) traced) 0))))

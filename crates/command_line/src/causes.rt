@@ -196,6 +196,7 @@ impl From<VerdictFault> for Failure {
         match fault {
             VerdictFault::Step(fault) => Failure::Refused(Refusal::Step(fault)),
             VerdictFault::Operation(fault) => Failure::Refused(Refusal::Operation(fault)),
+            VerdictFault::NoSuchMoment => Failure::Refused(Refusal::Moment),
             VerdictFault::Memory => Failure::Memory,
         }
     }

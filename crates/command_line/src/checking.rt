@@ -2,11 +2,11 @@
 
 ghost use Rattle.std.specs.Prelude.{◌≡◌, ◌++◌, ◌^◌, ◌<◌, IfOk, IfSome, string_bytes};
 ghost use Rattle.arguments.specs.Line.{IsWithin};
-ghost use Rattle.command_line.specs.Checking.{ChecksFile, Explains, ExplainsOne, Judges, cause_text, failing, pass_line, verdict_line, verdict_status, why_lines};
-ghost use Rattle.loss_text.specs.Events.{event_text};
-ghost use Rattle.loss_text.specs.Why.{why_text};
+ghost use Rattle.arguments.specs.Spans.{IsUpward};
+ghost use Rattle.command_line.specs.Checking.{ChecksFile, Explains, ExplainsOne, Judges, cause_text, failing, pass_line, told_losses, told_verdict, told_why, verdict_json, verdict_line, verdict_status};
 ghost use Rattle.object.specs.Sections.{Sections};
 ghost use Rattle.program_trace.specs.Lines.{line_of};
+ghost use Rattle.run_text.specs.Places.{line_in};
 ghost use Rattle.schedule.specs.Grammar.{hart_steps};
 ghost use Rattle.tester.specs.Programs.{IsProgramOf};
 ghost use Rattle.command_line.specs.Steps.{Prints};
@@ -18,16 +18,17 @@ use crate::demanding::demand_whole;
 use crate::failure::Failure;
 use crate::files::Files;
 use crate::reading::{RunFiles, read_plan, read_run};
-use arguments::CheckCommand;
+use arguments::{CheckCommand, Moments};
+use assemble::LineNumbers;
 use image_check::{Cause, Verdict};
 use image_name::ImageName;
-use loss_text::why_text;
+use loss_text::{why_json, why_text};
 use plan::Plan;
 use program_losses::{ExplainedImage, explain_losses};
 use program_trace::source_lines;
 use std::alloc::{AllocError, Global};
 use std::thread::Threads;
-use tester::check_program;
+use tester::{check_moments, check_program};
 
 /// `check`: reads the files of a plan, a program, a schedule and a medium, and gives the verdict on the run, with `--why` also what a
 /// failing image lacks and keeps.
@@ -37,7 +38,8 @@ pub(crate) fn check_file<T: Threads + Sync, F: Files>(
     command: &CheckCommand,
     files: &mut F,
 ) -> Result<Answer, Failure>
-    requires { IsWithin 1 8 command.now.workers }
+    requires workers { IsWithin 1 8 command.now.workers }
+    requires moments { IfSome command.now.moments IsUpward }
     ensures { ChecksFile F.read_gives command.now files.old result files.new }
 {
     let plan = read_plan(alloc, command.plan.as_str(), files)?;
@@ -45,7 +47,7 @@ pub(crate) fn check_file<T: Threads + Sync, F: Files>(
     demand_whole(alloc, &command.run, &run, plan.operations())?;
     let verdict = verdict(rt, alloc, command, &plan, &run)?;
     let why = why(alloc, command, &run, &verdict)?;
-    verdict_answer(alloc, &run.file, &verdict, &why)
+    verdict_answer(alloc, &run.file, &verdict, &why, command.json)
 }
 
 fn verdict<T: Threads + Sync>(
@@ -55,23 +57,21 @@ fn verdict<T: Threads + Sync>(
     plan: &Plan,
     run: &RunFiles,
 ) -> Result<Verdict, Failure>
-    requires { IsWithin 1 8 command.now.workers }
-    ensures { Judges plan.now.operations (setup_of command.now.run run.now) run.now.schedule result }
+    requires workers { IsWithin 1 8 command.now.workers }
+    requires moments { IfSome command.now.moments IsUpward }
+    ensures { Judges plan.now.operations (setup_of command.now.run run.now) run.now.schedule command.now.moments result }
 {
     let harts = command.run.machine.harts;
     let workers = command.workers;
     let program = run.program.copy(alloc)?;
     let medium = run.medium.copy(alloc)?;
-    Ok(check_program(
-        rt,
-        alloc,
-        plan,
-        program,
-        medium,
-        harts,
-        &run.schedule,
-        workers,
-    )?)
+    let schedule = &run.schedule;
+    match command.moments {
+        Some(Moments { first, last }) => Ok(check_moments(
+            rt, alloc, plan, program, medium, harts, schedule, first, last, workers,
+        )?),
+        None => Ok(check_program(rt, alloc, plan, program, medium, harts, schedule, workers)?),
+    }
 }
 
 /// `--why`: of a failing image what it lacks and keeps, and how it comes about.
@@ -123,13 +123,14 @@ fn verdict_answer(
     file: &[u8],
     verdict: &Verdict,
     why: &Option<ExplainedImage>,
+    json: bool,
 ) -> Result<Answer, Failure>
     requires program { (program : Sections) × IsProgramOf file.now program }
     requires few { IfSome why.now (λ explained. hart_steps explained.schedule < 2 ^ 32) }
-    ensures { Prints (verdict_line verdict.now ++ why_lines file.now why.now) (verdict_status verdict.now) result }
+    ensures { Prints (told_verdict json verdict.now ++ told_why json file.now why.now) (verdict_status verdict.now) result }
 {
-    let mut text = verdict_line(alloc, verdict)?;
-    let lines = why_lines(alloc, file, why)?;
+    let mut text = told_verdict(alloc, verdict, json)?;
+    let lines = told_why(alloc, file, why, json)?;
     text.push_str(lines.as_str())?;
     let status = match verdict {
         Verdict::Pass { .. } => 0,
@@ -140,34 +141,92 @@ fn verdict_answer(
 }
 
 /// What is told of a failing image.
-fn why_lines(alloc: Global, file: &[u8], why: &Option<ExplainedImage>) -> Result<String, AllocError>
+#[tactic(auto, using(crate::proofs::SourceLines::why_of_source))]
+fn told_why(
+    alloc: Global,
+    file: &[u8],
+    why: &Option<ExplainedImage>,
+    json: bool,
+) -> Result<String, AllocError>
     requires program { (program : Sections) × IsProgramOf file.now program }
     requires few { IfSome why.now (λ explained. hart_steps explained.schedule < 2 ^ 32) }
-    ensures { IfOk result (λ text. string_bytes text ≡ why_lines file.now why.now) }
+    ensures { IfOk result (λ text. string_bytes text ≡ told_why json file.now why.now) }
 {
     match why {
-        Some(explained) => explained_lines(alloc, file, explained),
+        Some(explained) => {
+            let lines = source_lines(alloc, file)?;
+            told_losses(alloc, explained, &lines, json)
+        }
         None => Ok(String::new(alloc)),
     }
 }
 
-#[tactic(auto, using(crate::proofs::SourceLines::why_of_source))]
-fn explained_lines(
+fn told_losses(
     alloc: Global,
-    file: &[u8],
     explained: &ExplainedImage,
+    lines: &Option<LineNumbers>,
+    json: bool,
 ) -> Result<String, AllocError>
-    requires program { (program : Sections) × IsProgramOf file.now program }
     requires few { hart_steps explained.now.schedule < 2 ^ 32 }
-    ensures { IfOk result (λ text. string_bytes text ≡ why_lines file.now (Some explained.now)) }
+    ensures { IfOk result (λ text. string_bytes text ≡ told_losses json (line_in lines.now) explained.now) }
 {
-    let lines = source_lines(alloc, file)?;
     let ExplainedImage {
         traced,
         told,
         schedule,
     } = explained;
-    why_text(alloc, &told.read, told.unread, schedule, traced, &lines)
+    if json {
+        why_json(alloc, &told.read, told.unread, schedule, traced, lines)
+    } else {
+        why_text(alloc, &told.read, told.unread, schedule, traced, lines)
+    }
+}
+
+/// The verdict, as text or as JSON.
+fn told_verdict(alloc: Global, verdict: &Verdict, json: bool) -> Result<String, AllocError>
+    ensures { IfOk result (λ text. string_bytes text ≡ told_verdict json verdict.now) }
+{
+    if json {
+        verdict_json(alloc, verdict)
+    } else {
+        verdict_line(alloc, verdict)
+    }
+}
+
+/// `{"kind":"pass","moments":N,"images":N}`, with `null` in place of the images where a moment has over 65,536,
+/// `{"kind":"fail","moment":M,"image":"NAME","cause":"C"}` or `{"kind":"too many","moment":M}`.
+fn verdict_json(alloc: Global, verdict: &Verdict) -> Result<String, AllocError>
+    ensures { IfOk result (λ text. string_bytes text ≡ verdict_json verdict.now) }
+{
+    match verdict {
+        Verdict::Pass { moments, images } => pass_json(alloc, *moments, *images),
+        Verdict::Fail {
+            moment,
+            image,
+            cause,
+        } => {
+            let cause = cause_text(*cause);
+            format!(in alloc;
+                "{{\"kind\":\"fail\",\"moment\":{moment},\"image\":\"{image}\",\"cause\":\"{cause}\"}}\n"
+            )
+        }
+        Verdict::TooMany { moment } => {
+            format!(in alloc; "{{\"kind\":\"too many\",\"moment\":{moment}}}\n")
+        }
+    }
+}
+
+fn pass_json(alloc: Global, moments: u64, images: Option<u64>) -> Result<String, AllocError>
+    ensures { IfOk result (λ text. string_bytes text ≡ verdict_json (Verdict.Pass moments images)) }
+{
+    match images {
+        Some(images) => {
+            format!(in alloc; "{{\"kind\":\"pass\",\"moments\":{moments},\"images\":{images}}}\n")
+        }
+        None => {
+            format!(in alloc; "{{\"kind\":\"pass\",\"moments\":{moments},\"images\":null}}\n")
+        }
+    }
 }
 
 /// `pass moments=N images=N`, or `images=over` where a moment has over 65,536, `fail moment=M image=NAME cause=C` or

@@ -1,7 +1,7 @@
 //! The command that counts the crash images of a moment.
 
-ghost use Rattle.command_line.specs.Imaging.{Counts, CountsFile, images_line};
-ghost use Rattle.command_line.specs.Steps.{Prints};
+ghost use Rattle.command_line.specs.Imaging.{Counts, CountsFile, images_json, images_line, told_count};
+ghost use Rattle.std.specs.Prelude.{◌≡◌, IfOk, string_bytes};
 ghost use Rattle.tester.specs.Runs.{with_room};
 
 use crate::answer::Answer;
@@ -13,7 +13,7 @@ use arguments::ImagesCommand;
 use line_memory::Medium;
 use program::Program;
 use schedule::Schedule;
-use std::alloc::Global;
+use std::alloc::{AllocError, Global};
 use tester::count_images;
 
 /// `images`: reads the files of a program, a schedule and a medium, and counts the images that a power cut may leave at a
@@ -30,7 +30,8 @@ pub(crate) fn count_file<F: Files>(
     let harts = command.run.machine.harts;
     let moment = command.moment;
     let count = count(alloc, run.program, run.medium, harts, &run.schedule, moment)?;
-    images_line(alloc, moment, count)
+    let text = told_count(alloc, moment, count, command.json)?;
+    Ok(Answer::of(text, 0))
 }
 
 fn count(
@@ -46,13 +47,40 @@ fn count(
     Ok(count_images(alloc, program, medium, harts, schedule, moment)?)
 }
 
-/// `moment M images N`, or `moment M images over 65536`.
-fn images_line(alloc: Global, moment: u32, count: Option<u32>) -> Result<Answer, Failure>
-    ensures { Prints (images_line moment count) 0 result }
+/// The images of a moment, as text or as JSON.
+fn told_count(
+    alloc: Global,
+    moment: u32,
+    count: Option<u32>,
+    json: bool,
+) -> Result<String, AllocError>
+    ensures { IfOk result (λ text. string_bytes text ≡ told_count json moment count) }
 {
-    let text = match count {
-        Some(images) => format!(in alloc; "moment {moment} images {images}\n")?,
-        None => format!(in alloc; "moment {moment} images over 65536\n")?,
-    };
-    Ok(Answer::of(text, 0))
+    if json {
+        images_json(alloc, moment, count)
+    } else {
+        images_line(alloc, moment, count)
+    }
+}
+
+/// `moment M images N`, or `moment M images over 65536`.
+fn images_line(alloc: Global, moment: u32, count: Option<u32>) -> Result<String, AllocError>
+    ensures { IfOk result (λ text. string_bytes text ≡ images_line moment count) }
+{
+    match count {
+        Some(images) => format!(in alloc; "moment {moment} images {images}\n"),
+        None => format!(in alloc; "moment {moment} images over 65536\n"),
+    }
+}
+
+/// `{"kind":"images","moment":M,"images":N}`, with `null` in place of more than 65,536.
+fn images_json(alloc: Global, moment: u32, count: Option<u32>) -> Result<String, AllocError>
+    ensures { IfOk result (λ text. string_bytes text ≡ images_json moment count) }
+{
+    match count {
+        Some(images) => {
+            format!(in alloc; "{{\"kind\":\"images\",\"moment\":{moment},\"images\":{images}}}\n")
+        }
+        None => format!(in alloc; "{{\"kind\":\"images\",\"moment\":{moment},\"images\":null}}\n"),
+    }
 }

@@ -1,14 +1,13 @@
 //! The command that tells which stores weren't durable in time.
 
-ghost use Rattle.command_line.specs.Persisting.{Told, UnpersistedFile, status_of};
+ghost use Rattle.command_line.specs.Persisting.{Told, UnpersistedFile, status_of, told_stores};
 ghost use Rattle.command_line.specs.Reading.{setup_of};
 ghost use Rattle.command_line.specs.Steps.{Prints};
-ghost use Rattle.loss_text.specs.Events.{event_text};
-ghost use Rattle.loss_text.specs.Unpersisted.{unpersisted_text};
 ghost use Rattle.object.specs.Sections.{Sections};
 ghost use Rattle.program_trace.specs.Lines.{line_of};
+ghost use Rattle.run_text.specs.Places.{line_in};
 ghost use Rattle.schedule.specs.Grammar.{hart_steps};
-ghost use Rattle.std.specs.Prelude.{◌≡◌, ◌^◌, ◌<◌};
+ghost use Rattle.std.specs.Prelude.{◌≡◌, ◌^◌, ◌<◌, IfOk, string_bytes};
 ghost use Rattle.tester.specs.Programs.{IsProgramOf};
 
 use crate::answer::Answer;
@@ -16,26 +15,27 @@ use crate::demanding::demand_whole;
 use crate::failure::Failure;
 use crate::files::Files;
 use crate::reading::{RunFiles, read_run};
-use arguments::ScheduledRun;
+use arguments::{ReportCommand, ScheduledRun};
+use assemble::LineNumbers;
 use durability::Unpersisted;
-use loss_text::unpersisted_text;
+use loss_text::{unpersisted_json, unpersisted_text};
 use program_losses::{UnpersistedRun, unpersisted_program};
 use program_trace::source_lines;
-use std::alloc::Global;
+use std::alloc::{AllocError, Global};
 
 /// `unpersisted`: reads the files of a program, a schedule and a medium, and prints the stores of the run that weren't durable when
 /// their operation ended, each with what it lacks.
 pub(crate) fn unpersisted_file<F: Files>(
     alloc: Global,
-    command: &ScheduledRun,
+    command: &ReportCommand,
     files: &mut F,
 ) -> Result<Answer, Failure>
     ensures { UnpersistedFile F.read_gives command.now files.old result files.new }
 {
-    let run = read_run(alloc, command, files)?;
-    demand_whole(alloc, command, &run, &[])?;
-    let told = told(alloc, command, &run)?;
-    told_answer(alloc, &run.file, &told)
+    let run = read_run(alloc, &command.run, files)?;
+    demand_whole(alloc, &command.run, &run, &[])?;
+    let told = told(alloc, &command.run, &run)?;
+    told_answer(alloc, &run.file, &told, command.json)
 }
 
 fn told(alloc: Global, command: &ScheduledRun, run: &RunFiles) -> Result<UnpersistedRun, Failure>
@@ -49,14 +49,35 @@ fn told(alloc: Global, command: &ScheduledRun, run: &RunFiles) -> Result<Unpersi
 }
 
 #[tactic(auto, using(crate::proofs::SourceLines::unpersisted_of_source))]
-fn told_answer(alloc: Global, file: &[u8], run: &UnpersistedRun) -> Result<Answer, Failure>
+fn told_answer(
+    alloc: Global,
+    file: &[u8],
+    run: &UnpersistedRun,
+    json: bool,
+) -> Result<Answer, Failure>
     requires { (program : Sections) × IsProgramOf file.now program }
-    ensures { Prints (unpersisted_text (event_text (line_of file.now) run.now.traced.items) run.now.told) (status_of run.now.told) result }
+    ensures { Prints (told_stores json (line_of file.now) run.now.traced.items run.now.told) (status_of run.now.told) result }
 {
     let lines = source_lines(alloc, file)?;
-    let text = unpersisted_text(alloc, &run.told, &run.traced, &lines)?;
+    let text = told_stores(alloc, run, &lines, json)?;
     let status = status_of(&run.told);
     Ok(Answer::of(text, status))
+}
+
+/// The stores that weren't durable in time, as text or as JSON.
+fn told_stores(
+    alloc: Global,
+    run: &UnpersistedRun,
+    lines: &Option<LineNumbers>,
+    json: bool,
+) -> Result<String, AllocError>
+    ensures { IfOk result (λ text. string_bytes text ≡ told_stores json (line_in lines.now) run.now.traced.items run.now.told) }
+{
+    if json {
+        unpersisted_json(alloc, &run.told, &run.traced, lines)
+    } else {
+        unpersisted_text(alloc, &run.told, &run.traced, lines)
+    }
 }
 
 /// 0 where every store was durable in time, else 1.

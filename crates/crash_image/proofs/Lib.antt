@@ -1,6 +1,7 @@
 pub mod Counting
 pub mod CutNames
 pub mod Imaged
+pub mod Joining
 pub mod Least
 pub mod Lined
 pub mod Naming

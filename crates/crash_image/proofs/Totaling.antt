@@ -1,25 +1,28 @@
 -- The free lines, event by event, and in how many ways they stand together.
 use Rattle.std.proofs.Common.{◌≡◌, ℕ, zero, suc, ◌+◌, ◌-◌, ◌*◌, ◌<◌, ◌≤◌, ◌==◌, nat_lt, true, false, List, [], ◌∷◌, ◌++◌, length, get_or, set, take, drop, inl, inr, refl, ap, ◌∙◌, sym, subst, arith}
-use Rattle.std.specs.Prelude.{All, map, if◌then◌else◌, max}
+use Rattle.std.specs.Prelude.{All, map, if◌then◌else◌, max, nat_le}
 use Rattle.std.specs.List.{insert}
 use Rattle.std.proofs.Math.Nat.{mul-pos, le-mul_of_pos_right, mul-le-mul_left}
 use Rattle.std.proofs.Math.Seq.{drop-cons}
 use Rattle.std.proofs.lemmas.Bool.{cases_Bool}
 use Rattle.std.proofs.lemmas.Bool.Decides.{nat_tests}
 use Rattle.std.proofs.lemmas.List.{get_or_default}
+use Rattle.std.proofs.lemmas.Grind.{common_steps}
 use Rattle.std.proofs.lemmas.List.Edits.{map_over_more}
+use Rattle.std.proofs.lemmas.List.Elements.{All-cons, All-nil}
 use Rattle.std.proofs.lemmas.Bool.{cases_lt}
 use Rattle.crash_image.proofs.Stored.{history_more}
-use Rattle.store_trace.specs.History.{at_moment, steps_of}
+use Rattle.store_trace.specs.History.{at_moment, history, steps_of}
 use Rattle.store_trace.specs.declared.event.Event.{Event}
+use Rattle.store_trace.specs.declared.event.Event.TheVariants as events
 use Rattle.crash_model.proofs.Bounds.{cleaned_le_stores, floor_le_stores}
 use Rattle.crash_model.proofs.Lines.{Upwards, has, has_stored_lines, upwards_stored_lines}
 use Rattle.crash_model.specs.Cut.{count_of, cut_count, stored_lines, width_of, with_line}
 use Rattle.crash_model.specs.Floor.{cleaned, floor}
 use Rattle.crash_model.specs.Stores.{stores}
 use Rattle.crash_model.specs.declared.step.PersistenceStep.{PersistenceStep}
-use Rattle.crash_model.specs.declared.step.PersistenceStep.TheVariants.{Store, Clean, Fence}
-use Rattle.crash_image.specs.Totals.{IsFreePlace, choices_of, cleaned_line, fenced_line, free_among, free_line, free_lines, harts, images_up_to, raised_line, still_free, stored_line, with_store}
+use Rattle.crash_model.specs.declared.step.PersistenceStep.TheVariants.{Store, Clean, Fence, Evict}
+use Rattle.crash_image.specs.Totals.{IsFreePlace, choices_of, cleaned_line, fenced_line, free_among, free_line, free_lines, harts, images_between, raised_line, still_free, stored_line, with_store}
 use Rattle.crash_image.specs.declared.totals.FreeLine.{FreeLine}
 
 -- the product
@@ -43,13 +46,45 @@ choices_pass fs i count n d h e all more =
     let above : 65536 < count * ((get_or fs i d).above + 1) = rw e at more in
     omega (arith, above, all, choices_next fs i count d h, choices_above fs (i + 1) (count * ((get_or fs i d).above + 1)))
 
-pub few_above : (fs : List FreeLine) → choices_of fs ≤ 65536 → All (λ f. f.above < 65536) fs
-few_above [] few i d h = absurd (omega (arith, h))
-few_above (f ∷ fs) few zero d h = omega (arith, few, le-mul_of_pos_right (f.above + 1) (choices_some fs))
-few_above (f ∷ fs) few (suc i) d h =
-    let some : 1 ≤ f.above + 1 = omega arith in
-    let rest : choices_of fs ≤ 65536 = omega (arith, few, mul-le-mul_left (choices_of fs) some) in
-    few_above fs rest i d (omega (arith, h))
+-- few stores
+stores_few : (l : ℕ) (p : List PersistenceStep) → stores l p ≤ length p
+stores_few l [] = omega arith
+stores_few l (Store m o w v ∷ p) = grind (arith, stores_few l p)
+stores_few l (Clean h m ∷ p) = omega (arith, stores_few l p)
+stores_few l (Fence h ∷ p) = omega (arith, stores_few l p)
+stores_few l (Evict m ∷ p) = omega (arith, stores_few l p)
+
+few_among : (p : List PersistenceStep) (ls : List ℕ) (n : ℕ) → length p ≤ n → All (λ (f : FreeLine). f.above ≤ n) (free_among p ls)
+few_among p [] n h = All-nil (λ (f : FreeLine). f.above ≤ n)
+few_among p (l ∷ ls) n h = elim (cases_Bool (nat_lt (floor l p) (stores l p))) [
+  | inl above ↦
+      let here : stores l p - floor l p ≤ n = omega (arith, h, stores_few l p) in
+      rw above (All-cons (λ (f : FreeLine). f.above ≤ n) (free_line p l) (free_among p ls) here (few_among p ls n h))
+  | inr level ↦ rw level (few_among p ls n h)
+]
+
+steps_few : (event : Event) (p : List PersistenceStep) → length (steps_of event ++ p) ≤ length p + 1
+steps_few (events.Store h l o w v) p = omega arith
+steps_few (events.Clean h l) p = omega arith
+steps_few (events.Fence h) p = omega arith
+steps_few (events.Begin h op) p = omega arith
+steps_few (events.End h op) p = omega arith
+
+moment_few : (es : List Event) (i : ℕ) → i ≤ length es → length (at_moment es i) ≤ i
+moment_few es zero h = omega arith
+moment_few [] (suc i) h = absurd (omega (arith, h))
+moment_few (first ∷ es) (suc i) h =
+    let one : i + 1 ≡ suc i = omega arith in
+    let more : length (at_moment (first ∷ es) (i + 1)) ≡ length (steps_of (get_or (first ∷ es) i first) ++ at_moment (first ∷ es) i) =
+    ap (λ (p : List PersistenceStep). length p) (history_more (first ∷ es) i first (omega (arith, h))) in
+    let few : length (at_moment (first ∷ es) (i + 1)) ≤ i + 1 =
+    omega (arith, more, steps_few (get_or (first ∷ es) i first) (at_moment (first ∷ es) i), moment_few (first ∷ es) i (omega (arith, h))) in
+    rw one at few
+
+pub free_few : (es : List Event) (i : ℕ) (fs : List FreeLine) → i ≤ length es → length es ≤ 65536 → fs ≡ free_lines (at_moment es i) →
+    All (λ (f : FreeLine). f.above ≤ 65536) fs
+free_few es i fs h few e =
+    rw e (few_among (at_moment es i) (stored_lines (at_moment es i)) 65536 (omega (arith, h, few, moment_few es i h)))
 
 choices_among : (p : List PersistenceStep) (ls : List ℕ) → choices_of (free_among p ls) ≡ count_of p ls
 choices_among p [] = refl
@@ -304,23 +339,38 @@ new_store fs m at x place e other =
 pub end_store : (fs : List FreeLine) (m at : ℕ) → IsFreePlace fs m at → length fs ≤ at → insert fs at (stored_line m) ≡ with_store m fs
 end_store fs m at place h = insert_store fs m at place.within place.below (λ d b. absurd (omega (arith, h, b)))
 
--- one event more
-pub free_more : (events : List Event) (i : ℕ) (d : Event) (fs : List FreeLine) → i < length events →
-    fs ≡ free_lines (steps_of (get_or events i d) ++ at_moment events i) → fs ≡ free_lines (at_moment events (i + 1))
-free_more events i d fs h e = e ∙ ap (λ (p : List PersistenceStep). free_lines p) (sym (history_more events i d h))
+-- from moment to moment
+pub free_more : (es : List Event) (i : ℕ) (d : Event) (fs gs : List FreeLine) → i < length es → fs ≡ free_lines (at_moment es i) →
+    ((p : List PersistenceStep) → fs ≡ free_lines p → gs ≡ free_lines (steps_of (get_or es i d) ++ p)) → gs ≡ free_lines (at_moment es (i + 1))
+free_more es i d fs gs h e more = more (at_moment es i) e ∙ ap (λ (p : List PersistenceStep). free_lines p) (sym (history_more es i d h))
 
-pub free_count : (events : List Event) (i n : ℕ) (fs gs : List FreeLine) → fs ≡ gs → gs ≡ free_lines (at_moment events i) → n ≡ choices_of fs →
-    n ≡ cut_count (at_moment events i)
-free_count events i n fs gs s e c =
-    c ∙ ap (λ (xs : List FreeLine). choices_of xs) (s ∙ e) ∙ choices_count (at_moment events i)
+pub free_end : (es : List Event) (i : ℕ) → length es ≤ i → free_lines (at_moment es (i + 1)) ≡ free_lines (at_moment es i)
+free_end es i h =
+    let all : take i es ≡ take (i + 1) es = grind (arith, common_steps) in
+    ap (λ (taken : List Event). free_lines (history taken)) (sym all)
 
-pub total_more : (events : List Event) (i total n : ℕ) → total ≡ images_up_to events i → n ≡ cut_count (at_moment events (i + 1)) →
-    total + n ≡ images_up_to events (i + 1)
-total_more events i total n t c = let e : i + 1 ≡ suc i = omega arith in rw (e, t, c, e) refl
+pub free_count : (es : List Event) (i n : ℕ) (fs gs : List FreeLine) → fs ≡ gs → gs ≡ free_lines (at_moment es i) → n ≡ choices_of fs →
+    n ≡ cut_count (at_moment es i)
+free_count es i n fs gs s e c =
+    c ∙ ap (λ (xs : List FreeLine). choices_of xs) (s ∙ e) ∙ choices_count (at_moment es i)
 
-pub few_more : (events : List Event) (i n : ℕ) → ((m : ℕ) → m ≤ i → cut_count (at_moment events m) ≤ 65536) →
-    n ≡ cut_count (at_moment events (i + 1)) → n ≤ 65536 → (m : ℕ) → m ≤ i + 1 → cut_count (at_moment events m) ≤ 65536
-few_more events i n few c small m h = elim (cases_lt i m) [
-  | inl last ↦ let e : m ≡ i + 1 = omega (arith, h, last) in rw (e, ← c) small
-  | inr before ↦ few m before
+none_before : (es : List Event) (first i : ℕ) → i ≤ first → images_between es first i ≡ 0
+none_before es first zero h = refl
+none_before es first (suc i) h = let later : nat_le first i ≡ false = grind (arith, nat_tests, h) in rw later refl
+
+pub sum_skips : (es : List Event) (first i total : ℕ) → i < first → total ≡ images_between es first i → total ≡ images_between es first (i + 1)
+sum_skips es first i total h t = t ∙ none_before es first i (omega (arith, h)) ∙ sym (none_before es first (i + 1) (omega (arith, h)))
+
+pub sum_adds : (es : List Event) (first i total n : ℕ) → first ≤ i → total ≡ images_between es first i → n ≡ cut_count (at_moment es i) →
+    total + n ≡ images_between es first (i + 1)
+sum_adds es first i total n h t c =
+    let one : i + 1 ≡ suc i = omega arith in
+    let there : nat_le first i ≡ true = grind (arith, nat_tests, h) in
+    rw (one, there, t, c) refl
+
+pub few_more : (es : List Event) (first i n : ℕ) → ((m : ℕ) → first ≤ m → m < i → cut_count (at_moment es m) ≤ 65536) →
+    n ≡ cut_count (at_moment es i) → n ≤ 65536 → (m : ℕ) → first ≤ m → m < i + 1 → cut_count (at_moment es m) ≤ 65536
+few_more es first i n few c small m from h = elim (cases_lt m i) [
+  | inl before ↦ few m from before
+  | inr last ↦ let e : m ≡ i = omega (arith, h, last) in rw (e, ← c) small
 ]

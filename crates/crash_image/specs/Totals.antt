@@ -1,5 +1,5 @@
 -- How many images a trace's moments have together, and the lines that stand free while the events are read.
-use Rattle.std.specs.Prelude.{◌≡◌, ℕ, zero, suc, ◌+◌, ◌-◌, ◌*◌, ◌==◌, ◌<◌, ◌≤◌, nat_lt, List, [], ◌∷◌, Option, Some, None, if◌then◌else◌, length, map, replicate, slice_index, slice_index_or, slice_set}
+use Rattle.std.specs.Prelude.{◌≡◌, ℕ, zero, suc, ◌+◌, ◌-◌, ◌*◌, ◌==◌, ◌<◌, ◌≤◌, nat_le, nat_lt, List, [], ◌∷◌, Option, Some, None, if◌then◌else◌, length, map, replicate, slice_index, slice_index_or, slice_set}
 use Rattle.std.specs.List.{filter}
 use Rattle.crash_model.specs.Cut.{cut_count, stored_lines}
 use Rattle.crash_model.specs.Floor.{cleaned, floor}
@@ -9,16 +9,22 @@ use Rattle.store_trace.specs.History.{at_moment}
 use Rattle.store_trace.specs.declared.event.Event.{Event}
 use Rattle.crash_image.specs.declared.totals.FreeLine.{FreeLine}
 
--- how many images the moments up to this one have together
-abbrev pub images_up_to : List Event → ℕ → ℕ
-images_up_to events zero = cut_count (at_moment events zero)
-images_up_to events (suc m) = images_up_to events m + cut_count (at_moment events (suc m))
+-- how many images the moments from `first` on that are below this one have together
+abbrev pub images_between : List Event → ℕ → ℕ → ℕ
+images_between events first zero = 0
+images_between events first (suc m) = if nat_le first m then images_between events first m + cut_count (at_moment events m) else 0
 
--- the images of all moments together, or that a moment has over 65,536
-abbrev pub IsImageTotal : List Event → Option ℕ → Type 0
-IsImageTotal events (Some total) =
-    (total ≡ images_up_to events (length events)) × ((m : ℕ) → m ≤ length events → cut_count (at_moment events m) ≤ 65536)
-IsImageTotal events None = (m : ℕ) × (m ≤ length events) × (65536 < cut_count (at_moment events m))
+-- the images of the moments from `first` on that are below `end` together, or that one of them has over 65,536
+abbrev pub IsImageSum : List Event → ℕ → ℕ → Option ℕ → Type 0
+IsImageSum events first end (Some total) =
+    (total ≡ images_between events first end) × ((m : ℕ) → first ≤ m → m < end → cut_count (at_moment events m) ≤ 65536)
+IsImageSum events first end None = (m : ℕ) × (first ≤ m) × (m < end) × (65536 < cut_count (at_moment events m))
+
+-- the images of two rows of moments together, unless one has a moment with over 65,536
+abbrev pub sum_of : Option ℕ → Option ℕ → Option ℕ
+sum_of None other = None
+sum_of (Some total) None = None
+sum_of (Some total) (Some other) = Some (total + other)
 
 -- the harts
 abbrev pub harts : List ℕ

@@ -7,11 +7,11 @@
 pub use cuts::Cuts;
 pub use image_name::{Cut, ImageName};
 pub use images::numbers_of_lines;
-pub use laws::names_tell_cuts;
+pub use laws::{image_sums_join, names_tell_cuts};
 pub use names::has_lines;
 use std::alloc::AllocError;
 use thiserror::Error;
-pub use totals::images_of_moments;
+pub use totals::images_between;
 
 mod bounds;
 mod cut;

@@ -1,13 +1,13 @@
-//! How many images the moments of a trace have together, by one pass over the events.
+//! How many images moments of a trace have together, by one pass over the events.
 //!
-//! While no moment has over 65,536 cuts, at most 16 lines stand above their floor: only those are kept.
+//! Only the lines that stand above their floor are kept: at most 16 where a moment has no more than 65,536 cuts.
 
-ghost use Rattle.crash_image.specs.Totals.{IsFreePlace, IsImageTotal, choices_of, cleaned_line, fenced_line, free_lines, still_free, with_store};
+ghost use Rattle.crash_image.specs.Totals.{IsFreePlace, IsImageSum, choices_of, cleaned_line, fenced_line, free_lines, still_free, with_store};
 ghost use Rattle.crash_image.specs.declared.totals.FreeLine.{FreeLine as AFreeLine};
 ghost use Rattle.crash_model.specs.declared.step.PersistenceStep.{PersistenceStep};
-ghost use Rattle.store_trace.specs.History.{steps_of};
+ghost use Rattle.store_trace.specs.History.{at_moment, steps_of};
 ghost use Rattle.store_trace.specs.TraceView.{IsEvent};
-ghost use Rattle.std.specs.Prelude.{◌≡◌, ◌↔◌, ℕ, ◌-◌, ◌<◌, ◌≤◌, ◌++◌, List, All, IfOk, IfSome, IsNone, OnOk, map};
+ghost use Rattle.std.specs.Prelude.{◌≡◌, ◌↔◌, ℕ, ◌+◌, ◌-◌, ◌<◌, ◌≤◌, ◌++◌, List, All, IfOk, IfSome, IsNone, OnOk, length, map};
 
 use std::alloc::{AllocError, Global};
 use store_trace::{Event, Trace};
@@ -58,26 +58,49 @@ fn lower(numbers: &mut [u32], rise: u32)
     }
 }
 
-/// The images of all moments of the trace together. None exactly where a moment has over 65,536 cuts.
-pub fn images_of_moments(alloc: Global, trace: &Trace) -> Result<Option<u64>, AllocError>
-    ensures { IfOk result (λ total. IsImageTotal trace.now.events total) }
+/// The images of the moments from `first` on that are below `end`, together. None exactly where one of them has over 65,536 cuts.
+pub fn images_between(
+    alloc: Global,
+    trace: &Trace,
+    first: u32,
+    end: u32,
+) -> Result<Option<u64>, AllocError>
+    requires { end ≤ length trace.now.events + 1 }
+    ensures { IfOk result (λ total. IsImageSum trace.now.events first end total) }
 {
+    let events = trace.events();
     let mut free = Vec::new(alloc);
-    let mut total = 1;
-    for event in trace.events() {
-        take(&mut free, *event)?;
-        let Some(count) = choices(&free) else {
-            return Ok(None);
-        };
-        total += count;
+    let mut total = 0;
+    for moment in 0..end {
+        if first <= moment {
+            let Some(count) = choices(&free) else {
+                return Ok(None);
+            };
+            total += count;
+        }
+        next(&mut free, events, moment)?;
     }
     Ok(Some(total))
+}
+
+/// Takes the free lines from a moment to the next one, where there is one.
+fn next(free: &mut Vec<FreeLine>, events: &[Event], moment: u32) -> Result<(), AllocError>
+    requires events { All IsEvent events.now }
+    requires few { length events.now ≤ 65536 }
+    requires there { moment ≤ length events.now }
+    requires free { free.old.items ≡ free_lines (at_moment events.now moment) }
+    ensures { OnOk result (free.new.items ≡ free_lines (at_moment events.now (moment + 1))) }
+{
+    match events.get(moment as usize) {
+        Some(event) => take(free, *event),
+        None => Ok(()),
+    }
 }
 
 /// Takes the free lines one event further.
 fn take(free: &mut Vec<FreeLine>, event: Event) -> Result<(), AllocError>
     requires event { IsEvent event }
-    requires few { All (λ (f : AFreeLine). f.above < 65536) free.old.items }
+    requires few { All (λ (f : AFreeLine). f.above ≤ 65536) free.old.items }
     ensures { OnOk result ((p : List PersistenceStep) →
         free.old.items ≡ free_lines p → free.new.items ≡ free_lines (steps_of event ++ p)) }
 {
@@ -91,7 +114,7 @@ fn take(free: &mut Vec<FreeLine>, event: Event) -> Result<(), AllocError>
 }
 
 fn store(free: &mut Vec<FreeLine>, line: u32) -> Result<(), AllocError>
-    requires { All (λ (f : AFreeLine). f.above < 65536) free.old.items }
+    requires { All (λ (f : AFreeLine). f.above ≤ 65536) free.old.items }
     ensures { OnOk result (free.new.items ≡ with_store line free.old.items) }
 {
     let at = place_of(free, line);

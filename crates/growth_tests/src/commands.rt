@@ -464,6 +464,70 @@ fn execute_check_with_reasons(rt: HostRuntime) -> Result<(), Refused> {
     ended(&rt, typed(&rt, &CHECK_WHY))
 }
 
+/// The moment after the store and its clean, whose least image lacks the store.
+const CHECK_PART: Example = Example {
+    line: "novacrash check one.plan first.s eight --moments 2- --why --json",
+    typed: "",
+    status: 1,
+    printed: r#"{"kind":"fail","moment":2,"image":"0","cause":"N1"}
+{"kind":"lost","cache_line":0,"store":{"event":1,"hart":0,"pc":"0x10008","source_line":3},"cause":"fenced too late","clean":{"event":2,"hart":0,"pc":"0x1000c","source_line":4},"fence":{"event":3,"hart":0,"pc":"0x10010","source_line":5}}
+{"kind":"schedule","items":"h0*4"}
+"#,
+};
+
+#[test]
+fn execute_check_of_a_part_as_json(rt: HostRuntime) -> Result<(), Refused> {
+    ended(&rt, typed(&rt, &CHECK_PART))
+}
+
+const TRACE_JSON: Example = Example {
+    line: "novacrash trace first.s eight --json",
+    typed: "",
+    status: 0,
+    printed: r#"{"kind":"store","event":1,"hart":0,"step":3,"pc":"0x10008","source_line":3,"cache_line":0,"offset":0,"width":8,"value":"0x7"}
+{"kind":"clean","event":2,"hart":0,"step":4,"pc":"0x1000c","source_line":4,"cache_line":0}
+{"kind":"fence","event":3,"hart":0,"step":5,"pc":"0x10010","source_line":5}
+{"kind":"events","events":3}
+"#,
+};
+
+#[test]
+fn execute_trace_as_json(rt: HostRuntime) -> Result<(), Refused> {
+    ended(&rt, typed(&rt, &TRACE_JSON))
+}
+
+const UNPERSISTED_JSON: Example = Example {
+    line: "novacrash unpersisted bare.s ten --json",
+    typed: "",
+    status: 1,
+    printed: r#"{"kind":"lost","operation":"1","end":3,"cache_line":0,"store":{"event":2,"hart":0,"pc":"0x1000c","source_line":4},"cause":"never cleaned","clean":null,"fence":null}
+{"kind":"lost","operation":null,"end":null,"cache_line":1,"store":{"event":4,"hart":0,"pc":"0x10018","source_line":7},"cause":"never cleaned","clean":null,"fence":null}
+{"kind":"unpersisted","stores":2}
+"#,
+};
+
+#[test]
+fn execute_unpersisted_as_json(rt: HostRuntime) -> Result<(), Refused> {
+    ended(&rt, typed(&rt, &UNPERSISTED_JSON))
+}
+
+const WASTE_JSON: Example = Example {
+    line: "novacrash waste vain.s eight --json",
+    typed: "",
+    status: 0,
+    printed: r#"{"kind":"clean","event":1,"hart":0,"step":1,"pc":"0x10000","source_line":1,"cache_line":0,"reason":"already there"}
+{"kind":"fence","event":2,"hart":0,"step":2,"pc":"0x10004","source_line":2,"reason":"nothing to complete"}
+{"kind":"always","hart":0,"pc":"0x10000","source_line":1,"count":1}
+{"kind":"always","hart":0,"pc":"0x10004","source_line":2,"count":1}
+{"kind":"needless","needless":2,"of":2,"unfenced":0}
+"#,
+};
+
+#[test]
+fn execute_waste_as_json(rt: HostRuntime) -> Result<(), Refused> {
+    ended(&rt, typed(&rt, &WASTE_JSON))
+}
+
 /// A session whose steps make no event: one that is refused there would be told as `fault G5`, and the session goes on.
 const DEBUG: Example = Example {
     line: "novacrash debug first.s",

@@ -3,7 +3,7 @@ use Rattle.std.proofs.Common.{◌≡◌, ℕ, ◌+◌, ◌<◌, ◌≤◌, ◌�
 use Rattle.std.specs.Prelude.{Ok, Err}
 use Rattle.std.proofs.lemmas.Bool.{cases_lt}
 use Rattle.crash_image.specs.Named.{IsNameOf}
-use Rattle.crash_image.specs.Totals.{IsImageTotal}
+use Rattle.crash_image.specs.Totals.{IsImageSum}
 use Rattle.crash_model.proofs.Radix.{cuts_order, length_cuts, radix_number, radix_number_place}
 use Rattle.crash_model.specs.Cut.{IsBefore, IsCut, cut_count, cuts}
 use Rattle.crash_model.specs.declared.step.PersistenceStep.{PersistenceStep}
@@ -15,7 +15,7 @@ use Rattle.store_trace.specs.History.{history}
 use Rattle.store_trace.specs.declared.event.Event.{Event}
 use Rattle.image_check.specs.Images.{IsGood, IsSpoilt}
 use Rattle.image_check.specs.Legal.{IsLegal}
-use Rattle.image_check.specs.Verdicts.{IsLeastBad, IsLeastMoment, IsMomentVerdict, IsVerdict}
+use Rattle.image_check.specs.Verdicts.{IsLeastBad, IsLeastMoment, IsMomentVerdict, IsVerdictBetween}
 use Rattle.image_check.specs.declared.verdict.Cause.{Cause}
 use Rattle.image_check.specs.declared.verdict.Cause.TheVariants.{Fault, Illegal}
 use Rattle.image_check.specs.declared.verdict.MomentVerdict.{MomentVerdict}
@@ -128,13 +128,13 @@ moment_fails : (plan : List Operation) (start : List (List ℕ)) (events : List 
     IsMomentVerdict plan start (take moment events) moments.Pass → ¬ IsMomentVerdict plan start (take moment events) verdict
 moment_fails plan start events moment verdict fails pass here = fails (moment_once plan start (take moment events) verdict moments.Pass here pass)
 
-least_moment_once : (plan : List Operation) (start : List (List ℕ)) (events : List Event) (moment its : ℕ) (verdict other : MomentVerdict) →
-    ¬ (verdict ≡ moments.Pass) → ¬ (other ≡ moments.Pass) → IsLeastMoment plan start events moment verdict → IsLeastMoment plan start events its other →
-    (moment ≡ its) × (verdict ≡ other)
-least_moment_once plan start events moment its verdict other fails none a b = elim (cases_lt moment its) [
-  | inl earlier ↦ absurd (moment_fails plan start events moment verdict fails (b.below moment earlier) a.here)
+least_moment_once : (plan : List Operation) (start : List (List ℕ)) (events : List Event) (first end moment its : ℕ) (verdict other : MomentVerdict) →
+    ¬ (verdict ≡ moments.Pass) → ¬ (other ≡ moments.Pass) → IsLeastMoment plan start events first end moment verdict →
+    IsLeastMoment plan start events first end its other → (moment ≡ its) × (verdict ≡ other)
+least_moment_once plan start events first end moment its verdict other fails none a b = elim (cases_lt moment its) [
+  | inl earlier ↦ absurd (moment_fails plan start events moment verdict fails (b.passed moment a.from earlier) a.here)
   | inr late ↦ elim (cases_lt its moment) [
-    | inl earlier ↦ absurd (moment_fails plan start events its other none (a.below its earlier) b.here)
+    | inl earlier ↦ absurd (moment_fails plan start events its other none (a.passed its b.from earlier) b.here)
     | inr level ↦
         let same : moment ≡ its = omega (arith, late, level) in
         let theirs : IsMomentVerdict plan start (take moment events) other =
@@ -144,16 +144,17 @@ least_moment_once plan start events moment its verdict other fails none a b = el
 ]
 
 -- a run has one number of images
-total_once : (events : List Event) (images other : Option ℕ) → IsImageTotal events images → IsImageTotal events other → images ≡ other
-total_once events None None a b = refl
-total_once events None (Some total) a b = absurd (omega (arith, a.2, b.1 a.0 a.1))
-total_once events (Some total) None a b = absurd (omega (arith, b.2, a.1 b.0 b.1))
-total_once events (Some total) (Some other) a b = ap (λ (n : ℕ). Some n) (a.0 ∙ sym b.0)
+total_once : (events : List Event) (first end : ℕ) (images other : Option ℕ) → IsImageSum events first end images → IsImageSum events first end other →
+    images ≡ other
+total_once events first end None None a b = refl
+total_once events first end None (Some total) a b = absurd (omega (arith, a.3, b.1 a.0 a.1 a.2))
+total_once events first end (Some total) None a b = absurd (omega (arith, b.3, a.1 b.0 b.1 b.2))
+total_once events first end (Some total) (Some other) a b = ap (λ (n : ℕ). Some n) (a.0 ∙ sym b.0)
 
-pass_and_fail : (plan : List Operation) (start : List (List ℕ)) (events : List Event) (count moment : ℕ) (images : Option ℕ) (verdict : MomentVerdict) →
-    ¬ (verdict ≡ moments.Pass) → IsVerdict plan start events (runs.Pass count images) → ¬ IsLeastMoment plan start events moment verdict
-pass_and_fail plan start events count moment images verdict fails a b =
-    moment_fails plan start events moment verdict fails (a.2 moment (omega (arith, b.there))) b.here
+pass_and_fail : (plan : List Operation) (start : List (List ℕ)) (events : List Event) (first end count moment : ℕ) (images : Option ℕ) (verdict : MomentVerdict) →
+    ¬ (verdict ≡ moments.Pass) → IsVerdictBetween plan start events first end (runs.Pass count images) → ¬ IsLeastMoment plan start events first end moment verdict
+pass_and_fail plan start events first end count moment images verdict fails a b =
+    moment_fails plan start events moment verdict fails (a.2 moment b.from b.there) b.here
 
 not_fail : (name : ImageName) (cause : Cause) → ¬ (moments.Fail name cause ≡ moments.Pass)
 not_fail name cause e = cc
@@ -161,34 +162,34 @@ not_fail name cause e = cc
 not_many : ¬ (moments.TooMany ≡ moments.Pass)
 not_many e = cc
 
-pub verdict_once : (plan : List Operation) (start : List (List ℕ)) (events : List Event) (verdict other : Verdict) →
-    IsVerdict plan start events verdict → IsVerdict plan start events other → verdict ≡ other
-verdict_once plan start events (runs.Pass count images) (runs.Pass same others) a b =
-    let numbers : count ≡ same = a.0 ∙ sym b.0 in
-    let totals : images ≡ others = total_once events images others a.1 b.1 in
+pub verdict_once : (plan : List Operation) (start : List (List ℕ)) (events : List Event) (first end : ℕ) (verdict other : Verdict) →
+    IsVerdictBetween plan start events first end verdict → IsVerdictBetween plan start events first end other → verdict ≡ other
+verdict_once plan start events first end (runs.Pass count images) (runs.Pass same others) a b =
+    let numbers : count ≡ same = omega (arith, a.0, b.0) in
+    let totals : images ≡ others = total_once events first end images others a.1 b.1 in
     rw (numbers, totals) refl
-verdict_once plan start events (runs.Pass count images) (runs.Fail moment name cause) a b =
-    absurd (pass_and_fail plan start events count moment images (moments.Fail name cause) (not_fail name cause) a b)
-verdict_once plan start events (runs.Pass count images) (runs.TooMany moment) a b =
-    absurd (pass_and_fail plan start events count moment images moments.TooMany not_many a b)
-verdict_once plan start events (runs.Fail moment name cause) (runs.Pass count images) a b =
-    absurd (pass_and_fail plan start events count moment images (moments.Fail name cause) (not_fail name cause) b a)
-verdict_once plan start events (runs.Fail moment name cause) (runs.Fail its other theirs) a b =
+verdict_once plan start events first end (runs.Pass count images) (runs.Fail moment name cause) a b =
+    absurd (pass_and_fail plan start events first end count moment images (moments.Fail name cause) (not_fail name cause) a b)
+verdict_once plan start events first end (runs.Pass count images) (runs.TooMany moment) a b =
+    absurd (pass_and_fail plan start events first end count moment images moments.TooMany not_many a b)
+verdict_once plan start events first end (runs.Fail moment name cause) (runs.Pass count images) a b =
+    absurd (pass_and_fail plan start events first end count moment images (moments.Fail name cause) (not_fail name cause) b a)
+verdict_once plan start events first end (runs.Fail moment name cause) (runs.Fail its other theirs) a b =
     let same =
-    least_moment_once plan start events moment its (moments.Fail name cause) (moments.Fail other theirs) (not_fail name cause) (not_fail other theirs) a b in
+    least_moment_once plan start events first end moment its (moments.Fail name cause) (moments.Fail other theirs) (not_fail name cause) (not_fail other theirs) a b in
     let moments_same = same.0 in
     let verdicts_same = same.1 in
     cc
-verdict_once plan start events (runs.Fail moment name cause) (runs.TooMany its) a b =
-    let same = least_moment_once plan start events moment its (moments.Fail name cause) moments.TooMany (not_fail name cause) not_many a b in
+verdict_once plan start events first end (runs.Fail moment name cause) (runs.TooMany its) a b =
+    let same = least_moment_once plan start events first end moment its (moments.Fail name cause) moments.TooMany (not_fail name cause) not_many a b in
     let verdicts_same = same.1 in
     cc
-verdict_once plan start events (runs.TooMany moment) (runs.Pass count images) a b =
-    absurd (pass_and_fail plan start events count moment images moments.TooMany not_many b a)
-verdict_once plan start events (runs.TooMany moment) (runs.Fail its other theirs) a b =
-    let same = least_moment_once plan start events moment its moments.TooMany (moments.Fail other theirs) not_many (not_fail other theirs) a b in
+verdict_once plan start events first end (runs.TooMany moment) (runs.Pass count images) a b =
+    absurd (pass_and_fail plan start events first end count moment images moments.TooMany not_many b a)
+verdict_once plan start events first end (runs.TooMany moment) (runs.Fail its other theirs) a b =
+    let same = least_moment_once plan start events first end moment its moments.TooMany (moments.Fail other theirs) not_many (not_fail other theirs) a b in
     let verdicts_same = same.1 in
     cc
-verdict_once plan start events (runs.TooMany moment) (runs.TooMany its) a b =
-    let same = least_moment_once plan start events moment its moments.TooMany moments.TooMany not_many not_many a b in
+verdict_once plan start events first end (runs.TooMany moment) (runs.TooMany its) a b =
+    let same = least_moment_once plan start events first end moment its moments.TooMany moments.TooMany not_many not_many a b in
     ap (λ (m : ℕ). runs.TooMany m) same.0

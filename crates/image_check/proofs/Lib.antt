@@ -12,6 +12,7 @@ pub mod Marking
 pub mod Members
 pub mod Noting
 pub mod Opening
+pub mod Parts
 pub mod Passing
 pub mod Planning
 pub mod Reading

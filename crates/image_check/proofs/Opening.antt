@@ -27,7 +27,7 @@ use Rattle.volume.specs.declared.entry.Entry.{Entry}
 use Rattle.image_check.specs.Branching.{AreMedia, IsWithinAt, numbers_at}
 use Rattle.image_check.specs.Growth.{AreApart, AreOutcomes}
 use Rattle.image_check.specs.OrderFaults.{AreSound}
-use Rattle.image_check.specs.Verdicts.{AreFlagged, HasManyBranches, IsLeastBad, IsMomentVerdict, PassBelow}
+use Rattle.image_check.specs.Verdicts.{AreFlagged, HasManyBranches, IsLeastBad, IsMomentVerdict, PassBetween}
 use Rattle.image_check.specs.declared.verdict.MomentVerdict.{MomentVerdict}
 use Rattle.image_check.specs.declared.verdict.MomentVerdict.TheVariants as moments
 use Rattle.image_check.proofs.Apart.{sound_apart}
@@ -206,9 +206,9 @@ verdict_named plan same medium events moment m verdict p e h =
     (subst (λ (os : List Operation). IsMomentVerdict os medium (take m events) verdict) p h)
 
 pub passes_named : (plan same : List Operation) (medium : List (List ℕ)) (events : List Event) (moment m : ℕ) → same ≡ plan → m ≡ moment →
-    PassBelow plan medium events moment → 0 < m → IsMomentVerdict same medium (take (m - 1) events) moments.Pass
+    PassBetween plan medium events 0 moment → 0 < m → IsMomentVerdict same medium (take (m - 1) events) moments.Pass
 passes_named plan same medium events moment m p e below some =
-    subst (λ (os : List Operation). IsMomentVerdict os medium (take (m - 1) events) moments.Pass) (sym p) (below (m - 1) (omega arith))
+    subst (λ (os : List Operation). IsMomentVerdict os medium (take (m - 1) events) moments.Pass) (sym p) (below (m - 1) (omega arith) (omega arith))
 
 pub asked_named : (medium : List (List ℕ)) (events : List Event) (moment m : ℕ) (flags : List Bool) → m ≡ moment →
     (0 < moment → AreFlagged medium (at_moment events (moment - 1)) flags) → 0 < m → AreFlagged medium (at_moment events (m - 1)) flags

@@ -11,14 +11,14 @@ use Rattle.store_trace.specs.declared.event.Event.{Event}
 use Rattle.volume.specs.declared.entry.Entry.{Entry}
 use Rattle.image_check.specs.Legal.{IsLegal}
 use Rattle.image_check.specs.Images.{Passes}
-use Rattle.image_check.specs.Verdicts.{IsMomentVerdict, IsVerdict, PassBelow}
+use Rattle.image_check.specs.Verdicts.{IsMomentVerdict, IsVerdict, PassBetween}
 use Rattle.image_check.specs.declared.verdict.MomentVerdict.TheVariants as moments
 use Rattle.image_check.specs.declared.verdict.Verdict.TheVariants as runs
 
-pub pass_more : (plan : List Operation) (start : List (List ℕ)) (events : List Event) (moment : ℕ) → PassBelow plan start events moment →
-    IsMomentVerdict plan start (take moment events) moments.Pass → PassBelow plan start events (moment + 1)
-pass_more plan start events moment below here m h = elim (cases_lt m moment) [
-  | inl earlier ↦ below m earlier
+pub pass_more : (plan : List Operation) (start : List (List ℕ)) (events : List Event) (moment : ℕ) → PassBetween plan start events 0 moment →
+    IsMomentVerdict plan start (take moment events) moments.Pass → PassBetween plan start events 0 (moment + 1)
+pass_more plan start events moment passed here m f h = elim (cases_lt m moment) [
+  | inl earlier ↦ passed m f earlier
   | inr late ↦
       let e : moment ≡ m = omega arith in
       subst (λ (k : ℕ). IsMomentVerdict plan start (take k events) moments.Pass) e here
@@ -31,5 +31,5 @@ pub all_pass : (plan : List Operation) (start : List (List ℕ)) (events : List 
     (found : List (List Entry)) × (volume_of (image start (number_in cut) (at_moment events moment)) ≡ Ok found)
     × IsLegal plan (volume_of start) (take moment events) found
 all_pass plan start events number images v moment cut h c =
-    let passed : Passes plan start (take moment events) cut = (v.2 moment (omega arith)).1 cut c in
+    let passed : Passes plan start (take moment events) cut = (v.2 moment (omega arith) (omega arith)).1 cut c in
     (passed.volume, passed.recovers, passed.legal)

@@ -6,7 +6,7 @@ use Rattle.std.specs.List.{AllByRecursion}
 use Rattle.branches.specs.Branches.{AreOver, IsWithin}
 use Rattle.branches.specs.Numbers.{is_flagged}
 use Rattle.crash_image.specs.Named.{IsNameOf}
-use Rattle.crash_image.specs.Totals.{IsImageTotal}
+use Rattle.crash_image.specs.Totals.{IsImageSum, sum_of}
 use Rattle.crash_model.specs.Cut.{IsBefore, IsCut}
 use Rattle.crash_model.specs.Floor.{floor}
 use Rattle.crash_model.specs.Image.{image}
@@ -58,22 +58,35 @@ IfPassed moments.Pass claim = claim
 IfPassed (moments.Fail name cause) claim = Unit {0}
 IfPassed moments.TooMany claim = Unit {0}
 
--- the moments below this one pass
-abbrev pub PassBelow : List Operation → List (List ℕ) → List Event → ℕ → Type 0
-PassBelow plan start events moment = (m : ℕ) → m < moment → IsMomentVerdict plan start (take m events) moments.Pass
+-- the moments from `first` on that are below `end` pass
+abbrev pub PassBetween : List Operation → List (List ℕ) → List Event → ℕ → ℕ → Type 0
+PassBetween plan start events first end = (m : ℕ) → first ≤ m → m < end → IsMomentVerdict plan start (take m events) moments.Pass
 
--- this is the least moment that doesn't pass, and its verdict
-pub record IsLeastMoment (plan : List Operation) (start : List (List ℕ)) (events : List Event) (moment : ℕ) (verdict : MomentVerdict) : Type 0 where
-  pub there : moment ≤ length events
-  pub below : PassBelow plan start events moment
+-- of the moments from `first` on that are below `end`, this is the least that doesn't pass, and its verdict
+pub record IsLeastMoment (plan : List Operation) (start : List (List ℕ)) (events : List Event) (first end moment : ℕ) (verdict : MomentVerdict) : Type 0 where
+  pub from : first ≤ moment
+  pub there : moment < end
+  pub passed : PassBetween plan start events first moment
   pub here : IsMomentVerdict plan start (take moment events) verdict
 
--- the verdict on all moments of these events; a pass has the sum of the numbers of images, unless a moment has over 65,536
+-- the verdict on these moments; a pass has their number and the sum of the numbers of their images, unless one of them has over 65,536
+abbrev pub IsVerdictBetween : List Operation → List (List ℕ) → List Event → ℕ → ℕ → Verdict → Type 0
+IsVerdictBetween plan start events first end (runs.Pass moments images) =
+    (first + moments ≡ end) × IsImageSum events first end images × PassBetween plan start events first end
+IsVerdictBetween plan start events first end (runs.Fail moment name cause) = IsLeastMoment plan start events first end moment (moments.Fail name cause)
+IsVerdictBetween plan start events first end (runs.TooMany moment) = IsLeastMoment plan start events first end moment moments.TooMany
+
+-- the verdict on all moments
 abbrev pub IsVerdict : List Operation → List (List ℕ) → List Event → Verdict → Type 0
-IsVerdict plan start events (runs.Pass moments images) =
-    (moments ≡ length events + 1) × IsImageTotal events images × PassBelow plan start events (length events + 1)
-IsVerdict plan start events (runs.Fail moment name cause) = IsLeastMoment plan start events moment (moments.Fail name cause)
-IsVerdict plan start events (runs.TooMany moment) = IsLeastMoment plan start events moment moments.TooMany
+IsVerdict plan start events verdict = IsVerdictBetween plan start events 0 (length events + 1) verdict
+
+-- the verdict on two rows of moments, of which the second begins where the first ends
+abbrev pub joined : Verdict → Verdict → Verdict
+joined (runs.Pass moments images) (runs.Pass more others) = runs.Pass (moments + more) (sum_of images others)
+joined (runs.Pass moments images) (runs.Fail moment name cause) = runs.Fail moment name cause
+joined (runs.Pass moments images) (runs.TooMany moment) = runs.TooMany moment
+joined (runs.Fail moment name cause) other = runs.Fail moment name cause
+joined (runs.TooMany moment) other = runs.TooMany moment
 
 -- why a check of this moment is refused: a wrong mark first, then a moment that isn't there, and memory last
 abbrev pub IsRefusal : List Operation → List Event → ℕ → CheckFault → Type 0

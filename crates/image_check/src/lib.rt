@@ -6,7 +6,7 @@
 
 pub use crash_image::ImageName;
 pub use fault::{CheckFault, OpFault};
-pub use laws::one_verdict;
+pub use laws::{one_verdict, verdicts_join};
 pub use moment::check_moment;
 pub use moment_judge::{MomentJudge, SoundRun};
 pub use order::check_trace;

@@ -1,6 +1,6 @@
 //! Judging the moments of a run one by one, by one judge or by several that share the run.
 
-ghost use Rattle.crash_image.specs.Totals.{IsImageTotal};
+ghost use Rattle.crash_image.specs.Totals.{IsImageSum};
 ghost use Rattle.crash_image.specs.View.{HasLines};
 ghost use Rattle.image_check.specs.Growth.{AreOutcomes};
 ghost use Rattle.image_check.specs.Keeping.{KeepsPass};
@@ -21,7 +21,7 @@ use crate::order::check_trace;
 use crate::run::spoils_nothing;
 use crate::{CheckFault, MomentVerdict};
 use branches::Opener;
-use crash_image::images_of_moments;
+use crash_image::images_between;
 use line_memory::Medium;
 use plan::Plan;
 use std::alloc::{AllocError, Global};
@@ -115,11 +115,12 @@ impl<'a> SoundRun<'a> {
         self.moments
     }
 
-    /// How many images all moments have together. None where a moment has over 65,536.
-    pub fn images(&self, alloc: Global) -> Result<Option<u64>, AllocError>
-        ensures { IfOk result (λ images. IsImageTotal self.now.events images) }
+    /// How many images the moments from `first` on that are below `end` have together. None where one of them has over 65,536.
+    pub fn images(&self, alloc: Global, first: u32, end: u32) -> Result<Option<u64>, AllocError>
+        requires { end ≤ length self.now.events + 1 }
+        ensures { IfOk result (λ images. IsImageSum self.now.events first end images) }
     {
-        images_of_moments(alloc, self.trace)
+        images_between(alloc, self.trace, first, end)
     }
 }
 

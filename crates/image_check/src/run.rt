@@ -23,7 +23,7 @@ use crate::moment_images::MomentImages;
 use crate::order::check_trace;
 use crate::{CheckFault, MomentVerdict, Verdict};
 use branches::Opener;
-use crash_image::images_of_moments;
+use crash_image::images_between;
 use line_memory::Medium;
 use plan::Plan;
 use std::alloc::Global;
@@ -127,7 +127,7 @@ fn judge_moments(
     }
     Ok(Verdict::Pass {
         moments: u64::from(moments),
-        images: images_of_moments(alloc, trace)?,
+        images: images_between(alloc, trace, 0, moments)?,
     })
 }
 

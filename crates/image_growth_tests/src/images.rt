@@ -2,7 +2,7 @@
 
 use crate::ending::{Refused, ended, ready, refusal, repeated};
 use crate::samples::{TWO_LINES, stores_to_lines, trace_of, zeros};
-use crash_image::{Cut, Cuts, ImageFault, ImageName, has_lines, images_of_moments};
+use crash_image::{Cut, Cuts, ImageFault, ImageName, has_lines, images_between};
 use line_memory::Medium;
 use std::alloc::Global;
 use store_trace::Trace;
@@ -163,7 +163,8 @@ fn name_by_number_without_memory(rt: HostRuntime) -> Result<(), Refused> {
 
 /// Whether the images after none to nine of nine stores to as many lines are 1, 2, 4, .. and 512.
 fn totalled(alloc: Global, trace: &Trace) -> Result<bool, Refused> {
-    match images_of_moments(alloc, trace) {
+    let end = trace.events().len() as u32 + 1;
+    match images_between(alloc, trace, 0, end) {
         Ok(total) => Ok(total == Some(1_023)),
         Err(_) => refusal(true),
     }

@@ -4,7 +4,7 @@
 //! it is let go whole.
 
 use crate::events::{FENCED, Made, Parts, trace_of};
-use crash_image::{Cut, Cuts, ImageFault, ImageName, has_lines, images_of_moments};
+use crash_image::{Cut, Cuts, ImageFault, ImageName, has_lines, images_between};
 use crash_model::{PersistenceStep, count_cuts};
 use line_memory::Medium;
 use std::alloc::Global;
@@ -306,20 +306,32 @@ const LAST_AT_ONE: Entries = &[
     (511, 1),
 ];
 
-/// Traces, and how many images their moments have together, where none has over 65,536.
-static TOTALS: [(Parts, Option<u64>); 4] = [
-    (&[], Some(1)),
+/// Moments of traces, from one on and below another, and how many images they have together, where none has over 65,536.
+static TOTALS: [(Parts, u32, u32, Option<u64>); 10] = [
+    (&[], 0, 1, Some(1)),
+    (&[], 0, 0, Some(0)),
     // 1, 2, 3, 3, 4, 4 and 2
-    (FENCED, Some(19)),
-    // 2^0 up to 2^16
-    (&[(0, SIXTEEN)], Some(131_071)),
-    (FREE_LINES, None),
+    (FENCED, 0, 7, Some(19)),
+    (FENCED, 2, 5, Some(10)),
+    (FENCED, 6, 7, Some(2)),
+    (FENCED, 5, 3, Some(0)),
+    // 2^0 up to 2^16, and then 2^17
+    (&[(0, SIXTEEN)], 0, 17, Some(131_071)),
+    (FREE_LINES, 0, 17, Some(131_071)),
+    (FREE_LINES, 0, 18, None),
+    (FREE_LINES, 17, 18, None),
 ];
 
-/// The images of all moments of a trace together.
-fn total_of(rt: &(impl AllocGlobal + Abort), events: Parts) -> Result<Option<u64>, Fail> {
+/// The images of these moments of a trace together.
+fn total_of(
+    rt: &(impl AllocGlobal + Abort),
+    events: Parts,
+    first: u32,
+    end: u32,
+) -> Result<Option<u64>, Fail> {
     let trace = trace_of(rt, events)?;
-    Ok(images_of_moments(rt.alloc(), &trace)?)
+    assert!(rt; end as usize <= trace.events().len() + 1);
+    Ok(images_between(rt.alloc(), &trace, first, end)?)
 }
 
 /// The place of the first example that doesn't hold of a medium of zeros but for the bytes of line 7.
@@ -536,8 +548,12 @@ fn names_and_their_cuts(rt: HostRuntime) -> Result<(), Fail> {
 
 #[test]
 fn totals_of_traces(rt: HostRuntime) -> Result<(), Fail> {
-    for (place, (events, total)) in TOTALS.iter().enumerate() {
-        assert_eq!(rt; total_of(&rt, events)?, *total, "trace {place}");
+    for (place, (events, first, end, total)) in TOTALS.iter().enumerate() {
+        assert_eq!(rt;
+            total_of(&rt, events, *first, *end)?,
+            *total,
+            "trace {place}"
+        );
     }
     Ok(())
 }

@@ -2,7 +2,8 @@
 
 ghost use Rattle.loss_text.specs.Causes.{cause_text};
 ghost use Rattle.loss_text.specs.Events.{event_text};
-ghost use Rattle.loss_text.specs.Named.{named_cause_text};
+ghost use Rattle.loss_text.specs.Json.{cause_members, event_object};
+ghost use Rattle.loss_text.specs.Named.{named_cause_members, named_cause_text};
 ghost use Rattle.run_text.specs.Places.{line_in};
 ghost use Rattle.std.specs.Prelude.{◌≡◌};
 
@@ -52,7 +53,8 @@ pub(crate) fn named_cause(
     traced: &[TracedEvent],
     lines: &Option<LineNumbers>,
 ) -> NamedCause
-    ensures { named_cause_text result ≡ cause_text (event_text (line_in lines.now) traced.now) cause }
+    ensures text { named_cause_text result ≡ cause_text (event_text (line_in lines.now) traced.now) cause }
+    ensures json { named_cause_members result ≡ cause_members (event_object (line_in lines.now) traced.now) cause }
 {
     match cause {
         Cause::NeverCleaned => NamedCause::NeverCleaned,

@@ -12,8 +12,8 @@ use std::fmt;
 /// An event of a run by its number, and its place: `N hH pc=0xP line=L`.
 #[derive(Clone, Copy)]
 pub(crate) struct NamedEvent {
-    number: u32,
-    place: Option<Place>,
+    pub(crate) number: u32,
+    pub(crate) place: Option<Place>,
 }
 
 impl fmt::Display for NamedEvent {

@@ -3,9 +3,12 @@
 
 mod cause;
 mod event;
+mod json;
 mod loss;
+mod objects;
 mod unpersisted;
 mod why;
 
+pub use json::{unpersisted_json, why_json};
 pub use unpersisted::unpersisted_text;
 pub use why::why_text;

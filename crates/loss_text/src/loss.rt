@@ -2,7 +2,8 @@
 
 ghost use Rattle.loss_text.specs.Causes.{loss_text};
 ghost use Rattle.loss_text.specs.Events.{event_text};
-ghost use Rattle.loss_text.specs.Named.{named_loss_text};
+ghost use Rattle.loss_text.specs.Json.{event_object, loss_members};
+ghost use Rattle.loss_text.specs.Named.{named_loss_members, named_loss_text};
 ghost use Rattle.run_text.specs.Places.{line_in};
 ghost use Rattle.std.specs.Prelude.{◌≡◌};
 
@@ -16,9 +17,9 @@ use std::fmt;
 /// A store of a line that can be lost, and why: `lost lL store N hH pc=0xP line=L: CAUSE`.
 #[derive(Clone, Copy)]
 pub(crate) struct NamedLoss {
-    line: u32,
-    store: NamedEvent,
-    cause: NamedCause,
+    pub(crate) line: u32,
+    pub(crate) store: NamedEvent,
+    pub(crate) cause: NamedCause,
 }
 
 impl fmt::Display for NamedLoss {
@@ -39,7 +40,8 @@ pub(crate) fn named_loss(
     traced: &[TracedEvent],
     lines: &Option<LineNumbers>,
 ) -> NamedLoss
-    ensures { named_loss_text result ≡ loss_text (event_text (line_in lines.now) traced.now) lost }
+    ensures text { named_loss_text result ≡ loss_text (event_text (line_in lines.now) traced.now) lost }
+    ensures json { named_loss_members result ≡ loss_members (event_object (line_in lines.now) traced.now) lost }
 {
     NamedLoss {
         line: lost.line,

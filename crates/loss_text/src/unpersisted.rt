@@ -75,7 +75,7 @@ fn tell_outside(
 }
 
 /// How many stores these are.
-fn count_of(ends: &[EndLoss], outside: &[Lost]) -> u64
+pub(crate) fn count_of(ends: &[EndLoss], outside: &[Lost]) -> u64
     ensures { result ≡ length ends.now + length outside.now }
 {
     ends.len() as u64 + outside.len() as u64

@@ -103,7 +103,8 @@ fn tell_schedule(alloc: Global, text: &mut String, schedule: &Schedule) -> Resul
     Ok(())
 }
 
-fn items_text(alloc: Global, schedule: &Schedule) -> Result<String, AllocError>
+/// The items of a schedule.
+pub(crate) fn items_text(alloc: Global, schedule: &Schedule) -> Result<String, AllocError>
     requires { hart_steps schedule.now < 2 ^ 32 }
     ensures { IfOk result (λ text. string_bytes text ≡ text_of (joined schedule.now)) }
 {

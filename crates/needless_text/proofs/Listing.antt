@@ -16,7 +16,6 @@ use Rattle.std.proofs.lemmas.Map.Views.{btree_map_get_iff}
 use Rattle.std.specs.Prelude.{All, AllPairs, Any, Contains}
 use Rattle.needless_text.specs.Tallies.{AreUses, AreUsesAt, AreUsesOf}
 use Rattle.needless_text.specs.Uses.{Always, AreAlways, IsAlways, Judged, is_use_at, is_vain_at}
-use Rattle.needless_text.specs.Waste.{always_line}
 use Rattle.needless_text.specs.declared.uses.Uses.{Uses}
 
 abbrev pub is_always : ℕ × Uses → Bool
@@ -29,8 +28,8 @@ abbrev pub always_in : List (ℕ × Uses) → List Always
 always_in entries = map always_of (filter is_always entries)
 
 -- the lines of those among some entries
-abbrev pub lines_of : (ℕ → Option ℕ) → List (ℕ × Uses) → List ℕ
-lines_of lines entries = flat_map (always_line lines) (always_in entries)
+abbrev pub lines_of : (Always → List ℕ) → List (ℕ × Uses) → List ℕ
+lines_of shape entries = flat_map shape (always_in entries)
 
 kept : (e : ℕ × Uses) (b : Bool) → map always_of (cond b (e ∷ []) []) ≡ cond b (always_of e ∷ []) []
 kept e true = refl
@@ -42,31 +41,31 @@ eqb_of a b e = elim (eqb_tells a b) [ inl h ↦ h.0 | inr h ↦ absurd (h.1 e) ]
 not_eqb : (a b : ℕ) → (a ≡ b → ⊥) → (a == b) ≡ false
 not_eqb a b n = elim (eqb_tells a b) [ inl h ↦ absurd (n h.1) | inr h ↦ h.0 ]
 
-told_last : (lines : ℕ → Option ℕ) (ys : List (ℕ × Uses)) (e : ℕ × Uses) →
-    lines_of lines (ys ++ e ∷ []) ≡ lines_of lines ys ++ lines_of lines (e ∷ [])
-told_last lines ys e =
-    ap (λ l. flat_map (always_line lines) (map always_of l)) (filter-append is_always ys (e ∷ []))
-    ∙ ap (flat_map (always_line lines)) (map-append always_of (filter is_always ys) (filter is_always (e ∷ [])))
-    ∙ flat_map-append (always_line lines) (always_in ys) (always_in (e ∷ []))
+told_last : (shape : Always → List ℕ) (ys : List (ℕ × Uses)) (e : ℕ × Uses) →
+    lines_of shape (ys ++ e ∷ []) ≡ lines_of shape ys ++ lines_of shape (e ∷ [])
+told_last shape ys e =
+    ap (λ l. flat_map shape (map always_of l)) (filter-append is_always ys (e ∷ []))
+    ∙ ap (flat_map shape) (map-append always_of (filter is_always ys) (filter is_always (e ∷ [])))
+    ∙ flat_map-append shape (always_in ys) (always_in (e ∷ []))
 
 only : (e : ℕ × Uses) (b : Bool) → is_always e ≡ b → always_in (e ∷ []) ≡ cond b (always_of e ∷ []) []
 only e b is = ap (λ t. map always_of (cond t (e ∷ []) [])) is ∙ kept e b
 
 -- an entry that is told
-pub told : (lines : ℕ → Option ℕ) (text before after line : List ℕ) (ys : List (ℕ × Uses)) (e : ℕ × Uses) →
-    e.1.vain ≡ e.1.count → before ≡ text ++ lines_of lines ys → after ≡ before ++ line → line ≡ always_line lines (always_of e) →
-    after ≡ text ++ lines_of lines (ys ++ e ∷ [])
-told lines text before after line ys e same was is says =
-    is ∙ ap (λ l. l ++ line) was ∙ append_assoc text (lines_of lines ys) line ∙ ap (λ l. text ++ (lines_of lines ys ++ l)) says
-    ∙ ap (λ l. text ++ l) (sym (told_last lines ys e ∙ ap (λ l. lines_of lines ys ++ l) (
-    ap (flat_map (always_line lines)) (only e true (eqb_of e.1.vain e.1.count same)) ∙ append-nil (always_line lines (always_of e)))))
+pub told : (shape : Always → List ℕ) (text before after line : List ℕ) (ys : List (ℕ × Uses)) (e : ℕ × Uses) →
+    e.1.vain ≡ e.1.count → before ≡ text ++ lines_of shape ys → after ≡ before ++ line → line ≡ shape (always_of e) →
+    after ≡ text ++ lines_of shape (ys ++ e ∷ [])
+told shape text before after line ys e same was is says =
+    is ∙ ap (λ l. l ++ line) was ∙ append_assoc text (lines_of shape ys) line ∙ ap (λ l. text ++ (lines_of shape ys ++ l)) says
+    ∙ ap (λ l. text ++ l) (sym (told_last shape ys e ∙ ap (λ l. lines_of shape ys ++ l) (
+    ap (flat_map shape) (only e true (eqb_of e.1.vain e.1.count same)) ∙ append-nil (shape (always_of e)))))
 
 -- and one that isn't
-pub untold : (lines : ℕ → Option ℕ) (text before : List ℕ) (ys : List (ℕ × Uses)) (e : ℕ × Uses) →
-    (e.1.vain ≡ e.1.count → ⊥) → before ≡ text ++ lines_of lines ys → before ≡ text ++ lines_of lines (ys ++ e ∷ [])
-untold lines text before ys e differ was =
-    was ∙ ap (λ l. text ++ l) (sym (told_last lines ys e ∙ ap (λ l. lines_of lines ys ++ l) (
-    ap (flat_map (always_line lines)) (only e false (not_eqb e.1.vain e.1.count differ))) ∙ append-nil (lines_of lines ys)))
+pub untold : (shape : Always → List ℕ) (text before : List ℕ) (ys : List (ℕ × Uses)) (e : ℕ × Uses) →
+    (e.1.vain ≡ e.1.count → ⊥) → before ≡ text ++ lines_of shape ys → before ≡ text ++ lines_of shape (ys ++ e ∷ [])
+untold shape text before ys e differ was =
+    was ∙ ap (λ l. text ++ l) (sym (told_last shape ys e ∙ ap (λ l. lines_of shape ys ++ l) (
+    ap (flat_map shape) (only e false (not_eqb e.1.vain e.1.count differ))) ∙ append-nil (lines_of shape ys)))
 
 -- what a comparison of numbers tells
 equal_less : Equal ≡ Less → ⊥

@@ -17,41 +17,41 @@ abbrev pub no_event : TracedEvent
 no_event = record { step = 0; pc = 0; event = Store 0 0 0 0 0 }
 
 -- the lines of the first events
-abbrev pub judged_below : (ℕ → Option ℕ) → List Judged → ℕ → List ℕ
-judged_below lines all i = flat_map (judged_line lines) (take i (enumerate_from 1 all))
+abbrev pub judged_below : (ℕ → TracedEvent → Reason → List ℕ) → List Judged → ℕ → List ℕ
+judged_below needless all i = flat_map (judged_line needless) (take i (enumerate_from 1 all))
 
 numbered : (i j : ℕ) (x y : Judged) → i ≡ j → x ≡ y → ◌≡◌ {A = ℕ × Judged} (i, x) (j, y)
 numbered i j x y e q = cc
 
-pub judged_next : (lines : ℕ → Option ℕ) (traced : List TracedEvent) (reasons : List (Option Reason)) (i : ℕ) (d : TracedEvent) (e : Option Reason) →
+pub judged_next : (needless : ℕ → TracedEvent → Reason → List ℕ) (traced : List TracedEvent) (reasons : List (Option Reason)) (i : ℕ) (d : TracedEvent) (e : Option Reason) →
     i < length traced → length reasons ≡ length traced →
-    judged_below lines (zip traced reasons) (i + 1)
-    ≡ judged_below lines (zip traced reasons) i ++ judged_text lines (i + 1) (get_or traced i d) (get_or reasons i e)
-judged_next lines traced reasons i d e within same =
+    judged_below needless (zip traced reasons) (i + 1)
+    ≡ judged_below needless (zip traced reasons) i ++ judged_text needless (i + 1) (get_or traced i d) (get_or reasons i e)
+judged_next needless traced reasons i d e within same =
     let all : List Judged = zip traced reasons in
     let numbers : List (ℕ × Judged) = enumerate_from 1 all in
     let there : i < length all = inside traced reasons i within same in
     let last : get_or numbers i (0, (d, e)) ≡ (i + 1, (get_or traced i d, get_or reasons i e)) =
     get_or-enumerate_from 1 all i (0, (d, e)) there
     ∙ numbered (1 + i) (i + 1) (get_or all i (d, e)) (get_or traced i d, get_or reasons i e) (omega arith) (judged traced reasons i d e within same) in
-    ap (flat_map (judged_line lines)) (take_more numbers i (0, (d, e)) (omega (arith, there, length-enumerate_from 1 all)))
-    ∙ flat_map-append (judged_line lines) (take i numbers) (get_or numbers i (0, (d, e)) ∷ [])
-    ∙ ap (λ (h : ℕ × Judged). flat_map (judged_line lines) (take i numbers) ++ (judged_line lines h ++ [])) last
-    ∙ ap (λ (l : List ℕ). flat_map (judged_line lines) (take i numbers) ++ l) (append-nil (judged_text lines (i + 1) (get_or traced i d) (get_or reasons i e)))
+    ap (flat_map (judged_line needless)) (take_more numbers i (0, (d, e)) (omega (arith, there, length-enumerate_from 1 all)))
+    ∙ flat_map-append (judged_line needless) (take i numbers) (get_or numbers i (0, (d, e)) ∷ [])
+    ∙ ap (λ (h : ℕ × Judged). flat_map (judged_line needless) (take i numbers) ++ (judged_line needless h ++ [])) last
+    ∙ ap (λ (l : List ℕ). flat_map (judged_line needless) (take i numbers) ++ l) (append-nil (judged_text needless (i + 1) (get_or traced i d) (get_or reasons i e)))
 
-pub judged_more : (lines : ℕ → Option ℕ) (traced : List TracedEvent) (reasons : List (Option Reason)) (i : ℕ) (d : TracedEvent) (e : Option Reason)
+pub judged_more : (needless : ℕ → TracedEvent → Reason → List ℕ) (traced : List TracedEvent) (reasons : List (Option Reason)) (i : ℕ) (d : TracedEvent) (e : Option Reason)
     (text before after line : List ℕ) → i < length traced → length reasons ≡ length traced →
-    before ≡ text ++ judged_below lines (zip traced reasons) i → after ≡ before ++ line →
-    line ≡ judged_text lines (i + 1) (get_or traced i d) (get_or reasons i e) → after ≡ text ++ judged_below lines (zip traced reasons) (i + 1)
-judged_more lines traced reasons i d e text before after line within same was is says =
-    is ∙ ap (λ l. l ++ line) was ∙ append_assoc text (judged_below lines (zip traced reasons) i) line
-    ∙ ap (λ l. text ++ (judged_below lines (zip traced reasons) i ++ l)) says ∙ ap (λ l. text ++ l) (sym (judged_next lines traced reasons i d e within same))
+    before ≡ text ++ judged_below needless (zip traced reasons) i → after ≡ before ++ line →
+    line ≡ judged_text needless (i + 1) (get_or traced i d) (get_or reasons i e) → after ≡ text ++ judged_below needless (zip traced reasons) (i + 1)
+judged_more needless traced reasons i d e text before after line within same was is says =
+    is ∙ ap (λ l. l ++ line) was ∙ append_assoc text (judged_below needless (zip traced reasons) i) line
+    ∙ ap (λ l. text ++ (judged_below needless (zip traced reasons) i ++ l)) says ∙ ap (λ l. text ++ l) (sym (judged_next needless traced reasons i d e within same))
 
-pub judged_all : (lines : ℕ → Option ℕ) (traced : List TracedEvent) (reasons : List (Option Reason)) (i : ℕ) → length traced ≤ i →
+pub judged_all : (needless : ℕ → TracedEvent → Reason → List ℕ) (traced : List TracedEvent) (reasons : List (Option Reason)) (i : ℕ) → length traced ≤ i →
     length reasons ≡ length traced →
-    judged_below lines (zip traced reasons) i ≡ flat_map (judged_line lines) (enumerate_from 1 (zip traced reasons))
-judged_all lines traced reasons i past same =
-    ap (flat_map (judged_line lines)) (take_all i (enumerate_from 1 (zip traced reasons))
+    judged_below needless (zip traced reasons) i ≡ flat_map (judged_line needless) (enumerate_from 1 (zip traced reasons))
+judged_all needless traced reasons i past same =
+    ap (flat_map (judged_line needless)) (take_all i (enumerate_from 1 (zip traced reasons))
     (omega (arith, past, length-enumerate_from 1 (zip traced reasons), length_zip traced reasons same)))
 
 module _ (traced : List TracedEvent) (reasons : List (Option Reason)) (i : ℕ) (d : TracedEvent) (e : Option Reason) where

@@ -13,13 +13,13 @@ abbrev pub reason_line : (ℕ → Option ℕ) → ℕ → TracedEvent → Reason
 reason_line lines number traced reason =
     traced_line number traced (lines traced.pc) ++ (codes ": " ++ (words_of reason ++ line_end))
 
--- nothing where it isn't
-abbrev pub judged_text : (ℕ → Option ℕ) → ℕ → TracedEvent → Option Reason → List ℕ
-judged_text lines number traced None = []
-judged_text lines number traced (Some reason) = reason_line lines number traced reason
+-- what is told of an event that is needless, and nothing where it isn't
+abbrev pub judged_text : (ℕ → TracedEvent → Reason → List ℕ) → ℕ → TracedEvent → Option Reason → List ℕ
+judged_text needless number traced None = []
+judged_text needless number traced (Some reason) = needless number traced reason
 
-abbrev pub judged_line : (ℕ → Option ℕ) → ℕ × Judged → List ℕ
-judged_line lines one = judged_text lines one.0 one.1.0 one.1.1
+abbrev pub judged_line : (ℕ → TracedEvent → Reason → List ℕ) → ℕ × Judged → List ℕ
+judged_line needless one = judged_text needless one.0 one.1.0 one.1.1
 
 -- `hH `, where one hart made them all
 abbrev pub maker_text : Option ℕ → List ℕ
@@ -39,7 +39,11 @@ abbrev pub summary_line : List Judged → List ℕ
 summary_line all = codes "needless " ++ (decimal (count_by is_vain all) ++ (codes " of " ++ (decimal (count_by is_use all)
     ++ (codes ", unfenced " ++ (decimal (count_by is_unfenced all) ++ line_end)))))
 
--- a line for each needless event, in the events' order, then one for each instruction that is needless each time, upwards, and the sums
+-- what is told of each needless event, in the events' order, then of each instruction that is needless each time, upwards, and the sums
+abbrev pub IsWaste : (ℕ → TracedEvent → Reason → List ℕ) → (Always → List ℕ) → (List Judged → List ℕ) → List Judged → List ℕ → Type 0
+IsWaste needless always sums all text = (found : List Always) × AreAlways all found
+    × (text ≡ flat_map (judged_line needless) (enumerate_from 1 all) ++ (flat_map always found ++ sums all))
+
+-- a line for each of these
 abbrev pub IsWasteText : (ℕ → Option ℕ) → List Judged → List ℕ → Type 0
-IsWasteText lines all text = (found : List Always) × AreAlways all found
-    × (text ≡ flat_map (judged_line lines) (enumerate_from 1 all) ++ (flat_map (always_line lines) found ++ summary_line all))
+IsWasteText lines all text = IsWaste (reason_line lines) (always_line lines) summary_line all text

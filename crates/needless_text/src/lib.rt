@@ -2,7 +2,10 @@
 #![tactic(auto)]
 
 mod always;
+mod form;
+mod json;
 mod text;
 mod uses;
 
+pub use json::waste_json;
 pub use text::waste_text;

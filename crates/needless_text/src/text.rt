@@ -1,16 +1,18 @@
 //! The text of a run's needless cleans and fences.
 
+ghost use Rattle.needless_text.specs.Forms.{always_form, reason_form, summary_form};
 ghost use Rattle.needless_text.specs.Uses.{is_unfenced, is_use, is_vain};
-ghost use Rattle.needless_text.specs.Waste.{IsWasteText, judged_line, reason_line, summary_line};
+ghost use Rattle.needless_text.specs.Waste.{IsWaste, IsWasteText, judged_line};
 ghost use Rattle.run_text.specs.Places.{line_in};
 ghost use Rattle.std.specs.List.{count_by, enumerate_from, flat_map, zip};
 ghost use Rattle.std.specs.Prelude.{◌≡◌, ◌++◌, cond, IfOk, OnOk, length, string_bytes};
 
 use crate::always::tell_always;
+use crate::form::Form;
 use crate::uses::{is_clean_or_fence, is_paid_in_vain, is_unfenced, uses_by_pc};
 use assemble::LineNumbers;
 use needless::Reason;
-use run_text::{ShownTraced, line_of};
+use run_text::{EventMembers, ShownTraced, line_of};
 use run_trace::TracedEvent;
 use std::alloc::{AllocError, Global};
 use std::fmt::Write;
@@ -35,26 +37,43 @@ pub fn waste_text(
     requires { length reasons.now ≡ length traced.now }
     ensures { IfOk result (λ text. IsWasteText (line_in lines.now) (zip traced.now reasons.now) (string_bytes text)) }
 {
+    waste_in(Form::Text, alloc, traced, reasons, lines)
+}
+
+/// What is printed of these events and instructions in one of the forms.
+pub(crate) fn waste_in(
+    form: Form,
+    alloc: Global,
+    traced: &[TracedEvent],
+    reasons: &[Option<Reason>],
+    lines: &Option<LineNumbers>,
+) -> Result<String, AllocError>
+    requires { length reasons.now ≡ length traced.now }
+    ensures { IfOk result (λ text. IsWaste (reason_form form (line_in lines.now)) (always_form form (line_in lines.now)) (summary_form form)
+        (zip traced.now reasons.now) (string_bytes text)) }
+{
     let mut text = String::new(alloc);
-    tell_needless(&mut text, traced, reasons, lines)?;
+    tell_needless(&mut text, form, traced, reasons, lines)?;
     let uses = uses_by_pc(alloc, traced, reasons)?;
-    tell_always(&mut text, uses, lines)?;
-    tell_sums(&mut text, traced, reasons)?;
+    tell_always(&mut text, form, uses, lines)?;
+    tell_sums(&mut text, form, traced, reasons)?;
     Ok(text)
 }
 
 fn tell_needless(
     text: &mut String,
+    form: Form,
     traced: &[TracedEvent],
     reasons: &[Option<Reason>],
     lines: &Option<LineNumbers>,
 ) -> Result<(), AllocError>
     requires { length reasons.now ≡ length traced.now }
-    ensures { OnOk result (string_bytes text.new ≡ string_bytes text.old ++ flat_map (judged_line (line_in lines.now)) (enumerate_from 1 (zip traced.now reasons.now))) }
+    ensures { OnOk result (string_bytes text.new ≡ string_bytes text.old
+        ++ flat_map (judged_line (reason_form form (line_in lines.now))) (enumerate_from 1 (zip traced.now reasons.now))) }
 {
     for at in 0..traced.len() {
         if let Some(reason) = reasons[at] {
-            tell_event(text, at as u64 + 1, traced[at], reason, lines)?;
+            tell_event(text, form, at as u64 + 1, traced[at], reason, lines)?;
         }
     }
     Ok(())
@@ -62,19 +81,26 @@ fn tell_needless(
 
 fn tell_event(
     text: &mut String,
+    form: Form,
     number: u64,
     traced: TracedEvent,
     reason: Reason,
     lines: &Option<LineNumbers>,
 ) -> Result<(), AllocError>
-    ensures { OnOk result (string_bytes text.new ≡ string_bytes text.old ++ reason_line (line_in lines.now) number traced reason) }
+    ensures { OnOk result (string_bytes text.new ≡ string_bytes text.old ++ reason_form form (line_in lines.now) number traced reason) }
 {
     let shown = ShownTraced {
         number,
         traced,
         line: line_of(lines, traced.pc),
     };
-    writeln!(text, "{shown}: {reason}")
+    match form {
+        Form::Text => writeln!(text, "{shown}: {reason}"),
+        Form::Json => {
+            let members = EventMembers { shown };
+            writeln!(text, "{{{members},\"reason\":\"{reason}\"}}")
+        }
+    }
 }
 
 /// How many of a run's cleans and fences there are of each kind.
@@ -87,18 +113,25 @@ struct Sums {
 
 fn tell_sums(
     text: &mut String,
+    form: Form,
     traced: &[TracedEvent],
     reasons: &[Option<Reason>],
 ) -> Result<(), AllocError>
     requires { length reasons.now ≡ length traced.now }
-    ensures { OnOk result (string_bytes text.new ≡ string_bytes text.old ++ summary_line (zip traced.now reasons.now)) }
+    ensures { OnOk result (string_bytes text.new ≡ string_bytes text.old ++ summary_form form (zip traced.now reasons.now)) }
 {
-    let sums = sums_of(traced, reasons);
-    writeln!(
-        text,
-        "needless {} of {}, unfenced {}",
-        sums.vain, sums.uses, sums.unfenced
-    )
+    let Sums {
+        uses,
+        vain,
+        unfenced,
+    } = sums_of(traced, reasons);
+    match form {
+        Form::Text => writeln!(text, "needless {vain} of {uses}, unfenced {unfenced}"),
+        Form::Json => writeln!(
+            text,
+            "{{\"kind\":\"needless\",\"needless\":{vain},\"of\":{uses},\"unfenced\":{unfenced}}}"
+        ),
+    }
 }
 
 fn sums_of(traced: &[TracedEvent], reasons: &[Option<Reason>]) -> Sums

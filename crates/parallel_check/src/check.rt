@@ -1,16 +1,18 @@
-//! The verdict on a whole run: workers judge its moments, in threads of their own.
+//! The verdict on a run, or on some of its moments: workers judge them, in threads of their own.
 
 ghost use Rattle.crash_image.specs.View.{HasLines};
 ghost use Rattle.crash_model.specs.Cut.{IsCut, number_in};
 ghost use Rattle.crash_model.specs.Image.{image};
 ghost use Rattle.image_check.specs.Legal.{IsLegal};
 ghost use Rattle.image_check.specs.OrderFaults.{AreSound};
-ghost use Rattle.image_check.specs.Verdicts.{IsRefusal, IsVerdict};
+ghost use Rattle.image_check.specs.Verdicts.{IsRefusal, IsVerdict, IsVerdictBetween};
 ghost use Rattle.image_check.specs.declared.verdict.Verdict.{Verdict as AVerdict};
 ghost use Rattle.nova_log.specs.Volumes.{volume_of};
+ghost use Rattle.parallel_check.specs.Parts.{end_of};
 ghost use Rattle.store_trace.specs.History.{at_moment};
+ghost use Rattle.store_trace.specs.declared.event.Event.{Event as AnEvent};
 ghost use Rattle.volume.specs.declared.entry.Entry.{Entry as AnEntry};
-ghost use Rattle.std.specs.Prelude.{◌≡◌, ℕ, ◌<◌, ◌≤◌, List, Option, length, take, IfErr, IfOk};
+ghost use Rattle.std.specs.Prelude.{◌≡◌, ℕ, ◌+◌, ◌<◌, ◌≤◌, List, Option, length, take, IfErr, IfOk, IfSome};
 
 use crate::stretches::Stretches;
 use check_desk::judge_all;
@@ -18,7 +20,7 @@ use gate::Gate;
 use image_check::{CheckFault, SoundRun, Verdict, check_run};
 use line_memory::Medium;
 use plan::Plan;
-use std::alloc::Global;
+use std::alloc::{AllocError, Global};
 use std::thread::Threads;
 use store_trace::Trace;
 
@@ -67,13 +69,84 @@ pub fn check_parallel<G: Gate, R: Threads + Sync>(
         return check_alone(alloc, plan, medium, trace, gate);
     }
     let run = SoundRun::new(alloc, plan, medium, trace)?;
-    let stretches = Stretches::new(alloc, &run, workers);
+    let end = run.moments();
+    Ok(judge_between(rt, alloc, &run, 0, end, workers, gate)?)
+}
+
+/// The verdict on the moments of the trace from `first` to `last`, or to the last one of the run where none is given, by one to eight
+/// workers, as `check_parallel` gives it on all of them. A moment past those of the run counts as its last one.
+///
+/// # Errors
+/// A wrong mark of an operation, wherever it stands; NoSuchMoment where `first` is past the moments of the run. Memory where a growth is
+/// refused.
+pub fn check_part<G: Gate, R: Threads + Sync>(
+    rt: &R,
+    alloc: Global,
+    plan: &Plan,
+    medium: &Medium,
+    trace: &Trace,
+    first: u32,
+    last: Option<u32>,
+    workers: u32,
+    gate: &G,
+) -> Result<Verdict, CheckFault>
+    requires lines { HasLines medium.now trace.now.events }
+    requires order { IfSome last (λ moment. first ≤ moment) }
+    requires workers { (0 < workers) × (workers ≤ 8) }
+    ensures ok { IfOk result (IsVerdictBetween plan.now.operations medium.now trace.now.events first (end_of trace.now.events last)) }
+    ensures sound { IfOk result (λ verdict. AreSound plan.now.operations trace.now.events (length trace.now.events)) }
+    ensures err { IfErr result (λ fault. IsRefusal plan.now.operations trace.now.events first fault) }
+{
+    let is_past = first as usize > trace.events().len();
+    let run = match SoundRun::new(alloc, plan, medium, trace) {
+        Ok(run) => run,
+        Err(CheckFault::Memory) if is_past => return Err(CheckFault::NoSuchMoment),
+        Err(fault) => return Err(fault),
+    };
+    if is_past {
+        return Err(CheckFault::NoSuchMoment);
+    }
+    let end = end_at(last, run.moments());
+    let workers = workers_for((end - first) as usize, workers);
+    Ok(judge_between(rt, alloc, &run, first, end, workers, gate)?)
+}
+
+/// One past the last of the moments asked for, of a run of so many.
+fn end_at(last: Option<u32>, moments: u32) -> u32
+    requires { (0 < moments) × (moments ≤ 65537) }
+    ensures end { (events : List AnEvent) → moments ≡ length events + 1 → result ≡ end_of events last }
+    ensures later { (first : ℕ) → first < moments → IfSome last (λ moment. first ≤ moment) → first < result }
+    ensures most { result ≤ moments }
+{
+    match last {
+        Some(last) => last.min(moments - 1) + 1,
+        None => moments,
+    }
+}
+
+/// The verdict on the moments of a run from `first` on that are below `end`.
+fn judge_between<G: Gate, R: Threads + Sync>(
+    rt: &R,
+    alloc: Global,
+    run: &SoundRun<'_>,
+    first: u32,
+    end: u32,
+    workers: u32,
+    gate: &G,
+) -> Result<Verdict, AllocError>
+    requires order { first ≤ end }
+    requires there { end ≤ length run.now.events + 1 }
+    requires few { end ≤ 65537 }
+    requires workers { (0 < workers) × (workers ≤ 8) }
+    ensures { IfOk result (IsVerdictBetween run.now.plan run.now.start run.now.events first end) }
+{
+    let stretches = Stretches::new(alloc, run, first, end, workers);
     let best = judge_all(rt, alloc, stretches.count, workers, &stretches, gate)?;
     match best {
         Some(found) => Ok(found.1),
         None => Ok(Verdict::Pass {
-            moments: u64::from(run.moments()),
-            images: run.images(alloc)?,
+            moments: u64::from(end - first),
+            images: run.images(alloc, first, end)?,
         }),
     }
 }

@@ -4,7 +4,7 @@
 //! opens the branches only of moments that differ, to recovery, from the one before; all of them read one index of the trace.
 #![tactic(auto)]
 
-pub use check::check_parallel;
+pub use check::{check_parallel, check_part};
 
 mod check;
 mod stretches;

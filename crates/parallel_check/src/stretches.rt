@@ -1,6 +1,6 @@
 //! The moments of a run in stretches, each judged by one worker.
 
-ghost use Rattle.image_check.specs.Verdicts.{IsMomentVerdict, IsVerdict};
+ghost use Rattle.image_check.specs.Verdicts.{IsMomentVerdict, IsVerdictBetween, PassBetween};
 ghost use Rattle.image_check.specs.declared.verdict.Verdict.{Verdict as AVerdict};
 ghost use Rattle.parallel_check.specs.Stretches.{PassUpTo};
 ghost use Rattle.check_desk.specs.declared.sweep.Judged.TheVariants.{Passed, Bad};
@@ -17,29 +17,47 @@ const EACH: u32 = 16;
 /// The most moments of a stretch.
 const LONGEST: u32 = 64;
 
-/// The moments of a run, from 0, in stretches of one size, of which the last may be shorter.
+/// Moments of a run, one after another, in stretches of one size, of which the last may be shorter.
 #[derive(Drop)]
 pub struct Stretches<'a, 'b> {
     alloc: Global,
     pub run: &'a SoundRun<'b>,
+    /// The first of the moments.
+    pub first: u32,
+    /// One past the last of them.
+    pub end: u32,
     pub size: u32,
     pub count: u32,
-    ghost whole: { length run.now.events < count * size },
-    ghost small: { count * size < 2 ^ 32 },
+    ghost there: { end ≤ length run.now.events + 1 },
+    ghost whole: { end ≤ first + count * size },
+    ghost small: { first + count * size < 2 ^ 32 },
 }
 
 impl<'a, 'b> Stretches<'a, 'b> {
-    /// Stretches for so many workers.
+    /// The moments from `first` on that are below `end`, for so many workers.
     #[tactic(auto, using(std::proofs::lemmas::Grind::div_ceil_times))]
-    pub fn new(alloc: Global, run: &'a SoundRun<'b>, workers: u32) -> Stretches<'a, 'b>
-        requires { (0 < workers) × (workers ≤ 8) }
-        ensures { result.run.now ≡ run.now }
+    pub fn new(
+        alloc: Global,
+        run: &'a SoundRun<'b>,
+        first: u32,
+        end: u32,
+        workers: u32,
+    ) -> Stretches<'a, 'b>
+        requires order { first ≤ end }
+        requires there { end ≤ length run.now.events + 1 }
+        requires few { end ≤ 65537 }
+        requires workers { (0 < workers) × (workers ≤ 8) }
+        ensures run { result.run.now ≡ run.now }
+        ensures first { result.first ≡ first }
+        ensures end { result.end ≡ end }
     {
-        let moments = run.moments();
+        let moments = end - first;
         let size = (moments / (workers * EACH)).clamp(1, LONGEST);
         Stretches {
             alloc,
             run,
+            first,
+            end,
             size,
             count: moments.div_ceil(size),
         }
@@ -47,12 +65,12 @@ impl<'a, 'b> Stretches<'a, 'b> {
 
     /// The first moment of a stretch.
     #[tactic(auto, using(crate::proofs::Stretching::stretch_within))]
-    fn first(&self, stretch: u32) -> u32
+    fn first_of(&self, stretch: u32) -> u32
         requires { stretch < self.now.count }
-        ensures first { result ≡ stretch * self.now.size }
+        ensures first { result ≡ self.now.first + stretch * self.now.size }
         ensures small { result + self.now.size < 2 ^ 32 }
     {
-        stretch * self.size
+        self.first + stretch * self.size
     }
 }
 
@@ -62,9 +80,9 @@ impl<'a, 'b> Judge<Verdict, MomentJudge<'a, 'b>> for Stretches<'a, 'b> {
 
     ghost moments = { λ s. s.count };
 
-    ghost passes = { λ s stretch. StretchPasses s.run.now s.size stretch };
+    ghost passes = { λ s stretch. StretchPasses s.run.now s.first s.end s.size stretch };
 
-    ghost fails = { λ s stretch verdict. StretchFails s.run.now s.size stretch verdict };
+    ghost fails = { λ s stretch verdict. StretchFails s.run.now s.first s.end s.size stretch verdict };
 
     ghost keeps = { λ s judge. judge ≡ s.run.now };
 
@@ -78,8 +96,8 @@ impl<'a, 'b> Judge<Verdict, MomentJudge<'a, 'b>> for Stretches<'a, 'b> {
         judge: &mut MomentJudge<'a, 'b>,
         stretch: u32,
     ) -> Result<Judged<Verdict>, AllocError> {
-        let first = self.first(stretch);
-        let end = self.run.moments().min(first + self.size);
+        let first = self.first_of(stretch);
+        let end = self.end.min(first + self.size);
         judge_between(rt, self.alloc, judge, first, end)
     }
 }
@@ -96,8 +114,8 @@ fn judge_between<T: Threads + Sync>(
     ensures same { judge.new ≡ judge.old }
     ensures passed { result ≡ Ok Passed → (moment : ℕ) → first ≤ moment → moment < end →
         IsMomentVerdict judge.old.plan judge.old.start (take moment judge.old.events) MomentVerdict.Pass }
-    ensures bad { (verdict : AVerdict) → result ≡ Ok (Bad verdict) → PassUpTo judge.old first →
-        IsVerdict judge.old.plan judge.old.start judge.old.events verdict }
+    ensures bad { (verdict : AVerdict) (from until : ℕ) → result ≡ Ok (Bad verdict) → from ≤ first → end ≤ until → PassUpTo judge.old from until first →
+        IsVerdictBetween judge.old.plan judge.old.start judge.old.events from until verdict }
 {
     for moment in first..end {
         let found = judge_one(rt, alloc, judge, moment)?;
@@ -109,7 +127,7 @@ fn judge_between<T: Threads + Sync>(
     Ok(Judged::Passed)
 }
 
-/// None where the moment passes, else the verdict on the run, where the moments before it pass.
+/// None where the moment passes, else the verdict on a row of moments of which those before it pass.
 fn judge_one<T: Threads + Sync>(
     rt: &T,
     alloc: Global,
@@ -120,8 +138,9 @@ fn judge_one<T: Threads + Sync>(
     ensures same { judge.new ≡ judge.old }
     ensures passed { IfOk result (λ found. IfNone found
         (IsMomentVerdict judge.old.plan judge.old.start (take moment judge.old.events) MomentVerdict.Pass)) }
-    ensures bad { IfOk result (λ found. IfSome found (λ verdict. PassUpTo judge.old moment →
-        IsVerdict judge.old.plan judge.old.start judge.old.events verdict)) }
+    ensures bad { IfOk result (λ found. IfSome found (λ verdict. (from until : ℕ) → from ≤ moment → moment < until →
+        PassBetween judge.old.plan judge.old.start judge.old.events from moment →
+        IsVerdictBetween judge.old.plan judge.old.start judge.old.events from until verdict)) }
 {
     match judge.judge(rt, alloc, moment) {
         Ok(MomentVerdict::Pass) => Ok(None),

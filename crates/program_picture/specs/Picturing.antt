@@ -6,16 +6,21 @@ use Rattle.image_name.specs.declared.name.ImageName.{ImageName}
 use Rattle.schedule.specs.declared.items.Item.{Item}
 use Rattle.shared_memory.specs.declared.fault.StepFault.TheVariants as refused
 use Rattle.store_trace.specs.declared.event.Event.{Event}
-use Rattle.tester.specs.Explaining.{LacksImage}
+use Rattle.tester.specs.Explaining.{HasImage, LacksImage}
 use Rattle.tester.specs.Runs.{HasTrace, IsRefused, Setup}
 use Rattle.tester.specs.declared.explaining.ExplainFault.{ExplainFault}
 use Rattle.tester.specs.declared.explaining.ExplainFault.TheVariants.{Step, NoSuchMoment, NoSuchImage, Memory}
 
--- the run by a schedule has this moment
-pub record HasMoment (s : Setup) (schedule : List Item) (moment : ℕ) : Type 0 where
+-- events have this moment; and an image of this name there, where one is named
+abbrev pub HasImageAt : List Event → ℕ → Option ImageName → Type 0
+HasImageAt trace moment None = moment ≤ length trace
+HasImageAt trace moment (Some name) = (cut : List (ℕ × ℕ)) × HasImage trace moment name cut
+
+-- the events of the run by a schedule have both
+pub record HasPicture (s : Setup) (schedule : List Item) (moment : ℕ) (image : Option ImageName) : Type 0 where
   pub trace : List Event
   pub has_trace : HasTrace s schedule trace
-  pub within : moment ≤ length trace
+  pub has_image : HasImageAt trace moment image
 
 -- why a moment of these steps has no image of this name: none of its cuts is named so
 abbrev pub IsUnnamed : List PersistenceStep → ImageName → ExplainFault → Type 0

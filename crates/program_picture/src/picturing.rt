@@ -1,10 +1,11 @@
 //! The picture of a program's run up to a moment.
 
+ghost use Rattle.crash_image.specs.Named.{IsNamed};
 ghost use Rattle.crash_image.specs.View.{HasLines};
 ghost use Rattle.object.specs.Sections.{Sections};
-ghost use Rattle.program_picture.specs.Picturing.{FailsToPicture, HasMoment, IsUnnamed, LacksPicture};
+ghost use Rattle.program_picture.specs.Picturing.{FailsToPicture, HasImageAt, HasPicture, IsUnnamed, LacksPicture};
 ghost use Rattle.schedule.specs.Grammar.{hart_steps};
-ghost use Rattle.std.specs.Prelude.{◌≡◌, ◌^◌, ◌<◌, ◌≤◌, IfErr, IfOk, OnOk, length};
+ghost use Rattle.std.specs.Prelude.{◌≡◌, ◌^◌, ◌<◌, ◌≤◌, ℕ, List, IfErr, IfOk, OnOk, length};
 ghost use Rattle.tester.specs.Programs.{IsProgramOf};
 ghost use Rattle.tester.specs.Runs.{FailsToRun, HasTrace, with_room};
 
@@ -41,7 +42,7 @@ pub fn picture_program(
 ) -> Result<String, ExplainFault>
     requires few { hart_steps schedule.now < 2 ^ 32 }
     requires file { (given : Sections) × IsProgramOf file.now given }
-    ensures ok { OnOk result (HasMoment (with_room program.now medium.now harts) schedule.now moment) }
+    ensures ok { OnOk result (HasPicture (with_room program.now medium.now harts) schedule.now moment image.now) }
     ensures err { IfErr result (FailsToPicture (with_room program.now medium.now harts) schedule.now moment image.now) }
 {
     let run = events_of(alloc, program, medium, harts, schedule)?;
@@ -84,7 +85,8 @@ fn image_lines(
     image: &Option<ImageName>,
 ) -> Result<Option<Vec<ImageLine>>, ExplainFault>
     requires { HasLines medium.now trace.now.events }
-    ensures ok { OnOk result (moment ≤ length trace.now.events) }
+    ensures moment { OnOk result (moment ≤ length trace.now.events) }
+    ensures ok { OnOk result (HasImageAt trace.now.events moment image.now) }
     ensures err { IfErr result (LacksPicture trace.now.events moment image.now) }
 {
     let cuts = match Cuts::at(alloc, medium, trace, moment) {
@@ -104,6 +106,7 @@ fn named_lines(
     cuts: &Cuts<'_>,
     image: &ImageName,
 ) -> Result<Vec<ImageLine>, ExplainFault>
+    ensures ok { OnOk result ((cut : List (ℕ × ℕ)) × IsNamed cuts.now.steps image.now cut) }
     ensures err { IfErr result (IsUnnamed cuts.now.steps image.now) }
 {
     let cut = match cuts.named(alloc, image) {

@@ -113,7 +113,7 @@ impl fmt::Display for ShownEvent {
 
 /// The number of the low `width` bytes of a value.
 #[tactic(auto, using(crate::proofs::Stored::whole_value))]
-fn stored(value: u64, width: u32) -> u64
+pub(crate) fn stored(value: u64, width: u32) -> u64
     ensures { result ≡ value % 2 ^ (8 * width) }
 {
     if width < 8 {

@@ -3,8 +3,10 @@
 
 mod causes;
 mod events;
+mod json;
 mod place;
 
 pub use causes::unfinished_text;
 pub use events::{ShownTraced, hart_of, trace_text};
+pub use json::{EventMembers, NumberOrNull, PcMembers, trace_json};
 pub use place::{Place, ShownPc, line_of, place_of};

@@ -1,15 +1,16 @@
 -- The verdict on the run of a program by a schedule.
-use Rattle.std.specs.Prelude.{◌≡◌, ◌≢◌, ℕ, ◌≤◌, ◌++◌, List, Ok, length, take}
+use Rattle.std.specs.Prelude.{◌≡◌, ◌≢◌, ℕ, ◌<◌, ◌≤◌, ◌++◌, List, Option, None, Ok, length, take}
 use Rattle.crash_model.specs.Cut.{IsCut}
 use Rattle.image_check.specs.Legal.{IsLegal}
 use Rattle.image_check.specs.OrderFaults.{AreSound, IsFirstFault}
-use Rattle.image_check.specs.Verdicts.{IsVerdict, Passes}
+use Rattle.image_check.specs.Verdicts.{IsVerdictBetween, Passes}
 use Rattle.image_check.specs.declared.fault.OpFault.{OpFault}
 use Rattle.image_check.specs.declared.verdict.Verdict.{Verdict}
 use Rattle.machine.specs.Evicting.{hart_steps}
 use Rattle.machine.specs.Run.{Config, RunsTo}
 use Rattle.machine.specs.Stands.{MachineView, Stands}
 use Rattle.nova_log.specs.Volumes.{volume_of}
+use Rattle.parallel_check.specs.Parts.{end_of}
 use Rattle.plan.specs.declared.operation.Operation.{Operation}
 use Rattle.schedule.specs.Steps.{all_steps}
 use Rattle.schedule.specs.declared.items.Item.{Item}
@@ -20,15 +21,19 @@ use Rattle.store_trace.specs.History.{at_moment}
 use Rattle.store_trace.specs.declared.event.Event.{Event}
 use Rattle.tester.specs.Runs.{HasTrace, IsRefused, Setup, fault_of_run, start_of}
 use Rattle.tester.specs.declared.checking.VerdictFault.{VerdictFault}
-use Rattle.tester.specs.declared.checking.VerdictFault.TheVariants.{Step as StepRefused, Operation as WrongMark, Memory}
+use Rattle.tester.specs.declared.checking.VerdictFault.TheVariants.{Step as StepRefused, Operation as WrongMark, NoSuchMoment, Memory}
 use Rattle.volume.specs.declared.entry.Entry.{Entry}
 
--- the verdict on all moments of the run, whose marks are right, over the medium at its start
-pub record HasVerdict (plan : List Operation) (s : Setup) (schedule : List Item) (verdict : Verdict) : Type 0 where
+-- the verdict on the moments of the run from `first` to `last`, or to its last one; the run's marks are right
+pub record HasVerdictOn (plan : List Operation) (s : Setup) (schedule : List Item) (first : ℕ) (last : Option ℕ) (verdict : Verdict) : Type 0 where
   pub trace : List Event
   pub has_trace : HasTrace s schedule trace
   pub sound : AreSound plan trace (length trace)
-  pub verdict_is : IsVerdict plan s.medium trace verdict
+  pub verdict_is : IsVerdictBetween plan s.medium trace first (end_of trace last) verdict
+
+-- the verdict on all moments
+abbrev pub HasVerdict : List Operation → Setup → List Item → Verdict → Type 0
+HasVerdict plan s schedule verdict = HasVerdictOn plan s schedule 0 None verdict
 
 -- whatever a power cut leaves at whatever moment of the run recovers to a legal volume
 abbrev pub AlwaysPasses : List Operation → Setup → List Item → Type 0
@@ -59,8 +64,16 @@ pub record HasWrongMark (plan : List Operation) (s : Setup) (schedule : List Ite
 abbrev pub verdict_fault : StepFault → VerdictFault
 verdict_fault fault = fault_of_run StepRefused Memory fault
 
--- what a fault says of the run and of its marks
-abbrev pub HasNoVerdict : List Operation → Setup → List Item → VerdictFault → Type 0
-HasNoVerdict plan s schedule (StepRefused fault) = (fault ≢ refused.Memory) × IsRefused s schedule fault
-HasNoVerdict plan s schedule (WrongMark fault) = HasWrongMark plan s schedule fault
-HasNoVerdict plan s schedule Memory = Unit {0}
+-- the run, whose marks are right, has fewer events than that
+pub record LacksMoment (plan : List Operation) (s : Setup) (schedule : List Item) (moment : ℕ) : Type 0 where
+  pub trace : List Event
+  pub has_trace : HasTrace s schedule trace
+  pub sound : AreSound plan trace (length trace)
+  pub past : length trace < moment
+
+-- what a fault says of the run, of its marks and of the first moment that is asked for
+abbrev pub HasNoVerdict : List Operation → Setup → List Item → ℕ → VerdictFault → Type 0
+HasNoVerdict plan s schedule first (StepRefused fault) = (fault ≢ refused.Memory) × IsRefused s schedule fault
+HasNoVerdict plan s schedule first (WrongMark fault) = HasWrongMark plan s schedule fault
+HasNoVerdict plan s schedule first NoSuchMoment = LacksMoment plan s schedule first
+HasNoVerdict plan s schedule first Memory = Unit {0}

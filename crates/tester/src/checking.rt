@@ -1,7 +1,7 @@
 //! The verdict on a run of a program.
 
-ghost use Rattle.std.specs.Prelude.{◌≡◌, ◌<◌, ◌≤◌, ℕ, IfErr, IfOk, Ok, Option};
-ghost use Rattle.tester.specs.Checking.{AlwaysPasses, HasNoVerdict, HasVerdict, SurvivesPowerCuts};
+ghost use Rattle.std.specs.Prelude.{◌≡◌, ◌<◌, ◌≤◌, ℕ, IfErr, IfOk, IfSome, Ok, Option};
+ghost use Rattle.tester.specs.Checking.{AlwaysPasses, HasNoVerdict, HasVerdict, HasVerdictOn, SurvivesPowerCuts};
 ghost use Rattle.tester.specs.Runs.{with_room};
 
 use crate::runs::trace_of;
@@ -9,7 +9,7 @@ use gate::Open;
 use image_check::{CheckFault, OpFault, Verdict};
 use line_memory::Medium;
 use machine::{Schedule, StepFault};
-use parallel_check::check_parallel;
+use parallel_check::{check_parallel, check_part};
 use plan::Plan;
 use program::Program;
 use std::alloc::Global;
@@ -25,6 +25,9 @@ pub enum VerdictFault {
     /// A mark of an operation in the run is wrong: the first one.
     #[error("{0}")]
     Operation(OpFault),
+    /// The run has fewer events than the first moment that is asked for.
+    #[error("no such moment")]
+    NoSuchMoment,
     /// Memory was refused.
     #[error("out of memory")]
     Memory,
@@ -66,12 +69,45 @@ pub fn check_program<T: Threads + Sync>(
         AlwaysPasses plan.now.operations (with_room program medium harts) schedule.now }
     ensures survives { (moments : ℕ) (images : Option ℕ) → result ≡ Ok (Verdict.Pass moments images) →
         SurvivesPowerCuts plan.now.operations (with_room program medium harts) schedule.now }
-    ensures err { IfErr result (HasNoVerdict plan.now.operations (with_room program medium harts) schedule.now) }
+    ensures err { IfErr result (HasNoVerdict plan.now.operations (with_room program medium harts) schedule.now 0) }
 {
     let trace = trace_of(alloc, program, &medium, harts, schedule)?;
     match check_parallel(rt, alloc, plan, &medium, &trace, workers, &Open) {
         Ok(verdict) => Ok(verdict),
         Err(CheckFault::Operation(fault)) => Err(VerdictFault::Operation(fault)),
         Err(_) => Err(VerdictFault::Memory),
+    }
+}
+
+/// The verdict on the moments of such a run from `first` to `last`, or to its last one where none is given, as `check_program` gives it
+/// on all of them. A moment past those of the run counts as its last one.
+///
+/// # Errors
+/// As of `check_program`; NoSuchMoment where the run's marks are right, and `first` is past its moments.
+pub fn check_moments<T: Threads + Sync>(
+    rt: &T,
+    alloc: Global,
+    plan: &Plan,
+    program: Program,
+    medium: Medium,
+    harts: u32,
+    schedule: &Schedule,
+    first: u32,
+    last: Option<u32>,
+    workers: u32,
+) -> Result<Verdict, VerdictFault>
+    requires order { IfSome last (λ moment. first ≤ moment) }
+    requires workers { (0 < workers) × (workers ≤ 8) }
+    ensures ok { IfOk result (HasVerdictOn plan.now.operations (with_room program medium harts) schedule.now first last) }
+    ensures err { IfErr result (HasNoVerdict plan.now.operations (with_room program medium harts) schedule.now first) }
+{
+    let trace = trace_of(alloc, program, &medium, harts, schedule)?;
+    match check_part(
+        rt, alloc, plan, &medium, &trace, first, last, workers, &Open,
+    ) {
+        Ok(verdict) => Ok(verdict),
+        Err(CheckFault::Operation(fault)) => Err(VerdictFault::Operation(fault)),
+        Err(CheckFault::NoSuchMoment) => Err(VerdictFault::NoSuchMoment),
+        Err(CheckFault::Memory) => Err(VerdictFault::Memory),
     }
 }

@@ -1,7 +1,7 @@
 //! The calls that the program makes, over values: programs are loaded, run, explained and checked, and volumes made.
 #![tactic(auto)]
 
-pub use checking::{VerdictFault, check_program};
+pub use checking::{VerdictFault, check_moments, check_program};
 pub use explaining::{ExplainFault, explain_image};
 pub use images::{CountFault, count_images};
 pub use loading::{ProgramFault, load_object, load_program};

@@ -53,7 +53,7 @@ static EXPLANATIONS: [(ExplainFault, &str); 4] = [
     (ExplainFault::Memory, "out of memory"),
 ];
 
-static VERDICTS: [(VerdictFault, &str); 6] = [
+static VERDICTS: [(VerdictFault, &str); 7] = [
     (
         VerdictFault::Step(StepFault::TraceFull),
         "the run was refused",
@@ -62,6 +62,7 @@ static VERDICTS: [(VerdictFault, &str); 6] = [
     (VerdictFault::Operation(OpFault::BegunTwice), "O2"),
     (VerdictFault::Operation(OpFault::NotPending), "O3"),
     (VerdictFault::Operation(OpFault::SharesInode), "O4"),
+    (VerdictFault::NoSuchMoment, "no such moment"),
     (VerdictFault::Memory, "out of memory"),
 ];
 

@@ -1,6 +1,6 @@
 //! Appends that are checked.
 
-ghost use Rattle.std.specs.Prelude.{◌<◌, ◌≤◌};
+ghost use Rattle.std.specs.Prelude.{◌<◌, ◌≤◌, IfSome};
 
 use crate::starts::{
     END, ENTRY, FENCE, NO_TAIL, ONE_APPEND, STRAYS, Start, TAIL, UNKNOWN, start_of,
@@ -12,7 +12,7 @@ use nova_log::VolumeFault;
 use plan::Plan;
 use std::alloc::Global;
 use std::thread::Threads;
-use tester::{VerdictFault, check_program};
+use tester::{VerdictFault, check_moments, check_program};
 
 /// A verdict that is wanted, the bad image by its name's text.
 #[derive(Clone, Copy)]
@@ -165,6 +165,139 @@ fn runs_are_checked(rt: HostRuntime) {
                 "{} {workers}",
                 checked.schedule
             );
+        }
+    }
+}
+
+/// A source of several pieces and its schedule, moments of its run, from one to another or to the last, and the verdict on them.
+struct Part {
+    pieces: &'static [&'static str],
+    schedule: &'static str,
+    first: u32,
+    last: Option<u32>,
+    verdict: Result<Wanted, VerdictFault>,
+}
+
+const APPEND: &[&str] = &[ENTRY, FENCE, TAIL, FENCE, END];
+
+const NO_FIRST_FENCE: &[&str] = &[ENTRY, TAIL, FENCE, END];
+
+/// The moments of the whole append have 1, 1, 2, 3, 4, 4, 1, 2, 2, 1 and 1 images.
+static PARTS: [Part; 8] = [
+    Part {
+        pieces: APPEND,
+        schedule: "h0*22",
+        first: 0,
+        last: Some(4),
+        verdict: Ok(Wanted::Pass {
+            moments: 5,
+            images: Some(11),
+        }),
+    },
+    Part {
+        pieces: APPEND,
+        schedule: "h0*22",
+        first: 5,
+        last: None,
+        verdict: Ok(Wanted::Pass {
+            moments: 6,
+            images: Some(11),
+        }),
+    },
+    Part {
+        pieces: APPEND,
+        schedule: "h0*22",
+        first: 5,
+        last: Some(5),
+        verdict: Ok(Wanted::Pass {
+            moments: 1,
+            images: Some(4),
+        }),
+    },
+    // past the last moment
+    Part {
+        pieces: APPEND,
+        schedule: "h0*22",
+        first: 10,
+        last: Some(99),
+        verdict: Ok(Wanted::Pass {
+            moments: 1,
+            images: Some(1),
+        }),
+    },
+    Part {
+        pieces: APPEND,
+        schedule: "h0*22",
+        first: 11,
+        last: Some(99),
+        verdict: Err(VerdictFault::NoSuchMoment),
+    },
+    Part {
+        pieces: NO_FIRST_FENCE,
+        schedule: "h0*21",
+        first: 0,
+        last: Some(5),
+        verdict: Ok(Wanted::Pass {
+            moments: 6,
+            images: Some(15),
+        }),
+    },
+    Part {
+        pieces: NO_FIRST_FENCE,
+        schedule: "h0*21",
+        first: 7,
+        last: Some(9),
+        verdict: Ok(Wanted::Fail {
+            moment: 7,
+            image: "4",
+            cause: Cause::Fault(VolumeFault::Kind),
+        }),
+    },
+    // a wrong mark comes before a moment that isn't there
+    Part {
+        pieces: &[UNKNOWN],
+        schedule: "h0*3",
+        first: 99,
+        last: None,
+        verdict: Err(VerdictFault::Operation(OpFault::Unknown)),
+    },
+];
+
+fn verdict_on_part<R: Threads + Sync + AllocGlobal>(
+    rt: &R,
+    part: &Part,
+    workers: u32,
+) -> Option<Result<Verdict, VerdictFault>>
+    requires { (0 < workers) × (workers ≤ 8) }
+{
+    let alloc = rt.alloc();
+    let plan = Plan::read(alloc, ONE_APPEND.as_bytes()).ok()?;
+    let Start {
+        program,
+        medium,
+        schedule,
+    } = start_of(alloc, Some(ONE_APPEND), part.pieces, part.schedule)?;
+    let last = part.last.filter(|last| part.first <= *last);
+    Some(check_moments(
+        rt, alloc, &plan, program, medium, 1, &schedule, part.first, last, workers,
+    ))
+}
+
+fn is_judged_so<R: Threads + Sync + AllocGlobal>(rt: &R, part: &Part, workers: u32) -> bool
+    requires { (0 < workers) × (workers ≤ 8) }
+{
+    match (verdict_on_part(rt, part, workers), part.verdict) {
+        (Some(Ok(verdict)), Ok(wanted)) => is_verdict(rt.alloc(), &verdict, wanted),
+        (Some(Err(fault)), Err(wanted)) => fault == wanted,
+        _ => false,
+    }
+}
+
+#[test]
+fn moments_are_checked_in_parts(rt: HostRuntime) {
+    for (place, part) in PARTS.iter().enumerate() {
+        for workers in 1..=8 {
+            assert!(rt; is_judged_so(&rt, part, workers), "{place} {workers}");
         }
     }
 }

@@ -6,8 +6,8 @@ use Rattle.command_line.proofs.persisting.told_answer.Goals as goal
 pub returns : goal.returns
 returns c = record {
   answer = (
-    c.of.ensures.text ∙ (rw c.deref.ensures.value at c.in_ok-text.ensures)
-        ∙ unpersisted_of_source c.args.file.now c.in_ok-lines.lines c.args.run.now.traced.items c.args.run.now.told c.in_ok-lines.ensures,
+    c.of.ensures.text ∙ c.in_ok-text.ensures
+        ∙ unpersisted_of_source c.args.json c.args.file.now c.in_ok-lines.lines c.args.run.now.traced.items c.args.run.now.told c.in_ok-lines.ensures,
     c.of.ensures.status ∙ c.status_of-status.ensures,
   );
 }

@@ -1,5 +1,6 @@
-use Rattle.std.proofs.Common.{◌≡◌, ◌≤◌, ◌∙◌, ap, arith, length, List}
+use Rattle.std.proofs.Common.{◌≡◌, ◌≤◌, ◌∙◌, ℕ, ◌+◌, ap, subst, arith, length, List}
 use Rattle.std.specs.Result.{result_ok}
+use Rattle.crash_image.specs.Totals.{IsImageSum}
 use Rattle.nova_log.specs.Volumes.{volume_of}
 use Rattle.store_trace.specs.declared.event.Event.{Event}
 use Rattle.image_check.specs.declared.verdict.MomentVerdict.TheVariants as moments
@@ -9,7 +10,7 @@ use Rattle.image_check.proofs.run.judge_moments.Goals as goal
 
 pub loop-moment-init : goal.loop-moment-init
 loop-moment-init c = (
-  λ m l. absurd (omega arith),
+  λ m f l. absurd (omega arith),
   λ l. absurd (omega arith),
   c.requires.size,
   c.requires.outcomes,
@@ -48,10 +49,11 @@ pub returns-clause-ok : goal.returns-clause-ok
 returns-clause-ok c =
     let whole : length c.events.result.now ≡ length c.args.trace.now.events = ap (λ (es : List Event). length es) c.events.ensures.value in
     let test = c.loop-moment-test.false in
-    let from = c.from.ensures in (
+    let from = c.from.ensures in
+    let count : length c.events.result.now + 1 ≡ length c.args.trace.now.events + 1 = omega (arith, whole) in (
       omega (arith, whole, from),
-      c.in_ok-images_of_moments.ensures,
-      λ m l. c.loop-moment.invariant.0 m (omega (arith, whole, test, l)),
+      subst (λ (n : ℕ). IsImageSum c.args.trace.now.events 0 n c.in_ok-images_between.field-0) count c.in_ok-images_between.ensures,
+      λ m f l. c.loop-moment.invariant.0 m f (omega (arith, whole, test, l)),
     )
 
 pub returns-in-Fail-clause-ok : goal.returns-in-Fail-clause-ok
@@ -59,8 +61,9 @@ returns-in-Fail-clause-ok c =
     let whole : length c.events.result.now ≡ length c.args.trace.now.events = ap (λ (es : List Event). length es) c.events.ensures.value in
     let test = c.loop-moment-test.true in
     record {
+      from = omega arith;
       there = omega (arith, whole, test);
-      below = c.loop-moment.invariant.0;
+      passed = c.loop-moment.invariant.0;
       here =
           verdict_named c.args.plan.now.operations c.new-images.result.plan.now.operations c.args.medium.now c.args.trace.now.events c.loop-moment.moment c.new-images.result.moment
           (moments.Fail c.in-Fail.image c.in-Fail.cause) c.new-images.ensures.plan c.new-images.ensures.moment (rw c.in-Fail.is at c.in_ok-judge_next.ensures.ok);

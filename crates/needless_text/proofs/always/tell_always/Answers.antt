@@ -1,6 +1,5 @@
 use Rattle.std.proofs.Common.{◌∙◌, ◌++◌, ℕ, Option, [], ◌∷◌, ap, string_bytes, sym}
-use Rattle.run_text.specs.Places.{line_end}
-use Rattle.needless_text.specs.Waste.{always_text}
+use Rattle.needless_text.specs.Forms.{always_form, shown_form}
 use Rattle.std.proofs.lemmas.List.{append-nil, append_assoc}
 use Rattle.run_text.specs.Places.{line_in}
 use Rattle.needless_text.proofs.Listing.{always_in, are_always, lines_of, told, untold}
@@ -13,15 +12,15 @@ pub loop-pc-preserved-in-Continue-1 : goal.loop-pc-preserved-in-Continue-1
 loop-pc-preserved-in-Continue-1 c =
     let i = c.loop-pc.invariant in (
       append_assoc c.loop-pc.yielded ((c.in-Some.pc, c.in-Some.one) ∷ []) c.next.new.self ∙ (ap (λ l. c.loop-pc.yielded ++ l) (sym (c.in-Some.ensures.steps)) ∙ i.0),
-      told (line_in c.args.lines.now) _ _ _ _ c.loop-pc.yielded (c.in-Some.pc, c.in-Some.one) c.if-one.true i.1 (c.in_ok-writeln.ensures.bytes)
-          (ap (λ (line : Option ℕ). always_text (record { pc = c.in-Some.pc; hart = c.in-Some.one.hart; count = c.in-Some.one.count }) line ++ line_end) c.line_of.ensures),
+      told (always_form c.args.form (line_in c.args.lines.now)) _ _ _ _ c.loop-pc.yielded (c.in-Some.pc, c.in-Some.one) c.if-one.true i.1 (c.in_ok-tell_shown.ensures)
+          (ap (λ (line : Option ℕ). shown_form c.args.form (record { pc = c.in-Some.pc; hart = c.in-Some.one.hart; count = c.in-Some.one.count }) line) c.line_of.ensures),
     )
 
 pub loop-pc-preserved : goal.loop-pc-preserved
 loop-pc-preserved c =
     let i = c.loop-pc.invariant in (
       append_assoc c.loop-pc.yielded ((c.in-Some.pc, c.in-Some.one) ∷ []) c.next.new.self ∙ (ap (λ l. c.loop-pc.yielded ++ l) (sym (c.in-Some.ensures.steps)) ∙ i.0),
-      untold (line_in c.args.lines.now) _ _ c.loop-pc.yielded (c.in-Some.pc, c.in-Some.one) c.if-one.false i.1,
+      untold (always_form c.args.form (line_in c.args.lines.now)) _ _ c.loop-pc.yielded (c.in-Some.pc, c.in-Some.one) c.if-one.false i.1,
     )
 
 pub returns : goal.returns
@@ -31,5 +30,5 @@ returns c =
     λ all are. (
       always_in c.args.uses.entries,
       are_always all c.args.uses c.into_iter-pc-iterator.ensures.into_iter_gives.5 are,
-      i.1 ∙ ap (λ es. string_bytes c.args.text.now ++ lines_of (line_in c.args.lines.now) es) whole,
+      i.1 ∙ ap (λ es. string_bytes c.args.text.now ++ lines_of (always_form c.args.form (line_in c.args.lines.now)) es) whole,
     )
