@@ -1,8 +1,8 @@
 -- What recovery came to at entries of the queue: what it was while others are taken in, and at entries side by side.
-use Rattle.std.proofs.Common.{◌≡◌, ℕ, zero, suc, ◌+◌, ◌≤◌, ◌<◌, List, [], ◌∷◌, ◌++◌, Option, length, take, drop, get_or, refl, sym, ap, subst, ◌∙◌, arith, append_assoc}
-use Rattle.std.proofs.lemmas.List.{get_or_append_left, get_or-append-add, length-append}
+use Rattle.std.proofs.Common.{◌≡◌, ℕ, zero, suc, ◌+◌, ◌≤◌, ◌<◌, List, [], ◌∷◌, ◌++◌, Option, length, set, take, drop, get_or, refl, sym, ap, subst, ◌∙◌, arith, append_assoc}
+use Rattle.std.proofs.lemmas.List.{get_or_append_left, get_or-set_other, length-append, length-set}
 use Rattle.std.specs.List.{All, AllZip}
-use Rattle.std.specs.Prelude.{IfOk, Ok, Result}
+use Rattle.std.specs.Prelude.{IfOk, Err, Ok, Result}
 use Rattle.branches.specs.Pieces.{AreAnswers, IsPiece, all_branching}
 use Rattle.branches.specs.Queue.{branching, cut_at, entry, entry_at, IsTree}
 use Rattle.branches.specs.declared.pieces.Piece.{Piece}
@@ -22,12 +22,20 @@ zip_all Q (x ∷ xs) (y ∷ ys) h = λ k d less. zip_at Q x xs y ys h (zip_all Q
     zip_at Q x xs y ys h rest zero d less = h.0
     zip_at Q x xs y ys h rest (suc k) d less = rest k d (omega (arith, less))
 
--- one of the list
-pub all_middle : {X : Type 0} (Q : X → Type 0) (before : List X) (x : X) (after xs : List X) → xs ≡ before ++ x ∷ after → All Q xs → Q x
-all_middle Q before x after xs e h =
-    let size = length-append before (x ∷ after) in
-    let all : All Q (before ++ x ∷ after) = subst (All Q) e h in
-    subst Q (get_or-append-add before (x ∷ after) 0 x) (all (length before + 0) x (omega (arith, size)))
+-- what holds of a result in two respects
+pub both_ok : {T E : Type 0} (r : Result T E) (P Q S : T → Type 0) → IfOk r P → IfOk r Q → ((v : T) → P v → Q v → S v) → IfOk r S
+both_ok (Ok v) P Q S p q f = f v p q
+both_ok (Err e) P Q S p q f = tt
+
+-- what holds of each item of a list from a place on
+abbrev pub AreFrom : {X : Type 0} → (X → Type 0) → ℕ → List X → Type 0
+AreFrom {X} Q i xs = (k : ℕ) (d : X) → i ≤ k → k < length xs → Q (get_or xs k d)
+
+-- another item at that place changes none behind it
+pub from_next : {X : Type 0} (Q : X → Type 0) (xs : List X) (i : ℕ) (x : X) → AreFrom Q i xs → AreFrom Q (i + 1) (set xs i x)
+from_next Q xs i x h k d past less =
+    let size = length-set xs i x in
+    subst Q (sym (get_or-set_other xs i k x d (λ e. absurd (omega (arith, e, past))))) (h k d (omega (arith, past)) (omega (arith, size, less)))
 
 pub longer_still : (before more queue later next : List Entry) → queue ≡ before ++ more → next ≡ queue ++ later → next ≡ before ++ (more ++ later)
 longer_still before more queue later next e f = f ∙ ap (λ (q : List Entry). q ++ later) e ∙ append_assoc before more later
@@ -101,10 +109,10 @@ piece_later asks judged low high lines before more queue piece tree grown p =
 
 -- a piece of a round, where more was found since
 pub piece_now : {Cause E : Type 0} (asks : (ℕ → ℕ) → List ℕ → Type 0) (judged : (ℕ → ℕ) → Option Cause → Type 0) (low high : ℕ → ℕ) (lines : ℕ)
-    (before more queue : List Entry) (taken rest pieces : List (Result (Piece Cause) E)) (found : Result (Piece Cause) E) (piece : Piece Cause) → IsTree lines before →
-    queue ≡ before ++ more → pieces ≡ taken ++ found ∷ rest → found ≡ Ok piece → All (λ found. IfOk found (IsPiece asks judged low high lines before)) pieces →
-    IsPiece asks judged low high lines queue piece
-piece_now {Cause} {E} asks judged low high lines before more queue taken rest pieces found piece tree grown whole is h =
+    (before more queue : List Entry) (pieces : List (Result (Piece Cause) E)) (i : ℕ) (found : Result (Piece Cause) E) (piece : Piece Cause) → IsTree lines before →
+    queue ≡ before ++ more → i < length pieces → get_or pieces i found ≡ Ok piece →
+    AreFrom (λ found. IfOk found (IsPiece asks judged low high lines before)) i pieces → IsPiece asks judged low high lines queue piece
+piece_now {Cause} {E} asks judged low high lines before more queue pieces i found piece tree grown less is h =
     let P : Piece Cause → Type 0 = IsPiece asks judged low high lines before in
     piece_later asks judged low high lines before more queue piece tree grown
-    (subst (λ (x : Result (Piece Cause) E). IfOk x P) is (all_middle (λ (x : Result (Piece Cause) E). IfOk x P) taken found rest pieces whole h))
+    (subst (λ (x : Result (Piece Cause) E). IfOk x P) is (h i found (omega arith) less))

@@ -61,11 +61,11 @@ seen_more asked place line old new less e h n l =
     n l ∙ ap (λ (b : Bool). b || (line == l)) (h l) ∙ ap (λ (x : ℕ). has l (take place asked) || (x == l)) e ∙ sym (has_more l asked place 0 less)
 
 -- a line that was seen, or is decided
-pub found_same : (low high : ℕ → ℕ) (p decided : ℕ) (asked : List ℕ) (place line : ℕ) (old new : List Bool) (found : List Entry) (fresh : Bool) →
+pub found_same : (low high : ℕ → ℕ) (p decided : ℕ) (asked : List ℕ) (place line : ℕ) (old new : List Bool) (found later : List Entry) (fresh : Bool) → later ≡ found →
     place < length asked → line ≡ get_or asked place 0 → is_flagged line old ≡ not fresh → (fresh ≡ true → place < decided) →
     ((l : ℕ) → is_flagged l new ≡ (is_flagged l old || (line == l))) →
-    IsFound low high p decided asked place old found → IsFound low high p decided asked (place + 1) new found
-found_same low high p decided asked place line old new found fresh less e was none n h = record {
+    IsFound low high p decided asked place old found → IsFound low high p decided asked (place + 1) new later
+found_same low high p decided asked place line old new found later fresh same less e was none n h = subst (IsFound low high p decided asked (place + 1) new) (sym same) (record {
   flags = seen_more asked place line old new less e h.flags n;
   early = λ before. h.early (omega (arith, before));
   late = λ le. elim (cases_eq decided (place + 1)) [
@@ -77,22 +77,22 @@ found_same low high p decided asked place line old new found fresh less e was no
         subst (λ (x : ℕ). has x (take place asked) ≡ true) e (sym (h.flags line) ∙ was ∙ ap not stale) in
         h.late after ∙ ap (λ (r : List Entry). found ++ r) (branching_more p low high asked place 0 less ∙ (rw t refl))
   ];
-}
+})
 
 -- a line that wasn't seen
-pub found_more : (low high : ℕ → ℕ) (p decided : ℕ) (asked : List ℕ) (place line : ℕ) (old new : List Bool) (found more : List Entry) →
+pub found_more : (low high : ℕ → ℕ) (p decided : ℕ) (asked : List ℕ) (place line : ℕ) (old new : List Bool) (found pushed more : List Entry) → more ≡ pushed →
     place < length asked → line ≡ get_or asked place 0 → is_flagged line old ≡ false → decided ≤ place →
     ((l : ℕ) → is_flagged l new ≡ (is_flagged l old || (line == l))) →
-    more ≡ found ++ siblings p (place + 1) line (low line + 1) (high line - low line) →
+    pushed ≡ found ++ siblings p (place + 1) line (low line + 1) (high line - low line) →
     IsFound low high p decided asked place old found → IsFound low high p decided asked (place + 1) new more
-found_more low high p decided asked place line old new found more less e was after n m h = record {
+found_more low high p decided asked place line old new found pushed more same less e was after n m h = record {
   flags = seen_more asked place line old new less e h.flags n;
   early = λ before. absurd (omega (arith, before, after));
   late = λ le.
       (let x : ℕ = get_or asked place 0 in
       let f : has x (take place asked) ≡ false = subst (λ (y : ℕ). has y (take place asked) ≡ false) e (sym (h.flags line) ∙ was) in
       let m' : more ≡ found ++ siblings p (place + 1) x (low x + 1) (high x - low x) =
-      subst (λ (y : ℕ). more ≡ found ++ siblings p (place + 1) y (low y + 1) (high y - low y)) e m in
+      subst (λ (y : ℕ). more ≡ found ++ siblings p (place + 1) y (low y + 1) (high y - low y)) e (same ∙ m) in
       h.late after ∙ ap (λ (r : List Entry). found ++ r) (branching_more p low high asked place 0 less ∙ (rw f refl))
       ∙ sym (append_assoc found (siblings p (place + 1) x (low x + 1) (high x - low x)) (branching p low high (take (place + 1) asked) (drop (place + 1) asked)))
       ∙ ap (λ (r : List Entry). r ++ branching p low high (take (place + 1) asked) (drop (place + 1) asked)) (sym m'));

@@ -80,16 +80,9 @@ impl Opener {
             (ls : List ℕ) → R.asks recovery.now k ls → AllByRecursion (λ l. is_flagged l self.new ≡ true) ls)) }
         ensures size { length self.new ≡ length self.old }
     {
-        self.progress.begin()?;
-        let mut least = None;
-        while self.progress.is_open() {
-            least = self
-                .progress
-                .open_next(alloc, recovery, &mut self.run, least)?;
-            if self.progress.is_over(limit) {
-                return Ok(Opened::Over);
-            }
-        }
+        let least = self
+            .progress
+            .open_all(alloc, recovery, &mut self.run, limit)?;
         self.progress.finish(alloc, recovery, limit, least)
     }
 
@@ -113,17 +106,9 @@ impl Opener {
             (ls : List ℕ) → R.asks recovery.now k ls → AllByRecursion (λ l. is_flagged l self.new ≡ true) ls)) }
         ensures size { length self.new ≡ length self.old }
     {
-        self.progress.begin()?;
-        let mut least = None;
-        while self.progress.is_open() {
-            least = self
-                .progress
-                .open_next(alloc, recovery, &mut self.run, least)?;
-            least = self.progress.open_many(rt, alloc, recovery, limit, least)?;
-            if self.progress.is_over(limit) {
-                return Ok(Opened::Over);
-            }
-        }
+        let least = self
+            .progress
+            .open_all_shared(rt, alloc, recovery, &mut self.run, limit)?;
         self.progress.finish(alloc, recovery, limit, least)
     }
 }

@@ -35,22 +35,58 @@ pub fn open_piece<R: Recovery>(
     requires { AreCuts (R.low recovery.now) (R.high recovery.now) (R.lines recovery.now) queue.now }
     ensures { IfOk result (IsPiece (R.asks recovery.now) (R.judged recovery.now) (R.low recovery.now) (R.high recovery.now) (R.lines recovery.now) queue.now) }
 {
-    let lines = recovery.lines();
-    let mut run = Run::new(alloc, lines)?;
     let mut piece = Piece {
         first,
         count: 0,
-        findings: Findings::new(alloc, lines)?,
+        findings: Findings::new(alloc, recovery.lines())?,
         cause: None,
     };
     let end = first.saturating_add(count).min(queue.len());
-    for place in first..end {
+    open_up_to(alloc, recovery, queue, end, &mut piece)?;
+    Ok(piece)
+}
+
+/// Runs recovery at the branches of a piece that counts none yet, up to place `end`, or at fewer where much is found.
+fn open_up_to<R: Recovery>(
+    alloc: Global,
+    recovery: &R,
+    queue: &[Entry],
+    end: usize,
+    piece: &mut Piece<R::Cause>,
+) -> Result<(), AllocError>
+    requires none { piece.old.count ≡ 0 }
+    requires end { end ≤ length queue.now }
+    requires cuts { AreCuts (R.low recovery.now) (R.high recovery.now) (R.lines recovery.now) queue.now }
+    requires piece { IsPiece (R.asks recovery.now) (R.judged recovery.now) (R.low recovery.now) (R.high recovery.now) (R.lines recovery.now) queue.now piece.old }
+    ensures { OnOk result (IsPiece (R.asks recovery.now) (R.judged recovery.now) (R.low recovery.now) (R.high recovery.now) (R.lines recovery.now) queue.now piece.new) }
+{
+    let mut run = Run::new(alloc, recovery.lines())?;
+    open_each(alloc, recovery, &mut run, queue, end, piece)
+}
+
+/// Does so by this run.
+fn open_each<R: Recovery>(
+    alloc: Global,
+    recovery: &R,
+    run: &mut Run,
+    queue: &[Entry],
+    end: usize,
+    piece: &mut Piece<R::Cause>,
+) -> Result<(), AllocError>
+    requires none { piece.old.count ≡ 0 }
+    requires end { end ≤ length queue.now }
+    requires size { length run.old.numbers ≡ R.lines recovery.now }
+    requires cuts { AreCuts (R.low recovery.now) (R.high recovery.now) (R.lines recovery.now) queue.now }
+    requires piece { IsPiece (R.asks recovery.now) (R.judged recovery.now) (R.low recovery.now) (R.high recovery.now) (R.lines recovery.now) queue.now piece.old }
+    ensures { OnOk result (IsPiece (R.asks recovery.now) (R.judged recovery.now) (R.low recovery.now) (R.high recovery.now) (R.lines recovery.now) queue.now piece.new) }
+{
+    for place in piece.first..end {
         if piece.findings.found.len() > MUCH {
             break;
         }
-        open_at(alloc, recovery, &mut run, queue, place, &mut piece)?;
+        open_at(alloc, recovery, run, queue, place, piece)?;
     }
-    Ok(piece)
+    Ok(())
 }
 
 /// Runs recovery at the branch at this place of the queue, which is the next one of the piece.

@@ -40,7 +40,7 @@ impl Progress {
     }
 
     /// Begins an opening: one branch is found, that of the cut with all lines at their floors.
-    pub fn begin(&mut self) -> Result<(), AllocError>
+    fn begin(&mut self) -> Result<(), AllocError>
         ensures queue { OnOk result (self.new.findings.found.items ≡ entry 0 0 0 0 ∷ []) }
         ensures opened { OnOk result (self.new.opened ≡ 0) }
         ensures least { self.new.findings.least ≡ self.old.findings.least }
@@ -53,22 +53,77 @@ impl Progress {
         Ok(())
     }
 
-    /// Whether a branch is still to be opened.
-    pub fn is_open(&self) -> bool
-        ensures { IsTrue result ↔ (self.now.opened < length self.now.findings.found.items) }
+    /// Whether a branch is still to be opened: none is where there are over so many.
+    fn is_open(&self, limit: u32) -> bool
+        ensures open { IsTrue result → (self.now.opened < length self.now.findings.found.items) × (length self.now.findings.found.items ≤ limit) }
+        ensures whole { result ≡ false → length self.now.findings.found.items ≤ limit → length self.now.findings.found.items ≤ self.now.opened }
     {
-        self.opened < self.findings.found.len()
+        self.opened < self.findings.found.len() && !self.is_over(limit)
     }
 
     /// Whether there are over so many branches.
-    pub fn is_over(&self, limit: u32) -> bool
+    fn is_over(&self, limit: u32) -> bool
         ensures { IsTrue result ↔ (limit < length self.now.findings.found.items) }
     {
         self.findings.found.len() > limit as usize
     }
 
+    /// Opens the branches, up to `limit` and one more. Answers the cause of the least bad cut.
+    pub fn open_all<R: Recovery>(
+        &mut self,
+        alloc: Global,
+        recovery: &R,
+        run: &mut Run,
+        limit: u32,
+    ) -> Result<Option<R::Cause>, AllocError>
+        requires size { length self.old.findings.asked ≡ R.lines recovery.now }
+        requires least_size { length self.old.findings.least ≡ R.lines recovery.now }
+        requires run_size { length run.old.numbers ≡ R.lines recovery.now }
+        ensures at { IfOk result (λ least. IsAt (R.asks recovery.now) (R.judged recovery.now) (R.low recovery.now) (R.high recovery.now) (R.lines recovery.now)
+            self.new.opened self.new.findings.found.items self.new.findings.least least self.new.findings.asked) }
+        ensures whole { OnOk result (length self.new.findings.found.items ≤ limit → length self.new.findings.found.items ≤ self.new.opened) }
+        ensures size { length self.new.findings.asked ≡ length self.old.findings.asked }
+        ensures least_size { length self.new.findings.least ≡ length self.old.findings.least }
+        ensures run_size { length run.new.numbers ≡ length run.old.numbers }
+    {
+        self.begin()?;
+        let mut least = None;
+        while self.is_open(limit) {
+            least = self.open_next(alloc, recovery, run, least)?;
+        }
+        Ok(least)
+    }
+
+    /// Opens the branches as `open_all` does, many at once in threads of their own where these can be started.
+    pub fn open_all_shared<R: Recovery + Sync, T: Threads + Sync>(
+        &mut self,
+        rt: &T,
+        alloc: Global,
+        recovery: &R,
+        run: &mut Run,
+        limit: u32,
+    ) -> Result<Option<R::Cause>, AllocError>
+        requires size { length self.old.findings.asked ≡ R.lines recovery.now }
+        requires least_size { length self.old.findings.least ≡ R.lines recovery.now }
+        requires run_size { length run.old.numbers ≡ R.lines recovery.now }
+        ensures at { IfOk result (λ least. IsAt (R.asks recovery.now) (R.judged recovery.now) (R.low recovery.now) (R.high recovery.now) (R.lines recovery.now)
+            self.new.opened self.new.findings.found.items self.new.findings.least least self.new.findings.asked) }
+        ensures whole { OnOk result (length self.new.findings.found.items ≤ limit → length self.new.findings.found.items ≤ self.new.opened) }
+        ensures size { length self.new.findings.asked ≡ length self.old.findings.asked }
+        ensures least_size { length self.new.findings.least ≡ length self.old.findings.least }
+        ensures run_size { length run.new.numbers ≡ length run.old.numbers }
+    {
+        self.begin()?;
+        let mut least = None;
+        while self.is_open(limit) {
+            least = self.open_next(alloc, recovery, run, least)?;
+            least = self.open_many(rt, alloc, recovery, limit, least)?;
+        }
+        Ok(least)
+    }
+
     /// Opens the next branch.
-    pub fn open_next<R: Recovery>(
+    fn open_next<R: Recovery>(
         &mut self,
         alloc: Global,
         recovery: &R,
@@ -98,7 +153,7 @@ impl Progress {
 
     /// Opens many of the branches that are still to be opened, in threads of their own where these can be started; none where
     /// there are few.
-    pub fn open_many<R: Recovery + Sync, T: Threads + Sync>(
+    fn open_many<R: Recovery + Sync, T: Threads + Sync>(
         &mut self,
         rt: &T,
         alloc: Global,
@@ -119,21 +174,21 @@ impl Progress {
         if self.is_over(limit) {
             return Ok(least);
         }
-        let pieces = open_round(rt, alloc, recovery, &self.findings.found, self.opened)?;
-        self.take_round(recovery, pieces, limit, least)
+        let mut pieces = open_round(rt, alloc, recovery, &self.findings.found, self.opened)?;
+        self.take_round(recovery, &mut pieces, limit, least)
     }
 
     /// Takes in what recovery came to in a round, piece by piece.
     fn take_round<R: Recovery>(
         &mut self,
         recovery: &R,
-        pieces: Vec<Result<Piece<R::Cause>, AllocError>>,
+        pieces: &mut [Result<Piece<R::Cause>, AllocError>],
         limit: u32,
         least: Option<R::Cause>,
     ) -> Result<Option<R::Cause>, AllocError>
         requires size { length self.old.findings.asked ≡ R.lines recovery.now }
         requires least_size { length self.old.findings.least ≡ R.lines recovery.now }
-        requires pieces { All (λ found. IfOk found (IsPiece (R.asks recovery.now) (R.judged recovery.now) (R.low recovery.now) (R.high recovery.now) (R.lines recovery.now) self.old.findings.found.items)) pieces.items }
+        requires pieces { All (λ found. IfOk found (IsPiece (R.asks recovery.now) (R.judged recovery.now) (R.low recovery.now) (R.high recovery.now) (R.lines recovery.now) self.old.findings.found.items)) pieces.old }
         requires at { IsAt (R.asks recovery.now) (R.judged recovery.now) (R.low recovery.now) (R.high recovery.now) (R.lines recovery.now)
             self.old.opened self.old.findings.found.items self.old.findings.least least self.old.findings.asked }
         ensures at { IfOk result (λ kept. IsAt (R.asks recovery.now) (R.judged recovery.now) (R.low recovery.now) (R.high recovery.now) (R.lines recovery.now)
@@ -144,8 +199,10 @@ impl Progress {
     {
         let mut kept = least;
         for found in pieces {
-            let mut piece = found?;
-            kept = self.take_piece(recovery, &mut piece, limit, kept)?;
+            match found {
+                Ok(piece) => kept = self.take_piece(recovery, piece, limit, kept)?,
+                Err(error) => return Err(*error),
+            }
         }
         Ok(kept)
     }
@@ -186,7 +243,7 @@ impl Progress {
         Ok(kept)
     }
 
-    /// What the branches came to, where all are opened.
+    /// What the branches came to, where all are opened or there are over `limit`.
     pub fn finish<R: Recovery>(
         &self,
         alloc: Global,
@@ -194,8 +251,7 @@ impl Progress {
         limit: u32,
         least: Option<R::Cause>,
     ) -> Result<Opened<R::Cause>, AllocError>
-        requires whole { length self.now.findings.found.items ≤ self.now.opened }
-        requires few { length self.now.findings.found.items ≤ limit }
+        requires whole { length self.now.findings.found.items ≤ limit → length self.now.findings.found.items ≤ self.now.opened }
         requires least_size { length self.now.findings.least ≡ R.lines recovery.now }
         requires at { IsAt (R.asks recovery.now) (R.judged recovery.now) (R.low recovery.now) (R.high recovery.now) (R.lines recovery.now)
             self.now.opened self.now.findings.found.items self.now.findings.least least self.now.findings.asked }
@@ -208,6 +264,9 @@ impl Progress {
         ensures asked { IfOk result (λ opened. IfFew opened ((k : ℕ → ℕ) → IsWithin (R.low recovery.now) (R.high recovery.now) k →
             (ls : List ℕ) → R.asks recovery.now k ls → AllByRecursion (λ l. is_flagged l self.now.findings.asked ≡ true) ls)) }
     {
+        if self.is_over(limit) {
+            return Ok(Opened::Over);
+        }
         match least {
             Some(cause) => Ok(Opened::Bad {
                 numbers: self.findings.least.as_slice().to_vec(alloc)?,

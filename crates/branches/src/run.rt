@@ -28,9 +28,9 @@ impl Run {
     {
         Ok(Run {
             numbers: Numbers::new(alloc, lines)?,
+            seen: LineSet::new(alloc, lines)?,
             asked: Vec::new(alloc),
             found: Vec::new(alloc),
-            seen: LineSet::new(alloc, lines)?,
         })
     }
 

@@ -1,5 +1,5 @@
 -- A history that is compared with the lists of seats.
-use Rattle.std.proofs.Common.{◌≡◌, ◌≢◌, ℕ, zero, suc, ◌+◌, ◌<◌, ◌≤◌, ◌^◌, List, [], ◌∷◌, ◌++◌, Bool, MatchBool, true, false, Some, eqb, length, map, replicate, reverse, slice_get, slice_index_or, slice_set, take, drop, refl, sym, ap, subst, ◌∙◌, inl, inr, append_assoc, arith, eq-eqb}
+use Rattle.std.proofs.Common.{Result, Ok, Err, IfOk, ◌≡◌, ◌≢◌, ℕ, zero, suc, ◌+◌, ◌<◌, ◌≤◌, ◌^◌, List, [], ◌∷◌, ◌++◌, Bool, MatchBool, true, false, Some, eqb, length, map, replicate, reverse, slice_get, slice_index_or, slice_set, take, drop, refl, sym, ap, subst, ◌∙◌, inl, inr, append_assoc, arith, eq-eqb}
 use Rattle.std.proofs.lemmas.Bool.{cases_Bool, cases_eq, ne_eqb}
 use Rattle.std.proofs.Math.Nat.{mod-add-mod, mod-eq_of_lt, zero-mod}
 use Rattle.std.proofs.lemmas.List.{length-reverse, map-append, reverse-append, take_all, take_more}
@@ -720,3 +720,8 @@ is_so false P Q is found = absurd (cc)
 pub not_so : (b : Bool) (P Q : Type 0) → b ≡ false → MatchBool b P Q → Q
 not_so true P Q is found = absurd (cc)
 not_so false P Q is found = found
+
+-- of a result whose value has two properties
+pub both_ok : {X E : Type 0} (r : Result X E) (P Q R : X → Type 0) → ((x : X) → P x → Q x → R x) → IfOk r P → IfOk r Q → IfOk r R
+both_ok (Ok x) P Q R f p q = f x p q
+both_ok (Err e) P Q R f p q = tt

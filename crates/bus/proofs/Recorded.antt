@@ -1,5 +1,5 @@
 -- What seats have made, recorded.
-use Rattle.std.proofs.Common.{◌≡◌, ◌⊎◌, ◌<◌, ◌≤◌, ◌+◌, ◌++◌, ◌^◌, ℕ, zero, suc, List, [], ◌∷◌, Some, All, length, map, replicate, slice_get, slice_index_or, slice_set, refl, sym, ap, subst, ◌∙◌, inl, inr, arith}
+use Rattle.std.proofs.Common.{Result, Ok, Err, IfErr, IfOk, ◌≡◌, ◌⊎◌, ◌<◌, ◌≤◌, ◌+◌, ◌++◌, ◌^◌, ℕ, zero, suc, List, [], ◌∷◌, Some, All, length, map, replicate, slice_get, slice_index_or, slice_set, refl, sym, ap, subst, ◌∙◌, inl, inr, arith}
 use Rattle.std.proofs.lemmas.List.Elements.{All-append, All-replicate}
 use Rattle.line_memory.specs.Memory.{Memory}
 use Rattle.machine.specs.Run.{Config, RunsTo, started}
@@ -206,3 +206,8 @@ refuses_numbers core seats SeatMissing refused = refused
 refuses_numbers core seats SeatNumber refused = refused
 refuses_numbers core seats Foreign refused = absurd refused
 refuses_numbers core seats NoMemory refused = absurd refused
+
+-- what is known beside the value of a result that is no fault
+pub known_of : {X E : Type 0} (r : Result X E) (P : Type 0) (Q : X → Type 0) → IfErr r (λ _. ⊥) → IfOk r (λ (x : X). P × Q x) → P × IfOk r Q
+known_of (Ok x) P Q none both = both
+known_of (Err e) P Q none both = absurd none

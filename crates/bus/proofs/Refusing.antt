@@ -6,7 +6,7 @@ use Rattle.shared_memory.specs.Refusals.{RefusesRequest}
 use Rattle.shared_memory.specs.declared.fault.StepFault.{StepFault}
 use Rattle.shared_memory.specs.declared.fault.StepFault.TheVariants.{NoSuchHart, NoSuchLine, TraceFull, Memory, OutOfLimits}
 use Rattle.bus.specs.Alone.{Asks}
-use Rattle.bus.specs.Limits.{RefusesStart}
+use Rattle.bus.specs.Limits.{AreWithin, RefusesStart}
 use Rattle.bus.specs.Refusals.{RefusesLine, RefusesSeat, RefusesTelling}
 use Rattle.bus.specs.Replays.{CoreView}
 use Rattle.bus.specs.Seats.{SeatView}
@@ -47,6 +47,10 @@ refuses_start harts capacity budget r fault is count limits which =
     refused_by harts capacity budget fault (λ e. count.0 (is ∙ ap (λ (f : StepFault). Err f) e)) (λ e. limits.0 (is ∙ ap (λ (f : StepFault). Err f) e)) which
 
 -- for want of memory
+pub start_for_memory : (harts capacity budget : ℕ) (fault : StepFault) → AreWithin harts capacity budget → fault ≡ Memory
+    → RefusesStart harts capacity budget fault
+start_for_memory harts capacity budget fault within e = rw e within
+
 pub telling_for_memory : (core : CoreView) (h : ℕ) (request : Request) (fault : StepFault) → fault ≡ Memory → RefusesTelling core h request fault
 telling_for_memory core h request fault e = rw e tt
 

@@ -15,7 +15,7 @@ use Rattle.shared_memory.specs.Served.{Common, reply_after, starting_memory}
 use Rattle.shared_memory.specs.SharedView.{Evicts, Serves, SharedView, lines_shown}
 use Rattle.shared_memory.proofs.Shown.{evicted_shows, reply_stands, served_shows}
 use Rattle.bus.specs.Replays.{AreBelow, CoreView, IsReplay, LinesBelow, replay}
-use Rattle.bus.specs.Serving.{Tells}
+use Rattle.bus.specs.Serving.{EvictsLine, Tells}
 
 -- the reply of what is shared is the one that the replay gives
 pub tells : (program : Sections) (start : List (List ℕ)) (history : List Entry) (old new : SharedView) (h : ℕ) (request : Request) (reply : Reply)
@@ -120,3 +120,15 @@ pub renews_is : (program : Sections) (start : List (List ℕ)) (harts capacity :
     → text_bytes new.ram.text ≡ text_of (replayed (starting_memory core.program core.start) (reverse all))
 renews_is program start harts capacity entries all old new h request reply few is serves e core view =
     rw (view, e, reverse_more entries (Asked h request reply)) (renews program start (reverse entries) old new h request reply few is serves)
+
+-- what a core evicts, by its fields
+pub evicts_is : (program : Sections) (start : List (List ℕ)) (harts capacity : ℕ) (entries all : List Entry) (old new : SharedView) (line : ℕ)
+    → Evicts old new line → all ≡ entries ++ Evicted line ∷ [] → (core : CoreView)
+    → core ≡ record { program = program; start = start; harts = harts; capacity = capacity; shared = old; history = reverse entries }
+    → EvictsLine core (record { program = program; start = start; harts = harts; capacity = capacity; shared = new; history = reverse all }) line
+evicts_is program start harts capacity entries all old new line evicts e core view =
+    rw view (record {
+      evicts = evicts;
+      core = ap (λ (history : List Entry). record { program = program; start = start; harts = harts; capacity = capacity; shared = new; history = history })
+          (ap (λ (l : List Entry). reverse l) e ∙ reverse_more entries (Evicted line));
+    })

@@ -1,5 +1,5 @@
 -- A core at its start is the replay of no history, and its seats agree.
-use Rattle.std.proofs.Common.{◌≡◌, ℕ, zero, suc, ◌+◌, List, [], ◌∷◌, ◌++◌, Some, length, map, slice_get, refl, sym, ap, subst, ◌∙◌, arith}
+use Rattle.std.proofs.Common.{◌≤◌, All, reverse, ◌≡◌, ℕ, zero, suc, ◌+◌, List, [], ◌∷◌, ◌++◌, Some, length, map, slice_get, refl, sym, ap, subst, ◌∙◌, arith}
 use Rattle.std.proofs.lemmas.List.FromFn.{length-map-range_with_len}
 use Rattle.std.specs.List.{range_with_len}
 use Rattle.object.specs.Sections.{Sections}
@@ -11,8 +11,13 @@ use Rattle.shared_memory.specs.Histories.{text_of}
 use Rattle.shared_memory.specs.Served.{common_at_start, starting_memory}
 use Rattle.shared_memory.specs.SharedView.{SharedView, Shows, lines_shown}
 use Rattle.bus.specs.Agreeing.{Agrees}
+use Rattle.bus.specs.Begun.{AreNew, IsNew}
 use Rattle.bus.specs.Finished.{AllAgree}
-use Rattle.bus.specs.Replays.{CoreView, IsReplay, replay}
+use Rattle.bus.specs.Following.{IsFreshOf}
+use Rattle.shared_memory.specs.declared.history.Entry.{Entry}
+use Rattle.store_trace.specs.declared.event.Event.{Event}
+use Rattle.store_trace.specs.TraceView.{NamesLine}
+use Rattle.bus.specs.Replays.{AreBelow, CoreView, IsReplay, LinesBelow, replay}
 use Rattle.bus.specs.Seats.{SeatView}
 use Rattle.bus.specs.Starting.{AreAtStart, seat_at_start}
 
@@ -58,6 +63,48 @@ all_agree_at_start core seats budget none start =
       count = ap (λ (l : List SeatView). length l) start.seats_are ∙ length-map-range_with_len f 0 core.harts;
       numbered = λ h seat got. ap (λ (s : SeatView). s.hart) (at h seat got);
       each = λ h seat got. subst (λ (s : SeatView). Agrees core s) (sym (at h seat got)) (agrees_at_start core budget h start.copy none start.loaded);
+    }
+
+-- a core that is new is fresh
+pub fresh_of_new : (core fresh : CoreView) → IsNew core.program core.start core.harts core.capacity fresh → IsFreshOf core fresh
+fresh_of_new core fresh new = record {
+  program = new.program_is;
+  start_is = new.start_is;
+  harts = new.harts_are;
+  none = new.none;
+  replay_is = rw (new.program_is, new.start_is, new.none) (starts_replay core.program core.start fresh.shared new.shows);
+}
+
+-- what is said of each core, of one with no history
+pub new_invariant : (program : Sections) (start : List (List ℕ)) (harts capacity : ℕ) (shared : SharedView) (entries : List Entry) → harts ≤ 8
+    → Shows shared (common_at_start program start) → shared.cache.lines ≡ start → shared.cache.cache.capacity ≡ capacity → shared.trace ≡ []
+    → entries ≡ []
+    → IsReplay program start (reverse entries) shared × AreBelow harts (reverse entries) × (length shared.cache.lines ≡ length start)
+    × (shared.cache.cache.capacity ≡ capacity) × (harts ≤ 8) × (length shared.trace ≤ 65536) × LinesBelow (length start) (reverse entries)
+    × All (NamesLine (length shared.cache.lines)) shared.trace
+new_invariant program start harts capacity shared entries few shows lines room trace none =
+    let short : length shared.trace ≡ 0 = ap (λ (l : List Event). length l) trace in (
+      rw none (starts_replay program start shared shows),
+      rw none tt,
+      ap (λ (l : List (List ℕ)). length l) lines,
+      room,
+      few,
+      omega (arith, short),
+      rw none tt,
+      (λ k d less. absurd (omega (arith, less, short))),
+    )
+
+-- with its seats
+pub are_new : (program : Sections) (start : List (List ℕ)) (harts capacity budget : ℕ) (core : CoreView) (seats : List SeatView)
+    → IsNew program start harts capacity core
+    → seats ≡ map (seat_at_start program.text budget core.shared.ram.text) (range_with_len 0 harts)
+    → AreNew program start harts capacity budget core seats
+are_new program start harts capacity budget core seats new are =
+    let at_start = are_at_start program start core.shared harts budget seats new.shows are in
+    record {
+      new = new;
+      at_start = at_start;
+      agree = all_agree_at_start core seats budget new.none (rw (new.program_is, new.start_is, new.harts_are) at_start);
     }
 
 -- one seat more

@@ -1,5 +1,7 @@
+pub mod Accounts
 pub mod Agreeing
 pub mod Alone
+pub mod Begun
 pub mod Crews
 pub mod Driving
 pub mod Ending

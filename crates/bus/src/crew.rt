@@ -239,7 +239,6 @@ impl Crew {
     }
 
     /// Takes in the thread of a hart; None is one that couldn't be started.
-    #[tactic(auto, using(crate::proofs::Crews::crew_more))]
     fn add(&mut self, word: &StopWord, hart: u32, child: Option<Child>)
         requires { self.old.ran.mine.table ≡ word.now.table }
         ensures crew { (given : List SeatView) (seat : SeatView)

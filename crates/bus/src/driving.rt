@@ -1,6 +1,6 @@
 //! What one thread does with its seat.
 
-ghost use Rattle.std.specs.Prelude.{◌≡◌, false};
+ghost use Rattle.std.specs.Prelude.{◌≡◌, ◌≤◌, [], false};
 ghost use Rattle.bus.specs.Driving.{HasEnded, IsDriven, IsRound, badge, is_last, round_after};
 ghost use Rattle.bus.specs.Seating.{AsksNext};
 ghost use Rattle.bus.specs.Seats.{SeatView};
@@ -85,7 +85,6 @@ const MOST_ALONE: u32 = 4_096;
 
 /// Makes the steps of a seat up to its next request, and that one unless the stop word is raised then; or so many steps
 /// without a request, after which it looks at the word. Those take neither the lock nor a look, which is a load.
-#[tactic(auto, using(crate::proofs::Rounds::local_ends, crate::proofs::Rounds::local_badge))]
 fn make_round<'p, T: Turns, R: Wait>(
     rt: &R,
     bus: &Bus<'p>,
@@ -120,7 +119,6 @@ fn make_round<'p, T: Turns, R: Wait>(
 }
 
 /// Has the request of a seat's next step served, unless the stop word is raised; a refusal raises it.
-#[tactic(auto, using(crate::proofs::Rounds::round_seen, crate::proofs::Rounds::answered_badge))]
 fn ask_next<'p, R: Wait>(
     rt: &R,
     bus: &Bus<'p>,
@@ -168,7 +166,6 @@ fn round_after(outcome: Outcome) -> Round
 }
 
 /// Makes the steps of a seat until it has stopped, has used up its budget, is refused a step, or sees the stop word raised.
-#[tactic(auto, using(crate::proofs::Rounds::driven_to_end, crate::proofs::Rounds::driven_to_refusal))]
 pub(crate) fn drive<'p, T: Turns, R: Wait>(
     rt: &R,
     bus: &Bus<'p>,
@@ -183,17 +180,34 @@ pub(crate) fn drive<'p, T: Turns, R: Wait>(
 {
     let mut seat = seat;
     let mut stop = stop;
+    let refused = drive_on(rt, bus, gate, word, &mut seat, &mut stop);
+    Driven {
+        seat: LooseSeat::of(seat),
+        stop,
+        refused,
+    }
+}
+
+/// The same of a seat that is lent: what refused its last step, if anything did.
+fn drive_on<'p, T: Turns, R: Wait>(
+    rt: &R,
+    bus: &Bus<'p>,
+    gate: &T,
+    word: &StopWord,
+    seat: &mut Seat<'p>,
+    stop: &mut StopSeat,
+) -> Option<StepFault>
+    requires word { stop.old.table ≡ word.now.table }
+    requires quiet { stop.old.raised ≡ false }
+    ensures { (loose : SeatView) → loose ≡ record seat.new { text = [] } → loose.made ≤ loose.budget
+        → IsDriven (badge seat.old) stop.old loose stop.new result }
+{
     for _ in rt.forever() {
-        let refused = match make_round(rt, bus, gate, word, &mut seat, &mut stop) {
-            Round::GoesOn => continue,
-            Round::Ends => None,
-            Round::Refused(fault) => Some(fault),
-        };
-        return Driven {
-            seat: LooseSeat::of(seat),
-            stop,
-            refused,
-        };
+        match make_round(rt, bus, gate, word, seat, stop) {
+            Round::GoesOn => {}
+            Round::Ends => return None,
+            Round::Refused(fault) => return Some(fault),
+        }
     }
     unreachable!()
 }

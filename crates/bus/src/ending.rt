@@ -1,12 +1,11 @@
 //! The end of a run of several harts: what their seats have made is gathered to one run.
 
-ghost use Rattle.std.specs.Prelude.{◌≡◌, ◌^◌, ◌<◌, ◌++◌, ◌∷◌, [], IfErr, IfOk, List, OnOk, ℕ, Some, length, map, slice_get};
+ghost use Rattle.std.specs.Prelude.{◌≡◌, ◌^◌, ◌<◌, ◌++◌, ◌∷◌, [], Err, IfErr, IfOk, List, OnOk, ℕ, Some, length, map, slice_get};
 ghost use Rattle.schedule.specs.Grammar.{hart_steps};
+ghost use Rattle.bus.specs.Accounts.{IsAccounted};
 ghost use Rattle.bus.specs.Agreeing.{Agrees};
 ghost use Rattle.bus.specs.Ending.{IsGathered, RefusesGathering};
-ghost use Rattle.bus.specs.Finished.{AllAgree};
 ghost use Rattle.bus.specs.Following.{AreRecorded, IfForeign, IsCoreOf};
-ghost use Rattle.bus.specs.Listed.{IsAccountOf};
 ghost use Rattle.bus.specs.Numbering.{ArePlaced};
 ghost use Rattle.bus.specs.Seats.{SeatView};
 ghost use Rattle.bus.specs.Together.{IsFinished, RefusesFinish};
@@ -24,6 +23,9 @@ use recording::Recorded;
 use schedule::Schedule;
 use std::alloc::Global;
 
+/// The schedule of what seats have made with a number for each event, and the states of their harts.
+type Account = ((Schedule, Vec<u32>), Vec<HartState>);
+
 /// Gathers what the seats of a core have made to one run, in the order of the core's history: each seat's register steps
 /// stand right before its next request, and the last ones at the end, by the harts' numbers.
 ///
@@ -40,7 +42,6 @@ pub fn gather(alloc: Global, core: Core<'_>, seats: Vec<Seat<'_>>) -> Result<Rec
 }
 
 /// The same of seats that are lent: they are put in order.
-#[tactic(auto, using(crate::proofs::Recorded::is_gathered, crate::proofs::Recorded::refuses_numbers, crate::proofs::Foreign::refuses_gathering))]
 fn gather_seats(
     alloc: Global,
     core: Core<'_>,
@@ -50,11 +51,22 @@ fn gather_seats(
     ensures few { IfOk result (λ recorded. hart_steps recorded.items < 2 ^ 32) }
     ensures err { IfErr result (RefusesGathering core.entry seats.old) }
 {
+    let account = placed_account(alloc, &core, seats);
+    recorded(core, account)
+}
+
+/// The account of seats that are put in order for a core.
+fn placed_account(
+    alloc: Global,
+    core: &Core<'_>,
+    seats: &mut [Seat<'_>],
+) -> Result<Account, FinishFault>
+    ensures ok { IfOk result (λ made. ArePlaced core.now.harts seats.old seats.new
+        × IsAccounted core.now seats.new made.0.0 made.0.1.items made.1.items) }
+    ensures err { IfErr result (RefusesGathering core.now seats.old) }
+{
     place_seats(core.harts(), seats)?;
-    match gather_placed(alloc, core, seats) {
-        Ok(recorded) => Ok(recorded),
-        Err(fault) => Err(fault),
-    }
+    account_and_states(alloc, core, seats)
 }
 
 /// Gathers what the seats of a bus have made, by the core that lay behind its lock. The bus began with this program, this
@@ -77,11 +89,30 @@ pub(crate) fn finish_seats(
     ensures few { IfOk result (λ recorded. hart_steps recorded.items < 2 ^ 32) }
     ensures err { IfErr result (RefusesFinish harts seats.old) }
 {
-    place_on_core(&core, seats, program, start, harts, capacity)?;
-    match gather_placed(alloc, core, seats) {
-        Ok(recorded) => Ok(recorded),
-        Err(fault) => Err(fault),
-    }
+    let account = account_on_core(alloc, &core, seats, program, start, harts, capacity);
+    recorded(core, account)
+}
+
+/// The account of seats that are put in order for the core of a bus that began so.
+fn account_on_core(
+    alloc: Global,
+    core: &Core<'_>,
+    seats: &mut [Seat<'_>],
+    program: &Program,
+    start: &Medium,
+    harts: u32,
+    capacity: u32,
+) -> Result<Account, FinishFault>
+    ensures ok { IfOk result (λ made. (ArePlaced harts seats.old seats.new × IsCoreOf (record {
+      program = program.now;
+      start = start.now;
+      harts = harts;
+      capacity = capacity;
+    }) core.now) × IsAccounted core.now seats.new made.0.0 made.0.1.items made.1.items) }
+    ensures err { IfErr result (RefusesFinish harts seats.old) }
+{
+    place_on_core(core, seats, program, start, harts, capacity)?;
+    account_and_states(alloc, core, seats)
 }
 
 /// Puts seats in order for a core that began with this program, this medium, so many harts and a cache with room for so many
@@ -112,39 +143,32 @@ fn place_on_core(
     }
 }
 
-/// Gathers what seats have made that are in order, one for each hart of the core.
-pub(crate) fn gather_placed(
-    alloc: Global,
-    core: Core<'_>,
-    seats: &[Seat<'_>],
-) -> Result<Recorded, FinishFault>
-    requires count { length seats.now ≡ core.harts }
-    requires numbered { (h : ℕ) (seat : SeatView) → slice_get seats.now h ≡ Some seat → seat.hart ≡ h }
-    ensures ok { IfOk result (AreRecorded core.entry seats.now) }
+/// The run of a core by the account of its seats, or why there is none. It is given either, since each place where a core is let
+/// go on the way to a fault costs much in the proof: so there is one.
+fn recorded(core: Core<'_>, account: Result<Account, FinishFault>) -> Result<Recorded, FinishFault>
+    requires { (seats : List SeatView) × IfOk account (λ made. IsAccounted core seats made.0.0 made.0.1.items made.1.items) }
+    ensures ok { IfOk result (λ recorded. IfErr account (λ _. ⊥) × ((seats : List SeatView)
+        → IfOk account (λ made. IsAccounted core.entry seats made.0.0 made.0.1.items made.1.items) → AreRecorded core.entry seats recorded)) }
     ensures few { IfOk result (λ recorded. hart_steps recorded.items < 2 ^ 32) }
-    ensures err { IfErr result (IfForeign (((h : ℕ) (seat : SeatView) → slice_get seats.now h ≡ Some seat → Agrees core.entry seat) → ⊥)) }
+    ensures err { IfErr result (λ fault. account ≡ Err fault) }
 {
-    let (account, states) = account_and_states(alloc, &core, seats)?;
+    let ((schedule, numbers), states) = account?;
     // What a core shares is the replay of its history, which this ensures.
     let _ = core.history();
     let capacity = core.capacity();
-    let (schedule, numbers) = account;
     let (start, left, trace) = core.power_cut();
     Ok(Recorded::of(start, capacity, schedule, trace, states, left, numbers))
 }
 
 /// The account of what seats have made that agree with a core, and the states of their harts.
-#[tactic(auto, using(crate::proofs::Foreign::memory_is))]
 fn account_and_states(
     alloc: Global,
     core: &Core<'_>,
     seats: &[Seat<'_>],
-) -> Result<((Schedule, Vec<u32>), Vec<HartState>), FinishFault>
+) -> Result<Account, FinishFault>
     requires count { length seats.now ≡ core.now.harts }
     requires numbered { (h : ℕ) (seat : SeatView) → slice_get seats.now h ≡ Some seat → seat.hart ≡ h }
-    ensures account { IfOk result (λ made. IsAccountOf core.now seats.now made.0.0 made.0.1.items) }
-    ensures agree { OnOk result (AllAgree core.now seats.now) }
-    ensures states { IfOk result (λ made. made.1.items ≡ map (λ (seat : SeatView). seat.state) seats.now) }
+    ensures ok { IfOk result (λ made. IsAccounted core.now seats.now made.0.0 made.0.1.items made.1.items) }
     ensures err { IfErr result (IfForeign (((h : ℕ) (seat : SeatView) → slice_get seats.now h ≡ Some seat → Agrees core.now seat) → ⊥)) }
 {
     let account = account_of(alloc, core, seats)?;

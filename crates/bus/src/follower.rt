@@ -121,7 +121,6 @@ fn answer_again(
 }
 
 /// The next of a seat's exchanges, which is to be this request with this reply.
-#[tactic(auto, using(crate::proofs::Foreign::none_next, crate::proofs::Foreign::other_request, crate::proofs::Foreign::other_reply))]
 pub(crate) fn next_exchange(
     seat: &Seat<'_>,
     next: usize,
@@ -149,7 +148,6 @@ pub(crate) fn next_exchange(
 }
 
 /// Makes the next of a seat's exchanges again, which is to be this request with this reply.
-#[tactic(auto, using(crate::proofs::Following::makes_again, crate::proofs::Foreign::make_no_exchange, crate::proofs::Foreign::make_no_steps, crate::proofs::Foreign::make_no_request, crate::proofs::Foreign::make_no_answer, crate::proofs::Foreign::memory_is))]
 pub(crate) fn make_again(
     core: &mut Core<'_>,
     seat: &Seat<'_>,

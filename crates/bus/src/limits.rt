@@ -5,6 +5,9 @@ ghost use Rattle.bus.specs.Limits.{AreWithin, RefusesStart};
 
 use shared_memory::{StepFault, check_limits};
 
+/// How many harts there are at most.
+pub(crate) const MOST_HARTS: usize = 8;
+
 /// The most steps that a seat may be given to make.
 const MAX_BUDGET: u32 = 500_000_000;
 

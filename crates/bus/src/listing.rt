@@ -15,6 +15,7 @@ ghost use Rattle.bus.specs.Seats.{SeatView};
 
 use crate::finish_fault::FinishFault;
 use crate::follower::next_exchange;
+use crate::limits::MOST_HARTS;
 use crate::locked::Core;
 use crate::made_again::{fresh_core, make_all_again};
 use crate::runs::Runs;
@@ -24,9 +25,6 @@ use hart::{Reply, Request};
 use schedule::Schedule;
 use shared_memory::Entry;
 use std::alloc::Global;
-
-/// How many harts there are at most.
-const MOST_HARTS: usize = 8;
 
 /// Compares the next of a seat's exchanges with a request and its reply, and takes its steps.
 fn list_exchange(
@@ -156,10 +154,7 @@ pub(crate) fn account_of(
     let _ = core.harts();
     list_all(seats, &mut counts, core.history(), &mut runs)?;
     end_seats(core.program().text_bytes(), seats, &counts, &mut runs)?;
-    match runs.finish() {
-        Ok(account) => Ok(account),
-        Err(fault) => Err(fault),
-    }
+    runs.finish()
 }
 
 /// Checks that seats agree with a core whose lists and texts are those of its history and program. Only where one of their

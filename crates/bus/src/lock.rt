@@ -10,6 +10,7 @@ ghost use Rattle.schedule.specs.Grammar.{hart_steps};
 
 use crate::ending::finish_seats;
 use crate::finish_fault::FinishFault;
+use crate::limits::check_start;
 use crate::locked::{Core, serve, serve_evict};
 use crate::outcome::Outcome;
 use crate::seat::Seat;
@@ -69,11 +70,35 @@ impl<'p> Bus<'p> {
         ensures within { OnOk result (AreWithin harts capacity budget) }
         ensures refused { IfErr result (RefusesStart harts capacity budget) }
     {
-        let (core, seats) = Core::new(alloc, program, medium, harts, capacity, budget)?;
-        let start = match core.start().copy(alloc) {
-            Ok(start) => start,
-            Err(_) => return Err(StepFault::Memory),
+        check_start(harts, capacity, budget)?;
+        let Ok(start) = medium.copy(alloc) else {
+            return Err(StepFault::Memory);
         };
+        Bus::begun(alloc, program, start, medium, harts, capacity, budget)
+    }
+
+    /// The same within the limits, with a copy of the medium.
+    fn begun(
+        alloc: Global,
+        program: &'p Program,
+        start: Medium,
+        medium: Medium,
+        harts: u32,
+        capacity: u32,
+        budget: u32,
+    ) -> Result<(Bus<'p>, Vec<Seat<'p>>), StepFault>
+        requires within { AreWithin harts capacity budget }
+        requires copy { start ≡ medium }
+        ensures bus { IfOk result (λ made. made.0 ≡ record {
+          program = program.now;
+          start = medium;
+          harts = harts;
+          capacity = capacity;
+        }) }
+        ensures seats { IfOk result (λ made. AreAtStart program.now medium harts budget made.1.items) }
+        ensures err { IfErr result (λ fault. fault ≡ StepFault.Memory) }
+    {
+        let (core, seats) = Core::made(alloc, program, medium, harts, capacity, budget)?;
         let bus = Bus {
             program,
             start,
@@ -168,7 +193,6 @@ impl<'p> Seat<'p> {
     }
 
     /// Has the request of the next step served, under the bus's lock. A refusal leaves the seat as it was.
-    #[tactic(auto, using(crate::proofs::Stepping::served_answer, crate::proofs::Refusing::step_refusal))]
     pub(crate) fn ask<R: Wait>(&mut self, rt: &R, bus: &Bus<'p>) -> Result<Outcome, StepFault>
         requires { AsksNext self.old }
         ensures ok { IfOk result (IsAnswered self.old self.new) }

@@ -15,6 +15,7 @@ ghost use Rattle.store_trace.specs.TraceView.{NamesLine};
 ghost use Rattle.bus.specs.Seating.{AsksNext};
 ghost use Rattle.bus.specs.Seats.{SeatView};
 ghost use Rattle.bus.specs.Serving.{EvictsLine, IsServed, Tells};
+ghost use Rattle.bus.specs.Begun.{AreNew, IsNew};
 ghost use Rattle.bus.specs.Starting.{AreAtStart};
 
 use crate::exchange::Exchange;
@@ -92,15 +93,11 @@ impl<'p> Core<'p> {
         ensures refused { IfErr result (RefusesStart harts capacity budget) }
     {
         check_start(harts, capacity, budget)?;
-        match Core::made(alloc, program, medium, harts, capacity, budget) {
-            Ok(made) => Ok(made),
-            Err(_) => Err(StepFault::Memory),
-        }
+        Core::made(alloc, program, medium, harts, capacity, budget)
     }
 
     /// The same within the limits.
-    #[tactic(auto, using(crate::proofs::Starting::starts_replay, crate::proofs::Starting::are_at_start, crate::proofs::Starting::all_agree_at_start))]
-    fn made(
+    pub(crate) fn made(
         alloc: Global,
         program: &'p Program,
         medium: Medium,
@@ -109,29 +106,59 @@ impl<'p> Core<'p> {
         budget: u32,
     ) -> Result<(Core<'p>, Vec<Seat<'p>>), StepFault>
         requires { AreWithin harts capacity budget }
-        ensures program { IfOk result (λ made. made.0.program ≡ program.now) }
-        ensures start { IfOk result (λ made. made.0.start ≡ medium) }
-        ensures harts { IfOk result (λ made. made.0.harts ≡ harts) }
-        ensures capacity { IfOk result (λ made. made.0.capacity ≡ capacity) }
-        ensures history { IfOk result (λ made. made.0.history ≡ []) }
-        ensures seats { IfOk result (λ made. AreAtStart program.now medium harts budget made.1.items) }
-        ensures agree { IfOk result (λ made. AllAgree made.0 made.1.items) }
+        ensures made { IfOk result (λ made. AreNew program.now medium harts capacity budget made.0 made.1.items) }
+        ensures err { IfErr result (λ fault. fault ≡ StepFault.Memory) }
     {
-        let start = match medium.copy(alloc) {
-            Ok(start) => start,
-            Err(_) => return Err(StepFault::Memory),
+        let core = Core::begun(alloc, program, medium, harts, capacity)?;
+        match starting_seats(alloc, program, harts, budget, core.text()) {
+            Ok(seats) => Ok((core, seats)),
+            Err(_) => Err(StepFault::Memory),
+        }
+    }
+
+    /// A core at the start.
+    pub(crate) fn begun(
+        alloc: Global,
+        program: &'p Program,
+        medium: Medium,
+        harts: u32,
+        capacity: u32,
+    ) -> Result<Core<'p>, StepFault>
+        requires limit { harts ≤ 8 }
+        ensures core { IfOk result (IsNew program.now medium harts capacity) }
+        ensures err { IfErr result (λ fault. fault ≡ StepFault.Memory) }
+    {
+        let Ok(start) = medium.copy(alloc) else {
+            return Err(StepFault::Memory);
         };
-        let shared = Shared::new(alloc, program, medium, harts, capacity)?;
-        let seats = starting_seats(alloc, program, harts, budget, shared.text())?;
-        let core = Core {
-            program,
-            start,
-            harts,
-            capacity,
-            shared,
-            history: Vec::new(alloc),
-        };
-        Ok((core, seats))
+        Core::around(alloc, program, start, medium, harts, capacity)
+    }
+
+    /// The same with a copy of the medium.
+    fn around(
+        alloc: Global,
+        program: &'p Program,
+        start: Medium,
+        medium: Medium,
+        harts: u32,
+        capacity: u32,
+    ) -> Result<Core<'p>, StepFault>
+        requires limit { harts ≤ 8 }
+        requires copy { start ≡ medium }
+        ensures core { IfOk result (IsNew program.now medium harts capacity) }
+        ensures err { IfErr result (λ fault. fault ≡ StepFault.Memory) }
+    {
+        match Shared::new(alloc, program, medium, harts, capacity) {
+            Ok(shared) => Ok(Core {
+                program,
+                start,
+                harts,
+                capacity,
+                shared,
+                history: Vec::new(alloc),
+            }),
+            Err(_) => Err(StepFault::Memory),
+        }
     }
 
     /// The program.
@@ -206,7 +233,6 @@ impl<'p> Core<'p> {
     }
 
     /// Answers a request of a hart, and adds both to the history.
-    #[tactic(auto, using(crate::proofs::Replaying::asked_kept, crate::proofs::Replaying::asked_below, shared_memory::proofs::Naming::served_named, crate::proofs::Refusing::refuses_telling, crate::proofs::Refusing::telling_for_memory))]
     pub(crate) fn ask(&mut self, hart: u32, request: Request) -> Result<Reply, StepFault>
         requires hart { hart < self.old.harts }
         requires width { IsRequest request }
@@ -230,7 +256,6 @@ impl<'p> Core<'p> {
         Ok(reply)
     }
 
-    #[tactic(auto, using(crate::proofs::Replaying::evicted_kept, crate::proofs::Replaying::evicted_below, shared_memory::proofs::Naming::evicted_named, crate::proofs::Refusing::refuses_line, crate::proofs::Refusing::line_for_memory))]
     fn evict(&mut self, line: u32) -> Result<(), StepFault>
         ensures ok { OnOk result (EvictsLine self.old self.new line) }
         ensures there { OnOk result (line < length self.old.start) }

@@ -20,7 +20,6 @@ use shared_memory::Entry;
 use std::alloc::Global;
 
 /// A core at the start of another one.
-#[tactic(auto, using(crate::proofs::Replayed::is_fresh_of))]
 pub(crate) fn fresh_core<'p>(alloc: Global, core: &Core<'p>) -> Result<Core<'p>, FinishFault>
     ensures ok { IfOk result (IsFreshOf core.now) }
     ensures err { IfErr result (λ fault. fault ≡ FinishFault.Memory) }
@@ -28,19 +27,8 @@ pub(crate) fn fresh_core<'p>(alloc: Global, core: &Core<'p>) -> Result<Core<'p>,
     let Ok(medium) = core.start().copy(alloc) else {
         return Err(FinishFault::Memory);
     };
-    match Core::new(
-        alloc,
-        core.program(),
-        medium,
-        core.harts(),
-        core.capacity(),
-        1,
-    ) {
-        Ok((fresh, _)) => {
-            // It ensures that what the core shares is the replay of its history.
-            let _ = fresh.history();
-            Ok(fresh)
-        }
+    match Core::begun(alloc, core.program(), medium, core.harts(), core.capacity()) {
+        Ok(fresh) => Ok(fresh),
         Err(_) => Err(FinishFault::Memory),
     }
 }

@@ -98,7 +98,6 @@ impl Runs {
     }
 
     /// Adds the eviction of a line.
-    #[tactic(auto, using(crate::proofs::Running::evicted, crate::proofs::Following::one_eviction))]
     pub(crate) fn evict(&mut self, line: u32) -> Result<(), FinishFault>
         ensures ok { OnOk result (EvictsAlso line self.old self.new) }
         ensures err { IfErr result (λ fault. fault ≡ FinishFault.Memory) }

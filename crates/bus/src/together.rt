@@ -12,6 +12,7 @@ ghost use Rattle.schedule.specs.Grammar.{hart_steps};
 
 use crate::crew::{Crew, Ran};
 use crate::finish_fault::FinishFault;
+use crate::limits::MOST_HARTS;
 use crate::lock::Bus;
 use crate::loose_seat::LooseSeat;
 use crate::seat::Seat;
@@ -43,7 +44,6 @@ pub enum RunFault {
 /// # Errors
 /// The refusal of the lowest hart that was refused a step, a thread that couldn't be started being its hart's want of memory;
 /// where none was refused, why the seats aren't gathered.
-#[tactic(auto, using(crate::proofs::Joined::run_so, crate::proofs::Joined::refused_run))]
 pub fn run_harts<'p, G: Gate, R: Threads + Wait + Sync>(
     rt: &R,
     alloc: Global,
@@ -84,9 +84,7 @@ fn run_seats<'p, G: Gate, R: Threads + Wait + Sync>(
     let Ok((word, stops, crew)) = begin(alloc, seats.len()) else {
         return Err(StepFault::Memory);
     };
-    let Ok(texts) = texts_of(alloc, &seats) else {
-        return Err(StepFault::Memory);
-    };
+    let texts = texts_of(&seats);
     let ran = run_threads(rt, bus, gate, &word, seats, stops, crew);
     settle(alloc, word, &texts, ran)
 }
@@ -108,12 +106,12 @@ fn begin(alloc: Global, count: usize) -> Result<(StopWord, Vec<StopSeat>, Crew),
 }
 
 /// The texts of seats. They stay behind when the seats go to their threads.
-fn texts_of<'p>(alloc: Global, seats: &[Seat<'p>]) -> Result<Vec<&'p [u8]>, AllocError> {
-    let mut texts = Vec::with_capacity(alloc, seats.len())?;
-    for seat in seats {
-        texts.push(seat.text())?;
+fn texts_of<'p>(seats: &[Seat<'p>]) -> [&'p [u8]; MOST_HARTS] {
+    let mut texts: [&'p [u8]; MOST_HARTS] = [&[]; MOST_HARTS];
+    for (text, seat) in texts.iter_mut().zip(seats.iter()) {
+        *text = seat.text();
     }
-    Ok(texts)
+    texts
 }
 
 /// Runs the thread of each seat, and joins them all.

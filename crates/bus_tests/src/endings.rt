@@ -141,12 +141,24 @@ fn is_so(alloc: Global, recorded: &Recorded, ending: &Ending) -> bool {
         && left_of(recorded) == Some(ending.left)
 }
 
+/// Whether the seats of a bus are gathered so.
+fn are_gathered_so<'p>(alloc: Global, bus: Bus<'p>, seats: Vec<Seat<'p>>, ending: &Ending) -> bool {
+    match bus.finish(alloc, seats) {
+        Ok(recorded) => is_so(alloc, &recorded, ending),
+        Err(_) => false,
+    }
+}
+
 fn ends_so<R: Wait>(rt: &R, alloc: Global, ending: &Ending) -> Option<bool> {
     let program = program_of(alloc, ending.words)?;
-    let (bus, mut seats) = bus_of(alloc, &program, 2, BUDGET)?;
+    ends_by(rt, alloc, &program, ending)
+}
+
+fn ends_by<R: Wait>(rt: &R, alloc: Global, program: &Program, ending: &Ending) -> Option<bool> {
+    let (bus, mut seats) = bus_of(alloc, program, 2, BUDGET)?;
     let is_made = make_turns(rt, &bus, &mut seats, ending.turns);
-    let recorded = bus.finish(alloc, seats).ok()?;
-    Some(is_made && is_so(alloc, &recorded, ending))
+    let is_gathered = are_gathered_so(alloc, bus, seats, ending);
+    Some(is_made && is_gathered)
 }
 
 #[test]
@@ -158,16 +170,10 @@ fn turns_are_gathered(rt: HostRuntime) {
 }
 
 /// Why the one seat of two harts isn't gathered.
-fn fault_of_one_seat(alloc: Global) -> Option<FinishFault> {
-    let program = program_of(alloc, &COUNT_ONCE)?;
-    let (bus, mut seats) = bus_of(alloc, &program, 2, 5)?;
-    let _ = seats.pop();
+fn fault_of_one_seat(alloc: Global, program: &Program) -> Option<FinishFault> {
+    let (bus, mut seats) = bus_of(alloc, program, 2, 5)?;
+    seats.truncate(1);
     bus.finish(alloc, seats).err()
-}
-
-#[test]
-fn missing_seat(rt: HostRuntime) {
-    assert!(rt; fault_of_one_seat(rt.alloc()) == Some(FinishFault::SeatMissing));
 }
 
 /// The seats 0 of two buses of one hart.
@@ -179,11 +185,15 @@ fn seats_of_two<'p>(alloc: Global, program: &'p Program) -> Option<Vec<Seat<'p>>
 }
 
 /// Why the seats 0 of two buses of one hart aren't gathered on a third.
-fn fault_of_two_seats(alloc: Global) -> Option<FinishFault> {
-    let program = program_of(alloc, &FIRST_RUN)?;
-    let strangers = seats_of_two(alloc, &program)?;
-    let (bus, _seats) = bus_of(alloc, &program, 1, 5)?;
-    bus.finish(alloc, strangers).err()
+fn fault_of_two_seats(alloc: Global, program: &Program) -> Option<FinishFault> {
+    let strangers = seats_of_two(alloc, program)?;
+    fault_of(alloc, program, strangers)
+}
+
+/// Why these seats aren't gathered on a new bus of one hart.
+fn fault_of<'p>(alloc: Global, program: &'p Program, seats: Vec<Seat<'p>>) -> Option<FinishFault> {
+    let (bus, _seats) = bus_of(alloc, program, 1, 5)?;
+    bus.finish(alloc, seats).err()
 }
 
 /// Seat 0 after three steps on a bus of one hart.
@@ -193,17 +203,28 @@ fn seats_used<'p, R: Wait>(rt: &R, alloc: Global, program: &'p Program) -> Optio
 }
 
 /// Why seat 0 that made three steps on another bus isn't gathered.
-fn fault_of_a_stranger<R: Wait>(rt: &R, alloc: Global) -> Option<FinishFault> {
+fn fault_of_a_stranger<R: Wait>(rt: &R, alloc: Global, program: &Program) -> Option<FinishFault> {
+    let strangers = seats_used(rt, alloc, program)?;
+    fault_of(alloc, program, strangers)
+}
+
+fn faults<R: Wait>(rt: &R, alloc: Global) -> Option<[Option<FinishFault>; 3]> {
     let program = program_of(alloc, &FIRST_RUN)?;
-    let strangers = seats_used(rt, alloc, &program)?;
-    let (bus, _seats) = bus_of(alloc, &program, 1, 5)?;
-    bus.finish(alloc, strangers).err()
+    Some([
+        fault_of_one_seat(alloc, &program),
+        fault_of_two_seats(alloc, &program),
+        fault_of_a_stranger(rt, alloc, &program),
+    ])
 }
 
 #[test]
-fn foreign_seats(rt: HostRuntime) {
-    assert!(rt; fault_of_two_seats(rt.alloc()) == Some(FinishFault::SeatNumber));
-    assert!(rt; fault_of_a_stranger(&rt, rt.alloc()) == Some(FinishFault::Foreign));
+fn missing_and_foreign_seats(rt: HostRuntime) {
+    let wanted = [
+        Some(FinishFault::SeatMissing),
+        Some(FinishFault::SeatNumber),
+        Some(FinishFault::Foreign),
+    ];
+    assert!(rt; faults(&rt, rt.alloc()) == Some(wanted));
 }
 
 /// Why the third step of seat 1 of another bus is refused, which is a request.
@@ -233,21 +254,36 @@ fn refusals<'p, R: Wait>(
     ])
 }
 
+/// Whether the seats of a bus are gathered to a run of no step.
+fn is_empty<'p>(alloc: Global, bus: Bus<'p>, seats: Vec<Seat<'p>>) -> bool {
+    match bus.finish(alloc, seats) {
+        Ok(recorded) => is_schedule(alloc, &recorded, "") && is_recorded(&recorded, 0, &[0]),
+        Err(_) => false,
+    }
+}
+
 /// The refusals, and whether the bus's own seat is gathered to a run of no step after them.
 fn refusals_on_a_fresh_bus<R: Wait>(
     rt: &R,
     alloc: Global,
+    program: &Program,
+) -> Option<(Option<[Option<StepFault>; 2]>, bool)> {
+    let (bus, seats) = bus_of(alloc, program, 1, 5)?;
+    let refused = refusals(rt, alloc, &bus, program);
+    Some((refused, is_empty(alloc, bus, seats)))
+}
+
+/// The same with the program of the first run.
+fn refusals_at_first<R: Wait>(
+    rt: &R,
+    alloc: Global,
 ) -> Option<(Option<[Option<StepFault>; 2]>, bool)> {
     let program = program_of(alloc, &FIRST_RUN)?;
-    let (bus, seats) = bus_of(alloc, &program, 1, 5)?;
-    let refused = refusals(rt, alloc, &bus, &program);
-    let recorded = bus.finish(alloc, seats).ok()?;
-    let is_empty = is_schedule(alloc, &recorded, "") && is_recorded(&recorded, 0, &[0]);
-    Some((refused, is_empty))
+    refusals_on_a_fresh_bus(rt, alloc, &program)
 }
 
 #[test]
 fn fresh_bus(rt: HostRuntime) {
     let refused = [Some(StepFault::NoSuchLine), Some(StepFault::NoSuchHart)];
-    assert!(rt; refusals_on_a_fresh_bus(&rt, rt.alloc()) == Some((Some(refused), true)));
+    assert!(rt; refusals_at_first(&rt, rt.alloc()) == Some((Some(refused), true)));
 }

@@ -1,5 +1,7 @@
 //! Programs of a few words, and buses over them and 512 lines of zeros.
 
+ghost use Rattle.std.specs.Prelude.{◌≡◌, IfSome, length};
+
 use bus::{Bus, Seat};
 use line_memory::Medium;
 use object::Object;
@@ -62,7 +64,9 @@ pub(crate) fn bus_of<'p>(
     program: &'p Program,
     harts: u32,
     budget: u32,
-) -> Option<(Bus<'p>, Vec<Seat<'p>>)> {
+) -> Option<(Bus<'p>, Vec<Seat<'p>>)>
+    ensures { IfSome result (λ made. length made.1.items ≡ harts) }
+{
     Bus::new(alloc, program, zeros(alloc)?, harts, 512, budget).ok()
 }
 
@@ -72,7 +76,9 @@ pub(crate) fn seats_of<'p>(
     program: &'p Program,
     harts: u32,
     budget: u32,
-) -> Option<Vec<Seat<'p>>> {
+) -> Option<Vec<Seat<'p>>>
+    ensures { IfSome result (λ seats. length seats.items ≡ harts) }
+{
     let (_bus, seats) = bus_of(alloc, program, harts, budget)?;
     Some(seats)
 }

@@ -1,6 +1,6 @@
 //! Harts in threads.
 
-ghost use Rattle.std.specs.Prelude.{◌<◌};
+ghost use Rattle.std.specs.Prelude.{◌≡◌, ◌<◌, length};
 
 use crate::programs::{BUDGET, COUNT_1000, FIRST_RUN, bus_of, program_of, seats_of, start_of};
 use bus::{Bus, RunFault, Seat, StepFault, run_harts};
@@ -8,6 +8,7 @@ use gate::{Gate, Open};
 use hart::{HartState, Status};
 use isa_table::Reg;
 use machine::Machine;
+use program::Program;
 use recording::Recorded;
 use schedule::{Item, Schedule};
 use std::alloc::Global;
@@ -118,18 +119,22 @@ fn evictions_of(schedule: &Schedule) -> usize {
         .count()
 }
 
+/// Whether a machine of two harts has counted to 2000 after a schedule.
+fn counts_by(machine: &mut Machine, schedule: &Schedule) -> bool {
+    machine.run(schedule).is_ok()
+        && machine.harts() == 2
+        && has_counted(machine.hart(0), 0x20_0000)
+        && has_counted(machine.hart(1), 0x1f_f000)
+        && machine.events().len() == 2000
+}
+
 /// Whether the machine comes to the same by the schedule of a run.
-fn is_replayed(alloc: Global, recorded: &Recorded) -> bool {
+fn is_replayed(alloc: Global, schedule: &Schedule) -> bool {
     let Some((program, medium)) = start_of(alloc, &COUNT_1000) else {
         return false;
     };
     match Machine::new(alloc, program, medium, 2, 512) {
-        Ok(mut machine) => {
-            machine.run(recorded.schedule()).is_ok()
-                && has_counted(machine.hart(0), 0x20_0000)
-                && has_counted(machine.hart(1), 0x1f_f000)
-                && machine.events().len() == 2000
-        }
+        Ok(mut machine) => counts_by(&mut machine, schedule),
         Err(_) => false,
     }
 }
@@ -142,7 +147,7 @@ fn is_count(alloc: Global, recorded: &Recorded, evictions: usize) -> bool {
         && steps_of(schedule, 1) == 3005
         && evictions_of(schedule) == evictions
         && recorded.trace().events().len() == 2000
-        && is_replayed(alloc, recorded)
+        && is_replayed(alloc, schedule)
 }
 
 /// Whether two harts count to 2000 beside each other.
@@ -152,12 +157,21 @@ fn count_together<G: Gate, R: Threads + Wait + Sync>(
     gate: &G,
 ) -> Option<bool> {
     let program = program_of(alloc, &COUNT_1000)?;
-    let (bus, seats) = bus_of(alloc, &program, 2, BUDGET)?;
-    if seats.len() != 2 {
-        return None;
+    count_by(rt, alloc, &program, gate)
+}
+
+/// The same with this program.
+fn count_by<G: Gate, R: Threads + Wait + Sync>(
+    rt: &R,
+    alloc: Global,
+    program: &Program,
+    gate: &G,
+) -> Option<bool> {
+    let (bus, seats) = bus_of(alloc, program, 2, BUDGET)?;
+    match run_harts(rt, alloc, bus, seats, gate) {
+        Ok(recorded) => Some(is_count(alloc, &recorded, 0)),
+        Err(_) => None,
     }
-    let recorded = run_harts(rt, alloc, bus, seats, gate).ok()?;
-    Some(is_count(alloc, &recorded, 0))
 }
 
 #[test]
@@ -177,11 +191,20 @@ fn harts_run_together(rt: HostRuntime) {
 fn fault_of_a_stranger<R: Threads + Wait + Sync>(rt: &R, alloc: Global) -> Option<RunFault> {
     let program = program_of(alloc, &FIRST_RUN)?;
     let strangers = seats_of(alloc, &program, 2, 8)?;
-    if strangers.len() != 2 {
-        return None;
-    }
-    let (bus, _seats) = bus_of(alloc, &program, 1, 8)?;
-    run_harts(rt, alloc, bus, strangers, &Open).err()
+    fault_of(rt, alloc, &program, strangers)
+}
+
+/// The fault of running these seats, of which there are two, on a new bus of one hart.
+fn fault_of<'p, R: Threads + Wait + Sync>(
+    rt: &R,
+    alloc: Global,
+    program: &'p Program,
+    seats: Vec<Seat<'p>>,
+) -> Option<RunFault>
+    requires { length seats.items ≡ 2 }
+{
+    let (bus, _seats) = bus_of(alloc, program, 1, 8)?;
+    run_harts(rt, alloc, bus, seats, &Open).err()
 }
 
 #[test]
@@ -190,13 +213,11 @@ fn a_refusal_is_answered(rt: HostRuntime) {
     assert!(rt; fault == Some(RunFault::Step(StepFault::NoSuchHart)));
 }
 
-/// Makes all steps of a seat, and gives it back.
-fn finish_steps<'p, R: Wait>(rt: &R, bus: &Bus<'p>, seat: Seat<'p>) -> Seat<'p> {
-    let mut seat = seat;
+/// Makes all steps of a seat.
+fn finish_steps<'p, R: Wait>(rt: &R, bus: &Bus<'p>, seat: &mut Seat<'p>) {
     for _ in 0..3005 {
         let _ = seat.step(rt, bus);
     }
-    seat
 }
 
 /// Evicts line 0 a hundred times. False where an eviction is refused.
@@ -209,30 +230,19 @@ fn evict_often<R: Wait>(rt: &R, bus: &Bus<'_>) -> bool {
     true
 }
 
-/// The two seats of a bus.
-fn both_of<'p>(seats: Vec<Seat<'p>>) -> Option<(Seat<'p>, Seat<'p>)> {
-    let mut seats = seats;
-    let second = seats.pop()?;
-    Some((seats.pop()?, second))
-}
-
-/// Two seats in their order.
-fn in_order<'p>(alloc: Global, first: Seat<'p>, second: Seat<'p>) -> Option<Vec<Seat<'p>>> {
-    let mut seats = Vec::new(alloc);
-    seats.push(first).ok()?;
-    seats.push(second).ok()?;
-    Some(seats)
-}
-
-/// Drives the seats in two threads beside one that evicts. None where an eviction is refused.
+/// Drives the two seats of a bus in threads beside one that evicts. False where there are not two, or an eviction is refused.
 fn drive_beside_evictions<'p, R: Threads + Sync + Wait>(
     rt: &R,
-    alloc: Global,
     bus: &Bus<'p>,
-    seats: Vec<Seat<'p>>,
-) -> Option<Vec<Seat<'p>>> {
-    let (first, second) = both_of(seats)?;
-    let ((first, second), is_evicted) = thread::join(
+    seats: &mut [Seat<'p>],
+) -> bool {
+    let Some((first, others)) = seats.split_first_mut() else {
+        return false;
+    };
+    let Some(second) = others.first_mut() else {
+        return false;
+    };
+    let (_, is_evicted) = thread::join(
         rt,
         || thread::join(
             rt,
@@ -241,20 +251,33 @@ fn drive_beside_evictions<'p, R: Threads + Sync + Wait>(
         ),
         || evict_often(rt, bus),
     );
-    if is_evicted {
-        in_order(alloc, first, second)
-    } else {
-        None
+    is_evicted
+}
+
+/// Whether the seats of a bus are gathered to the run of two harts that have counted to 2000, with 100 evictions.
+fn are_gathered_so<'p>(alloc: Global, bus: Bus<'p>, seats: Vec<Seat<'p>>) -> bool {
+    match bus.finish(alloc, seats) {
+        Ok(recorded) => is_count(alloc, &recorded, 100),
+        Err(_) => false,
     }
 }
 
-/// Whether two threads that drive the seats beside one that evicts come to a run with all evictions.
+/// Whether two harts that count beside evictions come to such a run.
+fn count_beside<R: Threads + Sync + Wait>(
+    rt: &R,
+    alloc: Global,
+    program: &Program,
+) -> Option<bool> {
+    let (bus, mut seats) = bus_of(alloc, program, 2, BUDGET)?;
+    let is_evicted = drive_beside_evictions(rt, &bus, &mut seats);
+    let is_gathered = are_gathered_so(alloc, bus, seats);
+    Some(is_evicted && is_gathered)
+}
+
+/// The same with a new program.
 fn count_beside_evictions<R: Threads + Sync + Wait>(rt: &R, alloc: Global) -> Option<bool> {
     let program = program_of(alloc, &COUNT_1000)?;
-    let (bus, seats) = bus_of(alloc, &program, 2, BUDGET)?;
-    let driven = drive_beside_evictions(rt, alloc, &bus, seats)?;
-    let recorded = bus.finish(alloc, driven).ok()?;
-    Some(is_count(alloc, &recorded, 100))
+    count_beside(rt, alloc, &program)
 }
 
 #[test]

@@ -4,6 +4,7 @@ use crate::programs::{COUNT_ONCE, FIRST_RUN, bus_of, program_of, seats_of, zeros
 use bus::{Bus, Core, Entry, Outcome, Seat, StepFault};
 use hart::{Reply, Request};
 use isa_table::{AtomicOp, Reg};
+use program::Program;
 use std::alloc::Global;
 use std::sync::Wait;
 
@@ -180,16 +181,18 @@ fn hold(seats: &[Seat<'_>], wanted: &[u64]) -> bool {
 fn shows<'p, R: Wait>(rt: &R, bus: Bus<'p>, seats: &mut [Seat<'p>], shift: &Shift) -> bool {
     let are_answered = are_answered_so(rt, &bus, seats, shift.turns);
     let (_, core) = bus.into_parts();
-    are_answered
-        && is_history(&core, shift.history)
-        && core.events().len() == shift.events
-        && hold(seats, shift.fifth)
+    let is_left = is_history(&core, shift.history) && core.events().len() == shift.events;
+    are_answered && is_left && hold(seats, shift.fifth)
+}
+
+fn ends_by<R: Wait>(rt: &R, alloc: Global, program: &Program, shift: &Shift) -> Option<bool> {
+    let (bus, mut seats) = bus_of(alloc, program, shift.harts, shift.budget)?;
+    Some(shows(rt, bus, &mut seats, shift))
 }
 
 fn ends_so<R: Wait>(rt: &R, alloc: Global, shift: &Shift) -> Option<bool> {
     let program = program_of(alloc, shift.words)?;
-    let (bus, mut seats) = bus_of(alloc, &program, shift.harts, shift.budget)?;
-    Some(shows(rt, bus, &mut seats, shift))
+    ends_by(rt, alloc, &program, shift)
 }
 
 #[test]
@@ -210,12 +213,22 @@ static LIMITS: [(u32, u32, u32, StepFault); 6] = [
     (1, 512, 500_000_001, StepFault::OutOfLimits),
 ];
 
+fn refusal_of(
+    alloc: Global,
+    program: &Program,
+    harts: u32,
+    capacity: u32,
+    budget: u32,
+) -> Option<StepFault> {
+    Bus::new(alloc, program, zeros(alloc)?, harts, capacity, budget).err()
+}
+
 fn refusal(
     alloc: Global,
     (harts, capacity, budget, _): (u32, u32, u32, StepFault),
 ) -> Option<StepFault> {
     let program = program_of(alloc, &FIRST_RUN)?;
-    Bus::new(alloc, &program, zeros(alloc)?, harts, capacity, budget).err()
+    refusal_of(alloc, &program, harts, capacity, budget)
 }
 
 #[test]
@@ -233,16 +246,22 @@ fn answers_to_a_stranger<R: Wait>(
 ) -> Option<[Result<Outcome, StepFault>; 3]> {
     let program = program_of(alloc, &FIRST_RUN)?;
     let mut strangers = seats_of(alloc, &program, 2, 3)?;
-    let (bus, _seats) = bus_of(alloc, &program, 1, 3)?;
-    Some(three_steps(rt, &bus, strangers.get_mut(1)?))
+    three_steps(rt, alloc, &program, strangers.get_mut(1)?)
 }
 
+/// What three steps of a seat come to on a new bus of one hart.
 fn three_steps<'p, R: Wait>(
     rt: &R,
-    bus: &Bus<'p>,
+    alloc: Global,
+    program: &'p Program,
     seat: &mut Seat<'p>,
-) -> [Result<Outcome, StepFault>; 3] {
-    [seat.step(rt, bus), seat.step(rt, bus), seat.step(rt, bus)]
+) -> Option<[Result<Outcome, StepFault>; 3]> {
+    let (bus, _seats) = bus_of(alloc, program, 1, 3)?;
+    Some([
+        seat.step(rt, &bus),
+        seat.step(rt, &bus),
+        seat.step(rt, &bus),
+    ])
 }
 
 #[test]

@@ -13,6 +13,3 @@ mod sweep;
 
 pub use desk::{CheckDesk, DeskResult, DeskSeat};
 pub use sweep::{Judge, Judged, judge_all};
-
-#[cfg(test)]
-mod tests;

@@ -1,10 +1,10 @@
 //! A sweep over the moments of a run by several workers, whose answer is that of one worker who takes them in turn.
 
-ghost use Rattle.check_desk.specs.Desks.{fresh};
+ghost use Rattle.check_desk.specs.Desks.{all_bad, all_claimed, all_found, ended_count, fresh};
 ghost use Rattle.check_desk.specs.Sweeps.{IsSwept, IsTally, best_of, better};
 ghost use Rattle.check_desk.specs.Works.{IsWorked};
 ghost use Rattle.std.specs.Thread.{IsSync};
-ghost use Rattle.std.specs.Prelude.{◌≡◌, ℕ, ◌^◌, ◌<◌, ◌≤◌, [], ◌∷◌, ◌++◌, Some, true, false, All, length, vec_len, IfOk, IsTrue, MatchBool, OnOk};
+ghost use Rattle.std.specs.Prelude.{◌≡◌, ℕ, ◌^◌, ◌<◌, ◌≤◌, [], ◌∷◌, ◌++◌, Some, None, true, false, All, length, vec_len, IfOk, IsTrue, MatchBool, OnOk};
 
 use crate::desk::{CheckDesk, DeskSeat};
 use gate::Gate;
@@ -150,11 +150,36 @@ fn take_all<B: Drop, S: Drop, J: Judge<B, S>, G: Gate, R: Threads + Sync>(
         × IsTally (J.passes job.now) (J.fails job.now) desk.now.name.moments
         seat.new.claimed seat.new.bad seat.new.found best.new) }
 {
-    let worker = seat.worker();
     let mut state = job.begin()?;
+    take_each(rt, desk, job, gate, &mut state, seat, best)
+}
+
+/// Takes them with what the worker keeps from one to the next.
+fn take_each<B: Drop, S, J: Judge<B, S>, G: Gate, R: Threads + Sync>(
+    rt: &R,
+    desk: &CheckDesk,
+    job: &J,
+    gate: &G,
+    state: &mut S,
+    seat: &mut DeskSeat,
+    best: &mut Option<(u32, B)>,
+) -> Result<(), AllocError>
+    requires desk { seat.old.desk ≡ desk.now.name }
+    requires none { seat.old.claimed ≡ [] }
+    requires small { desk.now.name.moments < 2 ^ 32 }
+    requires job { J.moments job.now ≡ desk.now.name.moments }
+    requires state { J.keeps job.now state.old }
+    requires best { IsTally (J.passes job.now) (J.fails job.now) desk.now.name.moments
+        seat.old.claimed seat.old.bad seat.old.found best.old }
+    ensures desk { seat.new.desk ≡ seat.old.desk }
+    ensures all { OnOk result ((seat.new.ended ≡ true)
+        × IsTally (J.passes job.now) (J.fails job.now) desk.now.name.moments
+        seat.new.claimed seat.new.bad seat.new.found best.new) }
+{
+    let worker = seat.worker();
     loop {
         gate.enter(worker);
-        let more = take_one(rt, desk, job, &mut state, seat, best);
+        let more = take_one(rt, desk, job, state, seat, best);
         gate.leave(worker);
         if !more? {
             return Ok(());
@@ -225,18 +250,53 @@ fn gather<B: Drop, S, J: Judge<B, S>>(
 {
     let mut seats = Vec::with_capacity(alloc, worked.len())?;
     let mut best = None;
-    for one in worked {
-        let Worked {
-            seat,
-            whole,
-            best: its,
-        } = one;
-        if !whole {
-            return Err(AllocError);
-        }
-        seats.push(seat)?;
-        merge(&mut best, its);
-    }
+    take_in(&desk, job, worked, &mut seats, &mut best)?;
     desk.close(seats);
     Ok(best)
+}
+
+/// Takes in what the workers found, one after the other.
+fn take_in<B: Drop, S, J: Judge<B, S>>(
+    desk: &CheckDesk,
+    job: &J,
+    worked: Vec<Worked<B>>,
+    seats: &mut Vec<DeskSeat>,
+    best: &mut Option<(u32, B)>,
+) -> Result<(), AllocError>
+    requires seats { seats.old.items ≡ [] }
+    requires none { best.old ≡ None }
+    requires each { All (IsWorked (J.passes job.now) (J.fails job.now) desk.now.name) worked.items }
+    ensures desk { OnOk result (All (λ s. s.desk ≡ desk.now.name) seats.new.items) }
+    ensures all { OnOk result (vec_len seats.new ≡ vec_len worked) }
+    ensures ended { OnOk result (ended_count seats.new.items ≡ vec_len worked) }
+    ensures best { OnOk result (IsTally (J.passes job.now) (J.fails job.now) desk.now.name.moments
+        (all_claimed seats.new.items) (all_bad seats.new.items) (all_found seats.new.items) best.new) }
+{
+    for one in worked {
+        add(one, seats, best)?;
+    }
+    Ok(())
+}
+
+/// Takes in what one worker found. Err where memory was refused to it.
+fn add<B: Drop>(
+    one: Worked<B>,
+    seats: &mut Vec<DeskSeat>,
+    best: &mut Option<(u32, B)>,
+) -> Result<(), AllocError>
+    ensures whole { OnOk result (one.whole ≡ true) }
+    ensures seats { OnOk result (seats.new.items ≡ seats.old.items ++ one.seat ∷ []) }
+    ensures best { OnOk result (best.new ≡ best_of best.old one.best) }
+{
+    let Worked {
+        seat,
+        whole,
+        best: its,
+    } = one;
+    if !whole {
+        return Err(AllocError);
+    }
+    merge(best, its);
+    seats.push(seat)?;
+    Ok(())
 }

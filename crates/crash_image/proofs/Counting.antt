@@ -1,8 +1,9 @@
 -- The product of how many numbers each line can stand at.
-use Rattle.std.proofs.Common.{◌≡◌, ℕ, suc, ◌+◌, ◌*◌, ◌<◌, ◌≤◌, List, [], ◌∷◌, length, get_or, drop, refl, ap, arith}
+use Rattle.std.proofs.Common.{◌≡◌, ℕ, suc, ◌+◌, ◌*◌, ◌^◌, ◌<◌, ◌≤◌, List, [], ◌∷◌, length, get_or, drop, refl, ap, arith, mul-le-mul_right}
 use Rattle.std.specs.Prelude.{All, map}
 use Rattle.std.proofs.Math.Nat.{mul-pos, le-mul_of_pos_right}
 use Rattle.std.proofs.Math.Seq.{drop-cons}
+use Rattle.std.proofs.lemmas.List.{drop_all}
 use Rattle.std.proofs.lemmas.List.Elements.{All-map}
 use Rattle.crash_model.proofs.Bounds.{floor_le_stores}
 use Rattle.crash_model.specs.Cut.{count_of, cut_count, stored_lines}
@@ -41,3 +42,13 @@ pub product_passes : (bs : List LineBounds) (i count n : ℕ) (d : LineBounds) �
 product_passes bs i count n d h e all more =
     let above : 65536 < count * numbers_of (get_or bs i d) = rw e at more in
     omega (arith, above, all, product_next bs i count d h, product_above bs (i + 1) (count * numbers_of (get_or bs i d)))
+
+pub product_all : (bs : List LineBounds) (i count : ℕ) → length bs ≤ i → count * product_of (drop i bs) ≡ product_of bs → count ≡ product_of bs
+product_all bs i count h all =
+    let none : drop i bs ≡ [] = drop_all i bs h in
+    let one : count * 1 ≡ product_of bs = rw none at all in
+    omega (arith, one)
+
+-- a count within the limit times the numbers of one line
+pub small_product : (count n : ℕ) → count ≤ 65536 → n ≤ 2 ^ 32 → count * n < 2 ^ 64
+small_product count n few small = omega (arith, mul-le-mul_right {m = count} {n = 65536} n few, small)

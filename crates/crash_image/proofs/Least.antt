@@ -14,7 +14,7 @@ use Rattle.crash_model.specs.Stores.{stores}
 use Rattle.crash_model.specs.declared.step.PersistenceStep.{PersistenceStep}
 use Rattle.crash_model.specs.declared.step.PersistenceStep.TheVariants as step
 use Rattle.line_memory.specs.Lines.{line_at}
-use Rattle.crash_image.proofs.Stored.{stored_among, stored_lines_among, AreBelow, below_history}
+use Rattle.crash_image.proofs.Stored.{stored_among, stored_lines_among, AreBelow, below_history, cut_below}
 use Rattle.crash_image.specs.View.{CutsView, NamesLine}
 use Rattle.store_trace.specs.History.{history}
 use Rattle.store_trace.specs.declared.event.Event.{Event}
@@ -257,15 +257,24 @@ least_cut start medium p floors (Some entries) below len e a =
 other_length : (start medium : List (List ℕ)) (p : List PersistenceStep) → (length medium ≡ length start → ⊥) → IsLeastCut start p medium None
 other_length start medium p n c = n (ap (λ (m : List (List ℕ)). length m) c.bytes ∙ length_image start (number_in c.cut) p)
 
--- the same for a moment of a trace and the bounds that were found
-pub least_cut_at : (start medium : List (List ℕ)) (events : List Event) (v : CutsView) (lines : List LineBounds) (floors : List (ℕ × ℕ))
-    (found : Option (List (ℕ × ℕ))) → All (NamesLine (length start)) events → length medium ≡ length start →
-    lines ≡ stored_bounds (history events) → floors ≡ map (λ (b : LineBounds). (b.line, b.floor)) lines →
-    record { start = start; steps = history events } ≡ v →
+-- the same for a moment of a trace
+pub least_cut_at : (start medium : List (List ℕ)) (events : List Event) (v : CutsView) (floors : List (ℕ × ℕ))
+    (found : Option (List (ℕ × ℕ))) → All (NamesLine (length start)) events → record { start = start; steps = history events } ≡ v →
+    length medium ≡ length v.start → floors ≡ map (λ (b : LineBounds). (b.line, b.floor)) (stored_bounds v.steps) →
     AreNumbers start medium (number_in floors) (history events) found → IsLeastCut v.start v.steps medium found
-least_cut_at start medium events v lines floors found named len e f is a =
+least_cut_at start medium events v floors found named is len e a =
     subst (λ (w : CutsView). IsLeastCut w.start w.steps medium found) is
-    (least_cut start medium (history events) floors found (below_history (length start) events named) len (rw e at f) a)
+    (least_cut start medium (history events) floors found (below_history (length start) events named)
+    (subst (λ (w : CutsView). length medium ≡ length w.start) (sym is) len)
+    (subst (λ (w : CutsView). floors ≡ map (λ (b : LineBounds). (b.line, b.floor)) (stored_bounds w.steps)) (sym is) e) a)
+
+pub floors_below : (start : List (List ℕ)) (events : List Event) (v : CutsView) (floors : List (ℕ × ℕ)) → All (NamesLine (length start)) events →
+    record { start = start; steps = history events } ≡ v → floors ≡ map (λ (b : LineBounds). (b.line, b.floor)) (stored_bounds v.steps) →
+    All (λ entry. entry.0 < length start) floors
+floors_below start events v floors named is e =
+    cut_below (length start) events floors named
+    (floors_cut (history events) floors
+    (subst (λ (w : CutsView). floors ≡ map (λ (b : LineBounds). (b.line, b.floor)) (stored_bounds w.steps)) (sym is) e))
 
 pub other_length_at : (start medium : List (List ℕ)) (p : List PersistenceStep) (v : CutsView) → (length medium ≡ length start → ⊥) →
     record { start = start; steps = p } ≡ v → IsLeastCut v.start v.steps medium None

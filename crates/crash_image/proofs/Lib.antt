@@ -1,3 +1,4 @@
+pub mod Choosing
 pub mod Counting
 pub mod CutNames
 pub mod Imaged
@@ -7,6 +8,7 @@ pub mod Lined
 pub mod Naming
 pub mod Numbering
 pub mod Searching
+pub mod Slices
 pub mod Stored
 pub mod Tallying
 pub mod Telling

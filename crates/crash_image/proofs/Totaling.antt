@@ -2,11 +2,11 @@
 use Rattle.std.proofs.Common.{◌≡◌, ℕ, zero, suc, ◌+◌, ◌-◌, ◌*◌, ◌<◌, ◌≤◌, ◌==◌, nat_lt, true, false, List, [], ◌∷◌, ◌++◌, length, get_or, set, take, drop, inl, inr, refl, ap, ◌∙◌, sym, subst, arith}
 use Rattle.std.specs.Prelude.{All, map, if◌then◌else◌, max, nat_le}
 use Rattle.std.specs.List.{insert}
-use Rattle.std.proofs.Math.Nat.{mul-pos, le-mul_of_pos_right, mul-le-mul_left}
+use Rattle.std.proofs.Math.Nat.{mul-pos, le-mul_of_pos_right}
 use Rattle.std.proofs.Math.Seq.{drop-cons}
 use Rattle.std.proofs.lemmas.Bool.{cases_Bool}
 use Rattle.std.proofs.lemmas.Bool.Decides.{nat_tests}
-use Rattle.std.proofs.lemmas.List.{get_or_default}
+use Rattle.std.proofs.lemmas.List.{drop_all, get_or_default}
 use Rattle.std.proofs.lemmas.Grind.{common_steps}
 use Rattle.std.proofs.lemmas.List.Edits.{map_over_more}
 use Rattle.std.proofs.lemmas.List.Elements.{All-cons, All-nil}
@@ -45,6 +45,12 @@ pub choices_pass : (fs : List FreeLine) (i count n : ℕ) (d : FreeLine) → i <
 choices_pass fs i count n d h e all more =
     let above : 65536 < count * ((get_or fs i d).above + 1) = rw e at more in
     omega (arith, above, all, choices_next fs i count d h, choices_above fs (i + 1) (count * ((get_or fs i d).above + 1)))
+
+pub choices_all : (fs : List FreeLine) (i count : ℕ) → length fs ≤ i → count * choices_of (drop i fs) ≡ choices_of fs → count ≡ choices_of fs
+choices_all fs i count h all =
+    let none : drop i fs ≡ [] = drop_all i fs h in
+    let one : count * 1 ≡ choices_of fs = rw none at all in
+    omega (arith, one)
 
 -- few stores
 stores_few : (l : ℕ) (p : List PersistenceStep) → stores l p ≤ length p

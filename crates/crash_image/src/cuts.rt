@@ -1,14 +1,16 @@
 //! The cuts of a moment and their images.
 
+ghost use Rattle.crash_image.specs.Bounds.{stored_bounds};
 ghost use Rattle.crash_image.specs.Named.{HasLinesOf, IsNameOf, IsNamed, IsTable, cut_over, named_cut, raised as raised_of};
 ghost use Rattle.crash_image.specs.Sought.{IsLeastCut};
 ghost use Rattle.crash_image.specs.View.{HasLines};
+ghost use Rattle.crash_image.specs.declared.bounds.LineBounds.{LineBounds as OneLine};
 ghost use Rattle.crash_model.specs.Cut.{IsCut, cut_count, cuts, number_in};
 ghost use Rattle.crash_model.specs.Image.{image};
 ghost use Rattle.image_name.specs.declared.name.ImageName.TheVariants as names;
 ghost use Rattle.line_memory.specs.Lines.{IsMedium, line_at};
 ghost use Rattle.store_trace.specs.History.{at_moment};
-ghost use Rattle.std.specs.Prelude.{◌≡◌, ℕ, ◌↔◌, ◌<◌, ◌≤◌, ◌*◌, [], List, length, slice_index_or, IfOk, IfSome, IsNone, IsErrOf, IfErr, IsTrue, OnOk};
+ghost use Rattle.std.specs.Prelude.{◌≡◌, ℕ, ◌↔◌, ◌<◌, ◌≤◌, ◌*◌, [], List, length, map, slice_index_or, IfOk, IfSome, IsNone, IsErrOf, IfErr, IsTrue, OnOk};
 
 use crate::ImageFault;
 use crate::bounds::{LineBounds, floors, line_bounds, product};
@@ -163,7 +165,22 @@ impl<'a> Cuts<'a> {
             return Ok(None);
         }
         let floors = floors(alloc, &self.bounds)?;
-        match least(alloc, self.medium, medium, self.events, &floors)? {
+        self.find_from(alloc, medium, &floors)
+    }
+
+    /// The least cut whose image is `medium`, of as many lines, where these are the floors of the stored lines.
+    fn find_from(
+        &self,
+        alloc: Global,
+        medium: &Medium,
+        floors: &[(u32, u32)],
+    ) -> Result<Option<Cut>, ImageFault>
+        requires lines { length medium.now ≡ length self.now.start }
+        requires floors { floors.now ≡ map (λ (b : OneLine). (b.line, b.floor)) (stored_bounds self.now.steps) }
+        ensures ok { IfOk result (λ found. IsLeastCut self.now.start self.now.steps medium.now found) }
+        ensures err { IfErr result (λ fault. fault ≡ ImageFault.Memory) }
+    {
+        match least(alloc, self.medium, medium, self.events, floors)? {
             Some(entries) => Ok(Some(Cut::from_entries(entries))),
             None => Ok(None),
         }

@@ -33,11 +33,23 @@ pub fn imaged(
     ensures err { IfErr result (λ fault. fault ≡ ImageFault.Memory) }
 {
     let mut left = numbers_of_lines(alloc, medium.lines(), entries)?;
-    let mut made = medium.copy(alloc).map_err(|_| ImageFault::Memory)?;
+    let mut made = copy_of(alloc, medium)?;
     for event in events {
         make(&mut made, &mut left, *event);
     }
     Ok(made)
+}
+
+/// The medium once more.
+pub fn copy_of(alloc: Global, medium: &Medium) -> Result<Medium, ImageFault>
+    ensures same { IfOk result (λ copy. copy ≡ medium.now) }
+    ensures whole { IfOk result (λ copy. IsMedium copy) }
+    ensures err { IfErr result (λ fault. fault ≡ ImageFault.Memory) }
+{
+    match medium.copy(alloc) {
+        Ok(copy) => Ok(copy),
+        Err(_refused) => Err(ImageFault::Memory),
+    }
 }
 
 /// For each of the first `lines` lines the number that the entries give it, and else 0.

@@ -8,10 +8,10 @@ ghost use Rattle.crash_model.specs.declared.step.PersistenceStep.{PersistenceSte
 ghost use Rattle.line_memory.specs.Lines.{IsMedium, line_at};
 ghost use Rattle.store_trace.specs.History.{history, steps_of};
 ghost use Rattle.store_trace.specs.TraceView.{IsEvent};
-ghost use Rattle.std.specs.Prelude.{◌≡◌, ◌↔◌, ℕ, ◌+◌, ◌<◌, ◌≤◌, ◌^◌, ◌++◌, [], List, length, option_map, slice_index_or, All, IfOk, IfErr, IsTrue};
+ghost use Rattle.std.specs.Prelude.{◌≡◌, ◌↔◌, ℕ, ◌+◌, ◌<◌, ◌≤◌, ◌^◌, ◌++◌, [], List, length, option_map, slice_index_or, All, IfOk, IfErr, IsTrue, OnOk};
 
 use crate::ImageFault;
-use crate::images::{numbers_of_lines, store};
+use crate::images::{copy_of, numbers_of_lines, store};
 use line_memory::Medium;
 use std::alloc::{AllocError, Global};
 use store_trace::Event;
@@ -54,18 +54,30 @@ pub fn least(
         AreNumbers medium.now wanted.now (number_in floors.now) (history events.now) (option_map (λ v. v.items) found)) }
     ensures err { IfErr result (λ fault. fault ≡ ImageFault.Memory) }
 {
-    let numbers = numbers_of_lines(alloc, medium.lines(), floors)?;
-    let mut all = begin(alloc, medium, wanted, &numbers)?;
-    let mut shown = medium.copy(alloc).map_err(|_| ImageFault::Memory)?;
-    for event in events {
-        meet(&mut shown, wanted, &mut all, *event);
-    }
+    let mut all = begin(alloc, medium, wanted, floors)?;
+    look_through(alloc, medium, wanted, events, &mut all)?;
     let found = chosen(alloc, &all)?;
     Ok(found)
 }
 
-/// The lines before the first event.
+/// The lines before the first event, from these floors on.
 fn begin(
+    alloc: Global,
+    medium: &Medium,
+    wanted: &Medium,
+    floors: &[(u32, u32)],
+) -> Result<Vec<Sought>, AllocError>
+    requires lines { length wanted.now ≡ length medium.now }
+    requires floors { All (λ entry. entry.0 < length medium.now) floors.now }
+    ensures sought { IfOk result (λ all. AreSought medium.now wanted.now (number_in floors.now) 0 [] medium.now all.items) }
+    ensures few { IfOk result (λ all. length all.items < 2 ^ 32) }
+{
+    let numbers = numbers_of_lines(alloc, medium.lines(), floors)?;
+    unmoved_lines(alloc, medium, wanted, &numbers)
+}
+
+/// The lines before the first event, each with its floor.
+fn unmoved_lines(
     alloc: Global,
     medium: &Medium,
     wanted: &Medium,
@@ -82,6 +94,30 @@ fn begin(
         all.push(unmoved(medium, wanted, line, floors[line as usize]))?;
     }
     Ok(all)
+}
+
+/// Looks at the lines after each of the events, which are made in turn over the medium.
+fn look_through(
+    alloc: Global,
+    medium: &Medium,
+    wanted: &Medium,
+    events: &[Event],
+    all: &mut [Sought],
+) -> Result<(), ImageFault>
+    requires lines { length wanted.now ≡ length medium.now }
+    requires events { All IsEvent events.now }
+    requires named { All (NamesLine (length medium.now)) events.now }
+    requires limit { length events.now ≤ 65536 }
+    requires sought { (low : ℕ → ℕ) × AreSought medium.now wanted.now low 0 [] medium.now all.old }
+    ensures ok { OnOk result ((low : ℕ → ℕ) → AreSought medium.now wanted.now low 0 [] medium.now all.old →
+        AreNumbers medium.now wanted.now low (history events.now) (chosen_from 0 all.new)) }
+    ensures err { IfErr result (λ fault. fault ≡ ImageFault.Memory) }
+{
+    let mut shown = copy_of(alloc, medium)?;
+    for event in events {
+        meet(&mut shown, wanted, all, *event);
+    }
+    Ok(())
 }
 
 /// A line before the first event.

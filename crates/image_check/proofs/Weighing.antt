@@ -1,5 +1,5 @@
 -- From a volume to its image, and from the images by their numbers to the moment.
-use Rattle.std.proofs.Common.{◌≡◌, ℕ, ◌<◌, ◌≤◌, List, [], length, take, refl, sym, ap, ◌∙◌, subst, Option, Some, None}
+use Rattle.std.proofs.Common.{◌≡◌, ℕ, ◌<◌, ◌≤◌, List, [], length, take, sym, ap, ◌∙◌, subst, Option, Some, None}
 use Rattle.std.specs.Prelude.{slice_index_or, Ok, Err}
 use Rattle.crash_model.specs.Cut.{cut_count, cuts, number_in}
 use Rattle.crash_model.specs.Image.{image}
@@ -18,6 +18,7 @@ use Rattle.image_check.specs.Images.{ArePassed, IsJudged, IsVolumeJudged, Passes
 use Rattle.image_check.specs.declared.plain.BadImage.{BadImage}
 use Rattle.image_check.specs.declared.verdict.Cause.{Cause}
 use Rattle.image_check.specs.declared.verdict.Cause.TheVariants.{Fault, Illegal}
+use Rattle.image_check.specs.declared.plain.MomentByImages.{MomentByImages}
 use Rattle.image_check.specs.declared.plain.MomentByImages.TheVariants as moments
 use Rattle.image_check.proofs.Apart.{sound_apart}
 use Rattle.image_check.proofs.EveryImage.{all_numbers}
@@ -86,35 +87,26 @@ pub fail_judged : (plan : List Operation) (medium : List (List ℕ)) (events : L
     IsMomentByImages plan medium events (moments.Fail bad.number bad.cause)
 fail_judged plan medium events steps count bad e c few h = (few_cuts steps events count e c few, h)
 
-pub none_found : (found : Option BadImage) → ((bad : BadImage) → ¬ (found ≡ Some bad)) → found ≡ None
-none_found None n = refl
-none_found (Some bad) n = absurd (n bad refl)
-
 pub too_many : (plan : List Operation) (medium : List (List ℕ)) (events : List Event) (steps : List PersistenceStep) →
     steps ≡ history events → 65536 < cut_count steps → IsMomentByImages plan medium events moments.TooMany
 too_many plan medium events steps e many = subst (λ (p : List PersistenceStep). 65536 < cut_count p) e many
 
-pub images_judged : (plan : List Operation) (medium start : List (List ℕ)) (all : List Event) (moment : ℕ) (steps : List PersistenceStep)
-    (settled : Option (List (List Entry))) (under_way : List ℕ) (found : Option BadImage) →
+pub moment_judged : (plan : List Operation) (medium start : List (List ℕ)) (all : List Event) (moment : ℕ) (steps : List PersistenceStep)
+    (settled : Option (List (List Entry))) (under_way : List ℕ) (verdict : MomentByImages) →
     start ≡ medium → steps ≡ history (take moment all) → moment ≤ length all → AreSound plan all (length all) →
     AreOutcomes plan (result_ok (volume_of medium)) (take moment all) settled under_way →
     ((es : List Event) → steps ≡ history es → AreOutcomes plan (result_ok (volume_of start)) es settled under_way → AreApart plan es →
-    AreJudged plan start es found) →
-    AreJudged plan medium (take moment all) found
-images_judged plan medium start all moment steps settled under_way found s p inside sound o h =
+    IsMomentByImages plan start es verdict) →
+    IsMomentByImages plan medium (take moment all) verdict
+moment_judged plan medium start all moment steps settled under_way verdict s p inside sound o h =
     let here : AreOutcomes plan (result_ok (volume_of start)) (take moment all) settled under_way =
     subst (λ (x : List (List ℕ)). AreOutcomes plan (result_ok (volume_of x)) (take moment all) settled under_way) (sym s) o in
-    subst (λ (x : List (List ℕ)). AreJudged plan x (take moment all) found) s (h (take moment all) p here (sound_apart plan all moment inside sound))
+    subst (λ (x : List (List ℕ)). IsMomentByImages plan x (take moment all) verdict) s (h (take moment all) p here (sound_apart plan all moment inside sound))
 
--- the same from the starting volume and the events that a moment's outcomes were made of
-pub started_judged : (plan : List Operation) (medium start : List (List ℕ)) (all events : List Event) (moment : ℕ) (steps : List PersistenceStep)
-    (first settled : Option (List (List Entry))) (under_way : List ℕ) (found : Option BadImage) →
-    start ≡ medium → steps ≡ history (take moment all) → events ≡ take moment all → first ≡ result_ok (volume_of medium) →
-    moment ≤ length all → AreSound plan all (length all) → AreOutcomes plan first events settled under_way →
-    ((es : List Event) → steps ≡ history es → AreOutcomes plan (result_ok (volume_of start)) es settled under_way → AreApart plan es →
-    AreJudged plan start es found) →
-    AreJudged plan medium (take moment all) found
-started_judged plan medium start all events moment steps first settled under_way found s p e f inside sound o h =
-    images_judged plan medium start all moment steps settled under_way found s p inside sound
-    (subst (λ (es : List Event). AreOutcomes plan (result_ok (volume_of medium)) es settled under_way) e
-    (subst (λ (x : Option (List (List Entry))). AreOutcomes plan x events settled under_way) f o)) h
+-- the outcomes of a moment, by the volume and the events that they were made of
+pub moment_outcomes : (plan : List Operation) (medium : List (List ℕ)) (all events : List Event) (moment : ℕ)
+    (first settled : Option (List (List Entry))) (under_way : List ℕ) → events ≡ take moment all → first ≡ result_ok (volume_of medium) →
+    AreOutcomes plan first events settled under_way → AreOutcomes plan (result_ok (volume_of medium)) (take moment all) settled under_way
+moment_outcomes plan medium all events moment first settled under_way e f o =
+    subst (λ (es : List Event). AreOutcomes plan (result_ok (volume_of medium)) es settled under_way) e
+    (subst (λ (x : Option (List (List Entry))). AreOutcomes plan x events settled under_way) f o)

@@ -15,7 +15,7 @@ use store_trace::{Event, Trace};
 
 /// Whether the marks of the trace fit the plan and each other. Else it answers the first event at fault by its lowest
 /// fault. It takes no memory, and looks back over the trace at each mark.
-#[tactic(auto, using(crate::proofs::Faulting::sound_more, crate::proofs::Faulting::first_fault, crate::proofs::Beginning::sound_front))]
+#[tactic(auto, using(crate::proofs::Faulting::first_fault, crate::proofs::Beginning::sound_front))]
 pub fn check_trace(plan: &Plan, trace: &Trace) -> Result<(), OpFault>
     ensures ok { OnOk result (AreSound plan.now.operations trace.now.events (length trace.now.events)) }
     ensures err { IfErr result (λ fault. IsFirstFault plan.now.operations trace.now.events fault) }
@@ -41,7 +41,6 @@ fn check_event(plan: &Plan, before: &[Event], event: Event) -> Result<(), OpFaul
     }
 }
 
-#[tactic(auto, using(crate::proofs::Planning::found_planned, crate::proofs::Planning::lost_unplanned, crate::proofs::Faulting::begin_unknown, crate::proofs::Faulting::begin_twice, crate::proofs::Faulting::begin_sharing, crate::proofs::Faulting::begin_faultless))]
 fn check_begin(plan: &Plan, before: &[Event], op: u64) -> Result<(), OpFault>
     requires sound { AreSound plan.now.operations before.now (length before.now) }
     ensures ok { OnOk result ((hart : ℕ) (fault : AFault) → ¬ HasFault plan.now.operations before.now (Event.Begin hart op) fault) }
@@ -59,7 +58,6 @@ fn check_begin(plan: &Plan, before: &[Event], op: u64) -> Result<(), OpFault>
     Ok(())
 }
 
-#[tactic(auto, using(crate::proofs::Planning::found_planned, crate::proofs::Planning::lost_unplanned, crate::proofs::Faulting::end_unknown, crate::proofs::Faulting::end_unbegun, crate::proofs::Faulting::end_ended, crate::proofs::Faulting::end_faultless))]
 fn check_end(plan: &Plan, before: &[Event], hart: u32, op: u64) -> Result<(), OpFault>
     ensures ok { OnOk result ((fault : AFault) → ¬ HasFault plan.now.operations before.now (Event.End hart op) fault) }
     ensures err { IfErr result (λ fault. IsLowestFault plan.now.operations before.now (Event.End hart op) fault) }
@@ -91,7 +89,7 @@ fn shares_pending(plan: &Plan, before: &[Event], op: u64, operation: &Operation)
 }
 
 /// Whether the event begins an operation that doesn't end in these events, and that adds to an inode of this one.
-#[tactic(auto, using(crate::proofs::Sharing::sharer_shares, crate::proofs::Sharing::shares_sharer, crate::proofs::Sharing::ended_shares_not, crate::proofs::Sharing::other_shares_not, crate::proofs::Sharing::unplanned_shares_not))]
+#[tactic(auto, using(crate::proofs::Sharing::other_shares_not))]
 fn opens_sharer(plan: &Plan, events: &[Event], event: Event, op: u64, operation: &Operation) -> bool
     requires { operation_of plan.now.operations op ≡ Some operation.now }
     ensures { IsTrue result ↔ OpensSharer plan.now.operations events.now event op }

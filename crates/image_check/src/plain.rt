@@ -10,9 +10,9 @@ ghost use Rattle.image_check.specs.Images.{IsJudged};
 ghost use Rattle.image_check.specs.OrderFaults.{AreSound};
 ghost use Rattle.image_check.specs.Verdicts.{IsRefusal};
 ghost use Rattle.nova_log.specs.Volumes.{volume_of};
-ghost use Rattle.store_trace.specs.History.{history};
+ghost use Rattle.store_trace.specs.History.{at_moment, history};
 ghost use Rattle.store_trace.specs.declared.event.Event.{Event as AnEvent};
-ghost use Rattle.std.specs.Prelude.{◌≡◌, ℕ, ◌<◌, ◌≤◌, List, length, take, IfErr, IfOk};
+ghost use Rattle.std.specs.Prelude.{◌≡◌, ◌<◌, ◌≤◌, [], List, length, take, IfErr, IfOk};
 ghost use Rattle.std.specs.Result.{result_ok};
 
 use crate::image_lines::recover_image;
@@ -98,7 +98,7 @@ pub fn check_moment_by_images(
 }
 
 /// The verdict on a moment of a trace whose marks are right, over this volume of the starting medium.
-#[tactic(auto, using(crate::proofs::Beginning::sound_first, crate::proofs::Weighing::too_many))]
+#[tactic(auto, using(crate::proofs::Beginning::sound_first))]
 fn judge_moment(
     alloc: Global,
     plan: &Plan,
@@ -115,17 +115,62 @@ fn judge_moment(
         IsMomentByImages plan.now.operations medium.now (take moment trace.now.events) verdict) }
     ensures err { IfErr result (λ fault. fault ≡ CheckFault.Memory) }
 {
-    let cuts = cuts_at(alloc, medium, trace, moment)?;
-    let Some(count) = cuts.count() else {
-        return Ok(MomentByImages::TooMany);
-    };
     let outcomes = Outcomes::after(alloc, plan, start, first_events(trace, moment))?;
-    match find_bad(alloc, plan, &cuts, &outcomes, count)? {
-        Some(bad) => Ok(MomentByImages::Fail {
-            image: bad.number,
-            cause: bad.cause,
-        }),
-        None => Ok(MomentByImages::Pass),
+    let (verdict, _images) = judge_images(alloc, plan, medium, trace, moment, &outcomes)?;
+    Ok(verdict)
+}
+
+/// The verdict on a moment whose legal volumes are made of these, and the number of its images.
+fn judge_images(
+    alloc: Global,
+    plan: &Plan,
+    medium: &Medium,
+    trace: &Trace,
+    moment: u32,
+    outcomes: &Outcomes,
+) -> Result<(MomentByImages, u32), CheckFault>
+    requires lines { HasLines medium.now trace.now.events }
+    requires there { moment ≤ length trace.now.events }
+    requires sound { AreSound plan.now.operations trace.now.events (length trace.now.events) }
+    requires outcomes { AreOutcomes plan.now.operations (result_ok (volume_of medium.now)) (take moment trace.now.events) outcomes.now.settled outcomes.now.under_way.items }
+    ensures ok { IfOk result (λ judged.
+        IsMomentByImages plan.now.operations medium.now (take moment trace.now.events) judged.0) }
+    ensures images { IfOk result (λ judged. judged.0 ≡ MomentByImages.Pass → judged.1 ≡ cut_count (at_moment trace.now.events moment)) }
+    ensures few { IfOk result (λ judged. judged.1 ≤ 65536) }
+    ensures err { IfErr result (λ fault. fault ≡ CheckFault.Memory) }
+{
+    let cuts = cuts_at(alloc, medium, trace, moment)?;
+    judge_cuts(alloc, plan, &cuts, outcomes)
+}
+
+/// The verdict on the moment that has these cuts, and their number. It is 0 where they are too many.
+fn judge_cuts(
+    alloc: Global,
+    plan: &Plan,
+    cuts: &Cuts,
+    outcomes: &Outcomes,
+) -> Result<(MomentByImages, u32), CheckFault>
+    ensures ok { IfOk result (λ judged. (events : List AnEvent) →
+        cuts.now.steps ≡ history events →
+        AreOutcomes plan.now.operations (result_ok (volume_of cuts.now.start)) events outcomes.now.settled outcomes.now.under_way.items →
+        AreApart plan.now.operations events →
+        IsMomentByImages plan.now.operations cuts.now.start events judged.0) }
+    ensures images { IfOk result (λ judged. judged.0 ≡ MomentByImages.Pass → judged.1 ≡ cut_count cuts.now.steps) }
+    ensures few { IfOk result (λ judged. judged.1 ≤ 65536) }
+    ensures err { IfErr result (λ fault. fault ≡ CheckFault.Memory) }
+{
+    let Some(count) = cuts.count() else {
+        return Ok((MomentByImages::TooMany, 0));
+    };
+    match find_bad(alloc, plan, cuts, outcomes, count)? {
+        Some(bad) => {
+            let verdict = MomentByImages::Fail {
+                image: bad.number,
+                cause: bad.cause,
+            };
+            Ok((verdict, count))
+        }
+        None => Ok((MomentByImages::Pass, count)),
     }
 }
 
@@ -208,7 +253,6 @@ pub fn check_run_by_images(
 }
 
 /// The verdict on a trace whose marks are right, over this volume of the starting medium.
-#[tactic(auto, using(crate::proofs::Weighing::too_many))]
 fn judge_run(
     alloc: Global,
     plan: &Plan,
@@ -222,23 +266,40 @@ fn judge_run(
     ensures ok { IfOk result (λ verdict. IsRunByImages plan.now.operations medium.now trace.now.events verdict) }
     ensures err { IfErr result (λ fault. fault ≡ CheckFault.Memory) }
 {
-    let moments = trace.events().len() as u32 + 1;
     let mut outcomes = Outcomes::new(alloc, start);
+    judge_moments(alloc, plan, medium, trace, &mut outcomes)
+}
+
+/// The verdict on a trace whose marks are right; the outcomes are those of no event.
+fn judge_moments(
+    alloc: Global,
+    plan: &Plan,
+    medium: &Medium,
+    trace: &Trace,
+    outcomes: &mut Outcomes,
+) -> Result<RunByImages, CheckFault>
+    requires lines { HasLines medium.now trace.now.events }
+    requires sound { AreSound plan.now.operations trace.now.events (length trace.now.events) }
+    requires outcomes { AreOutcomes plan.now.operations (result_ok (volume_of medium.now)) [] outcomes.old.settled outcomes.old.under_way.items }
+    ensures ok { IfOk result (λ verdict. IsRunByImages plan.now.operations medium.now trace.now.events verdict) }
+    ensures err { IfErr result (λ fault. fault ≡ CheckFault.Memory) }
+{
+    let moments = trace.events().len() as u32 + 1;
     let mut images = 0;
     for moment in 0..moments {
-        let cuts = cuts_at(alloc, medium, trace, moment)?;
-        let Some(count) = cuts.count() else {
-            return Ok(RunByImages::TooMany { moment });
-        };
-        if let Some(bad) = find_bad(alloc, plan, &cuts, &outcomes, count)? {
-            return Ok(RunByImages::Fail {
-                moment,
-                image: bad.number,
-                cause: bad.cause,
-            });
+        let (verdict, count) = judge_images(alloc, plan, medium, trace, moment, outcomes)?;
+        match verdict {
+            MomentByImages::Pass => images += u64::from(count),
+            MomentByImages::Fail { image, cause } => {
+                return Ok(RunByImages::Fail {
+                    moment,
+                    image,
+                    cause,
+                });
+            }
+            MomentByImages::TooMany => return Ok(RunByImages::TooMany { moment }),
         }
-        images += u64::from(count);
-        note_next(&mut outcomes, plan, trace, moment)?;
+        note_next(outcomes, plan, trace, moment)?;
     }
     Ok(RunByImages::Pass {
         moments: u64::from(moments),

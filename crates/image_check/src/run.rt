@@ -77,17 +77,29 @@ fn judge_run(
     ensures err { IfErr result (λ fault. fault ≡ CheckFault.Memory) }
 {
     let index = TraceIndex::new(alloc, medium, trace)?;
-    let mut opener = Opener::new(alloc, index.lines())?;
     let mut outcomes = Outcomes::new(alloc, start);
-    judge_moments(
-        alloc,
-        plan,
-        medium,
-        trace,
-        &index,
-        &mut opener,
-        &mut outcomes,
-    )
+    judge_indexed(alloc, plan, medium, trace, &index, &mut outcomes)
+}
+
+/// The verdict on a trace by its index; the outcomes are those of no event.
+fn judge_indexed(
+    alloc: Global,
+    plan: &Plan,
+    medium: &Medium,
+    trace: &Trace,
+    index: &TraceIndex,
+    outcomes: &mut Outcomes,
+) -> Result<Verdict, CheckFault>
+    requires lines { HasLines medium.now trace.now.events }
+    requires sound { AreSound plan.now.operations trace.now.events (length trace.now.events) }
+    requires start { index.now.start ≡ medium.now }
+    requires events { index.now.events ≡ trace.now.events }
+    requires outcomes { AreOutcomes plan.now.operations (result_ok (volume_of medium.now)) [] outcomes.old.settled outcomes.old.under_way.items }
+    ensures ok { IfOk result (λ verdict. IsVerdict plan.now.operations medium.now trace.now.events verdict) }
+    ensures err { IfErr result (λ fault. fault ≡ CheckFault.Memory) }
+{
+    let mut opener = Opener::new(alloc, index.lines())?;
+    judge_moments(alloc, plan, medium, trace, index, &mut opener, outcomes)
 }
 
 /// The verdict on a trace by its index, of which no branch was opened before; the outcomes are those of no event.

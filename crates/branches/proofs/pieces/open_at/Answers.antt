@@ -1,4 +1,5 @@
-use Rattle.std.proofs.Common.{◌≡◌, ◌∙◌, ◌+◌, ◌∷◌, [], ◌++◌, ◌||◌, ℕ, List, length, ap, sym, subst}
+use Rattle.std.proofs.Common.{◌≡◌, ◌∙◌, ◌+◌, ◌<◌, ◌∷◌, [], ◌++◌, ◌||◌, ℕ, List, length, ap, sym, subst}
+use Rattle.std.specs.List.{AllByRecursion}
 use Rattle.branches.specs.Numbers.{has, is_flagged}
 use Rattle.branches.specs.Openings.{Node}
 use Rattle.branches.specs.Pieces.{AreRuns}
@@ -30,11 +31,27 @@ returns-clause-piece g c =
     c.in_ok-judged.judged p.cause c.in_ok-piece.field-0 p.findings.asked new.asked new.asked old.done (v ∷ [])
     (subst (λ (n : ℕ). AreRuns (r.asks s) (r.judged s) (r.low s) (r.high s) (r.lines s) n queue one.numbers c.in_ok-judged.judged new.asked one.found.items (v ∷ [])) place runs)
     less (flagged_still p.findings.asked new.asked one.asked.items flags) (λ l t. t) old.runs in
-    let items = c.in_ok-piece.ensures.found ∙ ap (λ (es : List Entry). p.findings.found.items ++ es) c.deref-2.ensures.value in
+    let items : new.found.items ≡ p.findings.found.items ++ one.found.items = subst (λ (es : List Entry). new.found.items ≡ p.findings.found.items ++ es) c.deref-2.ensures.value c.in_ok-piece.ensures.found in
     record {
       done = old.done ++ v ∷ [];
       count = count_last old.done v ∙ ap (λ (n : ℕ). n + 1) old.count;
       least_size = c.add.ensures.least_size ∙ old.least_size;
       asked_size = c.add.ensures.asked_size ∙ old.asked_size;
-      runs = subst (λ (es : List Entry). AreRuns (r.asks s) (r.judged s) (r.low s) (r.high s) (r.lines s) p.first queue new.least c.in_ok-piece.field-0 new.asked es (old.done ++ v ∷ [])) (sym items) all;
+      runs = subst (λ (es : List Entry). AreRuns (r.asks s) (r.judged s) (r.low s) (r.high s) (r.lines s) p.first queue new.least c.in_ok-piece.field-0 new.asked es (old.done ++ v ∷ [])) (sym {A = List Entry} items) all;
     }
+
+pub open-requires : goal.open-requires
+open-requires g c =
+    let cuts = c.requires.cuts in
+    (c.type_bounds.send-R-Cause, (c.requires.size, (c.requires.there, (cuts.tree, (cuts.raised, cuts.within c.args.place c.requires.there)))))
+
+pub add-requires-clause-size : goal.add-requires-clause-size
+add-requires-clause-size g c = c.open.ensures.size ∙ (c.requires.size ∙ sym c.requires.piece.least_size)
+
+pub add-requires-clause-below : goal.add-requires-clause-below
+add-requires-clause-below g c =
+    subst (λ (ls : List ℕ). AllByRecursion (λ l. l < length c.args.piece.now.findings.asked) ls) (sym c.deref.ensures.value)
+    (subst (λ (n : ℕ). AllByRecursion (λ l. l < n) c.open.new.self.asked.items) (sym c.requires.piece.asked_size) c.in_ok-judged.ensures.below)
+
+pub invariant_of-run : goal.invariant_of-run
+invariant_of-run g c = record { same_size = c.open.new.self.same_size ∙ sym c.add.ensures.cut_size }

@@ -1,6 +1,7 @@
 use Rattle.std.proofs.Common.{arith}
-use Rattle.std.proofs.lemmas.Result.{err_from_is_err_and}
-use Rattle.bus.proofs.Comparing.{is_account, listed_none, not_whole_fails, unlisted_fails, zeros_are}
+use Rattle.std.proofs.lemmas.Result.{IfErr-weaker, err_from_is_err_and}
+use Rattle.bus.proofs.Foreign.{memory_is}
+use Rattle.bus.proofs.Comparing.{both_ok, is_account, listed_none, not_whole_fails, unlisted_fails, zeros_are}
 use Rattle.bus.proofs.listing.account_of.Goals as goal
 
 pub list_all-requires-clause-start : goal.list_all-requires-clause-start
@@ -20,10 +21,15 @@ returns-in_err-end_seats-clause-err c =
     c.history.result.now _ c.requires.numbered c.history.ensures.value c.in_ok-list_all.ensures.ok
     (rw (c.text_bytes.ensures.text, c.program.ensures) at c.in_err-end_seats.ensures.err))
 
-pub returns-in-Ok-clause-ok : goal.returns-in-Ok-clause-ok
-returns-in-Ok-clause-ok c =
+pub returns-clause-ok : goal.returns-clause-ok
+returns-clause-ok c =
     let most = rw c.harts.ensures.value at c.harts.ensures.limit in
-    is_account c.args.core.now c.args.seats.now c.list_all.new.counts c.list_all.new.runs c.end_seats.new.runs c.in-Ok.account.0
-    c.in-Ok.account.1.items c.history.result.now c.requires.count most c.requires.numbered
+    both_ok c.finish.result _ _ _
+    (λ account schedule numbers. is_account c.args.core.now c.args.seats.now c.list_all.new.counts c.list_all.new.runs c.end_seats.new.runs account.0
+    account.1.items c.history.result.now c.requires.count most c.requires.numbered
     (omega (arith, c.requires.count, most, c.list_all.auto.counts)) c.history.ensures.value c.in_ok-list_all.ensures.ok
-    (rw (c.text_bytes.ensures.text, c.program.ensures) at c.in_ok-end_seats.ensures.ok) c.in-Ok.ensures.schedule c.in-Ok.ensures.numbers
+    (rw (c.text_bytes.ensures.text, c.program.ensures) at c.in_ok-end_seats.ensures.ok) schedule numbers)
+    c.finish.ensures.schedule c.finish.ensures.numbers
+
+pub returns-clause-err : goal.returns-clause-err
+returns-clause-err c = IfErr-weaker c.finish.result _ _ (λ fault is. memory_is _ fault is) c.finish.ensures.err

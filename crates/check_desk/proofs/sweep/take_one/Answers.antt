@@ -1,10 +1,35 @@
-use Rattle.std.proofs.Common.{rules, ◌≡◌, ◌∙◌, ℕ, [], ◌∷◌, ◌++◌, MatchBool, ap, sym, subst, refl}
+use Rattle.std.proofs.Common.{rules, ◌≡◌, ◌<◌, ◌≤◌, ◌∙◌, ℕ, List, [], ◌∷◌, ◌++◌, MatchBool, ap, length, length-append, sym, subst, refl, arith}
 use Rattle.std.specs.List.{Contains}
 use Rattle.std.proofs.lemmas.List.Elements.{Contains-push}
 use Rattle.check_desk.specs.Desks.{last_moment}
 use Rattle.check_desk.specs.Sweeps.{better}
 use Rattle.check_desk.proofs.Sweeping.{tally_at, tally_none, tally_found, tally_skipped, tally_passed, tally_bad, seen_found}
 use Rattle.check_desk.proofs.sweep.take_one.Goals as goal
+
+-- one moment more was claimed
+more_of : (old new : List ℕ) (moment n : ℕ) → new ≡ old ++ moment ∷ [] → length old ≤ moment → moment < n → (length old < length new) × (length new ≤ n)
+more_of old new moment n is from inside =
+    let l = ap length is in
+    let a = length-append old (moment ∷ []) in
+    (omega (arith, l, a), omega (arith, l, a, from, inside))
+
+pub returns-in_default-clause-more : goal.returns-in_default-clause-more
+returns-in_default-clause-more g c = (c.in_default.ensures.ended, c.in_default.ensures.none)
+
+pub returns-then-is_below-clause-more : goal.returns-then-is_below-clause-more
+returns-then-is_below-clause-more g c =
+    let some = c.in-Some.ensures.some in
+    more_of c.args.seat.now.claimed c.claim.new.seat.claimed c.in-Some.moment c.args.desk.now.name.moments some.3 some.1 some.2
+
+pub returns-in-Passed-clause-more : goal.returns-in-Passed-clause-more
+returns-in-Passed-clause-more g c =
+    let some = c.in-Some.ensures.some in
+    more_of c.args.seat.now.claimed c.claim.new.seat.claimed c.in-Some.moment c.args.desk.now.name.moments some.3 some.1 some.2
+
+pub returns-in-Bad-clause-more : goal.returns-in-Bad-clause-more
+returns-in-Bad-clause-more g c =
+    let some = c.in-Some.ensures.some in
+    more_of c.args.seat.now.claimed c.report.new.seat.claimed c.in-Some.moment c.args.desk.now.name.moments (c.report.ensures.same.1 ∙ some.3) some.1 some.2
 
 pub returns-in_default-clause-best : goal.returns-in_default-clause-best
 returns-in_default-clause-best g c =

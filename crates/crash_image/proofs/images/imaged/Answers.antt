@@ -1,16 +1,18 @@
-use Rattle.std.proofs.Common.{◌≡◌, ◌++◌, List, length, take, drop, sym, subst, arith}
-use Rattle.std.proofs.lemmas.Grind.{common_steps}
+use Rattle.std.proofs.Common.{◌≡◌, ◌∙◌, ◌++◌, ℕ, List, ap, length, take, drop, sym, subst, arith}
+use Rattle.std.proofs.lemmas.List.{take_all}
+use Rattle.crash_image.proofs.Slices.{written}
 use Rattle.crash_model.specs.Cut.{number_in}
 use Rattle.crash_model.specs.declared.step.PersistenceStep.{PersistenceStep}
 use Rattle.crash_image.specs.Imaging.{IsImaged}
-use Rattle.crash_image.proofs.Imaged.{imaged_all}
+use Rattle.crash_image.proofs.Imaged.{imaged_all, imaged_none}
 use Rattle.crash_image.proofs.Stored.{history_more}
 use Rattle.crash_image.proofs.images.imaged.Goals as goal
 
 pub loop-event-preserved : goal.loop-event-preserved
 loop-event-preserved c =
     let same : take c.loop-event.left.len (c.make.new.left ++ drop (length c.make.new.left) c.loop-event.left.items) ≡ c.make.new.left =
-    grind (arith, common_steps, c.loop-event.left.ok, c.deref_mut.ensures.len, c.deref_mut.ensures.value, c.make.auto.left) in
+    written c.loop-event.left.items c.make.new.left c.loop-event.left.len c.loop-event.left.ok.0
+    (c.make.auto.left ∙ ap (λ (ns : List ℕ). length ns) c.deref_mut.ensures.value) in
     rw same (
       subst (λ (p : List PersistenceStep). IsImaged c.args.medium.now (number_in c.args.entries.now) p c.make.new.left c.make.new.medium)
           (sym (history_more c.args.events.now c.loop-event.event-index _ c.loop-event-test.true))
@@ -20,5 +22,20 @@ loop-event-preserved c =
 
 pub returns-clause-ok : goal.returns-clause-ok
 returns-clause-ok c =
-    let all : take c.loop-event.event-index c.args.events.now ≡ c.args.events.now = grind (arith, common_steps, c.loop-event-test.false) in
+    let all : take c.loop-event.event-index c.args.events.now ≡ c.args.events.now = take_all c.loop-event.event-index c.args.events.now c.loop-event-test.false in
     rw all at (imaged_all _ _ _ _ _ c.loop-event.invariant.0)
+
+pub loop-event-init : goal.loop-event-init
+loop-event-init c = (
+  rw c.in_ok-made.ensures.same
+      (imaged_none c.args.medium.now (number_in c.args.entries.now) c.in_ok-left.left.items (c.in_ok-left.ensures.len ∙ c.lines.ensures.count)
+      (λ l d h. c.in_ok-left.ensures.each l d (omega (arith, h, c.lines.ensures.count)))),
+  c.in_ok-made.ensures.whole,
+)
+
+pub make-requires-clause-named : goal.make-requires-clause-named
+make-requires-clause-named c = rw c.loop-event.invariant.0.size (c.requires.named c.loop-event.event-index _ c.loop-event-test.true)
+
+pub make-requires-clause-counts : goal.make-requires-clause-counts
+make-requires-clause-counts c =
+    ap (λ (ns : List ℕ). length ns) c.deref_mut.ensures.value ∙ c.loop-event.invariant.0.counts ∙ sym c.loop-event.invariant.0.size

@@ -1,26 +1,20 @@
-use Rattle.std.proofs.Common.{◌≡◌, ◌+◌, ◌++◌, List, length, take, drop, sym, subst, ◌∙◌, ap, arith}
-use Rattle.std.proofs.lemmas.Grind.{common_steps}
+use Rattle.std.proofs.Common.{◌≡◌, ◌∙◌, List, length, ap, arith}
 use Rattle.crash_model.specs.Cut.{number_in}
-use Rattle.crash_model.specs.declared.step.PersistenceStep.{PersistenceStep}
-use Rattle.crash_image.specs.Sought.{AreSought, chosen_from}
 use Rattle.crash_image.specs.declared.search.Sought.{Sought}
-use Rattle.crash_image.proofs.Least.{found_numbers}
-use Rattle.crash_image.proofs.Stored.{below_history, history_more}
+use Rattle.crash_image.proofs.Slices.{written}
 use Rattle.crash_image.proofs.search.least.Goals as goal
 
-pub loop-event-preserved : goal.loop-event-preserved
-loop-event-preserved c =
-    let same : take c.loop-event.all.len (c.meet.new.all ++ drop (length c.meet.new.all) c.loop-event.all.items) ≡ c.meet.new.all =
-    grind (arith, common_steps, c.loop-event.all.ok, c.deref_mut.ensures.len, c.deref_mut.ensures.value, c.meet.auto.all) in
-    rw same (
-      subst (λ (p : List PersistenceStep). AreSought c.args.medium.now c.args.wanted.now (number_in c.args.floors.now) (c.loop-event.event-index + 1) p c.meet.new.shown c.meet.new.all)
-          (sym (history_more c.args.events.now c.loop-event.event-index _ c.loop-event-test.true))
-          (c.meet.ensures.sought _ _ _ _ (rw c.deref_mut.ensures.value c.loop-event.invariant.0)),
-      c.meet.ensures.whole,
-    )
+pub look_through-requires-clause-sought : goal.look_through-requires-clause-sought
+look_through-requires-clause-sought c = (number_in c.args.floors.now, rw c.deref_mut.ensures.value c.in_ok-all.ensures.sought)
+
+pub chosen-requires : goal.chosen-requires
+chosen-requires c = omega (arith, c.deref.ensures.len, c.in_ok-all.all.ok.0, c.in_ok-all.ensures.few)
 
 pub returns-clause-ok : goal.returns-clause-ok
 returns-clause-ok c =
-    let all : take c.loop-event.event-index c.args.events.now ≡ c.args.events.now = grind (arith, common_steps, c.loop-event-test.false) in
-    found_numbers _ _ _ _ _ _ _ _ (below_history _ c.args.events.now c.requires.named) (rw all at c.loop-event.invariant.0)
-    (ap (λ (ts : List Sought). chosen_from 0 ts) (sym c.deref-2.ensures.value) ∙ sym c.in_ok-found.ensures)
+    let same : c.deref.result.now ≡ c.look_through.new.all =
+    c.deref.ensures.value
+    ∙ written c.in_ok-all.all.items c.look_through.new.all c.in_ok-all.all.len c.in_ok-all.all.ok.0
+    (c.look_through.auto.all ∙ ap (λ (ts : List Sought). length ts) c.deref_mut.ensures.value) in
+    rw (c.in_ok-found.ensures, same)
+    (c.in_ok-look_through.ensures.ok (number_in c.args.floors.now) (rw c.deref_mut.ensures.value c.in_ok-all.ensures.sought))

@@ -1,4 +1,4 @@
-use Rattle.std.proofs.Common.{◌≡◌, ◌<◌, List, refl, sym, subst, arith}
+use Rattle.std.proofs.Common.{◌≡◌, ◌<◌, List, ap, length, refl, subst, arith}
 use Rattle.crash_model.specs.Cut.{cut_count}
 use Rattle.store_trace.specs.History.{at_moment}
 use Rattle.store_trace.specs.declared.event.Event.{Event}
@@ -40,3 +40,16 @@ loop-moment-preserved c = elim c.if-first-moment.branch [
     few = λ m from h. c.loop-moment.invariant.few m from (omega (arith, from, h, w.if-first-moment.false));
   }
 ]
+
+pub next-requires-clause-events : goal.next-requires-clause-events
+next-requires-clause-events c = rw c.events-events.ensures.value c.events-events.ensures.each
+
+pub next-requires-clause-few : goal.next-requires-clause-few
+next-requires-clause-few c = rw c.events-events.ensures.value c.events-events.ensures.limit
+
+pub next-requires-clause-there : goal.next-requires-clause-there
+next-requires-clause-there c =
+    omega (arith, ap (λ (es : List Event). length es) c.events-events.ensures.value, c.requires, c.loop-moment-test.true)
+
+pub next-requires-clause-free : goal.next-requires-clause-free
+next-requires-clause-free c = c.loop-moment.invariant.free

@@ -1,4 +1,4 @@
-use Rattle.crash_image.proofs.Totaling.{free_end, free_few, free_more}
+use Rattle.crash_image.proofs.Totaling.{free_few}
 use Rattle.crash_image.proofs.totals.next.Goals as goal
 
 pub take-requires-clause-few : goal.take-requires-clause-few

@@ -1,5 +1,5 @@
-use Rattle.std.proofs.Common.{◌≡◌, ◌∙◌, ◌++◌, List, map, take, drop, length, ap, arith}
-use Rattle.std.proofs.lemmas.Grind.{common_steps}
+use Rattle.std.proofs.Common.{◌≡◌, ◌∙◌, ◌++◌, List, map, take, drop, length, ap}
+use Rattle.crash_image.proofs.Slices.{written}
 use Rattle.crash_image.proofs.Totaling.{after_clean, after_fence, after_store}
 use Rattle.crash_image.specs.Totals.{cleaned_line, fenced_line, still_free, with_store}
 use Rattle.crash_image.specs.declared.totals.FreeLine.{FreeLine}
@@ -15,7 +15,8 @@ returns-in_ok-store-in-Store c = λ p e.
 pub returns-in-Clean : goal.returns-in-Clean
 returns-in-Clean c = λ p e.
     let same : take c.args.free.now.len (c.clean.new.free ++ drop (length c.clean.new.free) c.args.free.now.items) ≡ c.clean.new.free =
-    grind (arith, common_steps, c.args.free.now.ok, c.deref_mut.ensures.len, c.deref_mut.ensures.value, c.clean.auto.free) in
+    written c.args.free.now.items c.clean.new.free c.args.free.now.len c.args.free.now.ok.0
+    (c.clean.auto.free ∙ ap (λ (fs : List FreeLine). length fs) c.deref_mut.ensures.value) in
     rw c.in-Clean.is (
     same ∙ c.clean.ensures
     ∙ ap (λ (fs : List FreeLine). map (cleaned_line c.in-Clean.hart c.in-Clean.line) fs) (c.deref_mut.ensures.value ∙ e)

@@ -1,30 +1,16 @@
-use Rattle.std.proofs.Common.{◌∙◌, ℕ, None, length, ap, subst, sym, arith}
-use Rattle.std.proofs.lemmas.Grind.{common_steps}
-use Rattle.branches.specs.Openings.{IsAt}
-use Rattle.branches.proofs.Opening.{at_first, at_over}
+use Rattle.std.proofs.Common.{◌∙◌, sym}
 use Rattle.branches.proofs.opener.Opener.open_shared.Goals as goal
 
-pub loop-self-init : goal.loop-self-init
-loop-self-init g c =
-    let r = g.R.Recovery in
-    let s = c.args.recovery.now in
-    let laws = g.met.R.Recovery g.world.𝓛 g.world.𝓜 g.world.𝓡 ((λ s x. x), (λ x. x), (λ x. x), λ x. x) in
-    let p = c.begin.new.self in
-    let e = c.in_ok-begin.ensures in
-    let first = at_first (r.asks s) (r.judged s) (r.low s) (r.high s) (r.lines s) p.findings.found.items p.findings.least p.findings.asked (laws.ordered s) e.queue in
-    let size = c.begin.ensures.asked in (
-      subst (λ (n : ℕ). IsAt (r.asks s) (r.judged s) (r.low s) (r.high s) (r.lines s) n p.findings.found.items p.findings.least None p.findings.asked) (sym e.opened) first,
-      grind (arith, common_steps, e.queue, c.requires.some),
-      size ∙ ap length c.self.view_is,
-      c.self.invariant.0 ∙ sym size,
-      ap length c.begin.ensures.least ∙ (c.self.invariant.1 ∙ sym size),
+pub invariant_of-self : goal.invariant_of-self
+invariant_of-self g c =
+    let e = c.open_all_shared.ensures in (
+      e.run_size ∙ (c.self.invariant.0 ∙ sym e.size),
+      e.least_size ∙ (c.self.invariant.1 ∙ sym e.size),
     )
 
-pub returns-then-is_over-clause-over : goal.returns-then-is_over-clause-over
-returns-then-is_over-clause-over g c =
-    let r = g.R.Recovery in
-    let s = c.args.recovery.now in
-    let laws = g.met.R.Recovery g.world.𝓛 g.world.𝓜 g.world.𝓡 ((λ s x. x), (λ x. x), (λ x. x), λ x. x) in
-    let p = c.open_many.new.self in
-    at_over (r.asks s) (r.judged s) (r.low s) (r.high s) (r.lines s) p.opened c.args.limit p.findings.found.items p.findings.least c.in_ok-least-2.least p.findings.asked
-    (laws.adaptive s) (c.is_over.ensures.0 c.if-is_over.true) c.in_ok-least-2.ensures.at
+pub invariant_of-self-2 : goal.invariant_of-self-2
+invariant_of-self-2 g c =
+    let e = c.open_all_shared.ensures in (
+      e.run_size ∙ (c.self.invariant.0 ∙ sym e.size),
+      e.least_size ∙ (c.self.invariant.1 ∙ sym e.size),
+    )

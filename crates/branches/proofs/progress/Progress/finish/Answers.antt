@@ -1,9 +1,26 @@
-use Rattle.std.proofs.Common.{◌∙◌, ℕ, ap, subst, sym, List, Option, length}
+use Rattle.std.proofs.Common.{◌≡◌, ◌↔◌, ◌<◌, ◌≤◌, ◌∙◌, Bool, false, ℕ, ap, subst, sym, inl, inr, true≢false, List, Option, length}
+use Rattle.std.proofs.lemmas.Bool.{cases_lt}
+use Rattle.std.specs.Prelude.{IsTrue}
 use Rattle.branches.specs.Branches.{IsLeastBad}
 use Rattle.branches.specs.Numbers.{number_over}
 use Rattle.branches.specs.Openings.{IsAt}
-use Rattle.branches.proofs.Opening.{at_asked, at_bad, at_few, at_pass}
+use Rattle.branches.proofs.Opening.{at_asked, at_bad, at_few, at_over, at_pass}
 use Rattle.branches.proofs.progress.Progress.finish.Goals as goal
+
+-- there are not over so many
+few_of : {over : Bool} {limit count : ℕ} → IsTrue over ↔ (limit < count) → over ≡ false → count ≤ limit
+few_of {over} {limit} {count} e none = elim (cases_lt limit count) [
+  | inl more ↦ absurd (true≢false (sym (e.1 more) ∙ none))
+  | inr few ↦ few
+]
+
+pub returns-then-is_over-clause-over : goal.returns-then-is_over-clause-over
+returns-then-is_over-clause-over g c =
+    let r = g.R.Recovery in
+    let s = c.args.recovery.now in
+    let p = c.args.self.now in
+    at_over (r.asks s) (r.judged s) (r.low s) (r.high s) (r.lines s) p.opened c.args.limit p.findings.found.items p.findings.least c.args.least p.findings.asked
+    (g.met.R.Recovery.adaptive s) (c.is_over.ensures.0 c.if-is_over.true) c.requires.at
 
 pub returns-in_ok-to_vec-in-Some-clause-few : goal.returns-in_ok-to_vec-in-Some-clause-few
 returns-in_ok-to_vec-in-Some-clause-few g c =
@@ -11,7 +28,7 @@ returns-in_ok-to_vec-in-Some-clause-few g c =
     let s = c.args.recovery.now in
     let p = c.args.self.now in
     at_few (r.asks s) (r.judged s) (r.low s) (r.high s) (r.lines s) p.opened c.args.limit p.findings.found.items p.findings.least c.args.least p.findings.asked
-    (g.met.R.Recovery.adaptive s) (g.met.R.Recovery.shared s) c.requires.whole c.requires.few c.requires.at
+    (g.met.R.Recovery.adaptive s) (g.met.R.Recovery.shared s) (c.requires.whole (few_of c.is_over.ensures c.if-is_over.false)) (few_of c.is_over.ensures c.if-is_over.false) c.requires.at
 
 pub returns-in_ok-to_vec-in-Some-clause-bad : goal.returns-in_ok-to_vec-in-Some-clause-bad
 returns-in_ok-to_vec-in-Some-clause-bad g c =
@@ -21,7 +38,7 @@ returns-in_ok-to_vec-in-Some-clause-bad g c =
     let some = subst (λ (x : Option g.row.R-Cause.Denot). IsAt (r.asks s) (r.judged s) (r.low s) (r.high s) (r.lines s) p.opened p.findings.found.items p.findings.least x p.findings.asked) c.in-Some.is c.requires.at in
     let e = c.in_ok-to_vec-in-Some.ensures.items_if_clones_equal (λ x y same. same) ∙ c.as_slice.ensures in
     let bad = at_bad (r.asks s) (r.judged s) (r.low s) (r.high s) (r.lines s) p.opened p.findings.found.items p.findings.least c.in-Some.cause p.findings.asked
-    (g.met.R.Recovery.branchwise s) c.requires.whole some in (
+    (g.met.R.Recovery.branchwise s) (c.requires.whole (few_of c.is_over.ensures c.if-is_over.false)) some in (
       subst (λ (numbers : List ℕ). IsLeastBad (r.low s) (r.high s) (r.judged s) (number_over (r.low s) numbers) c.in-Some.cause) (sym e) bad,
       ap (λ (numbers : List ℕ). length numbers) e ∙ c.requires.least_size,
     )
@@ -32,7 +49,7 @@ returns-in_ok-to_vec-in-Some-clause-asked g c =
     let s = c.args.recovery.now in
     let p = c.args.self.now in
     at_asked (r.asks s) (r.judged s) (r.low s) (r.high s) (r.lines s) p.opened p.findings.found.items p.findings.least c.args.least p.findings.asked
-    (g.met.R.Recovery.adaptive s) c.requires.whole c.requires.at
+    (g.met.R.Recovery.adaptive s) (c.requires.whole (few_of c.is_over.ensures c.if-is_over.false)) c.requires.at
 
 pub returns-in-None-clause-few : goal.returns-in-None-clause-few
 returns-in-None-clause-few g c =
@@ -40,7 +57,7 @@ returns-in-None-clause-few g c =
     let s = c.args.recovery.now in
     let p = c.args.self.now in
     at_few (r.asks s) (r.judged s) (r.low s) (r.high s) (r.lines s) p.opened c.args.limit p.findings.found.items p.findings.least c.args.least p.findings.asked
-    (g.met.R.Recovery.adaptive s) (g.met.R.Recovery.shared s) c.requires.whole c.requires.few c.requires.at
+    (g.met.R.Recovery.adaptive s) (g.met.R.Recovery.shared s) (c.requires.whole (few_of c.is_over.ensures c.if-is_over.false)) (few_of c.is_over.ensures c.if-is_over.false) c.requires.at
 
 pub returns-in-None-clause-pass : goal.returns-in-None-clause-pass
 returns-in-None-clause-pass g c =
@@ -48,7 +65,7 @@ returns-in-None-clause-pass g c =
     let s = c.args.recovery.now in
     let p = c.args.self.now in
     let none = subst (λ (x : Option g.row.R-Cause.Denot). IsAt (r.asks s) (r.judged s) (r.low s) (r.high s) (r.lines s) p.opened p.findings.found.items p.findings.least x p.findings.asked) c.in-None.is c.requires.at in
-    at_pass (r.asks s) (r.judged s) (r.low s) (r.high s) (r.lines s) p.opened p.findings.found.items p.findings.least p.findings.asked (g.met.R.Recovery.branchwise s) c.requires.whole none
+    at_pass (r.asks s) (r.judged s) (r.low s) (r.high s) (r.lines s) p.opened p.findings.found.items p.findings.least p.findings.asked (g.met.R.Recovery.branchwise s) (c.requires.whole (few_of c.is_over.ensures c.if-is_over.false)) none
 
 pub returns-in-None-clause-asked : goal.returns-in-None-clause-asked
 returns-in-None-clause-asked g c =
@@ -56,4 +73,4 @@ returns-in-None-clause-asked g c =
     let s = c.args.recovery.now in
     let p = c.args.self.now in
     at_asked (r.asks s) (r.judged s) (r.low s) (r.high s) (r.lines s) p.opened p.findings.found.items p.findings.least c.args.least p.findings.asked
-    (g.met.R.Recovery.adaptive s) c.requires.whole c.requires.at
+    (g.met.R.Recovery.adaptive s) (c.requires.whole (few_of c.is_over.ensures c.if-is_over.false)) c.requires.at

@@ -1,4 +1,5 @@
-use Rattle.std.proofs.Common.{◌≡◌, ◌∙◌, ◌+◌, ◌∷◌, [], ◌++◌, ◌||◌, ℕ, List, ap, sym, subst}
+use Rattle.std.proofs.Common.{◌≡◌, ◌∙◌, ◌+◌, ◌<◌, ◌∷◌, [], ◌++◌, ◌||◌, ℕ, List, length, sym, subst}
+use Rattle.std.specs.List.{AllByRecursion}
 use Rattle.branches.specs.Numbers.{has, is_flagged}
 use Rattle.branches.specs.Openings.{IsAt, IsRun}
 use Rattle.branches.specs.declared.queue.Entry.{Entry}
@@ -7,14 +8,26 @@ use Rattle.branches.proofs.Nodes.{node}
 use Rattle.branches.specs.Queue.{cut_at}
 use Rattle.branches.proofs.progress.Progress.open_next.Goals as goal
 
-pub open-requires-clause-within : goal.open-requires-clause-within
-open-requires-clause-within g c κs within =
+pub open-requires : goal.open-requires
+open-requires g c =
     let r = g.R.Recovery in
     let s = c.args.recovery.now in
     let p = c.args.self.now in
-    rw c.deref.ensures.value
-    (at_within (r.asks s) (r.judged s) (r.low s) (r.high s) (r.lines s) p.opened p.findings.found.items p.findings.least c.args.least p.findings.asked
-    (g.met.R.Recovery.adaptive s) c.requires.there c.requires.at)
+    let nodes = c.requires.at.opening.nodes in
+    let within = at_within (r.asks s) (r.judged s) (r.low s) (r.high s) (r.lines s) p.opened p.findings.found.items p.findings.least c.args.least p.findings.asked
+    (g.met.R.Recovery.adaptive s) c.requires.there c.requires.at in
+    rw c.deref.ensures.value (c.type_bounds.send-R-Cause, (c.requires.run_size, (c.requires.there, (nodes.tree, (nodes.raised, within)))))
+
+pub add-requires-clause-size : goal.add-requires-clause-size
+add-requires-clause-size g c = c.open.ensures.size ∙ (c.requires.run_size ∙ sym c.requires.least_size)
+
+pub add-requires-clause-below : goal.add-requires-clause-below
+add-requires-clause-below g c =
+    subst (λ (ls : List ℕ). AllByRecursion (λ l. l < length c.args.self.now.findings.asked) ls) (sym c.deref-2.ensures.value)
+    (subst (λ (n : ℕ). AllByRecursion (λ l. l < n) c.open.new.self.asked.items) (sym c.requires.size) c.in_ok-judged.ensures.below)
+
+pub invariant_of-run : goal.invariant_of-run
+invariant_of-run g c = record { same_size = c.open.new.self.same_size ∙ sym c.add.ensures.cut_size }
 
 pub returns-clause-at : goal.returns-clause-at
 returns-clause-at g c =
@@ -38,5 +51,5 @@ returns-clause-at g c =
     let next = at_many (r.asks s) (r.judged s) (r.low s) (r.high s) (r.lines s) p.opened queue one.found.items one.numbers p.findings.least new.least
     c.in_ok-judged.judged c.args.least c.in_ok-kept.kept p.findings.asked new.asked new.asked (node (cut_at (r.low s) queue p.opened) one.asked.items ∷ [])
     (g.met.R.Recovery.adaptive s) runs less (flagged_still p.findings.asked new.asked one.asked.items flags) (λ l t. t) c.requires.at in
-    let items = c.in_ok-kept.ensures.found ∙ ap (λ (es : List Entry). queue ++ es) c.deref-3.ensures.value in
-    subst (λ (q : List Entry). IsAt (r.asks s) (r.judged s) (r.low s) (r.high s) (r.lines s) (p.opened + 1) q new.least c.in_ok-kept.kept new.asked) (sym items) next
+    let items : new.found.items ≡ queue ++ one.found.items = subst (λ (es : List Entry). new.found.items ≡ queue ++ es) c.deref-3.ensures.value c.in_ok-kept.ensures.found in
+    subst (λ (q : List Entry). IsAt (r.asks s) (r.judged s) (r.low s) (r.high s) (r.lines s) (p.opened + 1) q new.least c.in_ok-kept.kept new.asked) (sym {A = List Entry} items) next

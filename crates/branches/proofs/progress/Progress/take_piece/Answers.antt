@@ -1,4 +1,4 @@
-use Rattle.std.proofs.Common.{◌≡◌, ◌∙◌, ◌+◌, ◌++◌, ℕ, List, ◌≤◌, inl, inr, ap, length, sym, subst, arith, true≢false}
+use Rattle.std.proofs.Common.{◌≡◌, ◌∙◌, ◌+◌, ◌++◌, ℕ, List, ◌≤◌, inl, inr, length, sym, subst, arith, true≢false}
 use Rattle.std.proofs.lemmas.Bool.{cases_lt}
 use Rattle.branches.specs.Openings.{IsAt}
 use Rattle.branches.specs.Pieces.{AreRuns}
@@ -26,10 +26,10 @@ returns-clause-at g c =
     let next = at_many (r.asks s) (r.judged s) (r.low s) (r.high s) (r.lines s) p.opened queue piece.findings.found.items piece.findings.least p.findings.least new.least
     piece.cause c.args.least c.in_ok-kept.kept p.findings.asked piece.findings.asked new.asked theirs.done (g.met.R.Recovery.adaptive s) runs less
     (flagged_still p.findings.asked new.asked lines flags) (λ l t. flagged_now p.findings.asked new.asked lines flags l (c.lines.ensures.all l t)) c.requires.at in
-    let items = c.in_ok-kept.ensures.found ∙ ap (λ (es : List Entry). queue ++ es) c.deref.ensures.value in
+    let items : new.found.items ≡ queue ++ piece.findings.found.items = subst (λ (es : List Entry). new.found.items ≡ queue ++ es) c.deref.ensures.value c.in_ok-kept.ensures.found in
     subst (λ (n : ℕ). IsAt (r.asks s) (r.judged s) (r.low s) (r.high s) (r.lines s) (p.opened + n) new.found.items new.least c.in_ok-kept.kept new.asked) theirs.count
     (subst (λ (q : List Entry). IsAt (r.asks s) (r.judged s) (r.low s) (r.high s) (r.lines s) (p.opened + length theirs.done) q new.least c.in_ok-kept.kept new.asked)
-    (sym items) next)
+    (sym {A = List Entry} items) next)
 
 pub overflow_add-self : goal.overflow_add-self
 overflow_add-self g c =

@@ -1,15 +1,20 @@
 use Rattle.std.proofs.Common.{◌≡◌, ◌≤◌, ◌++◌, List, length}
+use Rattle.std.specs.Prelude.{IfOk}
 use Rattle.branches.specs.declared.queue.Entry.{Entry}
 use Rattle.branches.specs.Openings.{IsAt}
+use Rattle.branches.specs.Pieces.{IsPiece}
+use Rattle.branches.proofs.Answering.{AreFrom}
 use Rattle.branches.proofs.progress.Progress.take_round.Given as goal
 
 abbrev pub invariant-loop-found : goal.invariant-loop-found
 invariant-loop-found g l =
     let r = g.R.Recovery in
+    let s = l.recovery in
     let p = l.self in
-    IsAt (r.asks l.recovery) (r.judged l.recovery) (r.low l.recovery) (r.high l.recovery) (r.lines l.recovery) p.opened p.findings.found.items p.findings.least l.kept p.findings.asked
-    × (l.yielded ++ l.found-iterator.rest.items ≡ l.fn.pieces.items)
+    let old = l.fn.self.findings in
+    IsAt (r.asks s) (r.judged s) (r.low s) (r.high s) (r.lines s) p.opened p.findings.found.items p.findings.least l.kept p.findings.asked
     × (l.fn.self.opened ≤ p.opened)
-    × ((more : List Entry) × (p.findings.found.items ≡ l.fn.self.findings.found.items ++ more))
-    × (length p.findings.asked ≡ length l.fn.self.findings.asked)
-    × (length p.findings.least ≡ length l.fn.self.findings.least)
+    × ((more : List Entry) × (p.findings.found.items ≡ old.found.items ++ more))
+    × (length p.findings.asked ≡ length old.asked)
+    × (length p.findings.least ≡ length old.least)
+    × AreFrom (λ found. IfOk found (IsPiece (r.asks s) (r.judged s) (r.low s) (r.high s) (r.lines s) old.found.items)) l.found-index l.found-items

@@ -1,9 +1,9 @@
-use Rattle.std.proofs.Common.{◌≡◌, ◌∙◌, ◌++◌, List, ℕ, map, take, drop, length, ap, sym, subst, arith}
-use Rattle.std.proofs.lemmas.Grind.{common_steps}
+use Rattle.std.proofs.Common.{◌≡◌, ◌∙◌, ◌++◌, List, ℕ, map, take, drop, length, ap, sym, subst}
 use Rattle.crash_model.specs.Cut.{IsCut}
 use Rattle.crash_image.proofs.CutNames.{lines_cut, lines_there, there_lines}
 use Rattle.crash_image.proofs.Least.{floors_cut}
 use Rattle.crash_image.proofs.Lined.{cut_increasing}
+use Rattle.crash_image.proofs.Slices.{written}
 use Rattle.crash_image.specs.Bounds.{stored_bounds}
 use Rattle.crash_image.specs.Named.{named_cut, renumbered}
 use Rattle.crash_image.specs.View.{CutsView}
@@ -35,7 +35,8 @@ returns-then-not-contains-clause-cut c =
     let b : c.deref.result.now ≡ stored_bounds c.args.self.now.steps =
     c.deref.ensures.value ∙ c.self.invariant.3 ∙ ap (λ (v : CutsView). stored_bounds v.steps) c.self.view_is in
     let same : take c.in_ok-entries.entries.len (c.renumber.new.entries ++ drop (length c.renumber.new.entries) c.in_ok-entries.entries.items) ≡ c.renumber.new.entries =
-    grind (arith, common_steps, c.in_ok-entries.entries.ok, c.deref_mut.ensures.len, c.deref_mut.ensures.value, c.renumber.auto.entries) in
+    written c.in_ok-entries.entries.items c.renumber.new.entries c.in_ok-entries.entries.len c.in_ok-entries.entries.ok.0
+    (c.renumber.auto.entries ∙ ap (λ (es : List (ℕ × ℕ)). length es) c.deref_mut.ensures.value) in
     let made : c.from_entries-cut.result ≡ named_cut c.args.self.now.steps c.args.lines.now =
     lines_cut c.args.self.now.steps c.deref.result.now c.args.lines.now c.deref_mut.result.now c.from_entries-cut.result b
     (c.deref_mut.ensures.value ∙ c.in_ok-entries.ensures)
@@ -51,7 +52,8 @@ returns-clause-ok c =
     let b : c.deref.result.now ≡ stored_bounds c.args.self.now.steps =
     c.deref.ensures.value ∙ c.self.invariant.3 ∙ ap (λ (v : CutsView). stored_bounds v.steps) c.self.view_is in
     let same : take c.in_ok-entries.entries.len (c.renumber.new.entries ++ drop (length c.renumber.new.entries) c.in_ok-entries.entries.items) ≡ c.renumber.new.entries =
-    grind (arith, common_steps, c.in_ok-entries.entries.ok, c.deref_mut.ensures.len, c.deref_mut.ensures.value, c.renumber.auto.entries) in
+    written c.in_ok-entries.entries.items c.renumber.new.entries c.in_ok-entries.entries.len c.in_ok-entries.entries.ok.0
+    (c.renumber.auto.entries ∙ ap (λ (es : List (ℕ × ℕ)). length es) c.deref_mut.ensures.value) in
     lines_cut c.args.self.now.steps c.deref.result.now c.args.lines.now c.deref_mut.result.now c.from_entries-cut.result b
     (c.deref_mut.ensures.value ∙ c.in_ok-entries.ensures)
     (c.from_entries-cut.ensures ∙ same ∙ c.renumber.ensures.given c.if-not-renumber.false
