@@ -10,6 +10,7 @@ use std::io::Read;
 use std::sync::Wait;
 use std::test::Fail;
 use std::thread::Threads;
+use std::time::Clock;
 
 /// A session answers each line, whatever the capacity; its last line may lack its end.
 const SESSIONS: &str = "\
@@ -235,7 +236,7 @@ struct Ended {
 
 /// The end of a session whose standard input gives a line at each read; None where its standard output doesn't hold the front of what
 /// is expected.
-fn end_of<R: Threads + Wait + Sync + AllocGlobal>(
+fn end_of<R: Threads + Wait + Sync + Clock + AllocGlobal>(
     rt: &R,
     going: Going,
 ) -> Result<Option<Ended>, AllocError> {

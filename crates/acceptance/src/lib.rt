@@ -43,6 +43,8 @@ mod showing;
 #[cfg(test)]
 mod streams;
 #[cfg(test)]
+mod telling;
+#[cfg(test)]
 mod tracing;
 #[cfg(test)]
 mod transcripts;

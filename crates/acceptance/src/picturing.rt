@@ -6,6 +6,7 @@ use std::alloc::{AllocError, Global};
 use std::sync::Wait;
 use std::test::Fail;
 use std::thread::Threads;
+use std::time::Clock;
 
 /// Two pictures, which print nothing; a moment and an image that aren't there, and a file that can't be written.
 const DRAWN: &str = "\
@@ -23,7 +24,7 @@ $ novacrash picture first.s eight.schedule 1 unwritable
 ";
 
 /// The text of a file that a transcript leaves.
-fn text_after<R: Threads + Wait + Sync + AllocGlobal>(
+fn text_after<R: Threads + Wait + Sync + Clock + AllocGlobal>(
     rt: &R,
     transcript: &str,
     name: &str,

@@ -5,6 +5,7 @@ use std::alloc::AllocError;
 use std::sync::Wait;
 use std::test::Fail;
 use std::thread::Threads;
+use std::time::Clock;
 
 /// Each of two harts appends to its own log, in an order that they may find anew in each run.
 const RACE: &str = "\
@@ -29,13 +30,13 @@ fn is_passed(seen: &str) -> Option<bool> {
     Some(is_replayed && printed_of(checked)?.starts_with("pass moments=21 images="))
 }
 
-fn passes<R: Threads + Wait + Sync + AllocGlobal>(rt: &R) -> Result<bool, AllocError> {
+fn passes<R: Threads + Wait + Sync + Clock + AllocGlobal>(rt: &R) -> Result<bool, AllocError> {
     let seen = typed_again(rt, RACE)?;
     Ok(is_passed(seen.as_str()) == Some(true))
 }
 
 /// The first of fifty races that doesn't pass.
-fn first_failing<R: Threads + Wait + Sync + AllocGlobal>(
+fn first_failing<R: Threads + Wait + Sync + Clock + AllocGlobal>(
     rt: &R,
 ) -> Result<Option<u32>, AllocError> {
     for race in 0..50 {

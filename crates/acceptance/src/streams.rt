@@ -10,6 +10,7 @@ use std::io::Write;
 use std::sync::Wait;
 use std::test::Fail;
 use std::thread::Threads;
+use std::time::Clock;
 
 /// A writer that can't be written.
 #[derive(Drop)]
@@ -26,7 +27,7 @@ impl Write for Failing {
 }
 
 /// The status of a line, and how many bytes it prints on standard output and on standard error.
-fn lengths<R: Threads + Wait + Sync + AllocGlobal>(
+fn lengths<R: Threads + Wait + Sync + Clock + AllocGlobal>(
     rt: &R,
     line: &str,
 ) -> Result<(u8, usize, usize), AllocError> {
@@ -100,7 +101,7 @@ const EMPTY_REPORT: &str = "h0 trap T1 pc=0x10000 x2=0x200000 x11=0x40000000\nev
 /// How the run of an empty program ends, whose standard output has room for so many bytes, one at a time, and can be flushed so
 /// many times: the status, how many bytes of its report are held and how many shown, and whether standard error says `file`; None
 /// where what is held is no front of the report.
-fn ends_after<R: Threads + Wait + Sync + AllocGlobal>(
+fn ends_after<R: Threads + Wait + Sync + Clock + AllocGlobal>(
     rt: &R,
     room: usize,
     flushes: usize,
@@ -143,7 +144,7 @@ fn failing_output_is_a_file_fault(rt: HostRuntime) -> Result<(), Fail> {
 }
 
 /// The status of a line whose standard error can't be written, and how many bytes it prints.
-fn ends_untold<R: Threads + Wait + Sync + AllocGlobal>(
+fn ends_untold<R: Threads + Wait + Sync + Clock + AllocGlobal>(
     rt: &R,
     line: &str,
 ) -> Result<(u8, usize), AllocError> {

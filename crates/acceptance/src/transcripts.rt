@@ -10,10 +10,11 @@ use command_line::execute;
 use std::alloc::{AllocError, Global};
 use std::sync::Wait;
 use std::thread::Threads;
+use std::time::Clock;
 
 /// The first of these transcripts that reads otherwise once its commands are typed again, as it reads then. Each has a
 /// folder of its own, which has the files of the examples at first.
-pub(crate) fn first_difference<R: Threads + Wait + Sync + AllocGlobal>(
+pub(crate) fn first_difference<R: Threads + Wait + Sync + Clock + AllocGlobal>(
     rt: &R,
     transcripts: &[&str],
 ) -> Result<Option<String>, AllocError> {
@@ -27,7 +28,7 @@ pub(crate) fn first_difference<R: Threads + Wait + Sync + AllocGlobal>(
 }
 
 /// The folder that the commands of a transcript leave, once they are typed again.
-pub(crate) fn folder_after<R: Threads + Wait + Sync + AllocGlobal>(
+pub(crate) fn folder_after<R: Threads + Wait + Sync + Clock + AllocGlobal>(
     rt: &R,
     transcript: &str,
 ) -> Result<Folder, AllocError> {
@@ -37,7 +38,7 @@ pub(crate) fn folder_after<R: Threads + Wait + Sync + AllocGlobal>(
 }
 
 /// What a command prints on standard output.
-pub(crate) fn printed<R: Threads + Wait + Sync + AllocGlobal>(
+pub(crate) fn printed<R: Threads + Wait + Sync + Clock + AllocGlobal>(
     rt: &R,
     line: &str,
 ) -> Result<String, AllocError> {
@@ -50,7 +51,7 @@ pub(crate) fn printed<R: Threads + Wait + Sync + AllocGlobal>(
 }
 
 /// What a transcript reads once its commands are typed again, in a folder that has the files of the examples at first.
-pub(crate) fn typed_again<R: Threads + Wait + Sync + AllocGlobal>(
+pub(crate) fn typed_again<R: Threads + Wait + Sync + Clock + AllocGlobal>(
     rt: &R,
     transcript: &str,
 ) -> Result<String, AllocError> {
@@ -58,7 +59,7 @@ pub(crate) fn typed_again<R: Threads + Wait + Sync + AllocGlobal>(
 }
 
 /// Types the commands of a transcript, and gives what they come to.
-fn type_all_again<R: Threads + Wait + Sync + AllocGlobal>(
+fn type_all_again<R: Threads + Wait + Sync + Clock + AllocGlobal>(
     rt: &R,
     folder: &mut Folder,
     transcript: &str,
@@ -71,7 +72,7 @@ fn type_all_again<R: Threads + Wait + Sync + AllocGlobal>(
 }
 
 /// Types a command and its input, and adds them and what they come to.
-fn type_again<R: Threads + Wait + Sync + AllocGlobal>(
+fn type_again<R: Threads + Wait + Sync + Clock + AllocGlobal>(
     rt: &R,
     folder: &mut Folder,
     turn: &str,
@@ -130,7 +131,7 @@ fn show(alloc: Global, ended: &Ended, seen: &mut String) -> Result<(), AllocErro
     Ok(())
 }
 
-fn run<R: Threads + Wait + Sync + AllocGlobal>(
+fn run<R: Threads + Wait + Sync + Clock + AllocGlobal>(
     rt: &R,
     folder: &mut Folder,
     line: &str,

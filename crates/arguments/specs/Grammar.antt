@@ -112,12 +112,13 @@ explain_shape = record (new_shape (codes "explain")) {
       ∷ flag_option (codes "whole") ∷ help_option ∷ [];
 }
 
--- `check PLAN PROGRAM SCHEDULE [--medium FILE --harts N --workers N --moments A-B --whole --why --json]`
+-- `check PLAN PROGRAM SCHEDULE [--medium FILE --harts N --workers N --moments A-B --whole --why --json --progress]`
 unfoldable pub check_shape : Shape
 check_shape = record (new_shape (codes "check")) {
   rules = needed_word (codes "PLAN") ∷ needed_word (codes "PROGRAM") ∷ needed_word (codes "SCHEDULE")
       ∷ valued_option (codes "medium") ∷ valued_option (codes "harts") ∷ valued_option (codes "workers")
-      ∷ valued_option (codes "moments") ∷ flag_option (codes "whole") ∷ flag_option (codes "why") ∷ flag_option (codes "json") ∷ help_option ∷ [];
+      ∷ valued_option (codes "moments") ∷ flag_option (codes "whole") ∷ flag_option (codes "why") ∷ flag_option (codes "json")
+      ∷ flag_option (codes "progress") ∷ help_option ∷ [];
 }
 
 -- `picture PROGRAM SCHEDULE MOMENT FILE [--image IMAGE --medium FILE --harts N]`

@@ -105,7 +105,7 @@ pub record IsExplain (rows : List Row) (command : ExplainCommand) : Type 0 where
   pub moment : IsNumberWord (first_of (codes "MOMENT") rows) command.moment
   pub image : IsImageWord (first_of (codes "IMAGE") rows) command.image
 
--- `check` of this run or of these moments of it, by this plan and so many workers, whether a failure is explained, and as text or as JSON
+-- `check` of this run or of these moments of it, by this plan and so many workers, whether a failure is explained, as text or as JSON, and whether it is told how far the check has come
 pub record IsCheck (rows : List Row) (command : CheckCommand) : Type 0 where
   pub plan : IsWord (codes "PLAN") rows command.plan
   pub run : IsScheduledRun rows command.run
@@ -113,6 +113,7 @@ pub record IsCheck (rows : List Row) (command : CheckCommand) : Type 0 where
   pub moments : IsOptionalMoments (first_of (codes "moments") rows) command.moments
   pub why : command.why ≡ is_set (first_of (codes "why") rows)
   pub json : command.json ≡ is_set (first_of (codes "json") rows)
+  pub progress : command.progress ≡ is_set (first_of (codes "progress") rows)
 
 -- `picture` of this moment of this run, with this image of it or none, into this file
 pub record IsPicture (rows : List Row) (command : PictureCommand) : Type 0 where

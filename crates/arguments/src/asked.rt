@@ -30,7 +30,7 @@ pub enum Command {
     Images(ImagesCommand),
     /// `explain PROGRAM SCHEDULE MOMENT IMAGE [--medium FILE --harts N --whole]`.
     Explain(ExplainCommand),
-    /// `check PLAN PROGRAM SCHEDULE [--medium FILE --harts N --workers N --moments A-B --whole --why --json]`.
+    /// `check PLAN PROGRAM SCHEDULE [--medium FILE --harts N --workers N --moments A-B --whole --why --json --progress]`.
     Check(CheckCommand),
     /// `picture PROGRAM SCHEDULE MOMENT FILE [--image IMAGE --medium FILE --harts N]`.
     Picture(PictureCommand),
@@ -183,6 +183,8 @@ pub struct CheckCommand {
     pub why: bool,
     /// Whether the answer is one JSON object a line.
     pub json: bool,
+    /// Whether standard error is told how far the check has come.
+    pub progress: bool,
 }
 
 /// Moments of a run, one after another.

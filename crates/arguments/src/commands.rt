@@ -253,6 +253,7 @@ pub(crate) fn check(alloc: Global, found: &ArgMatches<'_>) -> Result<CheckComman
     Ok(CheckCommand {
         why: flag(found, "why"),
         json: flag(found, "json"),
+        progress: flag(found, "progress"),
         workers: number(alloc, found, &WORKERS)?,
         moments: optional_moments(alloc, found, "moments")?,
         plan: word(alloc, found, "PLAN")?,

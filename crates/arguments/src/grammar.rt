@@ -232,6 +232,11 @@ const WHY: Argument = Argument::Flag {
     about: "Say which stores a failing image lacks and keeps, why each can be lost, and how it comes about",
 };
 
+const PROGRESS: Argument = Argument::Flag {
+    name: "progress",
+    about: "Tell on standard error how far the check has come, at most twice a second",
+};
+
 /// The subcommands that make files and run programs, in the order in which help tells them.
 static MAKING: [Subcommand; 6] = [
     Subcommand {
@@ -315,7 +320,7 @@ static JUDGING: [Subcommand; 11] = [
         name: "check",
         about: "Judge every crash image of a run by a schedule",
         arguments: &[
-            PLAN, PROGRAM, SCHEDULE, MEDIUM, HARTS, WORKERS, MOMENTS, WHOLE, WHY, JSON,
+            PLAN, PROGRAM, SCHEDULE, MEDIUM, HARTS, WORKERS, MOMENTS, WHOLE, WHY, JSON, PROGRESS,
         ],
         ending: ending!(
             "check append.plan append.s append.schedule --medium fresh.medium --whole --why"

@@ -111,7 +111,7 @@ fn asked(alloc: Global, name: &str, found: &ArgMatches<'_>) -> Result<Command, L
 /// - `waste PROGRAM SCHEDULE [--medium FILE --harts N --whole --json]`
 /// - `images PROGRAM SCHEDULE MOMENT [--medium FILE --harts N --whole --json]`
 /// - `explain PROGRAM SCHEDULE MOMENT IMAGE [--medium FILE --harts N --whole]`
-/// - `check PLAN PROGRAM SCHEDULE [--medium FILE --harts N --workers N --moments A-B --whole --why --json]`
+/// - `check PLAN PROGRAM SCHEDULE [--medium FILE --harts N --workers N --moments A-B --whole --why --json --progress]`
 /// - `picture PROGRAM SCHEDULE MOMENT FILE [--image IMAGE --medium FILE --harts N]`
 /// - `interleave PROGRAM --seed N [--medium FILE --harts N --steps N --evictions N]`
 /// - `show MEDIUM [LINE]`

@@ -95,8 +95,9 @@ fn check_of(alloc: Global, check: &CheckCommand) -> Result<String, AllocError> {
     let moments = moments_of(alloc, check.moments)?;
     let why = if check.why { " why" } else { "" };
     let form = form_of(check.json);
+    let progress = if check.progress { " progress" } else { "" };
     format!(in alloc;
-        "check {} {run} / {} {moments}{why}{form}",
+        "check {} {run} / {} {moments}{why}{form}{progress}",
         check.plan, check.workers
     )
 }
@@ -283,7 +284,7 @@ fn defaults_stand_where_options_are_left_out(rt: HostRuntime) -> Result<(), Fail
 }
 
 /// Lines with options, before and after the words, and what they are read as.
-const WITH_OPTIONS: [(&str, &str); 32] = [
+const WITH_OPTIONS: [(&str, &str); 33] = [
     (
         "novacrash trace --json a.s s",
         "trace a.s s / - 1 whole any json",
@@ -303,6 +304,10 @@ const WITH_OPTIONS: [(&str, &str); 32] = [
     (
         "novacrash check p a.s s --json --moments 2-5 --why",
         "check p a.s s / - 1 whole any / 1 2-5 why json",
+    ),
+    (
+        "novacrash check --progress p a.s s --workers 2",
+        "check p a.s s / - 1 whole any / 2 all progress",
     ),
     (
         "novacrash check p --moments=5- a.s s",

@@ -448,6 +448,7 @@ Options:
       --whole          Refuse a run in which a hart doesn't exit with 0, or an operation doesn't end
       --why            Say which stores a failing image lacks and keeps, why each can be lost, and how it comes about
       --json           Print one JSON object a line
+      --progress       Tell on standard error how far the check has come, at most twice a second
       --help           Print help
 
 Example: novacrash check append.plan append.s append.schedule --medium fresh.medium --whole --why

@@ -3,3 +3,4 @@ mod Kept
 mod Loops
 pub mod Written
 mod SourceLines
+mod OnTheWay

@@ -9,7 +9,7 @@ pub part_none : (stream : Option (List ℕ)) (text : List ℕ) → Appends strea
 part_none None text = tt
 part_none (Some xs) text = sym (append-nil xs)
 
-joined : (first second third : Option (List ℕ)) (xs ys : List ℕ) → Appends first second xs → Appends second third ys → Appends first third (xs ++ ys)
+pub joined : (first second third : Option (List ℕ)) (xs ys : List ℕ) → Appends first second xs → Appends second third ys → Appends first third (xs ++ ys)
 joined None second third xs ys p q = tt
 joined (Some x) None third xs ys p q = absurd p
 joined (Some x) (Some y) None xs ys p q = absurd q
@@ -48,3 +48,12 @@ front_nothing stream text = front_of stream stream text 0 (part_none stream text
 
 pub front_all : (first second : Option (List ℕ)) (text : List ℕ) → Appends first second text → AppendsFront first second text
 front_all first second text whole = record { front = text; begins = ([], sym (append-nil text)); writes = whole }
+
+-- a text, and behind it another one or a front of it
+pub front_more : (first second third : Option (List ℕ)) (text more : List ℕ) → Appends first second text → AppendsFront second third more →
+    AppendsFront first third (text ++ more)
+front_more first second third text more whole part = record {
+  front = text ++ part.front;
+  begins = (part.begins.0, ap (λ (l : List ℕ). text ++ l) part.begins.1 ∙ sym (append_assoc text part.front part.begins.0));
+  writes = joined first second third text part.front whole part.writes;
+}

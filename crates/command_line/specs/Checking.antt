@@ -1,5 +1,7 @@
 -- What `check` comes to.
-use Rattle.std.specs.Prelude.{◌≡◌, ℕ, Bool, true, false, List, [], Option, Some, None, Result, MatchResult, ◌++◌, codes, decimal, string_bytes}
+use Rattle.std.specs.Prelude.{◌≡◌, ◌<◌, ◌^◌, IfSome, ℕ, Bool, true, false, List, [], Option, Some, None, Result, MatchResult, ◌++◌, codes, decimal, string_bytes}
+use Rattle.arguments.specs.Line.{IsWithin}
+use Rattle.arguments.specs.Spans.{IsUpward}
 use Rattle.arguments.specs.declared.asked.CheckCommand.{CheckCommand}
 use Rattle.arguments.specs.declared.asked.Moments.{Moments}
 use Rattle.image_check.specs.declared.verdict.Cause.{Cause}
@@ -11,13 +13,16 @@ use Rattle.image_name.specs.declared.name.ImageName.{ImageName}
 use Rattle.loss_text.specs.Events.{event_text}
 use Rattle.loss_text.specs.Json.{event_object, why_json}
 use Rattle.loss_text.specs.Why.{why_text}
+use Rattle.plan.specs.Plans.{PlanView}
 use Rattle.plan.specs.declared.operation.Operation.{Operation}
 use Rattle.program_losses.specs.Failing.{IsExplainedImage}
 use Rattle.program_losses.specs.declared.failing.ExplainedImage.{ExplainedImage}
 use Rattle.program_trace.specs.Lines.{line_of}
+use Rattle.schedule.specs.Grammar.{hart_steps}
 use Rattle.schedule.specs.declared.items.Item.{Item}
 use Rattle.tester.specs.Checking.{HasNoVerdict, HasVerdictOn}
 use Rattle.tester.specs.Explaining.{FailsToExplain}
+use Rattle.tester.specs.Programs.{IsProgramOf}
 use Rattle.tester.specs.Runs.{Setup}
 use Rattle.tester.specs.declared.explaining.ExplainFault.{ExplainFault}
 use Rattle.whole_run.specs.Causes.{numbers_of}
@@ -25,10 +30,13 @@ use Rattle.command_line.specs.Codes.{volume_code}
 use Rattle.command_line.specs.Failures.{failure_of_explanation, failure_of_verdict}
 use Rattle.command_line.specs.Demanding.{MeetsWhole}
 use Rattle.command_line.specs.Reading.{ReadsPlan, ReadsRun, setup_of}
+use Rattle.command_line.specs.Progress.{IsToldIf, TellsProgress, total_text}
 use Rattle.command_line.specs.Reports.{line_end}
 use Rattle.command_line.specs.Steps.{First, Prints, Reads, Step, Still, Tells}
 use Rattle.command_line.specs.declared.answer.Answer.{Answer}
 use Rattle.command_line.specs.declared.failure.Failure.{Failure}
+use Rattle.command_line.specs.declared.opened.OpenCheck.{OpenCheck}
+use Rattle.command_line.specs.declared.reading.RunFiles.{RunFiles}
 
 -- the first of the moments that are judged, and the last one, where they don't go on to the last of the run
 abbrev pub first_of : Option Moments → ℕ
@@ -48,11 +56,6 @@ pub record Judges (plan : List Operation) (s : Setup) (schedule : List Item) (mo
 abbrev pub cause_text : Cause → List ℕ
 cause_text (causes.Fault fault) = volume_code fault
 cause_text causes.Illegal = codes "illegal"
-
--- the sum of the numbers of images; `over` where a moment has over 65,536
-abbrev pub total_text : Option ℕ → List ℕ
-total_text (Some images) = decimal images
-total_text None = codes "over"
 
 -- `pass moments=N images=N`
 abbrev pub pass_line : ℕ → Option ℕ → List ℕ
@@ -125,13 +128,41 @@ abbrev pub told_why : Bool → List ℕ → Option ExplainedImage → List ℕ
 told_why json file None = []
 told_why json file (Some explained) = told_losses json (line_of file) explained
 
--- With `--whole` there is a verdict on a whole run alone: a pass then also says that each hart has exited with 0, and that each
--- planned operation has ended.
-abbrev pub ChecksFile : {F : Type 0} → Reads F → CheckCommand → Step F Answer
-ChecksFile reads command =
+-- With `--whole` a run that is whole is judged alone: a pass then also says that each hart has exited with 0, and that each planned
+-- operation has ended.
+pub record Opens (command : CheckCommand) (plan : PlanView) (run : RunFiles) (outcome : Result OpenCheck Failure) : Type 0 where
+  pub opens : MatchResult outcome (λ check. (check.command ≡ command) × (check.plan ≡ plan) × (check.run ≡ run)) (λ failure. ⊥)
+
+abbrev pub OpensCheck : {F : Type 0} → Reads F → CheckCommand → Step F OpenCheck
+OpensCheck reads command =
     First (ReadsPlan reads (string_bytes command.plan)) (λ plan.
     First (ReadsRun reads command.run) (λ run.
     First (Still (MeetsWhole command.run run (numbers_of plan.operations))) (λ _.
-    First (Still (Judges plan.operations (setup_of command.run run) run.schedule command.moments)) (λ verdict.
-    First (Still (Explains (setup_of command.run run) run.schedule (failing command.why verdict))) (λ why.
-    Still (Prints (told_verdict command.json verdict ++ told_why command.json run.file.items why) (verdict_status verdict)))))))
+    Still (Opens command plan run))))
+
+-- what is known of a check whose files have been read
+pub record IsOpen (check : OpenCheck) : Type 0 where
+  pub workers : IsWithin 1 8 check.command.workers
+  pub moments : IfSome check.command.moments IsUpward
+  pub few : hart_steps check.run.schedule < 2 ^ 32
+  pub program : IsProgramOf check.run.file.items check.run.program
+
+abbrev pub setup_of_check : OpenCheck → Setup
+setup_of_check check = setup_of check.command.run check.run
+
+-- the verdict on what a check asks for
+abbrev pub JudgesOpen : OpenCheck → Result Verdict Failure → Type 0
+JudgesOpen check = Judges check.plan.operations (setup_of_check check) check.run.schedule check.command.moments
+
+-- the verdict, and what standard error was told on the way
+pub record Watches {E : Type 0} (said : E → Option (List ℕ)) (check : OpenCheck) (errors : E) (outcome : Result Verdict Failure) (errors' : E) : Type 0 where
+  pub judges : JudgesOpen check outcome
+  pub told : IsToldIf check.command.progress (TellsProgress check.plan.operations (setup_of_check check) check.run.schedule
+      (first_of check.command.moments) (last_of check.command.moments) (said errors) (said errors')) errors errors'
+
+-- what a check comes to whose files have been read
+abbrev pub JudgesCheck : {E : Type 0} → (E → Option (List ℕ)) → OpenCheck → Step E Answer
+JudgesCheck said check =
+    First (Watches said check) (λ verdict.
+    First (Still (Explains (setup_of_check check) check.run.schedule (failing check.command.why verdict))) (λ why.
+    Still (Prints (told_verdict check.command.json verdict ++ told_why check.command.json check.run.file.items why) (verdict_status verdict))))

@@ -12,6 +12,7 @@ pub mod Listing
 pub mod Making
 pub mod Outcomes
 pub mod Picturing
+pub mod Progress
 pub mod Reading
 pub mod Reports
 pub mod Running

@@ -9,7 +9,7 @@ use Rattle.arguments.specs.declared.asked.LineFault.{LineFault}
 use Rattle.arguments.specs.declared.asked.LineFault.TheVariants as line_faults
 use Rattle.session.specs.Failing.{AppendsFront}
 use Rattle.command_line.specs.Assembling.{AssemblesFile}
-use Rattle.command_line.specs.Checking.{ChecksFile}
+use Rattle.command_line.specs.Checking.{IsOpen, JudgesCheck, OpensCheck}
 use Rattle.command_line.specs.Coding.{code_text}
 use Rattle.command_line.specs.Debugging.{HoldsSession, OpensFile}
 use Rattle.command_line.specs.Drawing.{InterleavesFile}
@@ -30,6 +30,7 @@ use Rattle.command_line.specs.declared.answer.Action.{Action}
 use Rattle.command_line.specs.declared.answer.Action.TheVariants as actions
 use Rattle.command_line.specs.declared.answer.Answer.{Answer}
 use Rattle.command_line.specs.declared.failure.Failure.{Failure}
+use Rattle.command_line.specs.declared.opened.OpenCheck.{OpenCheck}
 use Rattle.command_line.specs.declared.failure.Failure.TheVariants.{Line, Memory, File}
 
 -- what is found over the files says what is done on the standard streams
@@ -51,12 +52,18 @@ CarriesOut reads writes (Unpersisted command) = LeadsTo (UnpersistedFile reads c
 CarriesOut reads writes (Waste command) = LeadsTo (WasteFile reads command) actions.Print
 CarriesOut reads writes (Images command) = LeadsTo (CountsFile reads command) actions.Print
 CarriesOut reads writes (Explain command) = LeadsTo (ExplainsFile reads command) actions.Print
-CarriesOut reads writes (Check command) = LeadsTo (ChecksFile reads command) actions.Print
+CarriesOut reads writes (Check command) = LeadsTo (OpensCheck reads command) actions.Check
 CarriesOut reads writes (Picture command) = LeadsTo (PicturesFile reads writes command) actions.Print
 CarriesOut reads writes (Interleave command) = LeadsTo (InterleavesFile reads command) actions.Print
 CarriesOut reads writes (Show command) = LeadsTo (ShowsFile reads command) actions.Print
 CarriesOut reads writes (Listing command) = LeadsTo (ListsFile reads command) actions.Print
 CarriesOut reads writes (Code command) = LeadsTo (Still (Prints (code_text command.meaning) 0)) actions.Print
+
+-- what is known of what is left to be done: of a check, that its files have been read
+abbrev pub IsReady : Action → Type 0
+IsReady (actions.Print answer) = Unit {0}
+IsReady (actions.Check check) = IsOpen check
+IsReady (actions.Debug machine) = Unit {0}
 
 -- the text is to be printed with status 0
 pub record ShowsHelp (text : List ℕ) (action : Action) : Type 0 where
@@ -94,15 +101,30 @@ abbrev pub IsPrinted : {W : Type 0} → (W → Option (List ℕ)) → W → W �
 IsPrinted contents old new answer (Ok status) = (status ≡ answer.status) × Appends (contents old) (contents new) answer.text.items
 IsPrinted contents old new answer (Err failure) = (failure ≡ File) × AppendsFront (contents old) (contents new) answer.text.items
 
--- what is done on standard input and standard output, a pair: an answer is printed, or a session is held; nothing else
--- reads standard input, and a failure of a command leaves both as they are. `remaining` is what is known of the bytes that a
--- reader will still give
-abbrev pub Delivers : {R W : Type 0} → (R → Option (List ℕ)) → (W → Option (List ℕ)) → R × W → R × W
+-- what is found is printed, and of a failure nothing is
+abbrev pub IsPrintedIf : {W : Type 0} → (W → Option (List ℕ)) → W → W → Result Answer Failure → Result ℕ Failure → Type 0
+IsPrintedIf contents old new (Ok answer) ended = IsPrinted contents old new answer ended
+IsPrintedIf contents old new (Err failure) ended = (ended ≡ Err failure) × (new ≡ old)
+
+-- what is found of a check whose files have been read, printed; `said` is what is known of the bytes that standard error holds
+pub record DeliversCheck {W E : Type 0} (contents : W → Option (List ℕ)) (said : E → Option (List ℕ)) (check : OpenCheck) (old new : W) (errors errors' : E)
+    (ended : Result ℕ Failure) : Type 0 where
+  pub found : Result Answer Failure
+  pub judges : JudgesCheck said check errors found errors'
+  pub printed : IsPrintedIf contents old new found ended
+
+-- what is done on standard input and standard output, a pair, and on standard error before a failure is told: an answer is printed, a run
+-- is judged, or a session is held; nothing else reads standard input, and a failure of a command leaves all as they are. `remaining` is
+-- what is known of the bytes that a reader will still give
+abbrev pub Delivers : {R W E : Type 0} → (R → Option (List ℕ)) → (W → Option (List ℕ)) → (E → Option (List ℕ)) → R × W → R × W → E → E
     → Result Action Failure → Result ℕ Failure → Type 0
-Delivers remaining contents old new (Ok (actions.Print answer)) ended = (new.0 ≡ old.0) × IsPrinted contents old.1 new.1 answer ended
-Delivers remaining contents old new (Ok (actions.Debug machine)) ended =
-    HoldsSession machine (remaining old.0) (remaining new.0) (contents old.1) (contents new.1) ended
-Delivers remaining contents old new (Err failure) ended = (ended ≡ Err failure) × (new ≡ old)
+Delivers remaining contents said old new errors errors' (Ok (actions.Print answer)) ended =
+    (new.0 ≡ old.0) × IsPrinted contents old.1 new.1 answer ended × (errors' ≡ errors)
+Delivers remaining contents said old new errors errors' (Ok (actions.Check check)) ended =
+    (new.0 ≡ old.0) × DeliversCheck contents said check old.1 new.1 errors errors' ended
+Delivers remaining contents said old new errors errors' (Ok (actions.Debug machine)) ended =
+    HoldsSession machine (remaining old.0) (remaining new.0) (contents old.1) (contents new.1) ended × (errors' ≡ errors)
+Delivers remaining contents said old new errors errors' (Err failure) ended = (ended ≡ Err failure) × (new ≡ old) × (errors' ≡ errors)
 
 -- the status of the program
 abbrev pub status_of : Result ℕ Failure → ℕ
@@ -110,19 +132,20 @@ status_of (Ok status) = status
 status_of (Err failure) = failure_status failure
 
 -- what a line comes to, as it was delivered
-pub record Ends {F R W : Type 0} (reads : Reads F) (writes : Writes F)
-    (remaining : R → Option (List ℕ)) (contents : W → Option (List ℕ)) (words : List (List ℕ)) (files files' : F) (streams streams' : R × W)
-    (ended : Result ℕ Failure) : Type 0 where
+pub record Ends {F R W E : Type 0} (reads : Reads F) (writes : Writes F)
+    (remaining : R → Option (List ℕ)) (contents : W → Option (List ℕ)) (said : E → Option (List ℕ)) (words : List (List ℕ)) (files files' : F)
+    (streams streams' : R × W) (errors errors' : E) (ended : Result ℕ Failure) : Type 0 where
   pub outcome : Result Action Failure
   pub comes : ComesTo reads writes words files files' outcome
-  pub delivers : Delivers remaining contents streams streams' outcome ended
+  pub delivers : Delivers remaining contents said streams streams' errors errors' outcome ended
 
--- a status with which the program may end so; standard error stays as it was but for a failure
+-- a status with which the program may end so; standard error stays as it was but for a failure, and for what `--progress` tells
 pub record EndsWith {F R W E : Type 0} (reads : Reads F) (writes : Writes F)
     (remaining : R → Option (List ℕ)) (contents : W → Option (List ℕ)) (said : E → Option (List ℕ)) (words : List (List ℕ)) (files files' : F)
     (streams streams' : R × W) (errors errors' : E) (status : ℕ) : Type 0 where
   pub ended : Result ℕ Failure
-  pub ends : Ends reads writes remaining contents words files files' streams streams' ended
+  pub between : E
+  pub ends : Ends reads writes remaining contents said words files files' streams streams' errors between ended
   pub status_is : status ≡ status_of ended
-  pub quiet : OnOk ended (errors' ≡ errors)
-  pub told : IfErr ended (λ failure. AppendsFront (said errors) (said errors') (failure_text failure))
+  pub quiet : OnOk ended (errors' ≡ between)
+  pub told : IfErr ended (λ failure. AppendsFront (said between) (said errors') (failure_text failure))

@@ -3,7 +3,7 @@
 ghost use Rattle.std.specs.Prelude.{◌≡◌, ◌++◌, ◌^◌, ◌<◌, IfOk, IfSome, string_bytes};
 ghost use Rattle.arguments.specs.Line.{IsWithin};
 ghost use Rattle.arguments.specs.Spans.{IsUpward};
-ghost use Rattle.command_line.specs.Checking.{ChecksFile, Explains, ExplainsOne, Judges, cause_text, failing, pass_line, told_losses, told_verdict, told_why, verdict_json, verdict_line, verdict_status};
+ghost use Rattle.command_line.specs.Checking.{Explains, ExplainsOne, IsOpen, JudgesCheck, JudgesOpen, OpensCheck, Watches, cause_text, failing, pass_line, told_losses, told_verdict, told_why, verdict_json, verdict_line, verdict_status};
 ghost use Rattle.object.specs.Sections.{Sections};
 ghost use Rattle.program_trace.specs.Lines.{line_of};
 ghost use Rattle.run_text.specs.Places.{line_in};
@@ -17,50 +17,82 @@ use crate::codes::volume_code;
 use crate::demanding::demand_whole;
 use crate::failure::Failure;
 use crate::files::Files;
+use crate::opened::OpenCheck;
+use crate::progress::watched_verdict;
 use crate::reading::{RunFiles, read_plan, read_run};
 use arguments::{CheckCommand, Moments};
 use assemble::LineNumbers;
 use image_check::{Cause, Verdict};
 use image_name::ImageName;
 use loss_text::{why_json, why_text};
-use plan::Plan;
 use program_losses::{ExplainedImage, explain_losses};
 use program_trace::source_lines;
 use std::alloc::{AllocError, Global};
+use std::io::Write;
 use std::thread::Threads;
+use std::time::Clock;
 use tester::{check_moments, check_program};
 
-/// `check`: reads the files of a plan, a program, a schedule and a medium, and gives the verdict on the run, with `--why` also what a
-/// failing image lacks and keeps.
-pub(crate) fn check_file<T: Threads + Sync, F: Files>(
-    rt: &T,
+/// `check`: reads the files of a plan, a program, a schedule and a medium, and with `--whole` demands that the run is whole.
+pub(crate) fn open_check<F: Files>(
     alloc: Global,
-    command: &CheckCommand,
+    command: CheckCommand,
     files: &mut F,
-) -> Result<Answer, Failure>
-    requires workers { IsWithin 1 8 command.now.workers }
-    requires moments { IfSome command.now.moments IsUpward }
-    ensures { ChecksFile F.read_gives command.now files.old result files.new }
+) -> Result<OpenCheck, Failure>
+    requires workers { IsWithin 1 8 command.workers }
+    requires moments { IfSome command.moments IsUpward }
+    ensures opens { OpensCheck F.read_gives command files.old result files.new }
+    ensures ready { IfOk result IsOpen }
 {
     let plan = read_plan(alloc, command.plan.as_str(), files)?;
     let run = read_run(alloc, &command.run, files)?;
     demand_whole(alloc, &command.run, &run, plan.operations())?;
-    let verdict = verdict(rt, alloc, command, &plan, &run)?;
-    let why = why(alloc, command, &run, &verdict)?;
+    Ok(OpenCheck { command, plan, run })
+}
+
+/// Gives the verdict on a run, with `--why` also what a failing image lacks and keeps. With `--progress` standard error is told how far the
+/// check has come.
+pub(crate) fn judge_check<T: Threads + Sync + Clock, E: Write>(
+    rt: &T,
+    alloc: Global,
+    check: &OpenCheck,
+    errors: &mut E,
+) -> Result<Answer, Failure>
+    requires { IsOpen check.now }
+    ensures { JudgesCheck E.contents check.now errors.old result errors.new }
+{
+    let OpenCheck { command, run, .. } = check;
+    let verdict = verdict(rt, alloc, check, errors)?;
+    let why = why(alloc, command, run, &verdict)?;
     verdict_answer(alloc, &run.file, &verdict, &why, command.json)
 }
 
-fn verdict<T: Threads + Sync>(
+/// The verdict, told on the way or not.
+fn verdict<T: Threads + Sync + Clock, E: Write>(
     rt: &T,
     alloc: Global,
-    command: &CheckCommand,
-    plan: &Plan,
-    run: &RunFiles,
+    check: &OpenCheck,
+    errors: &mut E,
 ) -> Result<Verdict, Failure>
-    requires workers { IsWithin 1 8 command.now.workers }
-    requires moments { IfSome command.now.moments IsUpward }
-    ensures { Judges plan.now.operations (setup_of command.now.run run.now) run.now.schedule command.now.moments result }
+    requires { IsOpen check.now }
+    ensures { Watches E.contents check.now errors.old result errors.new }
 {
+    if check.command.progress {
+        watched_verdict(rt, alloc, check, errors)
+    } else {
+        quiet_verdict(rt, alloc, check)
+    }
+}
+
+fn quiet_verdict<T: Threads + Sync>(
+    rt: &T,
+    alloc: Global,
+    check: &OpenCheck,
+) -> Result<Verdict, Failure>
+    requires { IsOpen check.now }
+    ensures { JudgesOpen check.now result }
+{
+    let OpenCheck { command, plan, run } = check;
     let harts = command.run.machine.harts;
     let workers = command.workers;
     let program = run.program.copy(alloc)?;

@@ -1,14 +1,15 @@
 //! The commands.
 
-ghost use Rattle.std.specs.Prelude.{◌≡◌, map, string_bytes};
+ghost use Rattle.std.specs.Prelude.{◌≡◌, IfOk, map, string_bytes};
 ghost use Rattle.std.specs.Result.{result_map_both};
 ghost use Rattle.arguments.specs.Line.{IsWithinLimits};
-ghost use Rattle.command_line.specs.Outcomes.{AnswersFault, CarriesOut, ComesTo};
-ghost use Rattle.command_line.specs.declared.answer.Action.TheVariants.{Debug, Print};
+ghost use Rattle.command_line.specs.Checking.{IsOpen};
+ghost use Rattle.command_line.specs.Outcomes.{AnswersFault, CarriesOut, ComesTo, IsReady};
+ghost use Rattle.command_line.specs.declared.answer.Action.TheVariants.{Check, Debug, Print};
 
 use crate::answer::{Action, Answer};
 use crate::assembling::assemble_file;
-use crate::checking::check_file;
+use crate::checking::open_check;
 use crate::coding::tell_code;
 use crate::debugging::open_file;
 use crate::drawing::interleave_file;
@@ -18,6 +19,7 @@ use crate::files::Files;
 use crate::imaging::count_file;
 use crate::listing::list_file;
 use crate::making::make_file;
+use crate::opened::OpenCheck;
 use crate::persisting::unpersisted_file;
 use crate::picturing::picture_file;
 use crate::running::{replay_file, run_file};
@@ -38,7 +40,8 @@ pub fn outcome<T: Threads + Wait + Sync, F: Files>(
     words: &[String],
     files: &mut F,
 ) -> Result<Action, Failure>
-    ensures { ComesTo F.read_gives F.write_gives (map string_bytes words.now) files.old files.new result }
+    ensures comes { ComesTo F.read_gives F.write_gives (map string_bytes words.now) files.old files.new result }
+    ensures ready { IfOk result IsReady }
 {
     match command(alloc, words) {
         Ok(command) => carry_out(rt, alloc, command, files),
@@ -54,7 +57,8 @@ fn carry_out<T: Threads + Wait + Sync, F: Files>(
     files: &mut F,
 ) -> Result<Action, Failure>
     requires { IsWithinLimits command }
-    ensures { CarriesOut F.read_gives F.write_gives command files.old result files.new }
+    ensures carries { CarriesOut F.read_gives F.write_gives command files.old result files.new }
+    ensures ready { IfOk result IsReady }
 {
     match command {
         Command::Assemble(command) => printed(assemble_file(alloc, &command, files)),
@@ -68,7 +72,7 @@ fn carry_out<T: Threads + Wait + Sync, F: Files>(
         Command::Waste(command) => printed(waste_file(alloc, &command, files)),
         Command::Images(command) => printed(count_file(alloc, &command, files)),
         Command::Explain(command) => printed(explain_file(alloc, &command, files)),
-        Command::Check(command) => printed(check_file(rt, alloc, &command, files)),
+        Command::Check(command) => opened(open_check(alloc, command, files)),
         Command::Picture(command) => printed(picture_file(alloc, &command, files)),
         Command::Interleave(command) => printed(interleave_file(alloc, &command, files)),
         Command::Show(command) => printed(show_file(alloc, &command, files)),
@@ -79,21 +83,33 @@ fn carry_out<T: Threads + Wait + Sync, F: Files>(
 
 /// An answer is printed.
 fn printed(answer: Result<Answer, Failure>) -> Result<Action, Failure>
-    ensures { result ≡ result_map_both Print (λ failure. failure) answer }
+    ensures is { result ≡ result_map_both Print (λ failure. failure) answer }
+    ensures ready { IfOk result IsReady }
 {
     Ok(Action::Print(answer?))
 }
 
+/// A run is judged.
+fn opened(check: Result<OpenCheck, Failure>) -> Result<Action, Failure>
+    requires { IfOk check IsOpen }
+    ensures is { result ≡ result_map_both Check (λ failure. failure) check }
+    ensures ready { IfOk result IsReady }
+{
+    Ok(Action::Check(check?))
+}
+
 /// A session is held on a machine.
 fn debugged(machine: Result<Machine, Failure>) -> Result<Action, Failure>
-    ensures { result ≡ result_map_both Debug (λ failure. failure) machine }
+    ensures is { result ≡ result_map_both Debug (λ failure. failure) machine }
+    ensures ready { IfOk result IsReady }
 {
     Ok(Action::Debug(machine?))
 }
 
 /// What a line comes to that asks for no command.
 fn answer_to(fault: LineFault) -> Result<Action, Failure>
-    ensures { AnswersFault fault result }
+    ensures answers { AnswersFault fault result }
+    ensures ready { IfOk result IsReady }
 {
     match fault {
         LineFault::Help(text) => Ok(Action::Print(Answer::of(text, 0))),

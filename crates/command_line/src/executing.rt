@@ -1,19 +1,23 @@
 //! A whole run of the program.
 
-ghost use Rattle.std.specs.Prelude.{map, string_bytes};
-ghost use Rattle.command_line.specs.Outcomes.{Delivers, Ends, EndsWith, IsPrinted};
+ghost use Rattle.std.specs.Prelude.{IfOk, map, string_bytes};
+ghost use Rattle.command_line.specs.Checking.{IsOpen};
+ghost use Rattle.command_line.specs.Outcomes.{Delivers, DeliversCheck, Ends, EndsWith, IsPrinted, IsReady};
 
 use crate::answer::{Action, Answer};
+use crate::checking::judge_check;
 use crate::commands::outcome;
 use crate::debugging::hold_session;
 use crate::failure::Failure;
 use crate::files::Files;
+use crate::opened::OpenCheck;
 use crate::streams::print;
 use crate::telling::tell;
 use std::alloc::Global;
 use std::io::{Read, Write};
 use std::sync::Wait;
 use std::thread::Threads;
+use std::time::Clock;
 
 /// Carries out what a command line asks for, over files, standard input, standard output and standard error, and gives the
 /// status that the program ends with: 0 done or a check that passes, 1 a check that fails, 2 refused input or command line,
@@ -21,10 +25,10 @@ use std::thread::Threads;
 /// written. `words` begins with the program's name.
 ///
 /// An answer goes to standard output, and nothing of a failure does; the lines of a failure go to standard error,
-/// and where they can't be written the status still stands. Only the session of `debug` reads standard input, once its
+/// and where they can't be written the status still stands. With `--progress` a check tells there, before that, how far it has come. Only the session of `debug` reads standard input, once its
 /// files have been read and its machine made. `run` and `check` start threads, of `rt`; what `check` prints doesn't depend on how
 /// many, and what `run` prints is the run that its harts made.
-pub fn execute<T: Threads + Wait + Sync, F: Files, R: Read, W: Write, E: Write>(
+pub fn execute<T: Threads + Wait + Sync + Clock, F: Files, R: Read, W: Write, E: Write>(
     rt: &T,
     alloc: Global,
     words: &[String],
@@ -35,7 +39,7 @@ pub fn execute<T: Threads + Wait + Sync, F: Files, R: Read, W: Write, E: Write>(
 ) -> u8
     ensures { EndsWith F.read_gives F.write_gives R.remaining W.contents E.contents (map string_bytes words.now) files.old files.new (input.old, output.old) (input.new, output.new) errors.old errors.new result }
 {
-    match answer_line(rt, alloc, words, files, input, output) {
+    match answer_line(rt, alloc, words, files, input, output, errors) {
         Ok(status) => status,
         Err(failure) => {
             let _ = tell(&failure, errors);
@@ -44,32 +48,52 @@ pub fn execute<T: Threads + Wait + Sync, F: Files, R: Read, W: Write, E: Write>(
     }
 }
 
-/// Answers a command line on standard output, and gives the status.
-pub fn answer_line<T: Threads + Wait + Sync, F: Files, R: Read, W: Write>(
+/// Answers a command line on standard output, and gives the status. Standard error gets nothing but what `--progress` tells.
+pub fn answer_line<T: Threads + Wait + Sync + Clock, F: Files, R: Read, W: Write, E: Write>(
     rt: &T,
     alloc: Global,
     words: &[String],
     files: &mut F,
     input: &mut R,
     output: &mut W,
+    errors: &mut E,
 ) -> Result<u8, Failure>
-    ensures { Ends F.read_gives F.write_gives R.remaining W.contents (map string_bytes words.now) files.old files.new (input.old, output.old) (input.new, output.new) result }
+    ensures { Ends F.read_gives F.write_gives R.remaining W.contents E.contents (map string_bytes words.now) files.old files.new (input.old, output.old) (input.new, output.new) errors.old errors.new result }
 {
-    deliver(alloc, outcome(rt, alloc, words, files), input, output)
+    let outcome = outcome(rt, alloc, words, files);
+    deliver(rt, alloc, outcome, input, output, errors)
 }
 
-fn deliver<R: Read, W: Write>(
+fn deliver<T: Threads + Sync + Clock, R: Read, W: Write, E: Write>(
+    rt: &T,
     alloc: Global,
     outcome: Result<Action, Failure>,
     input: &mut R,
     output: &mut W,
+    errors: &mut E,
 ) -> Result<u8, Failure>
-    ensures { Delivers R.remaining W.contents (input.old, output.old) (input.new, output.new) outcome result }
+    requires { IfOk outcome IsReady }
+    ensures { Delivers R.remaining W.contents E.contents (input.old, output.old) (input.new, output.new) errors.old errors.new outcome result }
 {
     match outcome? {
         Action::Print(answer) => print_answer(answer, output),
+        Action::Check(check) => deliver_check(rt, alloc, &check, output, errors),
         Action::Debug(machine) => hold_session(alloc, machine, input, output),
     }
+}
+
+fn deliver_check<T: Threads + Sync + Clock, W: Write, E: Write>(
+    rt: &T,
+    alloc: Global,
+    check: &OpenCheck,
+    output: &mut W,
+    errors: &mut E,
+) -> Result<u8, Failure>
+    requires { IsOpen check.now }
+    ensures { DeliversCheck W.contents E.contents check.now output.old output.new errors.old errors.new result }
+{
+    let answer = judge_check(rt, alloc, check, errors)?;
+    print_answer(answer, output)
 }
 
 fn print_answer<W: Write>(answer: Answer, output: &mut W) -> Result<u8, Failure>

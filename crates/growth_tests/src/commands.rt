@@ -6,6 +6,7 @@ use command_line::{FileFault, Files, execute};
 use std::alloc::Global;
 use std::sync::Wait;
 use std::thread::Threads;
+use std::time::Clock;
 
 /// The words of a line, which are parted by single spaces.
 fn words_of(alloc: Global, line: &str) -> Result<Vec<String>, Refused> {
@@ -216,7 +217,7 @@ fn judged(example: &Example, outcome: &Outcome) -> Result<bool, Refused> {
 }
 
 /// Types a line, over the files.
-fn execute_line<R: Threads + Wait + Sync + AllocGlobal>(
+fn execute_line<R: Threads + Wait + Sync + Clock + AllocGlobal>(
     rt: &R,
     example: &Example,
     words: &[String],
@@ -236,7 +237,7 @@ fn execute_line<R: Threads + Wait + Sync + AllocGlobal>(
 }
 
 /// Types the line of an example.
-fn typed<R: Threads + Wait + Sync + AllocGlobal>(
+fn typed<R: Threads + Wait + Sync + Clock + AllocGlobal>(
     rt: &R,
     example: &Example,
 ) -> Result<bool, Refused> {
@@ -478,6 +479,18 @@ const CHECK_PART: Example = Example {
 #[test]
 fn execute_check_of_a_part_as_json(rt: HostRuntime) -> Result<(), Refused> {
     ended(&rt, typed(&rt, &CHECK_PART))
+}
+
+const CHECK_TOLD: Example = Example {
+    line: "novacrash check one.plan first.s eight --moments 2- --progress",
+    typed: "",
+    status: 1,
+    printed: "fail moment=2 image=0 cause=N1\n",
+};
+
+#[test]
+fn execute_check_that_tells_how_far_it_is(rt: HostRuntime) -> Result<(), Refused> {
+    ended(&rt, typed(&rt, &CHECK_TOLD))
 }
 
 const TRACE_JSON: Example = Example {

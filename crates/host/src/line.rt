@@ -12,6 +12,7 @@ use std::io::{ErrorKind, Read, Write};
 use std::process::ExitCode;
 use std::sync::Wait;
 use std::thread::Threads;
+use std::time::Clock;
 
 /// The words of the command line, which begin with the program's name.
 ///
@@ -32,7 +33,7 @@ pub fn words<T: Env + AllocGlobal>(rt: &T) -> Result<Vec<String>, Failure>
 
 /// Carries out a line by `execute`, and gives its status to the system. Where its words were lost, the lines of that failure go to
 /// standard error, no file and no other stream is touched, and the status is the failure's.
-pub fn run<T: Threads + Wait + Sync + AllocGlobal, F: Files, R: Read, W: Write, E: Write>(
+pub fn run<T: Threads + Wait + Sync + Clock + AllocGlobal, F: Files, R: Read, W: Write, E: Write>(
     rt: &T,
     words: Result<Vec<String>, Failure>,
     files: &mut F,

@@ -11,7 +11,6 @@ use Rattle.volume.specs.declared.entry.Entry.{Entry}
 use Rattle.image_check.specs.Legal.{IsLegal}
 use Rattle.image_check.specs.RunViews.{RunView}
 use Rattle.image_check.specs.Verdicts.{IsVerdict, IsVerdictBetween, Passes}
-use Rattle.parallel_check.specs.Parts.{end_of}
 use Rattle.image_check.proofs.Deciding.{verdict_once}
 use Rattle.image_check.specs.declared.fault.CheckFault.{CheckFault}
 use Rattle.image_check.specs.declared.verdict.Verdict.{Verdict}
@@ -40,8 +39,8 @@ verdict_of run same moments verdict e count is =
     subst (λ (r : RunView). IsVerdict r.plan r.start r.events verdict) e
     (subst (λ (n : ℕ). IsVerdictBetween run.plan run.start run.events 0 n verdict) count is)
 
-pub part_of : (run same : RunView) (first end : ℕ) (last : Option ℕ) (verdict : Verdict) → run ≡ same → end ≡ end_of run.events last →
-    IsVerdictBetween run.plan run.start run.events first end verdict → IsVerdictBetween same.plan same.start same.events first (end_of same.events last) verdict
-part_of run same first end last verdict e until is =
-    subst (λ (r : RunView). IsVerdictBetween r.plan r.start r.events first (end_of r.events last) verdict) e
-    (subst (λ (n : ℕ). IsVerdictBetween run.plan run.start run.events first n verdict) until is)
+pub part_of : (run same : RunView) (first end until : ℕ) (verdict : Verdict) → run ≡ same → end ≡ until →
+    IsVerdictBetween run.plan run.start run.events first end verdict → IsVerdictBetween same.plan same.start same.events first until verdict
+part_of run same first end until verdict e ends is =
+    subst (λ (r : RunView). IsVerdictBetween r.plan r.start r.events first until verdict) e
+    (subst (λ (n : ℕ). IsVerdictBetween run.plan run.start run.events first n verdict) ends is)

@@ -14,6 +14,7 @@ ghost use Rattle.store_trace.specs.declared.event.Event.{Event as AnEvent};
 ghost use Rattle.volume.specs.declared.entry.Entry.{Entry as AnEntry};
 ghost use Rattle.std.specs.Prelude.{◌≡◌, ℕ, ◌+◌, ◌<◌, ◌≤◌, List, Option, length, take, IfErr, IfOk, IfSome};
 
+use crate::part::Part;
 use crate::stretches::Stretches;
 use check_desk::judge_all;
 use gate::Gate;
@@ -97,35 +98,13 @@ pub fn check_part<G: Gate, R: Threads + Sync>(
     ensures sound { IfOk result (λ verdict. AreSound plan.now.operations trace.now.events (length trace.now.events)) }
     ensures err { IfErr result (λ fault. IsRefusal plan.now.operations trace.now.events first fault) }
 {
-    let is_past = first as usize > trace.events().len();
-    let run = match SoundRun::new(alloc, plan, medium, trace) {
-        Ok(run) => run,
-        Err(CheckFault::Memory) if is_past => return Err(CheckFault::NoSuchMoment),
-        Err(fault) => return Err(fault),
-    };
-    if is_past {
-        return Err(CheckFault::NoSuchMoment);
-    }
-    let end = end_at(last, run.moments());
-    let workers = workers_for((end - first) as usize, workers);
-    Ok(judge_between(rt, alloc, &run, first, end, workers, gate)?)
-}
-
-/// One past the last of the moments asked for, of a run of so many.
-fn end_at(last: Option<u32>, moments: u32) -> u32
-    requires { (0 < moments) × (moments ≤ 65537) }
-    ensures end { (events : List AnEvent) → moments ≡ length events + 1 → result ≡ end_of events last }
-    ensures later { (first : ℕ) → first < moments → IfSome last (λ moment. first ≤ moment) → first < result }
-    ensures most { result ≤ moments }
-{
-    match last {
-        Some(last) => last.min(moments - 1) + 1,
-        None => moments,
-    }
+    let part = Part::new(alloc, plan, medium, trace, first, last)?;
+    let end = part.end();
+    Ok(part.judge(rt, alloc, first, end, workers, gate)?)
 }
 
 /// The verdict on the moments of a run from `first` on that are below `end`.
-fn judge_between<G: Gate, R: Threads + Sync>(
+pub(crate) fn judge_between<G: Gate, R: Threads + Sync>(
     rt: &R,
     alloc: Global,
     run: &SoundRun<'_>,
@@ -172,7 +151,7 @@ fn check_alone<G: Gate>(
 
 /// How many of so many workers a run with so many events has: a worker takes some time to start, so that one with less to do than
 /// that isn't started.
-fn workers_for(events: usize, workers: u32) -> u32
+pub(crate) fn workers_for(events: usize, workers: u32) -> u32
     requires { (0 < workers) × (workers ≤ 8) }
     ensures { (0 < result) × (result ≤ workers) }
 {

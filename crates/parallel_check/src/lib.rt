@@ -5,6 +5,8 @@
 #![tactic(auto)]
 
 pub use check::{check_parallel, check_part};
+pub use part::Part;
 
 mod check;
+mod part;
 mod stretches;

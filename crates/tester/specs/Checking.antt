@@ -4,6 +4,8 @@ use Rattle.crash_model.specs.Cut.{IsCut}
 use Rattle.image_check.specs.Legal.{IsLegal}
 use Rattle.image_check.specs.OrderFaults.{AreSound, IsFirstFault}
 use Rattle.image_check.specs.Verdicts.{IsVerdictBetween, Passes}
+use Rattle.image_check.specs.declared.fault.CheckFault.{CheckFault}
+use Rattle.image_check.specs.declared.fault.CheckFault.TheVariants as checked
 use Rattle.image_check.specs.declared.fault.OpFault.{OpFault}
 use Rattle.image_check.specs.declared.verdict.Verdict.{Verdict}
 use Rattle.machine.specs.Evicting.{hart_steps}
@@ -63,6 +65,12 @@ pub record HasWrongMark (plan : List Operation) (s : Setup) (schedule : List Ite
 -- the fault of a run on which there was to be a verdict
 abbrev pub verdict_fault : StepFault → VerdictFault
 verdict_fault fault = fault_of_run StepRefused Memory fault
+
+-- that of a check of its trace
+abbrev pub fault_of_check : CheckFault → VerdictFault
+fault_of_check (checked.Operation fault) = WrongMark fault
+fault_of_check checked.NoSuchMoment = NoSuchMoment
+fault_of_check checked.Memory = Memory
 
 -- the run, whose marks are right, has fewer events than that
 pub record LacksMoment (plan : List Operation) (s : Setup) (schedule : List Item) (moment : ℕ) : Type 0 where

@@ -47,6 +47,21 @@ impl From<StepFault> for VerdictFault {
     }
 }
 
+impl From<CheckFault> for VerdictFault {
+    ghost use Rattle.std.specs.Prelude.{◌≡◌};
+    ghost use Rattle.tester.specs.Checking.{fault_of_check};
+
+    ghost from_gives = { λ refused fault. fault ≡ fault_of_check refused };
+
+    fn from(refused: CheckFault) -> VerdictFault {
+        match refused {
+            CheckFault::Operation(fault) => VerdictFault::Operation(fault),
+            CheckFault::NoSuchMoment => VerdictFault::NoSuchMoment,
+            CheckFault::Memory => VerdictFault::Memory,
+        }
+    }
+}
+
 /// The verdict on all moments of the run of a program by a schedule, over a medium behind a cache of as many lines: whether
 /// each state that a power cut may leave recovers to a volume that the plan's operations allow. One to eight workers judge the
 /// moments, in threads of their own where these can be started; the verdict is the same for any number of them.
@@ -72,11 +87,8 @@ pub fn check_program<T: Threads + Sync>(
     ensures err { IfErr result (HasNoVerdict plan.now.operations (with_room program medium harts) schedule.now 0) }
 {
     let trace = trace_of(alloc, program, &medium, harts, schedule)?;
-    match check_parallel(rt, alloc, plan, &medium, &trace, workers, &Open) {
-        Ok(verdict) => Ok(verdict),
-        Err(CheckFault::Operation(fault)) => Err(VerdictFault::Operation(fault)),
-        Err(_) => Err(VerdictFault::Memory),
-    }
+    let verdict = check_parallel(rt, alloc, plan, &medium, &trace, workers, &Open)?;
+    Ok(verdict)
 }
 
 /// The verdict on the moments of such a run from `first` to `last`, or to its last one where none is given, as `check_program` gives it
@@ -102,12 +114,8 @@ pub fn check_moments<T: Threads + Sync>(
     ensures err { IfErr result (HasNoVerdict plan.now.operations (with_room program medium harts) schedule.now first) }
 {
     let trace = trace_of(alloc, program, &medium, harts, schedule)?;
-    match check_part(
+    let verdict = check_part(
         rt, alloc, plan, &medium, &trace, first, last, workers, &Open,
-    ) {
-        Ok(verdict) => Ok(verdict),
-        Err(CheckFault::Operation(fault)) => Err(VerdictFault::Operation(fault)),
-        Err(CheckFault::NoSuchMoment) => Err(VerdictFault::NoSuchMoment),
-        Err(CheckFault::Memory) => Err(VerdictFault::Memory),
-    }
+    )?;
+    Ok(verdict)
 }

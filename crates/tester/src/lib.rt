@@ -5,7 +5,7 @@ pub use checking::{VerdictFault, check_moments, check_program};
 pub use explaining::{ExplainFault, explain_image};
 pub use images::{CountFault, count_images};
 pub use loading::{ProgramFault, load_object, load_program};
-pub use runs::{TogetherFault, replay, run_program, start_program};
+pub use runs::{TogetherFault, replay, run_program, start_program, trace_of};
 pub use volumes::{default_medium, make_volume};
 
 mod checking;

@@ -130,7 +130,7 @@ pub fn start_program(
 }
 
 /// The events of a run by a schedule, over a copy of the medium behind a cache of as many lines.
-pub(crate) fn trace_of(
+pub fn trace_of(
     alloc: Global,
     program: Program,
     medium: &Medium,

@@ -2,8 +2,8 @@
 use Rattle.std.proofs.Common.{refl}
 use Rattle.command_line.proofs.commands.answer_to.Goals as goal
 
-pub returns-in-Help : goal.returns-in-Help
-returns-in-Help c = rw c.in-Help.is record {
+pub returns-in-Help-clause-answers : goal.returns-in-Help-clause-answers
+returns-in-Help-clause-answers c = rw c.in-Help.is record {
   answer = c.of.result;
   prints = refl;
   text_is = c.of.ensures.text;

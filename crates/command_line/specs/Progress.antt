@@ -1,0 +1,67 @@
+-- What `--progress` tells on standard error.
+use Rattle.std.specs.Prelude.{◌≡◌, ◌⊎◌, ℕ, ◌+◌, ◌-◌, ◌<◌, ◌≤◌, Bool, true, false, List, [], Option, Some, None, Result, OnOk, ◌++◌, codes, decimal}
+use Rattle.std.specs.Io.KnownBytes.{Appends}
+use Rattle.crash_image.specs.Totals.{IsImageSum}
+use Rattle.image_check.specs.Verdicts.{IsVerdictBetween}
+use Rattle.image_check.specs.declared.verdict.Verdict.TheVariants.{Pass}
+use Rattle.parallel_check.specs.Parts.{end_of}
+use Rattle.plan.specs.declared.operation.Operation.{Operation}
+use Rattle.schedule.specs.declared.items.Item.{Item}
+use Rattle.session.specs.Failing.{AppendsFront}
+use Rattle.session.specs.declared.input.Failed.{Failed}
+use Rattle.store_trace.specs.declared.event.Event.{Event}
+use Rattle.tester.specs.Runs.{HasTrace, Setup}
+use Rattle.command_line.specs.Reports.{line_end}
+
+-- the sum of the numbers of images; `over` where a moment has over 65,536
+abbrev pub total_text : Option ℕ → List ℕ
+total_text (Some images) = decimal images
+total_text None = codes "over"
+
+-- `moment M of N, images I`
+abbrev pub progress_line : ℕ → ℕ → Option ℕ → List ℕ
+progress_line moment moments images =
+    codes "moment " ++ (decimal moment ++ (codes " of " ++ (decimal moments ++ (codes ", images " ++ (total_text images ++ line_end)))))
+
+-- A text that tells how far the check of the moments from `first` on that are below `end` has come. Each line says that so many of them
+-- pass, of how many, and how many images those have: more than the line before it.
+pub data IsProgress (plan : List Operation) (start : List (List ℕ)) (events : List Event) (first end : ℕ) : ℕ → List ℕ → Type 0 where
+  starts : IsProgress plan start events first end 0 []
+  goes_on : (moment next : ℕ) (images : Option ℕ) (text : List ℕ) → IsProgress plan start events first end moment text →
+      moment < next → first + next ≤ end → IsVerdictBetween plan start events first (first + next) (Pass next images) →
+      IsProgress plan start events first end next (text ++ progress_line next (end - first) images)
+
+-- the line that tells that the moments from `first` on that are below `next` pass, of those below `end`
+pub record IsLineOf (events : List Event) (first next end : ℕ) (line : List ℕ) : Type 0 where
+  pub images : Option ℕ
+  pub sum : IsImageSum events first next images
+  pub line_is : line ≡ progress_line (next - first) (end - first) images
+
+-- that line was written, or nothing; where standard error failed a front of it was
+pub record WritesLine (events : List Event) (first next end : ℕ) (old new : Option (List ℕ)) (outcome : Result (Unit {0}) Failed) : Type 0 where
+  pub line : List ℕ
+  pub is_line : (line ≡ []) ⊎ IsLineOf events first next end line
+  pub writes : OnOk outcome (Appends old new line)
+  pub front : AppendsFront old new line
+
+-- such a text, or a front of it, was written
+pub record Progresses (plan : List Operation) (start : List (List ℕ)) (events : List Event) (first end : ℕ) (old new : Option (List ℕ)) : Type 0 where
+  pub moment : ℕ
+  pub text : List ℕ
+  pub is_progress : IsProgress plan start events first end moment text
+  pub writes : AppendsFront old new text
+
+-- such a text of the moments of a run from `first` to `last`, or to its last one
+pub record ProgressesOn (plan : List Operation) (s : Setup) (schedule : List Item) (first : ℕ) (last : Option ℕ) (old new : Option (List ℕ)) : Type 0 where
+  pub trace : List Event
+  pub has_trace : HasTrace s schedule trace
+  pub progresses : Progresses plan s.medium trace first (end_of trace last) old new
+
+-- nothing was told, as where there is no such run, or how far the check had come
+abbrev pub TellsProgress : List Operation → Setup → List Item → ℕ → Option ℕ → Option (List ℕ) → Option (List ℕ) → Type 0
+TellsProgress plan s schedule first last old new = (new ≡ old) ⊎ ProgressesOn plan s schedule first last old new
+
+-- it is told where that is asked for, and else nothing is
+abbrev pub IsToldIf : {E : Type 0} → Bool → Type 0 → E → E → Type 0
+IsToldIf true told errors errors' = told
+IsToldIf false told errors errors' = errors' ≡ errors
