@@ -66,10 +66,13 @@ impl Opener {
         &mut self,
         alloc: Global,
         recovery: &R,
+        workspace: &mut R::Workspace,
         limit: u32,
     ) -> Result<Opened<R::Cause>, AllocError>
         requires size { length self.old ≡ R.lines recovery.now }
         requires some { 1 ≤ limit }
+        requires fits { R.fits recovery.now workspace.old }
+        ensures fits { R.fits recovery.now workspace.new }
         ensures over { IfOk result (λ opened. IfOver opened (AreOver (R.asks recovery.now) (R.low recovery.now) (R.high recovery.now) limit)) }
         ensures few { IfOk result (λ opened. IfFew opened (¬ AreOver (R.asks recovery.now) (R.low recovery.now) (R.high recovery.now) limit)) }
         ensures pass { IfOk result (λ opened. IfPass opened ((k : ℕ → ℕ) → IsWithin (R.low recovery.now) (R.high recovery.now) k → R.judged recovery.now k None)) }
@@ -82,7 +85,7 @@ impl Opener {
     {
         let least = self
             .progress
-            .open_all(alloc, recovery, &mut self.run, limit)?;
+            .open_all(alloc, recovery, workspace, &mut self.run, limit)?;
         self.progress.finish(alloc, recovery, limit, least)
     }
 
@@ -92,10 +95,13 @@ impl Opener {
         rt: &T,
         alloc: Global,
         recovery: &R,
+        workspace: &mut R::Workspace,
         limit: u32,
     ) -> Result<Opened<R::Cause>, AllocError>
         requires size { length self.old ≡ R.lines recovery.now }
         requires some { 1 ≤ limit }
+        requires fits { R.fits recovery.now workspace.old }
+        ensures fits { R.fits recovery.now workspace.new }
         ensures over { IfOk result (λ opened. IfOver opened (AreOver (R.asks recovery.now) (R.low recovery.now) (R.high recovery.now) limit)) }
         ensures few { IfOk result (λ opened. IfFew opened (¬ AreOver (R.asks recovery.now) (R.low recovery.now) (R.high recovery.now) limit)) }
         ensures pass { IfOk result (λ opened. IfPass opened ((k : ℕ → ℕ) → IsWithin (R.low recovery.now) (R.high recovery.now) k → R.judged recovery.now k None)) }
@@ -108,7 +114,7 @@ impl Opener {
     {
         let least = self
             .progress
-            .open_all_shared(rt, alloc, recovery, &mut self.run, limit)?;
+            .open_all_shared(rt, alloc, recovery, workspace, &mut self.run, limit)?;
         self.progress.finish(alloc, recovery, limit, least)
     }
 }

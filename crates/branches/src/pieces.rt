@@ -32,7 +32,8 @@ pub fn open_piece<R: Recovery>(
     first: usize,
     count: usize,
 ) -> Result<Piece<R::Cause>, AllocError>
-    requires { AreCuts (R.low recovery.now) (R.high recovery.now) (R.lines recovery.now) queue.now }
+    requires cuts { AreCuts (R.low recovery.now) (R.high recovery.now) (R.lines recovery.now) queue.now }
+    requires workspace { (other : R.Workspace) × R.fits recovery.now other }
     ensures { IfOk result (IsPiece (R.asks recovery.now) (R.judged recovery.now) (R.low recovery.now) (R.high recovery.now) (R.lines recovery.now) queue.now) }
 {
     let mut piece = Piece {
@@ -54,20 +55,42 @@ fn open_up_to<R: Recovery>(
     end: usize,
     piece: &mut Piece<R::Cause>,
 ) -> Result<(), AllocError>
+    requires workspace { (other : R.Workspace) × R.fits recovery.now other }
     requires none { piece.old.count ≡ 0 }
     requires end { end ≤ length queue.now }
     requires cuts { AreCuts (R.low recovery.now) (R.high recovery.now) (R.lines recovery.now) queue.now }
     requires piece { IsPiece (R.asks recovery.now) (R.judged recovery.now) (R.low recovery.now) (R.high recovery.now) (R.lines recovery.now) queue.now piece.old }
     ensures { OnOk result (IsPiece (R.asks recovery.now) (R.judged recovery.now) (R.low recovery.now) (R.high recovery.now) (R.lines recovery.now) queue.now piece.new) }
 {
+    let mut workspace = recovery.workspace(alloc)?;
+    open_in(alloc, recovery, &mut workspace, queue, end, piece)
+}
+
+/// Does so in this workspace.
+fn open_in<R: Recovery>(
+    alloc: Global,
+    recovery: &R,
+    workspace: &mut R::Workspace,
+    queue: &[Entry],
+    end: usize,
+    piece: &mut Piece<R::Cause>,
+) -> Result<(), AllocError>
+    requires none { piece.old.count ≡ 0 }
+    requires end { end ≤ length queue.now }
+    requires fits { R.fits recovery.now workspace.old }
+    requires cuts { AreCuts (R.low recovery.now) (R.high recovery.now) (R.lines recovery.now) queue.now }
+    requires piece { IsPiece (R.asks recovery.now) (R.judged recovery.now) (R.low recovery.now) (R.high recovery.now) (R.lines recovery.now) queue.now piece.old }
+    ensures { OnOk result (IsPiece (R.asks recovery.now) (R.judged recovery.now) (R.low recovery.now) (R.high recovery.now) (R.lines recovery.now) queue.now piece.new) }
+{
     let mut run = Run::new(alloc, recovery.lines())?;
-    open_each(alloc, recovery, &mut run, queue, end, piece)
+    open_each(alloc, recovery, workspace, &mut run, queue, end, piece)
 }
 
 /// Does so by this run.
 fn open_each<R: Recovery>(
     alloc: Global,
     recovery: &R,
+    workspace: &mut R::Workspace,
     run: &mut Run,
     queue: &[Entry],
     end: usize,
@@ -76,6 +99,7 @@ fn open_each<R: Recovery>(
     requires none { piece.old.count ≡ 0 }
     requires end { end ≤ length queue.now }
     requires size { length run.old.numbers ≡ R.lines recovery.now }
+    requires fits { R.fits recovery.now workspace.old }
     requires cuts { AreCuts (R.low recovery.now) (R.high recovery.now) (R.lines recovery.now) queue.now }
     requires piece { IsPiece (R.asks recovery.now) (R.judged recovery.now) (R.low recovery.now) (R.high recovery.now) (R.lines recovery.now) queue.now piece.old }
     ensures { OnOk result (IsPiece (R.asks recovery.now) (R.judged recovery.now) (R.low recovery.now) (R.high recovery.now) (R.lines recovery.now) queue.now piece.new) }
@@ -84,7 +108,7 @@ fn open_each<R: Recovery>(
         if piece.findings.found.len() > MUCH {
             break;
         }
-        open_at(alloc, recovery, run, queue, place, piece)?;
+        open_at(alloc, recovery, workspace, run, queue, place, piece)?;
     }
     Ok(())
 }
@@ -93,6 +117,7 @@ fn open_each<R: Recovery>(
 fn open_at<R: Recovery>(
     alloc: Global,
     recovery: &R,
+    workspace: &mut R::Workspace,
     run: &mut Run,
     queue: &[Entry],
     place: usize,
@@ -102,13 +127,15 @@ fn open_at<R: Recovery>(
     requires next { place ≡ piece.old.first + piece.old.count }
     requires cuts { AreCuts (R.low recovery.now) (R.high recovery.now) (R.lines recovery.now) queue.now }
     requires size { length run.old.numbers ≡ R.lines recovery.now }
+    requires fits { R.fits recovery.now workspace.old }
     requires piece { IsPiece (R.asks recovery.now) (R.judged recovery.now) (R.low recovery.now) (R.high recovery.now) (R.lines recovery.now) queue.now piece.old }
     ensures piece { OnOk result (IsPiece (R.asks recovery.now) (R.judged recovery.now) (R.low recovery.now) (R.high recovery.now) (R.lines recovery.now) queue.now piece.new) }
     ensures first { piece.new.first ≡ piece.old.first }
     ensures count { OnOk result (piece.new.count ≡ piece.old.count + 1) }
     ensures size { length run.new.numbers ≡ length run.old.numbers }
+    ensures fits { R.fits recovery.now workspace.new }
 {
-    let judged = run.open(alloc, recovery, queue, place)?;
+    let judged = run.open(alloc, recovery, workspace, queue, place)?;
     piece.cause = piece.findings.add(
         &mut run.numbers,
         judged,

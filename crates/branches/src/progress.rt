@@ -73,23 +73,26 @@ impl Progress {
         &mut self,
         alloc: Global,
         recovery: &R,
+        workspace: &mut R::Workspace,
         run: &mut Run,
         limit: u32,
     ) -> Result<Option<R::Cause>, AllocError>
         requires size { length self.old.findings.asked ≡ R.lines recovery.now }
         requires least_size { length self.old.findings.least ≡ R.lines recovery.now }
         requires run_size { length run.old.numbers ≡ R.lines recovery.now }
+        requires fits { R.fits recovery.now workspace.old }
         ensures at { IfOk result (λ least. IsAt (R.asks recovery.now) (R.judged recovery.now) (R.low recovery.now) (R.high recovery.now) (R.lines recovery.now)
             self.new.opened self.new.findings.found.items self.new.findings.least least self.new.findings.asked) }
         ensures whole { OnOk result (length self.new.findings.found.items ≤ limit → length self.new.findings.found.items ≤ self.new.opened) }
         ensures size { length self.new.findings.asked ≡ length self.old.findings.asked }
         ensures least_size { length self.new.findings.least ≡ length self.old.findings.least }
         ensures run_size { length run.new.numbers ≡ length run.old.numbers }
+        ensures fits { R.fits recovery.now workspace.new }
     {
         self.begin()?;
         let mut least = None;
         while self.is_open(limit) {
-            least = self.open_next(alloc, recovery, run, least)?;
+            least = self.open_next(alloc, recovery, workspace, run, least)?;
         }
         Ok(least)
     }
@@ -100,23 +103,26 @@ impl Progress {
         rt: &T,
         alloc: Global,
         recovery: &R,
+        workspace: &mut R::Workspace,
         run: &mut Run,
         limit: u32,
     ) -> Result<Option<R::Cause>, AllocError>
         requires size { length self.old.findings.asked ≡ R.lines recovery.now }
         requires least_size { length self.old.findings.least ≡ R.lines recovery.now }
         requires run_size { length run.old.numbers ≡ R.lines recovery.now }
+        requires fits { R.fits recovery.now workspace.old }
         ensures at { IfOk result (λ least. IsAt (R.asks recovery.now) (R.judged recovery.now) (R.low recovery.now) (R.high recovery.now) (R.lines recovery.now)
             self.new.opened self.new.findings.found.items self.new.findings.least least self.new.findings.asked) }
         ensures whole { OnOk result (length self.new.findings.found.items ≤ limit → length self.new.findings.found.items ≤ self.new.opened) }
         ensures size { length self.new.findings.asked ≡ length self.old.findings.asked }
         ensures least_size { length self.new.findings.least ≡ length self.old.findings.least }
         ensures run_size { length run.new.numbers ≡ length run.old.numbers }
+        ensures fits { R.fits recovery.now workspace.new }
     {
         self.begin()?;
         let mut least = None;
         while self.is_open(limit) {
-            least = self.open_next(alloc, recovery, run, least)?;
+            least = self.open_next(alloc, recovery, workspace, run, least)?;
             least = self.open_many(rt, alloc, recovery, limit, least)?;
         }
         Ok(least)
@@ -127,6 +133,7 @@ impl Progress {
         &mut self,
         alloc: Global,
         recovery: &R,
+        workspace: &mut R::Workspace,
         run: &mut Run,
         least: Option<R::Cause>,
     ) -> Result<Option<R::Cause>, AllocError>
@@ -134,6 +141,7 @@ impl Progress {
         requires size { length self.old.findings.asked ≡ R.lines recovery.now }
         requires least_size { length self.old.findings.least ≡ R.lines recovery.now }
         requires run_size { length run.old.numbers ≡ R.lines recovery.now }
+        requires fits { R.fits recovery.now workspace.old }
         requires at { IsAt (R.asks recovery.now) (R.judged recovery.now) (R.low recovery.now) (R.high recovery.now) (R.lines recovery.now)
             self.old.opened self.old.findings.found.items self.old.findings.least least self.old.findings.asked }
         ensures at { IfOk result (λ kept. IsAt (R.asks recovery.now) (R.judged recovery.now) (R.low recovery.now) (R.high recovery.now) (R.lines recovery.now)
@@ -142,8 +150,15 @@ impl Progress {
         ensures size { length self.new.findings.asked ≡ length self.old.findings.asked }
         ensures least_size { length self.new.findings.least ≡ length self.old.findings.least }
         ensures run_size { length run.new.numbers ≡ length run.old.numbers }
+        ensures fits { R.fits recovery.now workspace.new }
     {
-        let judged = run.open(alloc, recovery, &self.findings.found, self.opened)?;
+        let judged = run.open(
+            alloc,
+            recovery,
+            workspace,
+            &self.findings.found,
+            self.opened,
+        )?;
         let kept = self
             .findings
             .add(&mut run.numbers, judged, &run.asked, &run.found, least)?;
@@ -161,6 +176,7 @@ impl Progress {
         limit: u32,
         least: Option<R::Cause>,
     ) -> Result<Option<R::Cause>, AllocError>
+        requires workspace { (other : R.Workspace) × R.fits recovery.now other }
         requires size { length self.old.findings.asked ≡ R.lines recovery.now }
         requires least_size { length self.old.findings.least ≡ R.lines recovery.now }
         requires at { IsAt (R.asks recovery.now) (R.judged recovery.now) (R.low recovery.now) (R.high recovery.now) (R.lines recovery.now)

@@ -12,6 +12,9 @@ pub trait Recovery {
     /// Why an image is bad.
     type Cause: Copy + Send;
 
+    /// What a run of recovery works in: one run after another.
+    type Workspace: Drop + Send;
+
     /// How many lines the medium has.
     ghost lines: { Self → ℕ };
 
@@ -27,6 +30,9 @@ pub trait Recovery {
     /// The image of this cut is bad for this cause, or passes.
     ghost judged: { Self → (ℕ → ℕ) → Option Self.Cause → Type 0 };
 
+    /// The workspace is one for these images.
+    ghost fits: { Self → Self.Workspace → Type 0 };
+
     /// How many lines the medium has.
     fn lines(&self) -> u32
         ensures { result ≡ lines self.now };
@@ -41,20 +47,29 @@ pub trait Recovery {
         requires { line < lines self.now }
         ensures { result ≡ high self.now line };
 
+    /// A workspace for runs of recovery on these images, of which one is there: each thread that opens branches has one of its own.
+    fn workspace(&self, alloc: Global) -> Result<Self::Workspace, AllocError>
+        requires { (other : Self.Workspace) × fits self.now other }
+        ensures { IfOk result (λ workspace. fits self.now workspace) };
+
     /// Recovers the image of a cut, given by line, with 0 for a line at its floor. Puts the lines that are asked into `asked`,
-    /// in order, each below `lines`, and answers why the image is bad, or None where it passes.
+    /// in order, each below `lines`, and answers why the image is bad, or None where it passes. The workspace can be used again
+    /// after an error too.
     fn recover(
         &self,
         alloc: Global,
+        workspace: &mut Self::Workspace,
         numbers: &[u32],
         asked: &mut Vec<u32>,
     ) -> Result<Option<Self::Cause>, AllocError>
+        requires fits { fits self.now workspace.old }
         requires size { length numbers.now ≡ lines self.now }
         requires within { IsWithin (low self.now) (high self.now) (number_over (low self.now) numbers.now) }
         requires fresh { asked.old.items ≡ [] }
         ensures asked { IfOk result (λ found. asks self.now (number_over (low self.now) numbers.now) asked.new.items) }
         ensures below { IfOk result (λ found. AllByRecursion (λ l. l < lines self.now) asked.new.items) }
-        ensures judged { IfOk result (λ found. judged self.now (number_over (low self.now) numbers.now) found) };
+        ensures judged { IfOk result (λ found. judged self.now (number_over (low self.now) numbers.now) found) }
+        ensures fits { fits self.now workspace.new };
 
     ghost ordered: { (s : Self) (l : ℕ) → low s l ≤ high s l };
 

@@ -30,6 +30,7 @@ pub fn open_round<R: Recovery + Sync, T: Threads + Sync>(
     first: usize,
 ) -> Result<Vec<Result<Piece<R::Cause>, AllocError>>, AllocError>
     requires cuts { AreCuts (R.low recovery.now) (R.high recovery.now) (R.lines recovery.now) queue.now }
+    requires workspace { (other : R.Workspace) × R.fits recovery.now other }
     ensures { IfOk result (λ pieces. All (λ found. IfOk found (IsPiece (R.asks recovery.now) (R.judged recovery.now) (R.low recovery.now) (R.high recovery.now)
         (R.lines recovery.now) queue.now)) pieces.items) }
 {
@@ -50,6 +51,7 @@ fn open_pieces<R: Recovery + Sync, T: Threads + Sync>(
     count: usize,
 ) -> Result<Vec<Result<Piece<R::Cause>, AllocError>>, AllocError>
     requires cuts { AreCuts (R.low recovery.now) (R.high recovery.now) (R.lines recovery.now) queue.now }
+    requires workspace { (other : R.Workspace) × R.fits recovery.now other }
     ensures { IfOk result (λ pieces. All (λ found. IfOk found (IsPiece (R.asks recovery.now) (R.judged recovery.now) (R.low recovery.now) (R.high recovery.now)
         (R.lines recovery.now) queue.now)) pieces.items) }
 {
@@ -60,7 +62,7 @@ fn open_pieces<R: Recovery + Sync, T: Threads + Sync>(
         .with_min_len(1)
         .map(
             |number: usize| -> Result<Piece<R::Cause>, AllocError>
-                requires { AreCuts (R.low recovery.now) (R.high recovery.now) (R.lines recovery.now) queue.now }
+                requires { AreCuts (R.low recovery.now) (R.high recovery.now) (R.lines recovery.now) queue.now × ((other : R.Workspace) × R.fits recovery.now other) }
                 ensures { IfOk result (IsPiece (R.asks recovery.entry.now) (R.judged recovery.entry.now) (R.low recovery.entry.now) (R.high recovery.entry.now)
                     (R.lines recovery.entry.now) queue.entry.now) }
             {

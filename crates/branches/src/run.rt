@@ -39,6 +39,7 @@ impl Run {
         &mut self,
         alloc: Global,
         recovery: &R,
+        workspace: &mut R::Workspace,
         entries: &[Entry],
         at: usize,
     ) -> Result<Option<R::Cause>, AllocError>
@@ -47,6 +48,8 @@ impl Run {
         requires tree { IsTree (R.lines recovery.now) entries.now }
         requires raised { AreRaised (R.low recovery.now) entries.now }
         requires within { IsWithin (R.low recovery.now) (R.high recovery.now) (cut_at (R.low recovery.now) entries.now at) }
+        requires fits { R.fits recovery.now workspace.old }
+        ensures fits { R.fits recovery.now workspace.new }
         ensures size { length self.new.numbers ≡ length self.old.numbers }
         ensures cut { OnOk result (number_over (R.low recovery.now) self.new.numbers ≡ cut_at (R.low recovery.now) entries.now at) }
         ensures above { OnOk result (AreAbove (R.low recovery.now) self.new.numbers) }
@@ -58,7 +61,7 @@ impl Run {
     {
         self.numbers.set(entries, at)?;
         self.asked.clear();
-        let judged = recovery.recover(alloc, self.numbers.as_slice(), &mut self.asked)?;
+        let judged = recovery.recover(alloc, workspace, self.numbers.as_slice(), &mut self.asked)?;
         branch_off(
             recovery,
             &self.asked,

@@ -121,7 +121,7 @@ pub fn open_moment(
     ensures size { length opener.new ≡ length opener.old }
     ensures err { IfErr result (λ fault. fault ≡ CheckFault.Memory) }
 {
-    match opener.open(alloc, images, MAX_BRANCHES)? {
+    match opener.open(alloc, images, &mut (), MAX_BRANCHES)? {
         Opened::Over => Ok(MomentVerdict::TooMany),
         Opened::Pass => Ok(MomentVerdict::Pass),
         Opened::Bad { numbers, cause } => {

@@ -69,6 +69,8 @@ impl Recovery for MomentImages<'_, '_> {
 
     type Cause = Cause;
 
+    type Workspace = ();
+
     ghost lines = { λ s. length s.index.now.start };
 
     ghost low = { λ s l. floor l (at_moment s.index.now.events s.moment) };
@@ -79,6 +81,8 @@ impl Recovery for MomentImages<'_, '_> {
 
     ghost judged = { λ s k found. IsFound s.plan.now.operations s.index.now.start (take s.moment s.index.now.events)
         (image s.index.now.start k (at_moment s.index.now.events s.moment)) found };
+
+    ghost fits = { λ s workspace. Unit {0} };
 
     fn lines(&self) -> u32 {
         self.index.lines()
@@ -92,9 +96,14 @@ impl Recovery for MomentImages<'_, '_> {
         self.index.stores(line, self.moment)
     }
 
+    fn workspace(&self, _alloc: Global) -> Result<(), AllocError> {
+        Ok(())
+    }
+
     fn recover(
         &self,
         alloc: Global,
+        _workspace: &mut (),
         numbers: &[u32],
         asked: &mut Vec<u32>,
     ) -> Result<Option<Cause>, AllocError> {

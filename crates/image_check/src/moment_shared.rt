@@ -34,7 +34,7 @@ pub fn open_moment_shared<T: Threads + Sync>(
     ensures size { length opener.new ≡ length opener.old }
     ensures err { IfErr result (λ fault. fault ≡ CheckFault.Memory) }
 {
-    match opener.open_shared(rt, alloc, images, MAX_BRANCHES)? {
+    match opener.open_shared(rt, alloc, images, &mut (), MAX_BRANCHES)? {
         Opened::Over => Ok(MomentVerdict::TooMany),
         Opened::Pass => Ok(MomentVerdict::Pass),
         Opened::Bad { numbers, cause } => {

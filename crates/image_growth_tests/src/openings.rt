@@ -16,6 +16,8 @@ impl Recovery for FiveLines {
 
     type Cause = u32;
 
+    type Workspace = ();
+
     ghost lines = { λ s. 5 };
 
     ghost low = { λ s l. 0 };
@@ -25,6 +27,8 @@ impl Recovery for FiveLines {
     ghost asks = { λ s. Asks };
 
     ghost judged = { λ s. IsJudged };
+
+    ghost fits = { λ s workspace. Unit {0} };
 
     fn lines(&self) -> u32 {
         5
@@ -38,9 +42,14 @@ impl Recovery for FiveLines {
         1
     }
 
+    fn workspace(&self, _alloc: Global) -> Result<(), AllocError> {
+        Ok(())
+    }
+
     fn recover(
         &self,
         _alloc: Global,
+        _workspace: &mut (),
         numbers: &[u32],
         asked: &mut Vec<u32>,
     ) -> Result<Option<u32>, AllocError> {
@@ -71,7 +80,7 @@ fn opens(alloc: Global, opener: &mut Opener) -> Result<bool, Refused>
     requires { length opener.old ≡ 5 }
     ensures { length opener.new ≡ 5 }
 {
-    match opener.open(alloc, &FiveLines, 32) {
+    match opener.open(alloc, &FiveLines, &mut (), 32) {
         Ok(Opened::Bad { numbers, cause }) => {
             Ok(
                 cause == 1

@@ -23,6 +23,8 @@ impl Recovery for Small {
 
     type Cause = u32;
 
+    type Workspace = ();
+
     ghost lines = { λ s. 3 };
 
     ghost low = { λ s l. 0 };
@@ -32,6 +34,8 @@ impl Recovery for Small {
     ghost asks = { λ s k ls. Asks s.key k ls };
 
     ghost judged = { λ s k found. IsJudged s.key s.bad k found };
+
+    ghost fits = { λ s workspace. Unit {0} };
 
     fn lines(&self) -> u32 {
         3
@@ -45,9 +49,14 @@ impl Recovery for Small {
         self.stores[line as usize]
     }
 
+    fn workspace(&self, _alloc: Global) -> Result<(), AllocError> {
+        Ok(())
+    }
+
     fn recover(
         &self,
         _alloc: Global,
+        _workspace: &mut (),
         numbers: &[u32],
         asked: &mut Vec<u32>,
     ) -> Result<Option<u32>, AllocError> {
@@ -160,7 +169,7 @@ fn outcome_of(
     requires some { 1 ≤ limit }
     ensures { length opener.new ≡ 3 }
 {
-    match opener.open(alloc, recovery, limit)? {
+    match opener.open(alloc, recovery, &mut (), limit)? {
         Opened::Over => Ok(Outcome::Over),
         Opened::Pass => Ok(Outcome::Pass),
         Opened::Bad { numbers, cause } => Ok(Outcome::Bad(three(&numbers), cause)),

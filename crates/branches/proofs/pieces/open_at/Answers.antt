@@ -43,7 +43,7 @@ returns-clause-piece g c =
 pub open-requires : goal.open-requires
 open-requires g c =
     let cuts = c.requires.cuts in
-    (c.type_bounds.send-R-Cause, (c.requires.size, (c.requires.there, (cuts.tree, (cuts.raised, cuts.within c.args.place c.requires.there)))))
+    (c.type_bounds.send-R-Cause, (c.type_bounds.send-R-Workspace, (c.requires.size, (c.requires.there, (cuts.tree, (cuts.raised, (cuts.within c.args.place c.requires.there, c.requires.fits)))))))
 
 pub add-requires-clause-size : goal.add-requires-clause-size
 add-requires-clause-size g c = c.open.ensures.size ∙ (c.requires.size ∙ sym c.requires.piece.least_size)

@@ -8,3 +8,4 @@ invariant-loop-place g l =
     IsPiece (r.asks l.recovery) (r.judged l.recovery) (r.low l.recovery) (r.high l.recovery) (r.lines l.recovery) l.queue l.piece
     × (l.place ≡ l.piece.first + l.piece.count)
     × (length l.run.numbers ≡ r.lines l.recovery)
+    × r.fits l.recovery l.workspace

@@ -14,6 +14,7 @@ loop-alloc-init g c =
       c.begin.ensures.asked,
       ap length c.begin.ensures.least,
       refl,
+      c.requires.fits,
     )
 
 pub open_next-requires-clause-there : goal.open_next-requires-clause-there
@@ -28,6 +29,9 @@ open_next-requires-clause-least_size g c κs within = c.loop-alloc.invariant.2 �
 pub open_next-requires-clause-run_size : goal.open_next-requires-clause-run_size
 open_next-requires-clause-run_size g c κs within = c.loop-alloc.invariant.3 ∙ c.requires.run_size
 
+pub open_next-requires-clause-fits : goal.open_next-requires-clause-fits
+open_next-requires-clause-fits g c κs within = c.loop-alloc.invariant.4
+
 pub open_next-requires-clause-at : goal.open_next-requires-clause-at
 open_next-requires-clause-at g c κs within = c.loop-alloc.invariant.0
 
@@ -39,6 +43,7 @@ loop-alloc-preserved g c =
       e.size ∙ i.1,
       e.least_size ∙ i.2,
       e.run_size ∙ i.3,
+      c.open_next.ensures.fits,
     )
 
 pub loop-alloc-smaller : goal.loop-alloc-smaller

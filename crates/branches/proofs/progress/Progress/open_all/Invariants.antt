@@ -10,6 +10,7 @@ invariant-loop-alloc g l =
     × (length p.findings.asked ≡ length l.fn.self.findings.asked)
     × (length p.findings.least ≡ length l.fn.self.findings.least)
     × (length l.run.numbers ≡ length l.fn.run.numbers)
+    × r.fits l.recovery l.workspace
 
 abbrev pub decreases-loop-alloc : goal.decreases-loop-alloc
 decreases-loop-alloc g l = l.limit - l.self.opened

@@ -15,6 +15,7 @@ loop-alloc-init g c =
       c.begin.ensures.asked,
       ap length c.begin.ensures.least,
       refl,
+      c.requires.fits,
     )
 
 pub open_next-requires-clause-there : goal.open_next-requires-clause-there
@@ -29,6 +30,9 @@ open_next-requires-clause-least_size g c κs within = c.loop-alloc.invariant.2 �
 pub open_next-requires-clause-run_size : goal.open_next-requires-clause-run_size
 open_next-requires-clause-run_size g c κs within = c.loop-alloc.invariant.3 ∙ c.requires.run_size
 
+pub open_next-requires-clause-fits : goal.open_next-requires-clause-fits
+open_next-requires-clause-fits g c κs within = c.loop-alloc.invariant.4
+
 pub open_next-requires-clause-at : goal.open_next-requires-clause-at
 open_next-requires-clause-at g c κs within = c.loop-alloc.invariant.0
 
@@ -41,6 +45,7 @@ loop-alloc-preserved g c =
       f.size ∙ (e.size ∙ i.1),
       f.least_size ∙ (e.least_size ∙ i.2),
       e.run_size ∙ i.3,
+      c.open_next.ensures.fits,
     )
 
 pub loop-alloc-smaller : goal.loop-alloc-smaller

@@ -16,7 +16,7 @@ open-requires g c =
     let nodes = c.requires.at.opening.nodes in
     let within = at_within (r.asks s) (r.judged s) (r.low s) (r.high s) (r.lines s) p.opened p.findings.found.items p.findings.least c.args.least p.findings.asked
     (g.met.R.Recovery.adaptive s) c.requires.there c.requires.at in
-    rw c.deref.ensures.value (c.type_bounds.send-R-Cause, (c.requires.run_size, (c.requires.there, (nodes.tree, (nodes.raised, within)))))
+    rw c.deref.ensures.value (c.type_bounds.send-R-Cause, (c.type_bounds.send-R-Workspace, (c.requires.run_size, (c.requires.there, (nodes.tree, (nodes.raised, (within, c.requires.fits)))))))
 
 pub add-requires-clause-size : goal.add-requires-clause-size
 add-requires-clause-size g c = c.open.ensures.size ∙ (c.requires.run_size ∙ sym c.requires.least_size)

@@ -24,7 +24,7 @@ recover-requires-clause-within g c =
 pub branch_off-requires : goal.branch_off-requires
 branch_off-requires g c =
     let below = subst (λ (ls : List ℕ). AllByRecursion (λ l. l < g.R.Recovery.lines c.args.recovery.now) ls) (sym c.deref.ensures.value) c.in_ok-judged.ensures.below in
-    (c.type_bounds.send-R-Cause, (c.args.self.now.same_size ∙ c.requires.size, below))
+    (c.type_bounds.send-R-Cause, (c.type_bounds.send-R-Workspace, (c.args.self.now.same_size ∙ c.requires.size, below)))
 
 pub invariant_of-self-2 : goal.invariant_of-self-2
 invariant_of-self-2 g c = record { same_size = c.branch_off.ensures.size ∙ (c.args.self.now.same_size ∙ sym c.set.ensures.size) }
