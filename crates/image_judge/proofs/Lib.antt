@@ -1,0 +1,4 @@
+pub mod Beginning
+pub mod Gathering
+pub mod Looking
+pub mod Running

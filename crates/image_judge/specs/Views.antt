@@ -1,0 +1,11 @@
+-- What a contract sees of a run that is judged by a recovery routine.
+use Rattle.std.specs.Prelude.{ℕ, List}
+use Rattle.object.specs.Sections.{Sections}
+use Rattle.store_trace.specs.declared.event.Event.{Event}
+
+-- the routine and the most steps that it makes on an image; the lines of the medium from which the run started, and its events
+pub record JudgeView : Type 0 where
+  pub routine : Sections
+  pub steps : ℕ
+  pub start : List (List ℕ)
+  pub events : List Event

@@ -1,0 +1,54 @@
+//! The verdict on one moment: one run of recovery for each branch of its cuts.
+
+ghost use Rattle.crash_image.specs.View.{HasLines};
+ghost use Rattle.crash_model.specs.Floor.{floor};
+ghost use Rattle.crash_model.specs.Stores.{stores};
+ghost use Rattle.moment_verdict.specs.Verdicts.{IsMomentVerdict};
+ghost use Rattle.store_trace.specs.History.{at_moment};
+ghost use Rattle.std.specs.Prelude.{◌≡◌, ℕ, ◌≤◌, Option, length, IfOk};
+
+use crate::MomentVerdict;
+use crate::naming::name_cut;
+use branches::{Opened, Opener, Recovery};
+use line_memory::Medium;
+use std::alloc::{AllocError, Global};
+use std::thread::Threads;
+use store_trace::Trace;
+
+/// The most branches of a moment that are opened.
+const MAX_BRANCHES: u32 = 65_536;
+
+/// The verdict on the state after the first `moment` events of the trace, which started from the medium: its images are those that the
+/// recovery has for cuts, and they are judged by one run of it for each branch, in threads of their own where there are many. The
+/// medium has every line that the trace names.
+pub fn open_moment<R: Recovery + Sync, T: Threads + Sync>(
+    rt: &T,
+    alloc: Global,
+    medium: &Medium,
+    trace: &Trace,
+    moment: u32,
+    recovery: &R,
+    workspace: &mut R::Workspace,
+    opener: &mut Opener,
+) -> Result<MomentVerdict<R::Cause>, AllocError>
+    requires lines { HasLines medium.now trace.now.events }
+    requires there { moment ≤ length trace.now.events }
+    requires count { R.lines recovery.now ≡ length medium.now }
+    requires size { length opener.old ≡ length medium.now }
+    requires low { R.low recovery.now ≡ (λ l. floor l (at_moment trace.now.events moment)) }
+    requires high { R.high recovery.now ≡ (λ l. stores l (at_moment trace.now.events moment)) }
+    requires alike { (k c : ℕ → ℕ) (found : Option R.Cause) → ((l : ℕ) → k l ≡ c l) → R.judged recovery.now c found → R.judged recovery.now k found }
+    requires fits { R.fits recovery.now workspace.old }
+    ensures ok { IfOk result (IsMomentVerdict (R.asks recovery.now) (R.judged recovery.now) (at_moment trace.now.events moment)) }
+    ensures size { length opener.new ≡ length opener.old }
+    ensures fits { R.fits recovery.now workspace.new }
+{
+    match opener.open_shared(rt, alloc, recovery, workspace, MAX_BRANCHES)? {
+        Opened::Over => Ok(MomentVerdict::TooMany),
+        Opened::Pass => Ok(MomentVerdict::Pass),
+        Opened::Bad { numbers, cause } => {
+            let image = name_cut(alloc, medium, trace, moment, &numbers)?;
+            Ok(MomentVerdict::Fail { image, cause })
+        }
+    }
+}

@@ -1,0 +1,41 @@
+-- What a pass says of the run.
+use Rattle.std.proofs.Common.{◌≡◌, ℕ, ◌+◌, ◌≤◌, List, Option, None, length, ap, ◌∙◌, arith}
+use Rattle.std.specs.Prelude.{max, min}
+use Rattle.image_judge.specs.Verdicts.{IsJudged, IsVerdict, first_judged, judged_from}
+use Rattle.image_judge.specs.declared.cause.Cause.{Cause}
+use Rattle.machine.proofs.Determined.{runs_once}
+use Rattle.machine.specs.Run.{Config}
+use Rattle.moment_verdict.specs.Verdicts.{PassBetween}
+use Rattle.moment_verdict.specs.declared.verdict.Verdict.{Verdict}
+use Rattle.moment_verdict.specs.declared.verdict.Verdict.TheVariants.{Pass}
+use Rattle.object.specs.Sections.{Sections}
+use Rattle.parallel_moments.specs.Rows.{end_of}
+use Rattle.schedule.specs.Steps.{all_steps}
+use Rattle.schedule.specs.declared.items.Item.{Item}
+use Rattle.store_trace.specs.declared.event.Event.{Event}
+use Rattle.tester.specs.Runs.{HasTrace, Setup, start_of}
+use Rattle.program_judge.specs.Judging.{AlwaysRecovers, view_of}
+
+from_there : (fj end m : ℕ) → fj ≤ m → min (max 0 fj) end ≤ m
+from_there fj end m h = omega (arith, h)
+
+-- the run comes to one end, so its trace is the one that was judged
+all_moments : (s : Setup) (schedule : List Item) (recovery : Sections) (steps : ℕ) (trace : List Event) → HasTrace s schedule trace
+    → PassBetween (IsJudged (view_of s recovery steps trace)) (judged_from trace 0 (length trace + 1)) (length trace + 1) → AlwaysRecovers s schedule recovery steps
+all_moments s schedule recovery steps trace is passes end moment cut runs from within is_cut =
+    let one_end : is.end ≡ end = runs_once (start_of s) (all_steps schedule) is.end end is.run runs in
+    let same : trace ≡ end.common.trace = is.trace_is ∙ ap (λ (c : Config). c.common.trace) one_end in
+    let all : PassBetween (IsJudged (view_of s recovery steps end.common.trace)) (judged_from end.common.trace 0 (length end.common.trace + 1))
+    (length end.common.trace + 1) = rw same at passes in
+    let here = all moment (from_there (first_judged end.common.trace) (length end.common.trace + 1) moment from) (omega arith) in record {
+      window = here.window;
+      is_window = here.is_window;
+      right = here.judged.1 cut is_cut;
+    }
+
+pub always_recovers : (s : Setup) (schedule : List Item) (recovery : Sections) (steps first : ℕ) (last : Option ℕ) (trace : List Event) (verdict : Verdict Cause)
+    → HasTrace s schedule trace → IsVerdict (view_of s recovery steps trace) first (end_of trace last) verdict
+    → (moments : ℕ) (images : Option ℕ) → verdict ≡ Pass moments images → first ≡ 0 → last ≡ None → AlwaysRecovers s schedule recovery steps
+always_recovers s schedule recovery steps first last trace verdict is judged moments images passed zero all =
+    let whole : IsVerdict (view_of s recovery steps trace) 0 (length trace + 1) (Pass moments images) = rw (passed, zero, all) at judged in
+    all_moments s schedule recovery steps trace is whole.2

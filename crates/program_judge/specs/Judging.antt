@@ -1,0 +1,84 @@
+-- The verdict on the run of a program by a schedule, by a recovery routine.
+use Rattle.std.specs.Prelude.{◌≢◌, ℕ, ◌<◌, ◌≤◌, Bool, List, [], Option, None, length}
+use Rattle.crash_model.specs.Cut.{IsCut, number_in}
+use Rattle.image_check.specs.Marks.{begun}
+use Rattle.image_judge.specs.RightAnswers.{IsFoundOf, is_among}
+use Rattle.image_judge.specs.Verdicts.{IsVerdict, first_judged}
+use Rattle.image_judge.specs.Views.{JudgeView}
+use Rattle.image_judge.specs.declared.cause.Cause.{Cause}
+use Rattle.image_judge.specs.declared.fault.JudgeFault.{JudgeFault}
+use Rattle.image_judge.specs.declared.fault.JudgeFault.TheVariants as judged
+use Rattle.judge_marks.specs.MarkFaults.{AreSound, IsFault}
+use Rattle.judge_marks.specs.Windows.{IsWindow}
+use Rattle.judge_marks.specs.declared.fault.MarkFault.{MarkFault}
+use Rattle.judge_marks.specs.declared.fault.MarkFault.TheVariants as marks
+use Rattle.judge_marks.specs.declared.moments.Window.{Window}
+use Rattle.machine.specs.Run.{Config, RunsTo}
+use Rattle.moment_verdict.specs.declared.verdict.Verdict.{Verdict}
+use Rattle.object.specs.Sections.{Sections}
+use Rattle.parallel_moments.specs.Rows.{end_of}
+use Rattle.program_judge.specs.declared.judging.JudgingFault.{JudgingFault}
+use Rattle.program_judge.specs.declared.judging.JudgingFault.TheVariants.{Step as StepRefused, Marks as WrongMarks, NoSuchMoment, Memory}
+use Rattle.schedule.specs.Steps.{all_steps}
+use Rattle.schedule.specs.declared.items.Item.{Item}
+use Rattle.shared_memory.specs.declared.fault.StepFault.{StepFault}
+use Rattle.shared_memory.specs.declared.fault.StepFault.TheVariants as refused
+use Rattle.store_trace.specs.History.{at_moment}
+use Rattle.store_trace.specs.declared.event.Event.{Event}
+use Rattle.tester.specs.Runs.{HasTrace, IsRefused, Setup, fault_of_run, start_of}
+
+-- the routine, for so many steps at most, over these events of a run from the setup's medium
+abbrev pub view_of : Setup → Sections → ℕ → List Event → JudgeView
+view_of s recovery steps events = record { routine = recovery; steps = steps; start = s.medium; events = events }
+
+-- the verdict on those of the moments of the run from `first` to `last`, or to its last one, that are judged; the run's marks are right
+pub record HasJudgement (s : Setup) (schedule : List Item) (recovery : Sections) (steps : ℕ) (overlapping : Bool) (first : ℕ) (last : Option ℕ)
+    (verdict : Verdict Cause) : Type 0 where
+  pub trace : List Event
+  pub has_trace : HasTrace s schedule trace
+  pub sound : AreSound overlapping trace (length trace)
+  pub begins : begun trace ≢ []
+  pub verdict_is : IsVerdict (view_of s recovery steps trace) first (end_of trace last) verdict
+
+-- whatever a power cut leaves at a moment of the run from its first Begin on: the routine has an answer, and a right one
+pub record IsRightAt (view : JudgeView) (moment : ℕ) (cut : ℕ → ℕ) : Type 0 where
+  pub window : Window
+  pub is_window : IsWindow view.events moment window
+  pub right : IsFoundOf view (is_among window moment) moment cut None
+
+abbrev pub AlwaysRecovers : Setup → List Item → Sections → ℕ → Type 0
+AlwaysRecovers s schedule recovery steps = (end : Config) (moment : ℕ) (cut : List (ℕ × ℕ)) → RunsTo (start_of s) (all_steps schedule) end
+    → first_judged end.common.trace ≤ moment → moment ≤ length end.common.trace → IsCut (at_moment end.common.trace moment) cut
+    → IsRightAt (view_of s recovery steps end.common.trace) moment (number_in cut)
+
+-- the run's first wrong mark has this fault, or no operation begins in it
+pub record HasWrongMarks (s : Setup) (schedule : List Item) (overlapping : Bool) (fault : MarkFault) : Type 0 where
+  pub trace : List Event
+  pub has_trace : HasTrace s schedule trace
+  pub faulty : IsFault overlapping trace fault
+  pub told : fault ≢ marks.Memory
+
+-- the run, whose marks are right, has fewer events than that
+pub record LacksMoment (s : Setup) (schedule : List Item) (overlapping : Bool) (moment : ℕ) : Type 0 where
+  pub trace : List Event
+  pub has_trace : HasTrace s schedule trace
+  pub sound : AreSound overlapping trace (length trace)
+  pub begins : begun trace ≢ []
+  pub past : length trace < moment
+
+-- the fault of a run on which there was to be a verdict
+abbrev pub judging_fault : StepFault → JudgingFault
+judging_fault fault = fault_of_run StepRefused Memory fault
+
+-- that of the judges of its trace
+abbrev pub fault_of_judge : JudgeFault → JudgingFault
+fault_of_judge (judged.Marks fault) = WrongMarks fault
+fault_of_judge judged.NoSuchMoment = NoSuchMoment
+fault_of_judge judged.Memory = Memory
+
+-- what a fault says of the run, of its marks and of the first moment that is asked for
+abbrev pub HasNoJudgement : Setup → List Item → Bool → ℕ → JudgingFault → Type 0
+HasNoJudgement s schedule overlapping first (StepRefused fault) = (fault ≢ refused.Memory) × IsRefused s schedule fault
+HasNoJudgement s schedule overlapping first (WrongMarks fault) = HasWrongMarks s schedule overlapping fault
+HasNoJudgement s schedule overlapping first NoSuchMoment = LacksMoment s schedule overlapping first
+HasNoJudgement s schedule overlapping first Memory = Unit {0}
