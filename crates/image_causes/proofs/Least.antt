@@ -1,6 +1,6 @@
 -- In the least failing cut a line that recovery doesn't read stands at its floor: else the cut in which it does fails too.
-use Rattle.std.proofs.Common.{◌≡◌, ℕ, ◌+◌, ◌<◌, ◌≤◌, Bool, true, false, ◌==◌, ◌||◌, nat_lt, List, [], ◌∷◌, get_or, length, refl, sym, ap, subst, ◌∙◌, arith, inl, inr}
-use Rattle.std.specs.Prelude.{if◌then◌else◌, map, Option, Some, None, Ok, Err}
+use Rattle.std.proofs.Common.{◌≡◌, ℕ, ◌<◌, ◌≤◌, true, false, ◌==◌, List, [], ◌∷◌, get_or, refl, sym, ap, ◌∙◌, arith, inl, inr}
+use Rattle.std.specs.Prelude.{if◌then◌else◌, map, Some}
 use Rattle.std.proofs.lemmas.Bool.{cases_Bool}
 use Rattle.std.proofs.lemmas.Bool.Decides.{nat_tests}
 use Rattle.branches.specs.Branches.{Agree}
@@ -8,11 +8,10 @@ use Rattle.crash_model.proofs.Bounds.{floor_le_stores}
 use Rattle.std.proofs.lemmas.List.Elements.{All-map}
 use Rattle.crash_model.specs.Cut.{IsBefore, IsCut, number_in}
 use Rattle.crash_model.specs.Floor.{floor}
-use Rattle.crash_model.specs.Image.{image}
 use Rattle.crash_model.specs.Stores.{stores}
 use Rattle.crash_model.specs.declared.step.PersistenceStep.{PersistenceStep}
 use Rattle.image_check.specs.Alike.{branchwise}
-use Rattle.image_check.specs.Images.{IsBad, IsGood, IsSpoilt, Passes, image_after}
+use Rattle.image_check.specs.Images.{IsGood, IsSpoilt, Passes, image_after}
 use Rattle.image_check.specs.Verdicts.{IsLeastBad}
 use Rattle.image_check.specs.declared.verdict.Cause.{Cause}
 use Rattle.image_check.specs.declared.verdict.Cause.TheVariants.{Fault, Illegal}

@@ -34,9 +34,9 @@ others lines cut = map cut_line (filter (λ entry. not (is_among lines entry.0))
 abbrev pub lacks_store : List Event → ℕ → CutLine → Bool
 lacks_store events moment entry = nat_lt entry.number (stores entry.line (at_moment events moment))
 
--- the lines that recovery of the image of a cut reads
-abbrev pub read_of : List (List ℕ) → List Event → ℕ → List (ℕ × ℕ) → List ℕ
-read_of start events moment cut = asked_lines (image start (number_in cut) (at_moment events moment))
+-- of an image recovery of the log volume reads these lines, as it asks for them
+abbrev pub IsAsked : List (List ℕ) → List ℕ → Type 0
+IsAsked image lines = lines ≡ asked_lines image
 
 -- of a cut, of whose lines these are read: the first store that is lost and the last that is kept of each of them, and how many others
 -- lack a store
@@ -45,12 +45,19 @@ pub record AreTold (events : List Event) (moment : ℕ) (cut : List (ℕ × ℕ)
   pub kept : AreGiven (IsKeptOf events moment) (those read cut) told.read.kept.items
   pub unread : told.unread ≡ length (filter (lacks_store events moment) (others read cut))
 
--- this of the image of this name, by the lines that recovery reads of it
-pub record IsTold (start : List (List ℕ)) (events : List Event) (moment : ℕ) (name : ImageName) (told : ToldImage) : Type 0 where
+-- this of the image of this name, by lines that a recovery reads of it
+pub record IsToldBy (reads : List (List ℕ) → List ℕ → Type 0) (start : List (List ℕ)) (events : List Event) (moment : ℕ) (name : ImageName)
+    (told : ToldImage) : Type 0 where
   pub cut : List (ℕ × ℕ)
+  pub lines : List ℕ
   pub within : moment ≤ length events
   pub named : IsNamed (at_moment events moment) name cut
-  pub told_of : AreTold events moment cut (read_of start events moment cut) told
+  pub read : reads (image start (number_in cut) (at_moment events moment)) lines
+  pub told_of : AreTold events moment cut lines told
+
+-- by those that recovery of the log volume reads
+abbrev pub IsTold : List (List ℕ) → List Event → ℕ → ImageName → ToldImage → Type 0
+IsTold start events moment name told = IsToldBy IsAsked start events moment name told
 
 -- why there is no such image: the trace ends before the moment, or the moment has none of this name
 abbrev pub LacksImage : List Event → ℕ → ImageName → ImageFault → Type 0

@@ -7,4 +7,5 @@ mod reading;
 mod telling;
 
 pub use laws::kept_lines_are_read;
-pub use telling::{ToldImage, tell_image};
+pub use reading::{LogReader, Reader};
+pub use telling::{ToldImage, tell_image, tell_image_by};

@@ -3,13 +3,12 @@
 ghost use Rattle.crash_image.specs.View.{HasLines};
 ghost use Rattle.crash_model.specs.Cut.{number_in};
 ghost use Rattle.crash_model.specs.Image.{image};
-ghost use Rattle.image_causes.specs.Told.{AreTold, IsTold, LacksImage};
-ghost use Rattle.nova_log.specs.Volumes.{asked_lines};
+ghost use Rattle.image_causes.specs.Told.{AreTold, IsTold, IsToldBy, LacksImage};
 ghost use Rattle.std.specs.Prelude.{◌≡◌, ◌≤◌, All, IfErr, IfOk, length};
 ghost use Rattle.store_trace.specs.TraceView.{NamesLine};
 
 use crate::parting::{others, those};
-use crate::reading::lines_read;
+use crate::reading::{LogReader, Reader};
 use crash_image::{Cut, Cuts, ImageFault};
 use durability::{ToldCut, tell_cut};
 use image_name::ImageName;
@@ -26,8 +25,8 @@ pub struct ToldImage {
     pub unread: usize,
 }
 
-/// What the crash image of this name, of a moment of the trace over the medium, lacks and keeps of the lines that its recovery
-/// reads: it depends on no others.
+/// What the crash image of this name, of a moment of the trace over the medium, lacks and keeps of the lines that recovery of the log
+/// volume reads: it depends on no others.
 ///
 /// # Errors
 /// NoSuchMoment past the last event, and NotACut where the moment has no image of this name. Memory where a growth is refused.
@@ -42,6 +41,25 @@ pub fn tell_image(
     ensures ok { IfOk result (IsTold medium.now trace.now.events moment image.now) }
     ensures err { IfErr result (LacksImage trace.now.events moment image.now) }
 {
+    tell_image_by(alloc, medium, trace, moment, image, &LogReader)
+}
+
+/// What the crash image of this name, of a moment of the trace over the medium, lacks and keeps of the lines that a recovery reads of it.
+///
+/// # Errors
+/// As those of `tell_image`.
+pub fn tell_image_by<R: Reader>(
+    alloc: Global,
+    medium: &Medium,
+    trace: &Trace,
+    moment: u32,
+    image: &ImageName,
+    reader: &R,
+) -> Result<ToldImage, ImageFault>
+    requires { HasLines medium.now trace.now.events }
+    ensures ok { IfOk result (IsToldBy (R.reads reader.now) medium.now trace.now.events moment image.now) }
+    ensures err { IfErr result (LacksImage trace.now.events moment image.now) }
+{
     let cuts = match Cuts::at(alloc, medium, trace, moment) {
         Ok(cuts) => cuts,
         Err(ImageFault::NoSuchMoment) => return Err(ImageFault::NoSuchMoment),
@@ -52,16 +70,21 @@ pub fn tell_image(
         Err(ImageFault::NotACut) => return Err(ImageFault::NotACut),
         Err(_) => return Err(ImageFault::Memory),
     };
-    let read = lines_read_of(alloc, &cuts, &cut)?;
+    let read = lines_read_of(alloc, &cuts, &cut, reader)?;
     Ok(told_of(alloc, trace, medium.lines(), moment, &cut, &read)?)
 }
 
-/// The lines that recovery of the image of a cut reads.
-fn lines_read_of(alloc: Global, cuts: &Cuts<'_>, cut: &Cut) -> Result<Vec<u32>, AllocError>
-    ensures { IfOk result (λ read. read.items ≡ asked_lines (image cuts.now.start (number_in cut.now) cuts.now.steps)) }
+/// The lines that a recovery reads of the image of a cut.
+fn lines_read_of<R: Reader>(
+    alloc: Global,
+    cuts: &Cuts<'_>,
+    cut: &Cut,
+    reader: &R,
+) -> Result<Vec<u32>, AllocError>
+    ensures { IfOk result (λ read. R.reads reader.now (image cuts.now.start (number_in cut.now) cuts.now.steps) read.items) }
 {
     match cuts.image_of(alloc, cut) {
-        Ok(image) => lines_read(alloc, &image),
+        Ok(image) => reader.lines_read(alloc, &image),
         Err(_) => Err(AllocError),
     }
 }

@@ -1,5 +1,5 @@
 -- The stores of a program's run that weren't durable in time.
-use Rattle.std.specs.Prelude.{ℕ, List, length}
+use Rattle.std.specs.Prelude.{List, length}
 use Rattle.durability.specs.Unpersisted.{AreEndLosses, AreFirstLosses, IsUnpersistedOutside}
 use Rattle.durability.specs.declared.ends.Unpersisted.{Unpersisted}
 use Rattle.program_trace.specs.Tracing.{IsTraced}

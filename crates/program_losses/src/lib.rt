@@ -6,6 +6,6 @@ mod failing;
 mod unpersisted;
 mod vain;
 
-pub use failing::{ExplainedImage, explain_losses};
+pub use failing::{ExplainedImage, explain_losses, explain_losses_by};
 pub use unpersisted::{UnpersistedRun, unpersisted_program};
 pub use vain::{NeedlessRun, needless_program};
