@@ -1,6 +1,8 @@
 //! Files in memory, by their names.
 
 use crate::copying::filled_volume;
+use crate::judge_guests::GUEST_FILES;
+use crate::judge_routines::JUDGE_FILES;
 use crate::loss_routines::LOSS_FILES;
 use crate::routines::FILES;
 use crate::showing::SHOWN_FILES;
@@ -64,6 +66,8 @@ pub(crate) fn folder_of_examples(alloc: Global) -> Result<Folder, AllocError> {
     let mut folder = Folder::new(alloc);
     folder.put_all(&FILES)?;
     folder.put_all(&LOSS_FILES)?;
+    folder.put_all(&JUDGE_FILES)?;
+    folder.put_all(&GUEST_FILES)?;
     folder.put_all(&SHOWN_FILES)?;
     folder.put_all(&WASTE_FILES)?;
     folder.put("filled", &filled_volume(alloc)?)?;

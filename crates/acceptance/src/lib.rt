@@ -17,6 +17,12 @@ mod folder;
 #[cfg(test)]
 mod imaging;
 #[cfg(test)]
+mod judge_guests;
+#[cfg(test)]
+mod judge_routines;
+#[cfg(test)]
+mod judging;
+#[cfg(test)]
 mod losing;
 #[cfg(test)]
 mod loss_routines;

@@ -1,5 +1,5 @@
 -- What a text says of moments, by its first dash.
-use Rattle.std.proofs.Common.{◌≡◌, ◌<◌, ◌^◌, ℕ, List, ◌∷◌, ◌++◌, Bor, IfNone, Option, Some, None, inl, inr, length, get_or, ◌∙◌, sym, subst, lit<, arith}
+use Rattle.std.proofs.Common.{◌≡◌, ◌<◌, ◌^◌, ℕ, ◌∷◌, ◌++◌, Bor, IfNone, Option, Some, None, inl, inr, length, get_or, ◌∙◌, sym, subst, lit<, arith}
 use Rattle.std.specs.Prelude.{◌≢◌}
 use Rattle.std.specs.Str.Parse.{AllDigits, IsNumeral, digits_value}
 use Rattle.std.proofs.lemmas.Grind.{common_steps}

@@ -121,6 +121,16 @@ check_shape = record (new_shape (codes "check")) {
       ∷ flag_option (codes "progress") ∷ help_option ∷ [];
 }
 
+-- `judge PROGRAM SCHEDULE RECOVERY [--medium FILE --harts N --steps N --workers N --overlapping --moments A-B --whole --why --json --progress]`
+unfoldable pub judge_shape : Shape
+judge_shape = record (new_shape (codes "judge")) {
+  rules = needed_word (codes "PROGRAM") ∷ needed_word (codes "SCHEDULE") ∷ needed_word (codes "RECOVERY")
+      ∷ valued_option (codes "medium") ∷ valued_option (codes "harts") ∷ valued_option (codes "steps")
+      ∷ valued_option (codes "workers") ∷ flag_option (codes "overlapping") ∷ valued_option (codes "moments")
+      ∷ flag_option (codes "whole") ∷ flag_option (codes "why") ∷ flag_option (codes "json") ∷ flag_option (codes "progress")
+      ∷ help_option ∷ [];
+}
+
 -- `picture PROGRAM SCHEDULE MOMENT FILE [--image IMAGE --medium FILE --harts N]`
 unfoldable pub picture_shape : Shape
 picture_shape = record (new_shape (codes "picture")) {
@@ -172,17 +182,20 @@ is_none (s ∷ shapes) = false
 abbrev pub line : List Shape → App
 line shapes = record { top = record bare { is_leaf = is_none shapes }; subs = shapes }
 
--- the subcommands that make files and run programs, and those that tell of a run, judge it, show files, and tell of what is printed
+-- the subcommands that make files and run programs, those that tell of a run by a schedule and judge it, and those that draw a run, show files,
+-- and tell of what is printed
 unfoldable pub making : List Shape
 making = assemble_shape ∷ make_volume_shape ∷ upgrade_shape ∷ run_shape ∷ replay_shape ∷ debug_shape ∷ []
 
 unfoldable pub judging : List Shape
-judging = trace_shape ∷ unpersisted_shape ∷ waste_shape ∷ images_shape ∷ explain_shape ∷ check_shape
-    ∷ picture_shape ∷ interleave_shape ∷ show_shape ∷ listing_shape ∷ code_shape ∷ []
+judging = trace_shape ∷ unpersisted_shape ∷ waste_shape ∷ images_shape ∷ explain_shape ∷ check_shape ∷ judge_shape ∷ []
+
+unfoldable pub showing : List Shape
+showing = picture_shape ∷ interleave_shape ∷ show_shape ∷ listing_shape ∷ code_shape ∷ []
 
 -- the whole line
 unfoldable pub novacrash : App
-novacrash = line (making ++ judging)
+novacrash = line ((making ++ judging) ++ showing)
 
 -- the rule of an argument of the table
 abbrev pub rule : Argument → Rule

@@ -1,5 +1,5 @@
 -- Which command a line asks for, by what clap's specification says of its words.
-use Rattle.std.specs.Prelude.{string_bytes, ◌≡◌, ◌≢◌, ◌≤◌, ◌<◌, ◌^◌, ℕ, List, [], ◌∷◌, Option, Some, None, IfSome, codes, ⊤}
+use Rattle.std.specs.Prelude.{string_bytes, ◌≡◌, ◌≢◌, ◌≤◌, ◌<◌, ◌^◌, ℕ, Bool, List, [], ◌∷◌, Option, Some, None, IfSome, codes, ⊤}
 use Rattle.clap.specs.Words.{Row, Text, fault_of, first_of, subcommand_of}
 use Rattle.clap.specs.Kinds.{IsAmong}
 use Rattle.clap.specs.declared.error.ErrorKind.{ErrorKind}
@@ -7,21 +7,23 @@ use Rattle.clap.specs.declared.error.ErrorKind.TheVariants as kinds
 use Rattle.image_name.specs.Texts.{IsProper}
 use Rattle.arguments.specs.Grammar.{novacrash}
 use Rattle.arguments.specs.Spans.{IsOptionalMoments, IsUpward}
-use Rattle.arguments.specs.Values.{IsCapacity, IsCodeWord, IsEvictions, IsHarts, IsImageWord, IsNumberWord, IsOptional, IsOptionalImage, IsOptionalNumber, IsSeed, IsSteps, IsWord, IsWorkers, is_set}
+use Rattle.arguments.specs.Values.{IsCapacity, IsCodeWord, IsEvictions, IsHarts, IsImageWord, IsNumberWord, IsOptional, IsOptionalImage, IsOptionalNumber, IsRecoverySteps, IsSeed, IsSteps, IsWord, IsWorkers, is_set}
 use Rattle.arguments.specs.declared.asked.AssembleCommand.{AssembleCommand}
 use Rattle.arguments.specs.declared.asked.CheckCommand.{CheckCommand}
 use Rattle.arguments.specs.declared.asked.CodeCommand.{CodeCommand}
 use Rattle.arguments.specs.declared.asked.Command.{Command}
-use Rattle.arguments.specs.declared.asked.Command.TheVariants.{Assemble, Check, Code, Debug, Explain, Images, Interleave, Listing, MakeVolume, Picture, Replay, Run, Show, Trace, Unpersisted, Upgrade, Waste}
+use Rattle.arguments.specs.declared.asked.Command.TheVariants.{Assemble, Check, Code, Debug, Explain, Images, Interleave, Judge, Listing, MakeVolume, Picture, Replay, Run, Show, Trace, Unpersisted, Upgrade, Waste}
 use Rattle.arguments.specs.declared.asked.DebugCommand.{DebugCommand}
 use Rattle.arguments.specs.declared.asked.ExplainCommand.{ExplainCommand}
 use Rattle.arguments.specs.declared.asked.ImagesCommand.{ImagesCommand}
 use Rattle.arguments.specs.declared.asked.InterleaveCommand.{InterleaveCommand}
+use Rattle.arguments.specs.declared.asked.JudgeCommand.{JudgeCommand}
 use Rattle.arguments.specs.declared.asked.LineFault.{LineFault}
 use Rattle.arguments.specs.declared.asked.LineFault.TheVariants.{Help, Fault, Memory}
 use Rattle.arguments.specs.declared.asked.ListingCommand.{ListingCommand}
 use Rattle.arguments.specs.declared.asked.MachineOptions.{MachineOptions}
 use Rattle.arguments.specs.declared.asked.MakeVolumeCommand.{MakeVolumeCommand}
+use Rattle.arguments.specs.declared.asked.Moments.{Moments}
 use Rattle.arguments.specs.declared.asked.PictureCommand.{PictureCommand}
 use Rattle.arguments.specs.declared.asked.ReplayCommand.{ReplayCommand}
 use Rattle.arguments.specs.declared.asked.ReportCommand.{ReportCommand}
@@ -105,15 +107,27 @@ pub record IsExplain (rows : List Row) (command : ExplainCommand) : Type 0 where
   pub moment : IsNumberWord (first_of (codes "MOMENT") rows) command.moment
   pub image : IsImageWord (first_of (codes "IMAGE") rows) command.image
 
--- `check` of this run or of these moments of it, by this plan and so many workers, whether a failure is explained, as text or as JSON, and whether it is told how far the check has come
+-- what `check` and `judge` have in common: this run, by so many workers, these moments of it or all, whether a failure is explained, as text or as JSON,
+-- and whether it is told how far the check has come
+pub record IsJudgedRun (rows : List Row) (run : ScheduledRun) (count : ℕ) (judged : Option Moments) (explained in_json told : Bool) : Type 0 where
+  pub scheduled : IsScheduledRun rows run
+  pub workers : IsWorkers rows count
+  pub moments : IsOptionalMoments (first_of (codes "moments") rows) judged
+  pub why : explained ≡ is_set (first_of (codes "why") rows)
+  pub json : in_json ≡ is_set (first_of (codes "json") rows)
+  pub progress : told ≡ is_set (first_of (codes "progress") rows)
+
+-- `check` of this run by this plan
 pub record IsCheck (rows : List Row) (command : CheckCommand) : Type 0 where
   pub plan : IsWord (codes "PLAN") rows command.plan
-  pub run : IsScheduledRun rows command.run
-  pub workers : IsWorkers rows command.workers
-  pub moments : IsOptionalMoments (first_of (codes "moments") rows) command.moments
-  pub why : command.why ≡ is_set (first_of (codes "why") rows)
-  pub json : command.json ≡ is_set (first_of (codes "json") rows)
-  pub progress : command.progress ≡ is_set (first_of (codes "progress") rows)
+  pub judged : IsJudgedRun rows command.run command.workers command.moments command.why command.json command.progress
+
+-- `judge` of this run by this recovery routine, so many steps of it on an image, and whether operations may overlap
+pub record IsJudge (rows : List Row) (command : JudgeCommand) : Type 0 where
+  pub recovery : IsWord (codes "RECOVERY") rows command.recovery
+  pub steps : IsRecoverySteps rows command.steps
+  pub overlapping : command.overlapping ≡ is_set (first_of (codes "overlapping") rows)
+  pub judged : IsJudgedRun rows command.run command.workers command.moments command.why command.json command.progress
 
 -- `picture` of this moment of this run, with this image of it or none, into this file
 pub record IsPicture (rows : List Row) (command : PictureCommand) : Type 0 where
@@ -157,6 +171,7 @@ IsOf name rows (Waste command) = (name ≡ codes "waste") × IsReport rows comma
 IsOf name rows (Images command) = (name ≡ codes "images") × IsImages rows command
 IsOf name rows (Explain command) = (name ≡ codes "explain") × IsExplain rows command
 IsOf name rows (Check command) = (name ≡ codes "check") × IsCheck rows command
+IsOf name rows (Judge command) = (name ≡ codes "judge") × IsJudge rows command
 IsOf name rows (Picture command) = (name ≡ codes "picture") × IsPicture rows command
 IsOf name rows (Interleave command) = (name ≡ codes "interleave") × IsInterleave rows command
 IsOf name rows (Show command) = (name ≡ codes "show") × IsShow rows command
@@ -196,6 +211,7 @@ IsWithinLimits (Waste command) = IsMachineWithin command.run.machine
 IsWithinLimits (Images command) = IsMachineWithin command.run.machine × (command.moment < 2 ^ 32)
 IsWithinLimits (Explain command) = IsMachineWithin command.run.machine × (command.moment < 2 ^ 32) × IsProper command.image
 IsWithinLimits (Check command) = IsMachineWithin command.run.machine × IsWithin 1 8 command.workers × IfSome command.moments IsUpward
+IsWithinLimits (Judge command) = IsMachineWithin command.run.machine × IsWithin 1 500000000 command.steps × IsWithin 1 8 command.workers × IfSome command.moments IsUpward
 IsWithinLimits (Picture command) = IsMachineWithin command.run.machine × (command.moment < 2 ^ 32) × IfSome command.image IsProper
 IsWithinLimits (Interleave command) = IsMachineWithin command.machine × IsWithin 1 500000000 command.steps × IsWithin 0 65536 command.evictions
 IsWithinLimits (Show command) = IfSome command.line (λ line. line < 2 ^ 32)

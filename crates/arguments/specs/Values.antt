@@ -61,6 +61,10 @@ IsOptionalImage (Some text) image = (i : ImageName) × (image ≡ Some i) × IsI
 abbrev pub IsSteps : List Row → ℕ → Type 0
 IsSteps rows steps = IsNumber 1000000 1 500000000 (first_of (codes "steps") rows) steps
 
+-- the most steps of recovery on a crash image: 100,000 where the line doesn't say
+abbrev pub IsRecoverySteps : List Row → ℕ → Type 0
+IsRecoverySteps rows steps = IsNumber 100000 1 500000000 (first_of (codes "steps") rows) steps
+
 -- the seed of an interleaving, which has to be given: any number below 2^64
 abbrev pub IsWideNumber : Option Text → ℕ → Type 0
 IsWideNumber None n = ⊥
@@ -77,7 +81,7 @@ IsEvictions rows evictions = IsNumber 0 0 65536 (first_of (codes "evictions") ro
 abbrev pub IsHarts : List Row → ℕ → Type 0
 IsHarts rows harts = IsNumber 1 1 8 (first_of (codes "harts") rows) harts
 
--- the workers of a check: 1 where the line doesn't say
+-- the workers that judge a run: 1 where the line doesn't say
 abbrev pub IsWorkers : List Row → ℕ → Type 0
 IsWorkers rows workers = IsNumber 1 1 8 (first_of (codes "workers") rows) workers
 

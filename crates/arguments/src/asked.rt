@@ -32,6 +32,8 @@ pub enum Command {
     Explain(ExplainCommand),
     /// `check PLAN PROGRAM SCHEDULE [--medium FILE --harts N --workers N --moments A-B --whole --why --json --progress]`.
     Check(CheckCommand),
+    /// `judge PROGRAM SCHEDULE RECOVERY [--medium FILE --harts N --steps N --workers N --overlapping --moments A-B --whole --why --json --progress]`.
+    Judge(JudgeCommand),
     /// `picture PROGRAM SCHEDULE MOMENT FILE [--image IMAGE --medium FILE --harts N]`.
     Picture(PictureCommand),
     /// `interleave PROGRAM --seed N [--medium FILE --harts N --steps N --evictions N]`.
@@ -177,6 +179,28 @@ pub struct CheckCommand {
     pub run: ScheduledRun,
     /// The number of workers that judge the run, from 1 to 8; 1 where the line doesn't say.
     pub workers: u32,
+    /// The moments that are judged; None: all are.
+    pub moments: Option<Moments>,
+    /// Whether a failure is told with the stores that its image lacks and keeps, and a schedule that leaves it.
+    pub why: bool,
+    /// Whether the answer is one JSON object a line.
+    pub json: bool,
+    /// Whether standard error is told how far the check has come.
+    pub progress: bool,
+}
+
+/// What `judge` is to do.
+#[derive(Drop)]
+pub struct JudgeCommand {
+    /// The name of the file of the recovery routine.
+    pub recovery: String,
+    pub run: ScheduledRun,
+    /// The most steps of recovery on a crash image, from 1 to 500,000,000; 100,000 where the line doesn't say.
+    pub steps: u32,
+    /// The number of workers that judge the run, from 1 to 8; 1 where the line doesn't say.
+    pub workers: u32,
+    /// Whether an operation may begin while another is pending.
+    pub overlapping: bool,
     /// The moments that are judged; None: all are.
     pub moments: Option<Moments>,
     /// Whether a failure is told with the stores that its image lacks and keeps, and a schedule that leaves it.

@@ -1,10 +1,10 @@
 //! What each subcommand asks for, by the values found for its words and options.
 
-ghost use Rattle.std.specs.Prelude.{◌<◌, ◌^◌, IfOk, IfErr, IfSome, String, codes};
+ghost use Rattle.std.specs.Prelude.{◌<◌, ◌^◌, ℕ, Bool, IfOk, IfErr, IfSome, Option, String, codes};
 ghost use Rattle.std.specs.declared.alloc.Global.{Global as AGlobal};
 ghost use Rattle.clap.specs.Words.{found_of, rows_of};
-ghost use Rattle.arguments.specs.Line.{IsAssemble, IsCheck, IsCode, IsDebug, IsExplain, IsImages, IsInterleave, IsListing, IsMakeVolume, IsPicture, IsReplay, IsReport, IsRun, IsScheduledRun, IsShow, IsUpgrade};
-ghost use Rattle.arguments.specs.Line.{IsCachedMachine, IsMachineWithin, IsWithin, OnFault};
+ghost use Rattle.arguments.specs.Line.{IsAssemble, IsCheck, IsCode, IsDebug, IsExplain, IsImages, IsInterleave, IsJudge, IsListing, IsMakeVolume, IsPicture, IsReplay, IsReport, IsRun, IsScheduledRun, IsShow, IsUpgrade};
+ghost use Rattle.arguments.specs.Line.{IsCachedMachine, IsJudgedRun, IsMachineWithin, IsWithin, OnFault};
 ghost use Rattle.arguments.specs.Spans.{IsUpward};
 ghost use Rattle.arguments.specs.Started.{IsStarted};
 ghost use Rattle.arguments.specs.Values.{IsWord};
@@ -18,6 +18,7 @@ ghost use Rattle.arguments.specs.declared.asked.DebugCommand.{DebugCommand as AD
 ghost use Rattle.arguments.specs.declared.asked.ImagesCommand.{ImagesCommand as AImagesCommand};
 ghost use Rattle.arguments.specs.declared.asked.ExplainCommand.{ExplainCommand as AExplainCommand};
 ghost use Rattle.arguments.specs.declared.asked.CheckCommand.{CheckCommand as ACheckCommand};
+ghost use Rattle.arguments.specs.declared.asked.JudgeCommand.{JudgeCommand as AJudgeCommand};
 ghost use Rattle.arguments.specs.declared.asked.InterleaveCommand.{InterleaveCommand as AnInterleaveCommand};
 ghost use Rattle.arguments.specs.declared.asked.PictureCommand.{PictureCommand as APictureCommand};
 ghost use Rattle.arguments.specs.declared.asked.ReportCommand.{ReportCommand as AReportCommand};
@@ -25,12 +26,13 @@ ghost use Rattle.arguments.specs.declared.asked.ShowCommand.{ShowCommand as ASho
 ghost use Rattle.arguments.specs.declared.asked.ListingCommand.{ListingCommand as AListingCommand};
 ghost use Rattle.arguments.specs.declared.asked.CodeCommand.{CodeCommand as ACodeCommand};
 ghost use Rattle.arguments.specs.declared.asked.MachineOptions.{MachineOptions as AMachine};
+ghost use Rattle.arguments.specs.declared.asked.Moments.{Moments as SomeMoments};
 ghost use Rattle.arguments.specs.declared.asked.ScheduledRun.{ScheduledRun as AScheduledRun};
 
 use crate::asked::{
     AssembleCommand, CheckCommand, CodeCommand, DebugCommand, ExplainCommand, ImagesCommand,
-    InterleaveCommand, LineFault, ListingCommand, MachineOptions, MakeVolumeCommand,
-    PictureCommand, ReplayCommand, ReportCommand, RunCommand, ScheduledRun, ShowCommand,
+    InterleaveCommand, JudgeCommand, LineFault, ListingCommand, MachineOptions, MakeVolumeCommand,
+    Moments, PictureCommand, ReplayCommand, ReportCommand, RunCommand, ScheduledRun, ShowCommand,
     UpgradeCommand,
 };
 use crate::machine::{cached_machine, whole_machine};
@@ -50,6 +52,14 @@ const STEPS: NumberOption = NumberOption {
     high: 500_000_000,
 };
 
+/// The most steps of recovery that `judge` makes on a crash image.
+const RECOVERY_STEPS: NumberOption = NumberOption {
+    name: "steps",
+    default: 100_000,
+    low: 1,
+    high: 500_000_000,
+};
+
 /// The evictions of `interleave`.
 const EVICTIONS: NumberOption = NumberOption {
     name: "evictions",
@@ -58,7 +68,7 @@ const EVICTIONS: NumberOption = NumberOption {
     high: 65_536,
 };
 
-/// The workers of `check`.
+/// The workers of `check` and `judge`.
 const WORKERS: NumberOption = NumberOption {
     name: "workers",
     default: 1,
@@ -71,6 +81,17 @@ const WORKERS: NumberOption = NumberOption {
 pub(crate) struct Started {
     program: String,
     machine: MachineOptions,
+}
+
+/// What `check` and `judge` have in common: a run, and how it is judged.
+#[derive(Drop)]
+struct JudgedRun {
+    run: ScheduledRun,
+    workers: u32,
+    moments: Option<Moments>,
+    why: bool,
+    json: bool,
+    progress: bool,
 }
 
 /// The program of a command with `--capacity`, and its machine.
@@ -99,6 +120,25 @@ fn scheduled_run(alloc: Global, found: &ArgMatches<'_>) -> Result<ScheduledRun, 
         machine: whole_machine(alloc, found)?,
         program: word(alloc, found, "PROGRAM")?,
         schedule: word(alloc, found, "SCHEDULE")?,
+    })
+}
+
+/// The run of `check` or `judge`, and how it is judged.
+fn judged_run(alloc: Global, found: &ArgMatches<'_>) -> Result<JudgedRun, LineFault>
+    ensures ok { IfOk result (λ judged. IsJudgedRun (rows_of (found_of found.now))
+        judged.run judged.workers judged.moments judged.why judged.json judged.progress) }
+    ensures within { IfOk result (λ judged. IsMachineWithin judged.run.machine
+        × IsWithin 1 8 judged.workers × IfSome judged.moments IsUpward) }
+    ensures err { IfErr result (OnFault ((run : AScheduledRun) (workers : ℕ) (moments : Option SomeMoments) (why json progress : Bool)
+        → ¬ (IsJudgedRun (rows_of (found_of found.now)) run workers moments why json progress))) }
+{
+    Ok(JudgedRun {
+        why: flag(found, "why"),
+        json: flag(found, "json"),
+        progress: flag(found, "progress"),
+        workers: number(alloc, found, &WORKERS)?,
+        moments: optional_moments(alloc, found, "moments")?,
+        run: scheduled_run(alloc, found)?,
     })
 }
 
@@ -250,14 +290,41 @@ pub(crate) fn check(alloc: Global, found: &ArgMatches<'_>) -> Result<CheckComman
     ensures err { IfErr result (OnFault ((command : ACheckCommand)
         → ¬ (IsCheck (rows_of (found_of found.now)) command))) }
 {
+    let plan = word(alloc, found, "PLAN")?;
+    let judged = judged_run(alloc, found)?;
     Ok(CheckCommand {
-        why: flag(found, "why"),
-        json: flag(found, "json"),
-        progress: flag(found, "progress"),
-        workers: number(alloc, found, &WORKERS)?,
-        moments: optional_moments(alloc, found, "moments")?,
-        plan: word(alloc, found, "PLAN")?,
-        run: scheduled_run(alloc, found)?,
+        plan,
+        run: judged.run,
+        workers: judged.workers,
+        moments: judged.moments,
+        why: judged.why,
+        json: judged.json,
+        progress: judged.progress,
+    })
+}
+
+/// What `judge` is to do.
+pub(crate) fn judge(alloc: Global, found: &ArgMatches<'_>) -> Result<JudgeCommand, LineFault>
+    ensures ok { IfOk result (IsJudge (rows_of (found_of found.now))) }
+    ensures within { IfOk result (λ command. IsMachineWithin command.run.machine
+        × IsWithin 1 500000000 command.steps × IsWithin 1 8 command.workers × IfSome command.moments IsUpward) }
+    ensures err { IfErr result (OnFault ((command : AJudgeCommand)
+        → ¬ (IsJudge (rows_of (found_of found.now)) command))) }
+{
+    let overlapping = flag(found, "overlapping");
+    let steps = number(alloc, found, &RECOVERY_STEPS)?;
+    let recovery = word(alloc, found, "RECOVERY")?;
+    let judged = judged_run(alloc, found)?;
+    Ok(JudgeCommand {
+        recovery,
+        run: judged.run,
+        steps,
+        workers: judged.workers,
+        overlapping,
+        moments: judged.moments,
+        why: judged.why,
+        json: judged.json,
+        progress: judged.progress,
     })
 }
 

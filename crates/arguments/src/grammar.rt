@@ -2,7 +2,7 @@
 
 ghost use Rattle.std.specs.Prelude.{◌≡◌, ◌++◌, [], IfOk, List, false, map};
 ghost use Rattle.clap.specs.Words.{Shape, rule_of};
-ghost use Rattle.arguments.specs.Grammar.{IsGrammar, help_option, leaf, line, making, novacrash, rule, shape};
+ghost use Rattle.arguments.specs.Grammar.{IsGrammar, help_option, judging, leaf, line, making, novacrash, rule, shape};
 
 use clap::{Arg, ArgAction};
 use std::alloc::{AllocError, Global};
@@ -88,6 +88,11 @@ const SCHEDULE: Argument = Argument::Word {
 const PLAN: Argument = Argument::Word {
     name: "PLAN",
     about: "The plan's file",
+};
+
+const RECOVERY: Argument = Argument::Word {
+    name: "RECOVERY",
+    about: "The recovery routine's file: an object or a source",
 };
 
 const LINES: Argument = Argument::Word {
@@ -187,6 +192,12 @@ const ALL_STEPS: Argument = Argument::Valued {
     about: "The most steps of all harts together, from 1 to 500000000 [default: 1000000]",
 };
 
+const RECOVERY_STEPS: Argument = Argument::Valued {
+    name: "steps",
+    value: "N",
+    about: "The most steps of recovery on an image, from 1 to 500000000 [default: 100000]",
+};
+
 const EVICTIONS: Argument = Argument::Valued {
     name: "evictions",
     value: "N",
@@ -203,6 +214,11 @@ const MOMENTS: Argument = Argument::Valued {
     name: "moments",
     value: "A-B",
     about: "The moments that are judged: A-B, A- to the last one, or A alone [default: all]",
+};
+
+const OVERLAPPING: Argument = Argument::Flag {
+    name: "overlapping",
+    about: "Let an operation begin while another is pending",
 };
 
 const RECORD: Argument = Argument::Valued {
@@ -280,9 +296,8 @@ static MAKING: [Subcommand; 6] = [
     },
 ];
 
-/// The subcommands that tell of a run and judge it, that draw a run, that show files, and that tell of what the program prints, in the order in which help
-/// tells them, behind the others.
-static JUDGING: [Subcommand; 11] = [
+/// The subcommands that tell of a run by a schedule and judge it, in the order in which help tells them, behind those.
+static JUDGING: [Subcommand; 7] = [
     Subcommand {
         name: "trace",
         about: "Print the events of a run by a schedule, each with its step, pc and source line",
@@ -326,6 +341,30 @@ static JUDGING: [Subcommand; 11] = [
             "check append.plan append.s append.schedule --medium fresh.medium --whole --why"
         ),
     },
+    Subcommand {
+        name: "judge",
+        about: "Judge every crash image of a run by a recovery routine of one's own",
+        arguments: &[
+            PROGRAM,
+            SCHEDULE,
+            RECOVERY,
+            MEDIUM,
+            HARTS,
+            RECOVERY_STEPS,
+            WORKERS,
+            OVERLAPPING,
+            MOMENTS,
+            WHOLE,
+            WHY,
+            JSON,
+            PROGRESS,
+        ],
+        ending: ending!("judge ring.s ring.schedule ring-recovery.s --whole --why"),
+    },
+];
+
+/// The subcommands that draw a run, that show files, and that tell of what the program prints, in the order in which help tells them, behind the others.
+static SHOWING: [Subcommand; 5] = [
     Subcommand {
         name: "picture",
         about: "Draw a run up to a moment: its stores, cleans and fences, and what a power cut may lose",
@@ -425,7 +464,8 @@ pub(crate) fn grammar<'a>(alloc: Global) -> Result<clap::Command<'a>, AllocError
     ensures { IfOk result (IsGrammar novacrash) }
 {
     let command = with_making(alloc, bare(alloc)?)?;
-    with_judging(alloc, command)
+    let command = with_judging(alloc, command)?;
+    with_showing(alloc, command)
 }
 
 /// The line without subcommands, with `--help` anywhere.
@@ -455,9 +495,19 @@ fn with_judging<'a>(
     command: clap::Command<'a>,
 ) -> Result<clap::Command<'a>, AllocError>
     requires { IsGrammar (line making) command }
-    ensures { IfOk result (IsGrammar novacrash) }
+    ensures { IfOk result (IsGrammar (line (making ++ judging))) }
 {
     with_all(alloc, command, &JUDGING)
+}
+
+fn with_showing<'a>(
+    alloc: Global,
+    command: clap::Command<'a>,
+) -> Result<clap::Command<'a>, AllocError>
+    requires { IsGrammar (line (making ++ judging)) command }
+    ensures { IfOk result (IsGrammar novacrash) }
+{
+    with_all(alloc, command, &SHOWING)
 }
 
 /// The line with these subcommands behind those that it has.

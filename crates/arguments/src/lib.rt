@@ -11,8 +11,8 @@ mod values;
 
 pub use asked::{
     AssembleCommand, CheckCommand, CodeCommand, Command, DebugCommand, ExplainCommand,
-    ImagesCommand, InterleaveCommand, LineFault, ListingCommand, MachineOptions, MakeVolumeCommand,
-    Moments, PictureCommand, ReplayCommand, ReportCommand, RunCommand, ScheduledRun, ShowCommand,
-    UpgradeCommand,
+    ImagesCommand, InterleaveCommand, JudgeCommand, LineFault, ListingCommand, MachineOptions,
+    MakeVolumeCommand, Moments, PictureCommand, ReplayCommand, ReportCommand, RunCommand,
+    ScheduledRun, ShowCommand, UpgradeCommand,
 };
 pub use line::command;

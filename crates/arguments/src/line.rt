@@ -8,8 +8,8 @@ ghost use Rattle.arguments.specs.declared.asked.Command.{Command as ACommand};
 
 use crate::asked::{Command, LineFault};
 use crate::commands::{
-    assemble, check, code, debug, explain, images, interleave, listing, make_volume, picture,
-    replay, report, run, show, upgrade,
+    assemble, check, code, debug, explain, images, interleave, judge, listing, make_volume,
+    picture, replay, report, run, show, upgrade,
 };
 use crate::grammar::grammar;
 use clap::ArgMatches;
@@ -82,6 +82,7 @@ fn asked(alloc: Global, name: &str, found: &ArgMatches<'_>) -> Result<Command, L
         "images" => Command::Images(images(alloc, found)?),
         "explain" => Command::Explain(explain(alloc, found)?),
         "check" => Command::Check(check(alloc, found)?),
+        "judge" => Command::Judge(judge(alloc, found)?),
         "picture" => Command::Picture(picture(alloc, found)?),
         "interleave" => Command::Interleave(interleave(alloc, found)?),
         "show" => Command::Show(show(alloc, found)?),
@@ -112,6 +113,7 @@ fn asked(alloc: Global, name: &str, found: &ArgMatches<'_>) -> Result<Command, L
 /// - `images PROGRAM SCHEDULE MOMENT [--medium FILE --harts N --whole --json]`
 /// - `explain PROGRAM SCHEDULE MOMENT IMAGE [--medium FILE --harts N --whole]`
 /// - `check PLAN PROGRAM SCHEDULE [--medium FILE --harts N --workers N --moments A-B --whole --why --json --progress]`
+/// - `judge PROGRAM SCHEDULE RECOVERY [--medium FILE --harts N --steps N --workers N --overlapping --moments A-B --whole --why --json --progress]`
 /// - `picture PROGRAM SCHEDULE MOMENT FILE [--image IMAGE --medium FILE --harts N]`
 /// - `interleave PROGRAM --seed N [--medium FILE --harts N --steps N --evictions N]`
 /// - `show MEDIUM [LINE]`

@@ -1,8 +1,8 @@
 //! Lines that are read, and lines that are refused, for each rule of the command line.
 
 use arguments::{
-    CheckCommand, CodeCommand, Command, InterleaveCommand, LineFault, MachineOptions, Moments,
-    PictureCommand, ReportCommand, ScheduledRun, ShowCommand, command,
+    CheckCommand, CodeCommand, Command, InterleaveCommand, JudgeCommand, LineFault, MachineOptions,
+    Moments, PictureCommand, ReportCommand, ScheduledRun, ShowCommand, command,
 };
 use std::alloc::{AllocError, Global};
 use std::test::Fail;
@@ -102,6 +102,24 @@ fn check_of(alloc: Global, check: &CheckCommand) -> Result<String, AllocError> {
     )
 }
 
+/// A verdict by a recovery routine: the routine, the run, the routine's steps, the workers, and what else it has.
+fn judge_of(alloc: Global, judge: &JudgeCommand) -> Result<String, AllocError> {
+    let run = scheduled_of(alloc, &judge.run)?;
+    let moments = moments_of(alloc, judge.moments)?;
+    let overlapping = if judge.overlapping {
+        " overlapping"
+    } else {
+        ""
+    };
+    let why = if judge.why { " why" } else { "" };
+    let form = form_of(judge.json);
+    let progress = if judge.progress { " progress" } else { "" };
+    format!(in alloc;
+        "judge {} {run} / {} {} {moments}{overlapping}{why}{form}{progress}",
+        judge.recovery, judge.steps, judge.workers
+    )
+}
+
 /// A command on a run by a schedule: its name, the run, and what else it has.
 fn images_of(alloc: Global, command: &Command) -> Result<String, AllocError> {
     match command {
@@ -127,6 +145,7 @@ fn images_of(alloc: Global, command: &Command) -> Result<String, AllocError> {
             format!(in alloc; "explain {run} / {} {}", explain.moment, explain.image)
         }
         Command::Check(check) => check_of(alloc, check),
+        Command::Judge(judge) => judge_of(alloc, judge),
         _ => run_of(alloc, command),
     }
 }
@@ -228,63 +247,69 @@ fn first_other(
     Ok(None)
 }
 
+/// Lines that leave out what can be left out, and what they are read as.
+const WITHOUT_OPTIONS: [(&str, &str); 23] = [
+    ("novacrash asm a.s a.o", "asm a.s a.o"),
+    ("novacrash mkfs p 512 m", "mkfs p 512 m"),
+    ("novacrash upgrade o 1 512 n", "upgrade o 1 512 n"),
+    (
+        "novacrash picture a.s s 7 o",
+        "picture a.s s / - 1 whole any / 7 - o",
+    ),
+    (
+        "novacrash interleave a.s --seed 1",
+        "interleave a.s / - 1 whole / 1 1000000 0",
+    ),
+    ("novacrash show m", "show m volume"),
+    ("novacrash show m 7", "show m 7"),
+    ("novacrash listing a.s", "listing a.s"),
+    ("novacrash code", "code all"),
+    ("novacrash code A3", "code A3"),
+    ("novacrash code illegal", "code illegal"),
+    ("novacrash run a.s", "run a.s / - 1 16 / 1000000 - -"),
+    ("novacrash replay a.s s", "replay a.s s / - 1 16 / -"),
+    ("novacrash debug a.s", "debug a.s / - 1 16"),
+    ("novacrash trace a.s s", "trace a.s s / - 1 whole any"),
+    (
+        "novacrash unpersisted a.s s",
+        "unpersisted a.s s / - 1 whole any",
+    ),
+    ("novacrash waste a.s s", "waste a.s s / - 1 whole any"),
+    (
+        "novacrash images a.s s 7",
+        "images a.s s / - 1 whole any / 7",
+    ),
+    (
+        "novacrash explain a.s s 7 4",
+        "explain a.s s / - 1 whole any / 7 4",
+    ),
+    (
+        "novacrash explain a.s s 7 floor",
+        "explain a.s s / - 1 whole any / 7 floor",
+    ),
+    (
+        "novacrash explain a.s s 7 l1:1,l300:1",
+        "explain a.s s / - 1 whole any / 7 l1:1,l300:1",
+    ),
+    (
+        "novacrash check p a.s s",
+        "check p a.s s / - 1 whole any / 1 all",
+    ),
+    (
+        "novacrash judge a.s s r",
+        "judge r a.s s / - 1 whole any / 100000 1 all",
+    ),
+];
+
 #[test]
 fn defaults_stand_where_options_are_left_out(rt: HostRuntime) -> Result<(), Fail> {
-    let lines = [
-        ("novacrash asm a.s a.o", "asm a.s a.o"),
-        ("novacrash mkfs p 512 m", "mkfs p 512 m"),
-        ("novacrash upgrade o 1 512 n", "upgrade o 1 512 n"),
-        (
-            "novacrash picture a.s s 7 o",
-            "picture a.s s / - 1 whole any / 7 - o",
-        ),
-        (
-            "novacrash interleave a.s --seed 1",
-            "interleave a.s / - 1 whole / 1 1000000 0",
-        ),
-        ("novacrash show m", "show m volume"),
-        ("novacrash show m 7", "show m 7"),
-        ("novacrash listing a.s", "listing a.s"),
-        ("novacrash code", "code all"),
-        ("novacrash code A3", "code A3"),
-        ("novacrash code illegal", "code illegal"),
-        ("novacrash run a.s", "run a.s / - 1 16 / 1000000 - -"),
-        ("novacrash replay a.s s", "replay a.s s / - 1 16 / -"),
-        ("novacrash debug a.s", "debug a.s / - 1 16"),
-        ("novacrash trace a.s s", "trace a.s s / - 1 whole any"),
-        (
-            "novacrash unpersisted a.s s",
-            "unpersisted a.s s / - 1 whole any",
-        ),
-        ("novacrash waste a.s s", "waste a.s s / - 1 whole any"),
-        (
-            "novacrash images a.s s 7",
-            "images a.s s / - 1 whole any / 7",
-        ),
-        (
-            "novacrash explain a.s s 7 4",
-            "explain a.s s / - 1 whole any / 7 4",
-        ),
-        (
-            "novacrash explain a.s s 7 floor",
-            "explain a.s s / - 1 whole any / 7 floor",
-        ),
-        (
-            "novacrash explain a.s s 7 l1:1,l300:1",
-            "explain a.s s / - 1 whole any / 7 l1:1,l300:1",
-        ),
-        (
-            "novacrash check p a.s s",
-            "check p a.s s / - 1 whole any / 1 all",
-        ),
-    ];
-    let misread = first_misread(rt.alloc(), &lines)?;
+    let misread = first_misread(rt.alloc(), &WITHOUT_OPTIONS)?;
     assert!(rt; misread.is_none(), "{misread:?}");
     Ok(())
 }
 
 /// Lines with options, before and after the words, and what they are read as.
-const WITH_OPTIONS: [(&str, &str); 33] = [
+const WITH_OPTIONS: [(&str, &str); 36] = [
     (
         "novacrash trace --json a.s s",
         "trace a.s s / - 1 whole any json",
@@ -316,6 +341,18 @@ const WITH_OPTIONS: [(&str, &str); 33] = [
     (
         "novacrash check p a.s s --moments 5",
         "check p a.s s / - 1 whole any / 1 5-5",
+    ),
+    (
+        "novacrash judge a.s s r --medium m --harts 2 --steps 7 --workers 3 --overlapping --moments 2-5 --why --whole --json --progress",
+        "judge r a.s s / m 2 whole must-be-whole / 7 3 2-5 overlapping why json progress",
+    ),
+    (
+        "novacrash judge --whole a.s --workers=2 s --steps=0020 r --moments=5-",
+        "judge r a.s s / - 1 whole must-be-whole / 20 2 5-",
+    ),
+    (
+        "novacrash judge --overlapping -- a.s s -r.s",
+        "judge -r.s a.s s / - 1 whole any / 100000 1 all overlapping",
     ),
     (
         "novacrash picture a.s --image l1:1 s 7 --medium m o --harts 2",
@@ -424,7 +461,7 @@ fn options_are_read(rt: HostRuntime) -> Result<(), Fail> {
 }
 
 /// Lines whose numbers are at their limits, and what they are read as.
-const AT_LIMITS: [(&str, &str); 23] = [
+const AT_LIMITS: [(&str, &str); 25] = [
     (
         "novacrash check p a s --moments 0-4294967295",
         "check p a s / - 1 whole any / 1 0-4294967295",
@@ -436,6 +473,14 @@ const AT_LIMITS: [(&str, &str); 23] = [
     (
         "novacrash check p a s --moments 007-07",
         "check p a s / - 1 whole any / 1 7-7",
+    ),
+    (
+        "novacrash judge a s r --harts 8 --steps 500000000 --workers 8 --moments 0-4294967295",
+        "judge r a s / - 8 whole any / 500000000 8 0-4294967295",
+    ),
+    (
+        "novacrash judge a s r --harts 1 --steps 1 --workers 1 --moments 4294967295-",
+        "judge r a s / - 1 whole any / 1 1 4294967295-",
     ),
     (
         "novacrash interleave a --seed 18446744073709551615 --steps 500000000 --evictions 65536",
@@ -505,125 +550,142 @@ fn numbers_at_their_limits_are_read(rt: HostRuntime) -> Result<(), Fail> {
     Ok(())
 }
 
+/// Lines whose numbers are past their limits, or aren't written as they have to be.
+const OTHER_NUMBERS: [&str; 71] = [
+    "novacrash run a --harts 0",
+    "novacrash run a --harts 9",
+    "novacrash run a --capacity 0",
+    "novacrash run a --capacity 16385",
+    "novacrash run a --steps 0",
+    "novacrash run a --steps 500000001",
+    "novacrash run a --steps 4294967297",
+    "novacrash run a --steps 18446744073709551617",
+    "novacrash run a --steps +5",
+    "novacrash run a --steps=+5",
+    "novacrash run a --steps=-5",
+    "novacrash run a --steps -5",
+    "novacrash run a --steps 0x10",
+    "novacrash run a --steps=",
+    "novacrash run a --steps  5",
+    "novacrash replay a s --harts 9",
+    "novacrash replay a s --capacity 16385",
+    "novacrash debug a --harts 9",
+    "novacrash debug a --capacity 0",
+    "novacrash images a s 1 --harts 0",
+    "novacrash explain a s 1 1 --harts 9",
+    "novacrash check p a s --harts 9",
+    "novacrash check p a s --workers 0",
+    "novacrash check p a s --moments -",
+    "novacrash check p a s --moments=-",
+    "novacrash check p a s --moments=-5",
+    "novacrash check p a s --moments=",
+    "novacrash check p a s --moments 5-4",
+    "novacrash check p a s --moments a-b",
+    "novacrash check p a s --moments 1-b",
+    "novacrash check p a s --moments 1--2",
+    "novacrash check p a s --moments 0x1-2",
+    "novacrash check p a s --moments 0-4294967296",
+    "novacrash check p a s --moments 4294967296-",
+    "novacrash check p a s --workers 9",
+    "novacrash check p a s --workers two",
+    "novacrash judge a s r --harts 9",
+    "novacrash judge a s r --steps 0",
+    "novacrash judge a s r --steps 500000001",
+    "novacrash judge a s r --steps=+5",
+    "novacrash judge a s r --steps few",
+    "novacrash judge a s r --workers 0",
+    "novacrash judge a s r --workers 9",
+    "novacrash judge a s r --moments 5-4",
+    "novacrash judge a s r --moments=-5",
+    "novacrash judge a s r --moments 0-4294967296",
+    "novacrash mkfs p 4294967296 m",
+    "novacrash mkfs p +1 m",
+    "novacrash upgrade o 4294967296 512 n",
+    "novacrash upgrade o 1 4294967296 n",
+    "novacrash upgrade o +1 512 n",
+    "novacrash upgrade o 1 0x200 n",
+    "novacrash interleave a --seed 18446744073709551616",
+    "novacrash interleave a --seed +1",
+    "novacrash interleave a --seed=-1",
+    "novacrash interleave a --seed=",
+    "novacrash interleave a --seed one",
+    "novacrash interleave a --seed 1 --steps 0",
+    "novacrash interleave a --seed 1 --steps 500000001",
+    "novacrash interleave a --seed 1 --evictions 65537",
+    "novacrash interleave a --seed 1 --harts 9",
+    "novacrash show m 4294967296",
+    "novacrash show m 0x10",
+    "novacrash images a s 4294967296",
+    "novacrash images a s +1",
+    "novacrash images a s 0x1",
+    "novacrash explain a s 4294967296 0",
+    "novacrash explain a s 0 4294967296",
+    "novacrash explain a s 0 x",
+    "novacrash explain a s 0 l1",
+    "novacrash explain a s 0 ",
+];
+
 #[test]
 fn other_numbers_are_faults(rt: HostRuntime) -> Result<(), Fail> {
-    let lines = [
-        "novacrash run a --harts 0",
-        "novacrash run a --harts 9",
-        "novacrash run a --capacity 0",
-        "novacrash run a --capacity 16385",
-        "novacrash run a --steps 0",
-        "novacrash run a --steps 500000001",
-        "novacrash run a --steps 4294967297",
-        "novacrash run a --steps 18446744073709551617",
-        "novacrash run a --steps +5",
-        "novacrash run a --steps=+5",
-        "novacrash run a --steps=-5",
-        "novacrash run a --steps -5",
-        "novacrash run a --steps 0x10",
-        "novacrash run a --steps=",
-        "novacrash run a --steps  5",
-        "novacrash replay a s --harts 9",
-        "novacrash replay a s --capacity 16385",
-        "novacrash debug a --harts 9",
-        "novacrash debug a --capacity 0",
-        "novacrash images a s 1 --harts 0",
-        "novacrash explain a s 1 1 --harts 9",
-        "novacrash check p a s --harts 9",
-        "novacrash check p a s --workers 0",
-        "novacrash check p a s --moments -",
-        "novacrash check p a s --moments=-",
-        "novacrash check p a s --moments=-5",
-        "novacrash check p a s --moments=",
-        "novacrash check p a s --moments 5-4",
-        "novacrash check p a s --moments a-b",
-        "novacrash check p a s --moments 1-b",
-        "novacrash check p a s --moments 1--2",
-        "novacrash check p a s --moments 0x1-2",
-        "novacrash check p a s --moments 0-4294967296",
-        "novacrash check p a s --moments 4294967296-",
-        "novacrash check p a s --workers 9",
-        "novacrash check p a s --workers two",
-        "novacrash mkfs p 4294967296 m",
-        "novacrash mkfs p +1 m",
-        "novacrash upgrade o 4294967296 512 n",
-        "novacrash upgrade o 1 4294967296 n",
-        "novacrash upgrade o +1 512 n",
-        "novacrash upgrade o 1 0x200 n",
-        "novacrash interleave a --seed 18446744073709551616",
-        "novacrash interleave a --seed +1",
-        "novacrash interleave a --seed=-1",
-        "novacrash interleave a --seed=",
-        "novacrash interleave a --seed one",
-        "novacrash interleave a --seed 1 --steps 0",
-        "novacrash interleave a --seed 1 --steps 500000001",
-        "novacrash interleave a --seed 1 --evictions 65537",
-        "novacrash interleave a --seed 1 --harts 9",
-        "novacrash show m 4294967296",
-        "novacrash show m 0x10",
-        "novacrash images a s 4294967296",
-        "novacrash images a s +1",
-        "novacrash images a s 0x1",
-        "novacrash explain a s 4294967296 0",
-        "novacrash explain a s 0 4294967296",
-        "novacrash explain a s 0 x",
-        "novacrash explain a s 0 l1",
-        "novacrash explain a s 0 ",
-    ];
-    let accepted = first_other(rt.alloc(), &lines, "fault")?;
+    let accepted = first_other(rt.alloc(), &OTHER_NUMBERS, "fault")?;
     assert!(rt; accepted.is_none(), "{accepted:?}");
     Ok(())
 }
 
+/// Lines that lack a word, or have one that isn't asked for.
+const OTHER_WORDS: [&str; 47] = [
+    "novacrash",
+    "novacrash asm a.s",
+    "novacrash asm a.s a.o b.o",
+    "novacrash mkfs p 512",
+    "novacrash mkfs p 512 m n",
+    "novacrash upgrade o 1 512",
+    "novacrash upgrade o 1 512 n m",
+    "novacrash picture a.s s 7",
+    "novacrash picture a.s s 7 o p",
+    "novacrash interleave a.s",
+    "novacrash interleave --seed 1",
+    "novacrash interleave a.s s --seed 1",
+    "novacrash show",
+    "novacrash show m 1 2",
+    "novacrash listing",
+    "novacrash listing a.s s",
+    "novacrash code A3 A4",
+    "novacrash code A11",
+    "novacrash code a3",
+    "novacrash code 3",
+    "novacrash code ",
+    "novacrash run",
+    "novacrash run a.s b.s",
+    "novacrash replay a.s",
+    "novacrash replay a.s s t",
+    "novacrash debug",
+    "novacrash debug a.s s",
+    "novacrash trace",
+    "novacrash trace a.s",
+    "novacrash trace a.s s t",
+    "novacrash unpersisted a.s",
+    "novacrash unpersisted a.s s t",
+    "novacrash waste a.s",
+    "novacrash waste a.s s t",
+    "novacrash images",
+    "novacrash images a.s s",
+    "novacrash images a.s s 0 1",
+    "novacrash explain a.s s 0",
+    "novacrash explain a.s s 0 1 2",
+    "novacrash check p a.s",
+    "novacrash check p a.s s t",
+    "novacrash judge",
+    "novacrash judge a.s s",
+    "novacrash judge a.s s r t",
+    "novacrash ru a.s",
+    "novacrash help",
+    "novacrash help run",
+];
+
 #[test]
 fn missing_and_further_words_are_faults(rt: HostRuntime) -> Result<(), Fail> {
-    let lines = [
-        "novacrash",
-        "novacrash asm a.s",
-        "novacrash asm a.s a.o b.o",
-        "novacrash mkfs p 512",
-        "novacrash mkfs p 512 m n",
-        "novacrash upgrade o 1 512",
-        "novacrash upgrade o 1 512 n m",
-        "novacrash picture a.s s 7",
-        "novacrash picture a.s s 7 o p",
-        "novacrash interleave a.s",
-        "novacrash interleave --seed 1",
-        "novacrash interleave a.s s --seed 1",
-        "novacrash show",
-        "novacrash show m 1 2",
-        "novacrash listing",
-        "novacrash listing a.s s",
-        "novacrash code A3 A4",
-        "novacrash code A11",
-        "novacrash code a3",
-        "novacrash code 3",
-        "novacrash code ",
-        "novacrash run",
-        "novacrash run a.s b.s",
-        "novacrash replay a.s",
-        "novacrash replay a.s s t",
-        "novacrash debug",
-        "novacrash debug a.s s",
-        "novacrash trace",
-        "novacrash trace a.s",
-        "novacrash trace a.s s t",
-        "novacrash unpersisted a.s",
-        "novacrash unpersisted a.s s t",
-        "novacrash waste a.s",
-        "novacrash waste a.s s t",
-        "novacrash images",
-        "novacrash images a.s s",
-        "novacrash images a.s s 0 1",
-        "novacrash explain a.s s 0",
-        "novacrash explain a.s s 0 1 2",
-        "novacrash check p a.s",
-        "novacrash check p a.s s t",
-        "novacrash ru a.s",
-        "novacrash help",
-        "novacrash help run",
-    ];
-    let accepted = first_other(rt.alloc(), &lines, "fault")?;
+    let accepted = first_other(rt.alloc(), &OTHER_WORDS, "fault")?;
     assert!(rt; accepted.is_none(), "{accepted:?}");
     Ok(())
 }
@@ -637,71 +699,83 @@ fn an_object_has_another_name_than_its_source(rt: HostRuntime) -> Result<(), Fai
     Ok(())
 }
 
+/// Lines with options that their command doesn't have, that are given twice, or whose value doesn't fit.
+const OTHER_OPTIONS: [&str; 70] = [
+    "novacrash run a.s --steps",
+    "novacrash run a.s --medium",
+    "novacrash run a.s --medium --harts 2",
+    "novacrash run a.s --medium -m",
+    "novacrash run a.s --medium=-m",
+    "novacrash run a.s --record=-",
+    "novacrash run a.s --out -",
+    "novacrash replay a.s s --out=--",
+    "novacrash check p a.s s --medium=",
+    "novacrash run a.s --steps 5 --steps 5",
+    "novacrash run a.s --medium m --medium=m",
+    "novacrash check p a.s s --harts 2 --harts 2",
+    "novacrash check p a.s s --workers 2 --workers 2",
+    "novacrash run a.s --workers 2",
+    "novacrash replay a.s s --workers 2",
+    "novacrash images a.s s 1 --workers 2",
+    "novacrash explain a.s s 1 1 --workers 2",
+    "novacrash run a.s --step 5",
+    "novacrash run a.s --med m",
+    "novacrash run a.s --lines 5",
+    "novacrash asm a.s a.o --harts 1",
+    "novacrash mkfs p 512 m --medium m",
+    "novacrash upgrade o 1 512 n --harts 1",
+    "novacrash picture a.s s 7 o --whole",
+    "novacrash picture a.s s 7 o --image x",
+    "novacrash picture a.s s 7 o --image 0 --image 0",
+    "novacrash interleave a.s --seed 1 --seed 1",
+    "novacrash interleave a.s --seed",
+    "novacrash interleave a.s --seed 1 --capacity 2",
+    "novacrash run a.s --seed 1",
+    "novacrash show m --harts 1",
+    "novacrash listing a.s --medium m",
+    "novacrash code A3 --harts 1",
+    "novacrash replay a.s s --steps 5",
+    "novacrash replay a.s s --record r",
+    "novacrash debug a.s --steps 5",
+    "novacrash debug a.s --out o",
+    "novacrash trace a.s s --capacity 2",
+    "novacrash trace a.s s --workers 2",
+    "novacrash trace a.s s --whole=yes",
+    "novacrash unpersisted a.s s --workers 2",
+    "novacrash waste a.s s --workers 2",
+    "novacrash trace a.s s --whole --whole",
+    "novacrash trace a.s s --who",
+    "novacrash check p a.s s --whole --workers 2 --whole",
+    "novacrash check p a.s s --why --whole --why",
+    "novacrash check p a.s s --why=yes",
+    "novacrash trace a.s s --why",
+    "novacrash run a.s --whole",
+    "novacrash replay a.s s --whole",
+    "novacrash images a.s s 1 --capacity 2",
+    "novacrash images a.s s 1 --steps 2",
+    "novacrash explain a.s s 1 1 --out o",
+    "novacrash check p a.s s --capacity 2",
+    "novacrash check p a.s s --overlapping",
+    "novacrash check p a.s s --steps 5",
+    "novacrash judge a.s s r --capacity 2",
+    "novacrash judge a.s s r --image 1",
+    "novacrash judge a.s s r --record q",
+    "novacrash judge a.s s r --medium=",
+    "novacrash judge a.s s r --steps",
+    "novacrash judge a.s s r --steps 5 --steps 5",
+    "novacrash judge a.s s r --overlapping --overlapping",
+    "novacrash judge a.s s r --overlapping=yes",
+    "novacrash --steps 5 run a.s",
+    "novacrash run -a.s",
+    "novacrash run -h",
+    "novacrash -h",
+    "novacrash -V",
+    "novacrash --version",
+];
+
 #[test]
 fn options_out_of_place_are_faults(rt: HostRuntime) -> Result<(), Fail> {
-    let lines = [
-        "novacrash run a.s --steps",
-        "novacrash run a.s --medium",
-        "novacrash run a.s --medium --harts 2",
-        "novacrash run a.s --medium -m",
-        "novacrash run a.s --medium=-m",
-        "novacrash run a.s --record=-",
-        "novacrash run a.s --out -",
-        "novacrash replay a.s s --out=--",
-        "novacrash check p a.s s --medium=",
-        "novacrash run a.s --steps 5 --steps 5",
-        "novacrash run a.s --medium m --medium=m",
-        "novacrash check p a.s s --harts 2 --harts 2",
-        "novacrash check p a.s s --workers 2 --workers 2",
-        "novacrash run a.s --workers 2",
-        "novacrash replay a.s s --workers 2",
-        "novacrash images a.s s 1 --workers 2",
-        "novacrash explain a.s s 1 1 --workers 2",
-        "novacrash run a.s --step 5",
-        "novacrash run a.s --med m",
-        "novacrash run a.s --lines 5",
-        "novacrash asm a.s a.o --harts 1",
-        "novacrash mkfs p 512 m --medium m",
-        "novacrash upgrade o 1 512 n --harts 1",
-        "novacrash picture a.s s 7 o --whole",
-        "novacrash picture a.s s 7 o --image x",
-        "novacrash picture a.s s 7 o --image 0 --image 0",
-        "novacrash interleave a.s --seed 1 --seed 1",
-        "novacrash interleave a.s --seed",
-        "novacrash interleave a.s --seed 1 --capacity 2",
-        "novacrash run a.s --seed 1",
-        "novacrash show m --harts 1",
-        "novacrash listing a.s --medium m",
-        "novacrash code A3 --harts 1",
-        "novacrash replay a.s s --steps 5",
-        "novacrash replay a.s s --record r",
-        "novacrash debug a.s --steps 5",
-        "novacrash debug a.s --out o",
-        "novacrash trace a.s s --capacity 2",
-        "novacrash trace a.s s --workers 2",
-        "novacrash trace a.s s --whole=yes",
-        "novacrash unpersisted a.s s --workers 2",
-        "novacrash waste a.s s --workers 2",
-        "novacrash trace a.s s --whole --whole",
-        "novacrash trace a.s s --who",
-        "novacrash check p a.s s --whole --workers 2 --whole",
-        "novacrash check p a.s s --why --whole --why",
-        "novacrash check p a.s s --why=yes",
-        "novacrash trace a.s s --why",
-        "novacrash run a.s --whole",
-        "novacrash replay a.s s --whole",
-        "novacrash images a.s s 1 --capacity 2",
-        "novacrash images a.s s 1 --steps 2",
-        "novacrash explain a.s s 1 1 --out o",
-        "novacrash check p a.s s --capacity 2",
-        "novacrash --steps 5 run a.s",
-        "novacrash run -a.s",
-        "novacrash run -h",
-        "novacrash -h",
-        "novacrash -V",
-        "novacrash --version",
-    ];
-    let accepted = first_other(rt.alloc(), &lines, "fault")?;
+    let accepted = first_other(rt.alloc(), &OTHER_OPTIONS, "fault")?;
     assert!(rt; accepted.is_none(), "{accepted:?}");
     Ok(())
 }
@@ -723,6 +797,7 @@ fn help_is_asked_for(rt: HostRuntime) -> Result<(), Fail> {
         "novacrash images --help",
         "novacrash explain --help",
         "novacrash check --help",
+        "novacrash judge --help",
         "novacrash run a.s --help",
     ];
     let other = first_other(rt.alloc(), &lines, "help")?;

@@ -15,7 +15,7 @@ fn text_of(alloc: Global, line: &str) -> Result<Option<String>, AllocError> {
 }
 
 /// Lines at fault, and what is told of them.
-const FAULTS: [(&str, &str); 24] = [
+const FAULTS: [(&str, &str); 29] = [
     (
         "novacrash run a.s --steps 0",
         "error: --steps takes a decimal number from 1 to 500000000\n",
@@ -35,6 +35,32 @@ const FAULTS: [(&str, &str); 24] = [
     (
         "novacrash check p a.s s --moments 5-4",
         "error: --moments takes A-B, A- or A, decimal numbers below 4294967296, A at most B\n",
+    ),
+    (
+        "novacrash judge a.s s r --steps 0",
+        "error: --steps takes a decimal number from 1 to 500000000\n",
+    ),
+    (
+        "novacrash judge a.s s r --workers 9",
+        "error: --workers takes a decimal number from 1 to 8\n",
+    ),
+    (
+        "novacrash judge a.s s r --moments 5-4",
+        "error: --moments takes A-B, A- or A, decimal numbers below 4294967296, A at most B\n",
+    ),
+    (
+        "novacrash judge a.s s",
+        "error: the following required arguments were not provided:\n  \
+         <RECOVERY>\n\n\
+         Usage: novacrash judge <PROGRAM> <SCHEDULE> <RECOVERY>\n\n\
+         For more information, try '--help'.\n",
+    ),
+    (
+        "novacrash judge a.s s r --capacity 2",
+        "error: unexpected argument '--capacity' found\n\n  \
+         tip: to pass '--capacity' as a value, use '-- --capacity'\n\n\
+         Usage: novacrash judge <PROGRAM> <SCHEDULE> <RECOVERY>\n\n\
+         For more information, try '--help'.\n",
     ),
     (
         "novacrash run a.s --medium=-m",
@@ -140,7 +166,7 @@ fn faults_are_told(rt: HostRuntime) -> Result<(), Fail> {
 }
 
 /// Whole lines of each command, and its usage.
-const USAGES: [(&str, &str); 17] = [
+const USAGES: [(&str, &str); 18] = [
     ("asm a.s a.o", "asm <SOURCE> <OBJECT>"),
     ("mkfs p 512 m", "mkfs <PLAN> <LINES> <MEDIUM>"),
     ("upgrade o 1 512 n", "upgrade <OLD> <PAGES> <LINES> <NEW>"),
@@ -164,6 +190,10 @@ const USAGES: [(&str, &str); 17] = [
     (
         "check p a.s s",
         "check [OPTIONS] <PLAN> <PROGRAM> <SCHEDULE>",
+    ),
+    (
+        "judge a.s s r",
+        "judge [OPTIONS] <PROGRAM> <SCHEDULE> <RECOVERY>",
     ),
     (
         "picture a.s s 1 o",
@@ -200,7 +230,7 @@ Formats and codes: docs/FORMATS.md; `novacrash code CODE` says what a code means
 ";
 
 /// The help of each command, before that.
-const HELPS: [(&str, &str); 17] = [
+const HELPS: [(&str, &str); 18] = [
     (
         "asm",
         "\
@@ -455,6 +485,34 @@ Example: novacrash check append.plan append.s append.schedule --medium fresh.med
 ",
     ),
     (
+        "judge",
+        "\
+Judge every crash image of a run by a recovery routine of one's own
+
+Usage: novacrash judge [OPTIONS] <PROGRAM> <SCHEDULE> <RECOVERY>
+
+Arguments:
+  <PROGRAM>   The program's file: an object or a source
+  <SCHEDULE>  The schedule's file
+  <RECOVERY>  The recovery routine's file: an object or a source
+
+Options:
+      --medium <FILE>  The medium's file [default: 512 lines of zeros]
+      --harts <N>      The number of harts, from 1 to 8 [default: 1]
+      --steps <N>      The most steps of recovery on an image, from 1 to 500000000 [default: 100000]
+      --workers <N>    The number of workers that judge the run, from 1 to 8 [default: 1]
+      --overlapping    Let an operation begin while another is pending
+      --moments <A-B>  The moments that are judged: A-B, A- to the last one, or A alone [default: all]
+      --whole          Refuse a run in which a hart doesn't exit with 0, or an operation doesn't end
+      --why            Say which stores a failing image lacks and keeps, why each can be lost, and how it comes about
+      --json           Print one JSON object a line
+      --progress       Tell on standard error how far the check has come, at most twice a second
+      --help           Print help
+
+Example: novacrash judge ring.s ring.schedule ring-recovery.s --whole --why
+",
+    ),
+    (
         "picture",
         "\
 Draw a run up to a moment: its stores, cleans and fences, and what a power cut may lose
@@ -578,6 +636,7 @@ Commands:
   images       Count the crash images of a moment of a run by a schedule
   explain      Print a schedule that leaves a crash image of a moment of a run
   check        Judge every crash image of a run by a schedule
+  judge        Judge every crash image of a run by a recovery routine of one's own
   picture      Draw a run up to a moment: its stores, cleans and fences, and what a power cut may lose
   interleave   Print a schedule of a whole run, drawn from a seed
   show         Print the volume that recovery finds on a medium, or the bytes of one of its lines

@@ -11,7 +11,7 @@ all_codes =
     codes "P1" ∷ codes "P2" ∷ codes "P3" ∷ codes "P4" ∷ codes "P5" ∷ codes "P6" ∷ codes "G1" ∷ codes "G2" ∷ codes "G3" ∷ codes "G4" ∷
     codes "G5" ∷ codes "G6" ∷ codes "B3" ∷ codes "M3" ∷ codes "C1" ∷ codes "C2" ∷ codes "N1" ∷ codes "N2" ∷ codes "N3" ∷ codes "N4" ∷ codes "N5" ∷
     codes "N6" ∷ codes "N7" ∷ codes "N8" ∷ codes "N9" ∷ codes "N10" ∷ codes "N11" ∷ codes "L1" ∷ codes "L2" ∷ codes "L3" ∷ codes "L4" ∷
-    codes "L5" ∷ codes "O1" ∷ codes "O2" ∷ codes "O3" ∷ codes "O4" ∷ codes "D1" ∷ codes "D2" ∷ codes "D3" ∷ codes "D4" ∷ codes "D5" ∷
+    codes "L5" ∷ codes "O1" ∷ codes "O2" ∷ codes "O3" ∷ codes "O4" ∷ codes "O5" ∷ codes "O6" ∷ codes "D1" ∷ codes "D2" ∷ codes "D3" ∷ codes "D4" ∷ codes "D5" ∷
     codes "T1" ∷ codes "T2" ∷ codes "T3" ∷ codes "T4" ∷ codes "T5" ∷ codes "T6" ∷ codes "T7" ∷ codes "illegal" ∷ codes "memory" ∷ codes "file" ∷
     []
 

@@ -17,7 +17,7 @@ pub(crate) type Row = (&'static str, &'static str, &'static str);
 
 /// All codes, by what they speak of: sources, objects, runs, media, moments, volumes, plans, operations, sessions, traps, and
 /// the words that stand in place of a code.
-pub(crate) static MEANINGS: [Row; 61] = [
+pub(crate) static MEANINGS: [Row; 63] = [
     (
         "A1",
         "a bad token in this source line, or `.` as a label",
@@ -236,7 +236,7 @@ pub(crate) static MEANINGS: [Row; 61] = [
     (
         "O2",
         "an operation that begins a second time",
-        "Each operation of the plan begins once in a run.",
+        "Each operation begins once in a run.",
     ),
     (
         "O3",
@@ -247,6 +247,16 @@ pub(crate) static MEANINGS: [Row; 61] = [
         "O4",
         "an operation that shares an inode with a pending one",
         "Operations that overlap must have inodes of their own: end one before the other begins.",
+    ),
+    (
+        "O5",
+        "an operation that begins while another one is pending",
+        "End one before the other begins, or let `judge` take them by `--overlapping`.",
+    ),
+    (
+        "O6",
+        "a run in which no operation begins",
+        "Mark where operations begin and end by ECALL 2001 and 2002: `judge` judges a run from the first on.",
     ),
     (
         "D1",

@@ -4,3 +4,5 @@ mod Loops
 pub mod Written
 mod SourceLines
 mod OnTheWay
+mod CheckedRows
+mod JudgedRows

@@ -1,42 +1,35 @@
--- What a check tells on its way, window by window, and the verdict on all that it has judged.
-use Rattle.std.proofs.Common.{◌≡◌, ◌⊎◌, inl, inr, ℕ, ◌+◌, ◌-◌, ◌<◌, ◌≤◌, ◌++◌, List, [], Option, Result, Ok, Err, Bool, true, false, refl, sym, subst, take, arith}
-use Rattle.std.specs.Prelude.{OnOk}
+-- What is told on the way to a verdict, row of moments by row of moments.
+use Rattle.std.proofs.Common.{◌≡◌, ◌⊎◌, inl, inr, ℕ, ◌+◌, ◌-◌, ◌<◌, ◌≤◌, ◌++◌, List, [], Option, Some, None, Result, Ok, Err, Bool, true, refl, arith}
+use Rattle.std.specs.Prelude.{IfNone, OnOk}
 use Rattle.std.specs.Result.{is_ok}
 use Rattle.std.specs.Io.KnownBytes.{Appends}
 use Rattle.std.proofs.lemmas.Bool.{cases_lt}
-use Rattle.std.proofs.lemmas.List.{append_assoc, append-nil}
+use Rattle.std.proofs.lemmas.List.{append-nil}
 use Rattle.crash_image.specs.Totals.{IsImageSum}
-use Rattle.image_check.specs.Verdicts.{IsLeastMoment, IsMomentVerdict, IsVerdictBetween, PassBetween}
-use Rattle.image_check.specs.declared.verdict.MomentVerdict.{MomentVerdict}
-use Rattle.image_check.specs.declared.verdict.MomentVerdict.TheVariants as moments
-use Rattle.image_check.specs.declared.verdict.Verdict.{Verdict}
-use Rattle.image_check.specs.declared.verdict.Verdict.TheVariants as runs
-use Rattle.plan.specs.declared.operation.Operation.{Operation}
 use Rattle.session.specs.Failing.{AppendsFront}
 use Rattle.session.specs.declared.input.Failed.{Failed}
 use Rattle.store_trace.specs.declared.event.Event.{Event}
-use Rattle.command_line.specs.Progress.{IsLineOf, IsProgress, Progresses, WritesLine, progress_line}
+use Rattle.command_line.specs.Progress.{AllPass, IsLineOf, IsProgress, Progresses, WritesLine}
 use Rattle.command_line.proofs.Written.{front_more, front_nothing, joined, part_none}
 
 -- the moments below `next` pass, and this was told of them, all of it where standard error has not failed
-pub record IsAt (plan : List Operation) (start : List (List ℕ)) (events : List Event) (first end next : ℕ) (is_heard : Bool)
-    (old new : Option (List ℕ)) : Type 0 where
+pub record IsAt (passed : ℕ → Type 0) (events : List Event) (first end next : ℕ) (is_heard : Bool) (old new : Option (List ℕ)) : Type 0 where
   pub from : first ≤ next
   pub within : next ≤ end
-  pub passed : PassBetween plan start events first next
+  pub all : AllPass passed first next
   pub moment : ℕ
   pub text : List ℕ
   pub behind : first + moment ≤ next
-  pub is_progress : IsProgress plan start events first end moment text
+  pub is_progress : IsProgress passed events first end moment text
   pub front : AppendsFront old new text
   pub whole : is_heard ≡ true → Appends old new text
 
-pub at_first : (plan : List Operation) (start : List (List ℕ)) (events : List Event) (first end : ℕ) (old : Option (List ℕ)) → first ≤ end →
-    IsAt plan start events first end first true old old
-at_first plan start events first end old order = record {
+pub at_first : (passed : ℕ → Type 0) (events : List Event) (first end : ℕ) (old : Option (List ℕ)) → first ≤ end →
+    IsAt passed events first end first true old old
+at_first passed events first end old order = record {
   from = omega arith;
   within = order;
-  passed = λ m f l. absurd (omega (arith, f, l));
+  all = λ m f l. absurd (omega (arith, f, l));
   moment = 0;
   text = [];
   behind = omega arith;
@@ -46,22 +39,20 @@ at_first plan start events first end old order = record {
 }
 
 -- two rows of moments that pass
-passes_join : (plan : List Operation) (start : List (List ℕ)) (events : List Event) (first middle end : ℕ) →
-    PassBetween plan start events first middle → PassBetween plan start events middle end → PassBetween plan start events first end
-passes_join plan start events first middle end before after m f l = elim (cases_lt m middle) [
+pub passes_join : (passed : ℕ → Type 0) (first middle end : ℕ) → AllPass passed first middle → AllPass passed middle end → AllPass passed first end
+passes_join passed first middle end before after m f l = elim (cases_lt m middle) [
   | inl earlier ↦ before m f earlier
   | inr late ↦ after m late l
 ]
 
 -- further moments that pass, of which nothing is told
-pub quiet_window : (plan : List Operation) (start : List (List ℕ)) (events : List Event) (first end next further count : ℕ) (images : Option ℕ)
-    (is_heard : Bool) (old new : Option (List ℕ)) → IsAt plan start events first end next is_heard old new →
-    next < further → further ≤ end → IsVerdictBetween plan start events next further (runs.Pass count images) →
-    IsAt plan start events first end further is_heard old new
-quiet_window plan start events first end next further count images is_heard old new at more there window = record {
+pub quiet_window : (passed : ℕ → Type 0) (events : List Event) (first end next further : ℕ) (is_heard : Bool) (old new : Option (List ℕ)) →
+    IsAt passed events first end next is_heard old new → next < further → further ≤ end → AllPass passed first further →
+    IsAt passed events first end further is_heard old new
+quiet_window passed events first end next further is_heard old new at more there all = record {
   from = omega (arith, at.from, more);
   within = there;
-  passed = passes_join plan start events first next further at.passed window.2;
+  all = all;
   moment = at.moment;
   text = at.text;
   behind = omega (arith, at.behind, more);
@@ -76,42 +67,30 @@ written_whole : (old new : Option (List ℕ)) (line : List ℕ) (outcome : Resul
 written_whole old new line (Ok done) whole heard = whole
 written_whole old new line (Err failed) whole heard = absurd cc
 
--- the first of a row of moments that doesn't pass, behind moments that do
-least_on : (plan : List Operation) (start : List (List ℕ)) (events : List Event) (first end next further moment : ℕ) (verdict : MomentVerdict)
-    (is_heard : Bool) (old new : Option (List ℕ)) → IsAt plan start events first end next is_heard old new → further ≤ end →
-    IsLeastMoment plan start events next further moment verdict → IsLeastMoment plan start events first end moment verdict
-least_on plan start events first end next further moment verdict is_heard old new at there least = record {
-  from = omega (arith, at.from, least.from);
-  there = omega (arith, least.there, there);
-  passed = passes_join plan start events first next moment at.passed least.passed;
-  here = least.here;
-}
-
 -- the line of a front of the moments goes on what was told of an earlier one
-line_goes_on : (plan : List Operation) (start : List (List ℕ)) (events : List Event) (first end moment further : ℕ) (text line : List ℕ) →
-    IsProgress plan start events first end moment text → first + moment < further → further ≤ end → PassBetween plan start events first further →
-    IsLineOf events first further end line → IsProgress plan start events first end (further - first) (text ++ line)
-line_goes_on plan start events first end moment further text line before later there passed is =
+line_goes_on : (passed : ℕ → Type 0) (events : List Event) (first end moment further : ℕ) (text line : List ℕ) →
+    IsProgress passed events first end moment text → first + moment < further → further ≤ end → AllPass passed first further →
+    IsLineOf events first further end line → IsProgress passed events first end (further - first) (text ++ line)
+line_goes_on passed events first end moment further text line before later there all is =
     let same : first + (further - first) ≡ further = omega (arith, later) in
-    let verdict : IsVerdictBetween plan start events first (first + (further - first)) (runs.Pass (further - first) is.images) =
-    rw same (refl, is.sum, passed) in
-    rw is.line_is (IsProgress.goes_on moment (further - first) is.images text before (omega (arith, later)) (omega (arith, there, same)) verdict)
+    let sum : IsImageSum events first (first + (further - first)) is.images = rw same is.sum in
+    let reached : AllPass passed first (first + (further - first)) = rw same all in
+    rw is.line_is (IsProgress.goes_on moment (further - first) is.images text before (omega (arith, later)) (omega (arith, there, same)) reached sum)
 
 -- further moments that pass, of which a line, or nothing, was written
-pub told_window : (plan : List Operation) (start : List (List ℕ)) (events : List Event) (first end next further count : ℕ) (images : Option ℕ)
+pub told_window : (passed : ℕ → Type 0) (events : List Event) (first end next further : ℕ)
     (old between new : Option (List ℕ)) (outcome : Result (Unit {0}) Failed) →
-    IsAt plan start events first end next true old between → next < further → further ≤ end →
-    IsVerdictBetween plan start events next further (runs.Pass count images) → WritesLine events first further end between new outcome →
-    IsAt plan start events first end further (is_ok outcome) old new
-told_window plan start events first end next further count images old between new outcome at more there window written =
+    IsAt passed events first end next true old between → next < further → further ≤ end →
+    AllPass passed first further → WritesLine events first further end between new outcome →
+    IsAt passed events first end further (is_ok outcome) old new
+told_window passed events first end next further old between new outcome at more there all written =
     let before : Appends old between at.text = at.whole refl in
     let from : first ≤ further = omega (arith, at.from, more) in
-    let passed : PassBetween plan start events first further = passes_join plan start events first next further at.passed window.2 in
     elim written.is_line [
       | inl none ↦ record {
         from = from;
         within = there;
-        passed = passed;
+        all = all;
         moment = at.moment;
         text = at.text;
         behind = omega (arith, at.behind, more);
@@ -122,37 +101,19 @@ told_window plan start events first end next further count images old between ne
       | inr line ↦ record {
         from = from;
         within = there;
-        passed = passed;
+        all = all;
         moment = further - first;
         text = at.text ++ written.line;
         behind = omega (arith, from);
-        is_progress = line_goes_on plan start events first end at.moment further at.text written.line at.is_progress (omega (arith, at.behind, more)) there passed line;
+        is_progress = line_goes_on passed events first end at.moment further at.text written.line at.is_progress (omega (arith, at.behind, more)) there all line;
         front = front_more old between new at.text written.line before written.front;
         whole = λ heard. joined old between new at.text written.line before (written_whole between new written.line outcome written.writes heard);
       }
     ]
 
--- the verdict on a row of moments that don't all pass, behind moments that do
-pub fails_on : (plan : List Operation) (start : List (List ℕ)) (events : List Event) (first end next further : ℕ) (verdict : Verdict)
-    (is_heard : Bool) (old new : Option (List ℕ)) → IsAt plan start events first end next is_heard old new → further ≤ end →
-    ((moments : ℕ) (images : Option ℕ) → ¬ (verdict ≡ runs.Pass moments images)) →
-    IsVerdictBetween plan start events next further verdict → IsVerdictBetween plan start events first end verdict
-fails_on plan start events first end next further (runs.Pass moments images) is_heard old new at there never window = absurd (never moments images refl)
-fails_on plan start events first end next further (runs.Fail moment name cause) is_heard old new at there never window =
-    least_on plan start events first end next further moment (moments.Fail name cause) is_heard old new at there window
-fails_on plan start events first end next further (runs.TooMany moment) is_heard old new at there never window =
-    least_on plan start events first end next further moment moments.TooMany is_heard old new at there window
-
--- all moments pass
-pub passes_all : (plan : List Operation) (start : List (List ℕ)) (events : List Event) (first end next : ℕ) (images : Option ℕ)
-    (is_heard : Bool) (old new : Option (List ℕ)) → IsAt plan start events first end next is_heard old new → end ≤ next →
-    IsImageSum events first end images → IsVerdictBetween plan start events first end (runs.Pass (end - first) images)
-passes_all plan start events first end next images is_heard old new at done sum =
-    (omega (arith, at.from, at.within), sum, λ m f l. at.passed m f (omega (arith, l, done)))
-
-pub told_so_far : (plan : List Operation) (start : List (List ℕ)) (events : List Event) (first end next : ℕ) (is_heard : Bool)
-    (old new : Option (List ℕ)) → IsAt plan start events first end next is_heard old new → Progresses plan start events first end old new
-told_so_far plan start events first end next is_heard old new at = record {
+pub told_so_far : (passed : ℕ → Type 0) (events : List Event) (first end next : ℕ) (is_heard : Bool)
+    (old new : Option (List ℕ)) → IsAt passed events first end next is_heard old new → Progresses passed events first end old new
+told_so_far passed events first end next is_heard old new at = record {
   moment = at.moment;
   text = at.text;
   is_progress = at.is_progress;
@@ -160,11 +121,15 @@ told_so_far plan start events first end next is_heard old new at = record {
 }
 
 -- nothing was told
-pub told_nothing : (plan : List Operation) (start : List (List ℕ)) (events : List Event) (first end : ℕ) (old : Option (List ℕ)) →
-    Progresses plan start events first end old old
-told_nothing plan start events first end old = record {
+pub told_nothing : (passed : ℕ → Type 0) (events : List Event) (first end : ℕ) (old : Option (List ℕ)) → Progresses passed events first end old old
+told_nothing passed events first end old = record {
   moment = 0;
   text = [];
   is_progress = IsProgress.starts;
   writes = front_nothing old [];
 }
+
+-- what holds where nothing was found
+pub none_of : {A : Type 0} (found : Option A) (claim : Type 0) → ((x : A) → ¬ (found ≡ Some x)) → IfNone found claim → claim
+none_of None claim never holds = holds
+none_of (Some x) claim never holds = absurd (never x refl)

@@ -14,7 +14,7 @@ use Rattle.run_text.specs.Causes.{unfinished_text}
 use Rattle.run_text.specs.Places.{line_in}
 use Rattle.run_trace.specs.declared.traced_event.TracedEvent.{TracedEvent}
 use Rattle.tester.specs.Programs.{IsObjectOf, IsProgramOf, begins_as_object}
-use Rattle.command_line.specs.Checking.{told_losses}
+use Rattle.command_line.specs.Reasons.{told_losses}
 use Rattle.command_line.specs.Persisting.{told_stores}
 use Rattle.command_line.specs.Tracing.{told_events}
 use Rattle.command_line.specs.Wasting.{IsTold}

@@ -1,9 +1,11 @@
 -- What is known of a stream to which a text is written part by part.
-use Rattle.std.proofs.Common.{◌≡◌, ◌∙◌, ◌+◌, ◌++◌, ℕ, List, [], Option, Some, None, ap, sym, length, take, drop}
+use Rattle.std.proofs.Common.{◌≡◌, ◌∙◌, ◌+◌, ◌++◌, ℕ, List, [], Option, Some, None, Result, Ok, Err, ap, sym, length, take, drop}
 use Rattle.std.proofs.Math.Seq.{take-add, take-length}
 use Rattle.std.proofs.lemmas.List.{append_assoc, append-nil, take-append-drop}
+use Rattle.std.specs.Prelude.{OnErr, OnOk}
 use Rattle.std.specs.Io.KnownBytes.{Appends, Keeps}
 use Rattle.session.specs.Failing.{AppendsFront}
+use Rattle.session.specs.declared.input.Failed.{Failed}
 
 pub part_none : (stream : Option (List ℕ)) (text : List ℕ) → Appends stream stream (take 0 text)
 part_none None text = tt
@@ -57,3 +59,9 @@ front_more first second third text more whole part = record {
   begins = (part.begins.0, ap (λ (l : List ℕ). text ++ l) part.begins.1 ∙ sym (append_assoc text part.front part.begins.0));
   writes = joined first second third text part.front whole part.writes;
 }
+
+-- all of a text, or a front of it where writing failed
+pub front_either : (first second : Option (List ℕ)) (text : List ℕ) (outcome : Result (Unit {0}) Failed) → OnOk outcome (Appends first second text) →
+    OnErr outcome (AppendsFront first second text) → AppendsFront first second text
+front_either first second text (Ok done) whole part = front_all first second text whole
+front_either first second text (Err failed) whole part = part

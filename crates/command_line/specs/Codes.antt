@@ -4,6 +4,8 @@ use Rattle.asm_line.specs.declared.fault.AsmCode.{AsmCode}
 use Rattle.asm_line.specs.declared.fault.AsmCode.TheVariants as asm
 use Rattle.image_check.specs.declared.fault.OpFault.{OpFault}
 use Rattle.image_check.specs.declared.fault.OpFault.TheVariants as marks
+use Rattle.judge_marks.specs.declared.fault.MarkFault.{MarkFault}
+use Rattle.judge_marks.specs.declared.fault.MarkFault.TheVariants as judged
 use Rattle.nova_log.specs.declared.fault.VolumeFault.{VolumeFault}
 use Rattle.nova_log.specs.declared.fault.VolumeFault.TheVariants as volumes
 use Rattle.object.specs.declared.fault.LoadFault.{LoadFault}
@@ -61,3 +63,11 @@ operation_code marks.Unknown = codes "O1"
 operation_code marks.BegunTwice = codes "O2"
 operation_code marks.NotPending = codes "O3"
 operation_code marks.SharesInode = codes "O4"
+
+-- of the marks of a run without a plan
+abbrev pub mark_code : MarkFault → List ℕ
+mark_code judged.BegunTwice = codes "O2"
+mark_code judged.NotPending = codes "O3"
+mark_code judged.Overlaps = codes "O5"
+mark_code judged.NoOperation = codes "O6"
+mark_code judged.Memory = codes "C3"

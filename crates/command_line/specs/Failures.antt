@@ -15,6 +15,8 @@ use Rattle.nova_log.specs.declared.fault.VolumeFault.TheVariants as volumes
 use Rattle.plan.specs.declared.fault.PlanCode.{PlanCode}
 use Rattle.plan.specs.declared.fault.PlanCode.TheVariants as plans
 use Rattle.plan.specs.declared.fault.PlanFault.{PlanFault}
+use Rattle.program_judge.specs.declared.judging.JudgingFault.{JudgingFault}
+use Rattle.program_judge.specs.declared.judging.JudgingFault.TheVariants as judgements
 use Rattle.schedule.specs.declared.fault.ScheduleFault.{ScheduleFault}
 use Rattle.schedule.specs.declared.fault.ScheduleFault.TheVariants as schedules
 use Rattle.shared_memory.specs.declared.fault.StepFault.{StepFault}
@@ -29,17 +31,17 @@ use Rattle.tester.specs.declared.loading.ProgramFault.{ProgramFault}
 use Rattle.tester.specs.declared.loading.ProgramFault.TheVariants as programs
 use Rattle.tester.specs.declared.runs.TogetherFault.{TogetherFault}
 use Rattle.tester.specs.declared.runs.TogetherFault.TheVariants as together
-use Rattle.command_line.specs.Codes.{assembly_code, load_code, operation_code, plan_code, volume_code}
+use Rattle.command_line.specs.Codes.{assembly_code, load_code, mark_code, operation_code, plan_code, volume_code}
 use Rattle.session.specs.Answers.{step_code}
 use Rattle.command_line.specs.Reports.{line_end}
 use Rattle.command_line.specs.declared.failure.Failure.{Failure}
 use Rattle.command_line.specs.declared.failure.Failure.TheVariants.{Line, Refused, Unfinished, Memory, File}
 use Rattle.command_line.specs.declared.failure.Refusal.{Refusal}
-use Rattle.command_line.specs.declared.failure.Refusal.TheVariants.{Assembly, Object, Plan, ScheduleText, Medium, Volume, Step, Foreign, Moment, Image, Operation}
+use Rattle.command_line.specs.declared.failure.Refusal.TheVariants.{Assembly, Object, Plan, ScheduleText, Medium, Volume, Step, Foreign, Moment, Image, Operation, Marks, RecoverySource, RecoveryObject}
 use Rattle.command_line.specs.declared.files.FileFault.{FileFault}
 use Rattle.command_line.specs.declared.files.FileFault.TheVariants as files
 
--- `refused CODE`, and ` line N` of a fault that has a line
+-- `refused CODE`, ` line N` of a fault that has a line, and ` recovery` of one of a recovery routine
 abbrev pub refusal_text : Refusal → List ℕ
 refusal_text (Assembly fault) = codes "refused " ++ (assembly_code fault.code ++ (codes " line " ++ decimal fault.line))
 refusal_text (Object fault) = codes "refused " ++ load_code fault
@@ -52,6 +54,10 @@ refusal_text Foreign = codes "refused B3"
 refusal_text Moment = codes "refused C1"
 refusal_text Image = codes "refused C2"
 refusal_text (Operation fault) = codes "refused " ++ operation_code fault
+refusal_text (Marks fault) = codes "refused " ++ mark_code fault
+refusal_text (RecoverySource fault) =
+    codes "refused " ++ (assembly_code fault.code ++ (codes " line " ++ (decimal fault.line ++ codes " recovery")))
+refusal_text (RecoveryObject fault) = codes "refused " ++ (load_code fault ++ codes " recovery")
 
 -- the lines of a failure; those of a fault of the command line, and of a run that isn't whole, are given
 abbrev pub failure_text : Failure → List ℕ
@@ -86,6 +92,12 @@ abbrev pub failure_of_program : ProgramFault → Failure
 failure_of_program (programs.Assembly fault) = Refused (Assembly fault)
 failure_of_program (programs.Object fault) = Refused (Object fault)
 failure_of_program programs.Memory = Memory
+
+-- for a file that gave no recovery routine
+abbrev pub failure_of_recovery : ProgramFault → Failure
+failure_of_recovery (programs.Assembly fault) = Refused (RecoverySource fault)
+failure_of_recovery (programs.Object fault) = Refused (RecoveryObject fault)
+failure_of_recovery programs.Memory = Memory
 
 -- for a text that gave no plan
 abbrev pub failure_by_plan_code : PlanFault → PlanCode → Failure
@@ -144,6 +156,13 @@ failure_of_verdict (verdicts.Step fault) = Refused (Step fault)
 failure_of_verdict (verdicts.Operation fault) = Refused (Operation fault)
 failure_of_verdict verdicts.NoSuchMoment = Refused Moment
 failure_of_verdict verdicts.Memory = Memory
+
+-- for a run that wasn't judged by a recovery routine
+abbrev pub failure_of_judging : JudgingFault → Failure
+failure_of_judging (judgements.Step fault) = Refused (Step fault)
+failure_of_judging (judgements.Marks fault) = Refused (Marks fault)
+failure_of_judging judgements.NoSuchMoment = Refused Moment
+failure_of_judging judgements.Memory = Memory
 
 -- for a session that ended by a fault: want of memory, or a standard stream that failed
 abbrev pub failure_of_session : DebugFault → Failure

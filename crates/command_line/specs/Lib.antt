@@ -8,6 +8,7 @@ pub mod Drawing
 pub mod Explaining
 pub mod Failures
 pub mod Imaging
+pub mod Judging
 pub mod Listing
 pub mod Making
 pub mod Outcomes
@@ -21,5 +22,7 @@ pub mod Steps
 pub mod Tracing
 pub mod Persisting
 pub mod Upgrading
+pub mod Verdicts
 pub mod Writing
 pub mod Wasting
+pub mod Reasons

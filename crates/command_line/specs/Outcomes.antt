@@ -4,7 +4,7 @@ use Rattle.std.specs.Io.KnownBytes.{Appends}
 use Rattle.std.specs.Result.{result_map_both}
 use Rattle.arguments.specs.Line.{IsCommand, Refuses}
 use Rattle.arguments.specs.declared.asked.Command.{Command}
-use Rattle.arguments.specs.declared.asked.Command.TheVariants.{Assemble, Check, Code, Debug, Explain, Images, Interleave, Listing, MakeVolume, Picture, Replay, Run, Show, Trace, Unpersisted, Upgrade, Waste}
+use Rattle.arguments.specs.declared.asked.Command.TheVariants.{Assemble, Check, Code, Debug, Explain, Images, Interleave, Judge, Listing, MakeVolume, Picture, Replay, Run, Show, Trace, Unpersisted, Upgrade, Waste}
 use Rattle.arguments.specs.declared.asked.LineFault.{LineFault}
 use Rattle.arguments.specs.declared.asked.LineFault.TheVariants as line_faults
 use Rattle.session.specs.Failing.{AppendsFront}
@@ -16,6 +16,7 @@ use Rattle.command_line.specs.Drawing.{InterleavesFile}
 use Rattle.command_line.specs.Explaining.{ExplainsFile}
 use Rattle.command_line.specs.Failures.{failure_status, failure_text}
 use Rattle.command_line.specs.Imaging.{CountsFile}
+use Rattle.command_line.specs.Judging.{IsOpen as IsOpenJudge, JudgesRun, OpensJudge}
 use Rattle.command_line.specs.Listing.{ListsFile}
 use Rattle.command_line.specs.Making.{MakesFile}
 use Rattle.command_line.specs.Persisting.{UnpersistedFile}
@@ -31,6 +32,7 @@ use Rattle.command_line.specs.declared.answer.Action.TheVariants as actions
 use Rattle.command_line.specs.declared.answer.Answer.{Answer}
 use Rattle.command_line.specs.declared.failure.Failure.{Failure}
 use Rattle.command_line.specs.declared.opened.OpenCheck.{OpenCheck}
+use Rattle.command_line.specs.declared.opened.OpenJudge.{OpenJudge}
 use Rattle.command_line.specs.declared.failure.Failure.TheVariants.{Line, Memory, File}
 
 -- what is found over the files says what is done on the standard streams
@@ -53,16 +55,18 @@ CarriesOut reads writes (Waste command) = LeadsTo (WasteFile reads command) acti
 CarriesOut reads writes (Images command) = LeadsTo (CountsFile reads command) actions.Print
 CarriesOut reads writes (Explain command) = LeadsTo (ExplainsFile reads command) actions.Print
 CarriesOut reads writes (Check command) = LeadsTo (OpensCheck reads command) actions.Check
+CarriesOut reads writes (Judge command) = LeadsTo (OpensJudge reads command) actions.Judge
 CarriesOut reads writes (Picture command) = LeadsTo (PicturesFile reads writes command) actions.Print
 CarriesOut reads writes (Interleave command) = LeadsTo (InterleavesFile reads command) actions.Print
 CarriesOut reads writes (Show command) = LeadsTo (ShowsFile reads command) actions.Print
 CarriesOut reads writes (Listing command) = LeadsTo (ListsFile reads command) actions.Print
 CarriesOut reads writes (Code command) = LeadsTo (Still (Prints (code_text command.meaning) 0)) actions.Print
 
--- what is known of what is left to be done: of a check, that its files have been read
+-- what is known of what is left to be done: of a verdict, that its files have been read
 abbrev pub IsReady : Action → Type 0
 IsReady (actions.Print answer) = Unit {0}
 IsReady (actions.Check check) = IsOpen check
+IsReady (actions.Judge judge) = IsOpenJudge judge
 IsReady (actions.Debug machine) = Unit {0}
 
 -- the text is to be printed with status 0
@@ -113,6 +117,13 @@ pub record DeliversCheck {W E : Type 0} (contents : W → Option (List ℕ)) (sa
   pub judges : JudgesCheck said check errors found errors'
   pub printed : IsPrintedIf contents old new found ended
 
+-- the same of a run that is judged by a recovery routine
+pub record DeliversJudge {W E : Type 0} (contents : W → Option (List ℕ)) (said : E → Option (List ℕ)) (judge : OpenJudge) (old new : W) (errors errors' : E)
+    (ended : Result ℕ Failure) : Type 0 where
+  pub found : Result Answer Failure
+  pub judges : JudgesRun said judge errors found errors'
+  pub printed : IsPrintedIf contents old new found ended
+
 -- what is done on standard input and standard output, a pair, and on standard error before a failure is told: an answer is printed, a run
 -- is judged, or a session is held; nothing else reads standard input, and a failure of a command leaves all as they are. `remaining` is
 -- what is known of the bytes that a reader will still give
@@ -122,6 +133,8 @@ Delivers remaining contents said old new errors errors' (Ok (actions.Print answe
     (new.0 ≡ old.0) × IsPrinted contents old.1 new.1 answer ended × (errors' ≡ errors)
 Delivers remaining contents said old new errors errors' (Ok (actions.Check check)) ended =
     (new.0 ≡ old.0) × DeliversCheck contents said check old.1 new.1 errors errors' ended
+Delivers remaining contents said old new errors errors' (Ok (actions.Judge judge)) ended =
+    (new.0 ≡ old.0) × DeliversJudge contents said judge old.1 new.1 errors errors' ended
 Delivers remaining contents said old new errors errors' (Ok (actions.Debug machine)) ended =
     HoldsSession machine (remaining old.0) (remaining new.0) (contents old.1) (contents new.1) ended × (errors' ≡ errors)
 Delivers remaining contents said old new errors errors' (Err failure) ended = (ended ≡ Err failure) × (new ≡ old) × (errors' ≡ errors)

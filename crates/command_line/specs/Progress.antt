@@ -2,15 +2,9 @@
 use Rattle.std.specs.Prelude.{◌≡◌, ◌⊎◌, ℕ, ◌+◌, ◌-◌, ◌<◌, ◌≤◌, Bool, true, false, List, [], Option, Some, None, Result, OnOk, ◌++◌, codes, decimal}
 use Rattle.std.specs.Io.KnownBytes.{Appends}
 use Rattle.crash_image.specs.Totals.{IsImageSum}
-use Rattle.image_check.specs.Verdicts.{IsVerdictBetween}
-use Rattle.image_check.specs.declared.verdict.Verdict.TheVariants.{Pass}
-use Rattle.parallel_check.specs.Parts.{end_of}
-use Rattle.plan.specs.declared.operation.Operation.{Operation}
-use Rattle.schedule.specs.declared.items.Item.{Item}
 use Rattle.session.specs.Failing.{AppendsFront}
 use Rattle.session.specs.declared.input.Failed.{Failed}
 use Rattle.store_trace.specs.declared.event.Event.{Event}
-use Rattle.tester.specs.Runs.{HasTrace, Setup}
 use Rattle.command_line.specs.Reports.{line_end}
 
 -- the sum of the numbers of images; `over` where a moment has over 65,536
@@ -23,13 +17,17 @@ abbrev pub progress_line : ℕ → ℕ → Option ℕ → List ℕ
 progress_line moment moments images =
     codes "moment " ++ (decimal moment ++ (codes " of " ++ (decimal moments ++ (codes ", images " ++ (total_text images ++ line_end)))))
 
--- A text that tells how far the check of the moments from `first` on that are below `end` has come. Each line says that so many of them
+-- the moments from `first` on that are below `end` pass
+abbrev pub AllPass : (ℕ → Type 0) → ℕ → ℕ → Type 0
+AllPass passed first end = (m : ℕ) → first ≤ m → m < end → passed m
+
+-- A text that tells how far the verdict on the moments from `first` on that are below `end` has come. Each line says that so many of them
 -- pass, of how many, and how many images those have: more than the line before it.
-pub data IsProgress (plan : List Operation) (start : List (List ℕ)) (events : List Event) (first end : ℕ) : ℕ → List ℕ → Type 0 where
-  starts : IsProgress plan start events first end 0 []
-  goes_on : (moment next : ℕ) (images : Option ℕ) (text : List ℕ) → IsProgress plan start events first end moment text →
-      moment < next → first + next ≤ end → IsVerdictBetween plan start events first (first + next) (Pass next images) →
-      IsProgress plan start events first end next (text ++ progress_line next (end - first) images)
+pub data IsProgress (passed : ℕ → Type 0) (events : List Event) (first end : ℕ) : ℕ → List ℕ → Type 0 where
+  starts : IsProgress passed events first end 0 []
+  goes_on : (moment next : ℕ) (images : Option ℕ) (text : List ℕ) → IsProgress passed events first end moment text →
+      moment < next → first + next ≤ end → AllPass passed first (first + next) → IsImageSum events first (first + next) images →
+      IsProgress passed events first end next (text ++ progress_line next (end - first) images)
 
 -- the line that tells that the moments from `first` on that are below `next` pass, of those below `end`
 pub record IsLineOf (events : List Event) (first next end : ℕ) (line : List ℕ) : Type 0 where
@@ -45,21 +43,11 @@ pub record WritesLine (events : List Event) (first next end : ℕ) (old new : Op
   pub front : AppendsFront old new line
 
 -- such a text, or a front of it, was written
-pub record Progresses (plan : List Operation) (start : List (List ℕ)) (events : List Event) (first end : ℕ) (old new : Option (List ℕ)) : Type 0 where
+pub record Progresses (passed : ℕ → Type 0) (events : List Event) (first end : ℕ) (old new : Option (List ℕ)) : Type 0 where
   pub moment : ℕ
   pub text : List ℕ
-  pub is_progress : IsProgress plan start events first end moment text
+  pub is_progress : IsProgress passed events first end moment text
   pub writes : AppendsFront old new text
-
--- such a text of the moments of a run from `first` to `last`, or to its last one
-pub record ProgressesOn (plan : List Operation) (s : Setup) (schedule : List Item) (first : ℕ) (last : Option ℕ) (old new : Option (List ℕ)) : Type 0 where
-  pub trace : List Event
-  pub has_trace : HasTrace s schedule trace
-  pub progresses : Progresses plan s.medium trace first (end_of trace last) old new
-
--- nothing was told, as where there is no such run, or how far the check had come
-abbrev pub TellsProgress : List Operation → Setup → List Item → ℕ → Option ℕ → Option (List ℕ) → Option (List ℕ) → Type 0
-TellsProgress plan s schedule first last old new = (new ≡ old) ⊎ ProgressesOn plan s schedule first last old new
 
 -- it is told where that is asked for, and else nothing is
 abbrev pub IsToldIf : {E : Type 0} → Bool → Type 0 → E → E → Type 0

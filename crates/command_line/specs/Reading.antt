@@ -17,7 +17,7 @@ use Rattle.schedule.specs.declared.fault.ScheduleFault.TheVariants as schedules
 use Rattle.schedule.specs.declared.items.Item.{Item}
 use Rattle.tester.specs.Programs.{IsLoadFault, IsProgramOf}
 use Rattle.tester.specs.Runs.{Setup, with_room}
-use Rattle.command_line.specs.Failures.{failure_of_medium, failure_of_plan, failure_of_program, failure_of_schedule}
+use Rattle.command_line.specs.Failures.{failure_of_medium, failure_of_plan, failure_of_program, failure_of_recovery, failure_of_schedule}
 use Rattle.command_line.specs.Steps.{First, Reads, ReadsFile, Step, Still, Tells}
 use Rattle.command_line.specs.declared.failure.Failure.{Failure}
 use Rattle.command_line.specs.declared.failure.Failure.TheVariants.{Memory}
@@ -26,6 +26,10 @@ use Rattle.command_line.specs.declared.reading.RunFiles.{RunFiles}
 -- the program of a file, or why it gives none
 pub record SaysProgram (file : List ℕ) (outcome : Result Sections Failure) : Type 0 where
   pub says : MatchResult outcome (IsProgramOf file) (Tells (IsLoadFault file) failure_of_program)
+
+-- the recovery routine of a file, or why it gives none
+pub record SaysRecovery (file : List ℕ) (outcome : Result Sections Failure) : Type 0 where
+  pub says : MatchResult outcome (IsProgramOf file) (Tells (IsLoadFault file) failure_of_recovery)
 
 -- the plan of a text, or its first line at fault; memory is wanted at the line of an operation alone, with nothing at fault as far as it
 abbrev pub IsPlanFaultAt : List ℕ → ℕ → PlanCode → Type 0
@@ -67,6 +71,9 @@ pub record IsDefaultMedium (outcome : Result (List (List ℕ)) Failure) : Type 0
 
 abbrev pub ReadsProgram : {F : Type 0} → Reads F → List ℕ → Step F Sections
 ReadsProgram reads name = First (ReadsFile reads name) (λ file. Still (SaysProgram file))
+
+abbrev pub ReadsRecovery : {F : Type 0} → Reads F → List ℕ → Step F Sections
+ReadsRecovery reads name = First (ReadsFile reads name) (λ file. Still (SaysRecovery file))
 
 abbrev pub ReadsPlan : {F : Type 0} → Reads F → List ℕ → Step F PlanView
 ReadsPlan reads name = First (ReadsFile reads name) (λ text. Still (SaysPlan text))

@@ -2,7 +2,7 @@
 
 ghost use Rattle.std.specs.Prelude.{◌≡◌, string_bytes};
 
-use crate::opened::OpenCheck;
+use crate::opened::{OpenCheck, OpenJudge};
 use machine::Machine;
 
 /// What a command prints on standard output, of whole lines, and the status that the program then ends with.
@@ -32,6 +32,8 @@ pub enum Action {
     Print(Answer),
     /// A run is to be judged. What is found is printed, and standard error is told how far the check has come where that is asked for.
     Check(OpenCheck),
+    /// The same by a recovery routine.
+    Judge(OpenJudge),
     /// A session is to be held on a machine that has made no step.
     Debug(Machine),
 }

@@ -9,6 +9,7 @@ use line_memory::MediumFault;
 use machine::StepFault;
 use nova_log::VolumeFault;
 use plan::{PlanCode, PlanFault};
+use program_judge::JudgingFault;
 use schedule::ScheduleFault;
 use std::alloc::AllocError;
 use tester::{CountFault, ExplainFault, ProgramFault, TogetherFault, VerdictFault};
@@ -182,6 +183,22 @@ impl From<ExplainFault> for Failure {
             ExplainFault::NoSuchMoment => Failure::Refused(Refusal::Moment),
             ExplainFault::NoSuchImage => Failure::Refused(Refusal::Image),
             ExplainFault::Memory => Failure::Memory,
+        }
+    }
+}
+
+impl From<JudgingFault> for Failure {
+    ghost use Rattle.std.specs.Prelude.{◌≡◌};
+    ghost use Rattle.command_line.specs.Failures.{failure_of_judging};
+
+    ghost from_gives = { λ fault failure. failure ≡ failure_of_judging fault };
+
+    fn from(fault: JudgingFault) -> Failure {
+        match fault {
+            JudgingFault::Step(fault) => Failure::Refused(Refusal::Step(fault)),
+            JudgingFault::Marks(fault) => Failure::Refused(Refusal::Marks(fault)),
+            JudgingFault::NoSuchMoment => Failure::Refused(Refusal::Moment),
+            JudgingFault::Memory => Failure::Memory,
         }
     }
 }

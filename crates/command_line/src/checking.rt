@@ -3,10 +3,10 @@
 ghost use Rattle.std.specs.Prelude.{◌≡◌, ◌++◌, ◌^◌, ◌<◌, IfOk, IfSome, string_bytes};
 ghost use Rattle.arguments.specs.Line.{IsWithin};
 ghost use Rattle.arguments.specs.Spans.{IsUpward};
-ghost use Rattle.command_line.specs.Checking.{Explains, ExplainsOne, IsOpen, JudgesCheck, JudgesOpen, OpensCheck, Watches, cause_text, failing, pass_line, told_losses, told_verdict, told_why, verdict_json, verdict_line, verdict_status};
+ghost use Rattle.command_line.specs.Checking.{IsOpen, JudgesCheck, JudgesOpen, OpensCheck, Watches, cause_text, failing, told_verdict, verdict_status};
+ghost use Rattle.command_line.specs.Reasons.{Explains, ExplainsOne, told_why};
+ghost use Rattle.image_causes.specs.Told.{IsAsked};
 ghost use Rattle.object.specs.Sections.{Sections};
-ghost use Rattle.program_trace.specs.Lines.{line_of};
-ghost use Rattle.run_text.specs.Places.{line_in};
 ghost use Rattle.schedule.specs.Grammar.{hart_steps};
 ghost use Rattle.tester.specs.Programs.{IsProgramOf};
 ghost use Rattle.command_line.specs.Steps.{Prints};
@@ -18,15 +18,14 @@ use crate::demanding::demand_whole;
 use crate::failure::Failure;
 use crate::files::Files;
 use crate::opened::OpenCheck;
-use crate::progress::watched_verdict;
 use crate::reading::{RunFiles, read_plan, read_run};
+use crate::reasons::told_why;
+use crate::verdicts::{told_fail, told_pass, told_too_many};
+use crate::watched_check::watched_verdict;
 use arguments::{CheckCommand, Moments};
-use assemble::LineNumbers;
 use image_check::{Cause, Verdict};
 use image_name::ImageName;
-use loss_text::{why_json, why_text};
 use program_losses::{ExplainedImage, explain_losses};
-use program_trace::source_lines;
 use std::alloc::{AllocError, Global};
 use std::io::Write;
 use std::thread::Threads;
@@ -114,7 +113,7 @@ fn why(
     verdict: &Verdict,
 ) -> Result<Option<ExplainedImage>, Failure>
     requires { hart_steps run.now.schedule < 2 ^ 32 }
-    ensures told { Explains (setup_of command.now.run run.now) run.now.schedule (failing command.now.why verdict.now) result }
+    ensures told { Explains IsAsked (setup_of command.now.run run.now) run.now.schedule (failing command.now.why verdict.now) result }
     ensures few { IfOk result (λ why. IfSome why (λ explained. hart_steps explained.schedule < 2 ^ 32)) }
 {
     if !command.why {
@@ -137,7 +136,7 @@ fn explained(
     image: &ImageName,
 ) -> Result<ExplainedImage, Failure>
     requires { hart_steps run.now.schedule < 2 ^ 32 }
-    ensures told { ExplainsOne (setup_of command.now.run run.now) run.now.schedule moment image.now result }
+    ensures told { ExplainsOne IsAsked (setup_of command.now.run run.now) run.now.schedule moment image.now result }
     ensures few { IfOk result (λ explained. hart_steps explained.schedule < 2 ^ 32) }
 {
     let harts = command.run.machine.harts;
@@ -172,120 +171,18 @@ fn verdict_answer(
     Ok(Answer::of(text, status))
 }
 
-/// What is told of a failing image.
-#[tactic(auto, using(crate::proofs::SourceLines::why_of_source))]
-fn told_why(
-    alloc: Global,
-    file: &[u8],
-    why: &Option<ExplainedImage>,
-    json: bool,
-) -> Result<String, AllocError>
-    requires program { (program : Sections) × IsProgramOf file.now program }
-    requires few { IfSome why.now (λ explained. hart_steps explained.schedule < 2 ^ 32) }
-    ensures { IfOk result (λ text. string_bytes text ≡ told_why json file.now why.now) }
-{
-    match why {
-        Some(explained) => {
-            let lines = source_lines(alloc, file)?;
-            told_losses(alloc, explained, &lines, json)
-        }
-        None => Ok(String::new(alloc)),
-    }
-}
-
-fn told_losses(
-    alloc: Global,
-    explained: &ExplainedImage,
-    lines: &Option<LineNumbers>,
-    json: bool,
-) -> Result<String, AllocError>
-    requires few { hart_steps explained.now.schedule < 2 ^ 32 }
-    ensures { IfOk result (λ text. string_bytes text ≡ told_losses json (line_in lines.now) explained.now) }
-{
-    let ExplainedImage {
-        traced,
-        told,
-        schedule,
-    } = explained;
-    if json {
-        why_json(alloc, &told.read, told.unread, schedule, traced, lines)
-    } else {
-        why_text(alloc, &told.read, told.unread, schedule, traced, lines)
-    }
-}
-
 /// The verdict, as text or as JSON.
 fn told_verdict(alloc: Global, verdict: &Verdict, json: bool) -> Result<String, AllocError>
     ensures { IfOk result (λ text. string_bytes text ≡ told_verdict json verdict.now) }
 {
-    if json {
-        verdict_json(alloc, verdict)
-    } else {
-        verdict_line(alloc, verdict)
-    }
-}
-
-/// `{"kind":"pass","moments":N,"images":N}`, with `null` in place of the images where a moment has over 65,536,
-/// `{"kind":"fail","moment":M,"image":"NAME","cause":"C"}` or `{"kind":"too many","moment":M}`.
-fn verdict_json(alloc: Global, verdict: &Verdict) -> Result<String, AllocError>
-    ensures { IfOk result (λ text. string_bytes text ≡ verdict_json verdict.now) }
-{
     match verdict {
-        Verdict::Pass { moments, images } => pass_json(alloc, *moments, *images),
+        Verdict::Pass { moments, images } => told_pass(alloc, *moments, *images, json),
         Verdict::Fail {
             moment,
             image,
             cause,
-        } => {
-            let cause = cause_text(*cause);
-            format!(in alloc;
-                "{{\"kind\":\"fail\",\"moment\":{moment},\"image\":\"{image}\",\"cause\":\"{cause}\"}}\n"
-            )
-        }
-        Verdict::TooMany { moment } => {
-            format!(in alloc; "{{\"kind\":\"too many\",\"moment\":{moment}}}\n")
-        }
-    }
-}
-
-fn pass_json(alloc: Global, moments: u64, images: Option<u64>) -> Result<String, AllocError>
-    ensures { IfOk result (λ text. string_bytes text ≡ verdict_json (Verdict.Pass moments images)) }
-{
-    match images {
-        Some(images) => {
-            format!(in alloc; "{{\"kind\":\"pass\",\"moments\":{moments},\"images\":{images}}}\n")
-        }
-        None => {
-            format!(in alloc; "{{\"kind\":\"pass\",\"moments\":{moments},\"images\":null}}\n")
-        }
-    }
-}
-
-/// `pass moments=N images=N`, or `images=over` where a moment has over 65,536, `fail moment=M image=NAME cause=C` or
-/// `too many moment=M`.
-fn verdict_line(alloc: Global, verdict: &Verdict) -> Result<String, AllocError>
-    ensures { IfOk result (λ text. string_bytes text ≡ verdict_line verdict.now) }
-{
-    match verdict {
-        Verdict::Pass { moments, images } => pass_line(alloc, *moments, *images),
-        Verdict::Fail {
-            moment,
-            image,
-            cause,
-        } => {
-            let cause = cause_text(*cause);
-            format!(in alloc; "fail moment={moment} image={image} cause={cause}\n")
-        }
-        Verdict::TooMany { moment } => format!(in alloc; "too many moment={moment}\n"),
-    }
-}
-
-fn pass_line(alloc: Global, moments: u64, images: Option<u64>) -> Result<String, AllocError>
-    ensures { IfOk result (λ text. string_bytes text ≡ pass_line moments images) }
-{
-    match images {
-        Some(images) => format!(in alloc; "pass moments={moments} images={images}\n"),
-        None => format!(in alloc; "pass moments={moments} images=over\n"),
+        } => told_fail(alloc, *moment, image, cause_text(*cause), json),
+        Verdict::TooMany { moment } => told_too_many(alloc, *moment, json),
     }
 }
 

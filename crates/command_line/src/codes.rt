@@ -1,10 +1,11 @@
 //! The names that faults are known by.
 
 ghost use Rattle.std.specs.Prelude.{◌≡◌};
-ghost use Rattle.command_line.specs.Codes.{assembly_code, load_code, operation_code, plan_code, volume_code};
+ghost use Rattle.command_line.specs.Codes.{assembly_code, load_code, mark_code, operation_code, plan_code, volume_code};
 
 use assemble::AsmCode;
 use image_check::OpFault;
+use judge_marks::MarkFault;
 use nova_log::VolumeFault;
 use object::LoadFault;
 use plan::PlanCode;
@@ -82,5 +83,18 @@ pub(crate) fn operation_code(fault: OpFault) -> &'static str
         OpFault::BegunTwice => "O2",
         OpFault::NotPending => "O3",
         OpFault::SharesInode => "O4",
+    }
+}
+
+/// Of the marks of a run without a plan.
+pub(crate) fn mark_code(fault: MarkFault) -> &'static str
+    ensures { result.now ≡ mark_code fault }
+{
+    match fault {
+        MarkFault::BegunTwice => "O2",
+        MarkFault::NotPending => "O3",
+        MarkFault::Overlaps => "O5",
+        MarkFault::NoOperation => "O6",
+        MarkFault::Memory => "C3",
     }
 }

@@ -4,8 +4,9 @@ ghost use Rattle.std.specs.Prelude.{◌≡◌, IfOk, map, string_bytes};
 ghost use Rattle.std.specs.Result.{result_map_both};
 ghost use Rattle.arguments.specs.Line.{IsWithinLimits};
 ghost use Rattle.command_line.specs.Checking.{IsOpen};
+ghost use Rattle.command_line.specs.Judging.{IsOpen as IsOpenJudge};
 ghost use Rattle.command_line.specs.Outcomes.{AnswersFault, CarriesOut, ComesTo, IsReady};
-ghost use Rattle.command_line.specs.declared.answer.Action.TheVariants.{Check, Debug, Print};
+ghost use Rattle.command_line.specs.declared.answer.Action.TheVariants.{Check, Debug, Judge, Print};
 
 use crate::answer::{Action, Answer};
 use crate::assembling::assemble_file;
@@ -17,9 +18,10 @@ use crate::explaining::explain_file;
 use crate::failure::Failure;
 use crate::files::Files;
 use crate::imaging::count_file;
+use crate::judging::open_judge;
 use crate::listing::list_file;
 use crate::making::make_file;
-use crate::opened::OpenCheck;
+use crate::opened::{OpenCheck, OpenJudge};
 use crate::persisting::unpersisted_file;
 use crate::picturing::picture_file;
 use crate::running::{replay_file, run_file};
@@ -73,6 +75,7 @@ fn carry_out<T: Threads + Wait + Sync, F: Files>(
         Command::Images(command) => printed(count_file(alloc, &command, files)),
         Command::Explain(command) => printed(explain_file(alloc, &command, files)),
         Command::Check(command) => opened(open_check(alloc, command, files)),
+        Command::Judge(command) => judged(open_judge(alloc, command, files)),
         Command::Picture(command) => printed(picture_file(alloc, &command, files)),
         Command::Interleave(command) => printed(interleave_file(alloc, &command, files)),
         Command::Show(command) => printed(show_file(alloc, &command, files)),
@@ -96,6 +99,15 @@ fn opened(check: Result<OpenCheck, Failure>) -> Result<Action, Failure>
     ensures ready { IfOk result IsReady }
 {
     Ok(Action::Check(check?))
+}
+
+/// A run is judged by a recovery routine.
+fn judged(judge: Result<OpenJudge, Failure>) -> Result<Action, Failure>
+    requires { IfOk judge IsOpenJudge }
+    ensures is { result ≡ result_map_both Judge (λ failure. failure) judge }
+    ensures ready { IfOk result IsReady }
+{
+    Ok(Action::Judge(judge?))
 }
 
 /// A session is held on a machine.

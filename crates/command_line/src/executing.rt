@@ -2,7 +2,8 @@
 
 ghost use Rattle.std.specs.Prelude.{IfOk, map, string_bytes};
 ghost use Rattle.command_line.specs.Checking.{IsOpen};
-ghost use Rattle.command_line.specs.Outcomes.{Delivers, DeliversCheck, Ends, EndsWith, IsPrinted, IsReady};
+ghost use Rattle.command_line.specs.Judging.{IsOpen as IsOpenJudge};
+ghost use Rattle.command_line.specs.Outcomes.{Delivers, DeliversCheck, DeliversJudge, Ends, EndsWith, IsPrinted, IsReady};
 
 use crate::answer::{Action, Answer};
 use crate::checking::judge_check;
@@ -10,7 +11,8 @@ use crate::commands::outcome;
 use crate::debugging::hold_session;
 use crate::failure::Failure;
 use crate::files::Files;
-use crate::opened::OpenCheck;
+use crate::judging::judge_run;
+use crate::opened::{OpenCheck, OpenJudge};
 use crate::streams::print;
 use crate::telling::tell;
 use std::alloc::Global;
@@ -20,13 +22,13 @@ use std::thread::Threads;
 use std::time::Clock;
 
 /// Carries out what a command line asks for, over files, standard input, standard output and standard error, and gives the
-/// status that the program ends with: 0 done or a check that passes, 1 a check that fails, 2 refused input or command line,
-/// 3 a check with too many branches, 4 want of memory, 5 a file, standard input or standard output that couldn't be read or
+/// status that the program ends with: 0 done or a verdict that passes, 1 one that fails, 2 refused input or command line,
+/// 3 a verdict with too many branches, 4 want of memory, 5 a file, standard input or standard output that couldn't be read or
 /// written. `words` begins with the program's name.
 ///
 /// An answer goes to standard output, and nothing of a failure does; the lines of a failure go to standard error,
-/// and where they can't be written the status still stands. With `--progress` a check tells there, before that, how far it has come. Only the session of `debug` reads standard input, once its
-/// files have been read and its machine made. `run` and `check` start threads, of `rt`; what `check` prints doesn't depend on how
+/// and where they can't be written the status still stands. With `--progress` `check` and `judge` tell there, before that, how far they have come. Only the session of `debug` reads standard input, once its
+/// files have been read and its machine made. `run`, `check` and `judge` start threads, of `rt`; what `check` and `judge` print doesn't depend on how
 /// many, and what `run` prints is the run that its harts made.
 pub fn execute<T: Threads + Wait + Sync + Clock, F: Files, R: Read, W: Write, E: Write>(
     rt: &T,
@@ -78,6 +80,7 @@ fn deliver<T: Threads + Sync + Clock, R: Read, W: Write, E: Write>(
     match outcome? {
         Action::Print(answer) => print_answer(answer, output),
         Action::Check(check) => deliver_check(rt, alloc, &check, output, errors),
+        Action::Judge(judge) => deliver_judge(rt, alloc, &judge, output, errors),
         Action::Debug(machine) => hold_session(alloc, machine, input, output),
     }
 }
@@ -93,6 +96,20 @@ fn deliver_check<T: Threads + Sync + Clock, W: Write, E: Write>(
     ensures { DeliversCheck W.contents E.contents check.now output.old output.new errors.old errors.new result }
 {
     let answer = judge_check(rt, alloc, check, errors)?;
+    print_answer(answer, output)
+}
+
+fn deliver_judge<T: Threads + Sync + Clock, W: Write, E: Write>(
+    rt: &T,
+    alloc: Global,
+    judge: &OpenJudge,
+    output: &mut W,
+    errors: &mut E,
+) -> Result<u8, Failure>
+    requires { IsOpenJudge judge.now }
+    ensures { DeliversJudge W.contents E.contents judge.now output.old output.new errors.old errors.new result }
+{
+    let answer = judge_run(rt, alloc, judge, errors)?;
     print_answer(answer, output)
 }
 

@@ -2,9 +2,10 @@
 
 ghost use Rattle.std.specs.Prelude.{◌≡◌};
 
-use crate::codes::{assembly_code, load_code, operation_code, plan_code, volume_code};
+use crate::codes::{assembly_code, load_code, mark_code, operation_code, plan_code, volume_code};
 use assemble::AsmFault;
 use image_check::OpFault;
+use judge_marks::MarkFault;
 use machine::StepFault;
 use nova_log::VolumeFault;
 use object::LoadFault;
@@ -37,6 +38,12 @@ pub enum Refusal {
     Image,
     /// The mark of an operation in a run.
     Operation(OpFault),
+    /// The marks of a run without a plan.
+    Marks(MarkFault),
+    /// The source of a recovery routine, by its first line at fault.
+    RecoverySource(AsmFault),
+    /// The file of a recovery routine that begins as an object.
+    RecoveryObject(LoadFault),
 }
 
 impl fmt::Display for Refusal {
@@ -67,6 +74,16 @@ impl fmt::Display for Refusal {
             Refusal::Moment => write!(f, "refused C1"),
             Refusal::Image => write!(f, "refused C2"),
             Refusal::Operation(fault) => write!(f, "refused {}", operation_code(fault)),
+            Refusal::Marks(fault) => write!(f, "refused {}", mark_code(fault)),
+            Refusal::RecoverySource(fault) => {
+                write!(
+                    f,
+                    "refused {} line {} recovery",
+                    assembly_code(fault.code),
+                    fault.line
+                )
+            }
+            Refusal::RecoveryObject(fault) => { write!(f, "refused {} recovery", load_code(fault)) }
         }
     }
 }

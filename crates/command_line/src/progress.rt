@@ -1,166 +1,132 @@
-//! The verdict of a check that tells on standard error how far it has come.
+//! Moments of a run that are judged in turn, while standard error is told how far the verdict has come.
 
-ghost use Rattle.std.specs.Prelude.{◌≡◌, ◌<◌, ◌≤◌, IfErr, IfOk, IfSome, length, string_bytes, true};
-ghost use Rattle.arguments.specs.Spans.{IsUpward};
-ghost use Rattle.command_line.specs.Checking.{IsOpen, Watches, first_of, last_of, setup_of_check};
-ghost use Rattle.command_line.specs.Progress.{IsLineOf, Progresses, TellsProgress, WritesLine, progress_line};
-ghost use Rattle.crash_image.specs.View.{HasLines};
-ghost use Rattle.image_check.specs.OrderFaults.{AreSound};
-ghost use Rattle.image_check.specs.Verdicts.{IsRefusal, IsVerdictBetween};
-ghost use Rattle.parallel_check.specs.Parts.{end_of};
-ghost use Rattle.tester.specs.Checking.{HasNoVerdict, HasVerdictOn};
+ghost use Rattle.command_line.specs.Progress.{AllPass, IsLineOf, Progresses, WritesLine, progress_line};
+ghost use Rattle.std.specs.Prelude.{◌≡◌, ◌<◌, ◌≤◌, IfOk, string_bytes};
 
-use crate::failure::Failure;
-use crate::opened::OpenCheck;
 use crate::streams::print;
-use arguments::Moments;
-use gate::Open;
-use image_check::{CheckFault, Verdict};
-use parallel_check::Part;
 use session::Failed;
 use std::alloc::{AllocError, Global};
 use std::io::Write;
 use std::thread::Threads;
 use std::time::{Clock, Duration, Instant};
-use store_trace::Trace;
-use tester::{VerdictFault, trace_of};
 
-/// The verdict on what a check asks for, which tells on the way how many of the moments pass.
-pub(crate) fn watched_verdict<T: Threads + Sync + Clock, E: Write>(
-    rt: &T,
-    alloc: Global,
-    check: &OpenCheck,
-    errors: &mut E,
-) -> Result<Verdict, Failure>
-    requires open { IsOpen check.now }
-    requires asked { check.now.command.progress ≡ true }
-    ensures { Watches E.contents check.now errors.old result errors.new }
-{
-    Ok(run_verdict(rt, alloc, check, errors)?)
+/// Moments of a run, one after another, that are judged in turn.
+pub(crate) trait Row {
+    ghost use Rattle.command_line.specs.Progress.{AllPass};
+    ghost use Rattle.crash_image.specs.Totals.{IsImageSum};
+    ghost use Rattle.std.specs.Prelude.{◌≡◌, ℕ, ◌<◌, ◌≤◌, List, IfNone, IfOk, IfSome};
+    ghost use Rattle.std.specs.Thread.{IsSync};
+    ghost use Rattle.store_trace.specs.declared.event.Event.{Event as AnEvent};
+
+    /// The verdict on all of them.
+    type Verdict: Drop;
+
+    /// The events of the run: a moment is a number of them.
+    ghost events: { Self → List AnEvent };
+
+    ghost first_moment: { Self → ℕ };
+
+    /// One past the last of them.
+    ghost end_moment: { Self → ℕ };
+
+    ghost passed: { Self → ℕ → Type 0 };
+
+    ghost is_verdict: { Self → Self.Verdict → Type 0 };
+
+    /// The first of the moments.
+    fn first(&self) -> u32
+        ensures is { result ≡ first_moment self.now }
+        ensures order { first_moment self.now ≤ end_moment self.now };
+
+    /// One past the last of the moments.
+    fn end(&self) -> u32
+        ensures { result ≡ end_moment self.now };
+
+    /// The verdict on all of them, where one of those from `next` on that are below `end` doesn't pass, all before having passed.
+    fn judge_next<T: Threads + Sync>(
+        &self,
+        rt: &T,
+        alloc: Global,
+        next: u32,
+        end: u32,
+        workers: u32,
+    ) -> Result<Option<Self::Verdict>, AllocError>
+        requires sync { IsSync T.row }
+        requires from { first_moment self.now ≤ next }
+        requires order { next ≤ end }
+        requires there { end ≤ end_moment self.now }
+        requires workers { (0 < workers) × (workers ≤ 8) }
+        requires before { AllPass (passed self.now) (first_moment self.now) next }
+        ensures more { IfOk result (λ found. IfNone found (AllPass (passed self.now) (first_moment self.now) end)) }
+        ensures fails { IfOk result (λ found. IfSome found (λ verdict. is_verdict self.now verdict)) };
+
+    /// How many images those of the moments that are below `end` have together. None where one of them has over 65,536.
+    fn images(&self, alloc: Global, end: u32) -> Result<Option<u64>, AllocError>
+        requires { end ≤ end_moment self.now }
+        ensures { IfOk result (λ images. IsImageSum (events self.now) (first_moment self.now) end images) };
+
+    /// The verdict where all of them pass, which have so many images together.
+    fn pass(&self, images: Option<u64>) -> Self::Verdict
+        requires all { AllPass (passed self.now) (first_moment self.now) (end_moment self.now) }
+        requires sum { IsImageSum (events self.now) (first_moment self.now) (end_moment self.now) images }
+        ensures { is_verdict self.now result };
 }
 
-fn run_verdict<T: Threads + Sync + Clock, E: Write>(
+/// The verdict on moments that are judged in turn, so many as the pace says at once.
+pub(crate) fn row_verdict<R: Row, T: Threads + Sync + Clock, E: Write>(
     rt: &T,
     alloc: Global,
-    check: &OpenCheck,
-    errors: &mut E,
-) -> Result<Verdict, VerdictFault>
-    requires { IsOpen check.now }
-    ensures ok { IfOk result (HasVerdictOn check.now.plan.operations (setup_of_check check.now) check.now.run.schedule
-        (first_of check.now.command.moments) (last_of check.now.command.moments)) }
-    ensures err { IfErr result (HasNoVerdict check.now.plan.operations (setup_of_check check.now) check.now.run.schedule (first_of check.now.command.moments)) }
-    ensures told { TellsProgress check.now.plan.operations (setup_of_check check.now) check.now.run.schedule
-        (first_of check.now.command.moments) (last_of check.now.command.moments) (E.contents errors.old) (E.contents errors.new) }
-{
-    let OpenCheck { command, run, .. } = check;
-    let Ok(program) = run.program.copy(alloc) else {
-        return Err(VerdictFault::Memory);
-    };
-    let harts = command.run.machine.harts;
-    let trace = trace_of(alloc, program, &run.medium, harts, &run.schedule)?;
-    let verdict = trace_verdict(rt, alloc, check, &trace, errors)?;
-    Ok(verdict)
-}
-
-/// The verdict by the events of the run.
-fn trace_verdict<T: Threads + Sync + Clock, E: Write>(
-    rt: &T,
-    alloc: Global,
-    check: &OpenCheck,
-    trace: &Trace,
-    errors: &mut E,
-) -> Result<Verdict, CheckFault>
-    requires open { IsOpen check.now }
-    requires lines { HasLines check.now.run.medium trace.now.events }
-    ensures ok { IfOk result (IsVerdictBetween check.now.plan.operations check.now.run.medium trace.now.events
-        (first_of check.now.command.moments) (end_of trace.now.events (last_of check.now.command.moments))) }
-    ensures sound { IfOk result (λ verdict. AreSound check.now.plan.operations trace.now.events (length trace.now.events)) }
-    ensures err { IfErr result (IsRefusal check.now.plan.operations trace.now.events (first_of check.now.command.moments)) }
-    ensures told { Progresses check.now.plan.operations check.now.run.medium trace.now.events
-        (first_of check.now.command.moments) (end_of trace.now.events (last_of check.now.command.moments))
-        (E.contents errors.old) (E.contents errors.new) }
-{
-    let (first, last) = bounds(check.command.moments);
-    let part = Part::new(alloc, &check.plan, &check.run.medium, trace, first, last)?;
-    let verdict = part_verdict(rt, alloc, &part, check.command.workers, errors)?;
-    Ok(verdict)
-}
-
-/// The first and the last of the moments asked for.
-fn bounds(moments: Option<Moments>) -> (u32, Option<u32>)
-    requires { IfSome moments IsUpward }
-    ensures first { result.0 ≡ first_of moments }
-    ensures last { result.1 ≡ last_of moments }
-    ensures order { IfSome result.1 (λ last. result.0 ≤ last) }
-{
-    match moments {
-        Some(Moments { first, last }) => (first, last),
-        None => (0, None),
-    }
-}
-
-/// The verdict on a part of the moments, which are judged in turn, so many as the pace says at once.
-fn part_verdict<T: Threads + Sync + Clock, E: Write>(
-    rt: &T,
-    alloc: Global,
-    part: &Part,
+    row: &R,
     workers: u32,
     errors: &mut E,
-) -> Result<Verdict, AllocError>
+) -> Result<R::Verdict, AllocError>
     requires { (0 < workers) × (workers ≤ 8) }
-    ensures ok { IfOk result (IsVerdictBetween part.now.run.plan part.now.run.start part.now.run.events part.now.first part.now.end) }
-    ensures told { Progresses part.now.run.plan part.now.run.start part.now.run.events part.now.first part.now.end
+    ensures ok { IfOk result (λ verdict. R.is_verdict row.now verdict) }
+    ensures told { Progresses (R.passed row.now) (R.events row.now) (R.first_moment row.now) (R.end_moment row.now)
         (E.contents errors.old) (E.contents errors.new) }
 {
-    let mut pace = Pace::new(rt);
+    let mut pace = Pace::new(rt, workers);
     let mut is_heard = true;
-    let mut next = part.first();
-    while next < part.end() {
-        let end = part.end().min(next.saturating_add(pace.stride));
-        match part.judge(rt, alloc, next, end, workers, &Open)? {
-            Verdict::Pass { .. } => next = end,
-            verdict => return Ok(verdict),
+    let mut next = row.first();
+    while next < row.end() {
+        let end = row.end().min(next.saturating_add(pace.stride));
+        if let Some(verdict) = row.judge_next(rt, alloc, next, end, workers)? {
+            return Ok(verdict);
         }
+        next = end;
         if is_heard && pace.is_due(rt) {
-            is_heard = tell_progress(alloc, part, next, errors).is_ok();
+            is_heard = tell_progress(alloc, row, next, errors).is_ok();
         }
     }
-    Ok(Verdict::Pass {
-        moments: u64::from(part.end() - part.first()),
-        images: part.images(alloc, part.end())?,
-    })
+    let images = row.images(alloc, row.end())?;
+    Ok(row.pass(images))
 }
 
-/// Tells that the moments of a part that are below `next` pass. Where memory is refused nothing is told.
-fn tell_progress<E: Write>(
+/// Tells that the moments that are below `next` pass. Where memory is refused nothing is told.
+fn tell_progress<R: Row, E: Write>(
     alloc: Global,
-    part: &Part,
+    row: &R,
     next: u32,
     errors: &mut E,
 ) -> Result<(), Failed>
-    requires first { part.now.first ≤ next }
-    requires there { next ≤ part.now.end }
-    ensures { WritesLine part.now.run.events part.now.first next part.now.end (E.contents errors.old) (E.contents errors.new) result }
+    requires first { R.first_moment row.now ≤ next }
+    requires there { next ≤ R.end_moment row.now }
+    ensures { WritesLine (R.events row.now) (R.first_moment row.now) next (R.end_moment row.now) (E.contents errors.old) (E.contents errors.new) result }
 {
-    match line_of(alloc, part, next) {
+    match line_of(alloc, row, next) {
         Ok(line) => print(line.as_bytes(), errors),
         Err(_) => Ok(()),
     }
 }
 
 /// The line that tells so.
-fn line_of(alloc: Global, part: &Part, next: u32) -> Result<String, AllocError>
-    requires first { part.now.first ≤ next }
-    requires there { next ≤ part.now.end }
-    ensures { IfOk result (λ line. IsLineOf part.now.run.events part.now.first next part.now.end (string_bytes line)) }
+fn line_of<R: Row>(alloc: Global, row: &R, next: u32) -> Result<String, AllocError>
+    requires first { R.first_moment row.now ≤ next }
+    requires there { next ≤ R.end_moment row.now }
+    ensures { IfOk result (λ line. IsLineOf (R.events row.now) (R.first_moment row.now) next (R.end_moment row.now) (string_bytes line)) }
 {
-    let images = part.images(alloc, next)?;
-    progress_line(
-        alloc,
-        next - part.first(),
-        part.end() - part.first(),
-        images,
-    )
+    let images = row.images(alloc, next)?;
+    progress_line(alloc, next - row.first(), row.end() - row.first(), images)
 }
 
 /// `moment M of N, images I`, or `images over` where a moment has over 65,536.
@@ -195,16 +161,23 @@ struct Pace {
     /// The time of the last look.
     looked: Option<Instant>,
     stride: u32,
+    /// The number of workers: with fewer moments at once one of them would have none.
+    workers: u32,
     ghost some: { 0 < stride },
+    ghost busy: { 0 < workers },
 }
 
 impl Pace {
-    fn new<T: Clock>(clock: &T) -> Pace {
+    /// That of so many workers, who judge at least one moment each before the clock is looked at.
+    fn new<T: Clock>(clock: &T, workers: u32) -> Pace
+        requires { 0 < workers }
+    {
         let now = Instant::now(clock).ok();
         Pace {
             told: now,
             looked: now,
-            stride: 1,
+            stride: workers,
+            workers,
         }
     }
 
@@ -213,7 +186,7 @@ impl Pace {
         let now = Instant::now(clock).ok();
         let is_long = matches!(since(self.looked, now), Some(time) if time.as_millis() >= LONG);
         self.stride = if is_long {
-            (self.stride / 2).max(1)
+            (self.stride / 2).max(self.workers)
         } else {
             self.stride.saturating_mul(2).min(LONGEST_STRIDE)
         };

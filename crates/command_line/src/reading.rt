@@ -1,14 +1,15 @@
 //! The files that commands read.
 
-ghost use Rattle.std.specs.Prelude.{◌<◌, ◌^◌, IfOk, option_map, string_bytes};
+ghost use Rattle.std.specs.Prelude.{◌≡◌, ◌<◌, ◌^◌, IfOk, option_map, string_bytes};
 ghost use Rattle.std.specs.Result.{result_map_both};
 ghost use Rattle.schedule.specs.Grammar.{hart_steps};
-ghost use Rattle.command_line.specs.Reading.{IsDefaultMedium, ReadsMedium, ReadsPlan, ReadsProgram, ReadsRun, ReadsSchedule};
-ghost use Rattle.command_line.specs.Reading.{SaysMedium, SaysPlan, SaysProgram, SaysSchedule};
+ghost use Rattle.command_line.specs.Reading.{IsDefaultMedium, ReadsMedium, ReadsPlan, ReadsProgram, ReadsRecovery, ReadsRun, ReadsSchedule};
+ghost use Rattle.command_line.specs.Reading.{SaysMedium, SaysPlan, SaysProgram, SaysRecovery, SaysSchedule};
+ghost use Rattle.command_line.specs.Failures.{failure_of_recovery};
 ghost use Rattle.command_line.specs.Steps.{ReadsFile};
 ghost use Rattle.tester.specs.Programs.{IsProgramOf};
 
-use crate::failure::Failure;
+use crate::failure::{Failure, Refusal};
 use crate::files::Files;
 use arguments::ScheduledRun;
 use line_memory::Medium;
@@ -16,7 +17,7 @@ use plan::Plan;
 use program::Program;
 use schedule::Schedule;
 use std::alloc::Global;
-use tester::{default_medium, load_program};
+use tester::{ProgramFault, default_medium, load_program};
 
 /// A run by a schedule, as its files give it.
 #[derive(Drop)]
@@ -74,6 +75,38 @@ fn program_of(alloc: Global, file: &[u8]) -> Result<Program, Failure>
     ensures program { IfOk result (IsProgramOf file.now) }
 {
     Ok(load_program(alloc, file)?)
+}
+
+/// The recovery routine in a file.
+pub(crate) fn read_recovery<F: Files>(
+    alloc: Global,
+    name: &str,
+    files: &mut F,
+) -> Result<Program, Failure>
+    ensures { ReadsRecovery F.read_gives name.now files.old result files.new }
+{
+    let file = read_file(name, files)?;
+    recovery_of(alloc, &file)
+}
+
+fn recovery_of(alloc: Global, file: &[u8]) -> Result<Program, Failure>
+    ensures { SaysRecovery file.now result }
+{
+    match load_program(alloc, file) {
+        Ok(recovery) => Ok(recovery),
+        Err(fault) => Err(refused_recovery(fault)),
+    }
+}
+
+/// What a file comes to that gives no recovery routine.
+fn refused_recovery(fault: ProgramFault) -> Failure
+    ensures { result ≡ failure_of_recovery fault }
+{
+    match fault {
+        ProgramFault::Assembly(fault) => Failure::Refused(Refusal::RecoverySource(fault)),
+        ProgramFault::Object(fault) => Failure::Refused(Refusal::RecoveryObject(fault)),
+        ProgramFault::Memory => Failure::Memory,
+    }
 }
 
 /// The plan in a file.

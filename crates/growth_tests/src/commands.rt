@@ -69,7 +69,7 @@ fn command_of_help(rt: HostRuntime) -> Result<(), Refused> {
 }
 
 /// The files, by their names.
-const FILES: [(&str, &str); 11] = [
+const FILES: [(&str, &str); 12] = [
     (
         "first.s",
         "addi x5, x0, 7\nlui x6, 0x40000\nsd x5, 0(x6)\ncbo.clean (x6)\nfence w, w\n\
@@ -90,6 +90,10 @@ const FILES: [(&str, &str); 11] = [
         "cbo.clean (a1)\nfence w, w\nli a7, 93\nli a0, 0\necall\n",
     ),
     ("listed.s", "addi x5, x0, 7\n# two words\nli x6, 0x12345\n"),
+    (
+        "shown.s",
+        "ld t0, 0(a1)\nlui a1, 256\nsd t0, 0(a1)\nli a2, 8\nli a7, 93\nli a0, 0\necall\n",
+    ),
     ("two", "h0*2"),
     ("ten", "h0*10"),
     ("eight", "h0*8"),
@@ -491,6 +495,44 @@ const CHECK_TOLD: Example = Example {
 #[test]
 fn execute_check_that_tells_how_far_it_is(rt: HostRuntime) -> Result<(), Refused> {
     ended(&rt, typed(&rt, &CHECK_TOLD))
+}
+
+/// The operation ends before its store is durable, so that the moment right after it has an image without the store.
+const JUDGE: Example = Example {
+    line: "novacrash judge bare.s ten shown.s",
+    typed: "",
+    status: 1,
+    printed: "fail moment=3 image=0 cause=different\n",
+};
+
+#[test]
+fn execute_judge(rt: HostRuntime) -> Result<(), Refused> {
+    ended(&rt, typed(&rt, &JUDGE))
+}
+
+const JUDGE_WHY: Example = Example {
+    line: "novacrash judge bare.s ten shown.s --why",
+    typed: "",
+    status: 1,
+    printed: "fail moment=3 image=0 cause=different\n\
+        lost l0 store 2 h0 pc=0x1000c line=4: never cleaned\nschedule h0*6\n",
+};
+
+#[test]
+fn execute_judge_with_reasons(rt: HostRuntime) -> Result<(), Refused> {
+    ended(&rt, typed(&rt, &JUDGE_WHY))
+}
+
+const JUDGE_PART: Example = Example {
+    line: "novacrash judge bare.s ten shown.s --moments 1-2 --json --workers 2",
+    typed: "",
+    status: 0,
+    printed: "{\"kind\":\"pass\",\"moments\":2,\"images\":3}\n",
+};
+
+#[test]
+fn execute_judge_of_a_part_as_json(rt: HostRuntime) -> Result<(), Refused> {
+    ended(&rt, typed(&rt, &JUDGE_PART))
 }
 
 const TRACE_JSON: Example = Example {

@@ -1,7 +1,7 @@
 -- The shapes of the table are those of the line.
-use Rattle.arguments.specs.Grammar.{novacrash, making, judging, trace_shape, unpersisted_shape, waste_shape, images_shape, explain_shape, check_shape, picture_shape, interleave_shape, show_shape, listing_shape, code_shape}
+use Rattle.arguments.specs.Grammar.{making, judging, trace_shape, unpersisted_shape, waste_shape, images_shape, explain_shape, check_shape, judge_shape}
 use Rattle.arguments.proofs.grammar.with_judging.Goals as goal
 
 pub returns : goal.returns
-unfolding novacrash judging trace_shape unpersisted_shape waste_shape images_shape explain_shape check_shape picture_shape interleave_shape show_shape listing_shape code_shape
+unfolding judging trace_shape unpersisted_shape waste_shape images_shape explain_shape check_shape judge_shape
 returns c = c.with_all.ensures making c.requires

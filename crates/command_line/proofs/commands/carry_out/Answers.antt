@@ -38,6 +38,9 @@ returns-in-Explain-clause-carries g c = rw c.in-Explain.is (record { found = c.e
 pub returns-in-Check-clause-carries : goal.returns-in-Check-clause-carries
 returns-in-Check-clause-carries g c = rw c.in-Check.is (record { found = c.open_check.result; finding = c.open_check.ensures.opens; leads = c.opened.ensures.is })
 
+pub returns-in-Judge-clause-carries : goal.returns-in-Judge-clause-carries
+returns-in-Judge-clause-carries g c = rw c.in-Judge.is (record { found = c.open_judge.result; finding = c.open_judge.ensures.opens; leads = c.judged.ensures.is })
+
 pub returns-in-Picture-clause-carries : goal.returns-in-Picture-clause-carries
 returns-in-Picture-clause-carries g c = rw c.in-Picture.is (record { found = c.picture_file.result; finding = c.picture_file.ensures; leads = c.printed-in-Picture.ensures.is })
 

@@ -1,0 +1,16 @@
+-- Where the run that is to be judged is at fault, no such command is asked for.
+use Rattle.std.proofs.Common.{rules}
+use Rattle.clap.specs.Words.{found_of, rows_of}
+use Rattle.arguments.specs.Line.{IsCheck, OnFault}
+use Rattle.arguments.specs.declared.asked.LineFault.{LineFault}
+use Rattle.arguments.specs.declared.asked.CheckCommand.{CheckCommand}
+use Rattle.arguments.proofs.Lines.{says_more}
+use Rattle.arguments.proofs.commands.check.Goals as goal
+
+pub returns-in_err-judged-clause-err : goal.returns-in_err-judged-clause-err
+returns-in_err-judged-clause-err c =
+    let fault : LineFault = c.in_err-judged.field-0.0 in
+    let none : OnFault ((command : CheckCommand) → ¬ (IsCheck (rows_of (found_of c.args.found.now)) command)) fault =
+    says_more fault (λ unjudged command is. unjudged command.run command.workers command.moments command.why command.json command.progress is.judged)
+    c.in_err-judged.ensures.err in
+    search (rules, none)

@@ -1,0 +1,136 @@
+//! The verdict of a check that tells on standard error how far it has come.
+
+ghost use Rattle.command_line.specs.Checking.{IsOpen, TellsProgress, Watches, passes_at, setup_of_check};
+ghost use Rattle.command_line.specs.Progress.{Progresses};
+ghost use Rattle.command_line.specs.Verdicts.{first_of, last_of};
+ghost use Rattle.crash_image.specs.View.{HasLines};
+ghost use Rattle.image_check.specs.OrderFaults.{AreSound};
+ghost use Rattle.image_check.specs.Verdicts.{IsRefusal, IsVerdictBetween};
+ghost use Rattle.parallel_check.specs.Parts.{end_of};
+ghost use Rattle.std.specs.Prelude.{◌≡◌, IfErr, IfOk, length, true};
+ghost use Rattle.tester.specs.Checking.{HasNoVerdict, HasVerdictOn};
+
+use crate::failure::Failure;
+use crate::opened::OpenCheck;
+use crate::progress::{Row, row_verdict};
+use crate::verdicts::bounds;
+use gate::Open;
+use image_check::{CheckFault, Verdict};
+use parallel_check::Part;
+use std::alloc::{AllocError, Global};
+use std::io::Write;
+use std::thread::Threads;
+use std::time::Clock;
+use store_trace::Trace;
+use tester::{VerdictFault, trace_of};
+
+/// The verdict on what a check asks for, which tells on the way how many of the moments pass.
+pub(crate) fn watched_verdict<T: Threads + Sync + Clock, E: Write>(
+    rt: &T,
+    alloc: Global,
+    check: &OpenCheck,
+    errors: &mut E,
+) -> Result<Verdict, Failure>
+    requires open { IsOpen check.now }
+    requires asked { check.now.command.progress ≡ true }
+    ensures { Watches E.contents check.now errors.old result errors.new }
+{
+    Ok(run_verdict(rt, alloc, check, errors)?)
+}
+
+fn run_verdict<T: Threads + Sync + Clock, E: Write>(
+    rt: &T,
+    alloc: Global,
+    check: &OpenCheck,
+    errors: &mut E,
+) -> Result<Verdict, VerdictFault>
+    requires { IsOpen check.now }
+    ensures ok { IfOk result (HasVerdictOn check.now.plan.operations (setup_of_check check.now) check.now.run.schedule
+        (first_of check.now.command.moments) (last_of check.now.command.moments)) }
+    ensures err { IfErr result (HasNoVerdict check.now.plan.operations (setup_of_check check.now) check.now.run.schedule (first_of check.now.command.moments)) }
+    ensures told { TellsProgress check.now.plan.operations (setup_of_check check.now) check.now.run.schedule
+        (first_of check.now.command.moments) (last_of check.now.command.moments) (E.contents errors.old) (E.contents errors.new) }
+{
+    let OpenCheck { command, run, .. } = check;
+    let Ok(program) = run.program.copy(alloc) else {
+        return Err(VerdictFault::Memory);
+    };
+    let harts = command.run.machine.harts;
+    let trace = trace_of(alloc, program, &run.medium, harts, &run.schedule)?;
+    let verdict = trace_verdict(rt, alloc, check, &trace, errors)?;
+    Ok(verdict)
+}
+
+/// The verdict by the events of the run.
+fn trace_verdict<T: Threads + Sync + Clock, E: Write>(
+    rt: &T,
+    alloc: Global,
+    check: &OpenCheck,
+    trace: &Trace,
+    errors: &mut E,
+) -> Result<Verdict, CheckFault>
+    requires open { IsOpen check.now }
+    requires lines { HasLines check.now.run.medium trace.now.events }
+    ensures ok { IfOk result (IsVerdictBetween check.now.plan.operations check.now.run.medium trace.now.events
+        (first_of check.now.command.moments) (end_of trace.now.events (last_of check.now.command.moments))) }
+    ensures sound { IfOk result (λ verdict. AreSound check.now.plan.operations trace.now.events (length trace.now.events)) }
+    ensures err { IfErr result (IsRefusal check.now.plan.operations trace.now.events (first_of check.now.command.moments)) }
+    ensures told { Progresses (passes_at check.now.plan.operations check.now.run.medium trace.now.events) trace.now.events
+        (first_of check.now.command.moments) (end_of trace.now.events (last_of check.now.command.moments))
+        (E.contents errors.old) (E.contents errors.new) }
+{
+    let (first, last) = bounds(check.command.moments);
+    let part = Part::new(alloc, &check.plan, &check.run.medium, trace, first, last)?;
+    let verdict = row_verdict(rt, alloc, &part, check.command.workers, errors)?;
+    Ok(verdict)
+}
+
+impl<'a> Row for Part<'a> {
+    ghost use Rattle.command_line.specs.Checking.{passes_at};
+    ghost use Rattle.image_check.specs.Verdicts.{IsVerdictBetween};
+
+    type Verdict = Verdict;
+
+    ghost events = { λ s. s.run.events };
+
+    ghost first_moment = { λ s. s.first };
+
+    ghost end_moment = { λ s. s.end };
+
+    ghost passed = { λ s. passes_at s.run.plan s.run.start s.run.events };
+
+    ghost is_verdict = { λ s verdict. IsVerdictBetween s.run.plan s.run.start s.run.events s.first s.end verdict };
+
+    fn first(&self) -> u32 {
+        Part::first(self)
+    }
+
+    fn end(&self) -> u32 {
+        Part::end(self)
+    }
+
+    fn judge_next<T: Threads + Sync>(
+        &self,
+        rt: &T,
+        alloc: Global,
+        next: u32,
+        end: u32,
+        workers: u32,
+    ) -> Result<Option<Verdict>, AllocError> {
+        match self.judge(rt, alloc, next, end, workers, &Open)? {
+            Verdict::Pass { .. } => Ok(None),
+            verdict => Ok(Some(verdict)),
+        }
+    }
+
+    fn images(&self, alloc: Global, end: u32) -> Result<Option<u64>, AllocError> {
+        Part::images(self, alloc, end)
+    }
+
+    fn pass(&self, images: Option<u64>) -> Verdict {
+        Verdict::Pass {
+            moments: u64::from(Part::end(self) - Part::first(self)),
+            images,
+        }
+    }
+}

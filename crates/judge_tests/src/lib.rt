@@ -1,0 +1,25 @@
+//! Tests of the verdict by a recovery routine, from sources: small runs and routines, and what `judge_program` says of them for one
+//! worker and for several; and each growth refused in turn, by `tools/growths --only growths judge_tests`. The crate has tests alone.
+//!
+//! What is tested stands in tables. A test asks for the first place of a table whose call comes to something else than is said
+//! there.
+#![tactic(auto)]
+
+#[cfg(test)]
+mod cases;
+#[cfg(test)]
+mod ending;
+#[cfg(test)]
+mod growths;
+#[cfg(test)]
+mod lines;
+#[cfg(test)]
+mod marks;
+#[cfg(test)]
+mod moments;
+#[cfg(test)]
+mod pushes;
+#[cfg(test)]
+mod routines;
+#[cfg(test)]
+mod sources;
