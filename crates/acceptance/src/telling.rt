@@ -69,7 +69,6 @@ pass moments=11 images=22
 ! moment 11 of 11, images 22
 $ novacrash check append.plan append.s append.schedule --medium m --moments 5-6 --progress --json --workers 2
 {\"kind\":\"pass\",\"moments\":2,\"images\":5}
-! moment 1 of 2, images 4
 ! moment 2 of 2, images 5
 $ novacrash check append.plan append.s append.schedule --medium m --moments 11-99 --progress
 ! refused C1
