@@ -4,5 +4,4 @@ mod Loops
 pub mod Written
 mod SourceLines
 mod OnTheWay
-mod CheckedRows
 mod JudgedRows

@@ -128,8 +128,3 @@ told_nothing passed events first end old = record {
   is_progress = IsProgress.starts;
   writes = front_nothing old [];
 }
-
--- what holds where nothing was found
-pub none_of : {A : Type 0} (found : Option A) (claim : Type 0) → ((x : A) → ¬ (found ≡ Some x)) → IfNone found claim → claim
-none_of None claim never holds = holds
-none_of (Some x) claim never holds = absurd (never x refl)

@@ -13,7 +13,7 @@ use Rattle.program_trace.specs.Lines.{line_of}
 use Rattle.run_text.specs.Causes.{unfinished_text}
 use Rattle.run_text.specs.Places.{line_in}
 use Rattle.run_trace.specs.declared.traced_event.TracedEvent.{TracedEvent}
-use Rattle.tester.specs.Programs.{IsObjectOf, IsProgramOf, begins_as_object}
+use Rattle.crash_test.specs.Programs.{IsObjectOf, IsProgramOf, begins_as_object}
 use Rattle.command_line.specs.Reasons.{told_losses}
 use Rattle.command_line.specs.Persisting.{told_stores}
 use Rattle.command_line.specs.Tracing.{told_events}

@@ -6,21 +6,19 @@ use Rattle.arguments.specs.declared.asked.CheckCommand.{CheckCommand}
 use Rattle.arguments.specs.declared.asked.Moments.{Moments}
 use Rattle.image_check.specs.Verdicts.{IsMomentVerdict}
 use Rattle.image_causes.specs.Told.{IsAsked}
-use Rattle.image_check.specs.declared.verdict.Cause.{Cause}
-use Rattle.image_check.specs.declared.verdict.Cause.TheVariants as causes
-use Rattle.image_check.specs.declared.verdict.MomentVerdict.TheVariants as moments
-use Rattle.image_check.specs.declared.verdict.Verdict.{Verdict}
-use Rattle.image_check.specs.declared.verdict.Verdict.TheVariants as verdicts
-use Rattle.image_name.specs.declared.name.ImageName.{ImageName}
-use Rattle.parallel_check.specs.Parts.{end_of}
+use Rattle.image_check.specs.declared.cause.Cause.{Cause}
+use Rattle.image_check.specs.declared.cause.Cause.TheVariants as causes
+use Rattle.moment_verdict.specs.declared.verdict.MomentVerdict.TheVariants as moments
+use Rattle.moment_verdict.specs.declared.verdict.Verdict.{Verdict}
+use Rattle.parallel_moments.specs.Rows.{end_of}
 use Rattle.plan.specs.Plans.{PlanView}
 use Rattle.plan.specs.declared.operation.Operation.{Operation}
 use Rattle.schedule.specs.Grammar.{hart_steps}
 use Rattle.schedule.specs.declared.items.Item.{Item}
 use Rattle.store_trace.specs.declared.event.Event.{Event}
-use Rattle.tester.specs.Checking.{HasNoVerdict, HasVerdictOn}
-use Rattle.tester.specs.Programs.{IsProgramOf}
-use Rattle.tester.specs.Runs.{HasTrace, Setup}
+use Rattle.crash_test.specs.Checking.{HasNoVerdict, HasVerdictOn}
+use Rattle.crash_test.specs.Programs.{IsProgramOf}
+use Rattle.crash_test.specs.Runs.{HasTrace, Setup}
 use Rattle.whole_run.specs.Causes.{numbers_of}
 use Rattle.command_line.specs.Codes.{volume_code}
 use Rattle.command_line.specs.Failures.{failure_of_verdict}
@@ -29,14 +27,14 @@ use Rattle.command_line.specs.Reading.{ReadsPlan, ReadsRun, setup_of}
 use Rattle.command_line.specs.Progress.{IsToldIf, Progresses}
 use Rattle.command_line.specs.Reasons.{Explains, told_why}
 use Rattle.command_line.specs.Steps.{First, Prints, Reads, Step, Still, Tells}
-use Rattle.command_line.specs.Verdicts.{first_of, last_of, told_fail, told_pass, told_too_many}
+use Rattle.command_line.specs.Verdicts.{failing, first_of, last_of, told_verdict, verdict_status}
 use Rattle.command_line.specs.declared.answer.Answer.{Answer}
 use Rattle.command_line.specs.declared.failure.Failure.{Failure}
 use Rattle.command_line.specs.declared.opened.OpenCheck.{OpenCheck}
 use Rattle.command_line.specs.declared.reading.RunFiles.{RunFiles}
 
 -- the verdict on these moments of the run by a schedule, or why there is none
-pub record Judges (plan : List Operation) (s : Setup) (schedule : List Item) (moments : Option Moments) (outcome : Result Verdict Failure) : Type 0 where
+pub record Judges (plan : List Operation) (s : Setup) (schedule : List Item) (moments : Option Moments) (outcome : Result (Verdict Cause) Failure) : Type 0 where
   pub judges : MatchResult outcome (HasVerdictOn plan s schedule (first_of moments) (last_of moments))
       (Tells (HasNoVerdict plan s schedule (first_of moments)) failure_of_verdict)
 
@@ -44,24 +42,6 @@ pub record Judges (plan : List Operation) (s : Setup) (schedule : List Item) (mo
 abbrev pub cause_text : Cause → List ℕ
 cause_text (causes.Fault fault) = volume_code fault
 cause_text causes.Illegal = codes "illegal"
-
--- the verdict, as text or as JSON
-abbrev pub told_verdict : Bool → Verdict → List ℕ
-told_verdict json (verdicts.Pass moments images) = told_pass json moments images
-told_verdict json (verdicts.Fail moment image cause) = told_fail json moment image (cause_text cause)
-told_verdict json (verdicts.TooMany moment) = told_too_many json moment
-
-abbrev pub verdict_status : Verdict → ℕ
-verdict_status (verdicts.Pass moments images) = 0
-verdict_status (verdicts.Fail moment image cause) = 1
-verdict_status (verdicts.TooMany moment) = 3
-
--- the moment and the image that are explained: those of a failure, where that is asked for
-abbrev pub failing : Bool → Verdict → Option (ℕ × ImageName)
-failing true (verdicts.Fail moment image cause) = Some (moment, image)
-failing true (verdicts.Pass moments images) = None
-failing true (verdicts.TooMany moment) = None
-failing false verdict = None
 
 -- With `--whole` a run that is whole is judged alone: a pass then also says that each hart has exited with 0, and that each planned
 -- operation has ended.
@@ -86,7 +66,7 @@ abbrev pub setup_of_check : OpenCheck → Setup
 setup_of_check check = setup_of check.command.run check.run
 
 -- the verdict on what a check asks for
-abbrev pub JudgesOpen : OpenCheck → Result Verdict Failure → Type 0
+abbrev pub JudgesOpen : OpenCheck → Result (Verdict Cause) Failure → Type 0
 JudgesOpen check = Judges check.plan.operations (setup_of_check check) check.run.schedule check.command.moments
 
 -- a moment passes
@@ -104,7 +84,7 @@ abbrev pub TellsProgress : List Operation → Setup → List Item → ℕ → Op
 TellsProgress plan s schedule first last old new = (new ≡ old) ⊎ ProgressesOn plan s schedule first last old new
 
 -- the verdict, and what standard error was told on the way
-pub record Watches {E : Type 0} (said : E → Option (List ℕ)) (check : OpenCheck) (errors : E) (outcome : Result Verdict Failure) (errors' : E) : Type 0 where
+pub record Watches {E : Type 0} (said : E → Option (List ℕ)) (check : OpenCheck) (errors : E) (outcome : Result (Verdict Cause) Failure) (errors' : E) : Type 0 where
   pub judges : JudgesOpen check outcome
   pub told : IsToldIf check.command.progress (TellsProgress check.plan.operations (setup_of_check check) check.run.schedule
       (first_of check.command.moments) (last_of check.command.moments) (said errors) (said errors')) errors errors'
@@ -114,4 +94,4 @@ abbrev pub JudgesCheck : {E : Type 0} → (E → Option (List ℕ)) → OpenChec
 JudgesCheck said check =
     First (Watches said check) (λ verdict.
     First (Still (Explains IsAsked (setup_of_check check) check.run.schedule (failing check.command.why verdict))) (λ why.
-    Still (Prints (told_verdict check.command.json verdict ++ told_why check.command.json check.run.file.items why) (verdict_status verdict))))
+    Still (Prints (told_verdict cause_text check.command.json verdict ++ told_why check.command.json check.run.file.items why) (verdict_status verdict))))

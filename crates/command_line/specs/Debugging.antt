@@ -10,7 +10,7 @@ use Rattle.machine.specs.Stands.{MachineView}
 use Rattle.session.specs.Failing.{one_more}
 use Rattle.session.specs.Running.{SomeRun}
 use Rattle.session.specs.Sessions.{BreaksOff, Session}
-use Rattle.tester.specs.Runs.{FailsToStart, IsAtStart, Setup}
+use Rattle.crash_test.specs.Runs.{FailsToStart, IsAtStart, Setup}
 use Rattle.command_line.specs.Failures.{failure_of_session, failure_of_step}
 use Rattle.command_line.specs.Reading.{ReadsMedium, ReadsProgram}
 use Rattle.command_line.specs.Running.{machine_of}

@@ -5,7 +5,7 @@ use Rattle.program_trace.specs.Lines.{line_of}
 use Rattle.program_trace.specs.Whole.{AreCausesOfRun, RunsWhole}
 use Rattle.run_text.specs.Causes.{unfinished_text}
 use Rattle.schedule.specs.declared.items.Item.{Item}
-use Rattle.tester.specs.Runs.{FailsToRun, Setup}
+use Rattle.crash_test.specs.Runs.{FailsToRun, Setup}
 use Rattle.whole_run.specs.declared.unfinished.Unfinished.{Unfinished as Cause}
 use Rattle.command_line.specs.Failures.{failure_of_step}
 use Rattle.command_line.specs.Reading.{setup_of}

@@ -3,8 +3,8 @@ use Rattle.std.specs.Prelude.{ℕ, List, [], Result, MatchResult}
 use Rattle.arguments.specs.declared.asked.ExplainCommand.{ExplainCommand}
 use Rattle.image_name.specs.declared.name.ImageName.{ImageName}
 use Rattle.schedule.specs.declared.items.Item.{Item}
-use Rattle.tester.specs.Explaining.{ExplainsImage, FailsToExplain}
-use Rattle.tester.specs.Runs.{Setup}
+use Rattle.crash_test.specs.Explaining.{ExplainsImage, FailsToExplain}
+use Rattle.crash_test.specs.Runs.{Setup}
 use Rattle.command_line.specs.Failures.{failure_of_explanation}
 use Rattle.command_line.specs.Demanding.{MeetsWhole}
 use Rattle.command_line.specs.Reading.{ReadsRun, setup_of}

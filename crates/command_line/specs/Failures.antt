@@ -21,16 +21,16 @@ use Rattle.schedule.specs.declared.fault.ScheduleFault.{ScheduleFault}
 use Rattle.schedule.specs.declared.fault.ScheduleFault.TheVariants as schedules
 use Rattle.shared_memory.specs.declared.fault.StepFault.{StepFault}
 use Rattle.shared_memory.specs.declared.fault.StepFault.TheVariants as steps
-use Rattle.tester.specs.declared.checking.VerdictFault.{VerdictFault}
-use Rattle.tester.specs.declared.checking.VerdictFault.TheVariants as verdicts
-use Rattle.tester.specs.declared.explaining.ExplainFault.{ExplainFault}
-use Rattle.tester.specs.declared.explaining.ExplainFault.TheVariants as explanations
-use Rattle.tester.specs.declared.images.CountFault.{CountFault}
-use Rattle.tester.specs.declared.images.CountFault.TheVariants as counts
-use Rattle.tester.specs.declared.loading.ProgramFault.{ProgramFault}
-use Rattle.tester.specs.declared.loading.ProgramFault.TheVariants as programs
-use Rattle.tester.specs.declared.runs.TogetherFault.{TogetherFault}
-use Rattle.tester.specs.declared.runs.TogetherFault.TheVariants as together
+use Rattle.crash_test.specs.declared.checking.VerdictFault.{VerdictFault}
+use Rattle.crash_test.specs.declared.checking.VerdictFault.TheVariants as verdicts
+use Rattle.crash_test.specs.declared.explaining.ExplainFault.{ExplainFault}
+use Rattle.crash_test.specs.declared.explaining.ExplainFault.TheVariants as explanations
+use Rattle.crash_test.specs.declared.images.CountFault.{CountFault}
+use Rattle.crash_test.specs.declared.images.CountFault.TheVariants as counts
+use Rattle.crash_test.specs.declared.loading.ProgramFault.{ProgramFault}
+use Rattle.crash_test.specs.declared.loading.ProgramFault.TheVariants as programs
+use Rattle.crash_test.specs.declared.runs.TogetherFault.{TogetherFault}
+use Rattle.crash_test.specs.declared.runs.TogetherFault.TheVariants as together
 use Rattle.command_line.specs.Codes.{assembly_code, load_code, mark_code, operation_code, plan_code, volume_code}
 use Rattle.session.specs.Answers.{step_code}
 use Rattle.command_line.specs.Reports.{line_end}

@@ -2,8 +2,8 @@
 use Rattle.std.specs.Prelude.{ℕ, Bool, true, false, List, [], Option, Some, None, Result, MatchResult, ◌++◌, codes, decimal}
 use Rattle.arguments.specs.declared.asked.ImagesCommand.{ImagesCommand}
 use Rattle.schedule.specs.declared.items.Item.{Item}
-use Rattle.tester.specs.Images.{CountsImages, FailsToCount}
-use Rattle.tester.specs.Runs.{Setup}
+use Rattle.crash_test.specs.Images.{CountsImages, FailsToCount}
+use Rattle.crash_test.specs.Runs.{Setup}
 use Rattle.command_line.specs.Failures.{failure_of_count}
 use Rattle.command_line.specs.Demanding.{MeetsWhole}
 use Rattle.command_line.specs.Reading.{ReadsRun, setup_of}

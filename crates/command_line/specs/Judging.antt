@@ -4,7 +4,6 @@ use Rattle.arguments.specs.Line.{IsWithin}
 use Rattle.arguments.specs.Spans.{IsUpward}
 use Rattle.arguments.specs.declared.asked.JudgeCommand.{JudgeCommand}
 use Rattle.hart_line.specs.HartLines.{trap_number}
-use Rattle.image_name.specs.declared.name.ImageName.{ImageName}
 use Rattle.judged_losses.specs.Loading.{IsLoaded}
 use Rattle.program_losses.specs.declared.failing.ExplainedImage.{ExplainedImage}
 use Rattle.image_judge.specs.Verdicts.{IsJudged, judged_from}
@@ -13,7 +12,6 @@ use Rattle.image_judge.specs.declared.cause.Cause.{Cause}
 use Rattle.image_judge.specs.declared.cause.Cause.TheVariants as causes
 use Rattle.moment_verdict.specs.declared.verdict.MomentVerdict.TheVariants as moments
 use Rattle.moment_verdict.specs.declared.verdict.Verdict.{Verdict}
-use Rattle.moment_verdict.specs.declared.verdict.Verdict.TheVariants as verdicts
 use Rattle.object.specs.Sections.{Sections}
 use Rattle.parallel_moments.specs.Rows.{end_of}
 use Rattle.program_judge.specs.Judging.{HasJudgement, HasNoJudgement, view_of}
@@ -21,15 +19,15 @@ use Rattle.recovery_run.specs.declared.Cause.{Cause as RunCause}
 use Rattle.recovery_run.specs.declared.Cause.TheVariants as runs
 use Rattle.schedule.specs.Grammar.{hart_steps}
 use Rattle.store_trace.specs.declared.event.Event.{Event}
-use Rattle.tester.specs.Programs.{IsProgramOf}
-use Rattle.tester.specs.Runs.{HasTrace, Setup}
+use Rattle.crash_test.specs.Programs.{IsProgramOf}
+use Rattle.crash_test.specs.Runs.{HasTrace, Setup}
 use Rattle.command_line.specs.Demanding.{MeetsWhole}
 use Rattle.command_line.specs.Failures.{failure_of_judging}
 use Rattle.command_line.specs.Progress.{IsToldIf, Progresses}
 use Rattle.command_line.specs.Reading.{ReadsRecovery, ReadsRun, setup_of}
 use Rattle.command_line.specs.Reasons.{Explains, told_why}
 use Rattle.command_line.specs.Steps.{First, Prints, Reads, Step, Still, Tells}
-use Rattle.command_line.specs.Verdicts.{first_of, last_of, told_fail, told_pass, told_too_many}
+use Rattle.command_line.specs.Verdicts.{failing, first_of, last_of, told_verdict, verdict_status}
 use Rattle.command_line.specs.declared.answer.Answer.{Answer}
 use Rattle.command_line.specs.declared.failure.Failure.{Failure}
 use Rattle.command_line.specs.declared.opened.OpenJudge.{OpenJudge}
@@ -48,24 +46,6 @@ abbrev pub cause_text : Cause → List ℕ
 cause_text (causes.Missing cause) = missing_text cause
 cause_text causes.Different = codes "different"
 cause_text (causes.Full cause) = codes "full-" ++ missing_text cause
-
--- the verdict, as text or as JSON
-abbrev pub told_verdict : Bool → Verdict Cause → List ℕ
-told_verdict json (verdicts.Pass moments images) = told_pass json moments images
-told_verdict json (verdicts.Fail moment image cause) = told_fail json moment image (cause_text cause)
-told_verdict json (verdicts.TooMany moment) = told_too_many json moment
-
-abbrev pub verdict_status : Verdict Cause → ℕ
-verdict_status (verdicts.Pass moments images) = 0
-verdict_status (verdicts.Fail moment image cause) = 1
-verdict_status (verdicts.TooMany moment) = 3
-
--- the moment and the image that are explained: those of a failure, where that is asked for
-abbrev pub failing : Bool → Verdict Cause → Option (ℕ × ImageName)
-failing true (verdicts.Fail moment image cause) = Some (moment, image)
-failing true (verdicts.Pass moments images) = None
-failing true (verdicts.TooMany moment) = None
-failing false verdict = None
 
 -- With `--whole` a run that is whole is judged alone: a pass then also says that each hart has exited with 0, and that each operation
 -- which has begun has ended.
@@ -128,4 +108,4 @@ abbrev pub JudgesRun : {E : Type 0} → (E → Option (List ℕ)) → OpenJudge 
 JudgesRun said judge =
     First (Watches said judge) (λ verdict.
     First (Still (ExplainsFailing judge verdict)) (λ why.
-    Still (Prints (told_verdict judge.command.json verdict ++ told_why judge.command.json judge.run.file.items why) (verdict_status verdict))))
+    Still (Prints (told_verdict cause_text judge.command.json verdict ++ told_why judge.command.json judge.run.file.items why) (verdict_status verdict))))

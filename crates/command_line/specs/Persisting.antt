@@ -10,7 +10,7 @@ use Rattle.program_losses.specs.declared.unpersisted.UnpersistedRun.{Unpersisted
 use Rattle.program_trace.specs.Lines.{line_of}
 use Rattle.run_trace.specs.declared.traced_event.TracedEvent.{TracedEvent}
 use Rattle.schedule.specs.declared.items.Item.{Item}
-use Rattle.tester.specs.Runs.{FailsToRun, Setup}
+use Rattle.crash_test.specs.Runs.{FailsToRun, Setup}
 use Rattle.command_line.specs.Demanding.{MeetsWhole}
 use Rattle.command_line.specs.Failures.{failure_of_step}
 use Rattle.command_line.specs.Reading.{ReadsRun, setup_of}

@@ -4,7 +4,7 @@ use Rattle.arguments.specs.declared.asked.PictureCommand.{PictureCommand}
 use Rattle.image_name.specs.declared.name.ImageName.{ImageName}
 use Rattle.program_picture.specs.Picturing.{FailsToPicture, HasPicture}
 use Rattle.schedule.specs.declared.items.Item.{Item}
-use Rattle.tester.specs.Runs.{Setup}
+use Rattle.crash_test.specs.Runs.{Setup}
 use Rattle.command_line.specs.Failures.{failure_of_explanation}
 use Rattle.command_line.specs.Reading.{ReadsRun, setup_of}
 use Rattle.command_line.specs.Steps.{First, Prints, Reads, Step, Still, Tells, Writes, WritesFile}

@@ -2,6 +2,8 @@
 use Rattle.std.specs.Prelude.{◌≡◌, ◌⊎◌, ℕ, ◌+◌, ◌-◌, ◌<◌, ◌≤◌, Bool, true, false, List, [], Option, Some, None, Result, OnOk, ◌++◌, codes, decimal}
 use Rattle.std.specs.Io.KnownBytes.{Appends}
 use Rattle.crash_image.specs.Totals.{IsImageSum}
+use Rattle.moment_verdict.specs.declared.verdict.MomentVerdict.{MomentVerdict}
+use Rattle.moment_verdict.specs.declared.verdict.MomentVerdict.TheVariants as moments
 use Rattle.session.specs.Failing.{AppendsFront}
 use Rattle.session.specs.declared.input.Failed.{Failed}
 use Rattle.store_trace.specs.declared.event.Event.{Event}
@@ -16,6 +18,10 @@ total_text None = codes "over"
 abbrev pub progress_line : ℕ → ℕ → Option ℕ → List ℕ
 progress_line moment moments images =
     codes "moment " ++ (decimal moment ++ (codes " of " ++ (decimal moments ++ (codes ", images " ++ (total_text images ++ line_end)))))
+
+-- a moment passes
+abbrev pub passes_of : {Cause : Type 0} → (ℕ → MomentVerdict Cause → Type 0) → ℕ → Type 0
+passes_of judged moment = judged moment moments.Pass
 
 -- the moments from `first` on that are below `end` pass
 abbrev pub AllPass : (ℕ → Type 0) → ℕ → ℕ → Type 0

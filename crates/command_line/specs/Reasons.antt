@@ -8,9 +8,9 @@ use Rattle.program_losses.specs.Failing.{IsExplainedBy}
 use Rattle.program_losses.specs.declared.failing.ExplainedImage.{ExplainedImage}
 use Rattle.program_trace.specs.Lines.{line_of}
 use Rattle.schedule.specs.declared.items.Item.{Item}
-use Rattle.tester.specs.Explaining.{FailsToExplain}
-use Rattle.tester.specs.Runs.{Setup}
-use Rattle.tester.specs.declared.explaining.ExplainFault.{ExplainFault}
+use Rattle.crash_test.specs.Explaining.{FailsToExplain}
+use Rattle.crash_test.specs.Runs.{Setup}
+use Rattle.crash_test.specs.declared.explaining.ExplainFault.{ExplainFault}
 use Rattle.command_line.specs.Failures.{failure_of_explanation}
 use Rattle.command_line.specs.Steps.{Tells}
 use Rattle.command_line.specs.declared.failure.Failure.{Failure}

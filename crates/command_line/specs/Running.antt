@@ -8,7 +8,7 @@ use Rattle.machine.specs.Stands.{MachineView}
 use Rattle.object.specs.Sections.{Sections}
 use Rattle.schedule.specs.declared.items.Item.{Item}
 use Rattle.recording.specs.Recorded.{RecordedView}
-use Rattle.tester.specs.Runs.{FailsToRun, FailsTogether, HasRun, HasRunTogether, IsRunOf, Setup, setup}
+use Rattle.crash_test.specs.Runs.{FailsToRun, FailsTogether, HasRun, HasRunTogether, IsRunOf, Setup, setup}
 use Rattle.command_line.specs.Failures.{failure_of_step, failure_of_together}
 use Rattle.command_line.specs.Reading.{ReadsMedium, ReadsProgram, ReadsSchedule}
 use Rattle.command_line.specs.Reports.{run_report}

@@ -7,7 +7,7 @@ use Rattle.run_text.specs.Events.{trace_text}
 use Rattle.run_text.specs.Json.{trace_json}
 use Rattle.run_trace.specs.declared.traced_event.TracedEvent.{TracedEvent}
 use Rattle.schedule.specs.declared.items.Item.{Item}
-use Rattle.tester.specs.Runs.{FailsToRun, Setup}
+use Rattle.crash_test.specs.Runs.{FailsToRun, Setup}
 use Rattle.command_line.specs.Demanding.{MeetsWhole}
 use Rattle.command_line.specs.Failures.{failure_of_step}
 use Rattle.command_line.specs.Reading.{ReadsRun, setup_of}

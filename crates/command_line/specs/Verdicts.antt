@@ -3,6 +3,8 @@ use Rattle.std.specs.Prelude.{ℕ, Bool, true, false, List, Option, Some, None, 
 use Rattle.arguments.specs.declared.asked.Moments.{Moments}
 use Rattle.image_name.specs.Texts.{image_text}
 use Rattle.image_name.specs.declared.name.ImageName.{ImageName}
+use Rattle.moment_verdict.specs.declared.verdict.Verdict.{Verdict}
+use Rattle.moment_verdict.specs.declared.verdict.Verdict.TheVariants as verdicts
 use Rattle.command_line.specs.Progress.{total_text}
 use Rattle.command_line.specs.Reports.{line_end}
 
@@ -59,3 +61,21 @@ told_fail false moment image cause = fail_line moment image cause
 abbrev pub told_too_many : Bool → ℕ → List ℕ
 told_too_many true moment = too_many_json moment
 told_too_many false moment = too_many_line moment
+
+-- the verdict, as text or as JSON, where this is the text of a cause
+abbrev pub told_verdict : {Cause : Type 0} → (Cause → List ℕ) → Bool → Verdict Cause → List ℕ
+told_verdict text json (verdicts.Pass moments images) = told_pass json moments images
+told_verdict text json (verdicts.Fail moment image cause) = told_fail json moment image (text cause)
+told_verdict text json (verdicts.TooMany moment) = told_too_many json moment
+
+abbrev pub verdict_status : {Cause : Type 0} → Verdict Cause → ℕ
+verdict_status (verdicts.Pass moments images) = 0
+verdict_status (verdicts.Fail moment image cause) = 1
+verdict_status (verdicts.TooMany moment) = 3
+
+-- the moment and the image that are explained: those of a failure, where that is asked for
+abbrev pub failing : {Cause : Type 0} → Bool → Verdict Cause → Option (ℕ × ImageName)
+failing true (verdicts.Fail moment image cause) = Some (moment, image)
+failing true (verdicts.Pass moments images) = None
+failing true (verdicts.TooMany moment) = None
+failing false verdict = None

@@ -9,7 +9,7 @@ use Rattle.program_losses.specs.Vain.{IsNeedlessRun}
 use Rattle.program_losses.specs.declared.vain.NeedlessRun.{NeedlessRun}
 use Rattle.program_trace.specs.Lines.{line_of}
 use Rattle.schedule.specs.declared.items.Item.{Item}
-use Rattle.tester.specs.Runs.{FailsToRun, Setup}
+use Rattle.crash_test.specs.Runs.{FailsToRun, Setup}
 use Rattle.command_line.specs.Demanding.{MeetsWhole}
 use Rattle.command_line.specs.Failures.{failure_of_step}
 use Rattle.command_line.specs.Reading.{ReadsRun, setup_of}

@@ -3,6 +3,7 @@
 use crate::failure::{Failure, Refusal};
 use crate::files::FileFault;
 use assemble::{AsmCode, AsmFault};
+use crash_test::{CountFault, ExplainFault, ProgramFault, TogetherFault, VerdictFault};
 use debugger::DebugFault;
 use interleaving::InterleaveFault;
 use line_memory::MediumFault;
@@ -12,7 +13,6 @@ use plan::{PlanCode, PlanFault};
 use program_judge::JudgingFault;
 use schedule::ScheduleFault;
 use std::alloc::AllocError;
-use tester::{CountFault, ExplainFault, ProgramFault, TogetherFault, VerdictFault};
 
 impl From<FileFault> for Failure {
     ghost use Rattle.std.specs.Prelude.{◌≡◌};

@@ -1,15 +1,13 @@
 //! The command that checks a run.
 
-ghost use Rattle.std.specs.Prelude.{◌≡◌, ◌++◌, ◌^◌, ◌<◌, IfOk, IfSome, string_bytes};
+ghost use Rattle.std.specs.Prelude.{◌≡◌, ◌^◌, ◌<◌, IfOk, IfSome};
 ghost use Rattle.arguments.specs.Line.{IsWithin};
 ghost use Rattle.arguments.specs.Spans.{IsUpward};
-ghost use Rattle.command_line.specs.Checking.{IsOpen, JudgesCheck, JudgesOpen, OpensCheck, Watches, cause_text, failing, told_verdict, verdict_status};
-ghost use Rattle.command_line.specs.Reasons.{Explains, ExplainsOne, told_why};
+ghost use Rattle.command_line.specs.Checking.{IsOpen, JudgesCheck, JudgesOpen, OpensCheck, Watches, cause_text};
+ghost use Rattle.command_line.specs.Reasons.{Explains, ExplainsOne};
+ghost use Rattle.command_line.specs.Verdicts.{failing};
 ghost use Rattle.image_causes.specs.Told.{IsAsked};
-ghost use Rattle.object.specs.Sections.{Sections};
 ghost use Rattle.schedule.specs.Grammar.{hart_steps};
-ghost use Rattle.tester.specs.Programs.{IsProgramOf};
-ghost use Rattle.command_line.specs.Steps.{Prints};
 ghost use Rattle.command_line.specs.Reading.{setup_of};
 
 use crate::answer::Answer;
@@ -19,10 +17,10 @@ use crate::failure::Failure;
 use crate::files::Files;
 use crate::opened::OpenCheck;
 use crate::reading::{RunFiles, read_plan, read_run};
-use crate::reasons::told_why;
-use crate::verdicts::{told_fail, told_pass, told_too_many};
+use crate::verdicts::{ToldCause, failing, verdict_answer};
 use crate::watched_check::watched_verdict;
 use arguments::{CheckCommand, Moments};
+use crash_test::{check_moments, check_program};
 use image_check::{Cause, Verdict};
 use image_name::ImageName;
 use program_losses::{ExplainedImage, explain_losses};
@@ -30,7 +28,6 @@ use std::alloc::{AllocError, Global};
 use std::io::Write;
 use std::thread::Threads;
 use std::time::Clock;
-use tester::{check_moments, check_program};
 
 /// `check`: reads the files of a plan, a program, a schedule and a medium, and with `--whole` demands that the run is whole.
 pub(crate) fn open_check<F: Files>(
@@ -72,7 +69,7 @@ fn verdict<T: Threads + Sync + Clock, E: Write>(
     alloc: Global,
     check: &OpenCheck,
     errors: &mut E,
-) -> Result<Verdict, Failure>
+) -> Result<Verdict<Cause>, Failure>
     requires { IsOpen check.now }
     ensures { Watches E.contents check.now errors.old result errors.new }
 {
@@ -87,7 +84,7 @@ fn quiet_verdict<T: Threads + Sync>(
     rt: &T,
     alloc: Global,
     check: &OpenCheck,
-) -> Result<Verdict, Failure>
+) -> Result<Verdict<Cause>, Failure>
     requires { IsOpen check.now }
     ensures { JudgesOpen check.now result }
 {
@@ -110,21 +107,15 @@ fn why(
     alloc: Global,
     command: &CheckCommand,
     run: &RunFiles,
-    verdict: &Verdict,
+    verdict: &Verdict<Cause>,
 ) -> Result<Option<ExplainedImage>, Failure>
     requires { hart_steps run.now.schedule < 2 ^ 32 }
     ensures told { Explains IsAsked (setup_of command.now.run run.now) run.now.schedule (failing command.now.why verdict.now) result }
     ensures few { IfOk result (λ why. IfSome why (λ explained. hart_steps explained.schedule < 2 ^ 32)) }
 {
-    if !command.why {
-        return Ok(None);
-    }
-    match verdict {
-        Verdict::Fail { moment, image, .. } => {
-            let explained = explained(alloc, command, run, *moment, image)?;
-            Ok(Some(explained))
-        }
-        Verdict::Pass { .. } | Verdict::TooMany { .. } => Ok(None),
+    match failing(command.why, verdict) {
+        Some((moment, image)) => Ok(Some(explained(alloc, command, run, moment, image)?)),
+        None => Ok(None),
     }
 }
 
@@ -149,40 +140,13 @@ fn explained(
     Ok(explain_losses(alloc, program, medium, harts, schedule, moment, image)?)
 }
 
-fn verdict_answer(
-    alloc: Global,
-    file: &[u8],
-    verdict: &Verdict,
-    why: &Option<ExplainedImage>,
-    json: bool,
-) -> Result<Answer, Failure>
-    requires program { (program : Sections) × IsProgramOf file.now program }
-    requires few { IfSome why.now (λ explained. hart_steps explained.schedule < 2 ^ 32) }
-    ensures { Prints (told_verdict json verdict.now ++ told_why json file.now why.now) (verdict_status verdict.now) result }
-{
-    let mut text = told_verdict(alloc, verdict, json)?;
-    let lines = told_why(alloc, file, why, json)?;
-    text.push_str(lines.as_str())?;
-    let status = match verdict {
-        Verdict::Pass { .. } => 0,
-        Verdict::Fail { .. } => 1,
-        Verdict::TooMany { .. } => 3,
-    };
-    Ok(Answer::of(text, status))
-}
+impl ToldCause for Cause {
+    ghost use Rattle.command_line.specs.Checking.{cause_text};
 
-/// The verdict, as text or as JSON.
-fn told_verdict(alloc: Global, verdict: &Verdict, json: bool) -> Result<String, AllocError>
-    ensures { IfOk result (λ text. string_bytes text ≡ told_verdict json verdict.now) }
-{
-    match verdict {
-        Verdict::Pass { moments, images } => told_pass(alloc, *moments, *images, json),
-        Verdict::Fail {
-            moment,
-            image,
-            cause,
-        } => told_fail(alloc, *moment, image, cause_text(*cause), json),
-        Verdict::TooMany { moment } => told_too_many(alloc, *moment, json),
+    ghost told = { cause_text };
+
+    fn text(self, alloc: Global) -> Result<String, AllocError> {
+        format!(in alloc; "{}", cause_text(self))
     }
 }
 

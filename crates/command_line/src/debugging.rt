@@ -12,6 +12,7 @@ use crate::reading::{read_medium, read_program};
 use crate::running::capacity;
 use crate::streams::{StandardInput, StandardOutput};
 use arguments::{DebugCommand, MachineOptions};
+use crash_test::start_program;
 use debugger::{DebugFault, Debugger};
 use line_memory::Medium;
 use machine::Machine;
@@ -19,7 +20,6 @@ use program::Program;
 use session::session;
 use std::alloc::Global;
 use std::io::{Read, Write};
-use tester::start_program;
 
 /// `debug`: reads the files of a program and of a medium, and makes the machine of a session.
 pub(crate) fn open_file<F: Files>(

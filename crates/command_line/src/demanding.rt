@@ -5,8 +5,8 @@ ghost use Rattle.object.specs.Sections.{Sections};
 ghost use Rattle.program_trace.specs.Lines.{line_of};
 ghost use Rattle.run_text.specs.Causes.{unfinished_text};
 ghost use Rattle.std.specs.Prelude.{◌≡◌, IfOk, string_bytes};
-ghost use Rattle.tester.specs.Programs.{IsProgramOf};
-ghost use Rattle.tester.specs.Runs.{with_room};
+ghost use Rattle.crash_test.specs.Programs.{IsProgramOf};
+ghost use Rattle.crash_test.specs.Runs.{with_room};
 ghost use Rattle.whole_run.specs.Causes.{numbers_of};
 
 use crate::failure::Failure;

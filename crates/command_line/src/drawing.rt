@@ -3,7 +3,7 @@
 ghost use Rattle.command_line.specs.Drawing.{DrawsSchedule, InterleavesFile};
 ghost use Rattle.schedule.specs.Grammar.{hart_steps};
 ghost use Rattle.std.specs.Prelude.{◌^◌, ◌<◌, IfOk};
-ghost use Rattle.tester.specs.Runs.{IsAtStart, Setup};
+ghost use Rattle.crash_test.specs.Runs.{IsAtStart, Setup};
 
 use crate::answer::Answer;
 use crate::debugging::start;

@@ -14,9 +14,9 @@ use crate::files::Files;
 use crate::reading::{RunFiles, read_run};
 use crate::writing::schedule_line;
 use arguments::ExplainCommand;
+use crash_test::explain_image;
 use schedule::Schedule;
 use std::alloc::Global;
-use tester::explain_image;
 
 /// `explain`: reads the files of a program, a schedule and a medium, and gives the schedule that leaves one image of a moment
 /// of the run.

@@ -2,7 +2,7 @@
 
 ghost use Rattle.command_line.specs.Imaging.{Counts, CountsFile, images_json, images_line, told_count};
 ghost use Rattle.std.specs.Prelude.{◌≡◌, IfOk, string_bytes};
-ghost use Rattle.tester.specs.Runs.{with_room};
+ghost use Rattle.crash_test.specs.Runs.{with_room};
 
 use crate::answer::Answer;
 use crate::demanding::demand_whole;
@@ -10,11 +10,11 @@ use crate::failure::Failure;
 use crate::files::Files;
 use crate::reading::read_run;
 use arguments::ImagesCommand;
+use crash_test::count_images;
 use line_memory::Medium;
 use program::Program;
 use schedule::Schedule;
 use std::alloc::{AllocError, Global};
-use tester::count_images;
 
 /// `images`: reads the files of a program, a schedule and a medium, and counts the images that a power cut may leave at a
 /// moment of the run.

@@ -2,15 +2,12 @@
 
 ghost use Rattle.arguments.specs.Line.{IsWithin};
 ghost use Rattle.arguments.specs.Spans.{IsUpward};
-ghost use Rattle.command_line.specs.Judging.{ExplainsFailing, IsOpen, JudgesOpen, JudgesRun, OpensJudge, Watches, cause_text, missing_text, setup_of_judge, told_verdict, verdict_status};
-ghost use Rattle.command_line.specs.Reasons.{ExplainsOne, told_why};
+ghost use Rattle.command_line.specs.Judging.{ExplainsFailing, IsOpen, JudgesOpen, JudgesRun, OpensJudge, Watches, cause_text, missing_text, setup_of_judge};
+ghost use Rattle.command_line.specs.Reasons.{ExplainsOne};
 ghost use Rattle.judged_losses.specs.Loading.{IsLoaded};
-ghost use Rattle.object.specs.Sections.{Sections};
 ghost use Rattle.schedule.specs.Grammar.{hart_steps};
-ghost use Rattle.tester.specs.Programs.{IsProgramOf};
-ghost use Rattle.command_line.specs.Steps.{Prints};
 ghost use Rattle.hart_line.specs.HartLines.{trap_number};
-ghost use Rattle.std.specs.Prelude.{◌≡◌, ◌++◌, ◌^◌, ◌<◌, IfOk, IfSome, string_bytes};
+ghost use Rattle.std.specs.Prelude.{◌≡◌, ◌^◌, ◌<◌, IfOk, IfSome, string_bytes};
 
 use crate::answer::Answer;
 use crate::demanding::demand_whole;
@@ -18,8 +15,7 @@ use crate::failure::Failure;
 use crate::files::Files;
 use crate::opened::OpenJudge;
 use crate::reading::{RunFiles, read_recovery, read_run};
-use crate::reasons::told_why;
-use crate::verdicts::{bounds, told_fail, told_pass, told_too_many};
+use crate::verdicts::{ToldCause, bounds, failing, verdict_answer};
 use crate::watched_judge::watched_judgement;
 use arguments::JudgeCommand;
 use hart::Trap;
@@ -132,15 +128,9 @@ fn why(
     ensures told { ExplainsFailing judge.now verdict.now result }
     ensures few { IfOk result (λ why. IfSome why (λ explained. hart_steps explained.schedule < 2 ^ 32)) }
 {
-    if !judge.command.why {
-        return Ok(None);
-    }
-    match verdict {
-        Verdict::Fail { moment, image, .. } => {
-            let explained = explained(alloc, judge, *moment, image)?;
-            Ok(Some(explained))
-        }
-        Verdict::Pass { .. } | Verdict::TooMany { .. } => Ok(None),
+    match failing(judge.command.why, verdict) {
+        Some((moment, image)) => Ok(Some(explained(alloc, judge, moment, image)?)),
+        None => Ok(None),
     }
 }
 
@@ -172,43 +162,13 @@ fn explained(
     )?)
 }
 
-fn verdict_answer(
-    alloc: Global,
-    file: &[u8],
-    verdict: &Verdict<Cause>,
-    why: &Option<ExplainedImage>,
-    json: bool,
-) -> Result<Answer, Failure>
-    requires program { (program : Sections) × IsProgramOf file.now program }
-    requires few { IfSome why.now (λ explained. hart_steps explained.schedule < 2 ^ 32) }
-    ensures { Prints (told_verdict json verdict.now ++ told_why json file.now why.now) (verdict_status verdict.now) result }
-{
-    let mut text = told_verdict(alloc, verdict, json)?;
-    let lines = told_why(alloc, file, why, json)?;
-    text.push_str(lines.as_str())?;
-    let status = match verdict {
-        Verdict::Pass { .. } => 0,
-        Verdict::Fail { .. } => 1,
-        Verdict::TooMany { .. } => 3,
-    };
-    Ok(Answer::of(text, status))
-}
+impl ToldCause for Cause {
+    ghost use Rattle.command_line.specs.Judging.{cause_text};
 
-/// The verdict, as text or as JSON.
-fn told_verdict(alloc: Global, verdict: &Verdict<Cause>, json: bool) -> Result<String, AllocError>
-    ensures { IfOk result (λ text. string_bytes text ≡ told_verdict json verdict.now) }
-{
-    match verdict {
-        Verdict::Pass { moments, images } => told_pass(alloc, *moments, *images, json),
-        Verdict::Fail {
-            moment,
-            image,
-            cause,
-        } => {
-            let cause = cause_text(alloc, *cause)?;
-            told_fail(alloc, *moment, image, cause.as_str(), json)
-        }
-        Verdict::TooMany { moment } => told_too_many(alloc, *moment, json),
+    ghost told = { cause_text };
+
+    fn text(self, alloc: Global) -> Result<String, AllocError> {
+        cause_text(alloc, self)
     }
 }
 

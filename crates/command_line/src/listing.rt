@@ -1,18 +1,18 @@
 //! The command that lists a program.
 
 ghost use Rattle.command_line.specs.Listing.{ListsFile, PrintsListing, SaysObject};
-ghost use Rattle.tester.specs.Programs.{IsObjectOf, begins_as_object};
+ghost use Rattle.crash_test.specs.Programs.{IsObjectOf, begins_as_object};
 
 use crate::answer::Answer;
 use crate::failure::Failure;
 use crate::files::Files;
 use crate::reading::read_file;
 use arguments::ListingCommand;
+use crash_test::load_object;
 use listing_text::listing_text;
 use object::Object;
 use program_trace::source_lines;
 use std::alloc::Global;
-use tester::load_object;
 
 /// `listing`: reads the file of a program, and prints the words of its object's text, each with its instruction, and of a source
 /// the line that begins there.

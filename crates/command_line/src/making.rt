@@ -9,10 +9,10 @@ use crate::files::Files;
 use crate::reading::read_plan;
 use crate::writing::write_medium;
 use arguments::MakeVolumeCommand;
+use crash_test::make_volume;
 use line_memory::Medium;
 use plan::Plan;
 use std::alloc::Global;
-use tester::make_volume;
 
 /// `mkfs`: reads the file of a plan, and writes the file of its new volume.
 pub(crate) fn make_file<F: Files>(

@@ -6,7 +6,7 @@ ghost use Rattle.command_line.specs.Steps.{Prints};
 ghost use Rattle.schedule.specs.Grammar.{hart_steps};
 ghost use Rattle.std.specs.Prelude.{◌^◌, ◌<◌, [], string_bytes};
 ghost use Rattle.std.specs.Result.{result_map_both};
-ghost use Rattle.tester.specs.Programs.{IsProgramOf};
+ghost use Rattle.crash_test.specs.Programs.{IsProgramOf};
 
 use crate::answer::Answer;
 use crate::failure::Failure;

@@ -1,9 +1,11 @@
 //! Moments of a run that are judged in turn, while standard error is told how far the verdict has come.
 
-ghost use Rattle.command_line.specs.Progress.{AllPass, IsLineOf, Progresses, WritesLine, progress_line};
+ghost use Rattle.command_line.specs.Progress.{IsLineOf, Progresses, WritesLine, passes_of, progress_line};
+ghost use Rattle.moment_verdict.specs.Verdicts.{IsVerdictBetween};
 ghost use Rattle.std.specs.Prelude.{◌≡◌, ◌<◌, ◌≤◌, IfOk, string_bytes};
 
 use crate::streams::print;
+use moment_verdict::Verdict;
 use session::Failed;
 use std::alloc::{AllocError, Global};
 use std::io::Write;
@@ -12,14 +14,15 @@ use std::time::{Clock, Duration, Instant};
 
 /// Moments of a run, one after another, that are judged in turn.
 pub(crate) trait Row {
-    ghost use Rattle.command_line.specs.Progress.{AllPass};
     ghost use Rattle.crash_image.specs.Totals.{IsImageSum};
-    ghost use Rattle.std.specs.Prelude.{◌≡◌, ℕ, ◌<◌, ◌≤◌, List, IfNone, IfOk, IfSome};
+    ghost use Rattle.moment_verdict.specs.Verdicts.{IsVerdictBetween};
+    ghost use Rattle.moment_verdict.specs.declared.verdict.MomentVerdict.{MomentVerdict as AMomentVerdict};
+    ghost use Rattle.std.specs.Prelude.{◌≡◌, ℕ, ◌<◌, ◌≤◌, List, IfOk};
     ghost use Rattle.std.specs.Thread.{IsSync};
     ghost use Rattle.store_trace.specs.declared.event.Event.{Event as AnEvent};
 
-    /// The verdict on all of them.
-    type Verdict: Drop;
+    /// Why an image is bad.
+    type Cause: Drop;
 
     /// The events of the run: a moment is a number of them.
     ghost events: { Self → List AnEvent };
@@ -29,9 +32,8 @@ pub(crate) trait Row {
     /// One past the last of them.
     ghost end_moment: { Self → ℕ };
 
-    ghost passed: { Self → ℕ → Type 0 };
-
-    ghost is_verdict: { Self → Self.Verdict → Type 0 };
+    /// Which verdict there is on a moment.
+    ghost judged: { Self → ℕ → AMomentVerdict Self.Cause → Type 0 };
 
     /// The first of the moments.
     fn first(&self) -> u32
@@ -42,34 +44,25 @@ pub(crate) trait Row {
     fn end(&self) -> u32
         ensures { result ≡ end_moment self.now };
 
-    /// The verdict on all of them, where one of those from `next` on that are below `end` doesn't pass, all before having passed.
-    fn judge_next<T: Threads + Sync>(
+    /// The verdict on those of the moments from `first` on that are below `end`.
+    fn judge_between<T: Threads + Sync>(
         &self,
         rt: &T,
         alloc: Global,
-        next: u32,
+        first: u32,
         end: u32,
         workers: u32,
-    ) -> Result<Option<Self::Verdict>, AllocError>
+    ) -> Result<Verdict<Self::Cause>, AllocError>
         requires sync { IsSync T.row }
-        requires from { first_moment self.now ≤ next }
-        requires order { next ≤ end }
+        requires order { first ≤ end }
         requires there { end ≤ end_moment self.now }
         requires workers { (0 < workers) × (workers ≤ 8) }
-        requires before { AllPass (passed self.now) (first_moment self.now) next }
-        ensures more { IfOk result (λ found. IfNone found (AllPass (passed self.now) (first_moment self.now) end)) }
-        ensures fails { IfOk result (λ found. IfSome found (λ verdict. is_verdict self.now verdict)) };
+        ensures { IfOk result (IsVerdictBetween (judged self.now) (events self.now) first end) };
 
     /// How many images those of the moments that are below `end` have together. None where one of them has over 65,536.
     fn images(&self, alloc: Global, end: u32) -> Result<Option<u64>, AllocError>
         requires { end ≤ end_moment self.now }
         ensures { IfOk result (λ images. IsImageSum (events self.now) (first_moment self.now) end images) };
-
-    /// The verdict where all of them pass, which have so many images together.
-    fn pass(&self, images: Option<u64>) -> Self::Verdict
-        requires all { AllPass (passed self.now) (first_moment self.now) (end_moment self.now) }
-        requires sum { IsImageSum (events self.now) (first_moment self.now) (end_moment self.now) images }
-        ensures { is_verdict self.now result };
 }
 
 /// The verdict on moments that are judged in turn, so many as the pace says at once.
@@ -79,10 +72,10 @@ pub(crate) fn row_verdict<R: Row, T: Threads + Sync + Clock, E: Write>(
     row: &R,
     workers: u32,
     errors: &mut E,
-) -> Result<R::Verdict, AllocError>
+) -> Result<Verdict<R::Cause>, AllocError>
     requires { (0 < workers) × (workers ≤ 8) }
-    ensures ok { IfOk result (λ verdict. R.is_verdict row.now verdict) }
-    ensures told { Progresses (R.passed row.now) (R.events row.now) (R.first_moment row.now) (R.end_moment row.now)
+    ensures ok { IfOk result (IsVerdictBetween (R.judged row.now) (R.events row.now) (R.first_moment row.now) (R.end_moment row.now)) }
+    ensures told { Progresses (passes_of (R.judged row.now)) (R.events row.now) (R.first_moment row.now) (R.end_moment row.now)
         (E.contents errors.old) (E.contents errors.new) }
 {
     let mut pace = Pace::new(rt, workers);
@@ -90,16 +83,18 @@ pub(crate) fn row_verdict<R: Row, T: Threads + Sync + Clock, E: Write>(
     let mut next = row.first();
     while next < row.end() {
         let end = row.end().min(next.saturating_add(pace.stride));
-        if let Some(verdict) = row.judge_next(rt, alloc, next, end, workers)? {
-            return Ok(verdict);
+        match row.judge_between(rt, alloc, next, end, workers)? {
+            Verdict::Pass { .. } => next = end,
+            verdict => return Ok(verdict),
         }
-        next = end;
         if is_heard && pace.is_due(rt) {
             is_heard = tell_progress(alloc, row, next, errors).is_ok();
         }
     }
-    let images = row.images(alloc, row.end())?;
-    Ok(row.pass(images))
+    Ok(Verdict::Pass {
+        moments: u64::from(row.end() - row.first()),
+        images: row.images(alloc, row.end())?,
+    })
 }
 
 /// Tells that the moments that are below `next` pass. Where memory is refused nothing is told.

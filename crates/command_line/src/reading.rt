@@ -7,17 +7,17 @@ ghost use Rattle.command_line.specs.Reading.{IsDefaultMedium, ReadsMedium, Reads
 ghost use Rattle.command_line.specs.Reading.{SaysMedium, SaysPlan, SaysProgram, SaysRecovery, SaysSchedule};
 ghost use Rattle.command_line.specs.Failures.{failure_of_recovery};
 ghost use Rattle.command_line.specs.Steps.{ReadsFile};
-ghost use Rattle.tester.specs.Programs.{IsProgramOf};
+ghost use Rattle.crash_test.specs.Programs.{IsProgramOf};
 
 use crate::failure::{Failure, Refusal};
 use crate::files::Files;
 use arguments::ScheduledRun;
+use crash_test::{ProgramFault, default_medium, load_program};
 use line_memory::Medium;
 use plan::Plan;
 use program::Program;
 use schedule::Schedule;
 use std::alloc::Global;
-use tester::{ProgramFault, default_medium, load_program};
 
 /// A run by a schedule, as its files give it.
 #[derive(Drop)]

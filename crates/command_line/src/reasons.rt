@@ -6,7 +6,7 @@ ghost use Rattle.object.specs.Sections.{Sections};
 ghost use Rattle.program_trace.specs.Lines.{line_of};
 ghost use Rattle.run_text.specs.Places.{line_in};
 ghost use Rattle.schedule.specs.Grammar.{hart_steps};
-ghost use Rattle.tester.specs.Programs.{IsProgramOf};
+ghost use Rattle.crash_test.specs.Programs.{IsProgramOf};
 
 use assemble::LineNumbers;
 use loss_text::{why_json, why_text};

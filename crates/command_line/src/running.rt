@@ -13,6 +13,7 @@ use crate::reading::{read_medium, read_program, read_schedule};
 use crate::reporting::report;
 use crate::writing::{leave, record};
 use arguments::{MachineOptions, ReplayCommand, RunCommand};
+use crash_test::{replay, run_program};
 use hart::HartState;
 use line_memory::Medium;
 use machine::Machine;
@@ -22,7 +23,6 @@ use schedule::Schedule;
 use std::alloc::{AllocError, Global};
 use std::sync::Wait;
 use std::thread::Threads;
-use tester::{replay, run_program};
 
 /// `run`: reads the files of a program and of a medium, runs the program on harts that run together, and writes the files of
 /// the schedule that they made and of what a power cut leaves.

@@ -1,12 +1,93 @@
 //! What is told of a verdict on the moments of a run, whatever judges an image.
 
-ghost use Rattle.std.specs.Prelude.{◌≡◌, ◌≤◌, IfOk, IfSome, string_bytes};
+ghost use Rattle.std.specs.Prelude.{◌≡◌, ◌++◌, ◌^◌, ◌<◌, ◌≤◌, IfOk, IfSome, MatchOption, None, Some, string_bytes};
 ghost use Rattle.arguments.specs.Spans.{IsUpward};
-ghost use Rattle.command_line.specs.Verdicts.{fail_json, fail_line, first_of, last_of, pass_json, pass_line, told_fail, told_pass, told_too_many, too_many_json, too_many_line};
+ghost use Rattle.command_line.specs.Reasons.{told_why};
+ghost use Rattle.command_line.specs.Steps.{Prints};
+ghost use Rattle.command_line.specs.Verdicts.{fail_json, fail_line, failing, first_of, last_of, pass_json, pass_line, told_fail, told_pass, told_too_many, told_verdict, too_many_json, too_many_line, verdict_status};
+ghost use Rattle.object.specs.Sections.{Sections};
+ghost use Rattle.schedule.specs.Grammar.{hart_steps};
+ghost use Rattle.crash_test.specs.Programs.{IsProgramOf};
 
+use crate::answer::Answer;
+use crate::failure::Failure;
+use crate::reasons::told_why;
 use arguments::Moments;
 use image_name::ImageName;
+use moment_verdict::Verdict;
+use program_losses::ExplainedImage;
 use std::alloc::{AllocError, Global};
+
+/// Why an image is bad.
+pub(crate) trait ToldCause: Copy {
+    ghost use Rattle.std.specs.Prelude.{◌≡◌, ℕ, List, IfOk, string_bytes};
+
+    ghost told: { Self → List ℕ };
+
+    /// What is told of it behind `cause=`.
+    fn text(self, alloc: Global) -> Result<String, AllocError>
+        ensures { IfOk result (λ text. string_bytes text ≡ told self) };
+}
+
+/// What a command prints of a verdict, and of an image that is explained, and its status.
+pub(crate) fn verdict_answer<C: ToldCause>(
+    alloc: Global,
+    file: &[u8],
+    verdict: &Verdict<C>,
+    why: &Option<ExplainedImage>,
+    json: bool,
+) -> Result<Answer, Failure>
+    requires program { (program : Sections) × IsProgramOf file.now program }
+    requires few { IfSome why.now (λ explained. hart_steps explained.schedule < 2 ^ 32) }
+    ensures { Prints (told_verdict C.told json verdict.now ++ told_why json file.now why.now) (verdict_status verdict.now) result }
+{
+    let mut text = told_verdict(alloc, verdict, json)?;
+    let lines = told_why(alloc, file, why, json)?;
+    text.push_str(lines.as_str())?;
+    Ok(Answer::of(text, verdict_status(verdict)))
+}
+
+/// The verdict, as text or as JSON.
+fn told_verdict<C: ToldCause>(
+    alloc: Global,
+    verdict: &Verdict<C>,
+    json: bool,
+) -> Result<String, AllocError>
+    ensures { IfOk result (λ text. string_bytes text ≡ told_verdict C.told json verdict.now) }
+{
+    match verdict {
+        Verdict::Pass { moments, images } => told_pass(alloc, *moments, *images, json),
+        Verdict::Fail {
+            moment,
+            image,
+            cause,
+        } => {
+            let cause = cause.text(alloc)?;
+            told_fail(alloc, *moment, image, cause.as_str(), json)
+        }
+        Verdict::TooMany { moment } => told_too_many(alloc, *moment, json),
+    }
+}
+
+fn verdict_status<C>(verdict: &Verdict<C>) -> u8
+    ensures { result ≡ verdict_status verdict.now }
+{
+    match verdict {
+        Verdict::Pass { .. } => 0,
+        Verdict::Fail { .. } => 1,
+        Verdict::TooMany { .. } => 3,
+    }
+}
+
+/// The moment and the image that are explained: those of a failure, where that is asked for.
+pub(crate) fn failing<C>(why: bool, verdict: &Verdict<C>) -> Option<(u32, &ImageName)>
+    ensures { MatchOption result (failing why verdict.now ≡ None) (λ found. failing why verdict.now ≡ Some (found.0, found.1.now)) }
+{
+    match verdict {
+        Verdict::Fail { moment, image, .. } if why => Some((*moment, image)),
+        _ => None,
+    }
+}
 
 /// The first and the last of the moments asked for.
 pub(crate) fn bounds(moments: Option<Moments>) -> (u32, Option<u32>)

@@ -6,23 +6,23 @@ ghost use Rattle.command_line.specs.Verdicts.{first_of, last_of};
 ghost use Rattle.crash_image.specs.View.{HasLines};
 ghost use Rattle.image_check.specs.OrderFaults.{AreSound};
 ghost use Rattle.image_check.specs.Verdicts.{IsRefusal, IsVerdictBetween};
-ghost use Rattle.parallel_check.specs.Parts.{end_of};
+ghost use Rattle.parallel_moments.specs.Rows.{end_of};
 ghost use Rattle.std.specs.Prelude.{◌≡◌, IfErr, IfOk, length, true};
-ghost use Rattle.tester.specs.Checking.{HasNoVerdict, HasVerdictOn};
+ghost use Rattle.crash_test.specs.Checking.{HasNoVerdict, HasVerdictOn};
 
 use crate::failure::Failure;
 use crate::opened::OpenCheck;
 use crate::progress::{Row, row_verdict};
 use crate::verdicts::bounds;
+use crash_test::{VerdictFault, trace_of};
 use gate::Open;
-use image_check::{CheckFault, Verdict};
+use image_check::{Cause, CheckFault, Verdict};
 use parallel_check::Part;
 use std::alloc::{AllocError, Global};
 use std::io::Write;
 use std::thread::Threads;
 use std::time::Clock;
 use store_trace::Trace;
-use tester::{VerdictFault, trace_of};
 
 /// The verdict on what a check asks for, which tells on the way how many of the moments pass.
 pub(crate) fn watched_verdict<T: Threads + Sync + Clock, E: Write>(
@@ -30,7 +30,7 @@ pub(crate) fn watched_verdict<T: Threads + Sync + Clock, E: Write>(
     alloc: Global,
     check: &OpenCheck,
     errors: &mut E,
-) -> Result<Verdict, Failure>
+) -> Result<Verdict<Cause>, Failure>
     requires open { IsOpen check.now }
     requires asked { check.now.command.progress ≡ true }
     ensures { Watches E.contents check.now errors.old result errors.new }
@@ -43,7 +43,7 @@ fn run_verdict<T: Threads + Sync + Clock, E: Write>(
     alloc: Global,
     check: &OpenCheck,
     errors: &mut E,
-) -> Result<Verdict, VerdictFault>
+) -> Result<Verdict<Cause>, VerdictFault>
     requires { IsOpen check.now }
     ensures ok { IfOk result (HasVerdictOn check.now.plan.operations (setup_of_check check.now) check.now.run.schedule
         (first_of check.now.command.moments) (last_of check.now.command.moments)) }
@@ -68,7 +68,7 @@ fn trace_verdict<T: Threads + Sync + Clock, E: Write>(
     check: &OpenCheck,
     trace: &Trace,
     errors: &mut E,
-) -> Result<Verdict, CheckFault>
+) -> Result<Verdict<Cause>, CheckFault>
     requires open { IsOpen check.now }
     requires lines { HasLines check.now.run.medium trace.now.events }
     ensures ok { IfOk result (IsVerdictBetween check.now.plan.operations check.now.run.medium trace.now.events
@@ -86,10 +86,9 @@ fn trace_verdict<T: Threads + Sync + Clock, E: Write>(
 }
 
 impl<'a> Row for Part<'a> {
-    ghost use Rattle.command_line.specs.Checking.{passes_at};
-    ghost use Rattle.image_check.specs.Verdicts.{IsVerdictBetween};
+    ghost use Rattle.image_check.specs.Verdicts.{judged_at};
 
-    type Verdict = Verdict;
+    type Cause = Cause;
 
     ghost events = { λ s. s.run.events };
 
@@ -97,9 +96,7 @@ impl<'a> Row for Part<'a> {
 
     ghost end_moment = { λ s. s.end };
 
-    ghost passed = { λ s. passes_at s.run.plan s.run.start s.run.events };
-
-    ghost is_verdict = { λ s verdict. IsVerdictBetween s.run.plan s.run.start s.run.events s.first s.end verdict };
+    ghost judged = { λ s. judged_at s.run.plan s.run.start s.run.events };
 
     fn first(&self) -> u32 {
         Part::first(self)
@@ -109,28 +106,18 @@ impl<'a> Row for Part<'a> {
         Part::end(self)
     }
 
-    fn judge_next<T: Threads + Sync>(
+    fn judge_between<T: Threads + Sync>(
         &self,
         rt: &T,
         alloc: Global,
-        next: u32,
+        first: u32,
         end: u32,
         workers: u32,
-    ) -> Result<Option<Verdict>, AllocError> {
-        match self.judge(rt, alloc, next, end, workers, &Open)? {
-            Verdict::Pass { .. } => Ok(None),
-            verdict => Ok(Some(verdict)),
-        }
+    ) -> Result<Verdict<Cause>, AllocError> {
+        self.judge(rt, alloc, first, end, workers, &Open)
     }
 
     fn images(&self, alloc: Global, end: u32) -> Result<Option<u64>, AllocError> {
         Part::images(self, alloc, end)
-    }
-
-    fn pass(&self, images: Option<u64>) -> Verdict {
-        Verdict::Pass {
-            moments: u64::from(Part::end(self) - Part::first(self)),
-            images,
-        }
     }
 }

@@ -15,6 +15,7 @@ use crate::failure::Failure;
 use crate::opened::OpenJudge;
 use crate::progress::{Row, row_verdict};
 use crate::verdicts::bounds;
+use crash_test::trace_of;
 use gate::Open;
 use image_judge::{Cause, JudgeFault, Verdict};
 use parallel_judge::JudgePart;
@@ -24,7 +25,6 @@ use std::io::Write;
 use std::thread::Threads;
 use std::time::Clock;
 use store_trace::Trace;
-use tester::trace_of;
 
 /// The verdict on what is asked for, which tells on the way how many of the moments pass.
 pub(crate) fn watched_judgement<T: Threads + Sync + Clock, E: Write>(
@@ -103,11 +103,9 @@ fn trace_judgement<T: Threads + Sync + Clock, E: Write>(
 }
 
 impl<'a> Row for JudgePart<'a> {
-    ghost use Rattle.command_line.specs.Judging.{passes_at};
     ghost use Rattle.image_judge.specs.Verdicts.{IsJudged};
-    ghost use Rattle.moment_verdict.specs.Verdicts.{IsVerdictBetween};
 
-    type Verdict = Verdict<Cause>;
+    type Cause = Cause;
 
     ghost events = { λ s. s.run.events };
 
@@ -115,9 +113,7 @@ impl<'a> Row for JudgePart<'a> {
 
     ghost end_moment = { λ s. s.end };
 
-    ghost passed = { λ s. passes_at s.run };
-
-    ghost is_verdict = { λ s verdict. IsVerdictBetween (IsJudged s.run) s.run.events s.first s.end verdict };
+    ghost judged = { λ s. IsJudged s.run };
 
     fn first(&self) -> u32 {
         JudgePart::first(self)
@@ -127,28 +123,18 @@ impl<'a> Row for JudgePart<'a> {
         JudgePart::end(self)
     }
 
-    fn judge_next<T: Threads + Sync>(
+    fn judge_between<T: Threads + Sync>(
         &self,
         rt: &T,
         alloc: Global,
-        next: u32,
+        first: u32,
         end: u32,
         workers: u32,
-    ) -> Result<Option<Verdict<Cause>>, AllocError> {
-        match self.judge(rt, alloc, next, end, workers, &Open)? {
-            Verdict::Pass { .. } => Ok(None),
-            verdict => Ok(Some(verdict)),
-        }
+    ) -> Result<Verdict<Cause>, AllocError> {
+        self.judge(rt, alloc, first, end, workers, &Open)
     }
 
     fn images(&self, alloc: Global, end: u32) -> Result<Option<u64>, AllocError> {
         JudgePart::images(self, alloc, end)
-    }
-
-    fn pass(&self, images: Option<u64>) -> Verdict<Cause> {
-        Verdict::Pass {
-            moments: u64::from(JudgePart::end(self) - JudgePart::first(self)),
-            images,
-        }
     }
 }

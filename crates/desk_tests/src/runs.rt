@@ -80,7 +80,7 @@ fn lines_for(pages: u32) -> u32 {
 }
 
 /// None where the image has no number.
-fn plain_verdict(verdict: Result<Verdict, CheckFault>) -> Option<Plain> {
+fn plain_verdict(verdict: Result<Verdict<Cause>, CheckFault>) -> Option<Plain> {
     match verdict {
         Ok(Verdict::Pass { moments, images }) => Some(Plain::Pass { moments, images }),
         Ok(

@@ -6,6 +6,10 @@ ghost use Rattle.std.specs.Prelude.{◌^◌, ◌<◌};
 use crate::ending::{Refused, ended, ready, refusal};
 use crate::images::says;
 use crate::samples::{schedule_of, zeros};
+use crash_test::{
+    CountFault, ExplainFault, ProgramFault, TogetherFault, VerdictFault, check_program,
+    count_images, default_medium, explain_image, load_program, make_volume, replay, run_program,
+};
 use image_check::{ImageName, Verdict};
 use line_memory::{Medium, MediumFault};
 use machine::{Machine, Schedule, StepFault};
@@ -16,10 +20,6 @@ use recording::Recorded;
 use std::alloc::Global;
 use std::sync::Wait;
 use std::thread::Threads;
-use tester::{
-    CountFault, ExplainFault, ProgramFault, TogetherFault, VerdictFault, check_program,
-    count_images, default_medium, explain_image, load_program, make_volume, replay, run_program,
-};
 
 /// One store, cleaned and fenced.
 const FIRST: &[u8] = b"addi x5, x0, 7\nlui x6, 0x40000\nsd x5, 0(x6)\ncbo.clean (x6)\nfence w, w\n\

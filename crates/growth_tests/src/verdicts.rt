@@ -39,7 +39,7 @@ enum Expected {
     Fails,
 }
 
-fn is_expected(verdict: &Verdict, expected: Expected) -> bool {
+fn is_expected(verdict: &Verdict<Cause>, expected: Expected) -> bool {
     match verdict {
         Verdict::Pass { moments, images } => {
             matches!(expected, Expected::Passes) && *moments == 11 && *images == Some(22)

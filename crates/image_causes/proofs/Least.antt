@@ -13,8 +13,8 @@ use Rattle.crash_model.specs.declared.step.PersistenceStep.{PersistenceStep}
 use Rattle.image_check.specs.Alike.{branchwise}
 use Rattle.image_check.specs.Images.{IsGood, IsSpoilt, Passes, image_after}
 use Rattle.image_check.specs.Verdicts.{IsLeastBad}
-use Rattle.image_check.specs.declared.verdict.Cause.{Cause}
-use Rattle.image_check.specs.declared.verdict.Cause.TheVariants.{Fault, Illegal}
+use Rattle.image_check.specs.declared.cause.Cause.{Cause}
+use Rattle.image_check.specs.declared.cause.Cause.TheVariants.{Fault, Illegal}
 use Rattle.nova_log.specs.Volumes.{asked_lines}
 use Rattle.plan.specs.declared.operation.Operation.{Operation}
 use Rattle.store_trace.specs.History.{history}

@@ -5,7 +5,7 @@ ghost use Rattle.crash_model.specs.Floor.{floor};
 ghost use Rattle.image_causes.specs.Told.{is_among};
 ghost use Rattle.image_check.specs.Images.{image_after};
 ghost use Rattle.image_check.specs.Verdicts.{IsLeastBad};
-ghost use Rattle.image_check.specs.declared.verdict.Cause.{Cause};
+ghost use Rattle.image_check.specs.declared.cause.Cause.{Cause};
 ghost use Rattle.nova_log.specs.Volumes.{asked_lines};
 ghost use Rattle.plan.specs.declared.operation.Operation.{Operation};
 ghost use Rattle.std.specs.Prelude.{◌≡◌, ◌<◌, ℕ, List, true};

@@ -27,7 +27,7 @@ use Rattle.branches.specs.Numbers.{is_flagged}
 use Rattle.image_check.specs.Images.{ArePassed, IsGood}
 use Rattle.image_check.specs.Legal.{IsLegal}
 use Rattle.image_check.specs.Verdicts.{AreFlagged, HasManyBranches, IsMomentVerdict, asks_at}
-use Rattle.image_check.specs.declared.verdict.MomentVerdict.TheVariants as moments
+use Rattle.moment_verdict.specs.declared.verdict.MomentVerdict.TheVariants as moments
 
 -- The cut k of the later steps is like the cut f k of the earlier ones: recovery asks the same lines of its image, finds the same
 -- numbers of stores in them, and has the same volume.

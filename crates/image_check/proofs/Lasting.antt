@@ -22,7 +22,7 @@ use Rattle.image_check.specs.OrderFaults.{AreSound, HasFault}
 use Rattle.image_check.specs.Planned.{planned}
 use Rattle.image_check.specs.Verdicts.{AreFlagged, IsMomentVerdict}
 use Rattle.image_check.specs.declared.fault.OpFault.TheVariants.{BegunTwice}
-use Rattle.image_check.specs.declared.verdict.MomentVerdict.TheVariants as moments
+use Rattle.moment_verdict.specs.declared.verdict.MomentVerdict.TheVariants as moments
 use Rattle.image_check.proofs.Beginning.{sound_first, unended}
 use Rattle.image_check.proofs.Keeping.{AreLike, flags_kept, like_clean, like_fence, like_same, like_store, pass_kept}
 use Rattle.image_check.proofs.Members.{contains_first, contains_later, from_filter}

@@ -1,6 +1,5 @@
 pub mod Apart
 pub mod Beginning
-pub mod Deciding
 pub mod EveryImage
 pub mod Faulting
 pub mod Growing
@@ -12,11 +11,11 @@ pub mod Marking
 pub mod Members
 pub mod Noting
 pub mod Opening
-pub mod Parts
 pub mod Passing
 pub mod Planning
 pub mod Reading
 pub mod Refusing
 pub mod Sharing
+pub mod Single
 pub mod Standing
 pub mod Weighing

@@ -12,8 +12,8 @@ use Rattle.volume.specs.declared.entry.Entry.{Entry}
 use Rattle.image_check.specs.Legal.{IsLegal}
 use Rattle.image_check.specs.Images.{Passes}
 use Rattle.image_check.specs.Verdicts.{IsMomentVerdict, IsVerdict, PassBetween}
-use Rattle.image_check.specs.declared.verdict.MomentVerdict.TheVariants as moments
-use Rattle.image_check.specs.declared.verdict.Verdict.TheVariants as runs
+use Rattle.moment_verdict.specs.declared.verdict.MomentVerdict.TheVariants as moments
+use Rattle.moment_verdict.specs.declared.verdict.Verdict.TheVariants as runs
 
 pub pass_more : (plan : List Operation) (start : List (List ℕ)) (events : List Event) (moment : ℕ) → PassBetween plan start events 0 moment →
     IsMomentVerdict plan start (take moment events) moments.Pass → PassBetween plan start events 0 (moment + 1)

@@ -16,8 +16,8 @@ use Rattle.image_check.specs.OrderFaults.{AreSound}
 use Rattle.image_check.specs.EveryImage.{AreJudged, IsFirstBad, IsMomentByImages, cut_at}
 use Rattle.image_check.specs.Images.{ArePassed, IsJudged, IsVolumeJudged, Passes, image_after}
 use Rattle.image_check.specs.declared.plain.BadImage.{BadImage}
-use Rattle.image_check.specs.declared.verdict.Cause.{Cause}
-use Rattle.image_check.specs.declared.verdict.Cause.TheVariants.{Fault, Illegal}
+use Rattle.image_check.specs.declared.cause.Cause.{Cause}
+use Rattle.image_check.specs.declared.cause.Cause.TheVariants.{Fault, Illegal}
 use Rattle.image_check.specs.declared.plain.MomentByImages.{MomentByImages}
 use Rattle.image_check.specs.declared.plain.MomentByImages.TheVariants as moments
 use Rattle.image_check.proofs.Apart.{sound_apart}

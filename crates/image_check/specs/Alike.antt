@@ -11,8 +11,8 @@ use Rattle.plan.specs.declared.operation.Operation.{Operation}
 use Rattle.store_trace.specs.declared.event.Event.{Event}
 use Rattle.image_check.specs.Images.{IsFound}
 use Rattle.image_check.specs.Verdicts.{asks_at}
-use Rattle.image_check.specs.declared.verdict.Cause.{Cause}
-use Rattle.image_check.specs.declared.verdict.Cause.TheVariants.{Fault, Illegal}
+use Rattle.image_check.specs.declared.cause.Cause.{Cause}
+use Rattle.image_check.specs.declared.cause.Cause.TheVariants.{Fault, Illegal}
 
 same_line : (i n : ℕ) (lines : List (List ℕ)) (c k : ℕ → ℕ) (p : List PersistenceStep) → k (i + n) ≡ c (i + n) →
     get_or (lines_after i lines k p) n [] ≡ get_or (lines_after i lines c p) n []

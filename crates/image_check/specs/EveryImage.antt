@@ -11,7 +11,7 @@ use Rattle.image_check.specs.declared.plain.MomentByImages.{MomentByImages}
 use Rattle.image_check.specs.declared.plain.MomentByImages.TheVariants as moments
 use Rattle.image_check.specs.declared.plain.RunByImages.{RunByImages}
 use Rattle.image_check.specs.declared.plain.RunByImages.TheVariants as runs
-use Rattle.image_check.specs.declared.verdict.Cause.{Cause}
+use Rattle.image_check.specs.declared.cause.Cause.{Cause}
 
 -- the cut of number n
 abbrev pub cut_at : List Event → ℕ → List (ℕ × ℕ)

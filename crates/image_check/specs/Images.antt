@@ -9,8 +9,8 @@ use Rattle.store_trace.specs.History.{history}
 use Rattle.store_trace.specs.declared.event.Event.{Event}
 use Rattle.volume.specs.declared.entry.Entry.{Entry}
 use Rattle.image_check.specs.Legal.{IsLegal}
-use Rattle.image_check.specs.declared.verdict.Cause.{Cause}
-use Rattle.image_check.specs.declared.verdict.Cause.TheVariants.{Fault, Illegal}
+use Rattle.image_check.specs.declared.cause.Cause.{Cause}
+use Rattle.image_check.specs.declared.cause.Cause.TheVariants.{Fault, Illegal}
 
 -- the image recovers to a volume that is legal after these events
 pub record IsGood (plan : List Operation) (start : List (List ℕ)) (events : List Event) (medium : List (List ℕ)) : Type 0 where

@@ -7,7 +7,7 @@ use Rattle.image_check.specs.Growth.{AreOutcomes}
 use Rattle.image_check.specs.RunViews.{RunView}
 use Rattle.image_check.specs.Verdicts.{AreFlagged, IsMomentVerdict}
 use Rattle.image_check.specs.declared.moment_judge.Standing.{Standing}
-use Rattle.image_check.specs.declared.verdict.MomentVerdict.TheVariants as moments
+use Rattle.moment_verdict.specs.declared.verdict.MomentVerdict.TheVariants as moments
 
 -- The judge has what the legal volumes of its moment are made of; where it knows that the moment passes, each line that recovery
 -- asks there is flagged.

@@ -1,27 +1,29 @@
 //! The laws of verdicts, each as the contract of a function with nothing to run.
 
-ghost use Rattle.image_check.specs.Verdicts.{IsMomentVerdict, IsVerdictBetween, joined};
-ghost use Rattle.image_check.specs.declared.verdict.MomentVerdict.{MomentVerdict as AMomentVerdict};
-ghost use Rattle.image_check.specs.declared.verdict.Verdict.{Verdict as AVerdict};
+ghost use Rattle.image_check.specs.Verdicts.{IsMomentVerdict, IsVerdictBetween};
+ghost use Rattle.moment_verdict.specs.Verdicts.{joined};
+ghost use Rattle.moment_verdict.specs.declared.verdict.MomentVerdict.{MomentVerdict as AMomentVerdict};
+ghost use Rattle.moment_verdict.specs.declared.verdict.Verdict.{Verdict as AVerdict};
 ghost use Rattle.plan.specs.declared.operation.Operation.{Operation as AnOperation};
 ghost use Rattle.store_trace.specs.declared.event.Event.{Event as AnEvent};
 ghost use Rattle.std.specs.Prelude.{◌≡◌, ℕ, ◌≤◌, List};
 
+use crate::Cause;
 use crash_image::image_sums_join;
 
 /// A moment has at most one verdict, and so has a row of moments: two checks that answer one each answer the same.
-#[tactic(auto, using(crate::proofs::Deciding::moment_once, crate::proofs::Deciding::verdict_once))]
+#[tactic(auto, using(crate::proofs::Single::moment_once, crate::proofs::Single::verdict_once))]
 pub fn one_verdict()
-    ensures moment { (plan : List AnOperation) (start : List (List ℕ)) (events : List AnEvent) (verdict other : AMomentVerdict) →
+    ensures moment { (plan : List AnOperation) (start : List (List ℕ)) (events : List AnEvent) (verdict other : AMomentVerdict Cause) →
         IsMomentVerdict plan start events verdict → IsMomentVerdict plan start events other → verdict ≡ other }
-    ensures run { (plan : List AnOperation) (start : List (List ℕ)) (events : List AnEvent) (first end : ℕ) (verdict other : AVerdict) →
+    ensures run { (plan : List AnOperation) (start : List (List ℕ)) (events : List AnEvent) (first end : ℕ) (verdict other : AVerdict Cause) →
         IsVerdictBetween plan start events first end verdict → IsVerdictBetween plan start events first end other → verdict ≡ other }
 {}
 
 /// The verdict on two rows of moments, of which the second begins where the first ends, is that of the first that isn't a pass; where
 /// both pass it is a pass of all their moments and images.
 pub fn verdicts_join()
-    ensures { (plan : List AnOperation) (start : List (List ℕ)) (events : List AnEvent) (first middle end : ℕ) (one other : AVerdict) →
+    ensures { (plan : List AnOperation) (start : List (List ℕ)) (events : List AnEvent) (first middle end : ℕ) (one other : AVerdict Cause) →
         first ≤ middle → middle ≤ end → IsVerdictBetween plan start events first middle one → IsVerdictBetween plan start events middle end other →
         IsVerdictBetween plan start events first end (joined one other) }
 {

@@ -4,16 +4,17 @@
 //! each is judged.
 #![tactic(auto)]
 
-pub use crash_image::ImageName;
+pub use cause::Cause;
 pub use fault::{CheckFault, OpFault};
 pub use laws::{one_verdict, verdicts_join};
 pub use moment::check_moment;
 pub use moment_judge::{MomentJudge, SoundRun};
+pub use moment_verdict::{ImageName, MomentVerdict, Verdict};
 pub use order::check_trace;
 pub use plain::{MomentByImages, RunByImages, check_moment_by_images, check_run_by_images};
 pub use run::check_run;
-pub use verdict::{Cause, MomentVerdict, Verdict};
 
+mod cause;
 mod fault;
 mod image_lines;
 mod index_lines;
@@ -24,9 +25,7 @@ mod marks;
 mod moment;
 mod moment_images;
 mod moment_judge;
-mod moment_shared;
 mod operations;
 mod order;
 mod plain;
 mod run;
-mod verdict;

@@ -1,32 +1,27 @@
 //! The verdict on one moment: one run of recovery for each branch of its cuts.
 
-ghost use Rattle.crash_image.specs.Named.{IsNameOf};
 ghost use Rattle.crash_image.specs.View.{HasLines};
-ghost use Rattle.crash_model.specs.Cut.{numbered, stored_lines};
-ghost use Rattle.image_check.specs.Branching.{IsWithinAt, numbers_at};
 ghost use Rattle.image_check.specs.OrderFaults.{AreSound};
-ghost use Rattle.image_check.specs.Verdicts.{AreFlagged, IfPassed, IsMomentVerdict, IsRefusal};
+ghost use Rattle.image_check.specs.Verdicts.{AreFlagged, IsMomentVerdict, IsRefusal};
+ghost use Rattle.moment_verdict.specs.Verdicts.{IfPassed};
 ghost use Rattle.nova_log.specs.Volumes.{volume_of};
 ghost use Rattle.store_trace.specs.History.{at_moment};
 ghost use Rattle.std.specs.Prelude.{◌≡◌, ◌<◌, ◌≤◌, length, take, IfErr, IfOk};
 ghost use Rattle.std.specs.Result.{result_ok};
 
-use crate::judge::{cuts_at, first_events, starting_volume};
+use crate::judge::{first_events, starting_volume};
 use crate::legal::Outcomes;
 use crate::moment_images::MomentImages;
 use crate::order::check_trace;
-use crate::{CheckFault, MomentVerdict};
-use branches::{Opened, Opener};
-use crash_image::ImageName;
+use crate::{Cause, CheckFault};
+use branches::Opener;
 use line_memory::Medium;
+use moment_verdict::MomentVerdict;
 use plan::Plan;
 use std::alloc::Global;
 use store_trace::Trace;
 use trace_index::TraceIndex;
 use volume::Volume;
-
-/// The most branches of a moment that are opened.
-pub const MAX_BRANCHES: u32 = 65_536;
 
 /// The verdict on the state after the first `moment` events of the trace, which started from the medium: every image
 /// of it is judged by the plan, by one run of recovery for each branch. The medium has every line that the trace names.
@@ -39,7 +34,7 @@ pub fn check_moment(
     medium: &Medium,
     trace: &Trace,
     moment: u32,
-) -> Result<MomentVerdict, CheckFault>
+) -> Result<MomentVerdict<Cause>, CheckFault>
     requires { HasLines medium.now trace.now.events }
     ensures ok { IfOk result (λ verdict.
         IsMomentVerdict plan.now.operations medium.now (take moment trace.now.events) verdict) }
@@ -65,7 +60,7 @@ fn judge_moment(
     start: Option<Volume>,
     trace: &Trace,
     moment: u32,
-) -> Result<MomentVerdict, CheckFault>
+) -> Result<MomentVerdict<Cause>, CheckFault>
     requires lines { HasLines medium.now trace.now.events }
     requires there { moment ≤ length trace.now.events }
     requires sound { AreSound plan.now.operations trace.now.events (length trace.now.events) }
@@ -88,7 +83,7 @@ fn open_first(
     trace: &Trace,
     images: &MomentImages,
     lines: u32,
-) -> Result<MomentVerdict, CheckFault>
+) -> Result<MomentVerdict<Cause>, CheckFault>
     requires lines { HasLines medium.now trace.now.events }
     requires medium { images.now.index.now.start ≡ medium.now }
     requires trace { images.now.index.now.events ≡ trace.now.events }
@@ -103,13 +98,13 @@ fn open_first(
 }
 
 /// The verdict on a moment, whose branches are opened. Where it passes, the opener has each line that recovery asks.
-pub fn open_moment(
+pub(crate) fn open_moment(
     alloc: Global,
     medium: &Medium,
     trace: &Trace,
     images: &MomentImages,
     opener: &mut Opener,
-) -> Result<MomentVerdict, CheckFault>
+) -> Result<MomentVerdict<Cause>, CheckFault>
     requires lines { HasLines medium.now trace.now.events }
     requires medium { images.now.index.now.start ≡ medium.now }
     requires trace { images.now.index.now.events ≡ trace.now.events }
@@ -121,38 +116,15 @@ pub fn open_moment(
     ensures size { length opener.new ≡ length opener.old }
     ensures err { IfErr result (λ fault. fault ≡ CheckFault.Memory) }
 {
-    match opener.open(alloc, images, &mut (), MAX_BRANCHES)? {
-        Opened::Over => Ok(MomentVerdict::TooMany),
-        Opened::Pass => Ok(MomentVerdict::Pass),
-        Opened::Bad { numbers, cause } => {
-            let image = name_cut(alloc, medium, trace, images.moment, &numbers)?;
-            Ok(MomentVerdict::Fail { image, cause })
-        }
-    }
-}
-
-/// The name of the image of a cut of the moment, given by line, with 0 for a line at its floor.
-pub fn name_cut(
-    alloc: Global,
-    medium: &Medium,
-    trace: &Trace,
-    moment: u32,
-    numbers: &[u32],
-) -> Result<ImageName, CheckFault>
-    requires lines { HasLines medium.now trace.now.events }
-    requires there { moment ≤ length trace.now.events }
-    requires size { length numbers.now ≡ length medium.now }
-    requires within { IsWithinAt trace.now.events moment (numbers_at trace.now.events moment numbers.now) }
-    ensures ok { IfOk result (λ name. IsNameOf (at_moment trace.now.events moment)
-        (numbered (numbers_at trace.now.events moment numbers.now) (stored_lines (at_moment trace.now.events moment))) name) }
-    ensures err { IfErr result (λ fault. fault ≡ CheckFault.Memory) }
-{
-    let cuts = cuts_at(alloc, medium, trace, moment)?;
-    let Ok(cut) = cuts.cut_over(alloc, numbers) else {
-        return Err(CheckFault::Memory);
-    };
-    match cuts.name(alloc, &cut) {
-        Ok(name) => Ok(name),
-        Err(_refused) => Err(CheckFault::Memory),
-    }
+    let moment = images.moment;
+    let verdict = moment_verdict::open_moment(
+        alloc,
+        medium,
+        trace,
+        moment,
+        images,
+        &mut (),
+        opener,
+    )?;
+    Ok(verdict)
 }

@@ -6,7 +6,8 @@ ghost use Rattle.image_check.specs.Growth.{AreOutcomes};
 ghost use Rattle.image_check.specs.Keeping.{KeepsPass};
 ghost use Rattle.image_check.specs.OrderFaults.{AreSound};
 ghost use Rattle.image_check.specs.Standing.{IsStanding};
-ghost use Rattle.image_check.specs.Verdicts.{AreFlagged, IfPassed, IsMomentVerdict, IsRefusal};
+ghost use Rattle.image_check.specs.Verdicts.{AreFlagged, IsMomentVerdict, IsRefusal};
+ghost use Rattle.moment_verdict.specs.Verdicts.{IfPassed};
 ghost use Rattle.nova_log.specs.Volumes.{volume_of};
 ghost use Rattle.store_trace.specs.History.{at_moment};
 ghost use Rattle.store_trace.specs.declared.event.Event.{Event as AnEvent};
@@ -16,13 +17,13 @@ ghost use Rattle.std.specs.Result.{result_ok};
 use crate::judge::{note_next, starting_volume};
 use crate::legal::Outcomes;
 use crate::moment_images::MomentImages;
-use crate::moment_shared::open_moment_shared;
 use crate::order::check_trace;
 use crate::run::spoils_nothing;
-use crate::{CheckFault, MomentVerdict};
+use crate::{Cause, CheckFault};
 use branches::Opener;
 use crash_image::images_between;
 use line_memory::Medium;
+use moment_verdict::{MomentVerdict, open_moment_shared};
 use plan::Plan;
 use std::alloc::{AllocError, Global};
 use std::marker::Model;
@@ -184,14 +185,13 @@ impl Standing {
         alloc: Global,
         run: &SoundRun,
         opener: &mut Opener,
-    ) -> Result<MomentVerdict, CheckFault>
+    ) -> Result<MomentVerdict<Cause>, AllocError>
         requires standing { IsStanding run.now opener.old self.old }
         requires size { length opener.old ≡ length run.now.start }
         ensures ok { IfOk result (λ verdict.
             IsMomentVerdict run.now.plan run.now.start (take self.old.moment run.now.events) verdict) }
         ensures standing { OnOk result (IsStanding run.now opener.new self.new) }
         ensures size { length opener.new ≡ length opener.old }
-        ensures err { IfErr result (λ fault. fault ≡ CheckFault.Memory) }
     {
         if self.passes {
             return Ok(MomentVerdict::Pass);
@@ -219,17 +219,18 @@ fn open_at<T: Threads + Sync>(
     moment: u32,
     outcomes: &Outcomes,
     opener: &mut Opener,
-) -> Result<MomentVerdict, CheckFault>
+) -> Result<MomentVerdict<Cause>, AllocError>
     requires there { moment ≤ length run.now.events }
     requires outcomes { AreOutcomes run.now.plan (result_ok (volume_of run.now.start)) (take moment run.now.events) outcomes.now.settled outcomes.now.under_way.items }
     requires size { length opener.old ≡ length run.now.start }
     ensures ok { IfOk result (λ verdict. IsMomentVerdict run.now.plan run.now.start (take moment run.now.events) verdict) }
     ensures asked { IfOk result (λ verdict. IfPassed verdict (AreFlagged run.now.start (at_moment run.now.events moment) opener.new)) }
     ensures size { length opener.new ≡ length opener.old }
-    ensures err { IfErr result (λ fault. fault ≡ CheckFault.Memory) }
 {
     let images = MomentImages::new(&run.index, run.plan, outcomes, moment);
-    open_moment_shared(rt, alloc, run.medium, run.trace, &images, opener)
+    let (medium, trace) = (run.medium, run.trace);
+    let verdict = open_moment_shared(rt, alloc, medium, trace, moment, &images, &mut (), opener)?;
+    Ok(verdict)
 }
 
 /// Whether a moment that is known to pass or not is known to pass still after its next event.
@@ -240,7 +241,7 @@ fn still_passes(passes: bool, trace: &Trace, moment: u32, opener: &Opener) -> bo
     passes && spoils_nothing(trace.events()[moment as usize], opener)
 }
 
-fn is_pass(verdict: &MomentVerdict) -> bool
+fn is_pass(verdict: &MomentVerdict<Cause>) -> bool
     ensures { IsTrue result → verdict.now ≡ MomentVerdict.Pass }
 {
     matches!(verdict, MomentVerdict::Pass)
@@ -312,12 +313,11 @@ impl<'a, 'b> MomentJudge<'a, 'b> {
         rt: &T,
         alloc: Global,
         moment: u32,
-    ) -> Result<MomentVerdict, CheckFault>
+    ) -> Result<MomentVerdict<Cause>, AllocError>
         requires { moment ≤ length self.old.events }
         ensures ok { IfOk result (λ verdict.
             IsMomentVerdict self.old.plan self.old.start (take moment self.old.events) verdict) }
         ensures same { self.new ≡ self.old }
-        ensures err { IfErr result (λ fault. fault ≡ CheckFault.Memory) }
     {
         let run = self.run;
         let last = self.standing.take();

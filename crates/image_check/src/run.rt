@@ -7,8 +7,9 @@ ghost use Rattle.image_check.specs.Growth.{AreOutcomes};
 ghost use Rattle.image_check.specs.Keeping.{KeepsPass};
 ghost use Rattle.image_check.specs.Legal.{IsLegal};
 ghost use Rattle.image_check.specs.OrderFaults.{AreSound};
-ghost use Rattle.image_check.specs.Verdicts.{AreFlagged, IfPassed, IsMomentVerdict, IsRefusal, IsVerdict};
+ghost use Rattle.image_check.specs.Verdicts.{AreFlagged, IsMomentVerdict, IsRefusal, IsVerdict};
 ghost use Rattle.line_memory.specs.Lines.{IsMedium};
+ghost use Rattle.moment_verdict.specs.Verdicts.{IfPassed};
 ghost use Rattle.nova_log.specs.Volumes.{volume_of};
 ghost use Rattle.store_trace.specs.History.{at_moment};
 ghost use Rattle.store_trace.specs.declared.event.Event.{Event as AnEvent};
@@ -21,10 +22,11 @@ use crate::legal::Outcomes;
 use crate::moment::open_moment;
 use crate::moment_images::MomentImages;
 use crate::order::check_trace;
-use crate::{CheckFault, MomentVerdict, Verdict};
+use crate::{Cause, CheckFault};
 use branches::Opener;
 use crash_image::images_between;
 use line_memory::Medium;
+use moment_verdict::{MomentVerdict, Verdict};
 use plan::Plan;
 use std::alloc::Global;
 use store_trace::{Event, Trace};
@@ -41,7 +43,7 @@ pub fn check_run(
     plan: &Plan,
     medium: &Medium,
     trace: &Trace,
-) -> Result<Verdict, CheckFault>
+) -> Result<Verdict<Cause>, CheckFault>
     requires { HasLines medium.now trace.now.events }
     ensures ok { IfOk result (λ verdict. IsVerdict plan.now.operations medium.now trace.now.events verdict) }
     ensures sound { IfOk result (λ verdict. AreSound plan.now.operations trace.now.events (length trace.now.events)) }
@@ -69,7 +71,7 @@ fn judge_run(
     medium: &Medium,
     start: Option<Volume>,
     trace: &Trace,
-) -> Result<Verdict, CheckFault>
+) -> Result<Verdict<Cause>, CheckFault>
     requires lines { HasLines medium.now trace.now.events }
     requires sound { AreSound plan.now.operations trace.now.events (length trace.now.events) }
     requires start { start ≡ result_ok (volume_of medium.now) }
@@ -89,7 +91,7 @@ fn judge_indexed(
     trace: &Trace,
     index: &TraceIndex,
     outcomes: &mut Outcomes,
-) -> Result<Verdict, CheckFault>
+) -> Result<Verdict<Cause>, CheckFault>
     requires lines { HasLines medium.now trace.now.events }
     requires sound { AreSound plan.now.operations trace.now.events (length trace.now.events) }
     requires start { index.now.start ≡ medium.now }
@@ -111,7 +113,7 @@ fn judge_moments(
     index: &TraceIndex,
     opener: &mut Opener,
     outcomes: &mut Outcomes,
-) -> Result<Verdict, CheckFault>
+) -> Result<Verdict<Cause>, CheckFault>
     requires lines { HasLines medium.now trace.now.events }
     requires sound { AreSound plan.now.operations trace.now.events (length trace.now.events) }
     requires whole { IsMedium index.now.start }
@@ -151,7 +153,7 @@ fn judge_next(
     trace: &Trace,
     images: &MomentImages,
     opener: &mut Opener,
-) -> Result<MomentVerdict, CheckFault>
+) -> Result<MomentVerdict<Cause>, CheckFault>
     requires lines { HasLines medium.now trace.now.events }
     requires medium { images.now.index.now.start ≡ medium.now }
     requires trace { images.now.index.now.events ≡ trace.now.events }

@@ -42,7 +42,7 @@ pub(crate) enum Expected {
     Fails,
 }
 
-pub(crate) fn is_expected(verdict: &Verdict, expected: Expected) -> bool {
+pub(crate) fn is_expected(verdict: &Verdict<Cause>, expected: Expected) -> bool {
     match verdict {
         Verdict::Pass { moments, images } => {
             matches!(expected, Expected::Passes) && *moments == 11 && *images == Some(22)

@@ -9,7 +9,7 @@ use crate::run::MarkedRun;
 use crate::window::WindowAnswers;
 use branches::Opener;
 use judge_marks::windows_lie_in_the_run;
-use moment_verdict::{MomentVerdict, open_moment};
+use moment_verdict::{MomentVerdict, open_moment_shared};
 use recovery::Routine;
 use std::alloc::{AllocError, Global};
 use std::marker::Model;
@@ -74,7 +74,7 @@ impl<'a, 'b> MomentJudge<'a, 'b> {
         self.answers
             .renew(alloc, run, &mut self.routine, window, moment)?;
         let images = MomentImages::new(run, moment, window, &self.answers.right);
-        let verdict = open_moment(
+        let verdict = open_moment_shared(
             rt,
             alloc,
             medium,

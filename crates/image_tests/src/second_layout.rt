@@ -157,7 +157,12 @@ fn fresh(alloc: Global, plan: &Plan) -> Result<Medium, VolumeFault> {
 }
 
 /// The verdict on a run, asked for again where memory was refused.
-fn judge(alloc: Global, plan: &Plan, medium: &Medium, trace: &Trace) -> Result<Verdict, CheckFault>
+fn judge(
+    alloc: Global,
+    plan: &Plan,
+    medium: &Medium,
+    trace: &Trace,
+) -> Result<Verdict<Cause>, CheckFault>
     requires { HasLines medium.now trace.now.events }
 {
     match check_run(alloc, plan, medium, trace) {
@@ -166,7 +171,7 @@ fn judge(alloc: Global, plan: &Plan, medium: &Medium, trace: &Trace) -> Result<V
     }
 }
 
-fn is_so(judged: Result<Verdict, CheckFault>, claim: Claim) -> bool {
+fn is_so(judged: Result<Verdict<Cause>, CheckFault>, claim: Claim) -> bool {
     match judged {
         Ok(Verdict::Pass { moments, images }) => is_pass(moments, images, claim),
         Ok(

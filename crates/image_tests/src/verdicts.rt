@@ -153,7 +153,9 @@ fn is_over(alloc: Global, plan: &Plan, medium: &Medium, trace: &Trace, moment: u
 }
 
 /// A verdict as the plain check tells it. None where it has a moment with over 65,536 images.
-fn plain_verdict(judged: Result<Verdict, CheckFault>) -> Option<Result<RunByImages, CheckFault>> {
+fn plain_verdict(
+    judged: Result<Verdict<Cause>, CheckFault>,
+) -> Option<Result<RunByImages, CheckFault>> {
     match judged {
         Ok(Verdict::Pass { moments, images }) => Some(Ok(RunByImages::Pass {
             moments,
@@ -178,7 +180,7 @@ fn plain_verdict(judged: Result<Verdict, CheckFault>) -> Option<Result<RunByImag
 
 /// A verdict on a moment as the plain check tells it. None where its image is named by lines.
 fn plain_moment(
-    judged: Result<MomentVerdict, CheckFault>,
+    judged: Result<MomentVerdict<Cause>, CheckFault>,
 ) -> Option<Result<MomentByImages, CheckFault>> {
     match judged {
         Ok(MomentVerdict::Pass) => Some(Ok(MomentByImages::Pass)),
@@ -228,7 +230,7 @@ fn fails_over(
 }
 
 /// Whether the verdict is a failure of this moment, by an image that these lines name, for this cause.
-fn is_failure(verdict: &Verdict, expected: u32, lines: &[(u32, u32)], code: Cause) -> bool {
+fn is_failure(verdict: &Verdict<Cause>, expected: u32, lines: &[(u32, u32)], code: Cause) -> bool {
     match verdict {
         Verdict::Fail {
             moment,
@@ -248,7 +250,12 @@ fn is_named(image: &ImageName, lines: &[(u32, u32)]) -> bool {
 }
 
 /// The verdict on a run, asked for again where memory was refused.
-fn judge(alloc: Global, plan: &Plan, medium: &Medium, trace: &Trace) -> Result<Verdict, CheckFault>
+fn judge(
+    alloc: Global,
+    plan: &Plan,
+    medium: &Medium,
+    trace: &Trace,
+) -> Result<Verdict<Cause>, CheckFault>
     requires { HasLines medium.now trace.now.events }
 {
     match check_run(alloc, plan, medium, trace) {

@@ -3,6 +3,7 @@
 ghost use Rattle.std.specs.Prelude.{◌<◌, ◌≤◌, IfSome};
 
 use crate::sources::{READ, REPLACED};
+use crash_test::{default_medium, load_program};
 use image_judge::{Cause, ImageName, Verdict};
 use line_memory::Medium;
 use machine::Schedule;
@@ -10,7 +11,6 @@ use program::Program;
 use program_judge::{Judgement, JudgingFault, judge_program};
 use std::alloc::Global;
 use std::thread::Threads;
-use tester::{default_medium, load_program};
 
 /// A verdict that is wanted, the bad image by its name's text.
 #[derive(Clone, Copy)]

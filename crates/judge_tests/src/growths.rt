@@ -7,6 +7,7 @@ use crate::cases::{CASE, Case, program_of, verdict_of};
 use crate::ending::{Refused, ended, ready, refusal, repeated};
 use crate::sources::{READ, RECORD_UNFENCED};
 use crash_image::has_lines;
+use crash_test::default_medium;
 use image_judge::{Cause, JudgeFault, MarkedRun, MomentJudge, MomentVerdict, Verdict};
 use line_memory::Medium;
 use program::Program;
@@ -14,7 +15,6 @@ use program_judge::JudgingFault;
 use std::alloc::Global;
 use std::thread::Threads;
 use store_trace::{Event, Trace};
-use tester::default_medium;
 
 /// Whether a run gets the verdict on it, by so many workers.
 fn judged<R: Threads + Sync + AllocGlobal>(

@@ -4,17 +4,17 @@ ghost use Rattle.judged_losses.specs.Loading.{IsLoaded};
 ghost use Rattle.program_losses.specs.Failing.{IsExplainedBy};
 ghost use Rattle.schedule.specs.Grammar.{hart_steps};
 ghost use Rattle.std.specs.Prelude.{◌^◌, ◌<◌, ◌≤◌, IfErr, IfOk};
-ghost use Rattle.tester.specs.Explaining.{FailsToExplain};
-ghost use Rattle.tester.specs.Runs.{with_room};
+ghost use Rattle.crash_test.specs.Explaining.{FailsToExplain};
+ghost use Rattle.crash_test.specs.Runs.{with_room};
 
 use crate::RoutineReader;
 use crash_image::ImageName;
+use crash_test::ExplainFault;
 use line_memory::Medium;
 use machine::Schedule;
 use program::Program;
 use program_losses::{ExplainedImage, explain_losses_by};
 use std::alloc::Global;
-use tester::ExplainFault;
 
 /// What the crash image of this name, of a moment of the run of a program by a schedule, over a medium behind a cache of as many lines,
 /// lacks and keeps of the lines that a recovery routine loads in its run on it, of at most so many steps, and a schedule that leaves the

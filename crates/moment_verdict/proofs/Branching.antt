@@ -1,8 +1,9 @@
 -- What the opened branches of a moment say of its verdict.
-use Rattle.std.proofs.Common.{◌≡◌, ℕ, List, Option, Some, None, map, sym, subst, ◌∙◌, arith}
+use Rattle.std.proofs.Common.{◌≡◌, ℕ, Bool, true, List, Option, Some, None, map, sym, subst, ◌∙◌, arith}
+use Rattle.std.specs.List.{AllByRecursion}
 use Rattle.branches.specs.Branches.{AreOver, IsWithin}
 use Rattle.branches.specs.Branches as branches
-use Rattle.branches.specs.Numbers.{number_over}
+use Rattle.branches.specs.Numbers.{is_flagged, number_over}
 use Rattle.crash_image.specs.Named.{IsNameOf}
 use Rattle.crash_model.proofs.Lines.{Upwards, cut_from_within, number_in_within, upwards_stored_lines, within_from_cut}
 use Rattle.crash_model.specs.Cut.{IsCut, number_in, numbered, stored_lines}
@@ -12,7 +13,7 @@ use Rattle.crash_model.specs.Stores.{stores}
 use Rattle.crash_model.specs.declared.step.PersistenceStep.{PersistenceStep}
 use Rattle.image_name.specs.declared.name.ImageName.{ImageName}
 use Rattle.moment_verdict.proofs.Lists.{before_comes}
-use Rattle.moment_verdict.specs.Verdicts.{AreGood, HasManyBranches, IsLeastBad, IsMomentVerdict}
+use Rattle.moment_verdict.specs.Verdicts.{AreFlagged, AreGood, HasManyBranches, IsLeastBad, IsMomentVerdict}
 use Rattle.moment_verdict.specs.declared.verdict.MomentVerdict.TheVariants as moments
 
 -- what is found of a cut is found of each that gives the lines the same numbers
@@ -68,6 +69,13 @@ pass_moment asks found low high p f s few h = (
   all_good found p (λ k w. h k
       (subst (λ (g : ℕ → ℕ). IsWithin g high k) (sym f) (subst (λ (g : ℕ → ℕ). IsWithin (λ l. floor l p) g k) (sym s) w))),
 )
+
+-- and the lines that recovery asks
+pub flags_moment : (asks : (ℕ → ℕ) → List ℕ → Type 0) (low high : ℕ → ℕ) (p : List PersistenceStep) (flags : List Bool) → low ≡ (λ l. floor l p) →
+    high ≡ (λ l. stores l p) → ((k : ℕ → ℕ) → IsWithin low high k → (lines : List ℕ) → asks k lines → AllByRecursion (λ l. is_flagged l flags ≡ true) lines) →
+    AreFlagged asks p flags
+flags_moment asks low high p flags f s h = λ k w. h k
+    (subst (λ (g : ℕ → ℕ). IsWithin g high k) (sym f) (subst (λ (g : ℕ → ℕ). IsWithin (λ l. floor l p) g k) (sym s) w))
 
 -- the least bad cut stands within its bounds
 pub bad_within : {Cause : Type 0} (found : (ℕ → ℕ) → Option Cause → Type 0) (low high : ℕ → ℕ) (p : List PersistenceStep) (numbers : List ℕ) (cause : Cause) →

@@ -1,3 +1,4 @@
 pub mod Lists
 pub mod Branching
+pub mod Deciding
 pub mod Parts

@@ -3,8 +3,10 @@
 -- `asks c lines` says which lines recovery asks of the image of the cut c, and `found c cause` what is found of it: its cause where
 -- it is bad, and None where it is good.
 -- Source: Vinter, USENIX ATC 2022: every crash image is recovered, and the state that shows is judged.
-use Rattle.std.specs.Prelude.{◌≡◌, ℕ, ◌+◌, ◌<◌, ◌≤◌, List, Option, Some, None}
-use Rattle.branches.specs.Branches.{AreOver}
+use Rattle.std.specs.Prelude.{◌≡◌, ℕ, ◌+◌, ◌<◌, ◌≤◌, Bool, true, List, Option, Some, None}
+use Rattle.std.specs.List.{AllByRecursion}
+use Rattle.branches.specs.Branches.{AreOver, IsWithin}
+use Rattle.branches.specs.Numbers.{is_flagged}
 use Rattle.crash_image.specs.Named.{IsNameOf}
 use Rattle.crash_image.specs.Totals.{IsImageSum, sum_of}
 use Rattle.crash_model.specs.Cut.{IsBefore, IsCut, number_in}
@@ -20,6 +22,11 @@ use Rattle.moment_verdict.specs.declared.verdict.Verdict.TheVariants as runs
 -- there are over 65,536 branches after these persistence steps
 abbrev pub HasManyBranches : ((ℕ → ℕ) → List ℕ → Type 0) → List PersistenceStep → Type 0
 HasManyBranches asks p = AreOver asks (λ l. floor l p) (λ l. stores l p) 65536
+
+-- every line that recovery asks of an image of these steps is flagged
+abbrev pub AreFlagged : ((ℕ → ℕ) → List ℕ → Type 0) → List PersistenceStep → List Bool → Type 0
+AreFlagged asks p flags = (k : ℕ → ℕ) → IsWithin (λ l. floor l p) (λ l. stores l p) k → (lines : List ℕ) → asks k lines →
+    AllByRecursion (λ l. is_flagged l flags ≡ true) lines
 
 -- the image of every cut is good
 abbrev pub AreGood : {Cause : Type 0} → ((ℕ → ℕ) → Option Cause → Type 0) → List PersistenceStep → Type 0
@@ -38,6 +45,12 @@ IsMomentVerdict asks found p moments.Pass = (¬ HasManyBranches asks p) × AreGo
 IsMomentVerdict asks found p (moments.Fail name cause) = (¬ HasManyBranches asks p)
     × ((cut : List (ℕ × ℕ)) × IsNameOf p cut name × IsLeastBad found p cut cause)
 IsMomentVerdict asks found p moments.TooMany = HasManyBranches asks p
+
+-- the claim holds where the moment passes
+abbrev pub IfPassed : {Cause : Type 0} → MomentVerdict Cause → Type 0 → Type 0
+IfPassed moments.Pass claim = claim
+IfPassed (moments.Fail name cause) claim = Unit {0}
+IfPassed moments.TooMany claim = Unit {0}
 
 -- the moments from `first` on that are below `end` pass, where `judged m` says which verdict there is on moment m
 abbrev pub PassBetween : {Cause : Type 0} → (ℕ → MomentVerdict Cause → Type 0) → ℕ → ℕ → Type 0

@@ -1,2 +1,1 @@
 pub mod Passing
-pub mod Stretching

@@ -11,10 +11,11 @@ use Rattle.volume.specs.declared.entry.Entry.{Entry}
 use Rattle.image_check.specs.Legal.{IsLegal}
 use Rattle.image_check.specs.RunViews.{RunView}
 use Rattle.image_check.specs.Verdicts.{IsVerdict, IsVerdictBetween, Passes}
-use Rattle.image_check.proofs.Deciding.{verdict_once}
+use Rattle.image_check.proofs.Single.{verdict_once}
+use Rattle.image_check.specs.declared.cause.Cause.{Cause}
 use Rattle.image_check.specs.declared.fault.CheckFault.{CheckFault}
-use Rattle.image_check.specs.declared.verdict.Verdict.{Verdict}
-use Rattle.image_check.specs.declared.verdict.Verdict.TheVariants as runs
+use Rattle.moment_verdict.specs.declared.verdict.Verdict.{Verdict}
+use Rattle.moment_verdict.specs.declared.verdict.Verdict.TheVariants as runs
 
 pub every_cut_passes : (plan : List Operation) (start : List (List ℕ)) (events : List Event) (moments : ℕ) (images : Option ℕ) →
     IsVerdict plan start events (runs.Pass moments images) →
@@ -26,20 +27,20 @@ every_cut_passes plan start events moments images v moment cut h c =
     (passed.volume, passed.recovers, passed.legal)
 
 -- where a check answers a verdict, it is the only one
-pub one_of : (plan : List Operation) (start : List (List ℕ)) (events : List Event) (found : Result Verdict CheckFault) →
+pub one_of : (plan : List Operation) (start : List (List ℕ)) (events : List Event) (found : Result (Verdict Cause) CheckFault) →
     IfOk found (λ verdict. IsVerdict plan start events verdict) →
-    IfOk found (λ verdict. (other : Verdict) → IsVerdict plan start events other → other ≡ verdict)
+    IfOk found (λ verdict. (other : Verdict Cause) → IsVerdict plan start events other → other ≡ verdict)
 one_of plan start events (Ok verdict) v = λ other o. verdict_once plan start events 0 (length events + 1) other verdict o v
 one_of plan start events (Err fault) v = v
 
 -- the verdict on the moments of a run up to its last
-pub verdict_of : (run same : RunView) (moments : ℕ) (verdict : Verdict) → run ≡ same → moments ≡ length run.events + 1 →
+pub verdict_of : (run same : RunView) (moments : ℕ) (verdict : Verdict Cause) → run ≡ same → moments ≡ length run.events + 1 →
     IsVerdictBetween run.plan run.start run.events 0 moments verdict → IsVerdict same.plan same.start same.events verdict
 verdict_of run same moments verdict e count is =
     subst (λ (r : RunView). IsVerdict r.plan r.start r.events verdict) e
     (subst (λ (n : ℕ). IsVerdictBetween run.plan run.start run.events 0 n verdict) count is)
 
-pub part_of : (run same : RunView) (first end until : ℕ) (verdict : Verdict) → run ≡ same → end ≡ until →
+pub part_of : (run same : RunView) (first end until : ℕ) (verdict : Verdict Cause) → run ≡ same → end ≡ until →
     IsVerdictBetween run.plan run.start run.events first end verdict → IsVerdictBetween same.plan same.start same.events first until verdict
 part_of run same first end until verdict e ends is =
     subst (λ (r : RunView). IsVerdictBetween r.plan r.start r.events first until verdict) e

@@ -6,20 +6,20 @@ ghost use Rattle.crash_model.specs.Image.{image};
 ghost use Rattle.image_check.specs.Legal.{IsLegal};
 ghost use Rattle.image_check.specs.OrderFaults.{AreSound};
 ghost use Rattle.image_check.specs.Verdicts.{IsRefusal, IsVerdict, IsVerdictBetween};
-ghost use Rattle.image_check.specs.declared.verdict.Verdict.{Verdict as AVerdict};
+ghost use Rattle.moment_verdict.specs.declared.verdict.Verdict.{Verdict as AVerdict};
 ghost use Rattle.nova_log.specs.Volumes.{volume_of};
-ghost use Rattle.parallel_check.specs.Parts.{end_of};
+ghost use Rattle.parallel_moments.specs.Rows.{end_of};
 ghost use Rattle.store_trace.specs.History.{at_moment};
 ghost use Rattle.store_trace.specs.declared.event.Event.{Event as AnEvent};
 ghost use Rattle.volume.specs.declared.entry.Entry.{Entry as AnEntry};
 ghost use Rattle.std.specs.Prelude.{◌≡◌, ℕ, ◌+◌, ◌<◌, ◌≤◌, List, Option, length, take, IfErr, IfOk, IfSome};
 
+use crate::moments::CheckedMoments;
 use crate::part::Part;
-use crate::stretches::Stretches;
-use check_desk::judge_all;
 use gate::Gate;
-use image_check::{CheckFault, SoundRun, Verdict, check_run};
+use image_check::{Cause, CheckFault, SoundRun, Verdict, check_run};
 use line_memory::Medium;
+use parallel_moments::judge_between;
 use plan::Plan;
 use std::alloc::{AllocError, Global};
 use std::thread::Threads;
@@ -47,13 +47,13 @@ pub fn check_parallel<G: Gate, R: Threads + Sync>(
     trace: &Trace,
     workers: u32,
     gate: &G,
-) -> Result<Verdict, CheckFault>
+) -> Result<Verdict<Cause>, CheckFault>
     requires lines { HasLines medium.now trace.now.events }
     requires workers { (0 < workers) × (workers ≤ 8) }
     ensures ok { IfOk result (λ verdict. IsVerdict plan.now.operations medium.now trace.now.events verdict) }
 
     // The run has no other verdict, so that it is the one that `check_run` gives.
-    ensures one { IfOk result (λ verdict. (other : AVerdict) → IsVerdict plan.now.operations medium.now trace.now.events other → other ≡ verdict) }
+    ensures one { IfOk result (λ verdict. (other : AVerdict Cause) → IsVerdict plan.now.operations medium.now trace.now.events other → other ≡ verdict) }
     ensures sound { IfOk result (λ verdict. AreSound plan.now.operations trace.now.events (length trace.now.events)) }
 
     // Pass: whatever a power cut leaves at whatever moment recovers to a legal volume.
@@ -71,7 +71,7 @@ pub fn check_parallel<G: Gate, R: Threads + Sync>(
     }
     let run = SoundRun::new(alloc, plan, medium, trace)?;
     let end = run.moments();
-    Ok(judge_between(rt, alloc, &run, 0, end, workers, gate)?)
+    Ok(judge_run(rt, alloc, &run, 0, end, workers, gate)?)
 }
 
 /// The verdict on the moments of the trace from `first` to `last`, or to the last one of the run where none is given, by one to eight
@@ -90,7 +90,7 @@ pub fn check_part<G: Gate, R: Threads + Sync>(
     last: Option<u32>,
     workers: u32,
     gate: &G,
-) -> Result<Verdict, CheckFault>
+) -> Result<Verdict<Cause>, CheckFault>
     requires lines { HasLines medium.now trace.now.events }
     requires order { IfSome last (λ moment. first ≤ moment) }
     requires workers { (0 < workers) × (workers ≤ 8) }
@@ -104,7 +104,7 @@ pub fn check_part<G: Gate, R: Threads + Sync>(
 }
 
 /// The verdict on the moments of a run from `first` on that are below `end`.
-pub(crate) fn judge_between<G: Gate, R: Threads + Sync>(
+pub(crate) fn judge_run<G: Gate, R: Threads + Sync>(
     rt: &R,
     alloc: Global,
     run: &SoundRun<'_>,
@@ -112,22 +112,15 @@ pub(crate) fn judge_between<G: Gate, R: Threads + Sync>(
     end: u32,
     workers: u32,
     gate: &G,
-) -> Result<Verdict, AllocError>
+) -> Result<Verdict<Cause>, AllocError>
     requires order { first ≤ end }
     requires there { end ≤ length run.now.events + 1 }
     requires few { end ≤ 65537 }
     requires workers { (0 < workers) × (workers ≤ 8) }
     ensures { IfOk result (IsVerdictBetween run.now.plan run.now.start run.now.events first end) }
 {
-    let stretches = Stretches::new(alloc, run, first, end, workers);
-    let best = judge_all(rt, alloc, stretches.count, workers, &stretches, gate)?;
-    match best {
-        Some(found) => Ok(found.1),
-        None => Ok(Verdict::Pass {
-            moments: u64::from(end - first),
-            images: run.images(alloc, first, end)?,
-        }),
-    }
+    let moments = CheckedMoments { run };
+    judge_between(rt, alloc, &moments, first, end, workers, gate)
 }
 
 /// The verdict by the calling thread, to which the whole run is one piece of work.
@@ -137,7 +130,7 @@ fn check_alone<G: Gate>(
     medium: &Medium,
     trace: &Trace,
     gate: &G,
-) -> Result<Verdict, CheckFault>
+) -> Result<Verdict<Cause>, CheckFault>
     requires { HasLines medium.now trace.now.events }
     ensures ok { IfOk result (λ verdict. IsVerdict plan.now.operations medium.now trace.now.events verdict) }
     ensures sound { IfOk result (λ verdict. AreSound plan.now.operations trace.now.events (length trace.now.events)) }

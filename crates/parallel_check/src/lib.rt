@@ -8,5 +8,5 @@ pub use check::{check_parallel, check_part};
 pub use part::Part;
 
 mod check;
+mod moments;
 mod part;
-mod stretches;

@@ -4,14 +4,14 @@ ghost use Rattle.crash_image.specs.Totals.{IsImageSum};
 ghost use Rattle.crash_image.specs.View.{HasLines};
 ghost use Rattle.image_check.specs.OrderFaults.{AreSound};
 ghost use Rattle.image_check.specs.Verdicts.{IsRefusal, IsVerdictBetween};
-ghost use Rattle.parallel_check.specs.Parts.{end_of};
-ghost use Rattle.store_trace.specs.declared.event.Event.{Event as AnEvent};
-ghost use Rattle.std.specs.Prelude.{◌≡◌, ℕ, ◌+◌, ◌<◌, ◌≤◌, List, length, IfErr, IfOk, IfSome};
+ghost use Rattle.parallel_moments.specs.Rows.{end_of};
+ghost use Rattle.std.specs.Prelude.{◌≡◌, ◌+◌, ◌<◌, ◌≤◌, length, IfErr, IfOk, IfSome};
 
-use crate::check::{judge_between, workers_for};
+use crate::check::{judge_run, workers_for};
 use gate::Gate;
-use image_check::{CheckFault, SoundRun, Verdict};
+use image_check::{Cause, CheckFault, SoundRun, Verdict};
 use line_memory::Medium;
+use parallel_moments::end_at;
 use plan::Plan;
 use std::alloc::{AllocError, Global};
 use std::thread::Threads;
@@ -89,14 +89,14 @@ impl<'a> Part<'a> {
         end: u32,
         workers: u32,
         gate: &G,
-    ) -> Result<Verdict, AllocError>
+    ) -> Result<Verdict<Cause>, AllocError>
         requires order { first ≤ end }
         requires there { end ≤ self.now.end }
         requires workers { (0 < workers) × (workers ≤ 8) }
         ensures { IfOk result (IsVerdictBetween self.now.run.plan self.now.run.start self.now.run.events first end) }
     {
         let workers = workers_for((self.end - self.first) as usize, workers);
-        judge_between(rt, alloc, &self.run, first, end, workers, gate)
+        judge_run(rt, alloc, &self.run, first, end, workers, gate)
     }
 
     /// How many images those of the moments that are below `end` have together, from the first on. None where one of them has over 65,536.
@@ -105,18 +105,5 @@ impl<'a> Part<'a> {
         ensures { IfOk result (λ images. IsImageSum self.now.run.events self.now.first end images) }
     {
         self.run.images(alloc, self.first, end)
-    }
-}
-
-/// One past the last of the moments asked for, of a run of so many.
-fn end_at(last: Option<u32>, moments: u32) -> u32
-    requires { (0 < moments) × (moments ≤ 65537) }
-    ensures end { (events : List AnEvent) → moments ≡ length events + 1 → result ≡ end_of events last }
-    ensures later { (first : ℕ) → first < moments → IfSome last (λ moment. first ≤ moment) → first < result }
-    ensures most { result ≤ moments }
-{
-    match last {
-        Some(last) => last.min(moments - 1) + 1,
-        None => moments,
     }
 }

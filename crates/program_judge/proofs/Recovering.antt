@@ -13,7 +13,7 @@ use Rattle.parallel_moments.specs.Rows.{end_of}
 use Rattle.schedule.specs.Steps.{all_steps}
 use Rattle.schedule.specs.declared.items.Item.{Item}
 use Rattle.store_trace.specs.declared.event.Event.{Event}
-use Rattle.tester.specs.Runs.{HasTrace, Setup, start_of}
+use Rattle.crash_test.specs.Runs.{HasTrace, Setup, start_of}
 use Rattle.program_judge.specs.Judging.{AlwaysRecovers, view_of}
 
 from_there : (fj end m : ℕ) → fj ≤ m → min (max 0 fj) end ≤ m

@@ -25,7 +25,7 @@ use Rattle.shared_memory.specs.declared.fault.StepFault.{StepFault}
 use Rattle.shared_memory.specs.declared.fault.StepFault.TheVariants as refused
 use Rattle.store_trace.specs.History.{at_moment}
 use Rattle.store_trace.specs.declared.event.Event.{Event}
-use Rattle.tester.specs.Runs.{HasTrace, IsRefused, Setup, fault_of_run, start_of}
+use Rattle.crash_test.specs.Runs.{HasTrace, IsRefused, Setup, fault_of_run, start_of}
 
 -- the routine, for so many steps at most, over these events of a run from the setup's medium
 abbrev pub view_of : Setup → Sections → ℕ → List Event → JudgeView

@@ -2,8 +2,9 @@
 
 ghost use Rattle.program_judge.specs.Judging.{AlwaysRecovers, HasNoJudgement, HasJudgement};
 ghost use Rattle.std.specs.Prelude.{◌≡◌, ◌<◌, ◌≤◌, ℕ, IfErr, IfOk, IfSome, Ok, None, Option};
-ghost use Rattle.tester.specs.Runs.{with_room};
+ghost use Rattle.crash_test.specs.Runs.{with_room};
 
+use crash_test::trace_of;
 use gate::Open;
 use image_judge::{Cause, JudgeFault, Verdict};
 use judge_marks::MarkFault;
@@ -13,7 +14,6 @@ use parallel_judge::judge_part;
 use program::Program;
 use std::alloc::Global;
 use std::thread::Threads;
-use tester::trace_of;
 use thiserror::Error;
 
 /// How a run is judged.

@@ -6,8 +6,8 @@ use Rattle.program_trace.specs.Tracing.{IsTraced}
 use Rattle.program_trace.specs.declared.tracing.RunEvents.{RunEvents}
 use Rattle.run_trace.specs.Traced.{events_in}
 use Rattle.schedule.specs.declared.items.Item.{Item}
-use Rattle.tester.specs.Explaining.{ExplainsImage}
-use Rattle.tester.specs.Runs.{HasTrace, Setup}
+use Rattle.crash_test.specs.Explaining.{ExplainsImage}
+use Rattle.crash_test.specs.Runs.{HasTrace, Setup}
 use Rattle.program_losses.specs.declared.failing.ExplainedImage.{ExplainedImage}
 
 -- the events of the run by a schedule, with their steps and pcs and as a trace

@@ -6,7 +6,7 @@ use Rattle.program_trace.specs.Tracing.{IsTraced}
 use Rattle.run_trace.specs.Traced.{events_in}
 use Rattle.schedule.specs.declared.items.Item.{Item}
 use Rattle.store_trace.specs.declared.event.Event.{Event}
-use Rattle.tester.specs.Runs.{HasTrace, Setup}
+use Rattle.crash_test.specs.Runs.{HasTrace, Setup}
 use Rattle.program_losses.specs.declared.unpersisted.UnpersistedRun.{UnpersistedRun}
 
 -- of these events what each End leaves, and what is left at the last moment of the stores outside operations

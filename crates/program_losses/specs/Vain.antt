@@ -5,7 +5,7 @@ use Rattle.needless.specs.declared.reason.Needless.{Needless}
 use Rattle.program_trace.specs.Tracing.{IsTraced}
 use Rattle.run_trace.specs.Traced.{events_in}
 use Rattle.schedule.specs.declared.items.Item.{Item}
-use Rattle.tester.specs.Runs.{HasTrace, Setup}
+use Rattle.crash_test.specs.Runs.{HasTrace, Setup}
 use Rattle.program_losses.specs.declared.vain.NeedlessRun.{NeedlessRun}
 
 -- the events of the run by a schedule, and the reasons of those that are needless

@@ -5,10 +5,11 @@ ghost use Rattle.image_causes.specs.Told.{IsToldBy};
 ghost use Rattle.program_losses.specs.Failing.{IsExplainedBy, IsExplainedImage, IsRun};
 ghost use Rattle.schedule.specs.Grammar.{hart_steps};
 ghost use Rattle.std.specs.Prelude.{◌^◌, ◌<◌, ◌≤◌, IfErr, IfOk};
-ghost use Rattle.tester.specs.Explaining.{ExplainsImage, FailsToExplain, LacksImage};
-ghost use Rattle.tester.specs.Runs.{FailsToRun, with_room};
+ghost use Rattle.crash_test.specs.Explaining.{ExplainsImage, FailsToExplain, LacksImage};
+ghost use Rattle.crash_test.specs.Runs.{FailsToRun, with_room};
 
 use crash_image::{ImageFault, ImageName};
+use crash_test::{ExplainFault, explain_image};
 use image_causes::{LogReader, Reader, ToldImage, tell_image_by};
 use line_memory::Medium;
 use machine::{Schedule, StepFault};
@@ -17,7 +18,6 @@ use program_trace::{RunEvents, trace_program};
 use run_trace::TracedEvent;
 use std::alloc::Global;
 use store_trace::Trace;
-use tester::{ExplainFault, explain_image};
 
 /// A crash image of a run: what it lacks and keeps of the lines that a recovery reads of it, told by the numbers of the run's events, and a
 /// schedule that leaves it.

@@ -3,7 +3,7 @@
 ghost use Rattle.program_losses.specs.Unpersisted.{IsUnpersistedRun};
 ghost use Rattle.schedule.specs.Grammar.{hart_steps};
 ghost use Rattle.std.specs.Prelude.{◌^◌, ◌<◌, IfErr, IfOk};
-ghost use Rattle.tester.specs.Runs.{FailsToRun, with_room};
+ghost use Rattle.crash_test.specs.Runs.{FailsToRun, with_room};
 
 use durability::{Unpersisted, tell_unpersisted};
 use line_memory::Medium;

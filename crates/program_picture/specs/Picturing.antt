@@ -6,10 +6,10 @@ use Rattle.image_name.specs.declared.name.ImageName.{ImageName}
 use Rattle.schedule.specs.declared.items.Item.{Item}
 use Rattle.shared_memory.specs.declared.fault.StepFault.TheVariants as refused
 use Rattle.store_trace.specs.declared.event.Event.{Event}
-use Rattle.tester.specs.Explaining.{HasImage, LacksImage}
-use Rattle.tester.specs.Runs.{HasTrace, IsRefused, Setup}
-use Rattle.tester.specs.declared.explaining.ExplainFault.{ExplainFault}
-use Rattle.tester.specs.declared.explaining.ExplainFault.TheVariants.{Step, NoSuchMoment, NoSuchImage, Memory}
+use Rattle.crash_test.specs.Explaining.{HasImage, LacksImage}
+use Rattle.crash_test.specs.Runs.{HasTrace, IsRefused, Setup}
+use Rattle.crash_test.specs.declared.explaining.ExplainFault.{ExplainFault}
+use Rattle.crash_test.specs.declared.explaining.ExplainFault.TheVariants.{Step, NoSuchMoment, NoSuchImage, Memory}
 
 -- events have this moment; and an image of this name there, where one is named
 abbrev pub HasImageAt : List Event → ℕ → Option ImageName → Type 0

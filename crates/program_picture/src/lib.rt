@@ -3,5 +3,5 @@
 
 mod picturing;
 
+pub use crash_test::ExplainFault;
 pub use picturing::picture_program;
-pub use tester::ExplainFault;

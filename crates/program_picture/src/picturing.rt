@@ -6,11 +6,12 @@ ghost use Rattle.object.specs.Sections.{Sections};
 ghost use Rattle.program_picture.specs.Picturing.{FailsToPicture, HasImageAt, HasPicture, IsUnnamed, LacksPicture};
 ghost use Rattle.schedule.specs.Grammar.{hart_steps};
 ghost use Rattle.std.specs.Prelude.{◌≡◌, ◌^◌, ◌<◌, ◌≤◌, ℕ, List, IfErr, IfOk, OnOk, length};
-ghost use Rattle.tester.specs.Programs.{IsProgramOf};
-ghost use Rattle.tester.specs.Runs.{FailsToRun, HasTrace, with_room};
+ghost use Rattle.crash_test.specs.Programs.{IsProgramOf};
+ghost use Rattle.crash_test.specs.Runs.{FailsToRun, HasTrace, with_room};
 
 use assemble::LineNumbers;
 use crash_image::{Cut, Cuts, ImageFault};
+use crash_test::ExplainFault;
 use image_name::ImageName;
 use line_memory::Medium;
 use machine::{Schedule, StepFault};
@@ -21,7 +22,6 @@ use run_text::line_of;
 use run_trace::TracedEvent;
 use std::alloc::{AllocError, Global};
 use store_trace::Trace;
-use tester::ExplainFault;
 
 /// A picture, as the text of an SVG, of the run of a program by a schedule up to a moment, over a medium behind a cache of as many
 /// lines, with the lines of the program's file; and with the stores that one crash image of the moment has, where one is named. A

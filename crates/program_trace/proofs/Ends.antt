@@ -11,8 +11,8 @@ use Rattle.run_trace.specs.declared.traced_event.TracedEvent.{TracedEvent}
 use Rattle.run_trace.proofs.Traces.{has_events, is_run}
 use Rattle.schedule.specs.Steps.{all_steps}
 use Rattle.schedule.specs.declared.items.Item.{Item}
-use Rattle.tester.proofs.Making.{has_run, stops_at}
-use Rattle.tester.specs.Runs.{FailsToRun, HasMade, HasRun, HasTrace, IsAtStart, Setup, start_of}
+use Rattle.crash_test.proofs.Making.{has_run, stops_at}
+use Rattle.crash_test.specs.Runs.{FailsToRun, HasMade, HasRun, HasTrace, IsAtStart, Setup, start_of}
 use Rattle.whole_run.specs.Causes.{AreCauses}
 use Rattle.whole_run.specs.Whole.{IsWhole}
 use Rattle.whole_run.specs.declared.unfinished.Unfinished.{Unfinished}

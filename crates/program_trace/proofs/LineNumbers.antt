@@ -7,7 +7,7 @@ use Rattle.assemble.proofs.OneAnswer.{no_fault}
 use Rattle.object.specs.Sections.{Sections}
 use Rattle.program_trace.specs.Lines.{line_of}
 use Rattle.run_text.specs.Places.{line_in}
-use Rattle.tester.specs.Programs.{IsObjectOf, IsProgramOf, begins_as_object}
+use Rattle.crash_test.specs.Programs.{IsObjectOf, IsProgramOf, begins_as_object}
 
 -- an object has none
 pub object_lines : (file : List ℕ) → begins_as_object file ≡ true → (pc : ℕ) → line_in None pc ≡ line_of file pc

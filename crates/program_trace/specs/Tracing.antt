@@ -5,7 +5,7 @@ use Rattle.run_trace.specs.Traced.{TracedRun}
 use Rattle.run_trace.specs.declared.traced_event.TracedEvent.{TracedEvent}
 use Rattle.schedule.specs.Steps.{all_steps}
 use Rattle.schedule.specs.declared.items.Item.{Item}
-use Rattle.tester.specs.Runs.{AreThere, IsWithin, Setup, start_of}
+use Rattle.crash_test.specs.Runs.{AreThere, IsWithin, Setup, start_of}
 
 -- the events of the run by a schedule, each step of which is there, each with the hart step that made it and the pc before
 -- that step: 65,536 at most

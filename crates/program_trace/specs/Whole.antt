@@ -3,7 +3,7 @@ use Rattle.std.specs.Prelude.{ℕ, List}
 use Rattle.machine.specs.Run.{Config, RunsTo}
 use Rattle.schedule.specs.Steps.{all_steps}
 use Rattle.schedule.specs.declared.items.Item.{Item}
-use Rattle.tester.specs.Runs.{AreThere, IsWithin, Setup, start_of}
+use Rattle.crash_test.specs.Runs.{AreThere, IsWithin, Setup, start_of}
 use Rattle.whole_run.specs.Causes.{AreCauses}
 use Rattle.whole_run.specs.Whole.{IsWhole}
 use Rattle.whole_run.specs.declared.unfinished.Unfinished.{Unfinished}

@@ -4,7 +4,7 @@ ghost use Rattle.object.specs.Sections.{Sections};
 ghost use Rattle.program_trace.specs.Lines.{line_of};
 ghost use Rattle.run_text.specs.Places.{line_in};
 ghost use Rattle.std.specs.Prelude.{◌≡◌, ℕ, IfOk};
-ghost use Rattle.tester.specs.Programs.{IsProgramOf};
+ghost use Rattle.crash_test.specs.Programs.{IsProgramOf};
 
 use assemble::{AsmCode, LineNumbers, line_numbers};
 use object::MAGIC;

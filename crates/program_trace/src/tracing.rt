@@ -5,15 +5,15 @@ ghost use Rattle.run_trace.specs.Traced.{events_in};
 ghost use Rattle.schedule.specs.Grammar.{hart_steps};
 ghost use Rattle.std.specs.Prelude.{◌≡◌, ◌^◌, ◌<◌, All, IfErr, IfOk, length};
 ghost use Rattle.store_trace.specs.TraceView.{NamesLine};
-ghost use Rattle.tester.specs.Runs.{FailsToRun, HasTrace, with_room};
+ghost use Rattle.crash_test.specs.Runs.{FailsToRun, HasTrace, with_room};
 
+use crash_test::start_program;
 use line_memory::Medium;
 use machine::{Schedule, StepFault};
 use program::Program;
 use run_trace::{TracedEvent, TracedMachine, trace_run};
 use std::alloc::Global;
 use store_trace::Trace;
-use tester::start_program;
 
 /// The events of a program's run.
 #[derive(Drop)]

@@ -2,15 +2,15 @@
 
 ghost use Rattle.program_trace.specs.Whole.{AreCausesOfRun, RunsWhole};
 ghost use Rattle.std.specs.Prelude.{◌≡◌, [], IfErr, IfOk};
-ghost use Rattle.tester.specs.Runs.{FailsToRun, with_room};
+ghost use Rattle.crash_test.specs.Runs.{FailsToRun, with_room};
 ghost use Rattle.whole_run.specs.Causes.{numbers_of};
 
+use crash_test::replay;
 use line_memory::Medium;
 use machine::{Schedule, StepFault};
 use plan::Operation;
 use program::Program;
 use std::alloc::Global;
-use tester::replay;
 use whole_run::{Unfinished, find_unfinished};
 
 /// What keeps the run of a program by a schedule from being whole, over a copy of a medium behind a cache of as many lines:

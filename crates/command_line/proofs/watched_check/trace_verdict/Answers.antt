@@ -1,5 +1,5 @@
 -- Where there is nothing to check nothing is told.
-use Rattle.parallel_check.specs.Parts.{end_of}
+use Rattle.parallel_moments.specs.Rows.{end_of}
 use Rattle.command_line.specs.Checking.{passes_at}
 use Rattle.command_line.specs.Verdicts.{first_of, last_of}
 use Rattle.command_line.proofs.OnTheWay.{told_nothing}

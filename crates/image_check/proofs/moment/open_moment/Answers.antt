@@ -1,28 +1,16 @@
-use Rattle.image_check.proofs.Opening.{fail_moment, flags_moment, over_moment, pass_moment}
+use Rattle.std.proofs.Common.{take, refl}
+use Rattle.store_trace.specs.History.{at_moment}
+use Rattle.image_check.proofs.Opening.{found_alike, opened_moment}
 use Rattle.image_check.proofs.moment.open_moment.Goals as goal
 
-pub returns-in-Over-clause-ok : goal.returns-in-Over-clause-ok
-returns-in-Over-clause-ok c =
+pub open_moment-requires-clause-alike : goal.open_moment-requires-clause-alike
+open_moment-requires-clause-alike c κs within = λ k other found same f.
     let images = c.args.images.now in
-    over_moment images.index.now.start c.args.medium.now images.index.now.events c.args.trace.now.events images.moment c.requires.medium c.requires.trace
-    (rw c.in-Over.is at c.in_ok-open.ensures.over)
+    found_alike images.plan.now.operations images.index.now.start (take images.moment images.index.now.events) (at_moment images.index.now.events images.moment) k
+    other found same f
 
-pub returns-in-Pass-clause-ok : goal.returns-in-Pass-clause-ok
-returns-in-Pass-clause-ok c =
+pub returns-clause-ok : goal.returns-clause-ok
+returns-clause-ok c =
     let images = c.args.images.now in
-    pass_moment images.plan.now.operations images.index.now.start c.args.medium.now images.index.now.events c.args.trace.now.events images.moment c.requires.medium
-    c.requires.trace (rw c.in-Pass.is at c.in_ok-open.ensures.few) (rw c.in-Pass.is at c.in_ok-open.ensures.pass)
-
-pub returns-in-Pass-clause-asked : goal.returns-in-Pass-clause-asked
-returns-in-Pass-clause-asked c =
-    let images = c.args.images.now in
-    flags_moment images.index.now.start c.args.medium.now images.index.now.events c.args.trace.now.events images.moment c.open.new.self c.requires.medium c.requires.trace
-    (rw c.in-Pass.is at c.in_ok-open.ensures.asked)
-
-pub returns-in_ok-image-in-Bad-clause-ok : goal.returns-in_ok-image-in-Bad-clause-ok
-returns-in_ok-image-in-Bad-clause-ok c =
-    let images = c.args.images.now in
-    let bad = rw c.in-Bad.is at c.in_ok-open.ensures.bad in
-    fail_moment images.plan.now.operations images.index.now.start c.args.medium.now images.index.now.events c.args.trace.now.events images.moment c.in-Bad.numbers.items
-    c.deref.result.now c.in_ok-image-in-Bad.image c.in-Bad.cause c.requires.medium c.requires.trace c.deref.ensures.value
-    (rw c.in-Bad.is at c.in_ok-open.ensures.few) bad.0 c.in_ok-image-in-Bad.ensures.ok
+    opened_moment images.plan.now.operations images.plan.now.operations images.index.now.start c.args.medium.now images.index.now.events c.args.trace.now.events
+    images.moment images.moment c.in_ok-verdict.verdict refl c.requires.medium c.requires.trace refl c.in_ok-verdict.ensures.ok

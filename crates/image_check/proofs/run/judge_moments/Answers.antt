@@ -3,7 +3,7 @@ use Rattle.std.specs.Result.{result_ok}
 use Rattle.crash_image.specs.Totals.{IsImageSum}
 use Rattle.nova_log.specs.Volumes.{volume_of}
 use Rattle.store_trace.specs.declared.event.Event.{Event}
-use Rattle.image_check.specs.declared.verdict.MomentVerdict.TheVariants as moments
+use Rattle.moment_verdict.specs.declared.verdict.MomentVerdict.TheVariants as moments
 use Rattle.image_check.proofs.Opening.{asked_next, images_apart, images_whole, passes_named, verdict_named}
 use Rattle.image_check.proofs.Passing.{pass_more}
 use Rattle.image_check.proofs.run.judge_moments.Goals as goal

@@ -1,5 +1,5 @@
 use Rattle.std.proofs.Common.{◌∙◌}
-use Rattle.parallel_check.specs.Parts.{end_of}
+use Rattle.parallel_moments.specs.Rows.{end_of}
 use Rattle.parallel_check.proofs.Passing.{part_of}
 use Rattle.parallel_check.proofs.check.check_part.Goals as goal
 

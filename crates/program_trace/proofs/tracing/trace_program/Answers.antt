@@ -1,6 +1,6 @@
 -- What the machine's run says of the run of the setup.
 use Rattle.std.proofs.Common.{ℕ, ◌∙◌, subst}
-use Rattle.tester.specs.Runs.{IsAtStart, setup, with_room}
+use Rattle.crash_test.specs.Runs.{IsAtStart, setup, with_room}
 use Rattle.program_trace.proofs.Ends.{is_traced, named_of_new, trace_of_new}
 use Rattle.program_trace.proofs.tracing.trace_program.Goals as goal
 

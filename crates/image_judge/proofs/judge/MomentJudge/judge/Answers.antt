@@ -31,13 +31,13 @@ new-images-requires-clause-whole g c =
     subst (λ (view : JudgeView). AreMedia view.start view.events c.args.moment) c.run.view_is
     (images_whole i.medium.now i.trace.now.events c.args.moment c.run.invariant.4 c.run.invariant.5)
 
-pub open_moment-requires-clause-alike : goal.open_moment-requires-clause-alike
-open_moment-requires-clause-alike g c κs within = λ k other found same f.
+pub open_moment_shared-requires-clause-alike : goal.open_moment_shared-requires-clause-alike
+open_moment_shared-requires-clause-alike g c κs within = λ k other found same f.
     let s = c.new-images.result in
     found_alike s.run.now (is_among s.window s.moment) s.moment k other found same f
 
-pub open_moment-requires-clause-fits : goal.open_moment-requires-clause-fits
-open_moment-requires-clause-fits g c κs within =
+pub open_moment_shared-requires-clause-fits : goal.open_moment_shared-requires-clause-fits
+open_moment_shared-requires-clause-fits g c κs within =
     let e = c.new-images.ensures in
     let window = c.window-window.result in
     let view = c.self.inside.run.now in

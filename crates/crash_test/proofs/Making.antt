@@ -1,0 +1,64 @@
+-- What a machine has made that was at the start of a setup.
+use Rattle.std.proofs.Common.{◌≡◌, ◌⊎◌, ℕ, ◌<◌, ◌≤◌, List, All, length, inl, inr, sym, ap, ◌∙◌}
+use Rattle.std.proofs.lemmas.Bool.{cases_lt}
+use Rattle.std.proofs.lemmas.List.FromFn.{length-map-range_with_len}
+use Rattle.hart.specs.Effect.{start}
+use Rattle.machine.specs.Stands.{IsThere, MachineView, Runs, Stands}
+use Rattle.machine.specs.Stops.{StopsAt}
+use Rattle.machine.specs.declared.fault.RunStop.{RunStop}
+use Rattle.recording.proofs.Numbering.{all_among}
+use Rattle.schedule.specs.Steps.{all_steps}
+use Rattle.schedule.specs.declared.items.Item.{Item}
+use Rattle.schedule.specs.declared.items.Step.{Step}
+use Rattle.shared_memory.specs.declared.fault.StepFault.TheVariants.{NoSuchHart, OutOfLimits}
+use Rattle.crash_test.specs.Runs.{AreThere, FailsToRun, HasMade, HasRun, IsAtStart, IsOutside, IsWithin, Setup, start_of}
+
+-- a number that isn't outside two limits is within them
+between : (low n high : ℕ) → ((n < low) ⊎ (high < n) → ⊥) → (low ≤ n) × (n ≤ high)
+between low n high inside = (elim (cases_lt n low) [ inl below ↦ absurd (inside (inl below)) | inr rest ↦ rest ], elim (cases_lt high n) [ inl above ↦ absurd (inside (inr above)) | inr rest ↦ rest ])
+
+-- where there is a machine, its numbers are within their limits
+pub is_within : (s : Setup) → (IsOutside s NoSuchHart → ⊥) → (IsOutside s OutOfLimits → ⊥) → IsWithin s
+is_within s harts lines =
+    let few = between 1 s.harts 8 harts in
+    let bounded = between 1 s.capacity 16384 (λ outside. lines (few.0, few.1, outside)) in
+    record { some_harts = few.0; few_harts = few.1; some_lines = bounded.0; few_lines = bounded.1 }
+
+-- a machine at the start has as many harts as its setup says
+harts_of : (s : Setup) (machine : MachineView) → Stands machine (start_of s) → length machine.harts ≡ s.harts
+harts_of s machine stands = ap length stands.harts ∙ length-map-range_with_len start 0 s.harts
+
+-- what is there for a machine at the start is there for its setup
+pub are_there : (s : Setup) (machine : MachineView) (steps : List Step) → Stands machine (start_of s)
+    → length machine.shared.cache.lines ≡ length s.medium → All (IsThere machine) steps → AreThere s steps
+are_there s machine steps stands lines there =
+    all_among machine s.harts (length s.medium) steps (sym (harts_of s machine stands)) (sym lines) there
+
+has_made : (s : Setup) (steps : List Step) (old new : MachineView) → IsAtStart s old → Runs old new steps
+    → length new.shared.trace ≤ 65536 → HasMade s steps new
+has_made s steps old new at runs few =
+    let made = runs.stands (start_of s) at.stands in
+    record {
+      within = at.within;
+      there = are_there s old steps at.stands (ap length at.lines) runs.there;
+      end = made.0;
+      run = made.1;
+      stands = made.2;
+      lines = runs.lines ∙ ap length at.lines;
+      few = few;
+    }
+
+pub has_run : (s : Setup) (schedule : List Item) (old new : MachineView) → IsAtStart s old → Runs old new (all_steps schedule)
+    → length new.shared.trace ≤ 65536 → HasRun s schedule new
+has_run s schedule old new at runs few =
+    record { has_made = has_made s (all_steps schedule) old new at runs few; capacity = runs.capacity ∙ at.capacity }
+
+pub stops_at : (s : Setup) (schedule : List Item) (old new : MachineView) (stop : RunStop) → IsAtStart s old
+    → StopsAt old new schedule stop → length new.shared.trace ≤ 65536 → FailsToRun s schedule stop.fault
+stops_at s schedule old new stop at stops few = inr (inr (record {
+  machine = new;
+  item = stop.item;
+  steps = stop.steps;
+  has_made = has_made s _ old new at stops.runs few;
+  refused = stops.refused;
+}))

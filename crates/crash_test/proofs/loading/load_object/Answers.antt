@@ -1,0 +1,8 @@
+use Rattle.std.proofs.Common.{rules}
+use Rattle.crash_test.proofs.loading.load_object.Goals as goal
+
+pub read_object-requires : goal.read_object-requires
+read_object-requires c = search rules
+
+pub assemble_source-requires : goal.assemble_source-requires
+assemble_source-requires c = search rules

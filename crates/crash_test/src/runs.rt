@@ -1,0 +1,153 @@
+//! Runs of a program: on harts that run together, and by a schedule.
+
+ghost use Rattle.crash_image.specs.View.{HasLines};
+ghost use Rattle.schedule.specs.Grammar.{hart_steps};
+ghost use Rattle.std.specs.Prelude.{◌≡◌, ◌^◌, ◌<◌, IfErr, IfOk};
+ghost use Rattle.crash_test.specs.Runs.{FailsToRun, FailsToStart, FailsTogether, HasRun, HasRunTogether, HasTrace, IsAtStart, IsRunOf, IsUnfinished, setup, unfinished_of, with_room};
+
+use bus::{Bus, FinishFault, RunFault, run_harts};
+use gate::Open;
+use line_memory::Medium;
+use machine::{Machine, Schedule, StepFault};
+use program::Program;
+use recording::Recorded;
+use std::alloc::Global;
+use std::sync::Wait;
+use std::thread::Threads;
+use store_trace::Trace;
+use thiserror::Error;
+
+/// Why harts haven't run a program together.
+#[derive(Clone, Copy, Debug, PartialEq, Eq, Error)]
+pub enum TogetherFault {
+    /// A number is outside its limits, or a hart's step was refused, that of the lowest such hart; or memory or a thread was.
+    #[error("{0}")]
+    Step(StepFault),
+    /// B3: what the harts have made doesn't agree with what they share.
+    #[error("B3")]
+    Foreign,
+}
+
+/// Runs a program on one to eight harts, each in a thread of its own, over the medium behind an empty cache of 1 to 16,384
+/// lines, until each hart has stopped or has made as many steps as `steps` says, from 1 to 500,000,000; and gives the run that
+/// they made: its schedule has the steps of all harts in the order in which they came to memory. Harts that race may make
+/// another run the next time.
+///
+/// # Errors
+/// NoSuchHart where `harts` isn't from 1 to 8, and else OutOfLimits where `capacity` or `steps` is outside its limits. Else
+/// TraceFull where a step's event finds the trace full, which stops all harts; Memory where a growth or a thread is refused;
+/// Foreign where what the harts have made doesn't agree.
+pub fn run_program<R: Threads + Wait + Sync>(
+    rt: &R,
+    alloc: Global,
+    program: Program,
+    medium: Medium,
+    harts: u32,
+    capacity: u32,
+    steps: u32,
+) -> Result<Recorded, TogetherFault>
+    ensures ok { IfOk result (HasRunTogether (setup program medium harts capacity) steps) }
+    ensures run { IfOk result (IsRunOf (setup program medium harts capacity)) }
+    ensures few { IfOk result (λ recorded. hart_steps recorded.items < 2 ^ 32) }
+    ensures err { IfErr result (FailsTogether (setup program medium harts capacity) steps) }
+{
+    let (bus, seats) = match Bus::new(alloc, &program, medium, harts, capacity, steps) {
+        Ok(made) => made,
+        Err(fault) => return Err(TogetherFault::Step(fault)),
+    };
+    match run_harts(rt, alloc, bus, seats, &Open) {
+        Ok(recorded) => {
+            // The trace is within its limit, and as many lines are left as there were.
+            prove!(recorded.trace().events().len() <= 65_536);
+            prove!(recorded.left().lines() == recorded.start().lines());
+            Ok(recorded)
+        }
+        Err(RunFault::Step(fault)) => Err(TogetherFault::Step(fault)),
+        Err(RunFault::Finish(fault)) => Err(unfinished(fault)),
+    }
+}
+
+/// What is told of seats that aren't gathered, each hart having its own.
+fn unfinished(fault: FinishFault) -> TogetherFault
+    requires { IsUnfinished fault }
+    ensures { result ≡ unfinished_of fault }
+{
+    match fault {
+        FinishFault::Foreign => TogetherFault::Foreign,
+        FinishFault::Memory => TogetherFault::Step(StepFault::Memory),
+        FinishFault::SeatMissing | FinishFault::SeatNumber => unreachable!(),
+    }
+}
+
+/// Runs a program by a schedule on one to eight harts, over the medium behind an empty cache of 1 to 16,384 lines.
+///
+/// # Errors
+/// NoSuchHart where `harts` isn't from 1 to 8, and else OutOfLimits where `capacity` is outside its limits; else why the
+/// first step that is refused is so. Memory where a growth is refused.
+#[tactic(auto, using(crate::proofs::Making::stops_at))]
+pub fn replay(
+    alloc: Global,
+    program: Program,
+    medium: Medium,
+    harts: u32,
+    capacity: u32,
+    schedule: &Schedule,
+) -> Result<Machine, StepFault>
+    ensures ok { IfOk result (HasRun (setup program medium harts capacity) schedule.now) }
+    ensures err { IfErr result (FailsToRun (setup program medium harts capacity) schedule.now) }
+{
+    let mut machine = start_program(alloc, program, medium, harts, capacity)?;
+    let ended = machine.run(schedule);
+    // The trace is within its limit, also where a step was refused.
+    prove!(machine.events().len() <= 65_536);
+    match ended {
+        Ok(()) => Ok(machine),
+        Err(stop) => Err(stop.fault),
+    }
+}
+
+/// A machine of one to eight harts that has made no step of a program, over the medium behind an empty cache of 1 to
+/// 16,384 lines.
+///
+/// # Errors
+/// NoSuchHart where `harts` isn't from 1 to 8, and else OutOfLimits where `capacity` is outside its limits. Memory where a
+/// growth is refused.
+#[tactic(auto, using(crate::proofs::Making::is_within))]
+pub fn start_program(
+    alloc: Global,
+    program: Program,
+    medium: Medium,
+    harts: u32,
+    capacity: u32,
+) -> Result<Machine, StepFault>
+    ensures ok { IfOk result (IsAtStart (setup program medium harts capacity)) }
+    ensures err { IfErr result (FailsToStart (setup program medium harts capacity)) }
+{
+    match Machine::new(alloc, program, medium, harts, capacity) {
+        Ok(machine) => Ok(machine),
+        Err(fault) => Err(fault),
+    }
+}
+
+/// The events of a run by a schedule, over a copy of the medium behind a cache of as many lines.
+pub fn trace_of(
+    alloc: Global,
+    program: Program,
+    medium: &Medium,
+    harts: u32,
+    schedule: &Schedule,
+) -> Result<Trace, StepFault>
+    ensures ok { IfOk result (λ trace. HasTrace (with_room program medium.now harts) schedule.now trace.events) }
+    ensures named { IfOk result (λ trace. HasLines medium.now trace.events) }
+    ensures err { IfErr result (FailsToRun (with_room program medium.now harts) schedule.now) }
+{
+    let Ok(copy) = medium.copy(alloc) else {
+        return Err(StepFault::Memory);
+    };
+    let machine = match replay(alloc, program, copy, harts, medium.lines(), schedule) {
+        Ok(machine) => machine,
+        Err(fault) => return Err(fault),
+    };
+    let (_left, trace) = machine.power_cut();
+    Ok(trace)
+}
