@@ -6,7 +6,6 @@ use Rattle.std.proofs.lemmas.Bool.{cases_Bool}
 use Rattle.std.proofs.lemmas.List.{take_more}
 use Rattle.std.proofs.lemmas.List.Elements.{filter-append}
 use Rattle.std.proofs.lemmas.Option.{slice_get-get_or}
-use Rattle.crash_model.specs.declared.step.PersistenceStep.{PersistenceStep}
 use Rattle.nova_log.specs.Volumes.{volume_of}
 use Rattle.nova_log.specs.declared.fault.VolumeFault.{VolumeFault}
 use Rattle.plan.specs.declared.operation.Operation.{Operation}
@@ -20,27 +19,14 @@ use Rattle.image_check.specs.Legal.{IsLegal, with_entries}
 use Rattle.image_check.specs.Marks.{begun, begun_by, ended, ended_by, is_open, pending}
 use Rattle.image_check.specs.OrderFaults.{AreSound, HasFault}
 use Rattle.image_check.specs.Planned.{planned}
-use Rattle.image_check.specs.Verdicts.{AreFlagged, IsMomentVerdict}
+use Rattle.image_check.specs.Verdicts.{AreFlagged, IsMomentVerdict, asks_at, found_at}
 use Rattle.image_check.specs.declared.fault.OpFault.TheVariants.{BegunTwice}
+use Rattle.moment_verdict.proofs.Keeping.{like_next, pass_kept}
 use Rattle.moment_verdict.specs.declared.verdict.MomentVerdict.TheVariants as moments
 use Rattle.image_check.proofs.Beginning.{sound_first, unended}
-use Rattle.image_check.proofs.Keeping.{AreLike, flags_kept, like_clean, like_fence, like_same, like_store, pass_kept}
+use Rattle.image_check.proofs.Keeping.{by_lines, unseen}
 use Rattle.image_check.proofs.Members.{contains_first, contains_later, from_filter}
 use Rattle.image_check.proofs.Noting.{begin_noted, ended_kept, other_noted}
-use Rattle.image_check.proofs.Reading.{history_append}
-
-like_event : (start : List (List ℕ)) (before : List Event) (event : Event) (flags : List Bool) → KeepsPass flags event →
-    AreFlagged start (history before) flags → AreLike start (history before) (history (before ++ event ∷ []))
-like_event start before (Store hart m o w v) flags k f =
-    subst (λ (p : List PersistenceStep). AreLike start (history before) p) (sym (history_append before (Store hart m o w v ∷ [])))
-    (like_store start m o w v (history before) flags f k)
-like_event start before (Clean hart m) flags k f =
-    subst (λ (p : List PersistenceStep). AreLike start (history before) p) (sym (history_append before (Clean hart m ∷ []))) (like_clean start hart m (history before))
-like_event start before (Fence hart) flags k f =
-    subst (λ (p : List PersistenceStep). AreLike start (history before) p) (sym (history_append before (Fence hart ∷ []))) (like_fence start hart (history before))
-like_event start before (Begin hart op) flags k f =
-    subst (λ (p : List PersistenceStep). AreLike start (history before) p) (sym (history_append before (Begin hart op ∷ []))) (like_same start (history before))
-like_event start before (End hart op) flags k f = absurd k
 
 -- where no operation begins or ends, the same is legal
 legal_same : (plan : List Operation) (r : Result (List (List Entry)) VolumeFault) (before after : List Event) (v : List (List Entry)) →
@@ -128,14 +114,14 @@ pub kept_next : (plan : List Operation) (start : List (List ℕ)) (events : List
 kept_next plan start events i d flags l s k f pass =
     let event = get_or events i d in
     let before = take i events in
-    let same : before ++ event ∷ [] ≡ take (i + 1) events = sym (take_more events i d l) in
-    let like = like_event start before event flags k f in
+    let after = take (i + 1) events in
+    let same : before ++ event ∷ [] ≡ after = sym (take_more events i d l) in
     let twice : ¬ HasFault plan before event BegunTwice = s i event BegunTwice l (slice_get-get_or events i d l) in
-    let legal : (v : List (List Entry)) → IsLegal plan (volume_of start) before v → IsLegal plan (volume_of start) (before ++ event ∷ []) v =
-    λ v h. legal_event plan (volume_of start) before event flags v (sound_first plan events i (omega arith) s) twice k h in (
-      subst (λ (es : List Event). AreFlagged start (history es) flags) same (flags_kept start (history before) (history (before ++ event ∷ [])) flags like f),
-      subst (λ (es : List Event). IsMomentVerdict plan start es moments.Pass) same (pass_kept plan start before (before ++ event ∷ []) like legal pass),
-    )
+    let legal : (v : List (List Entry)) → IsLegal plan (volume_of start) before v → IsLegal plan (volume_of start) after v =
+    λ v h. subst (λ (es : List Event). IsLegal plan (volume_of start) es v) same
+    (legal_event plan (volume_of start) before event flags v (sound_first plan events i (omega arith) s) twice k h) in
+    pass_kept start (history before) (history after) flags (asks_at start (history before)) (asks_at start (history after)) (found_at plan start before)
+    (found_at plan start after) (like_next start events i d flags l (unseen flags event k)) (by_lines plan start before after legal) f pass
 
 -- the same of a moment and the one before it
 pub kept_at : (plan : List Operation) (start : List (List ℕ)) (events : List Event) (moment : ℕ) (d : Event) (flags : List Bool) → 0 < moment →

@@ -1,10 +1,9 @@
 -- The lines of the image of a cut, read from the index.
-use Rattle.std.proofs.Common.{◌≡◌, ℕ, ◌<◌, ◌≤◌, Bool, true, false, cond, List, [], ◌∷◌, ◌++◌, length, take, drop, reverse, sym, ap, subst, ◌∙◌, arith}
+use Rattle.std.proofs.Common.{◌≡◌, ℕ, ◌<◌, ◌≤◌, Bool, true, false, cond, List, [], ◌∷◌, ◌++◌, length, take, drop, sym, ap, subst, ◌∙◌, arith}
 use Rattle.std.specs.Prelude.{All}
-use Rattle.std.specs.List.{AllByRecursion, flat_map}
+use Rattle.std.specs.List.{AllByRecursion}
 use Rattle.std.proofs.lemmas.Bool.Decides.{nat_tests}
-use Rattle.std.proofs.lemmas.Grind.{flat_map-append}
-use Rattle.std.proofs.lemmas.List.{reverse-append, take-append-drop}
+use Rattle.std.proofs.lemmas.List.{take-append-drop}
 use Rattle.std.proofs.lemmas.List.Elements.{All-take}
 use Rattle.crash_image.proofs.Lined.{image_is_medium}
 use Rattle.crash_model.proofs.Images.{image_line, length_image}
@@ -13,8 +12,9 @@ use Rattle.crash_model.specs.Stores.{stores}
 use Rattle.crash_model.specs.declared.step.PersistenceStep.{PersistenceStep}
 use Rattle.crash_model.specs.declared.step.PersistenceStep.TheVariants as step
 use Rattle.line_memory.specs.Lines.{IsMedium, line_at}
+use Rattle.moment_verdict.proofs.Keeping.{history_append}
 use Rattle.nova_log.specs.Sources.{Source}
-use Rattle.store_trace.specs.History.{at_moment, history, steps_of}
+use Rattle.store_trace.specs.History.{at_moment, history}
 use Rattle.store_trace.specs.TraceView.{IsEvent}
 use Rattle.store_trace.specs.declared.event.Event.{Event}
 use Rattle.trace_index.specs.View.{IndexView}
@@ -26,9 +26,6 @@ stores_later l (step.Store m o w v ∷ q) p = grind (arith, nat_tests, stores_la
 stores_later l (step.Clean h m ∷ q) p = stores_later l q p
 stores_later l (step.Fence h ∷ q) p = stores_later l q p
 stores_later l (step.Evict m ∷ q) p = stores_later l q p
-
-pub history_append : (xs ys : List Event) → history (xs ++ ys) ≡ history ys ++ history xs
-history_append xs ys = ap (λ (es : List Event). flat_map steps_of es) (reverse-append xs ys) ∙ flat_map-append steps_of (reverse ys) (reverse xs)
 
 -- a moment has no more stores than the whole trace
 pub stores_at_moment : (l : ℕ) (events : List Event) (moment : ℕ) → stores l (at_moment events moment) ≤ stores l (history events)

@@ -26,7 +26,7 @@ use crate::{Cause, CheckFault};
 use branches::Opener;
 use crash_image::images_between;
 use line_memory::Medium;
-use moment_verdict::{MomentVerdict, Verdict};
+use moment_verdict::{MomentVerdict, Verdict, is_unseen};
 use plan::Plan;
 use std::alloc::Global;
 use store_trace::{Event, Trace};
@@ -188,8 +188,7 @@ pub fn spoils_nothing(event: Event, opener: &Opener) -> bool
     ensures { IsTrue result ↔ KeepsPass opener.now event }
 {
     match event {
-        Event::Store { line, .. } => !opener.was_asked(line),
-        Event::Clean { .. } | Event::Fence { .. } | Event::Begin { .. } => true,
         Event::End { .. } => false,
+        _ => is_unseen(event, opener),
     }
 }

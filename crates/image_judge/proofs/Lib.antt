@@ -1,4 +1,5 @@
 pub mod Beginning
 pub mod Gathering
+pub mod Keeping
 pub mod Looking
 pub mod Running

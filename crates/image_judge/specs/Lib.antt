@@ -4,3 +4,4 @@ pub mod RightAnswers
 pub mod Branchwise
 pub mod Gathered
 pub mod Verdicts
+pub mod Standing

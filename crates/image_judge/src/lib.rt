@@ -10,6 +10,7 @@ mod fault;
 mod images;
 mod judge;
 mod lines;
+mod passing;
 mod right;
 mod run;
 mod window;

@@ -49,6 +49,7 @@ impl WindowAnswers {
         requires program { routine.old.program ≡ run.now.routine }
         requires lines { routine.old.lines ≡ length run.now.start }
         ensures right { OnOk result (AreAnswers run.now (is_among window moment) self.new.right) }
+        ensures window { OnOk result (self.new.window ≡ window) }
         ensures kept { AreKept run.now self.new.window self.new.right }
         ensures program { routine.new.program ≡ run.now.routine }
         ensures lines { routine.new.lines ≡ length run.now.start }
@@ -146,7 +147,7 @@ impl WindowAnswers {
 }
 
 /// Whether a window is the same at each of its moments.
-fn is_fixed(window: Window) -> bool
+pub fn is_fixed(window: Window) -> bool
     ensures { IsTrue result → window ≢ Itself }
 {
     match window {

@@ -5,4 +5,5 @@ pub mod Faulting
 pub mod Looping
 pub mod Marked
 pub mod Spanning
+pub mod Staying
 pub mod Telling

@@ -1,10 +1,10 @@
 //! What holds of the windows of moments.
 
-ghost use Rattle.image_check.specs.Marks.{pending};
+ghost use Rattle.image_check.specs.Marks.{begun_by, ended_by, pending};
 ghost use Rattle.judge_marks.specs.MarkFaults.{AreSound};
 ghost use Rattle.judge_marks.specs.Windows.{IsAlonePending, IsPendingFrom, IsWindow};
 ghost use Rattle.judge_marks.specs.declared.moments.Window.{Window as AWindow};
-ghost use Rattle.std.specs.Prelude.{◌≡◌, ◌↔◌, ◌<◌, ◌≤◌, ℕ, false, Contains, List, length, take};
+ghost use Rattle.std.specs.Prelude.{◌≡◌, ◌↔◌, ◌+◌, ◌<◌, ◌≤◌, ℕ, false, Contains, List, None, length, slice_index_or, take};
 ghost use Rattle.store_trace.specs.declared.event.Event.{Event as AnEvent};
 
 use crate::Window;
@@ -36,4 +36,12 @@ pub fn windows_lie_in_the_run()
         (before < moment) × (moment ≤ after) × (after ≤ length events) }
     ensures through { (events : List AnEvent) (moment first last : ℕ) → moment ≤ length events → IsWindow events moment (Window.Through first last) →
         (first < moment) × (moment ≤ last) × (last ≤ length events) }
+{}
+
+/// An event that is no mark leaves the window as it is.
+#[tactic(auto, using(crate::proofs::Staying::window_stays))]
+pub fn windows_stay_between_marks()
+    ensures { (events : List AnEvent) (moment : ℕ) (d : AnEvent) (window : AWindow) → moment < length events →
+        begun_by (slice_index_or events moment d) ≡ None → ended_by (slice_index_or events moment d) ≡ None →
+        IsWindow events moment window → IsWindow events (moment + 1) window }
 {}

@@ -12,6 +12,6 @@ pub use check::check_marks;
 pub use fault::MarkFault;
 pub use laws::{
     alone_is_the_only_one, one_window, operations_apart_have_few, pending_operations_began,
-    windows_lie_in_the_run,
+    windows_lie_in_the_run, windows_stay_between_marks,
 };
 pub use moments::{Window, Windows, is_judged};

@@ -1,4 +1,5 @@
 pub mod Lists
 pub mod Branching
 pub mod Deciding
+pub mod Keeping
 pub mod Parts

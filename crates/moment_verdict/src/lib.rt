@@ -7,9 +7,11 @@
 pub use image_name::ImageName;
 pub use laws::{Judging, verdicts_join};
 pub use opening::{open_moment, open_moment_shared};
+pub use unseen::is_unseen;
 pub use verdict::{MomentVerdict, Verdict};
 
 mod laws;
 mod naming;
 mod opening;
+mod unseen;
 mod verdict;

@@ -1,0 +1,16 @@
+-- What a judge of moments knows of the moment that it judged last.
+use Rattle.std.specs.Prelude.{◌≤◌, ℕ, Bool, List, length}
+use Rattle.image_judge.specs.RightAnswers.{IsFoundOf, LoadsOf, is_among}
+use Rattle.image_judge.specs.Views.{JudgeView}
+use Rattle.judge_marks.specs.Windows.{IsWindow}
+use Rattle.judge_marks.specs.declared.moments.Window.{Window}
+use Rattle.moment_verdict.specs.Verdicts.{AreFlagged, IsMomentVerdict}
+use Rattle.moment_verdict.specs.declared.verdict.MomentVerdict.TheVariants as moments
+use Rattle.store_trace.specs.History.{at_moment}
+
+-- The moment passes by the answers of its window, and each line that the routine loads of an image of it is flagged.
+pub record IsPassed (view : JudgeView) (flags : List Bool) (window : Window) (m : ℕ) : Type 0 where
+  pub there : m ≤ length view.events
+  pub is_window : IsWindow view.events m window
+  pub flagged : AreFlagged (LoadsOf view m) (at_moment view.events m) flags
+  pub passes : IsMomentVerdict (LoadsOf view m) (IsFoundOf view (is_among window m) m) (at_moment view.events m) moments.Pass
