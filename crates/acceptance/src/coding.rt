@@ -45,7 +45,7 @@ fn codes_are_told(rt: HostRuntime) -> Result<(), Fail> {
 const ALL_CODES: &str = "\
 A1 A2 A3 A4 A5 A6 A7 A8 A9 A10 P1 P2 P3 P4 P5 P6 G1 G2 G3 G4 G5 G6 B3 M3 C1 C2 \
 N1 N2 N3 N4 N5 N6 N7 N8 N9 N10 N11 L1 L2 L3 L4 L5 O1 O2 O3 O4 O5 O6 D1 D2 D3 D4 D5 \
-T1 T2 T3 T4 T5 T6 T7 illegal memory file";
+T1 T2 T3 T4 T5 T6 T7 illegal different running answer events memory file";
 
 #[test]
 fn all_codes_are_listed(rt: HostRuntime) -> Result<(), Fail> {

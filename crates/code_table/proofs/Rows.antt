@@ -1,71 +1,104 @@
--- Rows of the table: what a row says of a code, and the lines of the first rows.
-use Rattle.std.proofs.Common.{◌≡◌, ◌∙◌, ℕ, ◌+◌, ◌<◌, List, [], ◌∷◌, ◌++◌, Option, Some, None, length, get_or, map, take, ap, arith, rules, subst, sym}
+-- Rows of the table: what they say of a code, and the lines of the first ones.
+use Rattle.std.proofs.Common.{◌≡◌, ◌∙◌, ℕ, ◌+◌, ◌<◌, List, [], ◌∷◌, ◌++◌, Option, Some, None, length, get_or, take, ap, arith, subst, sym}
 use Rattle.std.specs.Prelude.{All, Any, Contains, MatchOption}
 use Rattle.std.specs.Borrow.{Bor}
 use Rattle.std.specs.List.{flat_map}
 use Rattle.std.proofs.lemmas.Grind.{flat_map-append}
-use Rattle.std.proofs.lemmas.List.{get_or-map, length-map, take_more}
-use Rattle.code_table.specs.Codes.{IsMeaningOf, Texts, meaning_line, table, texts_of}
+use Rattle.std.proofs.lemmas.List.{append-nil, get_or-map, length-map, take_more}
+use Rattle.std.proofs.lemmas.List.Concat.{get_or-flat_map}
+use Rattle.std.proofs.lemmas.List.Elements.{All-append, All-contains, All-head, All-map, All-nil, All-tail}
+use Rattle.std.proofs.lemmas.List.Folds.{flat_map-map, length-flat_map-take}
+use Rattle.code_table.specs.Codes.{HasRow, IsMeaningOf, Row, Texts, lines, meaning_line, table, texts_of, texts_of_families, texts_of_row, texts_of_rows}
 use Rattle.code_table.specs.declared.table.Meaning.{Meaning}
 
--- a row as the program holds it
-abbrev pub Row : Type 0
-Row = Bor (List ℕ) × Bor (List ℕ) × Bor (List ℕ)
+abbrev pub Family : Type 0
+Family = Bor (List Row)
 
-abbrev pub texts : Row → Texts
-texts row = (row.0.now, row.1.now, row.2.now)
+abbrev pub texts_of_family : Family → List Texts
+texts_of_family rows = texts_of_rows rows.now
 
-abbrev pub HasRow : Meaning → List Row → Type 0
-HasRow m rows = Any (λ (row : Row). (row.0.now ≡ m.code.now) × (row.1.now ≡ m.meaning.now) × (row.2.now ≡ m.remedy.now)) rows
+-- another code than this one
+abbrev pub IsOther : List ℕ → Texts → Type 0
+IsOther code row = ¬ (row.0 ≡ code)
 
-abbrev pub HasNone : List ℕ → List Row → Type 0
-HasNone code rows = All (λ (row : Row). ¬ (row.0.now ≡ code)) rows
+-- where no row of any family has the code, no row of the table of them has
+others : (families : List Family) (code : List ℕ) → All (λ rows. All (λ row. ¬ (row.0.now ≡ code)) rows.now) families
+    → All (IsOther code) (texts_of_families families)
+others [] code none = All-nil (IsOther code)
+others (rows ∷ families) code none =
+    let P : Family → Type 0 = λ rows. All (λ row. ¬ (row.0.now ≡ code)) rows.now in
+    All-append
+    (IsOther code)
+    (texts_of_rows rows.now)
+    (texts_of_families families)
+    (All-map (IsOther code) texts_of_row rows.now (All-head P rows families none))
+    (others families code (All-tail P rows families none))
 
 triple : (a b c x y z : List ℕ) → a ≡ x → b ≡ y → c ≡ z → ◌≡◌ {A = Texts} (a, b, c) (x, y, z)
 triple a b c x y z p q r = cc
 
--- rows of which none has a code don't say what it means
-no_meaning : (rows : List Row) (d : Row) (code : List ℕ) (m : Meaning) → HasNone code rows
-    → Contains (map texts rows) (texts_of m) → ¬ (m.code.now ≡ code)
-no_meaning rows d code m none has named =
-    let below : has.0 < length rows = subst (λ (n : ℕ). has.0 < n) (length-map rows texts) has.1 in
-    let found : texts (get_or rows has.0 d) ≡ texts_of m =
-    sym (get_or-map texts rows has.0 d (texts_of m) below) ∙ has.2 in
-    none has.0 d below (ap (λ (t : Texts). t.0) found ∙ named)
-
 -- a row says what its code means
-says : (rows : List Row) (m : Meaning) → HasRow m rows → Contains (map texts rows) (texts_of m)
+says : (rows : List Row) (m : Meaning) → HasRow rows m → Contains (texts_of_rows rows) (texts_of m)
 says rows m has =
     let row : Row = has.1 in
-    let same : texts row ≡ texts_of m =
+    let same : texts_of_row row ≡ texts_of m =
     triple row.0.now row.1.now row.2.now m.code.now m.meaning.now m.remedy.now has.4.0 has.4.1 has.4.2 in (
       has.0,
-      subst (λ (n : ℕ). has.0 < n) (sym (length-map rows texts)) has.2,
-      get_or-map texts rows has.0 row (texts_of m) has.2 ∙ ap texts has.3 ∙ same,
+      subst (λ (n : ℕ). has.0 < n) (sym (length-map rows texts_of_row)) has.2,
+      get_or-map texts_of_row rows has.0 row (texts_of m) has.2 ∙ ap texts_of_row has.3 ∙ same,
+    )
+
+-- so does a row of a family
+says_within : (families : List Family) (m : Meaning) → Any (λ rows. HasRow rows.now m) families
+    → Contains (texts_of_families families) (texts_of m)
+says_within families m has =
+    let there : Contains (texts_of_family (get_or families has.0 has.1)) (texts_of m) =
+    subst (λ (rows : Family). Contains (texts_of_family rows) (texts_of m)) (sym has.3) (says has.1.now m has.4) in (
+      length (texts_of_families (take has.0 families)) + there.0,
+      omega (arith, there.1, length-flat_map-take texts_of_family families has.0 has.1 has.2),
+      get_or-flat_map texts_of_family families has.0 there.0 has.1 (texts_of m) has.2 there.1 ∙ there.2,
     )
 
 -- a code that no row has means nothing, and the row of a code says what it means
-pub meaning_by_row : (rows : List Row) (code : List ℕ) (found : Option Meaning)
-    → MatchOption found (HasNone code rows) (λ m. (m.code.now ≡ code) × HasRow m rows) → map texts rows ≡ table
+pub meaning_by_row : (families : List Family) (code : List ℕ) (found : Option Meaning)
+    → MatchOption found
+    (All (λ rows. All (λ row. ¬ (row.0.now ≡ code)) rows.now) families)
+    (λ m. (m.code.now ≡ code) × Any (λ rows. HasRow rows.now m) families)
+    → texts_of_families families ≡ table
     → MatchOption found ((m : Meaning) → ¬ IsMeaningOf code m) (IsMeaningOf code)
-meaning_by_row [] code None none is = λ m means.
-    let has : Contains (map texts []) (texts_of m) = subst (λ (ts : List Texts). Contains ts (texts_of m)) (sym is) means.among in
-    absurd (omega (arith, has.1))
-meaning_by_row (row ∷ rows) code None none is = λ m means.
-    no_meaning (row ∷ rows) row code m none (subst (λ (ts : List Texts). Contains ts (texts_of m)) (sym is) means.among) means.named
-meaning_by_row rows code (Some m) has is =
-    record { named = has.0; among = subst (λ (ts : List Texts). Contains ts (texts_of m)) is (says rows m has.1) }
+meaning_by_row families code None none is = λ m means.
+    All-contains (IsOther code) table (texts_of m) (subst (All (IsOther code)) is (others families code none)) means.among means.named
+meaning_by_row families code (Some m) has is =
+    record { named = has.0; among = subst (λ (rows : List Texts). Contains rows (texts_of m)) is (says_within families m has.1) }
+
+more : {X A : Type 0} (f : X → List A) (xs : List X) (k : ℕ) (d : X) → k < length xs
+    → flat_map f (take (k + 1) xs) ≡ flat_map f (take k xs) ++ f (get_or xs k d)
+more f xs k d below =
+    ap (flat_map f) (take_more xs k d below)
+    ∙ flat_map-append f (take k xs) (get_or xs k d ∷ [])
+    ∙ ap (λ l. flat_map f (take k xs) ++ l) (append-nil (f (get_or xs k d)))
+
+abbrev pub line_of_texts : Texts → List ℕ
+line_of_texts row = meaning_line row.0 row.1
 
 abbrev pub line : Row → List ℕ
-line row = meaning_line row.0.now row.1.now
-
-append_none : (xs : List ℕ) → xs ++ [] ≡ xs
-append_none xs = search rules
+line row = line_of_texts (texts_of_row row)
 
 -- a row more
-pub lines_more : (rows : List Row) (k : ℕ) (d : Row) → k < length rows
-    → flat_map line (take (k + 1) rows) ≡ flat_map line (take k rows) ++ line (get_or rows k d)
-lines_more rows k d below =
-    ap (flat_map line) (take_more rows k d below)
-    ∙ flat_map-append line (take k rows) (get_or rows k d ∷ [])
-    ∙ ap (λ (l : List ℕ). flat_map line (take k rows) ++ l) (append_none (line (get_or rows k d)))
+pub rows_more : (rows : List Row) (k : ℕ) (d : Row) → k < length rows
+    → lines (texts_of_rows (take (k + 1) rows)) ≡ lines (texts_of_rows (take k rows)) ++ line (get_or rows k d)
+rows_more rows k d below =
+    flat_map-map line_of_texts texts_of_row (take (k + 1) rows)
+    ∙ more line rows k d below
+    ∙ ap (λ (l : List ℕ). l ++ line (get_or rows k d)) (sym (flat_map-map line_of_texts texts_of_row (take k rows)))
+
+-- a family more
+pub family_more : (families : List Family) (k : ℕ) (d : Family) (old new : List ℕ) → k < length families
+    → old ≡ lines (texts_of_families (take k families)) → new ≡ old ++ lines (texts_of_rows (get_or families k d).now)
+    → new ≡ lines (texts_of_families (take (k + 1) families))
+family_more families k d old new below so_far now =
+    let this : List ℕ = lines (texts_of_rows (get_or families k d).now) in
+    now
+    ∙ ap (λ text. text ++ this) so_far
+    ∙ sym (flat_map-append line_of_texts (texts_of_families (take k families)) (texts_of_rows (get_or families k d).now))
+    ∙ ap lines (sym (more texts_of_family families k d below))

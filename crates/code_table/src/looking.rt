@@ -1,16 +1,16 @@
 //! What a code means.
 
-ghost use Rattle.std.specs.Prelude.{◌≡◌, All, Any, MatchOption, map};
-ghost use Rattle.code_table.specs.Codes.{IsMeaningOf, Texts, all_codes, codes_of_table, table};
+ghost use Rattle.std.specs.Prelude.{◌≡◌, All, Any, MatchOption};
+ghost use Rattle.code_table.specs.Codes.{HasRow, IsMeaningOf, all_codes, codes_of_table};
 ghost use Rattle.code_table.specs.declared.table.Meaning.{Meaning as AMeaning};
 
-use crate::table::{MEANINGS, Meaning, Row};
+use crate::table::{Meaning, Row, families};
 
 /// What a code means; None where the program prints no such code.
 pub fn meaning_of(code: &str) -> Option<Meaning>
     ensures { MatchOption result ((m : AMeaning) → ¬ IsMeaningOf code.now m) (IsMeaningOf code.now) }
 {
-    meaning_among(all_rows(), code)
+    meaning_within(&families(), code)
 }
 
 /// The table has a row for each code, in their order, and no other.
@@ -18,19 +18,20 @@ pub fn all_have_meanings()
     ensures { codes_of_table ≡ all_codes }
 {}
 
-/// All rows.
-fn all_rows() -> &'static [Row]
-    ensures { map {B = Texts} (λ row. (row.0.now, row.1.now, row.2.now)) result.now ≡ table }
+/// What the first row of a code says, of those of all families.
+fn meaning_within(families: &[&'static [Row]], code: &str) -> Option<Meaning>
+    ensures { MatchOption result
+        (All (λ rows. All (λ row. ¬ (row.0.now ≡ code.now)) rows.now) families.now)
+        (λ m. (m.code.now ≡ code.now) × Any (λ rows. HasRow rows.now m) families.now) }
 {
-    &MEANINGS
+    families.iter().find_map(|rows| meaning_among(rows, code))
 }
 
-/// What the first row of a code says.
+/// What the first row of a code says, of those of one family.
 fn meaning_among(rows: &[Row], code: &str) -> Option<Meaning>
     ensures { MatchOption result
         (All (λ row. ¬ (row.0.now ≡ code.now)) rows.now)
-        (λ m. (m.code.now ≡ code.now)
-        × Any (λ row. (row.0.now ≡ m.code.now) × (row.1.now ≡ m.meaning.now) × (row.2.now ≡ m.remedy.now)) rows.now) }
+        (λ m. (m.code.now ≡ code.now) × HasRow rows.now m) }
 {
     let (code, meaning, remedy) = *rows.iter().find(|row| row.0 == code)?;
     Some(Meaning {

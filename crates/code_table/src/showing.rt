@@ -1,9 +1,9 @@
 //! Meanings as they are printed.
 
-ghost use Rattle.std.specs.Prelude.{◌≡◌, IfOk, flat_map, string_bytes};
-ghost use Rattle.code_table.specs.Codes.{list_text, meaning_line};
+ghost use Rattle.std.specs.Prelude.{◌≡◌, ◌++◌, IfOk, OnOk, string_bytes};
+ghost use Rattle.code_table.specs.Codes.{lines, list_text, texts_of_families, texts_of_rows};
 
-use crate::table::{MEANINGS, Meaning, Row};
+use crate::table::{Meaning, Row, families};
 use std::alloc::{AllocError, Global};
 use std::fmt;
 use std::fmt::Write;
@@ -24,16 +24,27 @@ impl fmt::Display for Meaning {
 pub fn list(alloc: Global) -> Result<String, AllocError>
     ensures { IfOk result (λ text. string_bytes text ≡ list_text) }
 {
-    lines_of(alloc, &MEANINGS)
+    lines_of(alloc, &families())
 }
 
-#[tactic(auto, using(crate::proofs::Rows::lines_more))]
-fn lines_of(alloc: Global, rows: &[Row]) -> Result<String, AllocError>
-    ensures { IfOk result (λ text. string_bytes text ≡ flat_map (λ row. meaning_line row.0.now row.1.now) rows.now) }
+/// The lines of the rows of families.
+fn lines_of(alloc: Global, families: &[&'static [Row]]) -> Result<String, AllocError>
+    ensures { IfOk result (λ text. string_bytes text ≡ lines (texts_of_families families.now)) }
 {
     let mut text = String::new(alloc);
+    for rows in families {
+        push_lines(&mut text, rows)?;
+    }
+    Ok(text)
+}
+
+/// Adds the lines of rows to a text.
+#[tactic(auto, using(crate::proofs::Rows::rows_more))]
+fn push_lines(text: &mut String, rows: &[Row]) -> Result<(), AllocError>
+    ensures { OnOk result (string_bytes text.new ≡ string_bytes text.old ++ lines (texts_of_rows rows.now)) }
+{
     for row in rows {
         writeln!(text, "{}: {}", row.0, row.1)?;
     }
-    Ok(text)
+    Ok(())
 }

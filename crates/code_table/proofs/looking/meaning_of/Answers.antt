@@ -4,4 +4,4 @@ use Rattle.code_table.proofs.looking.meaning_of.Goals as goal
 
 pub returns : goal.returns
 returns c =
-    meaning_by_row c.all_rows.result.now c.args.code.now c.meaning_among.result c.meaning_among.ensures c.all_rows.ensures
+    meaning_by_row c.families.result c.args.code.now c.meaning_within.result c.meaning_within.ensures c.families.ensures
