@@ -197,7 +197,7 @@ impl Standing {
             return Ok(MomentVerdict::Pass);
         }
         let verdict = open_at(rt, alloc, run, self.moment, &self.outcomes, opener)?;
-        self.passes = is_pass(&verdict);
+        self.passes = verdict.is_pass();
         Ok(verdict)
     }
 }
@@ -239,12 +239,6 @@ fn still_passes(passes: bool, trace: &Trace, moment: u32, opener: &Opener) -> bo
     ensures { IsTrue result → IsTrue passes × ((d : AnEvent) → KeepsPass opener.now (slice_index_or trace.now.events moment d)) }
 {
     passes && spoils_nothing(trace.events()[moment as usize], opener)
-}
-
-fn is_pass(verdict: &MomentVerdict<Cause>) -> bool
-    ensures { IsTrue result → verdict.now ≡ MomentVerdict.Pass }
-{
-    matches!(verdict, MomentVerdict::Pass)
 }
 
 /// Where a judge that stood here last goes on to a moment from: it never goes back.

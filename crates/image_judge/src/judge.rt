@@ -4,7 +4,7 @@ ghost use Rattle.image_judge.specs.Gathered.{AreKept};
 ghost use Rattle.image_judge.specs.Standing.{IsPassed};
 ghost use Rattle.image_judge.specs.Verdicts.{IsJudged};
 ghost use Rattle.moment_verdict.specs.Verdicts.{IfPassed};
-ghost use Rattle.std.specs.Prelude.{◌≡◌, ◌≤◌, length, IfOk, IsTrue};
+ghost use Rattle.std.specs.Prelude.{◌≡◌, ◌≤◌, length, IfOk};
 
 use crate::Cause;
 use crate::images::MomentImages;
@@ -92,7 +92,7 @@ impl<'a, 'b> MomentJudge<'a, 'b> {
             &mut self.answers,
             &mut self.opener,
         )?;
-        if is_pass(&verdict) {
+        if verdict.is_pass() {
             self.passed = Some(moment);
         }
         Ok(verdict)
@@ -128,10 +128,4 @@ fn open_at<T: Threads + Sync>(
     let images = MomentImages::new(run, moment, window, &answers.right);
     let verdict = open_moment_shared(rt, alloc, medium, trace, moment, &images, routine, opener)?;
     Ok(verdict)
-}
-
-fn is_pass(verdict: &MomentVerdict<Cause>) -> bool
-    ensures { IsTrue result → verdict.now ≡ MomentVerdict.Pass }
-{
-    matches!(verdict, MomentVerdict::Pass)
 }

@@ -1,5 +1,7 @@
 //! Verdicts on a moment and on a row of moments.
 
+ghost use Rattle.std.specs.Prelude.{◌≡◌, ◌↔◌, IsTrue};
+
 use image_name::ImageName;
 
 /// The verdict on one moment.
@@ -11,6 +13,15 @@ pub enum MomentVerdict<Cause> {
     Fail { image: ImageName, cause: Cause },
     /// There are over 65,536 branches: 65,537 cuts of which no two share one.
     TooMany,
+}
+
+impl<Cause> MomentVerdict<Cause> {
+    /// Whether the moment passes.
+    pub fn is_pass(&self) -> bool
+        ensures { IsTrue result ↔ self.now ≡ MomentVerdict.Pass }
+    {
+        matches!(self, MomentVerdict::Pass)
+    }
 }
 
 /// The verdict on a row of moments.
