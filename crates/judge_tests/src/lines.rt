@@ -1,7 +1,7 @@
 //! Stores to eighteen lines, whose images are judged by the lines that the routine loads.
 
 use crate::cases::{CASE, Case, Wanted, differing, differing_for_any};
-use crate::sources::BEGIN;
+use crate::sources::{BEGIN, END, EXIT, FENCE};
 use image_judge::Cause;
 use recovery_run::Cause as RunCause;
 
@@ -53,6 +53,37 @@ static LINES: [Case; 3] = [
 #[test]
 fn lines_that_are_loaded(rt: HostRuntime) {
     assert_eq!(rt; differing_for_any(&rt, &LINES), [None; 3]);
+}
+
+/// Two stores to a line that the routine doesn't load, and then one to the line that it does.
+const STORES: &str = "li t0, 1\nsd t0, 640(a1)\nsd t0, 640(a1)\nsd t0, 0(a1)\n";
+
+static UNSEEN: [Case; 2] = [
+    // at the End the last store may be lost
+    Case {
+        source: &[BEGIN, STORES, END, EXIT],
+        recovery: FIRST,
+        verdict: Ok(Wanted::Fail {
+            moment: 5,
+            image: "0",
+            cause: Cause::Different,
+        }),
+        ..CASE
+    },
+    Case {
+        source: &[BEGIN, STORES, "cbo.clean (a1)\n", FENCE, END, EXIT],
+        recovery: FIRST,
+        verdict: Ok(Wanted::Pass {
+            moments: 7,
+            images: Some(24),
+        }),
+        ..CASE
+    },
+];
+
+#[test]
+fn stores_that_are_not_loaded(rt: HostRuntime) {
+    assert_eq!(rt; differing_for_any(&rt, &UNSEEN), [None; 3]);
 }
 
 /// It loads from each of the lines 0 to 17.
