@@ -2,15 +2,16 @@
 
 ghost use Rattle.std.specs.Prelude.{◌<◌};
 
-use crate::chance::Chance;
-use crate::events::add;
-use crate::mishaps::{UNREAD, add_spoiled, any_value, any_word};
-use crate::routine::Routine;
-use crate::runs::{Run, store_lines};
+use super::chance::Chance;
+use super::events::add;
+use super::mishaps::{UNREAD, add_spoiled, any_value, any_word};
+use super::routine::Routine;
+use super::runs::store_lines;
+use crate::judged::Run;
 use crate::setting::{Setting, page_entries};
 use crash_image::images_between;
 use line_memory::Medium;
-use nova_log::{Layout, mkfs};
+use nova_log::Layout;
 use plan::{Action, Operation, Plan};
 use std::alloc::Global;
 use std::mem;
@@ -25,33 +26,49 @@ pub(crate) fn run_by_chance(alloc: Global, number: u64) -> anyhow::Result<Run> {
     let mut chance = Chance::new(number);
     let setting = any_setting(&mut chance);
     let plan = any_plan(alloc, &mut chance, setting)?;
-    let mut medium = mkfs(
-        alloc,
-        setting.layout,
-        u32::from(setting.inodes),
-        u32::from(setting.pages),
-        u32::from(setting.journals),
-        setting.lines,
-    )?;
     let mut routine = Routine::new(alloc, setting);
-    perform_earlier(&mut chance, setting, &mut routine)?;
-    let earlier = routine.take_trace(alloc);
-    leave(&mut chance, &earlier, &mut medium);
-    damage(&mut chance, setting, &mut medium);
-    let is_wide = chance.is_one_in(256);
-    if is_wide {
-        store_lines(&mut routine, UNREAD, 17)?;
-    }
-    perform_planned(&mut chance, &mut routine, &plan)?;
-    let mut trace = interleaved(alloc, &mut chance, setting, routine.trace())?;
-    if !is_wide {
-        trace = shortened(alloc, trace)?;
-    }
+    let medium = any_medium(alloc, &mut chance, setting, &mut routine)?;
+    let trace = any_trace(alloc, &mut chance, setting, &mut routine, &plan)?;
     Ok(Run {
         plan,
         medium,
         trace,
     })
+}
+
+/// The medium that the run starts from, as operations before it left it.
+fn any_medium(
+    alloc: Global,
+    chance: &mut Chance,
+    setting: Setting,
+    routine: &mut Routine,
+) -> anyhow::Result<Medium> {
+    let mut medium = setting.fresh_medium(alloc)?;
+    perform_earlier(chance, setting, routine)?;
+    let earlier = routine.take_trace(alloc);
+    leave(chance, &earlier, &mut medium);
+    damage(chance, setting, &mut medium);
+    Ok(medium)
+}
+
+/// The trace of the run: now and then with over 65,536 images, from stores to lines that recovery never reads.
+fn any_trace(
+    alloc: Global,
+    chance: &mut Chance,
+    setting: Setting,
+    routine: &mut Routine,
+    plan: &Plan,
+) -> Result<Trace, TraceFault> {
+    let is_wide = chance.is_one_in(256);
+    if is_wide {
+        store_lines(routine, UNREAD, 17)?;
+    }
+    perform_planned(chance, routine, plan)?;
+    let trace = interleaved(alloc, chance, setting, routine.trace())?;
+    if is_wide {
+        return Ok(trace);
+    }
+    shortened(alloc, trace)
 }
 
 /// A volume with one page to spare.
@@ -77,23 +94,34 @@ fn any_plan(alloc: Global, chance: &mut Chance, setting: Setting) -> anyhow::Res
         Layout::One => 1,
         Layout::Two => 2,
     };
-    let inodes = u32::from(setting.inodes).max(1);
     let mut text = format!(in alloc;
         "layout {}\ninodes {}\npages {}\njournals {}\n",
-        layout, inodes, setting.pages, setting.journals
+        layout, setting.inodes, setting.pages, setting.journals
     )?;
     for number in 0..chance.below(4) {
-        let inode = chance.below(inodes);
-        let value = chance.below(100);
-        if inodes > 1 && chance.is_one_in(2) {
-            let other = (inode + 1) % inodes;
-            let name = any_name(chance, setting.layout);
-            writeln!(text, "op {number} rename {inode} {other} {name} {value}")?;
-        } else {
-            writeln!(text, "op {number} append {inode} {value}")?;
-        }
+        add_operation(&mut text, chance, setting, number)?;
     }
     Ok(Plan::read(alloc, text.as_bytes())?)
+}
+
+/// Adds a line of the plan: an append or, with two inodes, now and then a rename.
+fn add_operation(
+    text: &mut String,
+    chance: &mut Chance,
+    setting: Setting,
+    number: u32,
+) -> anyhow::Result<()> {
+    let inodes = u32::from(setting.inodes).max(1);
+    let inode = chance.below(inodes);
+    let value = chance.below(100);
+    if inodes > 1 && chance.is_one_in(2) {
+        let other = (inode + 1) % inodes;
+        let name = any_name(chance, setting.layout);
+        writeln!(text, "op {number} rename {inode} {other} {name} {value}")?;
+    } else {
+        writeln!(text, "op {number} append {inode} {value}")?;
+    }
+    Ok(())
 }
 
 /// A name that the layout allows: with the longest one the entries of the second layout have two lines.
@@ -118,9 +146,7 @@ fn perform_earlier(
         1 => page_entries(setting.layout).saturating_sub(1),
         _ => 0,
     };
-    for number in 0..filling {
-        routine.perform(0, &append(number, 0))?;
-    }
+    fill_page(routine, filling)?;
     for number in 0..chance.below(3) as u8 {
         routine.perform(
             0,
@@ -129,6 +155,14 @@ fn perform_earlier(
     }
     if setting.inodes > 1 && chance.is_one_in(3) {
         routine.perform(0, &earlier_rename())?;
+    }
+    Ok(())
+}
+
+/// So many appends to inode 0.
+fn fill_page(routine: &mut Routine, count: u8) -> Result<(), TraceFault> {
+    for number in 0..count {
+        routine.perform(0, &append(number, 0))?;
     }
     Ok(())
 }

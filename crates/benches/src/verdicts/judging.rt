@@ -2,7 +2,7 @@
 
 ghost use Rattle.crash_image.specs.View.{HasLines};
 
-use crate::runs::Run;
+use crate::judged::{Run, line_of};
 use anyhow::bail;
 use crash_image::has_lines;
 use image_check::{
@@ -28,31 +28,12 @@ pub(crate) fn verdict_line(alloc: Global, run: &Run, how: How) -> anyhow::Result
     match how {
         How::Branches => {
             let verdict = check_run(alloc, &run.plan, &run.medium, &run.trace)?;
-            Ok(line_by_branches(alloc, &verdict)?)
+            Ok(line_of(alloc, &verdict)?)
         }
         How::Images => {
             let verdict = check_run_by_images(alloc, &run.plan, &run.medium, &run.trace)?;
             Ok(line_by_images(alloc, verdict)?)
         }
-    }
-}
-
-fn line_by_branches(alloc: Global, verdict: &Verdict) -> Result<String, AllocError> {
-    match verdict {
-        Verdict::Pass {
-            moments,
-            images: Some(images),
-        } => format!(in alloc; "pass moments={moments} images={images}"),
-        Verdict::Pass {
-            moments,
-            images: None,
-        } => format!(in alloc; "pass moments={moments} images=over"),
-        Verdict::Fail {
-            moment,
-            image,
-            cause,
-        } => format!(in alloc; "fail moment={moment} image={image} cause={cause}"),
-        Verdict::TooMany { moment } => format!(in alloc; "too many moment={moment}"),
     }
 }
 

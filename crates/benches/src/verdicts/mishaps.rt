@@ -1,7 +1,7 @@
 //! What goes wrong in a run by chance.
 
-use crate::chance::Chance;
-use crate::events::add;
+use super::chance::Chance;
+use super::events::add;
 use crate::setting::{Setting, inode_line, journal_line, page_line};
 use store_trace::{Event, Trace, TraceFault};
 

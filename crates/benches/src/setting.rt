@@ -2,7 +2,9 @@
 
 ghost use Rattle.std.specs.Prelude.{◌≤◌};
 
-use nova_log::Layout;
+use line_memory::Medium;
+use nova_log::{Layout, VolumeFault, mkfs};
+use std::alloc::Global;
 
 /// What a volume is made with, and the lines of its medium.
 #[derive(Clone, Copy)]
@@ -12,6 +14,20 @@ pub(crate) struct Setting {
     pub pages: u8,
     pub journals: u8,
     pub lines: u32,
+}
+
+impl Setting {
+    /// A medium with a fresh volume.
+    pub(crate) fn fresh_medium(self, alloc: Global) -> Result<Medium, VolumeFault> {
+        mkfs(
+            alloc,
+            self.layout,
+            u32::from(self.inodes),
+            u32::from(self.pages),
+            u32::from(self.journals),
+            self.lines,
+        )
+    }
 }
 
 /// A place in a log: behind so many entries of a page.
@@ -52,6 +68,11 @@ pub(crate) fn page_entries(layout: Layout) -> u8
 /// The line of an inode: its head in word 0, its tail in word 1.
 pub(crate) fn inode_line(inode: u8) -> u32 {
     1 + u32::from(inode)
+}
+
+/// The tail of an inode in a fresh volume: the log of each begins in the page of the inode's number.
+pub(crate) fn fresh_tail(inode: u8) -> u64 {
+    64 * u64::from(page_line(inode))
 }
 
 /// The line of a journal: its head in word 0, its tail in word 1.

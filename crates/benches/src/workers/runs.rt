@@ -1,20 +1,11 @@
 //! The runs that are timed.
 
-ghost use Rattle.std.specs.Prelude.{◌≤◌, ◌<◌};
-
-use line_memory::Medium;
+use crate::judged::Run;
+use crate::setting::{fresh_tail, inode_line};
 use nova_log::{Layout, mkfs};
 use plan::Plan;
 use std::alloc::Global;
 use store_trace::{Event, Trace, TraceFault};
-
-/// A run: what it is to do, what it starts from, and what it did.
-#[derive(Drop)]
-pub(crate) struct Run {
-    pub plan: Plan,
-    pub medium: Medium,
-    pub trace: Trace,
-}
 
 /// What a run does.
 #[derive(Clone, Copy)]
@@ -42,10 +33,11 @@ pub(crate) fn run_of(alloc: Global, kind: Kind, count: u32) -> anyhow::Result<Ru
     let medium = mkfs(alloc, Layout::One, INODES, INODES, 1, LINES)?;
     let mut trace = Trace::new(alloc);
     for number in 0..count {
+        let inode = (number % INODES) as u8;
         match kind {
-            Kind::Moments => store_durable(&mut trace, number % INODES)?,
-            Kind::Tails => store_tail(&mut trace, number % INODES)?,
-            Kind::Unread => store_unread(&mut trace, number % INODES)?,
+            Kind::Moments => store_durable(&mut trace, inode)?,
+            Kind::Tails => store_tail(&mut trace, inode)?,
+            Kind::Unread => store_unread(&mut trace, inode)?,
         }
     }
     Ok(Run {
@@ -56,36 +48,31 @@ pub(crate) fn run_of(alloc: Global, kind: Kind, count: u32) -> anyhow::Result<Ru
 }
 
 /// Stores the tail of an inode as it stands in a fresh volume.
-fn store_tail(trace: &mut Trace, inode: u32) -> Result<(), TraceFault>
-    requires { inode < 16 }
-{
+fn store_tail(trace: &mut Trace, inode: u8) -> Result<(), TraceFault> {
     trace.push(Event::Store {
         hart: 0,
-        line: 1 + inode,
+        line: inode_line(inode),
         offset: 8,
         width: 8,
-        value: 16_384 + 4_096 * u64::from(inode),
+        value: fresh_tail(inode),
     })
 }
 
 /// The same, then cleans its line and fences.
-fn store_durable(trace: &mut Trace, inode: u32) -> Result<(), TraceFault>
-    requires { inode < 16 }
-{
+fn store_durable(trace: &mut Trace, inode: u8) -> Result<(), TraceFault> {
     store_tail(trace, inode)?;
     trace.push(Event::Clean {
         hart: 0,
-        line: 1 + inode,
+        line: inode_line(inode),
     })?;
     trace.push(Event::Fence { hart: 0 })
 }
 
-fn store_unread(trace: &mut Trace, place: u32) -> Result<(), TraceFault>
-    requires { place < 16 }
-{
+/// Stores to a line that recovery doesn't read, by its place among them.
+fn store_unread(trace: &mut Trace, place: u8) -> Result<(), TraceFault> {
     trace.push(Event::Store {
         hart: 0,
-        line: UNREAD + place,
+        line: UNREAD + u32::from(place),
         offset: 0,
         width: 8,
         value: 1,

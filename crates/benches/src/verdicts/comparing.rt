@@ -2,9 +2,9 @@
 
 ghost use Rattle.crash_image.specs.View.{HasLines};
 
-use crate::cases::run_by_chance;
-use crate::judging::{agree_on_moment, agree_on_run};
-use crate::runs::Run;
+use super::cases::run_by_chance;
+use super::judging::{agree_on_moment, agree_on_run};
+use crate::judged::Run;
 use crash_image::has_lines;
 use image_check::{
     Cause, CheckFault, MomentByImages, check_moment, check_moment_by_images, check_run,

@@ -4,7 +4,7 @@
 
 ghost use Rattle.std.specs.Prelude.{◌≤◌};
 
-use crate::events::add;
+use super::events::add;
 use crate::setting::{LogPlace, Setting, inode_line, journal_line, page_entries, record_line};
 use line_memory::{load_bytes, store_bytes};
 use nova_log::Layout;
@@ -189,10 +189,15 @@ impl Routine {
         for made in moves {
             self.store(hart, inode_line(made.inode), 1, made.to)?;
         }
+        self.clean_tails(hart, moves)?;
+        self.fence(hart)
+    }
+
+    fn clean_tails(&mut self, hart: u32, moves: &[TailMove]) -> Result<(), TraceFault> {
         for made in moves {
             self.clean(hart, inode_line(made.inode))?;
         }
-        self.fence(hart)
+        Ok(())
     }
 
     /// Moves two tails at once: journal 0 has the old ones until both are durable.

@@ -1,7 +1,7 @@
 use Rattle.std.proofs.Common.{ℕ, List, length, ap, ◌∙◌}
-use Rattle.cache_bench.proofs.Zeros.{zero_count}
+use Rattle.benches.proofs.Zeros.{zero_count}
 use Rattle.clean_fence.specs.Rules.{PmView}
-use Rattle.cache_bench.proofs.bench.Bench.new.Goals as goal
+use Rattle.benches.proofs.cache.bench.Bench.new.Goals as goal
 
 pub invariant_of-result : goal.invariant_of-result
 invariant_of-result c = record {

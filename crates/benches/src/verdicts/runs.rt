@@ -2,21 +2,13 @@
 
 ghost use Rattle.std.specs.Prelude.{◌+◌, ◌^◌, ◌<◌};
 
-use crate::routine::Routine;
-use crate::setting::{Setting, inode_line};
-use line_memory::Medium;
-use nova_log::{Layout, mkfs};
+use super::routine::Routine;
+use crate::judged::Run;
+use crate::setting::{Setting, fresh_tail, inode_line};
+use nova_log::Layout;
 use plan::Plan;
 use std::alloc::Global;
 use store_trace::{Trace, TraceFault};
-
-/// A run: what it is to do, what it starts from, and what it did.
-#[derive(Drop)]
-pub(crate) struct Run {
-    pub plan: Plan,
-    pub medium: Medium,
-    pub trace: Trace,
-}
 
 /// What a run does.
 #[derive(Clone, Copy)]
@@ -44,14 +36,7 @@ const UNREAD: u32 = 384;
 pub(crate) fn run_of(alloc: Global, kind: Kind, lines: u32) -> anyhow::Result<Run> {
     let setting = setting_of(kind, lines);
     let plan = appends(alloc, setting, operations_of(kind))?;
-    let medium = mkfs(
-        alloc,
-        setting.layout,
-        u32::from(setting.inodes),
-        u32::from(setting.pages),
-        u32::from(setting.journals),
-        lines,
-    )?;
+    let medium = setting.fresh_medium(alloc)?;
     let trace = trace_of(alloc, kind, setting, &plan)?;
     Ok(Run {
         plan,
@@ -128,7 +113,7 @@ pub(crate) fn store_lines(routine: &mut Routine, first: u32, count: u32) -> Resu
 /// Stores each inode's tail as it stands in a fresh volume.
 fn store_tails(routine: &mut Routine, setting: Setting) -> Result<(), TraceFault> {
     for inode in 0..setting.inodes {
-        routine.store(0, inode_line(inode), 1, 16_384 + 4_096 * u64::from(inode))?;
+        routine.store(0, inode_line(inode), 1, fresh_tail(inode))?;
     }
     Ok(())
 }
@@ -153,6 +138,10 @@ fn copy_page(routine: &mut Routine, value: u64) -> Result<(), TraceFault> {
     for line in UNREAD..UNREAD + 64 {
         copy_line(routine, line, value)?;
     }
+    clean_page(routine)
+}
+
+fn clean_page(routine: &mut Routine) -> Result<(), TraceFault> {
     for line in UNREAD..UNREAD + 64 {
         routine.clean(0, line)?;
     }
