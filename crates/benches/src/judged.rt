@@ -1,6 +1,6 @@
 //! A run that is judged, and the verdict on it in a line.
 
-use image_check::Verdict;
+use image_check::{Cause, Verdict};
 use line_memory::Medium;
 use plan::Plan;
 use std::alloc::{AllocError, Global};
@@ -15,7 +15,7 @@ pub(crate) struct Run {
 }
 
 /// The verdict in a line.
-pub(crate) fn line_of(alloc: Global, verdict: &Verdict) -> Result<String, AllocError> {
+pub(crate) fn line_of(alloc: Global, verdict: &Verdict<Cause>) -> Result<String, AllocError> {
     match verdict {
         Verdict::Pass {
             moments,

@@ -13,7 +13,7 @@ use crate::words::{choice, number};
 use anyhow::{Context, bail};
 use crash_image::has_lines;
 use gate::Open;
-use image_check::{CheckFault, Verdict, check_run};
+use image_check::{Cause, CheckFault, Verdict, check_run};
 use parallel_check::check_parallel;
 use runs::{Kind, run_of};
 use std::thread::Threads;
@@ -78,7 +78,7 @@ fn judge<R: Threads + Sync + AllocGlobal>(
     rt: &R,
     run: &Run,
     workers: u32,
-) -> Result<Verdict, CheckFault>
+) -> Result<Verdict<Cause>, CheckFault>
     requires lines { HasLines run.now.medium run.now.trace.events }
     requires workers { workers ≤ 8 }
 {

@@ -6,7 +6,7 @@ use crate::judged::{Run, line_of};
 use anyhow::bail;
 use crash_image::has_lines;
 use image_check::{
-    CheckFault, ImageName, MomentByImages, MomentVerdict, RunByImages, Verdict, check_run,
+    Cause, CheckFault, ImageName, MomentByImages, MomentVerdict, RunByImages, Verdict, check_run,
     check_run_by_images,
 };
 use std::alloc::{AllocError, Global};
@@ -54,7 +54,7 @@ fn line_by_images(alloc: Global, verdict: RunByImages) -> Result<String, AllocEr
 /// Whether two answers on a moment don't contradict each other. Image by image a moment with over 65,536 images isn't judged: by
 /// branches it may pass, fail at an image that is named by its lines, or have too many branches.
 pub(crate) fn agree_on_moment(
-    by_branches: &Result<MomentVerdict, CheckFault>,
+    by_branches: &Result<MomentVerdict<Cause>, CheckFault>,
     by_images: &Result<MomentByImages, CheckFault>,
 ) -> bool {
     match (by_branches, by_images) {
@@ -91,7 +91,7 @@ pub(crate) fn agree_on_moment(
 /// Whether two answers on a run don't contradict each other. Image by image a run isn't judged from its first moment on that has
 /// over 65,536 images and is reached.
 pub(crate) fn agree_on_run(
-    by_branches: &Result<Verdict, CheckFault>,
+    by_branches: &Result<Verdict<Cause>, CheckFault>,
     by_images: &Result<RunByImages, CheckFault>,
 ) -> bool {
     match (by_branches, by_images) {
