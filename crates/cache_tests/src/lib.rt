@@ -1,7 +1,10 @@
-//! Tests of `line_memory`, `index_list`, `lru_cache` and `clean_fence`: lines, lists of nodes and caches over media. They stand
-//! apart, so that those crates aren't proved a second time for them. The crate has tests alone.
+//! Tests of `line_memory`, `index_list`, `lru_cache`, `clean_fence` and `held_lines`: lines, lists of nodes, caches over media, and
+//! memory over lines that stay as they are. They stand apart, so that those crates aren't proved a second time for them. The crate
+//! has tests alone.
 #![tactic(auto)]
 
+#[cfg(test)]
+mod held;
 #[cfg(test)]
 mod lists;
 #[cfg(test)]

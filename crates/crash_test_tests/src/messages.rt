@@ -1,4 +1,4 @@
-//! What the faults say of themselves. Those of the libraries below stand in `message_tests`.
+//! What the faults of `crash_test` say of themselves. Those of the libraries below stand in `library_messages`.
 
 use assemble::{AsmCode, AsmFault};
 use crash_test::{CountFault, ExplainFault, ProgramFault, VerdictFault};
@@ -16,7 +16,7 @@ fn says<F: Display>(alloc: Global, fault: &F, text: &str) -> bool {
 }
 
 /// The first place of a table whose fault says something else.
-fn differing<F: Display>(alloc: Global, table: &[(F, &str)]) -> Option<usize> {
+pub(crate) fn differing<F: Display>(alloc: Global, table: &[(F, &str)]) -> Option<usize> {
     table
         .iter()
         .position(|(fault, text)| !says(alloc, fault, *text))

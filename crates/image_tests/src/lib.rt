@@ -1,11 +1,14 @@
-//! Tests of `crash_model`, `store_trace`, `crash_image` and `image_check`: small traces, their cuts, images and verdicts. They
-//! stand apart, so that those crates aren't proved a second time for them. The crate has tests alone.
+//! Tests of `crash_model`, `store_trace`, `crash_image` and `image_check`: small traces, their cuts, images and verdicts; and of the
+//! want of memory of the crates that make and judge images. They stand apart, so that those crates aren't proved a second time for
+//! them. The crate has tests alone.
 #![tactic(auto)]
 
 #[cfg(test)]
 mod branches_opened;
 #[cfg(test)]
 mod events;
+#[cfg(test)]
+mod growths;
 #[cfg(test)]
 mod images;
 #[cfg(test)]
