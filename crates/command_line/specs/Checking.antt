@@ -4,11 +4,10 @@ use Rattle.arguments.specs.Line.{IsWithin}
 use Rattle.arguments.specs.Spans.{IsUpward}
 use Rattle.arguments.specs.declared.asked.CheckCommand.{CheckCommand}
 use Rattle.arguments.specs.declared.asked.Moments.{Moments}
-use Rattle.image_check.specs.Verdicts.{IsMomentVerdict}
+use Rattle.image_check.specs.Verdicts.{judged_at}
 use Rattle.image_causes.specs.Told.{IsAsked}
 use Rattle.image_check.specs.declared.cause.Cause.{Cause}
 use Rattle.image_check.specs.declared.cause.Cause.TheVariants as causes
-use Rattle.moment_verdict.specs.declared.verdict.MomentVerdict.TheVariants as moments
 use Rattle.moment_verdict.specs.declared.verdict.Verdict.{Verdict}
 use Rattle.parallel_moments.specs.Rows.{end_of}
 use Rattle.plan.specs.Plans.{PlanView}
@@ -24,7 +23,7 @@ use Rattle.command_line.specs.Codes.{volume_code}
 use Rattle.command_line.specs.Failures.{failure_of_verdict}
 use Rattle.command_line.specs.Demanding.{MeetsWhole}
 use Rattle.command_line.specs.Reading.{ReadsPlan, ReadsRun, setup_of}
-use Rattle.command_line.specs.Progress.{IsToldIf, Progresses}
+use Rattle.command_line.specs.Progress.{IsToldIf, Progresses, passes_of}
 use Rattle.command_line.specs.Reasons.{Explains, told_why}
 use Rattle.command_line.specs.Steps.{First, Prints, Reads, Step, Still, Tells}
 use Rattle.command_line.specs.Verdicts.{failing, first_of, last_of, told_verdict, verdict_status}
@@ -69,15 +68,11 @@ setup_of_check check = setup_of check.command.run check.run
 abbrev pub JudgesOpen : OpenCheck → Result (Verdict Cause) Failure → Type 0
 JudgesOpen check = Judges check.plan.operations (setup_of_check check) check.run.schedule check.command.moments
 
--- a moment passes
-abbrev pub passes_at : List Operation → List (List ℕ) → List Event → ℕ → Type 0
-passes_at plan start events moment = IsMomentVerdict plan start (take moment events) moments.Pass
-
 -- how far the check of a run's moments from `first` to `last`, or to its last one, had come was told
 pub record ProgressesOn (plan : List Operation) (s : Setup) (schedule : List Item) (first : ℕ) (last : Option ℕ) (old new : Option (List ℕ)) : Type 0 where
   pub trace : List Event
   pub has_trace : HasTrace s schedule trace
-  pub progresses : Progresses (passes_at plan s.medium trace) trace first (end_of trace last) old new
+  pub progresses : Progresses (passes_of (judged_at plan s.medium trace)) trace first (end_of trace last) old new
 
 -- that was told, or nothing, as where there is no such run
 abbrev pub TellsProgress : List Operation → Setup → List Item → ℕ → Option ℕ → Option (List ℕ) → Option (List ℕ) → Type 0

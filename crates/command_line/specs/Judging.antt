@@ -10,7 +10,6 @@ use Rattle.image_judge.specs.Verdicts.{IsJudged, judged_from}
 use Rattle.image_judge.specs.Views.{JudgeView}
 use Rattle.image_judge.specs.declared.cause.Cause.{Cause}
 use Rattle.image_judge.specs.declared.cause.Cause.TheVariants as causes
-use Rattle.moment_verdict.specs.declared.verdict.MomentVerdict.TheVariants as moments
 use Rattle.moment_verdict.specs.declared.verdict.Verdict.{Verdict}
 use Rattle.object.specs.Sections.{Sections}
 use Rattle.parallel_moments.specs.Rows.{end_of}
@@ -23,7 +22,7 @@ use Rattle.crash_test.specs.Programs.{IsProgramOf}
 use Rattle.crash_test.specs.Runs.{HasTrace, Setup}
 use Rattle.command_line.specs.Demanding.{MeetsWhole}
 use Rattle.command_line.specs.Failures.{failure_of_judging}
-use Rattle.command_line.specs.Progress.{IsToldIf, Progresses}
+use Rattle.command_line.specs.Progress.{IsToldIf, Progresses, passes_of}
 use Rattle.command_line.specs.Reading.{ReadsRecovery, ReadsRun, setup_of}
 use Rattle.command_line.specs.Reasons.{Explains, told_why}
 use Rattle.command_line.specs.Steps.{First, Prints, Reads, Step, Still, Tells}
@@ -83,15 +82,11 @@ pub record JudgesOpen (judge : OpenJudge) (outcome : Result (Verdict Cause) Fail
   pub judges : MatchResult outcome (HasVerdict judge)
       (Tells (HasNoJudgement (setup_of_judge judge) judge.run.schedule judge.command.overlapping (first_of judge.command.moments)) failure_of_judging)
 
--- a moment passes
-abbrev pub passes_at : JudgeView → ℕ → Type 0
-passes_at view moment = IsJudged view moment moments.Pass
-
 -- how far the judging of the moments that are asked for had come was told
 pub record ProgressesOn (judge : OpenJudge) (old new : Option (List ℕ)) : Type 0 where
   pub trace : List Event
   pub has_trace : HasTrace (setup_of_judge judge) judge.run.schedule trace
-  pub progresses : Progresses (passes_at (view_of (setup_of_judge judge) judge.recovery judge.command.steps trace)) trace
+  pub progresses : Progresses (passes_of (IsJudged (view_of (setup_of_judge judge) judge.recovery judge.command.steps trace))) trace
       (judged_from trace (first_of judge.command.moments) (end_of trace (last_of judge.command.moments))) (end_of trace (last_of judge.command.moments)) old new
 
 -- that was told, or nothing, as where there is no such run

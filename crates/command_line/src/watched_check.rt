@@ -1,11 +1,11 @@
 //! The verdict of a check that tells on standard error how far it has come.
 
-ghost use Rattle.command_line.specs.Checking.{IsOpen, TellsProgress, Watches, passes_at, setup_of_check};
-ghost use Rattle.command_line.specs.Progress.{Progresses};
+ghost use Rattle.command_line.specs.Checking.{IsOpen, TellsProgress, Watches, setup_of_check};
+ghost use Rattle.command_line.specs.Progress.{Progresses, passes_of};
 ghost use Rattle.command_line.specs.Verdicts.{first_of, last_of};
 ghost use Rattle.crash_image.specs.View.{HasLines};
 ghost use Rattle.image_check.specs.OrderFaults.{AreSound};
-ghost use Rattle.image_check.specs.Verdicts.{IsRefusal, IsVerdictBetween};
+ghost use Rattle.image_check.specs.Verdicts.{IsRefusal, IsVerdictBetween, judged_at};
 ghost use Rattle.parallel_moments.specs.Rows.{end_of};
 ghost use Rattle.std.specs.Prelude.{◌≡◌, IfErr, IfOk, length, true};
 ghost use Rattle.crash_test.specs.Checking.{HasNoVerdict, HasVerdictOn};
@@ -75,7 +75,7 @@ fn trace_verdict<T: Threads + Sync + Clock, E: Write>(
         (first_of check.now.command.moments) (end_of trace.now.events (last_of check.now.command.moments))) }
     ensures sound { IfOk result (λ verdict. AreSound check.now.plan.operations trace.now.events (length trace.now.events)) }
     ensures err { IfErr result (IsRefusal check.now.plan.operations trace.now.events (first_of check.now.command.moments)) }
-    ensures told { Progresses (passes_at check.now.plan.operations check.now.run.medium trace.now.events) trace.now.events
+    ensures told { Progresses (passes_of (judged_at check.now.plan.operations check.now.run.medium trace.now.events)) trace.now.events
         (first_of check.now.command.moments) (end_of trace.now.events (last_of check.now.command.moments))
         (E.contents errors.old) (E.contents errors.new) }
 {

@@ -1,11 +1,11 @@
 //! The verdict by a recovery routine that tells on standard error how far it has come.
 
-ghost use Rattle.command_line.specs.Judging.{HasVerdict, IsOpen, TellsProgress, Watches, passes_at, setup_of_judge};
-ghost use Rattle.command_line.specs.Progress.{Progresses};
+ghost use Rattle.command_line.specs.Judging.{HasVerdict, IsOpen, TellsProgress, Watches, setup_of_judge};
+ghost use Rattle.command_line.specs.Progress.{Progresses, passes_of};
 ghost use Rattle.command_line.specs.Verdicts.{first_of, last_of};
 ghost use Rattle.crash_image.specs.View.{HasLines};
 ghost use Rattle.image_check.specs.Marks.{begun};
-ghost use Rattle.image_judge.specs.Verdicts.{IsRefusal, IsVerdict, judged_from};
+ghost use Rattle.image_judge.specs.Verdicts.{IsJudged, IsRefusal, IsVerdict, judged_from};
 ghost use Rattle.judge_marks.specs.MarkFaults.{AreSound};
 ghost use Rattle.parallel_moments.specs.Rows.{end_of};
 ghost use Rattle.program_judge.specs.Judging.{HasNoJudgement, view_of};
@@ -77,7 +77,7 @@ fn trace_judgement<T: Threads + Sync + Clock, E: Write>(
     ensures sound { IfOk result (λ verdict. AreSound judge.now.command.overlapping trace.now.events (length trace.now.events)) }
     ensures begins { IfOk result (λ verdict. begun trace.now.events ≢ []) }
     ensures err { IfErr result (IsRefusal judge.now.command.overlapping trace.now.events (first_of judge.now.command.moments)) }
-    ensures told { Progresses (passes_at (view_of (setup_of_judge judge.now) judge.now.recovery judge.now.command.steps trace.now.events)) trace.now.events
+    ensures told { Progresses (passes_of (IsJudged (view_of (setup_of_judge judge.now) judge.now.recovery judge.now.command.steps trace.now.events))) trace.now.events
         (judged_from trace.now.events (first_of judge.now.command.moments) (end_of trace.now.events (last_of judge.now.command.moments)))
         (end_of trace.now.events (last_of judge.now.command.moments)) (E.contents errors.old) (E.contents errors.new) }
 {

@@ -10,3 +10,19 @@ loop-next-init g c =
     let row = c.args.row.now in
     rw c.first-next.ensures.is (at_first (passes_of (g.R.Row.judged row)) (g.R.Row.events row) (g.R.Row.first_moment row) (g.R.Row.end_moment row)
     (g.E.Write.contents c.args.errors.now) c.first-next.ensures.order)
+
+pub loop-next-preserved-then-is_due : goal.loop-next-preserved-then-is_due
+loop-next-preserved-then-is_due g c =
+    let row = c.args.row.now in
+    let judged = g.R.Row.judged row in
+    let events = g.R.Row.events row in
+    let first = g.R.Row.first_moment row in
+    let end = g.R.Row.end_moment row in
+    let there : c.min-end.result ≤ end = search rules in
+    let more : c.loop-next.next < c.min-end.result = search rules in
+    let all = row_passes judged events first c.loop-next.next c.min-end.result c.in-Pass.moments c.in-Pass.images c.loop-next.invariant.all
+    (rw c.in-Pass.is at c.in_ok-verdict.ensures) in
+    let heard = subst (λ (h : Bool). IsAt (passes_of judged) events first end c.loop-next.next h (g.E.Write.contents c.args.errors.now)
+    (g.E.Write.contents c.loop-next.errors)) c.if-is_heard.true c.loop-next.invariant in
+    rw c.is_ok-is_heard.ensures.value (told_window (passes_of judged) events first end c.loop-next.next c.min-end.result (g.E.Write.contents c.args.errors.now)
+    (g.E.Write.contents c.loop-next.errors) (g.E.Write.contents c.tell_progress.new.errors) c.tell_progress.result heard more there all c.tell_progress.ensures)
