@@ -1,4 +1,3 @@
 mod Lines
-mod Seeds
 mod Spans
 pub mod Tables

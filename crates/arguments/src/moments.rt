@@ -9,8 +9,8 @@ ghost use Rattle.arguments.specs.declared.asked.Moments.{Moments as SomeMoments}
 use crate::asked::{LineFault, Moments};
 use crate::values::value;
 use clap::ArgMatches;
-use decimal::decimal;
 use std::alloc::Global;
+use text::decimal;
 
 /// The moments that the value of an option names, which may be left out.
 pub(crate) fn optional_moments(

@@ -1,8 +1,7 @@
 //! The values that clap found for a subcommand's words and options.
 
-ghost use Rattle.std.specs.Prelude.{◌≡◌, ◌≤◌, ◌<◌, ◌^◌, ℕ, IfOk, IfSome, SomeIff, IfErr, MatchOption, Option, String as AString};
+ghost use Rattle.std.specs.Prelude.{◌≡◌, ◌≤◌, ℕ, IfOk, IfSome, IfErr, MatchOption, Option, String as AString};
 ghost use Rattle.std.specs.declared.alloc.Global.{Global as AGlobal};
-ghost use Rattle.std.specs.Str.Parse.{IsNumeral, digits_value};
 ghost use Rattle.clap.specs.Words.{first_of, found_of, rows_of};
 ghost use Rattle.arguments.specs.Line.{OnFault};
 ghost use Rattle.arguments.specs.Values.{IsCodeWord, IsImageWord, IsNumber, IsNumberWord, IsOptional, IsOptionalImage, IsOptionalNumber, IsSeed, IsWord, is_set};
@@ -13,9 +12,9 @@ ghost use Rattle.image_name.specs.declared.name.ImageName.{ImageName as AnImageN
 use crate::asked::LineFault;
 use clap::ArgMatches;
 use code_table::{Meaning, meaning_of};
-use decimal::{decimal, decimal_within};
 use image_name::ImageName;
 use std::alloc::Global;
+use text::{decimal, decimal_within, wide_decimal};
 
 /// The value of an option or a word, where the line has it.
 #[tactic(auto, using(crate::proofs::Lines::value_found))]
@@ -117,24 +116,11 @@ pub(crate) fn seed(alloc: Global, found: &ArgMatches<'_>) -> Result<u64, LineFau
     let Some(text) = value(found, "seed") else {
         return Err(LineFault::Fault(format!(in alloc; "error: --seed is missing\n")?));
     };
-    match wide_decimal(text) {
+    match wide_decimal(text.as_bytes()) {
         Some(number) => Ok(number),
         None => Err(LineFault::Fault(format!(in alloc;
             "error: --seed takes a decimal number below 18446744073709551616\n"
         )?)),
-    }
-}
-
-/// The number that decimal digits write, where it is below 2^64: one digit or more, leading zeros among them, and nothing else.
-#[tactic(auto, using(crate::proofs::Seeds::signed_is_none, crate::proofs::Seeds::parsed))]
-fn wide_decimal(text: &str) -> Option<u64>
-    ensures { SomeIff result (IsNumeral 10 text.now × (digits_value 10 text.now < 2 ^ 64))
-        (digits_value 10 text.now) }
-{
-    match text.as_bytes() {
-        // std's reader of numbers takes a sign.
-        [b'+', ..] => None,
-        _ => text.parse().ok(),
     }
 }
 

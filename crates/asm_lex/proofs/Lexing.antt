@@ -6,7 +6,7 @@ use Rattle.std.proofs.lemmas.List.{append-nil, map_push, get_or_at, length-take-
 use Rattle.std.proofs.lemmas.List.Folds.{list_all_at}
 use Rattle.std.proofs.lemmas.List.Elements.{All-push}
 use Rattle.asm_lex.specs.Pieces.{pieces}
-use Rattle.asm_lex.specs.Kinds.{kind_of, are_tokens}
+use Rattle.asm_lex.specs.Kinds.{kind_of, lexeme_of, are_tokens}
 use Rattle.asm_lex.specs.Scan.{IsNextPiece}
 use Rattle.asm_lex.specs.Tokens.{text_of, end_of, StandsNext, StandInOrder, AreTokensOf}
 use Rattle.asm_lex.specs.declared.Token.{Token}
@@ -20,7 +20,7 @@ end_after from (t ∷ ts) = end_after (end_of t) ts
 pub record LexedTo (line : List ℕ) (number : ℕ) (ts : List Token) (at : ℕ) : Type 0 where
   pub in_range : at ≤ length line
   pub texts : map text_of ts ++ pieces (drop at line) ≡ pieces line
-  pub kinds : All (λ t. kind_of (text_of t) ≡ Some t.kind) ts
+  pub kinds : All (λ t. kind_of (text_of t) ≡ Some (lexeme_of t.kind)) ts
   pub places : StandInOrder line 0 ts
   pub ends : end_after 0 ts ≡ at
   pub numbered : All (λ t. t.line ≡ number) ts
@@ -50,13 +50,13 @@ end_is line start end t some within text begins =
     let long : length (text_of t) ≡ end - start = rw text (length-take-le (end - start) (drop start line) room) in
     omega arith
 
-pub lexed_next : (line : List ℕ) (number at start end : ℕ) (ts : List Token) (t : Token) → LexedTo line number ts at → IsNextPiece line at start end → text_of t ≡ slice_range line start end → kind_of (text_of t) ≡ Some t.kind → t.start ≡ start → t.line ≡ number → LexedTo line number (ts ++ t ∷ []) end
+pub lexed_next : (line : List ℕ) (number at start end : ℕ) (ts : List Token) (t : Token) → LexedTo line number ts at → IsNextPiece line at start end → text_of t ≡ slice_range line start end → kind_of (text_of t) ≡ Some (lexeme_of t.kind) → t.start ≡ start → t.line ≡ number → LexedTo line number (ts ++ t ∷ []) end
 lexed_next line number at start end ts t lexed next text kind begins numbered =
     let ends : end_of t ≡ end = end_is line start end t next.nonempty next.in_range text begins in
     record {
       in_range = next.in_range;
       texts = ap (λ l. l ++ pieces (drop end line)) (map_push text_of ts t) ∙ append_assoc (map text_of ts) (text_of t ∷ []) (pieces (drop end line)) ∙ ap (λ p. map text_of ts ++ (p ∷ pieces (drop end line))) text ∙ ap (λ l. map text_of ts ++ l) (sym next.cut) ∙ lexed.texts;
-      kinds = All-push (λ x. kind_of (text_of x) ≡ Some x.kind) ts t lexed.kinds kind;
+      kinds = All-push (λ x. kind_of (text_of x) ≡ Some (lexeme_of x.kind)) ts t lexed.kinds kind;
       places = places_push line 0 ts t lexed.places (rw lexed.ends (record { after = rw begins next.after; blanks = rw begins next.blanks; slice = rw (ends, begins) text }));
       ends = ends_push 0 ts t ∙ ends;
       numbered = All-push (λ x. x.line ≡ number) ts t lexed.numbered numbered;

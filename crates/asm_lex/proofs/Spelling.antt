@@ -8,8 +8,7 @@ use Rattle.std.specs.Str.Parse.{AllDigits, digits_value}
 use Rattle.std.proofs.lemmas.Bool.Decides.{nat_tests}
 use Rattle.std.proofs.lemmas.Fmt.{decimal_is_IsNumeral, decimal_digit, first_decimal}
 use Rattle.asm_lex.specs.Pieces.{is_word, begins_word, pieces}
-use Rattle.asm_lex.specs.Kinds.{are_digits, is_decimal, in_word, number_of, kind_of}
-use Rattle.asm_lex.specs.declared.Kind.TheVariants.{Number}
+use Rattle.asm_lex.specs.Kinds.{are_digits, is_decimal, in_word, number_of, number, kind_of}
 use Rattle.asm_lex.proofs.Cuts.{run_alone, word_here}
 use Rattle.asm_lex.proofs.Digits.{both_left, both_right}
 
@@ -36,7 +35,7 @@ digits_are_word : (ds : List ℕ) → AllDigits 10 ds → list_all is_word ds �
 digits_are_word [] h = refl
 digits_are_word (d ∷ ds) h = rw (digit_is_word d h.0) (digits_are_word ds h.1)
 
-kind_of-digits : (ds : List ℕ) (n : ℕ) → AllDigits 10 ds → 0 < length ds → (get_or ds 0 0 ≡ 48 → length ds ≡ 1) → digits_value 10 ds ≡ n → n < 2 ^ 64 → kind_of ds ≡ Some (Number (Some n))
+kind_of-digits : (ds : List ℕ) (n : ℕ) → AllDigits 10 ds → 0 < length ds → (get_or ds 0 0 ≡ 48 → length ds ≡ 1) → digits_value 10 ds ≡ n → n < 2 ^ 64 → kind_of ds ≡ Some (number (Some n) ds)
 unfolding kind_of number_of is_decimal in_word
 kind_of-digits [] n all some lone value fits = absurd (omega arith)
 kind_of-digits (d ∷ ds) n all some lone value fits =
@@ -52,7 +51,7 @@ zero_lone : (n : ℕ) → n < 2 ^ 64 → get_or (decimal n) 0 0 ≡ 48 → lengt
 zero_lone zero fits h = ap length (decimal_digit 0 (omega arith))
 zero_lone (suc n) fits h = absurd (omega (arith, first_decimal (suc n) (omega arith) fits))
 
-pub kind_of-decimal : (n : ℕ) → n < 2 ^ 64 → kind_of (decimal n) ≡ Some (Number (Some n))
+pub kind_of-decimal : (n : ℕ) → n < 2 ^ 64 → kind_of (decimal n) ≡ Some (number (Some n) (decimal n))
 kind_of-decimal n fits =
     let numeral = decimal_is_IsNumeral n fits in
     kind_of-digits (decimal n) n numeral.0.1 numeral.0.0 (zero_lone n fits) numeral.1 fits

@@ -5,7 +5,29 @@ use Rattle.std.specs.List.{list_all}
 use Rattle.std.specs.Str.Parse.{digits_value}
 use Rattle.asm_lex.specs.Pieces.{is_word}
 use Rattle.asm_lex.specs.declared.Kind.{Kind}
-use Rattle.asm_lex.specs.declared.Kind.TheVariants.{Name, Number, Comma, Open, Close, Colon, Plus, Minus}
+use Rattle.asm_lex.specs.declared.Kind.TheVariants as kinds
+
+-- what a token is: a name or a number with its text, or a mark
+pub data Lexeme : Type 0 where
+  name : List ℕ → Lexeme
+  number : Option ℕ → List ℕ → Lexeme
+  comma : Lexeme
+  opening : Lexeme
+  closing : Lexeme
+  colon : Lexeme
+  plus : Lexeme
+  minus : Lexeme
+
+-- the same without the place of its text
+abbrev pub lexeme_of : Kind → Lexeme
+lexeme_of (kinds.Name text) = name text.now
+lexeme_of (kinds.Number value text) = number value text.now
+lexeme_of kinds.Comma = comma
+lexeme_of kinds.Open = opening
+lexeme_of kinds.Close = closing
+lexeme_of kinds.Colon = colon
+lexeme_of kinds.Plus = plus
+lexeme_of kinds.Minus = minus
 
 -- each byte is a digit in this radix, letters in either case
 unfoldable pub are_digits : ℕ → List ℕ → Bool
@@ -27,28 +49,28 @@ unfoldable pub in_word : ℕ → Option ℕ
 in_word n = if nat_lt n (2 ^ 64) then Some n else None
 
 -- the number that a piece writes
-unfoldable pub number_of : List ℕ → Option Kind
+unfoldable pub number_of : List ℕ → Option Lexeme
 number_of bs =
-    if is_decimal bs then Some (Number (in_word (digits_value 10 bs)))
-    else (if is_hexadecimal bs then Some (Number (in_word (digits_value 16 (drop 2 bs)))) else None)
+    if is_decimal bs then Some (number (in_word (digits_value 10 bs)) bs)
+    else (if is_hexadecimal bs then Some (number (in_word (digits_value 16 (drop 2 bs))) bs) else None)
 
 -- the mark that a byte is: `,` `(` `)` `:` `+` `-`
-unfoldable pub mark_of : ℕ → Option Kind
+unfoldable pub mark_of : ℕ → Option Lexeme
 mark_of b =
-    if b == 44 then Some Comma
-    else (if b == 40 then Some Open
-    else (if b == 41 then Some Close
-    else (if b == 58 then Some Colon
-    else (if b == 43 then Some Plus
-    else (if b == 45 then Some Minus
+    if b == 44 then Some comma
+    else (if b == 40 then Some opening
+    else (if b == 41 then Some closing
+    else (if b == 58 then Some colon
+    else (if b == 43 then Some plus
+    else (if b == 45 then Some minus
     else None)))))
 
--- the kind of the token that a piece is, if it is one: a run that begins with a digit has to be a number
-unfoldable pub kind_of : List ℕ → Option Kind
+-- the token that a piece is, if it is one: a run that begins with a digit has to be a number
+unfoldable pub kind_of : List ℕ → Option Lexeme
 kind_of [] = None
 kind_of (b ∷ bs) =
     if is_digit b 10 then number_of (b ∷ bs)
-    else (if is_word b then Some Name else mark_of b)
+    else (if is_word b then Some (name (b ∷ bs)) else mark_of b)
 
 -- each of these pieces is a token
 unfoldable pub are_tokens : List (List ℕ) → Bool

@@ -2,7 +2,7 @@
 use Rattle.std.specs.Prelude.{◌≡◌, ℕ, ◌+◌, ◌≤◌, List, [], ◌∷◌, Some, true, false, length, map, All}
 use Rattle.std.specs.List.{slice_range, AllPass}
 use Rattle.asm_lex.specs.Pieces.{is_blank, pieces}
-use Rattle.asm_lex.specs.Kinds.{kind_of, are_tokens}
+use Rattle.asm_lex.specs.Kinds.{kind_of, lexeme_of, are_tokens}
 use Rattle.asm_lex.specs.declared.LexFault.{LexFault}
 use Rattle.asm_lex.specs.declared.LexFault.TheVariants.{BadToken, Memory}
 use Rattle.asm_lex.specs.declared.Token.{Token}
@@ -29,7 +29,7 @@ StandInOrder line from (t ∷ ts) = StandsNext line from t × StandInOrder line 
 -- ts are the tokens of a line, which is the line of this number
 pub record AreTokensOf (line : List ℕ) (number : ℕ) (ts : List Token) : Type 0 where
   pub texts : map text_of ts ≡ pieces line
-  pub kinds : All (λ t. kind_of (text_of t) ≡ Some t.kind) ts
+  pub kinds : All (λ t. kind_of (text_of t) ≡ Some (lexeme_of t.kind)) ts
   pub places : StandInOrder line 0 ts
   pub numbered : All (λ t. t.line ≡ number) ts
 

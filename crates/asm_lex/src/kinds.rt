@@ -1,12 +1,13 @@
 //! Which pieces of a line are tokens.
 
-ghost use Rattle.asm_lex.specs.Kinds.{are_digits, is_decimal, is_hexadecimal, in_word, number_of, mark_of, kind_of};
+ghost use Rattle.asm_lex.specs.Kinds.{are_digits, is_decimal, is_hexadecimal, in_word, number_of};
+ghost use Rattle.asm_lex.specs.Kinds.{mark_of, kind_of, lexeme_of};
 ghost use Rattle.asm_lex.specs.Pieces.{is_word};
-ghost use Rattle.std.specs.Char.{digit_value};
-ghost use Rattle.std.specs.Prelude.{◌≡◌, ◌+◌, ◌*◌, ◌<◌, ◌≤◌, true};
+ghost use Rattle.std.specs.Prelude.{◌≡◌, ◌<◌, ◌≤◌, length, option_map, true};
 ghost use Rattle.std.specs.Str.Parse.{digits_value};
 
 use crate::Kind;
+use text::{Number, number_in};
 
 /// A byte of a run: a letter, a digit, `_` or `.`.
 #[tactic(auto, unfolding(crate::specs::Pieces::is_word))]
@@ -50,45 +51,37 @@ fn is_hexadecimal(text: &[u8]) -> bool
     }
 }
 
-/// A number with one more digit at its end, and None from 2^64 on.
-#[tactic(auto, unfolding(crate::specs::Kinds::in_word))]
-fn with_digit(value: u64, byte: u8, radix: u32) -> Option<u64>
-    requires low { 2 ≤ radix }
-    requires high { radix ≤ 36 }
-    requires digit { digit_value byte < radix }
-    ensures { result ≡ in_word (value * radix + digit_value byte) }
-{
-    let digit = char::from(byte).to_digit(radix).unwrap();
-    value
-        .checked_mul(u64::from(radix))?
-        .checked_add(u64::from(digit))
-}
-
 /// The number that digits write, and None from 2^64 on.
-#[tactic(auto, using(crate::proofs::Digits::digit_here, crate::proofs::Digits::digits_after, crate::proofs::Digits::value_after, crate::proofs::Digits::too_large, crate::proofs::Digits::value_whole, crate::proofs::Digits::value_there))]
+#[tactic(auto, using(crate::proofs::Digits::numeral_there, crate::proofs::Digits::small_is, crate::proofs::Digits::large_is))]
 fn value(digits: &[u8], radix: u32) -> Option<u64>
     requires low { 2 ≤ radix }
-    requires high { radix ≤ 36 }
+    requires high { radix ≤ 16 }
+    requires some { 0 < length digits.now }
     requires digits { are_digits radix digits.now ≡ true }
     ensures { result ≡ in_word (digits_value radix digits.now) }
 {
-    let mut value = 0;
-    for byte in digits {
-        value = with_digit(value, *byte, radix)?;
+    match number_in(digits, radix)? {
+        Number::Small(value) => Some(value),
+        Number::Large => None,
     }
-    Some(value)
 }
 
 /// A number, where the piece writes one.
-#[tactic(auto, unfolding(crate::specs::Kinds::number_of), using(crate::proofs::Digits::decimal_digits, crate::proofs::Digits::prefix_there, crate::proofs::Digits::hexadecimal_digits))]
-fn number(text: &[u8]) -> Option<Kind>
-    ensures { result ≡ number_of text.now }
+#[tactic(auto, unfolding(crate::specs::Kinds::number_of), using(crate::proofs::Digits::decimal_digits, crate::proofs::Digits::decimal_some, crate::proofs::Digits::prefix_there, crate::proofs::Digits::hexadecimal_digits, crate::proofs::Digits::hexadecimal_some))]
+fn number(text: &[u8]) -> Option<Kind<'_>>
+    ensures { option_map lexeme_of result ≡ number_of text.now }
 {
     if is_decimal(text) {
-        Some(Kind::Number(value(text, 10)))
+        Some(Kind::Number {
+            value: value(text, 10),
+            text,
+        })
     } else if is_hexadecimal(text) {
         let (_, digits) = text.split_at(2);
-        Some(Kind::Number(value(digits, 16)))
+        Some(Kind::Number {
+            value: value(digits, 16),
+            text,
+        })
     } else {
         None
     }
@@ -96,8 +89,8 @@ fn number(text: &[u8]) -> Option<Kind>
 
 /// The mark that a byte is.
 #[tactic(auto, unfolding(crate::specs::Kinds::mark_of))]
-fn mark(byte: u8) -> Option<Kind>
-    ensures { result ≡ mark_of byte }
+fn mark(byte: u8) -> Option<Kind<'static>>
+    ensures { option_map lexeme_of result ≡ mark_of byte }
 {
     match byte {
         b',' => Some(Kind::Comma),
@@ -112,14 +105,14 @@ fn mark(byte: u8) -> Option<Kind>
 
 /// The kind of the token that a piece is.
 #[tactic(auto, unfolding(crate::specs::Kinds::kind_of))]
-pub(crate) fn kind_of(piece: &[u8]) -> Option<Kind>
-    ensures { result ≡ kind_of piece.now }
+pub(crate) fn kind_of(piece: &[u8]) -> Option<Kind<'_>>
+    ensures { option_map lexeme_of result ≡ kind_of piece.now }
 {
     let first = *piece.first()?;
     if first.is_ascii_digit() {
         number(piece)
     } else if is_word(first) {
-        Some(Kind::Name)
+        Some(Kind::Name(piece))
     } else {
         mark(first)
     }

@@ -20,11 +20,12 @@ pub use lines::next_line;
 use scan::next_piece;
 use std::alloc::{AllocFailed, Global};
 
-/// What a token is: a name, a number with its value, which is None from 2^64 on, or a mark.
+/// What a token is: a name or a number with its text, or a mark.
 #[derive(Clone, Copy, Debug, PartialEq, Eq)]
-pub enum Kind {
-    Name,
-    Number(Option<u64>),
+pub enum Kind<'a> {
+    Name(&'a [u8]),
+    /// The value is None from 2^64 on.
+    Number { value: Option<u64>, text: &'a [u8] },
     Comma,
     Open,
     Close,
@@ -37,7 +38,7 @@ pub enum Kind {
 #[derive(Clone, Copy, Debug, PartialEq, Eq)]
 pub struct Token<'a> {
     pub text: &'a [u8],
-    pub kind: Kind,
+    pub kind: Kind<'a>,
     pub line: u32,
     pub start: usize,
 }

@@ -3,49 +3,36 @@ use Rattle.std.proofs.Common.{◌≡◌, ℕ, suc, ◌<◌, Bool, false, ◌&&�
 use Rattle.std.specs.Prelude.{Some, None, Option, is_some, true}
 use Rattle.std.specs.List.{list_all}
 use Rattle.asm_lex.specs.Pieces.{pieces}
-use Rattle.asm_lex.specs.Kinds.{kind_of, are_tokens}
+use Rattle.asm_lex.specs.Kinds.{Lexeme, kind_of, lexeme_of, are_tokens}
 use Rattle.asm_lex.specs.Tokens.{text_of, AreTokensOf, IsFaultOf}
 use Rattle.asm_lex.specs.declared.Token.{Token}
-use Rattle.asm_lex.specs.declared.Kind.{Kind}
-use Rattle.asm_lex.specs.declared.Kind.TheVariants as kinds
 use Rattle.asm_line.specs.declared.fault.AsmCode.TheVariants as codes
 use Rattle.asm_lex.specs.declared.LexFault.{LexFault}
 use Rattle.asm_lex.specs.declared.LexFault.TheVariants.{BadToken, Memory}
 use Rattle.asm_line.specs.Faults.{code_of_lex, Fails}
-use Rattle.asm_line.specs.Lexemes.{Lexeme, lexeme_of, lexemes_of, with_lexeme}
+use Rattle.asm_line.specs.Lexemes.{lexemes_of, with_lexeme}
 use Rattle.asm_line.specs.Lines.{lexemes_line, line_of}
-use Rattle.asm_line.specs.Steps.{all_seen, seen, taken, taken_as}
-
--- a token is seen as the lexeme of its kind and text
-seen_as : (kind : Kind) (t : Token) → seen (taken_as kind t) ≡ lexeme_of kind (text_of t)
-seen_as kinds.Name t = refl
-seen_as (kinds.Number value) t = refl
-seen_as kinds.Comma t = refl
-seen_as kinds.Open t = refl
-seen_as kinds.Close t = refl
-seen_as kinds.Colon t = refl
-seen_as kinds.Plus t = refl
-seen_as kinds.Minus t = refl
+use Rattle.asm_line.specs.Steps.{all_seen}
 
 -- the lexemes of tokens
-lexemes_along : (ts : List Token) → ((k : ℕ) (d : Token) → k < length ts → kind_of (text_of (get_or ts k d)) ≡ Some (get_or ts k d).kind) → lexemes_of (map text_of ts) ≡ Some (all_seen (map taken ts))
+lexemes_along : (ts : List Token) → ((k : ℕ) (d : Token) → k < length ts → kind_of (text_of (get_or ts k d)) ≡ Some (lexeme_of (get_or ts k d).kind)) → lexemes_of (map text_of ts) ≡ Some (all_seen (map (λ (u : Token). u.kind) ts))
 lexemes_along [] h = refl
-lexemes_along (t ∷ ts) h = rw (h 0 t (omega arith), lexemes_along ts (λ k d lt. h (suc k) d (omega arith)), seen_as t.kind t) refl
+lexemes_along (t ∷ ts) h = rw (h 0 t (omega arith), lexemes_along ts (λ k d lt. h (suc k) d (omega arith))) refl
 
-pub line_of_tokens : (line : List ℕ) (number : ℕ) (ts : List Token) → AreTokensOf line number ts → line_of line ≡ lexemes_line (all_seen (map taken ts))
+pub line_of_tokens : (line : List ℕ) (number : ℕ) (ts : List Token) → AreTokensOf line number ts → line_of line ≡ lexemes_line (all_seen (map (λ (u : Token). u.kind) ts))
 unfolding line_of
 line_of_tokens line number ts tokens =
-    let found : lexemes_of (pieces line) ≡ Some (all_seen (map taken ts)) = rw (← tokens.texts) (lexemes_along ts tokens.kinds) in
+    let found : lexemes_of (pieces line) ≡ Some (all_seen (map (λ (u : Token). u.kind) ts)) = rw (← tokens.texts) (lexemes_along ts tokens.kinds) in
     rw found refl
 
 -- a piece that is no token
-lexeme_missing : (k : Option Kind) (p : List ℕ) (rest : Option (List Lexeme)) (tokens : Bool) → (is_some k && tokens) ≡ false → (tokens ≡ false → rest ≡ None) → with_lexeme k p rest ≡ None
-lexeme_missing (Some kind) p rest tokens e h = rw (h e) refl
-lexeme_missing None p rest tokens e h = refl
+lexeme_missing : (l : Option Lexeme) (rest : Option (List Lexeme)) (tokens : Bool) → (is_some l && tokens) ≡ false → (tokens ≡ false → rest ≡ None) → with_lexeme l rest ≡ None
+lexeme_missing (Some l) rest tokens e h = rw (h e) refl
+lexeme_missing None rest tokens e h = refl
 
 lexemes_missing : (ps : List (List ℕ)) → list_all (λ p. is_some (kind_of p)) ps ≡ false → lexemes_of ps ≡ None
 lexemes_missing [] e = cc
-lexemes_missing (p ∷ ps) e = lexeme_missing (kind_of p) p (lexemes_of ps) (list_all (λ q. is_some (kind_of q)) ps) e (lexemes_missing ps)
+lexemes_missing (p ∷ ps) e = lexeme_missing (kind_of p) (lexemes_of ps) (list_all (λ q. is_some (kind_of q)) ps) e (lexemes_missing ps)
 
 pub line_bad : (line : List ℕ) (fault : LexFault) → IsFaultOf line fault → Fails (code_of_lex fault) (line_of line)
 unfolding line_of are_tokens

@@ -5,7 +5,7 @@ use Rattle.std.specs.Prelude.{Option, Some, None, Result, Ok, Err, option_map, �
 use Rattle.std.specs.Int.{cast_unsigned, is_power_of_two}
 use Rattle.asm_line.specs.Faults.{◌>>=◌}
 use Rattle.asm_line.specs.Grammar.{integers_of, number_range}
-use Rattle.asm_line.specs.Lexemes.{Lexeme, name, number, comma, opening, closing, colon, plus, minus}
+use Rattle.asm_lex.specs.Kinds.{Lexeme, name, number, comma, opening, closing, colon, plus, minus}
 use Rattle.asm_line.specs.Meanings.{width_of}
 use Rattle.asm_line.specs.Numbers.{number_then, numbers_of, with_first, unsigned, negated, within}
 use Rattle.asm_line.specs.Steps.{numbers_after, numbers_from, stored, stored_all}

@@ -29,7 +29,7 @@ use Rattle.asm_names.specs.declared.mnemonic.Mnemonic.{Mnemonic}
 use Rattle.asm_names.specs.declared.mnemonic.Mnemonic.TheVariants as mnemonics
 use Rattle.asm_line.specs.declared.operands.SignedNumber.{SignedNumber}
 use Rattle.asm_line.specs.Faults.{◌>>=◌}
-use Rattle.asm_line.specs.Lexemes.{Lexeme, name, number, comma, opening, closing, plus, minus}
+use Rattle.asm_lex.specs.Kinds.{Lexeme, name, number, comma, opening, closing, plus, minus}
 use Rattle.asm_line.specs.Meanings.{Meaning, instruction, pair, branch, jump, address, section, numbers, zeros, align, width_bytes, width_of}
 use Rattle.asm_line.specs.Numbers.{unsigned, negated, number_then, numbers_of, within, exact, branch_reach, jump_reach, reached, upper_half, lower_half}
 use Rattle.asm_names.specs.Registers.{register_of, set_of, zero_register, return_register, all_accesses}

@@ -5,7 +5,8 @@ use Rattle.asm_line.specs.declared.fault.AsmCode.{AsmCode}
 use Rattle.asm_line.specs.declared.fault.AsmCode.TheVariants.{BadToken, Mnemonic, Operands, Register}
 use Rattle.asm_line.specs.Faults.{◌>>=◌, both}
 use Rattle.asm_line.specs.Grammar.{statement_of, is_dot}
-use Rattle.asm_line.specs.Lexemes.{Lexeme, name, colon, lexemes_of}
+use Rattle.asm_lex.specs.Kinds.{Lexeme, name, colon}
+use Rattle.asm_line.specs.Lexemes.{lexemes_of}
 use Rattle.asm_line.specs.Meanings.{Meaning, LineMeaning, nothing}
 use Rattle.asm_names.specs.Mnemonics.{mnemonic_of}
 use Rattle.asm_names.specs.Registers.{register_of}

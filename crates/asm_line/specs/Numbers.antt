@@ -6,7 +6,7 @@ use Rattle.asm_line.specs.declared.fault.AsmCode.{AsmCode}
 use Rattle.asm_line.specs.declared.fault.AsmCode.TheVariants.{Range}
 use Rattle.asm_line.specs.declared.operands.SignedNumber.{SignedNumber}
 use Rattle.asm_line.specs.Faults.{◌>>=◌}
-use Rattle.asm_line.specs.Lexemes.{Lexeme, number, comma, plus, minus}
+use Rattle.asm_lex.specs.Kinds.{Lexeme, number, comma, plus, minus}
 
 -- a number with a sign
 abbrev pub unsigned : Option ℕ → SignedNumber

@@ -1,29 +1,50 @@
 //! The directives, each with its numbers.
 
 ghost use Rattle.asm_names.specs.declared.mnemonic.Mnemonic.{Mnemonic};
-ghost use Rattle.asm_line.specs.Grammar.{aligned, statement_of};
+ghost use Rattle.asm_line.specs.Grammar.{statement_of};
 ghost use Rattle.asm_line.specs.Faults.{Fails};
 ghost use Rattle.asm_line.specs.Meanings.{meaning_of, width_bytes, IsInRange};
 ghost use Rattle.asm_line.specs.Numbers.{numbers_of, with_first};
 ghost use Rattle.asm_line.specs.Steps.{all_seen, numbers_left, left_len, numbers_after, stored};
-ghost use Rattle.asm_line.specs.Steps.{stored_all, Gives};
+ghost use Rattle.asm_line.specs.Steps.{stored_all, Says};
 ghost use Rattle.std.specs.Prelude.{◌≡◌, ◌≢◌, ◌+◌, ◌*◌, ◌-◌, ◌^◌, ◌<◌, ◌≤◌, length, All, Some, None, Ok};
 ghost use Rattle.std.specs.Prelude.{IfOk, IfErr, IfSome, MatchOption, option_and_then};
 
 use crate::fault::AsmCode;
-use crate::lexeme::Lexeme;
 use crate::line::Statement;
 use crate::operands::{SignedNumber, number_then};
-use asm_names::NumberWidth;
+use crate::parts::{nothing, number_alone, up_to};
+use asm_lex::Kind;
+use asm_names::{NumberWidth, Section};
 use std::alloc::Global;
 
-/// An alignment, which is a power of two.
-#[tactic(auto, using(crate::proofs::NumberLists::some_power))]
-pub(crate) fn aligned<'a>(boundary: u32) -> Result<Statement<'a>, AsmCode>
-    requires { boundary ≤ 4096 }
-    ensures value { Gives meaning_of result (aligned boundary) }
-    ensures in_range { IfOk result (λ s. IsInRange (meaning_of s)) }
+/// `.text` and `.data`.
+#[tactic(auto, unfolding(crate::specs::Grammar::statement_of))]
+pub(crate) fn section_of<'a>(
+    section: Section,
+    operands: &[Kind<'a>],
+) -> Result<Statement<'a>, AsmCode>
+    ensures { Says result (statement_of (Mnemonic.Section section) (all_seen operands.now)) }
 {
+    nothing(operands)?;
+    Ok(Statement::Section(section))
+}
+
+/// `.zero`: so many zero bytes.
+#[tactic(auto, unfolding(crate::specs::Grammar::statement_of))]
+pub(crate) fn zeros<'a>(operands: &[Kind<'a>]) -> Result<Statement<'a>, AsmCode>
+    ensures { Says result (statement_of Mnemonic.Zeros (all_seen operands.now)) }
+{
+    let count = number_alone(operands, up_to(1_048_576))?;
+    Ok(Statement::Zeros(count.unsigned_abs() as u32))
+}
+
+/// `.balign`: a power of two.
+#[tactic(auto, unfolding(crate::specs::Grammar::statement_of), using(crate::proofs::NumberLists::some_power))]
+pub(crate) fn align<'a>(operands: &[Kind<'a>]) -> Result<Statement<'a>, AsmCode>
+    ensures { Says result (statement_of Mnemonic.Align (all_seen operands.now)) }
+{
+    let boundary = number_alone(operands, up_to(4096))?.unsigned_abs() as u32;
     if boundary.is_power_of_two() {
         Ok(Statement::Align(boundary))
     } else {
@@ -36,7 +57,7 @@ pub(crate) fn aligned<'a>(boundary: u32) -> Result<Statement<'a>, AsmCode>
 pub(crate) fn numbers<'a>(
     alloc: Global,
     width: NumberWidth,
-    operands: &[Lexeme<'a>],
+    operands: &[Kind<'a>],
 ) -> Result<Statement<'a>, AsmCode>
     ensures ok { IfOk result (λ s. statement_of (Mnemonic.Numbers width) (all_seen operands.now)
         ≡ Ok (meaning_of s)) }
@@ -51,7 +72,7 @@ pub(crate) fn numbers<'a>(
 
 /// One number or more, between commas.
 #[tactic(auto, using(crate::proofs::NumberLists::list_start, crate::proofs::NumberLists::list_goes_on, crate::proofs::NumberLists::list_ends, crate::proofs::NumberLists::list_fails))]
-fn number_list(alloc: Global, lexemes: &[Lexeme]) -> Result<Vec<SignedNumber>, AsmCode>
+fn number_list(alloc: Global, lexemes: &[Kind]) -> Result<Vec<SignedNumber>, AsmCode>
     ensures ok { IfOk result (λ found. numbers_of (all_seen lexemes.now) ≡ Some found.items) }
     ensures err { IfErr result (λ code. code ≢ AsmCode.Memory
         → (code ≡ AsmCode.Operands) × (numbers_of (all_seen lexemes.now) ≡ None)) }
@@ -68,7 +89,7 @@ fn number_list(alloc: Global, lexemes: &[Lexeme]) -> Result<Vec<SignedNumber>, A
 
 /// The number that stands first, and what follows the comma after it, if one stands there.
 #[tactic(auto, using(crate::proofs::NumberLists::list_step))]
-fn front<'s, 'a>(lexemes: &'s [Lexeme<'a>]) -> Option<(SignedNumber, Option<&'s [Lexeme<'a>]>)>
+fn front<'s, 'a>(lexemes: &'s [Kind<'a>]) -> Option<(SignedNumber, Option<&'s [Kind<'a>]>)>
     ensures value { MatchOption result (numbers_of (all_seen lexemes.now) ≡ None)
         (λ (number, rest). numbers_of (all_seen lexemes.now) ≡ with_first number
         (numbers_left rest)) }
@@ -79,14 +100,14 @@ fn front<'s, 'a>(lexemes: &'s [Lexeme<'a>]) -> Option<(SignedNumber, Option<&'s 
 }
 
 /// What follows a comma; None within at the end, and None where another lexeme stands.
-fn after_comma<'s, 'a>(lexemes: &'s [Lexeme<'a>]) -> Option<Option<&'s [Lexeme<'a>]>>
+fn after_comma<'s, 'a>(lexemes: &'s [Kind<'a>]) -> Option<Option<&'s [Kind<'a>]>>
     ensures value { (n : SignedNumber) → numbers_after n (all_seen lexemes.now)
         ≡ option_and_then (λ rest. with_first n (numbers_left rest)) result }
     ensures shorter { IfSome result (λ rest. left_len rest < 1 + length lexemes.now) }
 {
     match lexemes {
         [] => Some(None),
-        [Lexeme::Comma, rest @ ..] => Some(Some(rest)),
+        [Kind::Comma, rest @ ..] => Some(Some(rest)),
         _ => None,
     }
 }

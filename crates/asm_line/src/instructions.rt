@@ -2,128 +2,206 @@
 //!
 //! Source: RISC-V Unprivileged ISA 20191213, chapters 2, 5, 8 and 25; CMO 1.0.
 
-ghost use Rattle.asm_line.specs.Grammar.{branched, built, int, jumped, range_of, register_jump};
-ghost use Rattle.asm_line.specs.Meanings.{instruction, meaning_of, IsInRange};
+ghost use Rattle.asm_line.specs.Grammar.{branched, jumped, statement_of};
 ghost use Rattle.asm_line.specs.Numbers.{exact, branch_reach, jump_reach, reached};
-ghost use Rattle.asm_line.specs.Steps.{is_plain, listed, parts_seen, registers_seen};
-ghost use Rattle.asm_line.specs.Steps.{takes_address, target_seen, Gives};
-ghost use Rattle.isa_table.specs.Ranges.{FitsBits, IsChecked};
-ghost use Rattle.std.specs.Prelude.{◌≡◌, ◌≤ℤ◌, true, Err, Ok, IfErr, IfOk};
+ghost use Rattle.asm_line.specs.Steps.{all_seen, target_seen, Says};
+ghost use Rattle.asm_names.specs.declared.mnemonic.Mnemonic.{Mnemonic};
+ghost use Rattle.isa_table.specs.Ranges.{IsChecked};
+ghost use Rattle.std.specs.Prelude.{◌≡◌, ◌∷◌, [], Err, Ok, IfErr, IfOk};
 
 use crate::fault::AsmCode;
 use crate::line::Statement;
-use crate::operands::{SignedNumber, Target};
-use crate::parts::{Parts, Registers, within};
-use crate::pseudo::{immediate, registers, unary};
-use asm_names::{AtomicForm, Mnemonic, return_register, zero_register};
-use isa_table::{AtomicOp, BranchOp, ImmediateOp, Instr, Reg};
+use crate::operands::{SignedNumber, Target, destination, name_place, name_target, sets};
+use crate::parts::{
+    nothing, one_register, place_alone, register, register_number, register_place,
+    registers_number, registers_place, registers_target, signed_12, three_registers, up_to, within,
+};
+use asm_lex::Kind;
+use asm_names::{ALL_ACCESSES, AtomicForm, return_register};
+use isa_table::{
+    AtomicOp, BranchOp, CacheOp, ImmediateOp, Instr, LoadOp, Reg, RegisterOp, ShiftOp, StoreOp,
+    SystemOp, UpperOp,
+};
 
-/// An instruction on registers and numbers alone.
-pub(crate) fn plain(mnemonic: Mnemonic, parts: Parts) -> Instr
-    requires plain { is_plain mnemonic ≡ true }
-    requires low { (range_of mnemonic).low ≤ℤ int (parts_seen parts) 0 }
-    requires high { int (parts_seen parts) 0 ≤ℤ (range_of mnemonic).high }
-    ensures value { built mnemonic (parts_seen parts.entry) ≡ Ok (instruction result) }
-    ensures checked { IsChecked result }
+/// LUI and AUIPC.
+#[tactic(auto, unfolding(crate::specs::Grammar::statement_of))]
+pub(crate) fn upper<'a>(op: UpperOp, operands: &[Kind<'a>]) -> Result<Statement<'a>, AsmCode>
+    ensures { Says result (statement_of (Mnemonic.Upper op) (all_seen operands.now)) }
 {
-    let zero = zero_register();
-    let (first, second) = (parts.registers.first_or(zero), parts.registers.second());
-    let number = parts.number();
-    let (predecessor, successor) = parts.sets();
-    match mnemonic {
-        Mnemonic::Upper(op) => Instr::Upper {
-            op,
-            rd: first,
-            immediate: number.unsigned_abs() as u32,
-        },
-        Mnemonic::Immediate(op) => immediate(op, first, second, number as i32),
-        Mnemonic::Shift(op) => Instr::Shift {
-            op,
-            rd: first,
-            rs1: second,
-            amount: number.unsigned_abs() as u32,
-        },
-        Mnemonic::Register(op) => registers(op, first, second, parts.registers.third()),
-        Mnemonic::Unary(op) => unary(op, first, second),
-        Mnemonic::Nop => immediate(ImmediateOp::Addi, zero, zero, 0),
-        Mnemonic::System(op) => Instr::System { op },
-        Mnemonic::FenceI => Instr::FenceI,
-        Mnemonic::Fence => Instr::Fence {
-            predecessor,
-            successor,
-        },
-        _ => unreachable!(),
-    }
+    let (rd, number) = register_number(operands, up_to(1_048_575))?;
+    let immediate = number.unsigned_abs() as u32;
+    Ok(Statement::Instruction(Instr::Upper { op, rd, immediate }))
 }
 
-/// An instruction that takes an address from a register.
-pub(crate) fn addressing(mnemonic: Mnemonic, parts: Parts) -> Instr
-    requires addressing { takes_address mnemonic ≡ true }
-    requires low { (range_of mnemonic).low ≤ℤ int (parts_seen parts) 0 }
-    requires high { int (parts_seen parts) 0 ≤ℤ (range_of mnemonic).high }
-    ensures value { built mnemonic (parts_seen parts.entry) ≡ Ok (instruction result) }
-    ensures checked { IsChecked result }
+/// JAL: where no register stands, ra takes the return address.
+#[tactic(auto, unfolding(crate::specs::Grammar::statement_of))]
+pub(crate) fn jump<'a>(operands: &[Kind<'a>]) -> Result<Statement<'a>, AsmCode>
+    ensures { Says result (statement_of Mnemonic.Jump (all_seen operands.now)) }
 {
-    let zero = zero_register();
-    let (rd, rs1) = (parts.registers.first_or(zero), parts.registers.second());
-    let offset = parts.number() as i32;
-    match mnemonic {
-        Mnemonic::JumpRegister => register_jump(parts.registers, offset),
-        Mnemonic::PlainJumpRegister => jump_register(zero, rd, 0),
-        Mnemonic::Return => jump_register(zero, return_register(), 0),
-        Mnemonic::Load(op) => Instr::Load {
-            op,
-            rd,
-            rs1,
-            offset,
-        },
-        Mnemonic::Store(op) => Instr::Store {
-            op,
-            rs2: rd,
-            rs1,
-            offset,
-        },
-        Mnemonic::Cache(op) => Instr::Cache { op, rs1: rd },
-        Mnemonic::LoadReserved(form) => load_reserved(form, rd, rs1),
-        Mnemonic::Atomic(op, form) => atomic(op, form, rd, parts.registers.third(), rs1),
-        _ => unreachable!(),
+    match name_target(operands) {
+        Some((rd, target)) => jump_to(register(rd)?, target),
+        None => jump_to(
+            return_register(),
+            destination(operands).ok_or(AsmCode::Operands)?,
+        ),
     }
 }
 
 /// JALR: where one register stands it has the address, and ra takes the return address.
-fn register_jump(registers: Registers, offset: i32) -> Instr
-    requires { FitsBits 12 offset }
-    ensures value { result ≡ register_jump (registers_seen registers) offset }
-    ensures checked { IsChecked result }
+#[tactic(auto, unfolding(crate::specs::Grammar::statement_of))]
+pub(crate) fn jump_register<'a>(operands: &[Kind<'a>]) -> Result<Statement<'a>, AsmCode>
+    ensures { Says result (statement_of Mnemonic.JumpRegister (all_seen operands.now)) }
 {
-    match registers {
-        Registers::Two(rd, rs1) | Registers::Three(rd, rs1, _) => jump_register(rd, rs1, offset),
-        _ => jump_register(return_register(), registers.first_or(zero_register()), 0),
+    if name_place(operands).is_none() {
+        let (rd, rs1) = (return_register(), one_register(operands)?);
+        return Ok(Statement::Instruction(Instr::JumpRegister { rd, rs1, offset: 0 }));
     }
+    let (rd, rs1, offset) = register_place(operands, signed_12())?;
+    let offset = offset as i32;
+    Ok(Statement::Instruction(Instr::JumpRegister { rd, rs1, offset }))
 }
 
-fn jump_register(rd: Reg, rs1: Reg, offset: i32) -> Instr
-    ensures { result ≡ Instr.JumpRegister rd rs1 offset }
+/// The branches.
+#[tactic(auto, unfolding(crate::specs::Grammar::statement_of))]
+pub(crate) fn branch<'a>(op: BranchOp, operands: &[Kind<'a>]) -> Result<Statement<'a>, AsmCode>
+    ensures { Says result (statement_of (Mnemonic.Branch op) (all_seen operands.now)) }
 {
-    Instr::JumpRegister { rd, rs1, offset }
+    let (rs1, rs2, target) = registers_target(operands)?;
+    branch_to(op, rs1, rs2, target)
 }
 
-fn load_reserved(form: AtomicForm, rd: Reg, rs1: Reg) -> Instr
-    ensures { result ≡ Instr.LoadReserved form.width rd rs1 form.acquire form.release }
+/// The loads.
+#[tactic(auto, unfolding(crate::specs::Grammar::statement_of))]
+pub(crate) fn load<'a>(op: LoadOp, operands: &[Kind<'a>]) -> Result<Statement<'a>, AsmCode>
+    ensures { Says result (statement_of (Mnemonic.Load op) (all_seen operands.now)) }
 {
-    Instr::LoadReserved {
+    let (rd, rs1, offset) = register_place(operands, signed_12())?;
+    let offset = offset as i32;
+    Ok(Statement::Instruction(Instr::Load {
+        op,
+        rd,
+        rs1,
+        offset,
+    }))
+}
+
+/// The stores.
+#[tactic(auto, unfolding(crate::specs::Grammar::statement_of))]
+pub(crate) fn store<'a>(op: StoreOp, operands: &[Kind<'a>]) -> Result<Statement<'a>, AsmCode>
+    ensures { Says result (statement_of (Mnemonic.Store op) (all_seen operands.now)) }
+{
+    let (rs2, rs1, offset) = register_place(operands, signed_12())?;
+    let offset = offset as i32;
+    Ok(Statement::Instruction(Instr::Store {
+        op,
+        rs2,
+        rs1,
+        offset,
+    }))
+}
+
+/// The computations on a register and a number.
+#[tactic(auto, unfolding(crate::specs::Grammar::statement_of))]
+pub(crate) fn computed<'a>(op: ImmediateOp, operands: &[Kind<'a>]) -> Result<Statement<'a>, AsmCode>
+    ensures { Says result (statement_of (Mnemonic.Immediate op) (all_seen operands.now)) }
+{
+    let (rd, rs1, number) = registers_number(operands, signed_12())?;
+    let immediate = number as i32;
+    Ok(Statement::Instruction(Instr::Immediate {
+        op,
+        rd,
+        rs1,
+        immediate,
+    }))
+}
+
+/// The shifts by a number.
+#[tactic(auto, unfolding(crate::specs::Grammar::statement_of))]
+pub(crate) fn shift<'a>(op: ShiftOp, operands: &[Kind<'a>]) -> Result<Statement<'a>, AsmCode>
+    ensures { Says result (statement_of (Mnemonic.Shift op) (all_seen operands.now)) }
+{
+    let range = up_to(i64::from(op.bits_shifted()) - 1);
+    let (rd, rs1, number) = registers_number(operands, range)?;
+    let amount = number.unsigned_abs() as u32;
+    Ok(Statement::Instruction(Instr::Shift {
+        op,
+        rd,
+        rs1,
+        amount,
+    }))
+}
+
+/// The computations on two registers.
+#[tactic(auto, unfolding(crate::specs::Grammar::statement_of))]
+pub(crate) fn combined<'a>(op: RegisterOp, operands: &[Kind<'a>]) -> Result<Statement<'a>, AsmCode>
+    ensures { Says result (statement_of (Mnemonic.Register op) (all_seen operands.now)) }
+{
+    let (rd, rs1, rs2) = three_registers(operands)?;
+    Ok(Statement::Instruction(Instr::Register { op, rd, rs1, rs2 }))
+}
+
+/// FENCE: without sets, of all accesses.
+#[tactic(auto, unfolding(crate::specs::Grammar::statement_of))]
+pub(crate) fn fence<'a>(operands: &[Kind<'a>]) -> Result<Statement<'a>, AsmCode>
+    ensures { Says result (statement_of Mnemonic.Fence (all_seen operands.now)) }
+{
+    let (predecessor, successor) = match operands {
+        [] => (ALL_ACCESSES, ALL_ACCESSES),
+        _ => sets(operands).ok_or(AsmCode::Operands)?,
+    };
+    Ok(Statement::Instruction(Instr::Fence {
+        predecessor,
+        successor,
+    }))
+}
+
+/// FENCE.I.
+#[tactic(auto, unfolding(crate::specs::Grammar::statement_of))]
+pub(crate) fn fence_i<'a>(operands: &[Kind<'a>]) -> Result<Statement<'a>, AsmCode>
+    ensures { Says result (statement_of Mnemonic.FenceI (all_seen operands.now)) }
+{
+    nothing(operands)?;
+    Ok(Statement::Instruction(Instr::FenceI))
+}
+
+/// The operations on a cache line.
+#[tactic(auto, unfolding(crate::specs::Grammar::statement_of))]
+pub(crate) fn cache<'a>(op: CacheOp, operands: &[Kind<'a>]) -> Result<Statement<'a>, AsmCode>
+    ensures { Says result (statement_of (Mnemonic.Cache op) (all_seen operands.now)) }
+{
+    let (rs1, _zero) = place_alone(operands, up_to(0))?;
+    Ok(Statement::Instruction(Instr::Cache { op, rs1 }))
+}
+
+/// LR.
+#[tactic(auto, unfolding(crate::specs::Grammar::statement_of))]
+pub(crate) fn load_reserved<'a>(
+    form: AtomicForm,
+    operands: &[Kind<'a>],
+) -> Result<Statement<'a>, AsmCode>
+    ensures { Says result (statement_of (Mnemonic.LoadReserved form) (all_seen operands.now)) }
+{
+    let (rd, rs1, _zero) = register_place(operands, up_to(0))?;
+    Ok(Statement::Instruction(Instr::LoadReserved {
         width: form.width,
         rd,
         rs1,
         acquire: form.acquire,
         release: form.release,
-    }
+    }))
 }
 
-fn atomic(op: AtomicOp, form: AtomicForm, rd: Reg, rs1: Reg, rs2: Reg) -> Instr
-    ensures { result ≡ Instr.Atomic op form.width rd rs1 rs2 form.acquire form.release }
+/// SC and the atomic operations on memory.
+#[tactic(auto, unfolding(crate::specs::Grammar::statement_of))]
+pub(crate) fn atomic<'a>(
+    op: AtomicOp,
+    form: AtomicForm,
+    operands: &[Kind<'a>],
+) -> Result<Statement<'a>, AsmCode>
+    ensures { Says result (statement_of (Mnemonic.Atomic op form) (all_seen operands.now)) }
 {
-    Instr::Atomic {
+    let (rd, rs2, rs1, _zero) = registers_place(operands, up_to(0))?;
+    Ok(Statement::Instruction(Instr::Atomic {
         op,
         width: form.width,
         rd,
@@ -131,7 +209,16 @@ fn atomic(op: AtomicOp, form: AtomicForm, rd: Reg, rs1: Reg, rs2: Reg) -> Instr
         rs2,
         acquire: form.acquire,
         release: form.release,
-    }
+    }))
+}
+
+/// ECALL and EBREAK.
+#[tactic(auto, unfolding(crate::specs::Grammar::statement_of))]
+pub(crate) fn system<'a>(op: SystemOp, operands: &[Kind<'a>]) -> Result<Statement<'a>, AsmCode>
+    ensures { Says result (statement_of (Mnemonic.System op) (all_seen operands.now)) }
+{
+    nothing(operands)?;
+    Ok(Statement::Instruction(Instr::System { op }))
 }
 
 /// A branch to a label, or by a distance that its word can hold.
@@ -139,19 +226,18 @@ pub(crate) fn branch_to<'a>(
     op: BranchOp,
     rs1: Reg,
     rs2: Reg,
-    target: Option<Target<'a>>,
+    target: Target<'a>,
 ) -> Result<Statement<'a>, AsmCode>
-    ensures value { Gives meaning_of result (branched op rs1 rs2 (listed target_seen target.entry)) }
-    ensures in_range { IfOk result (λ s. IsInRange (meaning_of s)) }
+    ensures { Says result (branched op rs1 rs2 (target_seen target.entry ∷ [])) }
 {
     match target {
-        Some(Target::Label(label)) => Ok(Statement::Branch {
+        Target::Label(label) => Ok(Statement::Branch {
             op,
             rs1,
             rs2,
             label,
         }),
-        Some(Target::Distance(number)) => {
+        Target::Distance(number) => {
             let distance = near(number)?;
             let instr = Instr::Branch {
                 op,
@@ -161,22 +247,19 @@ pub(crate) fn branch_to<'a>(
             };
             Ok(Statement::Instruction(reaching(instr)?))
         }
-        None => Err(AsmCode::Operands),
     }
 }
 
 /// A jump to a label, or by a distance that its word can hold.
-pub(crate) fn jump_to<'a>(rd: Reg, target: Option<Target<'a>>) -> Result<Statement<'a>, AsmCode>
-    ensures value { Gives meaning_of result (jumped rd (listed target_seen target.entry)) }
-    ensures in_range { IfOk result (λ s. IsInRange (meaning_of s)) }
+pub(crate) fn jump_to<'a>(rd: Reg, target: Target<'a>) -> Result<Statement<'a>, AsmCode>
+    ensures { Says result (jumped rd (target_seen target.entry ∷ [])) }
 {
     match target {
-        Some(Target::Label(label)) => Ok(Statement::Jump { rd, label }),
-        Some(Target::Distance(number)) => {
+        Target::Label(label) => Ok(Statement::Jump { rd, label }),
+        Target::Distance(number) => {
             let distance = near(number)?;
             Ok(Statement::Instruction(reaching(Instr::Jump { rd, distance })?))
         }
-        None => Err(AsmCode::Operands),
     }
 }
 

@@ -13,25 +13,21 @@ ghost use Rattle.asm_lex.specs.Pieces.{pieces};
 ghost use Rattle.asm_line.specs.Faults.{Fails};
 ghost use Rattle.asm_line.specs.Lines.{line_of};
 ghost use Rattle.asm_line.specs.Meanings.{line_meaning, meaning_of, IsInRange};
-ghost use Rattle.asm_line.specs.Steps.{taken};
 ghost use Rattle.std.specs.Prelude.{◌≡◌, Ok, IfOk, IfErr, IsErrOf, map, true};
 
 mod directives;
 mod fault;
 mod instructions;
-mod lexeme;
 mod line;
 mod operands;
 mod parts;
 mod pseudo;
 mod range;
-mod shapes;
 mod statement;
 
-use asm_lex::{Token, tokens};
+use asm_lex::{Kind, Token, tokens};
 pub use asm_names::{NumberWidth, Section};
 pub use fault::AsmCode;
-use lexeme::{Lexeme, lexeme_of};
 pub use line::{Line, Statement};
 pub use pseudo::halves;
 use statement::line_at;
@@ -54,8 +50,9 @@ pub fn read_line<'a>(alloc: Global, line: &'a [u8]) -> Result<Line<'a>, AsmCode>
     line_at(alloc, &lexemes)
 }
 
-fn lexemes<'a>(alloc: Global, tokens: &[Token<'a>]) -> Result<Vec<Lexeme<'a>>, AllocError>
-    ensures { IfOk result (λ found. found.items ≡ map taken tokens.now) }
+/// What tokens are, without their places.
+fn lexemes<'a>(alloc: Global, tokens: &[Token<'a>]) -> Result<Vec<Kind<'a>>, AllocError>
+    ensures { IfOk result (λ found. found.items ≡ map (λ t. t.kind) tokens.now) }
 {
-    tokens.iter().map(|token| lexeme_of(token)).collect(alloc)
+    tokens.iter().map(|token| token.kind).collect(alloc)
 }

@@ -1,101 +1,187 @@
-//! The operands of a statement, checked: registers, and a number in its range, sets or a target.
+//! The operands of each format, checked: registers, numbers in a range, and targets.
 //!
 //! Of the faults of operands the lowest is answered: they fit no shape, a name is no register, a
 //! number is out of range.
 
-ghost use Rattle.asm_line.specs.Grammar.{checked, fit_one, int, integers_of, registers_of, set};
+ghost use Rattle.asm_line.specs.Grammar.{checked, fit, from_to, label_name, memory_place, parts};
+ghost use Rattle.asm_line.specs.Grammar.{register_name, register_then, signed_12, signed_number};
+ghost use Rattle.asm_line.specs.Grammar.{target};
 ghost use Rattle.asm_line.specs.Numbers.{within};
-ghost use Rattle.asm_line.specs.Steps.{all_seen, form_shapes, given_numbers, given_sets};
-ghost use Rattle.asm_line.specs.Steps.{given_targets, interval, listed, names_seen, parts_seen};
-ghost use Rattle.asm_line.specs.Steps.{registers_seen, target_seen, value_integers, value_sets};
-ghost use Rattle.asm_line.specs.Steps.{value_targets, Gives};
-ghost use Rattle.asm_names.specs.Registers.{register_of, zero_register};
-ghost use Rattle.std.specs.Prelude.{◌≡◌, ◌^◌, ◌≤ℤ◌, pos, negsuc, neg_ℤ, int_le, if◌then◌else◌};
-ghost use Rattle.std.specs.Prelude.{Ok, Err, IfOk, ok_or, slice_index_or};
+ghost use Rattle.asm_line.specs.Steps.{all_seen, interval, target_seen, Gives};
+ghost use Rattle.asm_names.specs.Registers.{register_of};
+ghost use Rattle.std.specs.Prelude.{◌≡◌, ◌∷◌, [], ◌^◌, ◌≤ℤ◌, pos, negsuc, neg_ℤ, int_le};
+ghost use Rattle.std.specs.Prelude.{Ok, Err, IfOk, ok_or, if◌then◌else◌};
 
 use crate::fault::AsmCode;
-use crate::lexeme::Lexeme;
-use crate::operands::{Given, Names, SignedNumber, Target, fit_one};
+use crate::operands::{
+    SignedNumber, Target, destination, label, name, name_place, name_target, name_then, names_then,
+    number, place,
+};
 use crate::range::Range;
-use crate::shapes::Form;
-use asm_names::{ALL_ACCESSES, register_of, zero_register};
-use isa_table::{AccessSet, Reg};
+use asm_lex::Kind;
+use asm_names::register_of;
+use isa_table::Reg;
 
-/// The registers among operands.
-#[derive(Clone, Copy)]
-pub(crate) enum Registers {
-    Nothing,
-    One(Reg),
-    Two(Reg, Reg),
-    Three(Reg, Reg, Reg),
-}
-
-/// What stands among operands beside registers.
-#[derive(Clone, Copy)]
-pub(crate) enum Value<'a> {
-    Nothing,
-    Number(i64),
-    Sets(AccessSet, AccessSet),
-    Target(Target<'a>),
-}
-
-/// What stands in the places of a shape, checked.
-#[derive(Clone, Copy)]
-pub(crate) struct Parts<'a> {
-    pub(crate) registers: Registers,
-    pub(crate) value: Value<'a>,
-}
-
-/// What the operands of a form are.
-pub(crate) fn read<'a>(form: Form, operands: &[Lexeme<'a>]) -> Result<Parts<'a>, AsmCode>
-    ensures value { Gives parts_seen result
-        (checked (interval form.range) (fit_one (form_shapes form) (all_seen operands.now))) }
-    ensures range { IfOk result (λ p. (form.range.low ≤ℤ int (parts_seen p) 0)
-        × (int (parts_seen p) 0 ≤ℤ form.range.high)) }
+/// 12 bits with a sign.
+pub(crate) fn signed_12() -> Range
+    ensures { interval result ≡ signed_12 }
 {
-    let found = fit_one(form, operands).ok_or(AsmCode::Operands)?;
-    let registers = registers_named(found.names)?;
-    let value = value_of(found.given, form.range)?;
-    Ok(Parts { registers, value })
-}
-
-/// The registers that names stand for.
-fn registers_named(names: Names) -> Result<Registers, AsmCode>
-    ensures { Gives registers_seen result (registers_of (names_seen names.entry)) }
-{
-    match names {
-        Names::Nothing => Ok(Registers::Nothing),
-        Names::One(first) => Ok(Registers::One(register(first)?)),
-        Names::Two(first, second) => Ok(Registers::Two(register(first)?, register(second)?)),
-        Names::Three(first, second, third) => {
-            let (first, second) = (register(first)?, register(second)?);
-            Ok(Registers::Three(first, second, register(third)?))
-        }
+    Range {
+        low: -2048,
+        high: 2047,
     }
+}
+
+/// From 0 to a greatest number.
+pub(crate) fn up_to(high: i64) -> Range
+    requires { pos 0 ≤ℤ high }
+    ensures { interval result ≡ from_to (pos 0) high }
+{
+    Range { low: 0, high }
+}
+
+/// No operands.
+pub(crate) fn nothing(lexemes: &[Kind]) -> Result<(), AsmCode>
+    ensures { Gives (λ _. parts [] [] [] []) result
+        (checked signed_12 (fit [] (all_seen lexemes.now))) }
+{
+    match lexemes {
+        [] => Ok(()),
+        _ => Err(AsmCode::Operands),
+    }
+}
+
+/// `register`
+pub(crate) fn one_register(lexemes: &[Kind]) -> Result<Reg, AsmCode>
+    ensures { Gives (λ a. parts (a ∷ []) [] [] []) result
+        (checked signed_12 (fit (register_name ∷ []) (all_seen lexemes.now))) }
+{
+    register(name(lexemes).ok_or(AsmCode::Operands)?)
+}
+
+/// `register, register`
+pub(crate) fn two_registers(lexemes: &[Kind]) -> Result<(Reg, Reg), AsmCode>
+    ensures { Gives (λ (a, b). parts (a ∷ b ∷ []) [] [] []) result
+        (checked signed_12 (fit (register_then (register_name ∷ [])) (all_seen lexemes.now))) }
+{
+    let (first, rest) = name_then(lexemes).ok_or(AsmCode::Operands)?;
+    let second = name(rest).ok_or(AsmCode::Operands)?;
+    Ok((register(first)?, register(second)?))
+}
+
+/// `register, register, register`
+pub(crate) fn three_registers(lexemes: &[Kind]) -> Result<(Reg, Reg, Reg), AsmCode>
+    ensures { Gives (λ (a, b, c). parts (a ∷ b ∷ c ∷ []) [] [] []) result
+        (checked signed_12 (fit (register_then (register_then (register_name ∷ []))) (all_seen lexemes.now))) }
+{
+    let (first, second, rest) = names_then(lexemes).ok_or(AsmCode::Operands)?;
+    let third = name(rest).ok_or(AsmCode::Operands)?;
+    Ok((register(first)?, register(second)?, register(third)?))
+}
+
+/// `number`
+pub(crate) fn number_alone(lexemes: &[Kind], range: Range) -> Result<i64, AsmCode>
+    ensures value { Gives (λ z. parts [] (z ∷ []) [] []) result
+        (checked (interval range) (fit (signed_number ∷ []) (all_seen lexemes.now))) }
+    ensures range { IfOk result (λ z. (range.low ≤ℤ z) × (z ≤ℤ range.high)) }
+{
+    let number = number(lexemes).ok_or(AsmCode::Operands)?;
+    within(number, range.low, range.high)
+}
+
+/// `register, number`
+pub(crate) fn register_number(lexemes: &[Kind], range: Range) -> Result<(Reg, i64), AsmCode>
+    ensures value { Gives (λ (a, z). parts (a ∷ []) (z ∷ []) [] []) result
+        (checked (interval range) (fit (register_then (signed_number ∷ [])) (all_seen lexemes.now))) }
+    ensures range { IfOk result (λ (a, z). (range.low ≤ℤ z) × (z ≤ℤ range.high)) }
+{
+    let (first, rest) = name_then(lexemes).ok_or(AsmCode::Operands)?;
+    let number = number(rest).ok_or(AsmCode::Operands)?;
+    Ok((register(first)?, within(number, range.low, range.high)?))
+}
+
+/// `register, register, number`
+pub(crate) fn registers_number(lexemes: &[Kind], range: Range) -> Result<(Reg, Reg, i64), AsmCode>
+    ensures value { Gives (λ (a, b, z). parts (a ∷ b ∷ []) (z ∷ []) [] []) result
+        (checked (interval range) (fit (register_then (register_then (signed_number ∷ []))) (all_seen lexemes.now))) }
+    ensures range { IfOk result (λ (a, b, z). (range.low ≤ℤ z) × (z ≤ℤ range.high)) }
+{
+    let (first, second, rest) = names_then(lexemes).ok_or(AsmCode::Operands)?;
+    let number = number(rest).ok_or(AsmCode::Operands)?;
+    let (first, second) = (register(first)?, register(second)?);
+    Ok((first, second, within(number, range.low, range.high)?))
+}
+
+/// `offset(register)`
+pub(crate) fn place_alone(lexemes: &[Kind], range: Range) -> Result<(Reg, i64), AsmCode>
+    ensures value { Gives (λ (base, z). parts (base ∷ []) (z ∷ []) [] []) result
+        (checked (interval range) (fit memory_place (all_seen lexemes.now))) }
+    ensures range { IfOk result (λ (base, z). (range.low ≤ℤ z) × (z ≤ℤ range.high)) }
+{
+    let (offset, base) = place(lexemes).ok_or(AsmCode::Operands)?;
+    Ok((register(base)?, within(offset, range.low, range.high)?))
+}
+
+/// `register, offset(register)`
+pub(crate) fn register_place(lexemes: &[Kind], range: Range) -> Result<(Reg, Reg, i64), AsmCode>
+    ensures value { Gives (λ (a, base, z). parts (a ∷ base ∷ []) (z ∷ []) [] []) result
+        (checked (interval range) (fit (register_then memory_place) (all_seen lexemes.now))) }
+    ensures range { IfOk result (λ (a, base, z). (range.low ≤ℤ z) × (z ≤ℤ range.high)) }
+{
+    let (first, offset, base) = name_place(lexemes).ok_or(AsmCode::Operands)?;
+    let (first, base) = (register(first)?, register(base)?);
+    Ok((first, base, within(offset, range.low, range.high)?))
+}
+
+/// `register, register, offset(register)`
+pub(crate) fn registers_place(
+    lexemes: &[Kind],
+    range: Range,
+) -> Result<(Reg, Reg, Reg, i64), AsmCode>
+    ensures value { Gives (λ (a, b, base, z). parts (a ∷ b ∷ base ∷ []) (z ∷ []) [] []) result
+        (checked (interval range) (fit (register_then (register_then memory_place)) (all_seen lexemes.now))) }
+    ensures range { IfOk result (λ (a, b, base, z). (range.low ≤ℤ z) × (z ≤ℤ range.high)) }
+{
+    let (first, second, rest) = names_then(lexemes).ok_or(AsmCode::Operands)?;
+    let (offset, base) = place(rest).ok_or(AsmCode::Operands)?;
+    let (first, second, base) = (register(first)?, register(second)?, register(base)?);
+    Ok((first, second, base, within(offset, range.low, range.high)?))
+}
+
+/// `register, label`
+pub(crate) fn register_label<'a>(lexemes: &[Kind<'a>]) -> Result<(Reg, Target<'a>), AsmCode>
+    ensures { Gives (λ (a, t). parts (a ∷ []) [] [] (target_seen t ∷ [])) result
+        (checked signed_12 (fit (register_then (label_name ∷ [])) (all_seen lexemes.now))) }
+{
+    let (first, rest) = name_then(lexemes).ok_or(AsmCode::Operands)?;
+    let label = label(rest).ok_or(AsmCode::Operands)?;
+    Ok((register(first)?, label))
+}
+
+/// `register, target`
+pub(crate) fn register_target<'a>(lexemes: &[Kind<'a>]) -> Result<(Reg, Target<'a>), AsmCode>
+    ensures { Gives (λ (a, t). parts (a ∷ []) [] [] (target_seen t ∷ [])) result
+        (checked signed_12 (fit (register_then (target ∷ [])) (all_seen lexemes.now))) }
+{
+    let (first, target) = name_target(lexemes).ok_or(AsmCode::Operands)?;
+    Ok((register(first)?, target))
+}
+
+/// `register, register, target`
+pub(crate) fn registers_target<'a>(lexemes: &[Kind<'a>]) -> Result<(Reg, Reg, Target<'a>), AsmCode>
+    ensures { Gives (λ (a, b, t). parts (a ∷ b ∷ []) [] [] (target_seen t ∷ [])) result
+        (checked signed_12 (fit (register_then (register_then (target ∷ []))) (all_seen lexemes.now))) }
+{
+    let (first, second, rest) = names_then(lexemes).ok_or(AsmCode::Operands)?;
+    let target = destination(rest).ok_or(AsmCode::Operands)?;
+    Ok((register(first)?, register(second)?, target))
 }
 
 /// A register's name.
-fn register(name: &[u8]) -> Result<Reg, AsmCode>
+pub(crate) fn register(name: &[u8]) -> Result<Reg, AsmCode>
     ensures { result ≡ ok_or (register_of name.now) AsmCode.Register }
 {
     register_of(name).ok_or(AsmCode::Register)
-}
-
-/// What is given beside names, where a number is in a range.
-fn value_of<'a>(given: Given<'a>, range: Range) -> Result<Value<'a>, AsmCode>
-    ensures integers { Gives value_integers result
-        (integers_of (interval range) (given_numbers given.entry)) }
-    ensures sets { IfOk result (λ v. value_sets v ≡ given_sets given.entry) }
-    ensures targets { IfOk result (λ v. value_targets v ≡ given_targets given.entry) }
-    ensures range { IfOk result (λ v. (range.low ≤ℤ slice_index_or (value_integers v) 0 (pos 0))
-        × (slice_index_or (value_integers v) 0 (pos 0) ≤ℤ range.high)) }
-{
-    match given {
-        Given::Nothing => Ok(Value::Nothing),
-        Given::Number(number) => Ok(Value::Number(within(number, range.low, range.high)?)),
-        Given::Sets(before, after) => Ok(Value::Sets(before, after)),
-        Given::Target(target) => Ok(Value::Target(target)),
-    }
 }
 
 /// The integer that a number is, where it is in a range, which holds 0.
@@ -137,71 +223,5 @@ fn positive(size: u64, high: i64) -> Result<i64, AsmCode>
         Ok(size as i64)
     } else {
         Err(AsmCode::Range)
-    }
-}
-
-impl Registers {
-    /// The first register, or another one where there is none.
-    pub(crate) fn first_or(self, other: Reg) -> Reg
-        ensures { result ≡ slice_index_or (registers_seen self) 0 other }
-    {
-        match self {
-            Registers::Nothing => other,
-            Registers::One(first) | Registers::Two(first, _) | Registers::Three(first, _, _) =>
-                first,
-        }
-    }
-
-    /// The second register, or x0.
-    pub(crate) fn second(self) -> Reg
-        ensures { result ≡ slice_index_or (registers_seen self) 1 zero_register }
-    {
-        match self {
-            Registers::Two(_, second) | Registers::Three(_, second, _) => second,
-            _ => zero_register(),
-        }
-    }
-
-    /// The third register, or x0.
-    pub(crate) fn third(self) -> Reg
-        ensures { result ≡ slice_index_or (registers_seen self) 2 zero_register }
-    {
-        match self {
-            Registers::Three(_, _, third) => third,
-            _ => zero_register(),
-        }
-    }
-}
-
-impl<'a> Parts<'a> {
-    /// The number, or 0.
-    pub(crate) fn number(self) -> i64
-        ensures { result ≡ int (parts_seen self.entry) 0 }
-    {
-        match self.value {
-            Value::Number(number) => number,
-            _ => 0,
-        }
-    }
-
-    /// The sets, or twice all accesses.
-    pub(crate) fn sets(self) -> (AccessSet, AccessSet)
-        ensures first { result.0 ≡ set (parts_seen self.entry) 0 }
-        ensures second { result.1 ≡ set (parts_seen self.entry) 1 }
-    {
-        match self.value {
-            Value::Sets(before, after) => (before, after),
-            _ => (ALL_ACCESSES, ALL_ACCESSES),
-        }
-    }
-
-    /// The target, if there is one.
-    pub(crate) fn target(self) -> Option<Target<'a>>
-        ensures { listed target_seen result ≡ (parts_seen self.entry).targets }
-    {
-        match self.value {
-            Value::Target(target) => Some(target),
-            _ => None,
-        }
     }
 }

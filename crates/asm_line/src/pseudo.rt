@@ -2,24 +2,63 @@
 //!
 //! Source: RISC-V Unprivileged ISA 20191213, chapter 25. A long `li` is always LUI and ADDIW.
 
-ghost use Rattle.asm_line.specs.Grammar.{addressed, exchanged, loaded_number, unary, zero_branch};
+ghost use Rattle.asm_line.specs.Grammar.{exchanged, loaded_number, statement_of, unary};
 ghost use Rattle.asm_line.specs.Meanings.{meaning_of, IsInRange};
 ghost use Rattle.asm_line.specs.Numbers.{upper_half, lower_half};
-ghost use Rattle.asm_line.specs.Steps.{listed, target_seen, Gives};
+ghost use Rattle.asm_line.specs.Steps.{all_seen, Says};
+ghost use Rattle.asm_names.specs.declared.mnemonic.Mnemonic.{Mnemonic};
 ghost use Rattle.isa_table.specs.Ranges.{FitsBits, IsChecked};
 ghost use Rattle.std.specs.Int.{int_wrap, w32};
-ghost use Rattle.std.specs.Prelude.{◌≡◌, ◌+◌, ◌+ℤ◌, ◌*◌, ◌/◌, ◌%◌, ◌^◌, ◌<◌, ◌≤ℤ◌, negsuc, pos, IfOk};
+ghost use Rattle.std.specs.Prelude.{◌≡◌, ◌+◌, ◌+ℤ◌, ◌*◌, ◌/◌, ◌%◌, ◌^◌, ◌<◌, ◌≤ℤ◌, negsuc, pos};
 ghost use Rattle.word_bits.specs.Numbers.{signed};
 
 use crate::fault::AsmCode;
-use crate::instructions::branch_to;
+use crate::instructions::{branch_to, jump_to};
 use crate::line::Statement;
-use crate::operands::Target;
-use asm_names::{ExchangedBranchOp, UnaryOp, ZeroBranchOp, zero_register};
+use crate::operands::{Target, destination};
+use crate::parts::{
+    nothing, one_register, register_label, register_number, register_target, registers_target,
+    two_registers,
+};
+use crate::range::Range;
+use asm_lex::Kind;
+use asm_names::{ExchangedBranchOp, UnaryOp, ZeroBranchOp, return_register, zero_register};
 use isa_table::{BranchOp, ImmediateOp, Instr, Reg, RegisterOp, UpperOp};
 
+/// `nop`
+#[tactic(auto, unfolding(crate::specs::Grammar::statement_of))]
+pub(crate) fn nop<'a>(operands: &[Kind<'a>]) -> Result<Statement<'a>, AsmCode>
+    ensures { Says result (statement_of Mnemonic.Nop (all_seen operands.now)) }
+{
+    nothing(operands)?;
+    let zero = zero_register();
+    Ok(Statement::Instruction(immediate(ImmediateOp::Addi, zero, zero, 0)))
+}
+
+/// `ret`
+#[tactic(auto, unfolding(crate::specs::Grammar::statement_of))]
+pub(crate) fn plain_return<'a>(operands: &[Kind<'a>]) -> Result<Statement<'a>, AsmCode>
+    ensures { Says result (statement_of Mnemonic.Return (all_seen operands.now)) }
+{
+    nothing(operands)?;
+    Ok(Statement::Instruction(Instr::JumpRegister {
+        rd: zero_register(),
+        rs1: return_register(),
+        offset: 0,
+    }))
+}
+
+/// The pseudo-instructions on two registers.
+#[tactic(auto, unfolding(crate::specs::Grammar::statement_of))]
+pub(crate) fn on_two<'a>(op: UnaryOp, operands: &[Kind<'a>]) -> Result<Statement<'a>, AsmCode>
+    ensures { Says result (statement_of (Mnemonic.Unary op) (all_seen operands.now)) }
+{
+    let (rd, rs) = two_registers(operands)?;
+    Ok(Statement::Instruction(unary(op, rd, rs)))
+}
+
 /// The instruction of a pseudo-instruction on two registers.
-pub(crate) fn unary(op: UnaryOp, rd: Reg, rs: Reg) -> Instr
+fn unary(op: UnaryOp, rd: Reg, rs: Reg) -> Instr
     ensures value { result ≡ unary op rd rs }
     ensures checked { IsChecked result }
 {
@@ -37,7 +76,7 @@ pub(crate) fn unary(op: UnaryOp, rd: Reg, rs: Reg) -> Instr
     }
 }
 
-pub(crate) fn immediate(op: ImmediateOp, rd: Reg, rs1: Reg, immediate: i32) -> Instr
+fn immediate(op: ImmediateOp, rd: Reg, rs1: Reg, immediate: i32) -> Instr
     ensures { result ≡ Instr.Immediate op rd rs1 immediate }
 {
     Instr::Immediate {
@@ -48,21 +87,21 @@ pub(crate) fn immediate(op: ImmediateOp, rd: Reg, rs1: Reg, immediate: i32) -> I
     }
 }
 
-pub(crate) fn registers(op: RegisterOp, rd: Reg, rs1: Reg, rs2: Reg) -> Instr
+fn registers(op: RegisterOp, rd: Reg, rs1: Reg, rs2: Reg) -> Instr
     ensures { result ≡ Instr.Register op rd rs1 rs2 }
 {
     Instr::Register { op, rd, rs1, rs2 }
 }
 
-/// A branch that compares a register with zero.
-pub(crate) fn zero_branch_to<'a>(
+/// The branches that compare a register with zero.
+#[tactic(auto, unfolding(crate::specs::Grammar::statement_of))]
+pub(crate) fn zero_branch<'a>(
     op: ZeroBranchOp,
-    rs: Reg,
-    target: Option<Target<'a>>,
+    operands: &[Kind<'a>],
 ) -> Result<Statement<'a>, AsmCode>
-    ensures value { Gives meaning_of result (zero_branch op rs (listed target_seen target.entry)) }
-    ensures in_range { IfOk result (λ s. IsInRange (meaning_of s)) }
+    ensures { Says result (statement_of (Mnemonic.ZeroBranch op) (all_seen operands.now)) }
 {
+    let (rs, target) = register_target(operands)?;
     let zero = zero_register();
     match op {
         ZeroBranchOp::Beqz => branch_to(BranchOp::Beq, rs, zero, target),
@@ -74,8 +113,20 @@ pub(crate) fn zero_branch_to<'a>(
     }
 }
 
+/// The branches that stand for another one with its registers exchanged.
+#[tactic(auto, unfolding(crate::specs::Grammar::statement_of))]
+pub(crate) fn exchanged_branch<'a>(
+    op: ExchangedBranchOp,
+    operands: &[Kind<'a>],
+) -> Result<Statement<'a>, AsmCode>
+    ensures { Says result (statement_of (Mnemonic.ExchangedBranch op) (all_seen operands.now)) }
+{
+    let (rs1, rs2, target) = registers_target(operands)?;
+    branch_to(exchanged(op), rs2, rs1, target)
+}
+
 /// The comparison that gives the answer when the registers are exchanged.
-pub(crate) fn exchanged(op: ExchangedBranchOp) -> BranchOp
+fn exchanged(op: ExchangedBranchOp) -> BranchOp
     ensures { result ≡ exchanged op }
 {
     match op {
@@ -86,8 +137,45 @@ pub(crate) fn exchanged(op: ExchangedBranchOp) -> BranchOp
     }
 }
 
+/// `j`
+#[tactic(auto, unfolding(crate::specs::Grammar::statement_of))]
+pub(crate) fn plain_jump<'a>(operands: &[Kind<'a>]) -> Result<Statement<'a>, AsmCode>
+    ensures { Says result (statement_of Mnemonic.PlainJump (all_seen operands.now)) }
+{
+    jump_to(
+        zero_register(),
+        destination(operands).ok_or(AsmCode::Operands)?,
+    )
+}
+
+/// `jr`
+#[tactic(auto, unfolding(crate::specs::Grammar::statement_of))]
+pub(crate) fn plain_jump_register<'a>(operands: &[Kind<'a>]) -> Result<Statement<'a>, AsmCode>
+    ensures { Says result (statement_of Mnemonic.PlainJumpRegister (all_seen operands.now)) }
+{
+    let rs1 = one_register(operands)?;
+    Ok(Statement::Instruction(Instr::JumpRegister {
+        rd: zero_register(),
+        rs1,
+        offset: 0,
+    }))
+}
+
+/// `li`
+#[tactic(auto, unfolding(crate::specs::Grammar::statement_of))]
+pub(crate) fn load_number<'a>(operands: &[Kind<'a>]) -> Result<Statement<'a>, AsmCode>
+    ensures { Says result (statement_of Mnemonic.LoadNumber (all_seen operands.now)) }
+{
+    let range = Range {
+        low: -2_147_483_648,
+        high: 2_147_483_647,
+    };
+    let (rd, number) = register_number(operands, range)?;
+    Ok(number_into(rd, number))
+}
+
 /// ADDI where the number has 12 bits, and else LUI and ADDIW.
-pub(crate) fn number_into<'a>(rd: Reg, number: i64) -> Statement<'a>
+fn number_into<'a>(rd: Reg, number: i64) -> Statement<'a>
     requires low { negsuc 2147483647 ≤ℤ number }
     requires high { number ≤ℤ pos 2147483647 }
     ensures value { meaning_of result ≡ loaded_number rd number }
@@ -143,13 +231,13 @@ fn low_part(bits: u32) -> i32
     }
 }
 
-/// `la` of a label.
-pub(crate) fn address_of<'a>(rd: Reg, target: Option<Target<'a>>) -> Result<Statement<'a>, AsmCode>
-    ensures value { Gives meaning_of result (addressed rd (listed target_seen target.entry)) }
-    ensures in_range { IfOk result (λ s. IsInRange (meaning_of s)) }
+/// `la`
+#[tactic(auto, unfolding(crate::specs::Grammar::statement_of))]
+pub(crate) fn load_address<'a>(operands: &[Kind<'a>]) -> Result<Statement<'a>, AsmCode>
+    ensures { Says result (statement_of Mnemonic.LoadAddress (all_seen operands.now)) }
 {
-    match target {
-        Some(Target::Label(label)) => Ok(Statement::Address { rd, label }),
+    match register_label(operands)? {
+        (rd, Target::Label(label)) => Ok(Statement::Address { rd, label }),
         _ => Err(AsmCode::Operands),
     }
 }

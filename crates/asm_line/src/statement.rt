@@ -1,26 +1,30 @@
 //! The statement and the label of a line.
 
 ghost use Rattle.asm_line.specs.Faults.{both, lower, Fails};
-ghost use Rattle.asm_line.specs.Grammar.{built, int, range_of, statement_of};
+ghost use Rattle.asm_line.specs.Grammar.{statement_of};
 ghost use Rattle.asm_line.specs.Lines.{body_of, label_of, labelled, label_first, lexemes_line};
 ghost use Rattle.asm_line.specs.Meanings.{line_meaning, meaning_of, IsInRange};
-ghost use Rattle.asm_line.specs.Steps.{all_seen, has_few, parts_seen, Gives};
-ghost use Rattle.std.specs.Prelude.{◌≡◌, ◌≤ℤ◌, true, Ok, IfOk, IfErr, MatchResult, option_map};
+ghost use Rattle.asm_line.specs.Steps.{all_seen, Gives, Says};
+ghost use Rattle.std.specs.Prelude.{◌≡◌, Ok, IfOk, IfErr, MatchResult, option_map};
 
-use crate::directives::{aligned, numbers};
+use crate::directives::{align, numbers, section_of, zeros};
 use crate::fault::AsmCode;
-use crate::instructions::{addressing, branch_to, jump_to, plain};
-use crate::lexeme::Lexeme;
+use crate::instructions::{
+    atomic, branch, cache, combined, computed, fence, fence_i, jump, jump_register, load,
+    load_reserved, shift, store, system, upper,
+};
 use crate::line::{Line, Statement};
 use crate::operands::is_dot;
-use crate::parts::{Parts, read};
-use crate::pseudo::{address_of, exchanged, number_into, zero_branch_to};
-use crate::shapes::form_of;
-use asm_names::{Mnemonic, mnemonic_of, register_of, return_register, zero_register};
+use crate::pseudo::{
+    exchanged_branch, load_address, load_number, nop, on_two, plain_jump, plain_jump_register,
+    plain_return, zero_branch,
+};
+use asm_lex::Kind;
+use asm_names::{Mnemonic, mnemonic_of, register_of};
 use std::alloc::Global;
 
 /// A line of lexemes: `name:`, a statement, or both.
-pub(crate) fn line_at<'a>(alloc: Global, lexemes: &[Lexeme<'a>]) -> Result<Line<'a>, AsmCode>
+pub(crate) fn line_at<'a>(alloc: Global, lexemes: &[Kind<'a>]) -> Result<Line<'a>, AsmCode>
     ensures ok { IfOk result (λ line. lexemes_line (all_seen lexemes.now) ≡ Ok
         (line_meaning line)) }
     ensures err { IfErr result (λ code. Fails code (lexemes_line (all_seen lexemes.now))) }
@@ -36,22 +40,18 @@ pub(crate) fn line_at<'a>(alloc: Global, lexemes: &[Lexeme<'a>]) -> Result<Line<
 }
 
 /// The name before a colon, and what follows the colon, where a line begins with them.
-fn label_part<'s, 'a>(lexemes: &'s [Lexeme<'a>]) -> Option<(&'a [u8], &'s [Lexeme<'a>])>
+fn label_part<'s, 'a>(lexemes: &'s [Kind<'a>]) -> Option<(&'a [u8], &'s [Kind<'a>])>
     ensures { label_first (all_seen lexemes.now) ≡ option_map
         (λ (name, rest). (name.now, all_seen rest.now)) result }
 {
     match lexemes {
-        [Lexeme::Name(name), Lexeme::Colon, rest @ ..] => Some((*name, rest)),
+        [Kind::Name(name), Kind::Colon, rest @ ..] => Some((*name, rest)),
         _ => None,
     }
 }
 
 /// A line with a label. Its lowest code is that of the label or that of what follows.
-fn labelled_line<'a>(
-    alloc: Global,
-    name: &'a [u8],
-    rest: &[Lexeme<'a>],
-) -> Result<Line<'a>, AsmCode>
+fn labelled_line<'a>(alloc: Global, name: &'a [u8], rest: &[Kind<'a>]) -> Result<Line<'a>, AsmCode>
     ensures ok { IfOk result (λ line.
         labelled (both (label_of name.now) (body_of (all_seen rest.now))) ≡ Ok (line_meaning line)) }
     ensures err { IfErr result (λ code.
@@ -92,14 +92,14 @@ fn label_of<'a>(name: &'a [u8]) -> Result<&'a [u8], AsmCode>
 }
 
 /// The statement of lexemes, which begins with its name.
-fn body<'a>(alloc: Global, lexemes: &[Lexeme<'a>]) -> Result<Statement<'a>, AsmCode>
+fn body<'a>(alloc: Global, lexemes: &[Kind<'a>]) -> Result<Statement<'a>, AsmCode>
     ensures ok { IfOk result (λ s. body_of (all_seen lexemes.now) ≡ Ok (meaning_of s)) }
     ensures err { IfErr result (λ code. Fails code (body_of (all_seen lexemes.now))) }
     ensures in_range { IfOk result (λ s. IsInRange (meaning_of s)) }
 {
     match lexemes {
         [] => Ok(Statement::Nothing),
-        [Lexeme::Name(name), operands @ ..] => {
+        [Kind::Name(name), operands @ ..] => {
             let mnemonic = mnemonic_of(name).ok_or(AsmCode::Mnemonic)?;
             statement(alloc, mnemonic, operands)
         }
@@ -108,57 +108,41 @@ fn body<'a>(alloc: Global, lexemes: &[Lexeme<'a>]) -> Result<Statement<'a>, AsmC
 }
 
 /// The statement of a mnemonic, pseudo-instruction or directive with these operands.
-#[tactic(auto, unfolding(crate::specs::Grammar::statement_of))]
 fn statement<'a>(
     alloc: Global,
     mnemonic: Mnemonic,
-    operands: &[Lexeme<'a>],
+    operands: &[Kind<'a>],
 ) -> Result<Statement<'a>, AsmCode>
-    ensures ok { IfOk result (λ s. statement_of mnemonic (all_seen operands.now) ≡ Ok
-        (meaning_of s)) }
-    ensures err { IfErr result (λ code. Fails code
-        (statement_of mnemonic (all_seen operands.now))) }
-    ensures in_range { IfOk result (λ s. IsInRange (meaning_of s)) }
+    ensures { Says result (statement_of mnemonic (all_seen operands.now)) }
 {
-    if let Mnemonic::Numbers(width) = mnemonic {
-        return numbers(alloc, width, operands);
-    }
-    let parts = read(form_of(mnemonic), operands)?;
-    built(mnemonic, parts)
-}
-
-/// What a statement says with its operands.
-fn built<'a>(mnemonic: Mnemonic, parts: Parts<'a>) -> Result<Statement<'a>, AsmCode>
-    requires few { has_few mnemonic ≡ true }
-    requires low { (range_of mnemonic).low ≤ℤ int (parts_seen parts) 0 }
-    requires high { int (parts_seen parts) 0 ≤ℤ (range_of mnemonic).high }
-    ensures value { Gives meaning_of result (built mnemonic (parts_seen parts.entry)) }
-    ensures in_range { IfOk result (λ s. IsInRange (meaning_of s)) }
-{
-    let first = parts.registers.first_or(zero_register());
-    let second = parts.registers.second();
-    let (number, target) = (parts.number(), parts.target());
     match mnemonic {
-        Mnemonic::Jump => jump_to(parts.registers.first_or(return_register()), target),
-        Mnemonic::PlainJump => jump_to(zero_register(), target),
-        Mnemonic::Branch(op) => branch_to(op, first, second, target),
-        Mnemonic::ZeroBranch(op) => zero_branch_to(op, first, target),
-        Mnemonic::ExchangedBranch(op) => branch_to(exchanged(op), second, first, target),
-        Mnemonic::LoadAddress => address_of(first, target),
-        Mnemonic::LoadNumber => Ok(number_into(first, number)),
-        Mnemonic::Section(section) => Ok(Statement::Section(section)),
-        Mnemonic::Zeros => Ok(Statement::Zeros(number.unsigned_abs() as u32)),
-        Mnemonic::Align => aligned(number.unsigned_abs() as u32),
-        Mnemonic::Numbers(_) => unreachable!(),
-        Mnemonic::Upper(_)
-        | Mnemonic::Immediate(_)
-        | Mnemonic::Shift(_)
-        | Mnemonic::Register(_)
-        | Mnemonic::Fence
-        | Mnemonic::FenceI
-        | Mnemonic::System(_)
-        | Mnemonic::Nop
-        | Mnemonic::Unary(_) => Ok(Statement::Instruction(plain(mnemonic, parts))),
-        _ => Ok(Statement::Instruction(addressing(mnemonic, parts))),
+        Mnemonic::Upper(op) => upper(op, operands),
+        Mnemonic::Jump => jump(operands),
+        Mnemonic::JumpRegister => jump_register(operands),
+        Mnemonic::Branch(op) => branch(op, operands),
+        Mnemonic::Load(op) => load(op, operands),
+        Mnemonic::Store(op) => store(op, operands),
+        Mnemonic::Immediate(op) => computed(op, operands),
+        Mnemonic::Shift(op) => shift(op, operands),
+        Mnemonic::Register(op) => combined(op, operands),
+        Mnemonic::Fence => fence(operands),
+        Mnemonic::FenceI => fence_i(operands),
+        Mnemonic::Cache(op) => cache(op, operands),
+        Mnemonic::LoadReserved(form) => load_reserved(form, operands),
+        Mnemonic::Atomic(op, form) => atomic(op, form, operands),
+        Mnemonic::System(op) => system(op, operands),
+        Mnemonic::Nop => nop(operands),
+        Mnemonic::Return => plain_return(operands),
+        Mnemonic::Unary(op) => on_two(op, operands),
+        Mnemonic::ZeroBranch(op) => zero_branch(op, operands),
+        Mnemonic::ExchangedBranch(op) => exchanged_branch(op, operands),
+        Mnemonic::PlainJump => plain_jump(operands),
+        Mnemonic::PlainJumpRegister => plain_jump_register(operands),
+        Mnemonic::LoadNumber => load_number(operands),
+        Mnemonic::LoadAddress => load_address(operands),
+        Mnemonic::Section(section) => section_of(section, operands),
+        Mnemonic::Numbers(width) => numbers(alloc, width, operands),
+        Mnemonic::Zeros => zeros(operands),
+        Mnemonic::Align => align(operands),
     }
 }

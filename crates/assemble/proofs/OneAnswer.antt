@@ -3,8 +3,8 @@ use Rattle.std.proofs.Common.{◌≡◌, ℕ, ◌+◌, ◌≤◌, false, inl, in
 use Rattle.std.specs.Prelude.{Some, None, reverse}
 use Rattle.std.proofs.lemmas.List.{reverse-reverse, reverse-append}
 use Rattle.asm_lex.specs.Lines.{lines_of}
-use Rattle.object.specs.Sections.{Sections}
-use Rattle.object.specs.declared.TheConstants.{TEXT_LIMIT, DATA_LIMIT}
+use Rattle.program.specs.Sections.{Sections}
+use Rattle.program.specs.declared.TheConstants.{TEXT_LIMIT, DATA_LIMIT}
 use Rattle.asm_line.specs.declared.fault.AsmCode.{AsmCode}
 use Rattle.asm_names.specs.declared.kinds.Section.{Section}
 use Rattle.asm_names.specs.declared.kinds.Section.TheVariants.{Text, Data}

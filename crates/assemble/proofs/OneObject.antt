@@ -6,7 +6,7 @@ use Rattle.isa_table.specs.declared.instruction.Instr.TheVariants as instrs
 use Rattle.isa_table.specs.declared.instruction.UpperOp.TheVariants.{Auipc}
 use Rattle.isa_table.specs.declared.instruction.ImmediateOp.TheVariants.{Addi}
 use Rattle.isa_table.specs.Table.{IsCanonical}
-use Rattle.object.specs.Sections.{Sections}
+use Rattle.program.specs.Sections.{Sections}
 use Rattle.asm_line.specs.Meanings.{Meaning, LineMeaning, nothing, instruction, pair, branch, jump, address, section, numbers, zeros, align}
 use Rattle.asm_line.specs.Numbers.{upper_half, lower_half}
 use Rattle.assemble.specs.Places.{section_after, place_after}

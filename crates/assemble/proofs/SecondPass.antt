@@ -4,8 +4,8 @@ use Rattle.std.specs.Prelude.{Option, Some, None, Result, Ok, Err, nat_lt, IfSom
 use mathlib.Core.List.{reverse_aux}
 use Rattle.std.specs.Option.{option_or}
 use Rattle.asm_lex.specs.Lines.{lines_of}
-use Rattle.object.specs.Sections.{Sections, AreWithinLimits}
-use Rattle.object.specs.declared.TheConstants.{TEXT_LIMIT, DATA_LIMIT}
+use Rattle.program.specs.Sections.{Sections, AreWithinLimits}
+use Rattle.program.specs.declared.TheConstants.{TEXT_LIMIT, DATA_LIMIT}
 use Rattle.asm_line.specs.declared.fault.AsmCode.{AsmCode}
 use Rattle.asm_line.specs.declared.fault.AsmCode.TheVariants.{LabelTwice, WrongSection, TooLarge}
 use Rattle.asm_names.specs.declared.kinds.NumberWidth.TheVariants.{Byte, Half, Word, Doubleword}

@@ -3,7 +3,7 @@ use Rattle.std.proofs.Common.{◌≡◌, ℕ, ◌+◌, List, [], ◌∷◌, ◌+
 use Rattle.std.proofs.lemmas.List.{length-append}
 use Rattle.asm_names.specs.declared.kinds.Section.{Section}
 use Rattle.asm_names.specs.declared.kinds.Section.TheVariants.{Text, Data}
-use Rattle.object.specs.Sections.{Sections}
+use Rattle.program.specs.Sections.{Sections}
 use Rattle.asm_line.specs.Meanings.{LineMeaning}
 use Rattle.assemble.specs.Assembly.{Adds, AreBytesOf, added, bytes_in}
 use Rattle.assemble.specs.Places.{base_of, meaning_in, place_after, section_after, share, size_at, size_of}

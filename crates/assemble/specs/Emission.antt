@@ -1,7 +1,7 @@
 -- What the second pass has made, from one line to the next.
 use Rattle.std.specs.Prelude.{◌≡◌, ℕ, ◌+◌, ◌≤◌, List, length}
-use Rattle.object.specs.Sections.{Sections}
-use Rattle.object.specs.declared.TheConstants.{TEXT_LIMIT, DATA_LIMIT}
+use Rattle.program.specs.Sections.{Sections}
+use Rattle.program.specs.declared.TheConstants.{TEXT_LIMIT, DATA_LIMIT}
 use Rattle.asm_names.specs.declared.kinds.Section.TheVariants.{Text, Data}
 use Rattle.asm_line.specs.Meanings.{Meaning}
 use Rattle.assemble.specs.declared.emission.Emission.{Emission}

@@ -2,7 +2,7 @@
 -- The lines before a line are listed with the last one first.
 use Rattle.std.specs.Prelude.{ℕ, ◌+◌, ◌-◌, ◌*◌, ◌%◌, Bool, false, List, [], ◌∷◌, length, Option, Some, None, Result, Ok, Err, if◌then◌else◌}
 use Rattle.std.specs.Str.{bytes_eq}
-use Rattle.object.specs.declared.TheConstants.{TEXT_LIMIT, DATA_LIMIT}
+use Rattle.program.specs.declared.TheConstants.{TEXT_LIMIT, DATA_LIMIT}
 use Rattle.asm_line.specs.declared.fault.AsmCode.{AsmCode}
 use Rattle.asm_names.specs.declared.kinds.Section.{Section}
 use Rattle.asm_names.specs.declared.kinds.Section.TheVariants.{Text, Data}

@@ -1,6 +1,6 @@
 -- The running position, from one line to the next.
 use Rattle.std.specs.Prelude.{◌≡◌, ℕ, ◌+◌, ◌≤◌, nat_lt, List, Result, Ok, Err, if◌then◌else◌}
-use Rattle.object.specs.declared.TheConstants.{TEXT_LIMIT, DATA_LIMIT}
+use Rattle.program.specs.declared.TheConstants.{TEXT_LIMIT, DATA_LIMIT}
 use Rattle.asm_line.specs.declared.fault.AsmCode.{AsmCode}
 use Rattle.asm_line.specs.declared.fault.AsmCode.TheVariants.{WrongSection, TooLarge}
 use Rattle.asm_names.specs.declared.kinds.Section.{Section}

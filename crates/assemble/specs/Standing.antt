@@ -1,6 +1,6 @@
 -- Where the bytes of a source's lines stand in its object.
 use Rattle.std.specs.Prelude.{◌≡◌, ℕ, ◌+◌, List, ◌++◌, length}
-use Rattle.object.specs.Sections.{Sections}
+use Rattle.program.specs.Sections.{Sections}
 use Rattle.assemble.specs.Assembly.{bytes_in}
 use Rattle.assemble.specs.Places.{base_of, section_after, place_after}
 use Rattle.assemble.specs.SourceLines.{Values, IsSourceLine}

@@ -6,7 +6,7 @@ ghost use Rattle.assemble.specs.Assembly.{AreBytesOf, lines_back, values_of};
 ghost use Rattle.assemble.specs.Faults.{IsFirst, NoneHas, early_code, late_code};
 ghost use Rattle.assemble.specs.Labels.{place_at};
 ghost use Rattle.assemble.specs.declared.TheConstants.{SOURCE_LIMIT};
-ghost use Rattle.object.specs.Sections.{AreWithinLimits};
+ghost use Rattle.program.specs.Sections.{AreWithinLimits};
 ghost use Rattle.std.specs.Prelude.{◌≡◌, ◌≢◌, ◌≤◌, ℕ, List, length, IfErr, IfOk};
 
 use crate::SOURCE_LIMIT;

@@ -15,7 +15,7 @@ ghost use Rattle.assemble.specs.Faults.{early_code};
 ghost use Rattle.assemble.specs.declared.TheConstants.{SOURCE_LIMIT};
 ghost use Rattle.assemble.specs.Places.{size_of};
 ghost use Rattle.assemble.specs.Standing.{LineStands};
-ghost use Rattle.object.specs.Sections.{Sections};
+ghost use Rattle.program.specs.Sections.{Sections};
 ghost use Rattle.std.specs.Prelude.{◌≡◌, ◌≢◌, ◌<◌, ℕ, List, [], ◌∷◌, ◌++◌, Some, length, IfOk, IfErr};
 
 mod bytes;
@@ -32,9 +32,9 @@ use emission::sections_of;
 pub use fault::AsmFault;
 use labels::Labels;
 pub use numbering::{LineNumbers, line_numbers};
-use object::Object;
 use placing::{labels_of, place_line};
 use position::Position;
+use program::Object;
 use std::alloc::Global;
 
 /// The most bytes that a source has.
@@ -71,7 +71,7 @@ pub fn lines_stand()
 ///
 /// A source is accepted exactly where each of its lines is a source line at its place, no label is
 /// defined twice, and nothing passes its limit: the source `SOURCE_LIMIT` bytes, its text
-/// `object::TEXT_LIMIT` and its data `object::DATA_LIMIT` bytes. Text begins at the place 0x10000
+/// `program::TEXT_LIMIT` and its data `program::DATA_LIMIT` bytes. Text begins at the place 0x10000
 /// and data at 0x100000. The object is then the bytes of the lines, each at its place.
 ///
 /// Else a line is refused by its number from 1. Faults that need no label's place come first: the

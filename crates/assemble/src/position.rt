@@ -6,7 +6,7 @@ ghost use Rattle.assemble.specs.Places.{base_of, limit_of, padding, size_at};
 ghost use Rattle.assemble.specs.SourceLines.{stands_in as may_stand};
 
 use asm_line::{AsmCode, NumberWidth, Section, Statement};
-use object::{DATA_LIMIT, TEXT_LIMIT};
+use program::{DATA_LIMIT, TEXT_LIMIT};
 
 /// The place of the first byte of text.
 pub(crate) const TEXT_BASE: u32 = 0x1_0000;

@@ -3,7 +3,7 @@
 use crate::examples::{Example, LongExample, first_difference, first_long_difference};
 use crate::readings::Reading;
 use assemble::assemble;
-use object::{DATA_LIMIT, LoadFault, MAGIC, Object, TEXT_LIMIT};
+use program::{DATA_LIMIT, LoadFault, MAGIC, Object, TEXT_LIMIT};
 use std::alloc::Global;
 use std::test::Fail;
 

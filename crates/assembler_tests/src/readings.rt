@@ -1,12 +1,11 @@
 //! What bytes are read as, and what each reading answers, as text.
 
-use asm_lex::{LexFault, next_line, tokens};
+use asm_lex::{Kind, LexFault, next_line, tokens};
 use asm_line::{AsmCode, Line, Section, Statement, read_line};
 use assemble::{AsmFault, assemble};
 use decode::{decode, show};
 use isa_table::encode;
-use object::{LoadFault, Object};
-use program::load;
+use program::{LoadFault, Object, load};
 use std::alloc::{AllocError, Global};
 
 /// What the bytes of an example are read as.
@@ -59,14 +58,20 @@ fn line_tokens(alloc: Global, line: &[u8]) -> Result<String, AllocError> {
     };
     let mut answer = String::new(alloc);
     for token in &found {
+        let kind = kind_name(alloc, token.kind)?;
         let text = String::from_utf8_lossy(alloc, token.text)?;
-        write!(
-            answer,
-            "{}:{} {:?} {text}\n",
-            token.line, token.start, token.kind
-        )?;
+        write!(answer, "{}:{} {kind} {text}\n", token.line, token.start)?;
     }
     Ok(answer)
+}
+
+/// A token's kind, without its text.
+fn kind_name(alloc: Global, kind: Kind) -> Result<String, AllocError> {
+    match kind {
+        Kind::Name(_) => format!(in alloc; "Name"),
+        Kind::Number { value, .. } => format!(in alloc; "Number({value:?})"),
+        mark => format!(in alloc; "{mark:?}"),
+    }
 }
 
 /// The label that a line defines, and its statement; or the code of its fault.

@@ -5,11 +5,11 @@ use Rattle.hart.specs.declared.state.HartState.{HartState}
 use Rattle.hart.specs.declared.need.Request.{Request}
 use Rattle.hart.specs.declared.need.Reply.{Reply}
 use Rattle.line_memory.specs.Memory.{Memory}
-use Rattle.machine.specs.Stands.{text_bytes}
+use Rattle.machine.specs.Represents.{text_bytes}
 use Rattle.shared_memory.specs.declared.history.Entry.{Entry}
 use Rattle.shared_memory.specs.declared.history.Entry.TheVariants.{Asked}
 use Rattle.shared_memory.specs.Histories.{copied, is_renewing, replayed, text_of}
-use Rattle.shared_memory.specs.Served.{starting_memory}
+use Rattle.shared_memory.specs.Replies.{starting_memory}
 use Rattle.hart.specs.Effect.{answered}
 use Rattle.bus.specs.declared.exchange.Exchange.{Exchange}
 use Rattle.bus.specs.declared.outcome.Outcome.{Outcome}

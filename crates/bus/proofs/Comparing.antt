@@ -8,15 +8,15 @@ use Rattle.hart.specs.declared.state.HartState.{HartState}
 use Rattle.hart.specs.declared.need.Request.{Request}
 use Rattle.hart.specs.declared.need.Reply.{Reply}
 use Rattle.line_memory.specs.Memory.{Memory}
-use Rattle.object.specs.Sections.{Sections}
+use Rattle.program.specs.Sections.{Sections}
 use Rattle.line_memory.specs.declared.TheConstants.{TEXT_SIZE}
-use Rattle.machine.specs.Stands.{text_bytes}
+use Rattle.machine.specs.Represents.{text_bytes}
 use Rattle.schedule.specs.Steps.{all_steps}
 use Rattle.schedule.specs.declared.items.Item.{Item}
 use Rattle.schedule.specs.declared.items.Step.{Step}
 use Rattle.schedule.specs.declared.items.Step.TheVariants.{Hart, Evict}
 use Rattle.shared_memory.specs.Histories.{copied, is_renewing, text_of}
-use Rattle.shared_memory.specs.Served.{events_of, starting_memory}
+use Rattle.shared_memory.specs.Replies.{events_of, starting_memory}
 use Rattle.store_trace.specs.declared.event.Event.{Event}
 use Rattle.shared_memory.specs.declared.history.Entry.{Entry}
 use Rattle.shared_memory.specs.declared.history.Entry.TheVariants.{Asked, Evicted}

@@ -8,7 +8,7 @@ use Rattle.machine.proofs.RunParts.{run_joined}
 use Rattle.schedule.specs.declared.items.Step.TheVariants.{Hart}
 use Rattle.shared_memory.specs.declared.history.Entry.{Entry}
 use Rattle.shared_memory.specs.Histories.{copied}
-use Rattle.shared_memory.specs.Served.{Common, starting_memory}
+use Rattle.shared_memory.specs.Replies.{Common, starting_memory}
 use Rattle.bus.specs.declared.exchange.Exchange.{Exchange}
 use Rattle.bus.specs.Agreeing.{Agrees, IsPart}
 use Rattle.bus.specs.Alone.{GoesAlone}

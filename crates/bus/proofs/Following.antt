@@ -15,14 +15,14 @@ use Rattle.hart.specs.declared.need.Reply.{Reply}
 use Rattle.line_memory.specs.Memory.{Memory}
 use Rattle.machine.proofs.Determined.{needs_once}
 use Rattle.machine.specs.Run.{fetched}
-use Rattle.machine.specs.Stands.{text_bytes}
+use Rattle.machine.specs.Represents.{text_bytes}
 use Rattle.schedule.specs.Steps.{all_steps, steps_of}
 use Rattle.schedule.specs.declared.items.Item.{Item}
 use Rattle.schedule.specs.declared.items.Item.TheVariants as items_of
 use Rattle.schedule.specs.declared.items.Step.{Step}
 use Rattle.schedule.specs.declared.items.Step.TheVariants.{Hart, Evict}
 use Rattle.shared_memory.specs.Histories.{copied, is_renewing, replayed, text_of}
-use Rattle.shared_memory.specs.Served.{starting_memory}
+use Rattle.shared_memory.specs.Replies.{starting_memory}
 use Rattle.shared_memory.specs.declared.history.Entry.{Entry}
 use Rattle.shared_memory.specs.declared.history.Entry.TheVariants.{Asked, Evicted}
 use Rattle.bus.specs.declared.exchange.Exchange.{Exchange}

@@ -16,15 +16,15 @@ use Rattle.hart.specs.declared.need.Need.{Need}
 use Rattle.hart.specs.declared.need.Need.TheVariants.{Local, Ask, Stop}
 use Rattle.hart.specs.declared.need.Request.{Request}
 use Rattle.hart.specs.declared.need.Reply.{Reply}
-use Rattle.object.specs.Sections.{Sections}
+use Rattle.program.specs.Sections.{Sections}
 use Rattle.line_memory.specs.Memory.{Memory}
 use Rattle.line_memory.specs.declared.TheConstants.{TEXT_BASE, TEXT_SIZE}
 use Rattle.line_memory.proofs.Accesses.{region_byte}
 use Rattle.machine.proofs.Determined.{needs_once}
 use Rattle.machine.specs.Run.{fetched}
-use Rattle.machine.specs.Stands.{text_bytes}
+use Rattle.machine.specs.Represents.{text_bytes}
 use Rattle.shared_memory.specs.Histories.{copied}
-use Rattle.shared_memory.specs.Served.{reply_after, starting_memory}
+use Rattle.shared_memory.specs.Replies.{reply_after, starting_memory}
 use Rattle.shared_memory.specs.declared.history.Entry.{Entry}
 use Rattle.shared_memory.specs.declared.history.Entry.TheVariants.{Asked, Evicted}
 use Rattle.bus.specs.declared.exchange.Exchange.{Exchange}

@@ -4,7 +4,7 @@ use Rattle.std.proofs.lemmas.Bool.{cases_eq, eq-eqb, ne_eqb}
 use Rattle.std.proofs.lemmas.List.{length-set, replicate_more}
 use Rattle.std.proofs.lemmas.Option.{slice_get_within}
 use Rattle.std.specs.List.{range_with_len}
-use Rattle.object.specs.Sections.{Sections}
+use Rattle.program.specs.Sections.{Sections}
 use Rattle.hart.specs.Effect.{start}
 use Rattle.hart.specs.declared.state.HartState.{HartState}
 use Rattle.hart.specs.declared.need.Need.{Need}
@@ -17,7 +17,7 @@ use Rattle.schedule.specs.declared.items.Step.TheVariants.{Hart, Evict}
 use Rattle.shared_memory.specs.declared.history.Entry.{Entry}
 use Rattle.shared_memory.specs.declared.history.Entry.TheVariants.{Asked, Evicted}
 use Rattle.shared_memory.specs.Histories.{copied}
-use Rattle.shared_memory.specs.Served.{Common, asked, reply_after}
+use Rattle.shared_memory.specs.Replies.{Common, asked, reply_after}
 use Rattle.machine.specs.Run.{Config, Meets, RunsTo, StepsTo, after_request, fetched_by, started, with_hart}
 use Rattle.machine.proofs.RunParts.{run_joined}
 use Rattle.machine.proofs.Stepping.{hart_steps}

@@ -7,7 +7,7 @@ use Rattle.hart.specs.Needs.{IsSpelledBy}
 use Rattle.hart.specs.declared.state.HartState.{HartState}
 use Rattle.isa_table.specs.declared.instruction.Instr.{Instr}
 use Rattle.machine.specs.Run.{fetched}
-use Rattle.machine.specs.Stands.{text_bytes}
+use Rattle.machine.specs.Represents.{text_bytes}
 use Rattle.shared_memory.specs.Histories.{is_renewing}
 use Rattle.bus.specs.declared.exchange.Exchange.{Exchange}
 use Rattle.bus.specs.Agreeing.{Exchanges}

@@ -3,8 +3,9 @@ use Rattle.std.proofs.Common.{Result, Ok, Err, IfErr, IfOk, ◌≡◌, ◌⊎◌
 use Rattle.std.proofs.lemmas.List.Elements.{All-append, All-replicate}
 use Rattle.line_memory.specs.Memory.{Memory}
 use Rattle.machine.specs.Run.{Config, RunsTo, started}
-use Rattle.machine.specs.Stands.{MachineView, Stands, text_bytes}
+use Rattle.machine.specs.Represents.{MachineView, Represents, text_bytes}
 use Rattle.recording.specs.Recorded.{AreNumbers, IsAmong, RecordedView, Records}
+use Rattle.recording.proofs.Leaving.{left_at}
 use Rattle.schedule.specs.Grammar.{hart_steps}
 use Rattle.schedule.specs.Steps.{all_steps}
 use Rattle.schedule.specs.declared.items.Item.{Item}
@@ -13,7 +14,7 @@ use Rattle.schedule.specs.declared.items.Step.TheVariants.{Hart, Evict}
 use Rattle.shared_memory.specs.declared.history.Entry.{Entry}
 use Rattle.shared_memory.specs.declared.history.Entry.TheVariants.{Asked, Evicted}
 use Rattle.shared_memory.specs.Histories.{copied}
-use Rattle.shared_memory.specs.Served.{starting_memory}
+use Rattle.shared_memory.specs.Replies.{starting_memory}
 use Rattle.store_trace.specs.declared.event.Event.{Event}
 use Rattle.bus.specs.declared.exchange.Exchange.{Exchange}
 use Rattle.bus.specs.declared.finish_fault.FinishFault.{FinishFault}
@@ -81,7 +82,7 @@ machine_of core seats = record {
 }
 
 stands_at : (core : CoreView) (seats : List SeatView) → IsReplay core.program core.start core.history core.shared → AllAgree core seats
-    → Stands (machine_of core seats) (end_of core seats)
+    → Represents (machine_of core seats) (end_of core seats)
 stands_at core seats is all = record {
   harts = refl;
   shared = is.shows;
@@ -130,7 +131,7 @@ records_so core seats items numbers is below lines capacity all account =
       trace = is.shows.trace;
       numbers = subst (λ (l : List ℕ). AreNumbers c (all_steps items) l) (sym account.numbers_are)
           (subst (λ (l : List Step). AreNumbers c l (numbered core.history (map (λ (seat : SeatView). seat.exchanges) seats))) steps numbered_so.numbers);
-      left = record { machine = machine_of core seats; stands = stands_at core seats is all; capacity_is = capacity; lines = refl };
+      left = left_at _ (machine_of core seats) _ _ (stands_at core seats is all) capacity refl;
     }
 
 -- there is a number for each event

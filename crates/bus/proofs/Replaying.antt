@@ -1,17 +1,17 @@
 -- A core that answers a request, or evicts a line, is the replay of its history still.
 use Rattle.std.proofs.Common.{◌≡◌, ◌<◌, ◌≤◌, ℕ, List, [], ◌∷◌, ◌++◌, reverse, refl, sym, ap, ◌∙◌, arith}
 use Rattle.std.proofs.lemmas.List.{reverse-append}
-use Rattle.object.specs.Sections.{Sections}
+use Rattle.program.specs.Sections.{Sections}
 use Rattle.hart.specs.declared.need.Request.{Request}
 use Rattle.hart.specs.declared.need.Reply.{Reply}
 use Rattle.line_memory.specs.Lines.{line_bytes}
 use Rattle.line_memory.specs.Memory.{Memory}
-use Rattle.machine.specs.Stands.{text_bytes}
+use Rattle.machine.specs.Represents.{text_bytes}
 use Rattle.machine.proofs.Copying.{text_there}
 use Rattle.shared_memory.specs.declared.history.Entry.{Entry}
 use Rattle.shared_memory.specs.declared.history.Entry.TheVariants.{Asked, Evicted}
 use Rattle.shared_memory.specs.Histories.{replayed, text_of}
-use Rattle.shared_memory.specs.Served.{Common, reply_after, starting_memory}
+use Rattle.shared_memory.specs.Replies.{Common, reply_after, starting_memory}
 use Rattle.shared_memory.specs.SharedView.{Evicts, Serves, SharedView, lines_shown}
 use Rattle.shared_memory.proofs.Shown.{evicted_shows, reply_stands, served_shows}
 use Rattle.bus.specs.Replays.{AreBelow, CoreView, IsReplay, LinesBelow, replay}

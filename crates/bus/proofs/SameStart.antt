@@ -2,7 +2,7 @@
 use Rattle.std.proofs.Common.{◌≡◌, ℕ, suc, ◌+◌, ◌<◌, ◌≤◌, List, [], ◌∷◌, length, refl, ap, ◌∙◌, inl, inr, arith}
 use Rattle.std.proofs.lemmas.Bool.{cases_eq}
 use Rattle.line_memory.specs.Lines.{line_at}
-use Rattle.object.specs.Sections.{Sections}
+use Rattle.program.specs.Sections.{Sections}
 use Rattle.bus.specs.Following.{IsCoreOf}
 use Rattle.bus.specs.Replays.{CoreView}
 use Rattle.bus.specs.Stepping.{BusView}

@@ -2,13 +2,13 @@
 use Rattle.std.proofs.Common.{◌≤◌, All, reverse, ◌≡◌, ℕ, zero, suc, ◌+◌, List, [], ◌∷◌, ◌++◌, Some, length, map, slice_get, refl, sym, ap, subst, ◌∙◌, arith}
 use Rattle.std.proofs.lemmas.List.FromFn.{length-map-range_with_len}
 use Rattle.std.specs.List.{range_with_len}
-use Rattle.object.specs.Sections.{Sections}
+use Rattle.program.specs.Sections.{Sections}
 use Rattle.line_memory.specs.Lines.{line_bytes}
 use Rattle.line_memory.specs.Memory.{Memory}
-use Rattle.machine.specs.Stands.{text_bytes}
+use Rattle.machine.specs.Represents.{text_bytes}
 use Rattle.machine.proofs.Copying.{text_there}
 use Rattle.shared_memory.specs.Histories.{text_of}
-use Rattle.shared_memory.specs.Served.{common_at_start, starting_memory}
+use Rattle.shared_memory.specs.Replies.{common_at_start, starting_memory}
 use Rattle.shared_memory.specs.SharedView.{SharedView, Shows, lines_shown}
 use Rattle.bus.specs.Agreeing.{Agrees}
 use Rattle.bus.specs.Begun.{AreNew, IsNew}

@@ -1,7 +1,7 @@
 -- A core that has done nothing yet, and its seats.
 use Rattle.std.specs.Prelude.{◌≡◌, ℕ, List, []}
-use Rattle.object.specs.Sections.{Sections}
-use Rattle.shared_memory.specs.Served.{common_at_start}
+use Rattle.program.specs.Sections.{Sections}
+use Rattle.shared_memory.specs.Replies.{common_at_start}
 use Rattle.shared_memory.specs.SharedView.{Shows}
 use Rattle.bus.specs.Finished.{AllAgree}
 use Rattle.bus.specs.Replays.{CoreView}

@@ -3,7 +3,7 @@ use Rattle.std.specs.Prelude.{◌≡◌, ℕ, List, [], ◌∷◌, false}
 use Rattle.hart.specs.Effect.{start}
 use Rattle.hart.specs.declared.state.HartState.{HartState}
 use Rattle.line_memory.specs.Memory.{Memory}
-use Rattle.machine.specs.Stands.{text_bytes}
+use Rattle.machine.specs.Represents.{text_bytes}
 use Rattle.shared_memory.specs.Histories.{is_renewing}
 use Rattle.bus.specs.declared.exchange.Exchange.{Exchange}
 use Rattle.bus.specs.Agreeing.{Exchanges}

@@ -1,8 +1,8 @@
 -- Why a call of the bus is refused.
 use Rattle.std.specs.Prelude.{◌≡◌, ◌<◌, ◌≤◌, ℕ, length}
 use Rattle.hart.specs.declared.need.Request.{Request}
-use Rattle.machine.specs.Stands.{text_bytes}
-use Rattle.shared_memory.specs.Served.{events_of}
+use Rattle.machine.specs.Represents.{text_bytes}
+use Rattle.shared_memory.specs.Replies.{events_of}
 use Rattle.shared_memory.specs.SharedView.{reply_to}
 use Rattle.shared_memory.specs.declared.fault.StepFault.{StepFault}
 use Rattle.shared_memory.specs.declared.fault.StepFault.TheVariants.{NoSuchHart, NoSuchLine, TraceFull, Memory, OutOfLimits}

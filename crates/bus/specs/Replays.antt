@@ -1,9 +1,9 @@
 -- What harts share after a history, the newest entry first, each of its requests being answered anew.
 use Rattle.std.specs.Prelude.{◌≡◌, ◌<◌, ℕ, List, [], ◌∷◌}
-use Rattle.object.specs.Sections.{Sections}
+use Rattle.program.specs.Sections.{Sections}
 use Rattle.shared_memory.specs.declared.history.Entry.{Entry}
 use Rattle.shared_memory.specs.declared.history.Entry.TheVariants.{Asked, Evicted}
-use Rattle.shared_memory.specs.Served.{Common, asked, common_at_start}
+use Rattle.shared_memory.specs.Replies.{Common, asked, common_at_start}
 use Rattle.shared_memory.specs.SharedView.{SharedView, Shows}
 
 -- an eviction does nothing but join the history
@@ -27,7 +27,7 @@ pub record CoreView : Type 0 where
   pub shared : SharedView
   pub history : List Entry
 
--- what a core stands for
+-- what a core represents
 abbrev pub common_of : CoreView → Common
 common_of core = replay core.program core.start core.history
 

@@ -6,9 +6,9 @@ use Rattle.hart.specs.declared.need.Request.{Request}
 use Rattle.hart.specs.declared.need.Reply.{Reply}
 use Rattle.isa_table.specs.declared.instruction.Instr.{Instr}
 use Rattle.machine.specs.Run.{fetched}
-use Rattle.machine.specs.Stands.{text_bytes}
+use Rattle.machine.specs.Represents.{text_bytes}
 use Rattle.shared_memory.specs.Histories.{is_renewing, replayed, text_of}
-use Rattle.shared_memory.specs.Served.{reply_after, starting_memory}
+use Rattle.shared_memory.specs.Replies.{reply_after, starting_memory}
 use Rattle.shared_memory.specs.SharedView.{Evicts, Serves}
 use Rattle.shared_memory.specs.declared.history.Entry.TheVariants.{Asked, Evicted}
 use Rattle.bus.specs.declared.outcome.Outcome.{Outcome}

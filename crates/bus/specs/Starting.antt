@@ -2,10 +2,10 @@
 use Rattle.std.specs.Prelude.{◌≡◌, ℕ, List, [], map}
 use Rattle.std.specs.List.{range_with_len}
 use Rattle.hart.specs.Effect.{start}
-use Rattle.machine.specs.Stands.{text_bytes}
-use Rattle.object.specs.Sections.{Sections}
+use Rattle.machine.specs.Represents.{text_bytes}
+use Rattle.program.specs.Sections.{Sections}
 use Rattle.shared_memory.specs.Histories.{text_of}
-use Rattle.shared_memory.specs.Served.{starting_memory}
+use Rattle.shared_memory.specs.Replies.{starting_memory}
 use Rattle.bus.specs.Seats.{SeatView}
 
 -- the seat of hart h, whose program's text is loaded as this copy: it has made no step

@@ -6,7 +6,7 @@ ghost use Rattle.hart.specs.Requests.{IsRequest};
 ghost use Rattle.hart.specs.declared.need.Request.{Request};
 ghost use Rattle.line_memory.specs.declared.TheConstants.{TEXT_SIZE};
 ghost use Rattle.machine.specs.Run.{fetched};
-ghost use Rattle.machine.specs.Stands.{text_bytes};
+ghost use Rattle.machine.specs.Represents.{text_bytes};
 ghost use Rattle.shared_memory.specs.Histories.{is_renewing};
 ghost use Rattle.bus.specs.Alone.{Asks, IsAsking, StepsAlone};
 

@@ -7,7 +7,7 @@ ghost use Rattle.bus.specs.Replays.{AreBelow, CoreView, IsReplay, common_of};
 ghost use Rattle.bus.specs.Seats.{SeatView};
 
 /// Where all seats agree with a core, the run of their steps in the order of its history, from its start, ends in their
-/// states and in what the core stands for.
+/// states and in what the core represents.
 #[tactic(auto, using(crate::proofs::Finishing::agreeing_runs))]
 pub fn agreeing_seats_run()
     ensures { (core : CoreView) (seats : List SeatView) → IsReplay core.program core.start core.history core.shared →

@@ -3,9 +3,9 @@
 ghost use Rattle.std.specs.Prelude.{◌≡◌, ◌≢◌, ◌<◌, ◌≤◌, [], All, IfErr, IfOk, OnErr, OnOk, length, reverse};
 ghost use Rattle.hart.specs.Requests.{IsRequest};
 ghost use Rattle.line_memory.specs.declared.TheConstants.{TEXT_SIZE};
-ghost use Rattle.machine.specs.Stands.{text_bytes};
+ghost use Rattle.machine.specs.Represents.{text_bytes};
 ghost use Rattle.shared_memory.specs.Histories.{replayed, text_of};
-ghost use Rattle.shared_memory.specs.Served.{starting_memory};
+ghost use Rattle.shared_memory.specs.Replies.{starting_memory};
 ghost use Rattle.bus.specs.Agreeing.{Agrees};
 ghost use Rattle.bus.specs.Finished.{AllAgree};
 ghost use Rattle.bus.specs.Limits.{AreWithin, RefusesStart};

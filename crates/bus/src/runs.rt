@@ -3,7 +3,7 @@
 ghost use Rattle.std.specs.Prelude.{◌≡◌, ◌+◌, ◌∷◌, ◌++◌, [], IfErr, IfOk, OnOk, map, replicate};
 ghost use Rattle.schedule.specs.Steps.{all_steps};
 ghost use Rattle.schedule.specs.declared.items.Step.{Step};
-ghost use Rattle.shared_memory.specs.Served.{events_of};
+ghost use Rattle.shared_memory.specs.Replies.{events_of};
 ghost use Rattle.store_trace.specs.declared.event.Event.{Event};
 ghost use Rattle.bus.specs.Listed.{EvictsAlso, in_word};
 ghost use Rattle.bus.specs.Runs.{steps_of};

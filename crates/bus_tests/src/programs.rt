@@ -4,8 +4,7 @@ ghost use Rattle.std.specs.Prelude.{◌≡◌, IfSome, length};
 
 use bus::{Bus, Seat};
 use line_memory::Medium;
-use object::Object;
-use program::{Program, load};
+use program::{Object, Program, load};
 use std::alloc::{AllocError, Global};
 
 /// `addi x5, x0, 7`; `lui x6, 0x40000`; `sd x5, 0(x6)`; `cbo.clean (x6)`; `fence w, w`; `addi x17, x0, 93`;

@@ -239,7 +239,7 @@ const USED: usize = 9;
 /// The lines that are used: eight of three sets, and the last line.
 const LINES: [u32; USED] = [0, 1, 2, 8, 9, 10, 16, 24, 511];
 
-/// A cache, and the persistence steps that it stands for, the oldest first.
+/// A cache, and the persistence steps that it represents, the oldest first.
 #[derive(Drop)]
 struct Replay {
     persistent: Persistent,

@@ -1,18 +1,20 @@
--- A cache with room for the lines that are used evicts none of them for another.
-use Rattle.std.proofs.Common.{◌≡◌, ℕ, true, false, eqb, List, ◌∷◌, length, arith, refl, ap, ◌∙◌, inl, inr}
+-- What calls make of all that a cache represents. One with room for the lines that are used evicts none of them for another.
+use Rattle.std.proofs.Common.{◌≡◌, ℕ, ◌<◌, true, false, eqb, List, [], ◌∷◌, length, arith, refl, ap, ◌∙◌, inl, inr}
 use Rattle.std.specs.Prelude.{◌⊎◌, slice_index_or, slice_set, Option, Some, None, is_some}
 use Rattle.std.proofs.lemmas.Bool.{cases_Bool, cases_eq}
 use Rattle.std.proofs.lemmas.List.{get_or-set_other, length-set}
+use Rattle.std.specs.Option.{option_to_list}
 use Rattle.index_list.specs.Lists.{has}
-use Rattle.lru_cache.specs.Cache.{CacheView, IsCache, is_resident, is_leaving, shown, written_by_forced, after_eviction, after_forced, after_change, after_load as after_line_load}
+use Rattle.lru_cache.specs.Cache.{CacheView, IsCache, copied_over, is_dirty, is_resident, is_leaving, shown, written_back, written_by_forced, after_drop, after_eviction, after_forced, after_change, after_load as after_line_load}
+use Rattle.lru_cache.specs.Order.{order_after_mark}
 use Rattle.lru_cache.proofs.Counts.{no_victim}
 use Rattle.lru_cache.proofs.Places.{at_cleared}
 use Rattle.word_bits.specs.Bytes.{stored}
 use Rattle.line_memory.specs.Lines.{line_at}
 use Rattle.crash_model.specs.declared.step.PersistenceStep.{PersistenceStep}
-use Rattle.crash_model.specs.declared.step.PersistenceStep.TheVariants.{Store}
-use Rattle.clean_fence.proofs.Views.{with_parts, load_stands, store_stands}
-use Rattle.clean_fence.specs.Stands.{Stands, StandsUnforced, with_forced}
+use Rattle.crash_model.specs.declared.step.PersistenceStep.TheVariants.{Store, Clean, Evict}
+use Rattle.clean_fence.proofs.Views.{with_parts, evict_stands, kept_stands, load_stands, marked_stands, store_stands}
+use Rattle.clean_fence.specs.Represents.{AreAmong, CacheSteps, Represents}
 use Rattle.clean_fence.specs.Rules.{PmView, HasRoom, SameSizes, memory_of, victim, after_completion}
 
 room_kept : (touched : List ℕ) (v w : PmView) → w.cache.capacity ≡ v.cache.capacity →
@@ -46,7 +48,7 @@ forced_capacity : (forced : Option ℕ) (c : CacheView) → (after_forced forced
 forced_capacity None c = refl
 forced_capacity (Some m) c = refl
 
-pub load_room : (v : PmView) (cache : CacheView) (lines : List (List ℕ)) (line : ℕ) → cache ≡ after_line_load line v.cache v.lines →
+load_room : (v : PmView) (cache : CacheView) (lines : List (List ℕ)) (line : ℕ) → cache ≡ after_line_load line v.cache v.lines →
     (touched : List ℕ) → HasRoom touched v → has line touched ≡ true → HasRoom touched (with_parts v cache lines)
 load_room v cache lines line e touched r t = record {
   room = omega (arith, r.room, forced_capacity (victim v line) v.cache, ap (λ (x : CacheView). x.capacity) e);
@@ -56,7 +58,7 @@ load_room v cache lines line e touched r t = record {
   ];
 }
 
-pub store_room : (v : PmView) (cache : CacheView) (lines : List (List ℕ)) (line : ℕ) (bytes : List ℕ) →
+store_room : (v : PmView) (cache : CacheView) (lines : List (List ℕ)) (line : ℕ) (bytes : List ℕ) →
     cache ≡ after_change line bytes (after_line_load line v.cache v.lines) →
     (touched : List ℕ) → HasRoom touched v → has line touched ≡ true → HasRoom touched (with_parts v cache lines)
 store_room v cache lines line bytes e touched r t = record {
@@ -70,7 +72,12 @@ store_room v cache lines line bytes e touched r t = record {
   ];
 }
 
-pub evict_room : (v : PmView) (cache : CacheView) (lines : List (List ℕ)) (line : ℕ) → cache ≡ after_eviction line v.cache →
+drop_room : (v : PmView) (cache : CacheView) (lines : List (List ℕ)) (line : ℕ) → cache ≡ after_drop line v.cache →
+    (touched : List ℕ) → HasRoom touched v → HasRoom touched (with_parts v cache lines)
+drop_room v cache lines line e touched r =
+    room_kept touched v (with_parts v cache lines) (ap (λ (x : CacheView). x.capacity) e) (λ l h. dropped v.cache.copies line l (rw e at h)) r
+
+evict_room : (v : PmView) (cache : CacheView) (lines : List (List ℕ)) (line : ℕ) → cache ≡ after_eviction line v.cache →
     (touched : List ℕ) → HasRoom touched v → HasRoom touched (with_parts v cache lines)
 evict_room v cache lines line e touched r =
     room_kept touched v (with_parts v cache lines) (ap (λ (x : CacheView). x.capacity) e) (λ l h. dropped v.cache.copies line l (rw e at h)) r
@@ -86,52 +93,88 @@ completion_room v w line e touched r = elim (cases_Bool (is_leaving v.cache line
   | inr f ↦ let g : w ≡ _ = rw f at e in rw g (copies_room v _ _ refl refl touched r)
 ]
 
--- one step more, without an eviction that was forced
-pub one_more : (v w : PmView) (step : PersistenceStep) →
-    ((start : List (List ℕ)) (p : List PersistenceStep) → Stands start p v → Stands start (step ∷ p) w) →
-    ((touched : List ℕ) → HasRoom touched v → HasRoom touched w) →
-    (start : List (List ℕ)) (touched : List ℕ) (p : List PersistenceStep) → StandsUnforced start touched p v → StandsUnforced start touched (step ∷ p) w
-one_more v w step stands room start touched p s = record { stands = stands start p s.stands; room = room touched s.room }
-
-pub unforced : (v : PmView) (line : ℕ) → IsCache v.cache → (touched : List ℕ) → HasRoom touched v → has line touched ≡ true →
+unforced : (v : PmView) (line : ℕ) → IsCache v.cache → (touched : List ℕ) → HasRoom touched v → has line touched ≡ true →
     victim v line ≡ None
 unforced v line k touched r t = no_victim v.cache k touched line r.room r.among t
 
--- a load or a store forces none, and a list of steps has then no eviction more
-pub load_unforced : (v : PmView) (cache : CacheView) (lines : List (List ℕ)) (line : ℕ) → cache ≡ after_line_load line v.cache v.lines →
-    lines ≡ written_by_forced (victim v line) v.cache v.lines → shown cache lines ≡ memory_of v → IsCache v.cache →
-    (start : List (List ℕ)) (touched : List ℕ) (p : List PersistenceStep) → StandsUnforced start touched p v → has line touched ≡ true →
-    StandsUnforced start touched p (with_parts v cache lines)
-load_unforced v cache lines line e f same k start touched p s t = record {
-  stands =
-      let now : Stands start (with_forced (victim v line) p) (with_parts v cache lines) = load_stands v cache lines line e f same k start p s.stands in
-      rw (unforced v line k touched s.room t) at now;
-  room = load_room v cache lines line e touched s.room t;
-}
-
-pub store_unforced : (v : PmView) (cache : CacheView) (lines : List (List ℕ)) (line o n value : ℕ) →
-    cache ≡ after_change line (stored (line_at (memory_of v) line) o n value) (after_line_load line v.cache v.lines) →
-    lines ≡ written_by_forced (victim v line) v.cache v.lines →
-    shown cache lines ≡ slice_set (memory_of v) line (stored (line_at (memory_of v) line) o n value) → IsCache v.cache →
-    (start : List (List ℕ)) (touched : List ℕ) (p : List PersistenceStep) → StandsUnforced start touched p v → has line touched ≡ true →
-    StandsUnforced start touched (Store line o n value ∷ p) (with_parts v cache lines)
-store_unforced v cache lines line o n value e f changed k start touched p s t = record {
-  stands =
-      let now : Stands start (Store line o n value ∷ with_forced (victim v line) p) (with_parts v cache lines) =
-      store_stands v cache lines line o n value e f changed k start p s.stands in
-      rw (unforced v line k touched s.room t) at now;
-  room = store_room v cache lines line _ e touched s.room t;
-}
-
 -- as many lines after an eviction, if there is one
-pub forced_sizes : (forced : Option ℕ) (c : CacheView) (lines : List (List ℕ)) → length (written_by_forced forced c lines) ≡ length lines
+forced_sizes : (forced : Option ℕ) (c : CacheView) (lines : List (List ℕ)) → length (written_by_forced forced c lines) ≡ length lines
 forced_sizes None c lines = refl
 forced_sizes (Some line) c lines = length-set _ _ _
 
-pub load_sizes : (v : PmView) (cache : CacheView) (lines : List (List ℕ)) (line : ℕ) → cache.capacity ≡ (after_forced (victim v line) v.cache).capacity →
+load_sizes : (v : PmView) (cache : CacheView) (lines : List (List ℕ)) (line : ℕ) → cache.capacity ≡ (after_forced (victim v line) v.cache).capacity →
     lines ≡ written_by_forced (victim v line) v.cache v.lines → SameSizes v (with_parts v cache lines)
 load_sizes v cache lines line e f = record {
   harts = refl;
   capacity = e ∙ forced_capacity (victim v line) v.cache;
   lines = ap (λ (x : List (List ℕ)). length x) f ∙ forced_sizes (victim v line) v.cache v.lines;
 }
+
+-- what a use of a line makes
+one_among : (line : ℕ) (lines : List ℕ) → AreAmong (line ∷ []) lines → has line lines ≡ true
+one_among line lines among = among.each line (grind arith)
+
+pub load_steps : (v : PmView) (cache : CacheView) (lines : List (List ℕ)) (line : ℕ) → cache ≡ after_line_load line v.cache v.lines →
+    lines ≡ written_by_forced (victim v line) v.cache v.lines → shown cache lines ≡ memory_of v → IsCache v.cache →
+    CacheSteps v (with_parts v cache lines) [] (option_to_list (victim v line)) (line ∷ [])
+load_steps v cache lines line e f same k = record {
+  sizes = load_sizes v cache lines line (ap (λ (x : CacheView). x.capacity) e) f;
+  represents = load_stands v cache lines line e f same k;
+  room = λ touched r used. load_room v cache lines line e touched r (one_among line touched used);
+  unforced = λ touched r used. ap option_to_list (unforced v line k touched r (one_among line touched used));
+}
+
+pub store_steps : (v : PmView) (cache : CacheView) (lines : List (List ℕ)) (line o n value : ℕ) →
+    cache ≡ after_change line (stored (line_at (memory_of v) line) o n value) (after_line_load line v.cache v.lines) →
+    lines ≡ written_by_forced (victim v line) v.cache v.lines →
+    shown cache lines ≡ slice_set (memory_of v) line (stored (line_at (memory_of v) line) o n value) → IsCache v.cache →
+    CacheSteps v (with_parts v cache lines) (Store line o n value ∷ []) (option_to_list (victim v line)) (line ∷ [])
+store_steps v cache lines line o n value e f changed k = record {
+  sizes = load_sizes v cache lines line (ap (λ (x : CacheView). x.capacity) e) f;
+  represents = store_stands v cache lines line o n value e f changed k;
+  room = λ touched r used. store_room v cache lines line _ e touched r (one_among line touched used);
+  unforced = λ touched r used. ap option_to_list (unforced v line k touched r (one_among line touched used));
+}
+
+-- a step that uses no line
+pub one_step : (v w : PmView) (step : PersistenceStep) → SameSizes v w →
+    ((start : List (List ℕ)) (p : List PersistenceStep) → Represents start p v → Represents start (step ∷ p) w) →
+    ((touched : List ℕ) → HasRoom touched v → HasRoom touched w) → CacheSteps v w (step ∷ []) [] []
+one_step v w step sizes stands room = record {
+  sizes = sizes;
+  represents = stands;
+  room = λ touched r used. room touched r;
+  unforced = λ touched r used. refl;
+}
+
+pub evict_steps : (v : PmView) (cache : CacheView) (lines : List (List ℕ)) (m : ℕ) → cache ≡ after_eviction m v.cache →
+    lines ≡ written_back m v.cache v.lines → shown cache lines ≡ memory_of v → IsCache v.cache →
+    CacheSteps v (with_parts v cache lines) (Evict m ∷ []) [] []
+evict_steps v cache lines m e f same k =
+    one_step v (with_parts v cache lines) (Evict m)
+    (record { harts = refl; capacity = ap (λ (x : CacheView). x.capacity) e; lines = ap (λ (x : List (List ℕ)). length x) f ∙ length-set _ _ _ })
+    (evict_stands v cache lines m e f same k) (evict_room v cache lines m e)
+
+-- a clean, or a flush, of a dirty line
+pub marked_steps : (v : PmView) (cache : CacheView) (h line : ℕ) → cache.capacity ≡ v.cache.capacity → cache.copies ≡ v.cache.copies →
+    cache.orders ≡ order_after_mark h line v.cache.orders → is_dirty v.cache line ≡ true → IsCache v.cache → h < 8 →
+    CacheSteps v (record v { cache = cache }) (Clean h line ∷ []) [] []
+marked_steps v cache h line capacity copies orders dirty k few =
+    one_step v (record v { cache = cache }) (Clean h line) (record { harts = refl; capacity = capacity; lines = refl })
+    (marked_stands v (record v { cache = cache }) h line refl (ap (λ (c : List (Option (List ℕ))). copied_over c v.lines) copies) orders dirty k few)
+    (copies_room v cache v.lines capacity copies)
+
+-- and of another one
+pub kept_steps : (v : PmView) (h line : ℕ) → is_dirty v.cache line ≡ false → CacheSteps v v (Clean h line ∷ []) [] []
+kept_steps v h line dry =
+    one_step v v (Clean h line) (record { harts = refl; capacity = refl; lines = refl }) (kept_stands v v h line refl refl refl refl dry)
+    (λ touched r. r)
+
+pub dropped_steps : (v : PmView) (cache : CacheView) (h line : ℕ) → cache ≡ after_drop line v.cache → shown cache v.lines ≡ memory_of v →
+    is_dirty v.cache line ≡ false → CacheSteps v (record v { cache = cache }) (Clean h line ∷ []) [] []
+dropped_steps v cache h line e same dry =
+    one_step v (record v { cache = cache }) (Clean h line)
+    (record { harts = refl; capacity = ap (λ (x : CacheView). x.capacity) e; lines = refl })
+    (kept_stands v (record v { cache = cache }) h line refl same (ap (λ (x : CacheView). x.orders.dirty) e)
+    (ap (λ (x : CacheView). x.orders.marked) e) dry)
+    (drop_room v cache v.lines line e)

@@ -12,17 +12,17 @@ use Rattle.lru_cache.proofs.Places.{at_map_without}
 use Rattle.crash_model.specs.declared.step.PersistenceStep.{PersistenceStep}
 use Rattle.crash_model.specs.declared.step.PersistenceStep.TheVariants.{Fence}
 use Rattle.clean_fence.specs.Rules.{PmView, HasRoom, SameSizes, memory_of, after_completion, after_completions, after_fence}
-use Rattle.clean_fence.specs.Stands.{Stands, StandsUnforced}
+use Rattle.clean_fence.specs.Represents.{CacheSteps, Represents}
 use Rattle.clean_fence.proofs.Holding.{Told, Fencing, told_written, fencing_begins, fencing_goes, fencing_ends}
 use Rattle.clean_fence.proofs.Views.{Tells, told_of, is_told, holds_from, stands_from}
-use Rattle.clean_fence.proofs.Crowding.{completion_room}
+use Rattle.clean_fence.proofs.Crowding.{completion_room, one_step}
 
 -- where a fence of hart h that began before is now
 pub record FenceSoFar (h : ℕ) (before now : PmView) : Type 0 where
   pub exact : after_fence h now ≡ after_fence h before
   pub sizes : SameSizes before now
   pub memory : memory_of now ≡ memory_of before
-  pub fencing : (start : List (List ℕ)) (p : List PersistenceStep) → Stands start p before → Fencing start h p (told_of now)
+  pub fencing : (start : List (List ℕ)) (p : List PersistenceStep) → Represents start p before → Fencing start h p (told_of now)
   pub room : (touched : List ℕ) → HasRoom touched before → HasRoom touched now
 
 pub fence_begins : (h : ℕ) (v : PmView) → FenceSoFar h v v
@@ -121,14 +121,12 @@ pub fence_exact : (h : ℕ) (before now : PmView) → first (marked_in now.cache
 fence_exact h before now n f =
     sym (ap (λ (ls : List ℕ). after_completions ls now) (none_first (marked_in now.cache.orders h) n)) ∙ f.exact
 
-pub fence_stands : (h : ℕ) (before now : PmView) → first (marked_in now.cache.orders h) ≡ None → FenceSoFar h before now →
-    (start : List (List ℕ)) (p : List PersistenceStep) → Stands start p before → Stands start (Fence h ∷ p) now
+fence_stands : (h : ℕ) (before now : PmView) → first (marked_in now.cache.orders h) ≡ None → FenceSoFar h before now →
+    (start : List (List ℕ)) (p : List PersistenceStep) → Represents start p before → Represents start (Fence h ∷ p) now
 fence_stands h before now n f start p s =
     stands_from start (Fence h ∷ p) (told_of now) now (record { lines = refl; shown = refl; dirty = refl; marked = refl })
     (fencing_ends start h p (told_of now) (none_first (marked_in now.cache.orders h) n) (f.fencing start p s))
 
-pub fence_unforced : (h : ℕ) (before now : PmView) → first (marked_in now.cache.orders h) ≡ None → FenceSoFar h before now →
-    (start : List (List ℕ)) (touched : List ℕ) (p : List PersistenceStep) → StandsUnforced start touched p before →
-    StandsUnforced start touched (Fence h ∷ p) now
-fence_unforced h before now n f start touched p s =
-    record { stands = fence_stands h before now n f start p s.stands; room = f.room touched s.room }
+pub fence_steps : (h : ℕ) (before now : PmView) → first (marked_in now.cache.orders h) ≡ None → FenceSoFar h before now →
+    CacheSteps before now (Fence h ∷ []) [] []
+fence_steps h before now n f = one_step before now (Fence h) f.sizes (fence_stands h before now n f) f.room

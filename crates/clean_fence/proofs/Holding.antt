@@ -13,7 +13,7 @@ use Rattle.lru_cache.specs.Order.{list_with}
 use Rattle.lru_cache.proofs.Places.{at_put, at_map_without, has-list_with}
 use Rattle.crash_model.specs.declared.step.PersistenceStep.{PersistenceStep}
 use Rattle.crash_model.specs.declared.step.PersistenceStep.TheVariants.{Store, Clean, Fence, Evict}
-use Rattle.clean_fence.specs.Stands.{LineView, LineStands}
+use Rattle.clean_fence.specs.Represents.{LineView, RepresentsLine}
 use Rattle.clean_fence.proofs.Pieces.{Same, Written, StoredTo, CleanedBy, stored_stands, other_store, cleaned_stands, other_clean, evicted_stands, other_evict, fenced_stands, other_fence, same_stands}
 
 -- the lists that the lines are told from
@@ -37,7 +37,7 @@ line_from t l = record {
 pub record Holds (start : List (List ℕ)) (p : List PersistenceStep) (t : Told) : Type 0 where
   pub count : length t.lines ≡ length start
   pub shown_count : length t.shown ≡ length start
-  pub each : (l : ℕ) → l < length start → LineStands (line_at start l) l p (line_from t l)
+  pub each : (l : ℕ) → l < length start → RepresentsLine (line_at start l) l p (line_from t l)
 
 -- no line stands twice, and there are eight lists of marks
 pub record IsTold (t : Told) : Type 0 where
@@ -163,7 +163,7 @@ holds_idle_clean start p g m t d s = record {
 pub record Fencing (start : List (List ℕ)) (g : ℕ) (p : List PersistenceStep) (t : Told) : Type 0 where
   pub count : length t.lines ≡ length start
   pub shown_count : length t.shown ≡ length start
-  pub each : (l : ℕ) → l < length start → LineStands (line_at start l) l (if has l (marks t g) then p else (Fence g ∷ p)) (line_from t l)
+  pub each : (l : ℕ) → l < length start → RepresentsLine (line_at start l) l (if has l (marks t g) then p else (Fence g ∷ p)) (line_from t l)
 
 pub fencing_begins : (start : List (List ℕ)) (g : ℕ) (p : List PersistenceStep) (t : Told) → Holds start p t → Fencing start g p t
 fencing_begins start g p t s = record {

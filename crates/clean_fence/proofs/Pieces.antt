@@ -8,7 +8,7 @@ use Rattle.crash_model.proofs.Images.{line_after_same}
 use Rattle.crash_model.proofs.Pendings.{pends_clean, pends_fence, pends_evict}
 use Rattle.crash_model.specs.declared.step.PersistenceStep.{PersistenceStep}
 use Rattle.crash_model.specs.declared.step.PersistenceStep.TheVariants.{Store, Clean, Fence, Evict}
-use Rattle.clean_fence.specs.Stands.{LineView, LineStands}
+use Rattle.clean_fence.specs.Represents.{LineView, RepresentsLine}
 
 -- a line as it was
 pub record Same (x y : LineView) : Type 0 where
@@ -39,7 +39,7 @@ pub record CleanedBy (hart : ℕ) (x y : LineView) : Type 0 where
   pub pends : (h : ℕ) → y.pends h ≡ ((eqb hart h && x.dirty) || x.pends h)
 
 pub same_stands : (start : List ℕ) (l : ℕ) (p : List PersistenceStep) (x y : LineView) →
-    Same x y → LineStands start l p x → LineStands start l p y
+    Same x y → RepresentsLine start l p x → RepresentsLine start l p y
 same_stands start l p x y e s = record {
   medium = e.medium ∙ s.medium;
   shown = e.shown ∙ s.shown;
@@ -48,7 +48,7 @@ same_stands start l p x y e s = record {
 }
 
 pub stored_stands : (start : List ℕ) (l m o w v : ℕ) (p : List PersistenceStep) (x y : LineView) → eqb m l ≡ true →
-    StoredTo o w v x y → LineStands start l p x → LineStands start l (Store m o w v ∷ p) y
+    StoredTo o w v x y → RepresentsLine start l p x → RepresentsLine start l (Store m o w v ∷ p) y
 stored_stands start l m o w v p x y t e s = record {
   medium = grind (arith, nat_tests, t, e.medium, s.medium, written_back_le_stores l p);
   shown = grind (arith, nat_tests, t, e.shown, s.shown, line_after_same start l (stores l p + 1) (stores l p) p);
@@ -57,7 +57,7 @@ stored_stands start l m o w v p x y t e s = record {
 }
 
 pub other_store : (start : List ℕ) (l m o w v : ℕ) (p : List PersistenceStep) (x y : LineView) → eqb m l ≡ false →
-    Same x y → LineStands start l p x → LineStands start l (Store m o w v ∷ p) y
+    Same x y → RepresentsLine start l p x → RepresentsLine start l (Store m o w v ∷ p) y
 other_store start l m o w v p x y n e s = record {
   medium = grind (arith, nat_tests, n, e.medium, s.medium);
   shown = grind (arith, nat_tests, n, e.shown, s.shown);
@@ -66,7 +66,7 @@ other_store start l m o w v p x y n e s = record {
 }
 
 pub cleaned_stands : (start : List ℕ) (l m g : ℕ) (p : List PersistenceStep) (x y : LineView) → eqb m l ≡ true →
-    CleanedBy g x y → LineStands start l p x → LineStands start l (Clean g m ∷ p) y
+    CleanedBy g x y → RepresentsLine start l p x → RepresentsLine start l (Clean g m ∷ p) y
 cleaned_stands start l m g p x y t e s = record {
   medium = e.medium ∙ s.medium;
   shown = e.shown ∙ s.shown;
@@ -75,7 +75,7 @@ cleaned_stands start l m g p x y t e s = record {
 }
 
 pub other_clean : (start : List ℕ) (l m g : ℕ) (p : List PersistenceStep) (x y : LineView) → eqb m l ≡ false →
-    Same x y → LineStands start l p x → LineStands start l (Clean g m ∷ p) y
+    Same x y → RepresentsLine start l p x → RepresentsLine start l (Clean g m ∷ p) y
 other_clean start l m g p x y n e s = record {
   medium = e.medium ∙ s.medium;
   shown = e.shown ∙ s.shown;
@@ -84,7 +84,7 @@ other_clean start l m g p x y n e s = record {
 }
 
 pub evicted_stands : (start : List ℕ) (l m : ℕ) (p : List PersistenceStep) (x y : LineView) → eqb m l ≡ true →
-    Written x y → LineStands start l p x → LineStands start l (Evict m ∷ p) y
+    Written x y → RepresentsLine start l p x → RepresentsLine start l (Evict m ∷ p) y
 evicted_stands start l m p x y t e s = record {
   medium = grind (arith, nat_tests, t, e.medium, s.shown);
   shown = grind (arith, nat_tests, e.shown, s.shown);
@@ -93,7 +93,7 @@ evicted_stands start l m p x y t e s = record {
 }
 
 pub other_evict : (start : List ℕ) (l m : ℕ) (p : List PersistenceStep) (x y : LineView) → eqb m l ≡ false →
-    Same x y → LineStands start l p x → LineStands start l (Evict m ∷ p) y
+    Same x y → RepresentsLine start l p x → RepresentsLine start l (Evict m ∷ p) y
 other_evict start l m p x y n e s = record {
   medium = grind (arith, nat_tests, n, e.medium, s.medium);
   shown = grind (arith, nat_tests, n, e.shown, s.shown);
@@ -103,7 +103,7 @@ other_evict start l m p x y n e s = record {
 
 -- a fence writes back a line that pends for its hart
 pub fenced_stands : (start : List ℕ) (l g : ℕ) (p : List PersistenceStep) (x y : LineView) → x.pends g ≡ true →
-    Written x y → LineStands start l p x → LineStands start l (Fence g ∷ p) y
+    Written x y → RepresentsLine start l p x → RepresentsLine start l (Fence g ∷ p) y
 fenced_stands start l g p x y t e s = record {
   medium = grind (arith, nat_tests, t, s.pends g, e.medium, s.shown);
   shown = grind (arith, nat_tests, e.shown, s.shown);
@@ -113,7 +113,7 @@ fenced_stands start l g p x y t e s = record {
 
 -- and leaves another one as it is
 pub other_fence : (start : List ℕ) (l g : ℕ) (p : List PersistenceStep) (x : LineView) → x.pends g ≡ false →
-    LineStands start l p x → LineStands start l (Fence g ∷ p) x
+    RepresentsLine start l p x → RepresentsLine start l (Fence g ∷ p) x
 other_fence start l g p x t s = record {
   medium = grind (arith, nat_tests, t, s.pends g, s.medium);
   shown = s.shown;

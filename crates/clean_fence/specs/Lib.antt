@@ -1,2 +1,2 @@
+pub mod Represents
 pub mod Rules
-pub mod Stands

@@ -5,9 +5,10 @@
 #![tactic(auto)]
 
 ghost use Rattle.std.specs.Prelude.{◌≡◌, ℕ, ◌<◌, ◌≤◌, ◌*◌, ◌/◌, ◌%◌, List, [], ◌∷◌, Some, None, true, false, length, slice_index, slice_set, IfOk, IfErr, IfSome};
-ghost use Rattle.index_list.specs.Lists.{first, has};
+ghost use Rattle.index_list.specs.Lists.{first};
 ghost use Rattle.word_bits.specs.Bytes.{loaded, stored};
-ghost use Rattle.line_memory.specs.Lines.{line_at, line_bytes};
+ghost use Rattle.std.specs.Option.{option_to_list};
+ghost use Rattle.line_memory.specs.Lines.{AreLines, line_at, line_bytes};
 ghost use Rattle.line_memory.specs.Memory.{IsWidth, loaded_from, stored_to};
 ghost use Rattle.lru_cache.specs.Cache.{IsCache, is_dirty, is_resident};
 ghost use Rattle.lru_cache.specs.Order.{marked_in};
@@ -16,8 +17,8 @@ ghost use Rattle.crash_model.specs.Image.{image, memory_after};
 ghost use Rattle.crash_model.specs.WrittenBack.{back};
 ghost use Rattle.crash_model.specs.declared.step.PersistenceStep.{PersistenceStep};
 ghost use Rattle.crash_model.specs.declared.step.PersistenceStep.TheVariants as step;
-ghost use Rattle.clean_fence.specs.Rules.{HasRoom, SameSizes, after_clean, after_completion, after_evict, after_fence, after_flush, after_load, after_store, memory_of, started, victim};
-ghost use Rattle.clean_fence.specs.Stands.{Stands, StandsUnforced, with_forced};
+ghost use Rattle.clean_fence.specs.Rules.{PmView, after_clean, after_completion, after_evict, after_fence, after_flush, after_load, after_store, memory_of, started, victim};
+ghost use Rattle.clean_fence.specs.Represents.{CacheSteps, Represents, RepresentsUnforced};
 
 use line_memory::{Medium, MediumFault};
 use lru_cache::Cache;
@@ -59,8 +60,7 @@ impl PmCache {
         requires harts { harts ≤ 8 }
         ensures made { IfOk result (λ pm. pm ≡ started capacity harts medium) }
         ensures memory { IfOk result (λ pm. memory_of pm ≡ medium) }
-        ensures stands { IfOk result (λ pm. Stands medium [] pm) }
-        ensures unforced { IfOk result (λ pm. (touched : List ℕ) → length touched ≤ capacity → StandsUnforced medium touched [] pm) }
+        ensures represents { IfOk result (λ pm. (touched : List ℕ) → length touched ≤ capacity → RepresentsUnforced medium touched [] pm) }
         ensures err { IfErr result (λ fault. fault ≡ MediumFault.Memory) }
     {
         let cache = Cache::new(alloc, capacity, medium.lines())?;
@@ -77,22 +77,10 @@ impl PmCache {
         requires width { IsWidth width }
         requires aligned { at % width ≡ 0 }
         requires there { at < 64 * length self.old.lines }
-
-        // the value is the flat memory's, which stays as it was
-        ensures bytes { loaded_from (line_bytes (memory_of self.old)) at width ≡ Some result }
-        ensures flat { (start : List (List ℕ)) (p : List PersistenceStep) → Stands start p self.old →
-            loaded_from (line_bytes (memory_after start p)) at width ≡ Some result }
+        ensures value { loaded_from (line_bytes (memory_of self.old)) at width ≡ Some result }
         ensures memory { memory_of self.new ≡ memory_of self.old }
-
-        // a victim leaves first; where the cache has room for all that is used there is none
         ensures changed { self.new ≡ after_load (at / 64) self.old }
-        ensures stands { (start : List (List ℕ)) (p : List PersistenceStep) → Stands start p self.old →
-            Stands start (with_forced (victim self.old (at / 64)) p) self.new }
-        ensures no_victim { (touched : List ℕ) → HasRoom touched self.old → has (at / 64) touched ≡ true →
-            victim self.old (at / 64) ≡ None }
-        ensures unforced { (start : List (List ℕ)) (touched : List ℕ) (p : List PersistenceStep) →
-            StandsUnforced start touched p self.old → has (at / 64) touched ≡ true → StandsUnforced start touched p self.new }
-        ensures sizes { SameSizes self.old self.new }
+        ensures steps { CacheSteps self.old self.new [] (option_to_list (victim self.old (at / 64))) (at / 64 ∷ []) }
     {
         self.cache.load(&mut self.medium, at, width)
     }
@@ -107,14 +95,8 @@ impl PmCache {
         ensures memory { memory_of self.new ≡ slice_set (memory_of self.old) (at / 64)
             (stored (line_at (memory_of self.old) (at / 64)) (at % 64) width value) }
         ensures changed { self.new ≡ after_store (at / 64) (at % 64) width value self.old }
-        ensures stands { (start : List (List ℕ)) (p : List PersistenceStep) → Stands start p self.old →
-            Stands start (step.Store (at / 64) (at % 64) width value ∷ with_forced (victim self.old (at / 64)) p) self.new }
-        ensures no_victim { (touched : List ℕ) → HasRoom touched self.old → has (at / 64) touched ≡ true →
-            victim self.old (at / 64) ≡ None }
-        ensures unforced { (start : List (List ℕ)) (touched : List ℕ) (p : List PersistenceStep) →
-            StandsUnforced start touched p self.old → has (at / 64) touched ≡ true →
-            StandsUnforced start touched (step.Store (at / 64) (at % 64) width value ∷ p) self.new }
-        ensures sizes { SameSizes self.old self.new }
+        ensures steps { CacheSteps self.old self.new (step.Store (at / 64) (at % 64) width value ∷ [])
+            (option_to_list (victim self.old (at / 64))) (at / 64 ∷ []) }
     {
         self.cache.store(&mut self.medium, at, width, value);
     }
@@ -125,11 +107,7 @@ impl PmCache {
         requires there { line < length self.old.lines }
         ensures memory { memory_of self.new ≡ memory_of self.old }
         ensures changed { self.new ≡ after_clean hart line self.old }
-        ensures stands { (start : List (List ℕ)) (p : List PersistenceStep) → Stands start p self.old →
-            Stands start (step.Clean hart line ∷ p) self.new }
-        ensures unforced { (start : List (List ℕ)) (touched : List ℕ) (p : List PersistenceStep) →
-            StandsUnforced start touched p self.old → StandsUnforced start touched (step.Clean hart line ∷ p) self.new }
-        ensures sizes { SameSizes self.old self.new }
+        ensures steps { CacheSteps self.old self.new (step.Clean hart line ∷ []) [] [] }
     {
         if self.cache.is_dirty(line) {
             self.cache.mark(hart, line);
@@ -143,11 +121,7 @@ impl PmCache {
         requires there { line < length self.old.lines }
         ensures memory { memory_of self.new ≡ memory_of self.old }
         ensures changed { self.new ≡ after_flush hart line self.old }
-        ensures stands { (start : List (List ℕ)) (p : List PersistenceStep) → Stands start p self.old →
-            Stands start (step.Clean hart line ∷ p) self.new }
-        ensures unforced { (start : List (List ℕ)) (touched : List ℕ) (p : List PersistenceStep) →
-            StandsUnforced start touched p self.old → StandsUnforced start touched (step.Clean hart line ∷ p) self.new }
-        ensures sizes { SameSizes self.old self.new }
+        ensures steps { CacheSteps self.old self.new (step.Clean hart line ∷ []) [] [] }
     {
         if !self.cache.is_dirty(line) {
             self.cache.drop_clean(line);
@@ -162,11 +136,7 @@ impl PmCache {
         requires { hart < self.old.harts }
         ensures memory { memory_of self.new ≡ memory_of self.old }
         ensures changed { self.new ≡ after_fence hart self.old }
-        ensures stands { (start : List (List ℕ)) (p : List PersistenceStep) → Stands start p self.old →
-            Stands start (step.Fence hart ∷ p) self.new }
-        ensures unforced { (start : List (List ℕ)) (touched : List ℕ) (p : List PersistenceStep) →
-            StandsUnforced start touched p self.old → StandsUnforced start touched (step.Fence hart ∷ p) self.new }
-        ensures sizes { SameSizes self.old self.new }
+        ensures steps { CacheSteps self.old self.new (step.Fence hart ∷ []) [] [] }
     {
         while let Some(line) = self.first_pending(hart) {
             self.complete(line);
@@ -201,12 +171,8 @@ impl PmCache {
         requires { line < length self.old.lines }
         ensures memory { memory_of self.new ≡ memory_of self.old }
         ensures changed { self.new ≡ after_evict line self.old }
-        ensures stands { (start : List (List ℕ)) (p : List PersistenceStep) → Stands start p self.old →
-            Stands start (step.Evict line ∷ p) self.new }
-        ensures unforced { (start : List (List ℕ)) (touched : List ℕ) (p : List PersistenceStep) →
-            StandsUnforced start touched p self.old → StandsUnforced start touched (step.Evict line ∷ p) self.new }
+        ensures steps { CacheSteps self.old self.new (step.Evict line ∷ []) [] [] }
         ensures absent { is_resident self.old.cache line ≡ false → self.new ≡ self.old }
-        ensures sizes { SameSizes self.old self.new }
     {
         self.cache.evict(&mut self.medium, line);
     }
@@ -214,9 +180,7 @@ impl PmCache {
     /// The byte at an address, as a load would find it. Nothing changes.
     pub fn peek(&self, at: u32) -> u8
         requires { at < 64 * length self.now.lines }
-        ensures bytes { line_bytes (memory_of self.now) at ≡ Some result }
-        ensures flat { (start : List (List ℕ)) (p : List PersistenceStep) → Stands start p self.now →
-            line_bytes (memory_after start p) at ≡ Some result }
+        ensures { line_bytes (memory_of self.now) at ≡ Some result }
     {
         self.cache.peek(&self.medium, at)
     }
@@ -240,8 +204,9 @@ impl PmCache {
     /// The medium as it is, which a power cut would leave.
     pub fn medium(&self) -> &Medium
         ensures lines { result.now ≡ self.now.lines }
-        ensures cut { (start : List (List ℕ)) (p : List PersistenceStep) → Stands start p self.now → IsCutImage start p result.now }
-        ensures back { (start : List (List ℕ)) (p : List PersistenceStep) → Stands start p self.now →
+        ensures whole { AreLines (memory_of self.now) }
+        ensures cut { (start : List (List ℕ)) (p : List PersistenceStep) → Represents start p self.now → IsCutImage start p result.now }
+        ensures back { (start : List (List ℕ)) (p : List PersistenceStep) → Represents start p self.now →
             result.now ≡ image start (λ l. (back l p).count) p }
     {
         &self.medium
@@ -250,11 +215,18 @@ impl PmCache {
     /// What a power cut leaves: the medium alone, without what is dirty in the cache.
     pub fn power_cut(self) -> Medium
         ensures lines { result ≡ self.lines }
-        ensures cut { (start : List (List ℕ)) (p : List PersistenceStep) → Stands start p self → IsCutImage start p result }
-        ensures back { (start : List (List ℕ)) (p : List PersistenceStep) → Stands start p self →
+        ensures cut { (start : List (List ℕ)) (p : List PersistenceStep) → Represents start p self → IsCutImage start p result }
+        ensures back { (start : List (List ℕ)) (p : List PersistenceStep) → Represents start p self →
             result ≡ image start (λ l. (back l p).count) p }
     {
         let PmCache { medium, .. } = self;
         medium
     }
 }
+
+/// A law: loads find the flat memory after the steps that a cache represents.
+#[tactic(auto, using(crate::proofs::Views::memory_flat))]
+pub fn memory_is_flat()
+    ensures { (start : List (List ℕ)) (p : List PersistenceStep) (pm : PmView) → Represents start p pm →
+        memory_of pm ≡ memory_after start p }
+{}

@@ -6,7 +6,7 @@ use Rattle.std.proofs.lemmas.List.{take_all, take_more}
 use Rattle.std.proofs.lemmas.List.FromFn.{length-enumerate_from, get_or-enumerate_from}
 use Rattle.std.proofs.lemmas.Option.{slice_get_read, slice_get_within, get_or_from_slice_get}
 use Rattle.hart.specs.declared.state.HartState.{HartState}
-use Rattle.hart_line.specs.HartLines.{hart_line}
+use Rattle.hart.specs.HartLines.{hart_line}
 use Rattle.command_line.specs.Reports.{line_end}
 
 -- the lines of the harts below one

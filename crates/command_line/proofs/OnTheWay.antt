@@ -6,7 +6,7 @@ use Rattle.std.specs.Io.KnownBytes.{Appends}
 use Rattle.std.proofs.lemmas.Bool.{cases_lt}
 use Rattle.std.proofs.lemmas.List.{append-nil}
 use Rattle.crash_image.specs.Totals.{IsImageSum}
-use Rattle.session.specs.Failing.{AppendsFront}
+use Rattle.session.specs.StreamFailures.{AppendsFront}
 use Rattle.session.specs.declared.input.Failed.{Failed}
 use Rattle.store_trace.specs.declared.event.Event.{Event}
 use Rattle.command_line.specs.Progress.{AllPass, IsLineOf, IsProgress, Progresses, WritesLine}

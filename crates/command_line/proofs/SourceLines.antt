@@ -5,8 +5,8 @@ use Rattle.durability.specs.declared.ends.Unpersisted.{Unpersisted}
 use Rattle.needless_text.specs.Uses.{Judged}
 use Rattle.listing_text.specs.Begun.{line_in as listed_line}
 use Rattle.listing_text.specs.Listing.{IsListing}
-use Rattle.object.specs.Sections.{Sections}
-use Rattle.object.specs.declared.TheConstants.{TEXT_LIMIT}
+use Rattle.program.specs.Sections.{Sections}
+use Rattle.program.specs.declared.TheConstants.{TEXT_LIMIT}
 use Rattle.program_losses.specs.declared.failing.ExplainedImage.{ExplainedImage}
 use Rattle.program.specs.Loading.{zero_filled}
 use Rattle.program_trace.specs.Lines.{line_of}

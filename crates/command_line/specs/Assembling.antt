@@ -3,8 +3,8 @@ use Rattle.std.specs.Prelude.{◌≡◌, ◌≢◌, ℕ, List, Result, ◌++◌,
 use Rattle.arguments.specs.declared.asked.AssembleCommand.{AssembleCommand}
 use Rattle.assemble.specs.Assembly.{Assembles, IsFirstFault}
 use Rattle.assemble.specs.declared.fault.AsmFault.{AsmFault}
-use Rattle.object.specs.ObjectFile.{IsObjectFile}
-use Rattle.object.specs.Sections.{Sections}
+use Rattle.program.specs.ObjectFile.{IsObjectFile}
+use Rattle.program.specs.Sections.{Sections}
 use Rattle.command_line.specs.Failures.{failure_of_assembly}
 use Rattle.command_line.specs.Reports.{line_end}
 use Rattle.command_line.specs.Steps.{First, Prints, Reads, ReadsFile, Step, Still, Tells, Writes, WritesFile}

@@ -8,8 +8,8 @@ use Rattle.judge_marks.specs.declared.fault.MarkFault.{MarkFault}
 use Rattle.judge_marks.specs.declared.fault.MarkFault.TheVariants as judged
 use Rattle.nova_log.specs.declared.fault.VolumeFault.{VolumeFault}
 use Rattle.nova_log.specs.declared.fault.VolumeFault.TheVariants as volumes
-use Rattle.object.specs.declared.fault.LoadFault.{LoadFault}
-use Rattle.object.specs.declared.fault.LoadFault.TheVariants as loads
+use Rattle.program.specs.declared.fault.LoadFault.{LoadFault}
+use Rattle.program.specs.declared.fault.LoadFault.TheVariants as loads
 use Rattle.plan.specs.declared.fault.PlanCode.{PlanCode}
 use Rattle.plan.specs.declared.fault.PlanCode.TheVariants as plans
 

@@ -6,8 +6,8 @@ use Rattle.arguments.specs.declared.asked.DebugCommand.{DebugCommand}
 use Rattle.debugger.specs.declared.fault.DebugFault.{DebugFault}
 use Rattle.debugger.specs.declared.fault.DebugFault.TheVariants.{InputOutput, Memory}
 use Rattle.debugger.specs.Points.{DebuggerView}
-use Rattle.machine.specs.Stands.{MachineView}
-use Rattle.session.specs.Failing.{one_more}
+use Rattle.machine.specs.Represents.{MachineView}
+use Rattle.session.specs.StreamFailures.{one_more}
 use Rattle.session.specs.Running.{SomeRun}
 use Rattle.session.specs.Sessions.{BreaksOff, Session}
 use Rattle.crash_test.specs.Runs.{FailsToStart, IsAtStart, Setup}

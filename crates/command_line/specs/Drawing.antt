@@ -4,7 +4,7 @@ use Rattle.arguments.specs.declared.asked.InterleaveCommand.{InterleaveCommand}
 use Rattle.interleaving.specs.Drawing.{IsDrawn, StopsDrawing}
 use Rattle.interleaving.specs.Interleaves.{IsWhole}
 use Rattle.machine.specs.Run.{Config}
-use Rattle.machine.specs.Stands.{MachineView, Stands}
+use Rattle.machine.specs.Represents.{MachineView, Represents}
 use Rattle.schedule.specs.declared.items.Item.{Item}
 use Rattle.command_line.specs.Debugging.{Starts}
 use Rattle.command_line.specs.Failures.{failure_of_drawing}
@@ -20,10 +20,10 @@ pub record IsInterleaving (c : Config) (command : InterleaveCommand) (schedule :
   pub drawn : IsDrawn c command.seed command.steps command.evictions schedule
   pub whole : IsWhole c command.steps command.evictions schedule
 
--- the schedule that the seed draws for what the machine stands for, or why there is none
+-- the schedule that the seed draws for what the machine represents, or why there is none
 pub record DrawsSchedule (machine : MachineView) (command : InterleaveCommand) (outcome : Result (List Item) Failure) : Type 0 where
-  pub draws : MatchResult outcome (λ schedule. (c : Config) → Stands machine c → IsInterleaving c command schedule)
-      (Tells (λ fault. (c : Config) → Stands machine c → StopsDrawing c command.seed command.steps fault) failure_of_drawing)
+  pub draws : MatchResult outcome (λ schedule. (c : Config) → Represents machine c → IsInterleaving c command schedule)
+      (Tells (λ fault. (c : Config) → Represents machine c → StopsDrawing c command.seed command.steps fault) failure_of_drawing)
 
 abbrev pub InterleavesFile : {F : Type 0} → Reads F → InterleaveCommand → Step F Answer
 InterleavesFile reads command =

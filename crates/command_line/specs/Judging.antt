@@ -3,7 +3,7 @@ use Rattle.std.specs.Prelude.{◌≡◌, ◌⊎◌, ◌<◌, ◌^◌, IfSome, �
 use Rattle.arguments.specs.Line.{IsWithin}
 use Rattle.arguments.specs.Spans.{IsUpward}
 use Rattle.arguments.specs.declared.asked.JudgeCommand.{JudgeCommand}
-use Rattle.hart_line.specs.HartLines.{trap_number}
+use Rattle.hart.specs.HartLines.{trap_number}
 use Rattle.judged_losses.specs.Loading.{IsLoaded}
 use Rattle.program_losses.specs.declared.failing.ExplainedImage.{ExplainedImage}
 use Rattle.image_judge.specs.Verdicts.{IsJudged, judged_from}
@@ -11,7 +11,7 @@ use Rattle.image_judge.specs.Views.{JudgeView}
 use Rattle.image_judge.specs.declared.cause.Cause.{Cause}
 use Rattle.image_judge.specs.declared.cause.Cause.TheVariants as causes
 use Rattle.moment_verdict.specs.declared.verdict.Verdict.{Verdict}
-use Rattle.object.specs.Sections.{Sections}
+use Rattle.program.specs.Sections.{Sections}
 use Rattle.parallel_moments.specs.Rows.{end_of}
 use Rattle.program_judge.specs.Judging.{HasJudgement, HasNoJudgement, view_of}
 use Rattle.recovery_run.specs.declared.Cause.{Cause as RunCause}

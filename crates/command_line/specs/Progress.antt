@@ -4,7 +4,7 @@ use Rattle.std.specs.Io.KnownBytes.{Appends}
 use Rattle.crash_image.specs.Totals.{IsImageSum}
 use Rattle.moment_verdict.specs.declared.verdict.MomentVerdict.{MomentVerdict}
 use Rattle.moment_verdict.specs.declared.verdict.MomentVerdict.TheVariants as moments
-use Rattle.session.specs.Failing.{AppendsFront}
+use Rattle.session.specs.StreamFailures.{AppendsFront}
 use Rattle.session.specs.declared.input.Failed.{Failed}
 use Rattle.store_trace.specs.declared.event.Event.{Event}
 use Rattle.command_line.specs.Reports.{line_end}

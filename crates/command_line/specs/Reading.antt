@@ -5,7 +5,7 @@ use Rattle.arguments.specs.declared.asked.ScheduledRun.{ScheduledRun}
 use Rattle.line_memory.specs.Lines.{IsMedium, zero_lines}
 use Rattle.line_memory.specs.declared.MediumFault.{MediumFault}
 use Rattle.line_memory.specs.declared.MediumFault.TheVariants as media
-use Rattle.object.specs.Sections.{Sections}
+use Rattle.program.specs.Sections.{Sections}
 use Rattle.plan.specs.Grammar.{BeginsThrough, IsFirstFault, IsPlan}
 use Rattle.plan.specs.Plans.{PlanView}
 use Rattle.plan.specs.declared.fault.PlanCode.{PlanCode}

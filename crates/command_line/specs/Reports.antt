@@ -2,7 +2,7 @@
 use Rattle.std.specs.Prelude.{ℕ, List, ◌∷◌, [], ◌++◌, codes, decimal}
 use Rattle.std.specs.List.{enumerate_from, flat_map}
 use Rattle.hart.specs.declared.state.HartState.{HartState}
-use Rattle.hart_line.specs.HartLines.{hart_line}
+use Rattle.hart.specs.HartLines.{hart_line}
 
 -- the end of a line, LF
 abbrev pub line_end : List ℕ

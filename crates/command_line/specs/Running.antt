@@ -4,8 +4,8 @@ use Rattle.arguments.specs.declared.asked.MachineOptions.{MachineOptions}
 use Rattle.arguments.specs.declared.asked.ReplayCommand.{ReplayCommand}
 use Rattle.arguments.specs.declared.asked.RunCommand.{RunCommand}
 use Rattle.hart.specs.declared.state.HartState.{HartState}
-use Rattle.machine.specs.Stands.{MachineView}
-use Rattle.object.specs.Sections.{Sections}
+use Rattle.machine.specs.Represents.{MachineView}
+use Rattle.program.specs.Sections.{Sections}
 use Rattle.schedule.specs.declared.items.Item.{Item}
 use Rattle.recording.specs.Recorded.{RecordedView}
 use Rattle.crash_test.specs.Runs.{FailsToRun, FailsTogether, HasRun, HasRunTogether, IsRunOf, Setup, setup}

@@ -7,8 +7,8 @@ use assemble::AsmCode;
 use image_check::OpFault;
 use judge_marks::MarkFault;
 use nova_log::VolumeFault;
-use object::LoadFault;
 use plan::PlanCode;
+use program::LoadFault;
 
 /// Of a line of a source.
 pub(crate) fn assembly_code(code: AsmCode) -> &'static str

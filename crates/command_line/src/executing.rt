@@ -6,12 +6,12 @@ ghost use Rattle.command_line.specs.Judging.{IsOpen as IsOpenJudge};
 ghost use Rattle.command_line.specs.Outcomes.{Delivers, DeliversCheck, DeliversJudge, Ends, EndsWith, IsPrinted, IsReady};
 
 use crate::answer::{Action, Answer};
-use crate::checking::judge_check;
+use crate::check::judge_check;
 use crate::commands::outcome;
-use crate::debugging::hold_session;
+use crate::debug::hold_session;
 use crate::failure::Failure;
 use crate::files::Files;
-use crate::judging::judge_run;
+use crate::judge::judge_run;
 use crate::opened::{OpenCheck, OpenJudge};
 use crate::streams::print;
 use crate::telling::tell;

@@ -8,8 +8,8 @@ use image_check::OpFault;
 use judge_marks::MarkFault;
 use machine::StepFault;
 use nova_log::VolumeFault;
-use object::LoadFault;
 use plan::PlanFault;
+use program::LoadFault;
 use session::step_code;
 use std::fmt;
 

@@ -10,7 +10,7 @@ use crate::reading::read_file;
 use arguments::ListingCommand;
 use crash_test::load_object;
 use listing_text::listing_text;
-use object::Object;
+use program::Object;
 use program_trace::source_lines;
 use std::alloc::Global;
 

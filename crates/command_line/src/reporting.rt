@@ -3,8 +3,7 @@
 ghost use Rattle.std.specs.Prelude.{◌≡◌, ◌≤◌, IfOk, length, string_bytes};
 ghost use Rattle.command_line.specs.Reports.{run_report};
 
-use hart::HartState;
-use hart_line::HartLine;
+use hart::{HartLine, HartState};
 use std::alloc::{AllocError, Global};
 use std::fmt::Write;
 

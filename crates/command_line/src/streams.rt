@@ -1,7 +1,7 @@
 //! The standard streams as a session reads and writes them.
 
 ghost use Rattle.std.specs.Prelude.{◌≤◌, IfOk, OnErr, OnOk, length};
-ghost use Rattle.session.specs.Failing.{AppendsFront};
+ghost use Rattle.session.specs.StreamFailures.{AppendsFront};
 ghost use Rattle.std.specs.Io.KnownBytes.{Appends, ReadConsumes};
 
 use session::{Failed, Sink, Source};

@@ -5,7 +5,7 @@ ghost use Rattle.arguments.specs.Spans.{IsUpward};
 ghost use Rattle.command_line.specs.Reasons.{told_why};
 ghost use Rattle.command_line.specs.Steps.{Prints};
 ghost use Rattle.command_line.specs.Verdicts.{fail_json, fail_line, failing, first_of, last_of, pass_json, pass_line, told_fail, told_pass, told_too_many, told_verdict, too_many_json, too_many_line, verdict_status};
-ghost use Rattle.object.specs.Sections.{Sections};
+ghost use Rattle.program.specs.Sections.{Sections};
 ghost use Rattle.schedule.specs.Grammar.{hart_steps};
 ghost use Rattle.crash_test.specs.Programs.{IsProgramOf};
 

@@ -4,7 +4,7 @@ use Rattle.std.specs.Prelude.{if◌then◌else◌, option_map}
 use Rattle.std.proofs.lemmas.List.{append-nil, drop_all}
 use Rattle.std.proofs.lemmas.Bool.Decides.{nat_tests}
 use Rattle.crash_image.specs.Named.{raised_from}
-use Rattle.crash_image.specs.Sought.{with_number, chosen_from}
+use Rattle.crash_image.specs.LeastCut.{with_number, chosen_from}
 use Rattle.crash_image.specs.declared.bounds.LineBounds.{LineBounds}
 use Rattle.crash_image.specs.declared.search.Sought.{Sought}
 

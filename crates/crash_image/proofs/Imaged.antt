@@ -10,7 +10,7 @@ use Rattle.crash_model.specs.Cut.{number_in}
 use Rattle.crash_model.specs.Image.{image}
 use Rattle.crash_model.specs.declared.step.PersistenceStep.{PersistenceStep}
 use Rattle.store_trace.specs.TraceView.{IsWidth}
-use Rattle.crash_image.specs.Imaging.{IsImaged}
+use Rattle.crash_image.specs.ImageScan.{IsImaged}
 
 pub aligned_fits : (offset width : ℕ) → IsWidth width → offset % width ≡ 0 → offset < 64 → (width ≤ 8) × (offset + width ≤ 64)
 aligned_fits offset width w a h = (grind (arith, w), grind (arith, w, a))

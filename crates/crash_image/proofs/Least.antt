@@ -19,7 +19,7 @@ use Rattle.crash_image.specs.View.{CutsView, NamesLine}
 use Rattle.store_trace.specs.History.{history}
 use Rattle.store_trace.specs.declared.event.Event.{Event}
 use Rattle.crash_image.specs.Bounds.{bounds_at, stored_bounds}
-use Rattle.crash_image.specs.Sought.{IsLeastCut, AreSought, AreLeast, IsNowhere, AreNumbers, with_number, chosen_from}
+use Rattle.crash_image.specs.LeastCut.{IsLeastCut, AreSought, AreLeast, IsNowhere, AreNumbers, with_number, chosen_from}
 use Rattle.crash_image.specs.declared.bounds.LineBounds.{LineBounds}
 use Rattle.crash_image.specs.declared.search.Sought.{Sought}
 

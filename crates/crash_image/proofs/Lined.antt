@@ -21,7 +21,7 @@ use Rattle.store_trace.specs.History.{history, steps_of}
 use Rattle.store_trace.specs.TraceView.{IsEvent}
 use Rattle.store_trace.specs.declared.event.Event.{Event}
 use Rattle.word_bits.specs.Bytes.{stored}
-use Rattle.crash_image.specs.Imaging.{IsLineMade}
+use Rattle.crash_image.specs.ImageScan.{IsLineMade}
 use Rattle.crash_image.specs.Places.{IsPlace}
 use Rattle.crash_image.specs.View.{CutsView}
 

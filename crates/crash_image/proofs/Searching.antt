@@ -11,7 +11,7 @@ use Rattle.crash_model.specs.declared.step.PersistenceStep.{PersistenceStep}
 use Rattle.crash_model.specs.declared.step.PersistenceStep.TheVariants as step
 use Rattle.line_memory.specs.Lines.{line_at}
 use Rattle.word_bits.specs.Bytes.{stored}
-use Rattle.crash_image.specs.Sought.{IsLeastNumber, IsSought, AreSought, number_after, looked}
+use Rattle.crash_image.specs.LeastCut.{IsLeastNumber, IsSought, AreSought, number_after, looked}
 use Rattle.crash_image.specs.declared.search.Sought.{Sought}
 
 -- the same below a number
@@ -125,12 +125,12 @@ after_store start wanted low made p shown after all m o w v d y same b size is l
     let inside : m < length all = omega (arith, b, size) in
     let line : line_at after m ≡ line_after (line_at start m) m (stores m p + 1) (step.Store m o w v ∷ p) =
     rw is (grind (arith, common_steps, b))
-    ∙ ap (λ (bytes : List ℕ). stored bytes o w v) (s.stands m there)
+    ∙ ap (λ (bytes : List ℕ). stored bytes o w v) (s.represents m there)
     ∙ sym (line_after_store (line_at start m) m o w v p) in
     record {
       lines = rw is (grind (arith, common_steps, s.lines));
       size = grind (arith, common_steps, s.size);
-      stands = λ l h. elim (cases_Bool (m == l)) [
+      represents = λ l h. elim (cases_Bool (m == l)) [
         | inl here ↦
             let eq : m ≡ l = grind (arith, nat_tests, here) in
             let count : stores m p + 1 ≡ stores m (step.Store m o w v ∷ p) = grind (arith, nat_tests) in
@@ -138,7 +138,7 @@ after_store start wanted low made p shown after all m o w v d y same b size is l
             (line ∙ ap (λ (n : ℕ). line_after (line_at start m) m n (step.Store m o w v ∷ p)) count)
         | inr other ↦
             let kept : line_at after l ≡ line_at shown l = rw is (grind (arith, common_steps, nat_tests, other)) in
-            kept ∙ s.stands l h ∙ grind (arith, nat_tests, other)
+            kept ∙ s.represents l h ∙ grind (arith, nat_tests, other)
       ];
       each = λ l f h. rw (sought_set all m y l f inside) (elim (cases_Bool (m == l)) [
         | inl here ↦ rw here (

@@ -14,7 +14,7 @@ use Rattle.crash_image.proofs.Stored.{stored_among, stored_lines_among, AreBelow
 use Rattle.store_trace.specs.History.{history, steps_of}
 use Rattle.store_trace.specs.declared.event.Event.{Event}
 use Rattle.crash_image.specs.Bounds.{bounds_at, stored_bounds}
-use Rattle.crash_image.specs.Tallies.{IsReached, IsFree, IsTally, AreTallies, stored, cleaned_by, bounds_of, bounds_from}
+use Rattle.crash_image.specs.FloorScan.{IsReached, IsFree, IsTally, AreTallies, stored, cleaned_by, bounds_of, bounds_from}
 use Rattle.crash_image.specs.declared.bounds.Tally.{Tally}
 
 reached_store : (l m o w v : ℕ) (fenced : List Bool) (rest : List PersistenceStep) (c : ℕ) →

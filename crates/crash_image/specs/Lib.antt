@@ -1,8 +1,8 @@
 pub mod Bounds
-pub mod Imaging
+pub mod FloorScan
+pub mod ImageScan
+pub mod LeastCut
 pub mod Named
 pub mod Places
-pub mod Sought
-pub mod Tallies
 pub mod Totals
 pub mod View

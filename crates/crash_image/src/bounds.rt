@@ -4,7 +4,7 @@
 //! clean that is met of a hart whose fence was met before, so no list of pending cleans is kept.
 
 ghost use Rattle.crash_image.specs.Bounds.{Allows, IsOrdered, numbers_of, product_of, stored_bounds};
-ghost use Rattle.crash_image.specs.Tallies.{AreTallies, IsFree, bounds_from, cleaned_by, stored};
+ghost use Rattle.crash_image.specs.FloorScan.{AreTallies, IsFree, bounds_from, cleaned_by, stored};
 ghost use Rattle.crash_image.specs.View.{NamesLine};
 ghost use Rattle.crash_model.specs.declared.step.PersistenceStep.{PersistenceStep};
 ghost use Rattle.store_trace.specs.History.{history, steps_of};
@@ -97,7 +97,7 @@ pub fn line_bounds(
     let mut tallies = no_tallies(alloc, lines)?;
     let mut fenced = [false; HARTS];
     for at in (0..events.len()).rev() {
-        read(&mut tallies, &mut fenced, events[at]);
+        scan_back_over(&mut tallies, &mut fenced, events[at]);
     }
     stored_lines(alloc, &tallies)
 }
@@ -115,7 +115,7 @@ fn no_tallies(alloc: Global, lines: u32) -> Result<Vec<Tally>, AllocError>
 }
 
 /// Takes the tallies one event further back.
-fn read(tallies: &mut [Tally], fenced: &mut [bool; HARTS], event: Event)
+fn scan_back_over(tallies: &mut [Tally], fenced: &mut [bool; HARTS], event: Event)
     requires event { IsEvent event }
     requires named { NamesLine (length tallies.old) event }
     requires few { (l : ℕ) (d : ATally) → l < length tallies.old →

@@ -2,7 +2,7 @@
 
 ghost use Rattle.crash_image.specs.Bounds.{stored_bounds};
 ghost use Rattle.crash_image.specs.Named.{HasLinesOf, IsNameOf, IsNamed, IsTable, cut_over, named_cut, raised as raised_of};
-ghost use Rattle.crash_image.specs.Sought.{IsLeastCut};
+ghost use Rattle.crash_image.specs.LeastCut.{IsLeastCut};
 ghost use Rattle.crash_image.specs.View.{HasLines};
 ghost use Rattle.crash_image.specs.declared.bounds.LineBounds.{LineBounds as OneLine};
 ghost use Rattle.crash_model.specs.Cut.{IsCut, cut_count, cuts, number_in};
@@ -18,7 +18,7 @@ use crate::cut::{fits, number_of, numbered};
 use crate::images::imaged;
 use crate::line::bytes_after;
 use crate::named::{entries_over, number, raised, renumber};
-use crate::search::least;
+use crate::search::find_least;
 use image_name::{Cut, ImageName};
 use line_memory::Medium;
 use std::alloc::Global;
@@ -180,7 +180,7 @@ impl<'a> Cuts<'a> {
         ensures ok { IfOk result (λ found. IsLeastCut self.now.start self.now.steps medium.now found) }
         ensures err { IfErr result (λ fault. fault ≡ ImageFault.Memory) }
     {
-        match least(alloc, self.medium, medium, self.events, floors)? {
+        match find_least(alloc, self.medium, medium, self.events, floors)? {
             Some(entries) => Ok(Some(Cut::from_entries(entries))),
             None => Ok(None),
         }

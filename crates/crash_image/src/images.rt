@@ -1,6 +1,6 @@
 //! The image of a cut: its first stores of each line, made over the starting medium.
 
-ghost use Rattle.crash_image.specs.Imaging.{IsImaged};
+ghost use Rattle.crash_image.specs.ImageScan.{IsImaged};
 ghost use Rattle.crash_image.specs.View.{NamesLine};
 ghost use Rattle.crash_model.specs.Cut.{number_in};
 ghost use Rattle.crash_model.specs.Image.{image};
@@ -35,7 +35,7 @@ pub fn imaged(
     let mut left = numbers_of_lines(alloc, medium.lines(), entries)?;
     let mut made = copy_of(alloc, medium)?;
     for event in events {
-        make(&mut made, &mut left, *event);
+        apply_if_due(&mut made, &mut left, *event);
     }
     Ok(made)
 }
@@ -72,7 +72,7 @@ pub fn numbers_of_lines(
 }
 
 /// Makes the event's store, where its line has stores left.
-fn make(medium: &mut Medium, left: &mut [u32], event: Event)
+fn apply_if_due(medium: &mut Medium, left: &mut [u32], event: Event)
     requires event { IsEvent event }
     requires named { NamesLine (length medium.old) event }
     requires counts { length left.old ≡ length medium.old }

@@ -1,6 +1,6 @@
 //! One line of the image of a cut: its starting bytes, and over them its first stores.
 
-ghost use Rattle.crash_image.specs.Imaging.{IsLineMade};
+ghost use Rattle.crash_image.specs.ImageScan.{IsLineMade};
 ghost use Rattle.crash_model.specs.Image.{line_after};
 ghost use Rattle.crash_model.specs.declared.step.PersistenceStep.{PersistenceStep};
 ghost use Rattle.store_trace.specs.History.{history, steps_of};
@@ -22,13 +22,13 @@ pub fn bytes_after(start: &[u8; 64], line: u32, number: u32, events: &[Event]) -
         if left == 0 {
             return bytes;
         }
-        make_next(&mut bytes, &mut left, line, *event);
+        apply_next(&mut bytes, &mut left, line, *event);
     }
     bytes
 }
 
 /// Makes the event's store, where it is the next one of the line.
-fn make_next(bytes: &mut [u8; 64], left: &mut u32, line: u32, event: Event)
+fn apply_next(bytes: &mut [u8; 64], left: &mut u32, line: u32, event: Event)
     requires event { IsEvent event }
     requires due { 0 < left.old }
     ensures { (start : List ℕ) (k : ℕ) (p : List PersistenceStep) →

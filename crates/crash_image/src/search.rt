@@ -1,6 +1,6 @@
 //! The search for the least cut with a given image: one pass over the events, line by line.
 
-ghost use Rattle.crash_image.specs.Sought.{AreNumbers, AreSought, IsSought, chosen_from, looked};
+ghost use Rattle.crash_image.specs.LeastCut.{AreNumbers, AreSought, IsSought, chosen_from, looked};
 ghost use Rattle.crash_image.specs.View.{NamesLine};
 ghost use Rattle.crash_image.specs.declared.search.Sought.{Sought as ASought};
 ghost use Rattle.crash_model.specs.Cut.{number_in};
@@ -28,7 +28,7 @@ struct Sought {
 
 impl Sought {
     /// Keeps the number of stores, where it is the first from the floor on at which the line fits.
-    fn look(&mut self, same: bool)
+    fn note_match(&mut self, same: bool)
         ensures { self.new ≡ looked same self.old }
     {
         if self.number.is_none() && self.floor <= self.stores && same {
@@ -38,7 +38,7 @@ impl Sought {
 }
 
 /// The numbers of the least cut that gives `wanted`, from these floors on. None where a line fits at no number.
-pub fn least(
+pub fn find_least(
     alloc: Global,
     medium: &Medium,
     wanted: &Medium,
@@ -54,14 +54,14 @@ pub fn least(
         AreNumbers medium.now wanted.now (number_in floors.now) (history events.now) (option_map (λ v. v.items) found)) }
     ensures err { IfErr result (λ fault. fault ≡ ImageFault.Memory) }
 {
-    let mut all = begin(alloc, medium, wanted, floors)?;
+    let mut all = initial_lines(alloc, medium, wanted, floors)?;
     look_through(alloc, medium, wanted, events, &mut all)?;
-    let found = chosen(alloc, &all)?;
+    let found = numbers_found(alloc, &all)?;
     Ok(found)
 }
 
 /// The lines before the first event, from these floors on.
-fn begin(
+fn initial_lines(
     alloc: Global,
     medium: &Medium,
     wanted: &Medium,
@@ -115,7 +115,7 @@ fn look_through(
 {
     let mut shown = copy_of(alloc, medium)?;
     for event in events {
-        meet(&mut shown, wanted, all, *event);
+        apply_and_compare(&mut shown, wanted, all, *event);
     }
     Ok(())
 }
@@ -132,7 +132,7 @@ fn unmoved(medium: &Medium, wanted: &Medium, line: u32, floor: u32) -> Sought
         stores: 0,
         number: None,
     };
-    sought.look(same_line(medium, wanted, line));
+    sought.note_match(same_line(medium, wanted, line));
     sought
 }
 
@@ -145,7 +145,7 @@ fn same_line(medium: &Medium, wanted: &Medium, line: u32) -> bool
 }
 
 /// Makes the event's store, and looks at its line.
-fn meet(shown: &mut Medium, wanted: &Medium, all: &mut [Sought], event: Event)
+fn apply_and_compare(shown: &mut Medium, wanted: &Medium, all: &mut [Sought], event: Event)
     requires event { IsEvent event }
     requires named { NamesLine (length shown.old) event }
     requires wanted { length wanted.now ≡ length shown.old }
@@ -170,11 +170,11 @@ fn meet(shown: &mut Medium, wanted: &Medium, all: &mut [Sought], event: Event)
     store(shown, line, offset, width, value);
     let sought = &mut all[line as usize];
     sought.stores += 1;
-    sought.look(same_line(shown, wanted, line));
+    sought.note_match(same_line(shown, wanted, line));
 }
 
 /// The numbers of the stored lines, upwards. None where a line has none.
-fn chosen(alloc: Global, all: &[Sought]) -> Result<Option<Vec<(u32, u32)>>, AllocError>
+fn numbers_found(alloc: Global, all: &[Sought]) -> Result<Option<Vec<(u32, u32)>>, AllocError>
     requires { length all.now < 2 ^ 32 }
     ensures { IfOk result (λ found. option_map (λ v. v.items) found ≡ chosen_from 0 all.now) }
 {

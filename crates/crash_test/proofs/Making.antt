@@ -3,7 +3,7 @@ use Rattle.std.proofs.Common.{◌≡◌, ◌⊎◌, ℕ, ◌<◌, ◌≤◌, Lis
 use Rattle.std.proofs.lemmas.Bool.{cases_lt}
 use Rattle.std.proofs.lemmas.List.FromFn.{length-map-range_with_len}
 use Rattle.hart.specs.Effect.{start}
-use Rattle.machine.specs.Stands.{IsThere, MachineView, Runs, Stands}
+use Rattle.machine.specs.Represents.{IsThere, MachineView, Runs, Represents}
 use Rattle.machine.specs.Stops.{StopsAt}
 use Rattle.machine.specs.declared.fault.RunStop.{RunStop}
 use Rattle.recording.proofs.Numbering.{all_among}
@@ -25,11 +25,11 @@ is_within s harts lines =
     record { some_harts = few.0; few_harts = few.1; some_lines = bounded.0; few_lines = bounded.1 }
 
 -- a machine at the start has as many harts as its setup says
-harts_of : (s : Setup) (machine : MachineView) → Stands machine (start_of s) → length machine.harts ≡ s.harts
+harts_of : (s : Setup) (machine : MachineView) → Represents machine (start_of s) → length machine.harts ≡ s.harts
 harts_of s machine stands = ap length stands.harts ∙ length-map-range_with_len start 0 s.harts
 
 -- what is there for a machine at the start is there for its setup
-pub are_there : (s : Setup) (machine : MachineView) (steps : List Step) → Stands machine (start_of s)
+pub are_there : (s : Setup) (machine : MachineView) (steps : List Step) → Represents machine (start_of s)
     → length machine.shared.cache.lines ≡ length s.medium → All (IsThere machine) steps → AreThere s steps
 are_there s machine steps stands lines there =
     all_among machine s.harts (length s.medium) steps (sym (harts_of s machine stands)) (sym lines) there
@@ -37,13 +37,13 @@ are_there s machine steps stands lines there =
 has_made : (s : Setup) (steps : List Step) (old new : MachineView) → IsAtStart s old → Runs old new steps
     → length new.shared.trace ≤ 65536 → HasMade s steps new
 has_made s steps old new at runs few =
-    let made = runs.stands (start_of s) at.stands in
+    let made = runs.represents (start_of s) at.represents in
     record {
       within = at.within;
-      there = are_there s old steps at.stands (ap length at.lines) runs.there;
+      there = are_there s old steps at.represents (ap length at.lines) runs.there;
       end = made.0;
       run = made.1;
-      stands = made.2;
+      represents = made.2;
       lines = runs.lines ∙ ap length at.lines;
       few = few;
     }
@@ -57,8 +57,8 @@ pub stops_at : (s : Setup) (schedule : List Item) (old new : MachineView) (stop 
     → StopsAt old new schedule stop → length new.shared.trace ≤ 65536 → FailsToRun s schedule stop.fault
 stops_at s schedule old new stop at stops few = inr (inr (record {
   machine = new;
-  item = stop.item;
-  steps = stop.steps;
+  item = stop.place.item;
+  steps = stop.place.steps;
   has_made = has_made s _ old new at stops.runs few;
   refused = stops.refused;
 }))

@@ -5,9 +5,9 @@ use Rattle.std.proofs.lemmas.Option.{slice_get-get_or}
 use Rattle.line_memory.specs.Lines.{line_bytes}
 use Rattle.line_memory.specs.Regions.{RamView, padded, ram_bytes}
 use Rattle.line_memory.specs.declared.TheConstants.{DATA_SIZE, PERSISTENT_BASE, TEXT_SIZE}
-use Rattle.object.specs.Sections.{Sections}
+use Rattle.program.specs.Sections.{Sections}
 use Rattle.program.specs.Loading.{Loads, zero_filled}
-use Rattle.shared_memory.specs.Served.{starting_memory}
+use Rattle.shared_memory.specs.Replies.{starting_memory}
 use Rattle.asm_names.specs.declared.kinds.Section.{Section}
 use Rattle.asm_names.specs.declared.kinds.Section.TheVariants.{Text, Data}
 use Rattle.assemble.specs.Assembly.{AreBytesOf, Assembles, bytes_in, lines_back, values_of}

@@ -18,17 +18,17 @@ sides low n high = elim (cases_lt n low) [
 refuses_step : (s : Setup) (schedule : List Item) (stop : RunStop) → IsWithin s
     → StopsMachine (start_of s) (length s.medium) schedule stop → RefusesStep s schedule stop.fault
 refuses_step s schedule stop within stops =
-    let made = stops.stops.runs.stands (start_of s) stops.stands in
+    let made = stops.stops.runs.represents (start_of s) stops.represents in
     record {
       machine = stops.new;
-      item = stop.item;
-      steps = stop.steps;
+      item = stop.place.item;
+      steps = stop.place.steps;
       has_made = record {
         within = within;
-        there = are_there s stops.old _ stops.stands stops.lines stops.stops.runs.there;
+        there = are_there s stops.old _ stops.represents stops.lines stops.stops.runs.there;
         end = made.0;
         run = made.1;
-        stands = made.2;
+        represents = made.2;
         lines = stops.stops.runs.lines ∙ stops.lines;
         few = stops.few;
       };

@@ -1,4 +1,4 @@
--- What a pass says of the machine: it stands for a cut of the run's events, whatever its cache did.
+-- What a pass says of the machine: it represents a cut of the run's events, whatever its cache did.
 use Rattle.std.proofs.Common.{◌≡◌, ℕ, ◌+◌, ◌≤◌, List, [], ◌∷◌, ◌++◌, Option, length, take, refl, sym, ap, ◌∙◌, arith}
 use Rattle.std.proofs.lemmas.List.{length-append}
 use Rattle.crash_model.specs.Cut.{IsCutImage}

@@ -21,7 +21,7 @@ use Rattle.hart.specs.declared.state.Status.{Status}
 use Rattle.hart.specs.declared.state.Status.TheVariants.{Running, Exited, Trapped}
 use Rattle.machine.proofs.Determined.{runs_once}
 use Rattle.machine.specs.Run.{Config, HartSteps, HartStepsIfThere, Meets, RunsTo, fetched_by}
-use Rattle.machine.specs.Stands.{MachineView}
+use Rattle.machine.specs.Represents.{MachineView}
 use Rattle.recording.specs.Recorded.{RecordedView, Records}
 use Rattle.schedule.specs.Steps.{all_steps}
 use Rattle.schedule.specs.declared.items.Step.{Step}
@@ -190,15 +190,15 @@ is_run_of s steps recorded run few lines =
           there = there;
           end = end;
           run = run.records.runs;
-          stands = left.stands;
+          represents = left.represents;
           lines = ap (λ (l : List (List ℕ)). length l) (sym left.lines) ∙ lines ∙ ap (λ (l : List (List ℕ)). length l) run.start;
-          few = rw (left.stands.shared.trace ∙ sym run.records.trace) few;
+          few = rw (left.represents.shared.trace ∙ sym run.records.trace) few;
         };
         capacity = left.capacity_is ∙ run.capacity;
       };
       left = left.lines;
       replayed = λ other made. (
-        made.has_made.stands.harts ∙ ap (λ (c : Config). c.harts) (ends other made) ∙ sym run.records.harts,
-        made.has_made.stands.shared.trace ∙ ap (λ (c : Config). c.common.trace) (ends other made) ∙ sym run.records.trace,
+        made.has_made.represents.harts ∙ ap (λ (c : Config). c.harts) (ends other made) ∙ sym run.records.harts,
+        made.has_made.represents.shared.trace ∙ ap (λ (c : Config). c.common.trace) (ends other made) ∙ sym run.records.trace,
       );
     }

@@ -10,7 +10,7 @@ use Rattle.image_check.specs.declared.fault.CheckFault.TheVariants as checked
 use Rattle.image_check.specs.declared.fault.OpFault.{OpFault}
 use Rattle.machine.specs.Evicting.{hart_steps}
 use Rattle.machine.specs.Run.{Config, RunsTo}
-use Rattle.machine.specs.Stands.{MachineView, Stands}
+use Rattle.machine.specs.Represents.{MachineView, Represents}
 use Rattle.moment_verdict.specs.declared.verdict.Verdict.{Verdict}
 use Rattle.nova_log.specs.Volumes.{volume_of}
 use Rattle.parallel_moments.specs.Rows.{end_of}
@@ -54,7 +54,7 @@ pub record Recovers (plan : List Operation) (start : List (List ℕ)) (events : 
 -- what a power cut leaves of it recovers to a legal volume.
 abbrev pub SurvivesPowerCuts : List Operation → Setup → List Item → Type 0
 SurvivesPowerCuts plan s schedule = (machine : MachineView) (end : Config) (steps rest : List Step)
-    → RunsTo (start_of s) steps end → hart_steps (all_steps schedule) ≡ hart_steps steps ++ hart_steps rest → Stands machine end
+    → RunsTo (start_of s) steps end → hart_steps (all_steps schedule) ≡ hart_steps steps ++ hart_steps rest → Represents machine end
     → Recovers plan s.medium end.common.trace machine.shared.cache.lines
 
 -- the fault is that of the run's first wrong mark

@@ -7,10 +7,11 @@ use Rattle.cut_schedule.specs.Explains.{Explains}
 use Rattle.image_name.specs.declared.name.ImageName.{ImageName}
 use Rattle.recording.specs.Recorded.{RecordedView, Records}
 use Rattle.machine.specs.Run.{Config, RunsTo}
-use Rattle.machine.specs.Stands.{MachineView, Stands}
+use Rattle.machine.specs.Represents.{MachineView, Represents}
 use Rattle.schedule.specs.Steps.{all_steps}
 use Rattle.schedule.specs.declared.items.Item.{Item}
-use Rattle.shared_memory.specs.Persisted.{AreAmong, touched}
+use Rattle.clean_fence.specs.Represents.{AreAmong}
+use Rattle.shared_memory.specs.Persisted.{touched}
 use Rattle.shared_memory.specs.declared.fault.StepFault.{StepFault}
 use Rattle.shared_memory.specs.declared.fault.StepFault.TheVariants as refused
 use Rattle.store_trace.specs.History.{at_moment}
@@ -43,7 +44,7 @@ pub record IsRecorded (s : Setup) (schedule : List Item) (recorded : RecordedVie
 -- Where a run from the start has come to `end`, and the cache had room for every line that was loaded or stored, a power
 -- cut leaves these lines.
 abbrev pub LeavesAt : Config → List (List ℕ) → Type 0
-LeavesAt end left = (machine : MachineView) (lines : List ℕ) → Stands machine end → length lines ≤ machine.shared.cache.cache.capacity
+LeavesAt end left = (machine : MachineView) (lines : List ℕ) → Represents machine end → length lines ≤ machine.shared.cache.cache.capacity
     → AreAmong (touched end.common.history) lines → machine.shared.cache.lines ≡ left
 
 -- An explanation of an image of the run by a schedule: a schedule that explains the cut of its name, so that the run by it

@@ -2,8 +2,8 @@
 use Rattle.std.specs.List.{starts_with}
 use Rattle.std.specs.Prelude.{◌≡◌, ℕ, Bool, true, false, nat_eq, List}
 use Rattle.assemble.specs.Assembly.{Assembles, IsFirstFault}
-use Rattle.object.specs.ObjectFile.{IsObjectFile, magic, IsFirstFault as IsFirstFileFault}
-use Rattle.object.specs.Sections.{Sections}
+use Rattle.program.specs.ObjectFile.{IsObjectFile, magic, IsFirstFault as IsFirstFileFault}
+use Rattle.program.specs.Sections.{Sections}
 use Rattle.program.specs.Loading.{Loads}
 use Rattle.crash_test.specs.declared.loading.ProgramFault.{ProgramFault}
 use Rattle.crash_test.specs.declared.loading.ProgramFault.TheVariants.{Assembly, Object, Memory}

@@ -9,10 +9,10 @@ use Rattle.hart.specs.declared.state.HartState.{HartState}
 use Rattle.hart.specs.declared.state.Status.TheVariants.{Running}
 use Rattle.machine.specs.Refusals.{RefusesNext}
 use Rattle.machine.specs.Run.{Config, RunsTo, started}
-use Rattle.machine.specs.Stands.{MachineView, Stands}
-use Rattle.machine.specs.Stops.{steps_before, steps_of_item}
-use Rattle.object.specs.Sections.{Sections}
+use Rattle.machine.specs.Represents.{MachineView, Represents}
+use Rattle.program.specs.Sections.{Sections}
 use Rattle.recording.specs.Recorded.{IsAmong, RecordedView, Records}
+use Rattle.schedule.specs.Places.{steps_before, steps_of_item}
 use Rattle.schedule.specs.Steps.{all_steps}
 use Rattle.schedule.specs.declared.items.Item.{Item}
 use Rattle.schedule.specs.declared.items.Step.{Step}
@@ -58,7 +58,7 @@ IsOutside s Memory = ⊥
 -- a machine of the setup that has made no step
 pub record IsAtStart (s : Setup) (machine : MachineView) : Type 0 where
   pub within : IsWithin s
-  pub stands : Stands machine (start_of s)
+  pub represents : Represents machine (start_of s)
   pub lines : machine.shared.cache.lines ≡ s.medium
   pub capacity : machine.shared.cache.cache.capacity ≡ s.capacity
 
@@ -70,13 +70,13 @@ FailsToStart s fault = (fault ≡ Memory) ⊎ IsOutside s fault
 abbrev pub AreThere : Setup → List Step → Type 0
 AreThere s steps = All (IsAmong s.harts (length s.medium)) steps
 
--- a machine that stands for what these steps, each of which is there, make of the start: 65,536 events at most
+-- a machine that represents what these steps, each of which is there, make of the start: 65,536 events at most
 pub record HasMade (s : Setup) (steps : List Step) (machine : MachineView) : Type 0 where
   pub within : IsWithin s
   pub there : AreThere s steps
   pub end : Config
   pub run : RunsTo (start_of s) steps end
-  pub stands : Stands machine end
+  pub represents : Represents machine end
   pub lines : length machine.shared.cache.lines ≡ length s.medium
   pub few : length machine.shared.trace ≤ 65536
 

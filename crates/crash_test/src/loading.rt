@@ -1,13 +1,12 @@
 //! From a program's file to the program.
 
-ghost use Rattle.shared_memory.specs.Served.{starting_memory};
+ghost use Rattle.shared_memory.specs.Replies.{starting_memory};
 ghost use Rattle.std.specs.Prelude.{◌≡◌, IfErr, IfOk, List, false, true, ℕ};
 ghost use Rattle.crash_test.specs.Places.{HoldsSource};
 ghost use Rattle.crash_test.specs.Programs.{IsLoadFault, IsObjectOf, IsProgramOf, begins_as_object};
 
 use assemble::{AsmCode, AsmFault, assemble};
-use object::{LoadFault, MAGIC, Object};
-use program::{Program, load};
+use program::{LoadFault, MAGIC, Object, Program, load};
 use std::alloc::Global;
 use thiserror::Error;
 

@@ -13,8 +13,8 @@ use isa_table::FieldFault;
 use line_memory::{MediumFault, MemFault};
 use machine::RunStop;
 use nova_log::VolumeFault;
-use object::LoadFault;
 use plan::{PlanCode, PlanFault};
+use program::LoadFault;
 use schedule::ScheduleFault;
 use shared_memory::StepFault;
 use store_trace::TraceFault;
@@ -84,16 +84,14 @@ static STEPS: [(StepFault, &str); 5] = [
 static STOPS: [(RunStop, &str); 2] = [
     (
         RunStop {
-            item: 3,
-            steps: 7,
+            place: Place { item: 3, steps: 7 },
             fault: StepFault::NoSuchLine,
         },
         "G2",
     ),
     (
         RunStop {
-            item: 0,
-            steps: 0,
+            place: Place { item: 0, steps: 0 },
             fault: StepFault::OutOfLimits,
         },
         "G6",

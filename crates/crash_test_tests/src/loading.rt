@@ -2,7 +2,7 @@
 
 use assemble::{AsmCode, AsmFault};
 use crash_test::{ProgramFault, load_program};
-use object::LoadFault;
+use program::LoadFault;
 use std::alloc::Global;
 
 /// An object whose text is the word of `addi x1, x0, 5`.

@@ -4,7 +4,7 @@ use assemble::{AsmCode, AsmFault};
 use crash_test::{CountFault, ExplainFault, ProgramFault, VerdictFault};
 use image_check::OpFault;
 use machine::StepFault;
-use object::LoadFault;
+use program::LoadFault;
 use std::alloc::Global;
 use std::fmt::Display;
 

@@ -12,9 +12,9 @@ use Rattle.schedule.specs.declared.items.Step.TheVariants.{Hart, Evict}
 use Rattle.store_trace.specs.History.{history}
 use Rattle.store_trace.specs.declared.event.Event.{Event}
 use Rattle.shared_memory.specs.Persisted.{persisted}
-use Rattle.shared_memory.specs.Served.{events_of, reply_after}
+use Rattle.shared_memory.specs.Replies.{events_of, reply_after}
 use Rattle.shared_memory.specs.declared.history.Entry.{Entry}
-use Rattle.shared_memory.proofs.CacheCalls.{history_more}
+use Rattle.shared_memory.proofs.Stepping.{history_more}
 use Rattle.machine.specs.Evicting.{hart_steps}
 use Rattle.machine.specs.Run.{Config, HartSteps, HartStepsIfThere, Meets, RunsTo, StepsTo, fetched_by}
 

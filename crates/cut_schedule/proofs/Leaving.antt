@@ -10,45 +10,45 @@ use Rattle.crash_model.proofs.Images.{image_from_lines}
 use Rattle.crash_model.proofs.Lines.{within_from_cut}
 use Rattle.clean_fence.proofs.Views.{leaves_cut as cache_leaves_cut}
 use Rattle.clean_fence.specs.Rules.{PmView}
-use Rattle.clean_fence.specs.Stands.{Stands as CacheStands}
+use Rattle.clean_fence.specs.Represents.{AreAmong, Represents as CacheRepresents}
 use Rattle.std.proofs.lemmas.List.Elements.{All-take}
 use Rattle.shared_memory.proofs.Shown.{leaves_cut}
 use Rattle.store_trace.specs.History.{at_moment, history}
 use Rattle.store_trace.specs.TraceView.{NamesLine}
 use Rattle.crash_image.proofs.Stored.{cut_below}
 use Rattle.schedule.specs.declared.items.Step.{Step}
-use Rattle.shared_memory.specs.Persisted.{AreAmong, persisted, touched}
+use Rattle.shared_memory.specs.Persisted.{persisted, touched}
 use Rattle.machine.specs.Evicting.{hart_steps}
 use Rattle.recording.specs.Recorded.{RecordedView, Records}
 use Rattle.machine.specs.Run.{Config, started}
-use Rattle.machine.specs.Stands.{MachineView, Stands}
+use Rattle.machine.specs.Represents.{MachineView, Represents}
 use Rattle.cut_schedule.specs.Explains.{Explains, Leaves, steps_by}
 use Rattle.cut_schedule.specs.Walking.{Follows, IsStart}
 use Rattle.cut_schedule.proofs.Following.{split_in_time}
 use Rattle.cut_schedule.proofs.HartRuns.{run_start}
 use Rattle.cut_schedule.proofs.RunFrom.{first_runs}
 
--- the medium behind the cache of a machine is the image of a cut of the events of what it stands for
-pub leaves_a_cut : (machine : MachineView) (c : Config) → Stands machine c
+-- the medium behind the cache of a machine is the image of a cut of the events of what it represents
+pub leaves_a_cut : (machine : MachineView) (c : Config) → Represents machine c
     → IsCutImage c.common.start (history c.common.trace) machine.shared.cache.lines
 leaves_a_cut machine c stands =
     leaves_cut machine.shared machine.shared.cache.lines (λ start p. cache_leaves_cut start p machine.shared.cache) c.common stands.shared
 
--- the medium behind a cache that stands for the steps of a cut's schedule is the cut's image
+-- the medium behind a cache that represents the steps of a cut's schedule is the cut's image
 image_left : (start : List (List ℕ)) (p : List PersistenceStep) (cut : List (ℕ × ℕ)) (cache : PmView) → IsCut p cut
-    → CacheStands start (explained (number_in cut) p) cache → cache.lines ≡ image start (number_in cut) p
+    → CacheRepresents start (explained (number_in cut) p) cache → cache.lines ≡ image start (number_in cut) p
 image_left start p cut cache is s =
     image_from_lines start (λ l. written_back l (explained (number_in cut) p)) (explained (number_in cut) p) cache.lines s.count
     (λ l b. (s.each l b).medium)
     ∙ explained_image start p (number_in cut) (within_from_cut p cut is)
 
 machine_left : (c d : Config) (p : List PersistenceStep) (cut : List (ℕ × ℕ)) (machine : MachineView) (lines : List ℕ) → IsCut p cut
-    → persisted d.common.history ≡ explained (number_in cut) p → d.common.start ≡ c.common.start → Stands machine d
+    → persisted d.common.history ≡ explained (number_in cut) p → d.common.start ≡ c.common.start → Represents machine d
     → length lines ≤ machine.shared.cache.cache.capacity → AreAmong (touched d.common.history) lines
     → machine.shared.cache.lines ≡ image c.common.start (number_in cut) p
 machine_left c d p cut machine lines is steps start stands few among =
     let cached = stands.shared.unforced lines few among in
-    image_left c.common.start p cut machine.shared.cache is (rw (steps, start) at cached.stands)
+    image_left c.common.start p cut machine.shared.cache is (rw (steps, start) at cached.represents)
 
 leaves_from : (c : Config) (recorded : RecordedView) (moment : ℕ) (cut : List (ℕ × ℕ)) (steps : List Step)
     → IsCut (at_moment recorded.trace moment) cut → Records c recorded → IsStart c

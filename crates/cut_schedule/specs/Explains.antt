@@ -8,15 +8,16 @@ use Rattle.crash_model.specs.WrittenBack.{written_back}
 use Rattle.store_trace.specs.History.{at_moment}
 use Rattle.store_trace.specs.declared.event.Event.{Event}
 use Rattle.store_trace.specs.declared.event.Event.TheVariants.{Store, Clean, Fence, Begin, End}
-use Rattle.object.specs.Sections.{Sections}
+use Rattle.program.specs.Sections.{Sections}
 use Rattle.schedule.specs.Steps.{all_steps}
 use Rattle.schedule.specs.declared.items.Step.{Step}
 use Rattle.schedule.specs.declared.items.Step.TheVariants.{Evict}
-use Rattle.shared_memory.specs.Persisted.{AreAmong, persisted, touched}
+use Rattle.clean_fence.specs.Represents.{AreAmong}
+use Rattle.shared_memory.specs.Persisted.{persisted, touched}
 use Rattle.machine.specs.Evicting.{hart_steps}
 use Rattle.recording.specs.Recorded.{RecordedView, Records}
 use Rattle.machine.specs.Run.{Config, RunsTo, started}
-use Rattle.machine.specs.Stands.{MachineView, Stands}
+use Rattle.machine.specs.Represents.{MachineView, Represents}
 
 -- how many hart steps are made by a moment: those through the moment's last event
 abbrev pub steps_by : List ℕ → ℕ → ℕ
@@ -53,7 +54,7 @@ pub record Leaves (c : Config) (recorded : RecordedView) (moment : ℕ) (cut : L
   pub trace : end.common.trace ≡ take moment recorded.trace
   pub persisted_is : persisted end.common.history ≡ explained (number_in cut) (at_moment recorded.trace moment)
   pub written : (l : ℕ) → written_back l (persisted end.common.history) ≡ number_in cut l
-  pub left : (machine : MachineView) (lines : List ℕ) → Stands machine end →
+  pub left : (machine : MachineView) (lines : List ℕ) → Represents machine end →
       length lines ≤ machine.shared.cache.cache.capacity → AreAmong (touched end.common.history) lines →
       machine.shared.cache.lines ≡ image c.common.start (number_in cut) (at_moment recorded.trace moment)
 

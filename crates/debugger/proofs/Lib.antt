@@ -1,5 +1,5 @@
+pub mod Causes
 pub mod Ends
 pub mod Places
-pub mod Quiet
 pub mod Walking
 pub mod Watching

@@ -1,5 +1,5 @@
 -- What a hart's next instruction asks for, and what a step is watched for.
-use Rattle.std.proofs.Common.{◌≡◌, ℕ, List, [], ◌∷◌, Bool, true, false, Option, Some, None, slice_get, refl, sym, ap, ◌∙◌}
+use Rattle.std.proofs.Common.{◌≡◌, ℕ, List, [], ◌∷◌, true, false, Option, Some, None, slice_get, refl, sym, ap, ◌∙◌}
 use Rattle.line_memory.specs.Memory.{Memory}
 use Rattle.hart.specs.Needs.{Needs}
 use Rattle.hart.specs.declared.state.HartState.{HartState}
@@ -15,9 +15,9 @@ use Rattle.machine.specs.declared.machine.Outcome.{Outcome}
 use Rattle.machine.specs.declared.machine.Outcome.TheVariants as outcomes
 use Rattle.machine.specs.Outcomes.{hart_outcome, outcome_after, outcome_between}
 use Rattle.machine.specs.Run.{fetched}
-use Rattle.machine.specs.Stands.{IsRunning, MachineView, NeedsAt, Runs, copy_of}
+use Rattle.machine.specs.Represents.{IsRunning, MachineView, NeedsAt, Runs, copy_of}
 use Rattle.machine.proofs.Determined.{needs_once}
-use Rattle.debugger.specs.Points.{has_watch}
+use Rattle.debugger.specs.Points.{DebuggerView, has_watch}
 use Rattle.debugger.specs.StopPoint.{Accesses, IsAtBreak, Touches, touched_line}
 use Rattle.debugger.specs.Walks.{AsksFor, AsksForWatched, IsStoppedBehind, IsUnbroken, WatchesOn, met_by}
 use Rattle.debugger.specs.declared.points.Point.{Point}
@@ -92,9 +92,9 @@ unwatched_line points state text line only off = λ other a on.
 same_hart : (step : Step) (h hart : ℕ) → step ≡ Hart h → step ≡ Hart hart → hart ≡ h
 same_hart step h hart a b = cc
 
-pub unbroken_hart : (points : List Point) (moved : Bool) (harts : List HartState) (step : Step) (h : ℕ) → step ≡ Hart h
-    → ((pc : ℕ) → IsAtBreak points (slice_get harts h) pc → ⊥) → IsUnbroken points moved harts step
-unbroken_hart points moved harts step h is none = λ on hart pc other b.
+pub unbroken_hart : (points : List Point) (harts : List HartState) (step : Step) (h : ℕ) → step ≡ Hart h
+    → ((pc : ℕ) → IsAtBreak points (slice_get harts h) pc → ⊥) → IsUnbroken points harts step
+unbroken_hart points harts step h is none = λ hart pc other b.
     let same : hart ≡ h = same_hart step h hart is other in none pc (rw same at b)
 
 pub unwatched_hart : (points : List Point) (m : MachineView) (step : Step) (h : ℕ) → step ≡ Hart h
@@ -138,34 +138,39 @@ touch_done points old new step outcome hart line is told t =
     told ∙ outcome_alike old.harts new.harts step hart is
     ∙ runs_done (slice_get old.harts hart) (slice_get new.harts hart) t.accesses.hart t.accesses.there t.accesses.running t.goes_on
 
-untouched_else : (points : List Point) (old new : MachineView) (step : Step) (outcome : Outcome) → Runs old new (step ∷ [])
-    → outcome ≡ outcome_after old.harts new.harts step → (outcome ≡ outcomes.Done → ⊥) → IsStoppedBehind points old new step None
-untouched_else points old new step outcome runs told other = record {
-  runs = runs;
-  untouched = λ hart line is t. other (touch_done points old new step outcome hart line is told t);
-}
+module _ (old new : DebuggerView) (step : Step) (points : new.points ≡ old.points) (runs : Runs old.machine new.machine (step ∷ [])) where
+  untouched_else : (outcome : Outcome) → outcome ≡ outcome_after old.machine.harts new.machine.harts step → (outcome ≡ outcomes.Done → ⊥)
+      → IsStoppedBehind old step new None
+  untouched_else outcome told other = record {
+    points = points;
+    runs = runs;
+    untouched = λ hart line is t. other (touch_done old.points old.machine new.machine step outcome hart line is told t);
+  }
 
-pub stopped_behind : (points : List Point) (old new : MachineView) (step : Step) (watch : Option Cause) (outcome : Outcome)
-    → WatchesOn points old step watch → Runs old new (step ∷ []) → outcome ≡ outcome_after old.harts new.harts step
-    → IsStoppedBehind points old new step (met_by watch outcome)
-stopped_behind points old new step None outcomes.Done w runs told = record {
-  runs = runs;
-  untouched = λ hart line is t. w hart line is t.accesses t.watched;
-}
-stopped_behind points old new step (Some (causes.Watch hart line)) outcomes.Done w runs told = record {
-  runs = runs;
-  is_hart = w.0;
-  touches = record {
-    accesses = w.1;
-    goes_on = done_runs (slice_get old.harts hart) (slice_get new.harts hart) (told ∙ outcome_alike old.harts new.harts step hart w.0);
-    watched = w.2;
-  };
-}
-stopped_behind points old new step (Some (causes.Break hart pc)) outcomes.Done w runs told = absurd w
-stopped_behind points old new step (Some causes.End) outcomes.Done w runs told = absurd w
-stopped_behind points old new step watch (outcomes.Exited code) w runs told =
-    untouched_else points old new step (outcomes.Exited code) runs told (λ e. cc)
-stopped_behind points old new step watch (outcomes.Trapped trap) w runs told =
-    untouched_else points old new step (outcomes.Trapped trap) runs told (λ e. cc)
-stopped_behind points old new step watch outcomes.Stopped w runs told =
-    untouched_else points old new step outcomes.Stopped runs told (λ e. cc)
+  pub stopped_behind : (watch : Option Cause) (outcome : Outcome) → WatchesOn old.points old.machine step watch
+      → outcome ≡ outcome_after old.machine.harts new.machine.harts step → IsStoppedBehind old step new (met_by watch outcome)
+  stopped_behind None outcomes.Done w told = record {
+    points = points;
+    runs = runs;
+    untouched = λ hart line is t. w hart line is t.accesses t.watched;
+  }
+  stopped_behind (Some (causes.Watch hart line)) outcomes.Done w told = record {
+    points = points;
+    runs = runs;
+    is_hart = w.0;
+    touches = record {
+      accesses = w.1;
+      goes_on = done_runs (slice_get old.machine.harts hart) (slice_get new.machine.harts hart)
+          (told ∙ outcome_alike old.machine.harts new.machine.harts step hart w.0);
+      watched = w.2;
+    };
+  }
+  stopped_behind (Some (causes.Break hart pc)) outcomes.Done w told = absurd w
+  stopped_behind (Some causes.End) outcomes.Done w told = absurd w
+  stopped_behind watch (outcomes.Exited code) w told = untouched_else (outcomes.Exited code) told (λ e. cc)
+  stopped_behind watch (outcomes.Trapped trap) w told = untouched_else (outcomes.Trapped trap) told (λ e. cc)
+  stopped_behind watch outcomes.Stopped w told = untouched_else outcomes.Stopped told (λ e. cc)
+
+  pub stopped_by : (watch found : Option Cause) (outcome : Outcome) → WatchesOn old.points old.machine step watch
+      → outcome ≡ outcome_after old.machine.harts new.machine.harts step → found ≡ met_by watch outcome → IsStoppedBehind old step new found
+  stopped_by watch found outcome w told e = rw e (stopped_behind watch outcome w told)

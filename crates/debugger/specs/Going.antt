@@ -1,41 +1,29 @@
 -- What `go` does: the steps from a place in a schedule on, up to their stop point or to the first that is refused.
-use Rattle.std.specs.Prelude.{◌≡◌, ◌<◌, ◌≤◌, ◌++◌, ℕ, suc, List, drop, length, slice_get, take}
+use Rattle.std.specs.Prelude.{◌<◌, ◌+◌, ◌≡◌, ℕ, List, Result, Ok, Err, length, slice_get, take}
 use Rattle.machine.specs.Refusals.{Refuses, RefusesNext}
 use Rattle.machine.specs.Run.{Config}
-use Rattle.machine.specs.Stands.{MachineView, Runs, Stands}
-use Rattle.machine.specs.Stops.{steps_before, steps_of_item}
-use Rattle.schedule.specs.Steps.{all_steps}
+use Rattle.machine.specs.Represents.{MachineView, Runs, Represents}
+use Rattle.schedule.specs.Places.{IsPlaceOf, IsReached, steps_after, steps_of_item}
 use Rattle.schedule.specs.declared.items.Item.{Item}
 use Rattle.schedule.specs.declared.items.Step.{Step}
+use Rattle.schedule.specs.declared.place.Place.{Place}
 use Rattle.shared_memory.specs.declared.fault.StepFault.{StepFault}
 use Rattle.debugger.specs.Points.{DebuggerView}
 use Rattle.debugger.specs.StopPoint.{HasCause, IsStopPoint}
 use Rattle.debugger.specs.declared.fault.DebugFault.{DebugFault}
 use Rattle.debugger.specs.declared.fault.DebugFault.TheVariants as faults
 use Rattle.debugger.specs.declared.stop.Cause.{Cause}
-use Rattle.debugger.specs.declared.stop.Place.{Place}
+use Rattle.debugger.specs.declared.stop.Cause.TheVariants as causes
+use Rattle.debugger.specs.declared.stop.Halt.{Halt}
+use Rattle.debugger.specs.declared.stop.Halt.TheVariants as halts
 use Rattle.debugger.specs.declared.stop.Stop.{Stop}
-
--- the steps from a place in a schedule on
-abbrev pub steps_after : List Item → Place → List Step
-steps_after items place = drop place.steps (steps_of_item (slice_get items place.item)) ++ all_steps (drop (suc place.item) items)
-
--- this number of steps lie between two places
-abbrev pub IsReached : List Item → Place → ℕ → Place → Type 0
-IsReached items from made place =
-    steps_before items place.item place.steps ≡ steps_before items from.item from.steps ++ take made (steps_after items from)
-
--- a place of the schedule: at one of its items, or behind the last, and behind no more steps than the item has
-pub record IsPlaceOf (items : List Item) (place : Place) : Type 0 where
-  pub item : place.item ≤ length items
-  pub steps : place.steps ≤ length (steps_of_item (slice_get items place.item))
 
 -- the steps up to the stop point are made, and no others; the place reached is behind them
 pub record GoesTo (old new : DebuggerView) (items : List Item) (from : Place) (stop : Stop) : Type 0 where
   pub made : ℕ
   pub points : new.points ≡ old.points
   pub runs : Runs old.machine new.machine (take made (steps_after items from))
-  pub stops : (c : Config) → Stands old.machine c → IsStopPoint old.points c (steps_after items from) made stop.cause
+  pub stops : (c : Config) → Represents old.machine c → IsStopPoint old.points c (steps_after items from) made stop.cause
   pub place : IsPlaceOf items stop.place
   pub reached : IsReached items from made stop.place
 
@@ -44,7 +32,7 @@ pub record GoesUpTo (old new : DebuggerView) (items : List Item) (from place : P
   pub made : ℕ
   pub points : new.points ≡ old.points
   pub runs : Runs old.machine new.machine (take made (steps_after items from))
-  pub goes_on : (c : Config) → Stands old.machine c → (k : ℕ) (cause : Cause) → k < made
+  pub goes_on : (c : Config) → Represents old.machine c → (k : ℕ) (cause : Cause) → k < made
       → ¬ (HasCause old.points c (steps_after items from) k cause)
   pub refused : RefusesNext new.machine (slice_get (steps_after items from) made) fault
   pub there : place.steps < length (steps_of_item (slice_get items place.item))
@@ -58,3 +46,15 @@ RefusesStep machine step fault = ⊥
 abbrev pub IsStoppedBy : DebuggerView → DebuggerView → List Item → Place → DebugFault → Type 0
 IsStoppedBy old new items from (faults.Stopped place fault) = GoesUpTo old new items from place fault
 IsStoppedBy old new items from fault = ⊥
+
+-- what `go` comes to where the debugger halts at the step of a place: a watched line stops it behind the step
+abbrev pub behind : Place → Place
+behind place = record place { steps = place.steps + 1 }
+
+abbrev pub stop_at : Place → Cause → Stop
+stop_at place (causes.Watch hart line) = record { cause = causes.Watch hart line; place = behind place }
+stop_at place cause = record { cause = cause; place = place }
+
+abbrev pub ended : Place → Halt → Result Stop DebugFault
+ended place (halts.Stop cause) = Ok (stop_at place cause)
+ended place (halts.Fault fault) = Err (faults.Stopped place fault)

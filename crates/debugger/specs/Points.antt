@@ -2,7 +2,7 @@
 use Rattle.std.specs.Prelude.{ℕ, ◌+◌, ◌*◌, ◌/◌, ◌%◌, ◌==◌, ◌&&◌, ◌++◌, List, [], ◌∷◌, Bool, false, not, filter, if◌then◌else◌, nat_le, nat_lt}
 use Rattle.std.specs.List.{list_any}
 use Rattle.line_memory.specs.declared.TheConstants.{TEXT_BASE, TEXT_SIZE}
-use Rattle.machine.specs.Stands.{MachineView}
+use Rattle.machine.specs.Represents.{MachineView}
 use Rattle.debugger.specs.declared.points.Point.{Point}
 use Rattle.debugger.specs.declared.points.Point.TheVariants.{Break, Watch}
 

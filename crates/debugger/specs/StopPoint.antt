@@ -11,7 +11,7 @@ use Rattle.schedule.specs.declared.items.Step.{Step}
 use Rattle.schedule.specs.declared.items.Step.TheVariants.{Hart}
 use Rattle.shared_memory.specs.Histories.{copied}
 use Rattle.machine.specs.Run.{Config, RunsTo, StepsTo, fetched}
-use Rattle.machine.specs.Stands.{IsRunning}
+use Rattle.machine.specs.Represents.{IsRunning}
 use Rattle.debugger.specs.Points.{has_break, has_watch, line_start}
 use Rattle.debugger.specs.declared.points.Point.{Point}
 use Rattle.debugger.specs.declared.stop.Cause.{Cause}

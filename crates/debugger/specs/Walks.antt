@@ -1,23 +1,21 @@
--- Steps that are made without a cause to stop, and how the steps of one item end.
-use Rattle.std.specs.Prelude.{◌≡◌, ◌+◌, ◌<◌, ℕ, List, [], ◌∷◌, Bool, true, false, Option, Some, None, IsTrue, slice_get, replicate}
+-- Steps that a debugger makes without a cause to stop, and how it halts at one.
+use Rattle.std.specs.Prelude.{◌≡◌, ℕ, List, [], ◌∷◌, Option, Some, None, IsTrue, slice_get}
 use Rattle.line_memory.specs.Memory.{Memory}
 use Rattle.hart.specs.declared.state.HartState.{HartState}
 use Rattle.schedule.specs.declared.items.Step.{Step}
-use Rattle.schedule.specs.declared.items.Step.TheVariants.{Hart, Evict}
-use Rattle.shared_memory.specs.declared.fault.StepFault.{StepFault}
+use Rattle.schedule.specs.declared.items.Step.TheVariants.{Hart}
 use Rattle.machine.specs.Refusals.{Refuses}
 use Rattle.machine.specs.Run.{Config, StepsTo}
 use Rattle.machine.specs.declared.machine.Outcome.{Outcome}
 use Rattle.machine.specs.declared.machine.Outcome.TheVariants.{Done}
-use Rattle.machine.specs.Stands.{MachineView, Runs, Stands, copy_of}
-use Rattle.machine.specs.Stops.{is_stopped}
-use Rattle.debugger.specs.Points.{has_watch}
+use Rattle.machine.specs.Represents.{MachineView, Runs, Represents, copy_of}
+use Rattle.debugger.specs.Points.{DebuggerView, has_watch}
 use Rattle.debugger.specs.StopPoint.{Accesses, IsAtBreak, Touches, text_at}
-use Rattle.debugger.specs.declared.going.ItemFault.{ItemFault}
-use Rattle.debugger.specs.declared.going.ItemStop.{ItemStop}
 use Rattle.debugger.specs.declared.points.Point.{Point}
 use Rattle.debugger.specs.declared.stop.Cause.{Cause}
 use Rattle.debugger.specs.declared.stop.Cause.TheVariants as causes
+use Rattle.debugger.specs.declared.stop.Halt.{Halt}
+use Rattle.debugger.specs.declared.stop.Halt.TheVariants as halts
 
 -- the line that a hart of this state asks for an access to, if it does
 abbrev pub AsksFor : Option HartState → Memory → Option ℕ → Type 0
@@ -42,33 +40,28 @@ abbrev pub IsBrokenAt : List Point → Option HartState → Option ℕ → Type 
 IsBrokenAt points state None = (pc : ℕ) → ¬ (IsAtBreak points state pc)
 IsBrokenAt points state (Some pc) = IsAtBreak points state pc
 
--- a breakpoint stops the run before a step, but only once the run has moved
-abbrev pub IsUnbroken : List Point → Bool → List HartState → Step → Type 0
-IsUnbroken points moved harts step =
-    moved ≡ true → (hart pc : ℕ) → step ≡ Hart hart → ¬ (IsAtBreak points (slice_get harts hart) pc)
+-- whether a breakpoint stops the run before a step
+abbrev pub IsUnbroken : List Point → List HartState → Step → Type 0
+IsUnbroken points harts step = (hart pc : ℕ) → step ≡ Hart hart → ¬ (IsAtBreak points (slice_get harts hart) pc)
 
-abbrev pub IsStoppedBefore : List Point → Bool → List HartState → Step → Option Cause → Type 0
-IsStoppedBefore points moved harts step None = IsUnbroken points moved harts step
-IsStoppedBefore points moved harts step (Some (causes.Break hart pc)) =
-    (moved ≡ true) × (step ≡ Hart hart) × IsAtBreak points (slice_get harts hart) pc
-IsStoppedBefore points moved harts step (Some cause) = ⊥
-
--- the step is one of a hart that has stopped
-abbrev pub rests : List HartState → Step → Bool
-rests harts (Hart hart) = is_stopped (slice_get harts hart)
-rests harts (Evict line) = false
+abbrev pub IsStoppedBefore : List Point → List HartState → Step → Option Cause → Type 0
+IsStoppedBefore points harts step None = IsUnbroken points harts step
+IsStoppedBefore points harts step (Some (causes.Break hart pc)) = (step ≡ Hart hart) × IsAtBreak points (slice_get harts hart) pc
+IsStoppedBefore points harts step (Some cause) = ⊥
 
 -- the step is made, and touches no watched line
-pub record StepsBy (points : List Point) (old new : MachineView) (step : Step) : Type 0 where
-  pub runs : Runs old new (step ∷ [])
-  pub untouched : (hart line : ℕ) → step ≡ Hart hart
-      → ¬ (Touches points (slice_get old.harts hart) (copy_of old hart) (slice_get new.harts hart) line)
+pub record StepsOn (old : DebuggerView) (step : Step) (new : DebuggerView) : Type 0 where
+  pub points : new.points ≡ old.points
+  pub runs : Runs old.machine new.machine (step ∷ [])
+  pub untouched : (hart line : ℕ) → step ≡ Hart hart → ¬ (Touches old.points (slice_get old.machine.harts hart)
+      (copy_of old.machine hart) (slice_get new.machine.harts hart) line)
 
 -- the step is made, and touches the watched line
-pub record StepsOnto (points : List Point) (old new : MachineView) (step : Step) (hart line : ℕ) : Type 0 where
-  pub runs : Runs old new (step ∷ [])
+pub record StepsOnto (old : DebuggerView) (step : Step) (new : DebuggerView) (hart line : ℕ) : Type 0 where
+  pub points : new.points ≡ old.points
+  pub runs : Runs old.machine new.machine (step ∷ [])
   pub is_hart : step ≡ Hart hart
-  pub touches : Touches points (slice_get old.harts hart) (copy_of old hart) (slice_get new.harts hart) line
+  pub touches : Touches old.points (slice_get old.machine.harts hart) (copy_of old.machine hart) (slice_get new.machine.harts hart) line
 
 -- what a step was watched for is met where its hart runs on
 abbrev pub met_by : Option Cause → Outcome → Option Cause
@@ -76,74 +69,36 @@ met_by watch Done = watch
 met_by watch outcome = None
 
 -- whether a watched line stops the run behind a step
-abbrev pub IsStoppedBehind : List Point → MachineView → MachineView → Step → Option Cause → Type 0
-IsStoppedBehind points old new step None = StepsBy points old new step
-IsStoppedBehind points old new step (Some (causes.Watch hart line)) = StepsOnto points old new step hart line
-IsStoppedBehind points old new step (Some cause) = ⊥
+abbrev pub IsStoppedBehind : DebuggerView → Step → DebuggerView → Option Cause → Type 0
+IsStoppedBehind old step new None = StepsOn old step new
+IsStoppedBehind old step new (Some (causes.Watch hart line)) = StepsOnto old step new hart line
+IsStoppedBehind old step new (Some cause) = ⊥
 
--- a run has moved behind the steps
-abbrev pub moved_by : Bool → List Step → Bool
-moved_by moved [] = moved
-moved_by moved (step ∷ steps) = true
+-- how a step halts that no breakpoint is asked about
+abbrev pub HaltsBehind : DebuggerView → Step → DebuggerView → Halt → Type 0
+HaltsBehind old step new (halts.Stop cause) = IsStoppedBehind old step new (Some cause)
+HaltsBehind old step new (halts.Fault fault) = (new ≡ old) × Refuses old.machine step fault
 
--- the step from c to d touches no watched line
-abbrev pub IsUntouched : List Point → Config → Step → Config → Type 0
-IsUntouched points c step d = (hart line : ℕ) → step ≡ Hart hart
-    → ¬ (Touches points (slice_get c.harts hart) (text_at c hart) (slice_get d.harts hart) line)
+-- and how one does before which a breakpoint stops
+abbrev pub Halts : DebuggerView → Step → DebuggerView → Halt → Type 0
+Halts old step new (halts.Stop (causes.Break hart pc)) =
+    (new ≡ old) × (step ≡ Hart hart) × IsAtBreak old.points (slice_get old.machine.harts hart) pc
+Halts old step new halt = IsUnbroken old.points old.machine.harts step × HaltsBehind old step new halt
 
--- the run from c by the steps comes to d with no cause to stop before its end
-abbrev pub Passes : List Point → Bool → Config → List Step → Config → Type 0
-Passes points moved c [] d = d ≡ c
-Passes points moved c (step ∷ steps) d = (middle : Config) × IsUnbroken points moved c.harts step × StepsTo c step middle
-    × IsUntouched points c step middle × Passes points true middle steps d
+-- the step leads from c to d, and touches no watched line
+pub record MovesTo (points : List Point) (c : Config) (step : Step) (d : Config) : Type 0 where
+  pub makes : StepsTo c step d
+  pub untouched : (hart line : ℕ) → step ≡ Hart hart
+      → ¬ (Touches points (slice_get c.harts hart) (text_at c hart) (slice_get d.harts hart) line)
 
--- so does a machine, whatever it stands for
-pub record Walks (points : List Point) (moved : Bool) (old new : MachineView) (steps : List Step) : Type 0 where
-  pub runs : Runs old new steps
-  pub passes : (c : Config) → Stands old c → (d : Config) × Passes points moved c steps d × Stands new d
+-- the run from c by the steps comes to d, with no breakpoint before a step and no watched line behind one
+abbrev pub Passes : List Point → Config → List Step → Config → Type 0
+Passes points c [] d = d ≡ c
+Passes points c (step ∷ steps) d =
+    (middle : Config) × IsUnbroken points c.harts step × MovesTo points c step middle × Passes points middle steps d
 
--- nothing stops the run before the step, and the step touches the watched line
-pub record HaltsAtWatch (points : List Point) (moved : Bool) (old new : MachineView) (step : Step) (hart line : ℕ) : Type 0 where
-  pub unbroken : IsUnbroken points moved old.harts step
-  pub onto : StepsOnto points old new step hart line
-
--- the step isn't made, since its hart is at the breakpoint
-pub record HaltsAtBreak (points : List Point) (moved : Bool) (old new : MachineView) (step : Step) (hart pc : ℕ) : Type 0 where
-  pub same : new ≡ old
-  pub has_moved : moved ≡ true
-  pub is_hart : step ≡ Hart hart
-  pub broken : IsAtBreak points (slice_get old.harts hart) pc
-
--- a step after as many as `made` of its item stops the run: before it by a breakpoint, or behind it by a watched line
-abbrev pub Halts : List Point → Bool → MachineView → MachineView → Step → ℕ → ℕ → Cause → Type 0
-Halts points moved old new step made steps (causes.Break hart pc) = HaltsAtBreak points moved old new step hart pc × (steps ≡ made)
-Halts points moved old new step made steps (causes.Watch hart line) =
-    HaltsAtWatch points moved old new step hart line × (steps ≡ made + 1)
-Halts points moved old new step made steps causes.End = ⊥
-
-abbrev pub IsAdvanced : List Point → Bool → MachineView → MachineView → Step → ℕ → Option ItemStop → Type 0
-IsAdvanced points moved old new step made None = Walks points moved old new (step ∷ [])
-IsAdvanced points moved old new step made (Some stop) = Halts points moved old new step made stop.steps stop.cause
-
--- a step is refused, which nothing stops before
-pub record IsHeldBy (points : List Point) (moved : Bool) (old new : MachineView) (step : Step) (fault : StepFault) : Type 0 where
-  pub same : new ≡ old
-  pub unbroken : IsUnbroken points moved old.harts step
-  pub refused : Refuses old step fault
-
--- of the equal steps of an item, numbered from `done` to below `count`, some are made, and the next one stops the run
-pub record HaltsWithin (points : List Point) (moved : Bool) (old new : MachineView) (step : Step) (done count : ℕ) (stop : ItemStop) : Type 0 where
-  pub made : ℕ
-  pub middle : MachineView
-  pub there : done + made < count
-  pub walks : Walks points moved old middle (replicate made step)
-  pub halts : Halts points (moved_by moved (replicate made step)) middle new step (done + made) stop.steps stop.cause
-
--- or the next one is refused
-pub record IsHeldWithin (points : List Point) (moved : Bool) (old new : MachineView) (step : Step) (done count : ℕ) (held : ItemFault) : Type 0 where
-  pub made : ℕ
-  pub middle : MachineView
-  pub there : done + made < count
-  pub walks : Walks points moved old middle (replicate made step)
-  pub refusal : IsHeldBy points (moved_by moved (replicate made step)) middle new step held.fault
-  pub steps : held.steps ≡ done + made
+-- so does a debugger, whatever its machine represents
+pub record Walks (old : DebuggerView) (steps : List Step) (new : DebuggerView) : Type 0 where
+  pub points : new.points ≡ old.points
+  pub runs : Runs old.machine new.machine steps
+  pub passes : (c : Config) → Represents old.machine c → (d : Config) × Passes old.points c steps d × Represents new.machine d

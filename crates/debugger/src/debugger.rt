@@ -3,7 +3,7 @@
 ghost use Rattle.std.specs.Prelude.{◌≡◌, ◌≤◌, ◌<◌, ◌+◌, ◌⊎◌, ◌↔◌, [], ◌∷◌, ◌++◌, None, IsSome, IsErr, IfOk, IfErr, OnOk, OnErr, false, true, length, slice_get};
 ghost use Rattle.machine.specs.Outcomes.{MakesEvent, outcome_after};
 ghost use Rattle.machine.specs.Refusals.{LacksHart};
-ghost use Rattle.machine.specs.Stands.{Runs};
+ghost use Rattle.machine.specs.Represents.{Runs};
 ghost use Rattle.shared_memory.specs.SharedView.{memory_of};
 ghost use Rattle.std.specs.List.{list_any};
 ghost use Rattle.debugger.specs.Going.{RefusesStep};

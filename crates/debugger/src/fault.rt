@@ -1,6 +1,6 @@
 //! Why a debugger can't do what it is asked.
 
-use crate::stop::Place;
+use schedule::Place;
 use shared_memory::StepFault;
 use thiserror::Error;
 

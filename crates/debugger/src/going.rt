@@ -1,29 +1,12 @@
 //! Going on by a schedule.
 
-ghost use Rattle.std.specs.Prelude.{◌≡◌, ◌<◌, ◌-◌, ◌||◌, MatchOption, IfOk, IfErr, length, nat_lt, replicate, slice_get};
-ghost use Rattle.machine.specs.Stops.{steps_of_item};
-ghost use Rattle.debugger.specs.Going.{GoesTo, IsStoppedBy};
-ghost use Rattle.debugger.specs.Walks.{HaltsWithin, IsHeldWithin, Walks};
+ghost use Rattle.std.specs.Prelude.{◌≡◌, ◌+◌, ◌<◌, ◌^◌, IfErr, IfOk, length};
+ghost use Rattle.debugger.specs.Going.{GoesTo, IsStoppedBy, ended, stop_at};
 
 use crate::debugger::Debugger;
 use crate::fault::DebugFault;
-use crate::stop::{Cause, Place, Stop};
-use schedule::{Item, Schedule, Step};
-use shared_memory::StepFault;
-
-/// A stop behind so many steps of an item.
-#[derive(Clone, Copy)]
-pub(crate) struct ItemStop {
-    pub(crate) steps: u32,
-    pub(crate) cause: Cause,
-}
-
-/// A step of an item that was refused, after as many as `steps` says.
-#[derive(Clone, Copy)]
-pub(crate) struct ItemFault {
-    pub(crate) steps: u32,
-    pub(crate) fault: StepFault,
-}
+use crate::stop::{Cause, Halt, Stop};
+use schedule::{Place, Schedule, next_step, walk};
 
 impl Debugger {
     /// Makes the steps of a schedule from a place on, one at least where there is one, up to the first after which a
@@ -36,95 +19,54 @@ impl Debugger {
         ensures ok { IfOk result (GoesTo self.old self.new schedule.now from) }
         ensures err { IfErr result (IsStoppedBy self.old self.new schedule.now from) }
     {
-        let items = schedule.items();
-        let mut steps = from.steps;
-        let mut moved = false;
-        for index in from.item..items.len() {
-            let (step, count) = equal_steps(items, index);
-            match self.go_on(step, steps, count, moved) {
-                Ok(None) => {}
-                Ok(Some(stop)) => return Ok(stop_at(index, stop)),
-                Err(held) => return Err(held_at(index, held)),
-            }
-            moved = has_moved(moved, steps, count);
-            steps = 0;
+        let Some((first, at)) = next_step(schedule, from) else {
+            return Ok(end_of(schedule));
+        };
+        // No breakpoint stops the run before its first step.
+        if let Err(halt) = self.make(first) {
+            return ended(at, halt);
         }
-        Ok(Stop {
-            cause: Cause::End,
-            place: Place {
-                item: items.len(),
-                steps: 0,
-            },
-        })
-    }
-
-    /// Makes the steps of one item from its step `done` on.
-    fn go_on(
-        &mut self,
-        step: Step,
-        done: u32,
-        count: u32,
-        mut moved: bool,
-    ) -> Result<Option<ItemStop>, ItemFault>
-        ensures points { self.new.points ≡ self.old.points }
-        ensures ok { IfOk result (λ found. MatchOption found
-            (Walks self.old.points moved self.old.machine self.new.machine (replicate (count - done) step))
-            (HaltsWithin self.old.points moved self.old.machine self.new.machine step done count)) }
-        ensures err { IfErr result (IsHeldWithin self.old.points moved self.old.machine self.new.machine step done count) }
-    {
-        for made in done..count {
-            if self.rests(step) {
-                // A hart that stopped changes nothing by the steps that are left, and no point stops before or behind them.
-                return Ok(None);
-            }
-            match self.advance(step, moved, made) {
-                Ok(None) => moved = true,
-                Ok(Some(stop)) => return Ok(Some(stop)),
-                Err(fault) => return Err(ItemFault { steps: made, fault }),
-            }
+        match walk(self, schedule, at.behind()) {
+            Ok(()) => Ok(end_of(schedule)),
+            Err(halted) => ended(halted.place, halted.halt),
         }
-        Ok(None)
     }
 }
 
-/// The step of which an item consists, and how often it makes it.
-fn equal_steps(items: &[Item], index: usize) -> (Step, u32)
-    requires { index < length items.now }
-    ensures { steps_of_item (slice_get items.now index) ≡ replicate result.1 result.0 }
-{
-    match items[index] {
-        Item::Steps { hart, count } => (Step::Hart(hart), count),
-        Item::Evict { line } => (Step::Evict(line), 1),
-    }
-}
-
-/// Whether a run has moved, by an item of this many steps from its step `done` on too.
-fn has_moved(moved: bool, done: u32, count: u32) -> bool
-    ensures { result ≡ (moved || nat_lt done count) }
-{
-    moved || done < count
-}
-
-fn stop_at(item: usize, stop: ItemStop) -> Stop
-    ensures { result ≡ record { cause = stop.cause; place = record { item = item; steps = stop.steps } } }
+/// The stop behind all steps of a schedule.
+fn end_of(schedule: &Schedule) -> Stop
+    ensures { result ≡ record { cause = Cause.End; place = record { item = length schedule.now; steps = 0 } } }
 {
     Stop {
-        cause: stop.cause,
+        cause: Cause::End,
         place: Place {
-            item,
-            steps: stop.steps,
+            item: schedule.items().len(),
+            steps: 0,
         },
     }
 }
 
-fn held_at(item: usize, held: ItemFault) -> DebugFault
-    ensures { result ≡ DebugFault.Stopped (record { item = item; steps = held.steps }) held.fault }
+/// What a run comes to that halts at the step of a place.
+fn ended(place: Place, halt: Halt) -> Result<Stop, DebugFault>
+    requires { place.steps + 1 < 2 ^ 32 }
+    ensures { result ≡ ended place halt }
 {
-    DebugFault::Stopped {
-        place: Place {
-            item,
-            steps: held.steps,
+    match halt {
+        Halt::Stop(cause) => Ok(stop_at(place, cause)),
+        Halt::Fault(fault) => Err(DebugFault::Stopped { place, fault }),
+    }
+}
+
+/// The stop at the step of a place: a watched line stops the run behind the step.
+fn stop_at(place: Place, cause: Cause) -> Stop
+    requires { place.steps + 1 < 2 ^ 32 }
+    ensures { result ≡ stop_at place cause }
+{
+    match cause {
+        Cause::Watch { .. } => Stop {
+            cause,
+            place: place.behind(),
         },
-        fault: held.fault,
+        Cause::Break { .. } | Cause::End => Stop { cause, place },
     }
 }

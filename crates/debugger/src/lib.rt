@@ -12,6 +12,6 @@ pub use debugger::Debugger;
 pub use fault::DebugFault;
 pub use machine::{Machine, Outcome};
 pub use points::{MAX_POINTS, Point};
-pub use schedule::Schedule;
+pub use schedule::{Place, Schedule};
 pub use shared_memory::StepFault;
-pub use stop::{Cause, Place, Stop};
+pub use stop::{Cause, Halt, Stop};

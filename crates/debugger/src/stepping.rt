@@ -1,82 +1,73 @@
-//! One step of a run, and whether it stops the run.
+//! One step of a run, and whether the debugger halts at it.
 
-ghost use Rattle.std.specs.Prelude.{◌≡◌, ◌<◌, ◌+◌, ◌^◌, IfOk, IfErr, IfSome, IfNone, OnErr, Some, slice_get};
-ghost use Rattle.machine.specs.Refusals.{Refuses};
-ghost use Rattle.machine.specs.Stands.{IsRunning, copy_of};
-ghost use Rattle.debugger.specs.Walks.{AsksFor, AsksForWatched, IsAdvanced, IsBrokenAt, IsHeldBy, IsStoppedBefore, IsStoppedBehind, WatchesOn, met_by, rests};
+ghost use Rattle.std.specs.Prelude.{◌≡◌, IfErr, IfNone, IfSome, OnOk, Some, slice_get};
+ghost use Rattle.machine.specs.Represents.{IsRunning, copy_of};
+ghost use Rattle.debugger.specs.Walks.{AsksFor, AsksForWatched, Halts, HaltsBehind, IsBrokenAt, IsStoppedBefore, StepsOn, Walks, WatchesOn, met_by};
+ghost use Rattle.debugger.specs.Laws.{walks_joined, walks_none};
 
 use crate::debugger::Debugger;
-use crate::going::ItemStop;
 use crate::points::touched_line;
-use crate::stop::Cause;
+use crate::stop::{Cause, Halt};
 use hart::{HartState, Need, Status};
 use machine::Outcome;
-use schedule::Step;
-use shared_memory::StepFault;
+use schedule::{Step, Stepper};
 
-impl Debugger {
-    /// Makes a step, `made` being the steps of its item before it, unless a breakpoint stops a run that has moved.
-    pub(crate) fn advance(
-        &mut self,
-        step: Step,
-        moved: bool,
-        made: u32,
-    ) -> Result<Option<ItemStop>, StepFault>
-        requires { made + 1 < 2 ^ 32 }
-        ensures points { self.new.points ≡ self.old.points }
-        ensures ok { IfOk result (IsAdvanced self.old.points moved self.old.machine self.new.machine step made) }
-        ensures err { IfErr result (IsHeldBy self.old.points moved self.old.machine self.new.machine step) }
-    {
-        match self.stop_before(step, moved) {
-            Some(cause) => Ok(Some(ItemStop { steps: made, cause })),
-            None => match self.step_watching(step) {
-                Ok(None) => Ok(None),
-                Ok(Some(cause)) => Ok(Some(ItemStop {
-                    steps: made + 1,
-                    cause,
-                })),
-                Err(fault) => Err(fault),
-            },
+/// Steps of a run that has begun: it halts before a breakpoint, behind an access to a watched line, and at a step that is refused.
+impl Stepper for Debugger {
+    type Halt = Halt;
+
+    ghost makes = { Walks };
+
+    ghost halts = { Halts };
+
+    #[tactic(auto, using(crate::proofs::Walking::walks_one, crate::proofs::Walking::halts_before, crate::proofs::Walking::halts_behind))]
+    fn step(&mut self, step: Step) -> Result<(), Halt> {
+        match self.stop_before(step) {
+            Some(cause) => Err(Halt::Stop(cause)),
+            None => self.make(step),
         }
     }
 
-    /// Whether a step is one of a hart that has stopped.
-    pub(crate) fn rests(&self, step: Step) -> bool
-        ensures { result ≡ rests self.now.machine.harts step }
-    {
+    /// The steps of a hart that has stopped: no point stops the run before or behind them.
+    #[tactic(auto, using(crate::proofs::Walking::walks_rest))]
+    fn rest(&mut self, step: Step, _count: u32) -> bool {
         match step {
             Step::Hart(hart) => self.machine.has_stopped(hart),
             Step::Evict(_) => false,
         }
     }
 
-    /// The breakpoint that stops a run before a step.
-    fn stop_before(&self, step: Step, moved: bool) -> Option<Cause>
-        ensures { IsStoppedBefore self.now.points moved self.now.machine.harts step result }
+    ghost no_step = { walks_none };
+
+    ghost more_steps = { walks_joined };
+}
+
+impl Debugger {
+    /// Makes a step, whatever breakpoint it is at. It halts where the step touched a watched line, or was refused.
+    pub(crate) fn make(&mut self, step: Step) -> Result<(), Halt>
+        ensures ok { OnOk result (StepsOn self.old step self.new) }
+        ensures err { IfErr result (HaltsBehind self.old step self.new) }
     {
-        if !moved {
-            return None;
+        let watch = self.watch_on(step);
+        match self.machine.step(step) {
+            Ok(outcome) => match met_by(watch, outcome) {
+                Some(touched) => Err(Halt::Stop(touched)),
+                None => Ok(()),
+            },
+            Err(fault) => Err(Halt::Fault(fault)),
         }
+    }
+
+    /// The breakpoint that stops a run before a step.
+    fn stop_before(&self, step: Step) -> Option<Cause>
+        ensures { IsStoppedBefore self.now.points self.now.machine.harts step result }
+    {
         match step {
             Step::Hart(hart) => match self.broken_at(hart) {
                 Some(pc) => Some(Cause::Break { hart, pc }),
                 None => None,
             },
             Step::Evict(_) => None,
-        }
-    }
-
-    /// Makes a step, and tells whether it touched a watched line.
-    fn step_watching(&mut self, step: Step) -> Result<Option<Cause>, StepFault>
-        ensures points { self.new.points ≡ self.old.points }
-        ensures ok { IfOk result (IsStoppedBehind self.old.points self.old.machine self.new.machine step) }
-        ensures err { OnErr result (self.new ≡ self.old) }
-        ensures refused { IfErr result (Refuses self.old.machine step) }
-    {
-        let watch = self.watch_on(step);
-        match self.machine.step(step) {
-            Ok(outcome) => Ok(met_by(watch, outcome)),
-            Err(fault) => Err(fault),
         }
     }
 

@@ -1,13 +1,7 @@
 //! Where a run stops, and why.
 
-/// A place in a schedule: behind so many steps of an item. Steps past the item's count are none of its.
-#[derive(Clone, Copy, Debug, PartialEq, Eq)]
-pub struct Place {
-    /// The number of the item, from 0.
-    pub item: usize,
-    /// How many steps of the item lie before the place.
-    pub steps: u32,
-}
+use schedule::Place;
+use shared_memory::StepFault;
 
 /// Why a run stops.
 #[derive(Clone, Copy, Debug, PartialEq, Eq)]
@@ -26,4 +20,11 @@ pub struct Stop {
     pub cause: Cause,
     /// The place behind the last step.
     pub place: Place,
+}
+
+/// Why a debugger halts at a step: before it at a breakpoint, behind it by a watched line, or since it was refused.
+#[derive(Clone, Copy, Debug, PartialEq, Eq)]
+pub enum Halt {
+    Stop(Cause),
+    Fault(StepFault),
 }

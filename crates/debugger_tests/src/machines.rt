@@ -2,8 +2,7 @@
 
 use debugger::{Debugger, Machine};
 use line_memory::Medium;
-use object::Object;
-use program::{Program, load};
+use program::{Object, Program, load};
 use std::alloc::Global;
 use std::test::Fail;
 

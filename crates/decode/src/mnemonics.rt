@@ -2,9 +2,8 @@
 //!
 //! Source: RISC-V Unprivileged ISA 20191213, chapter 24 (opcode listings); CMO 1.0.
 
-ghost use Rattle.isa_table.specs.Table.{branch_funct3, load_funct3, store_funct3, immediate_opcode};
-ghost use Rattle.isa_table.specs.Table.{immediate_funct3, shift_opcode, shift_funct3, shift_funct6};
-ghost use Rattle.isa_table.specs.Table.{register_opcode, register_funct3, register_funct7};
+ghost use Rattle.isa_table.specs.Table.{branch_funct3, load_funct3, store_funct3, immediate_key};
+ghost use Rattle.isa_table.specs.Table.{shift_key, register_key};
 ghost use Rattle.isa_table.specs.Table.{cache_function, width_funct3, atomic_funct5, system_word};
 ghost use Rattle.isa_table.specs.declared.instruction.BranchOp.{BranchOp as ABranchOp};
 ghost use Rattle.isa_table.specs.declared.instruction.LoadOp.{LoadOp as ALoadOp};
@@ -66,7 +65,7 @@ pub fn store_op(funct3: u32) -> Option<StoreOp>
 
 pub fn immediate_op(opcode: u32, funct3: u32) -> Option<ImmediateOp>
     ensures { (op : AImmediateOp) → (result ≡ Some op)
-        ↔ ((opcode ≡ immediate_opcode op) × (funct3 ≡ immediate_funct3 op)) }
+        ↔ ((opcode ≡ (immediate_key op).opcode) × (funct3 ≡ (immediate_key op).funct3)) }
 {
     match (opcode, funct3) {
         (0x13, 0) => Some(ImmediateOp::Addi),
@@ -82,7 +81,7 @@ pub fn immediate_op(opcode: u32, funct3: u32) -> Option<ImmediateOp>
 
 pub fn shift_op(opcode: u32, funct3: u32, funct6: u32) -> Option<ShiftOp>
     ensures { (op : AShiftOp) → (result ≡ Some op)
-        ↔ ((opcode ≡ shift_opcode op) × (funct3 ≡ shift_funct3 op) × (funct6 ≡ shift_funct6 op)) }
+        ↔ ((opcode ≡ (shift_key op).opcode) × (funct3 ≡ (shift_key op).funct3) × (funct6 ≡ (shift_key op).top)) }
 {
     match (opcode, funct3, funct6) {
         (0x13, 1, 0) => Some(ShiftOp::Slli),
@@ -97,7 +96,7 @@ pub fn shift_op(opcode: u32, funct3: u32, funct6: u32) -> Option<ShiftOp>
 
 pub fn register_op(opcode: u32, funct3: u32, funct7: u32) -> Option<RegisterOp>
     ensures { (op : ARegisterOp) → (result ≡ Some op)
-        ↔ ((opcode ≡ register_opcode op) × (funct3 ≡ register_funct3 op) × (funct7 ≡ register_funct7 op)) }
+        ↔ ((opcode ≡ (register_key op).opcode) × (funct3 ≡ (register_key op).funct3) × (funct7 ≡ (register_key op).top)) }
 {
     match (opcode, funct3, funct7) {
         (0x33, 0, 0) => Some(RegisterOp::Add),

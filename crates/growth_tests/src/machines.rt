@@ -53,9 +53,9 @@ fn looped(machine: &mut Machine) -> Result<bool, Refused> {
 
 /// Whether the steps before the refused one stand, and no others: that one was a fence.
 fn stands_at(machine: &Machine, stop: RunStop) -> bool {
-    let done = match stop.item {
-        0 => stop.steps,
-        _ => stop.steps.wrapping_add(5),
+    let done = match stop.place.item {
+        0 => stop.place.steps,
+        _ => stop.place.steps.wrapping_add(5),
     };
     done % 2 == 0 && stands(machine, 0, 0x1_0000, (done / 2) as usize)
 }

@@ -6,8 +6,7 @@ use asm_lex::{LexFault, Token, tokens};
 use asm_line::{AsmCode, Line, Statement, read_line};
 use assemble::{AsmFault, SOURCE_LIMIT, assemble};
 use decode::{decode, show};
-use object::{LoadFault, Object, TEXT_LIMIT};
-use program::load;
+use program::{LoadFault, Object, TEXT_LIMIT, load};
 use std::alloc::Global;
 
 /// A line of ten tokens, and where each of them stands.

@@ -1,20 +1,22 @@
-//! A hart: what its next instruction needs of the world, and what the reply does to it.
+//! A hart: what its next instruction needs of the world, what the reply does to it, and the line that shows it.
 #![tactic(auto)]
 
-mod accessing;
-mod answering;
+mod addresses;
+mod alu;
 mod arithmetic;
 mod atomics;
-mod calling;
-mod computing;
-mod jumping;
+mod control_flow;
+mod ecall;
+mod line;
+mod memory;
 mod need;
-mod places;
+mod replies;
 mod state;
 mod stepping;
 
-pub use answering::{answer, take_reply};
 pub use atomics::amo_result;
+pub use line::HartLine;
 pub use need::{AccessFault, Advance, Need, Reply, Request};
+pub use replies::{answer, take_reply};
 pub use state::{HartState, Registers, Status, Trap};
 pub use stepping::{advance, instruction, next};

@@ -6,10 +6,10 @@ ghost use Rattle.hart.specs.InPlace.{IsKept, need_after};
 ghost use Rattle.hart.specs.Needs.{IsSpelledBy, Needs};
 ghost use Rattle.hart.specs.Requests.{AsksRequest};
 
-use crate::accessing::{atomic, clean, fence, load, load_reserved, store};
-use crate::calling::system;
-use crate::computing::{compute, compute_immediate, compute_shift, compute_upper};
-use crate::jumping::{branch, jump, jump_register};
+use crate::alu::{compute, compute_immediate, compute_shift, compute_upper};
+use crate::control_flow::{branch, jump, jump_register};
+use crate::ecall::system;
+use crate::memory::{atomic, clean, fence, load, load_reserved, store};
 use crate::need::{Advance, Need, Request};
 use crate::state::{HartState, Status, Trap};
 use decode::decode;

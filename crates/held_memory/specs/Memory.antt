@@ -4,7 +4,7 @@ use Rattle.line_memory.specs.Lines.{AreLines, line_bytes}
 use Rattle.line_memory.specs.Memory.{Memory}
 use Rattle.line_memory.specs.Regions.{flat, padded, ram_bytes}
 use Rattle.line_memory.specs.declared.TheConstants.{TEXT_BASE, TEXT_SIZE, DATA_BASE, DATA_SIZE, PERSISTENT_BASE}
-use Rattle.object.specs.Sections.{Sections}
+use Rattle.program.specs.Sections.{Sections}
 use Rattle.held_lines.specs.Held.{IsOver, memory_over}
 use Rattle.held_memory.specs.Regions.{IsRegion, RegionView, bytes_of}
 use Rattle.held_memory.specs.declared.memory.Place.{Place}

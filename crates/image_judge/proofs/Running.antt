@@ -5,7 +5,7 @@ use Rattle.std.specs.List.{AllByRecursion}
 use Rattle.image_judge.specs.Images.{image_at}
 use Rattle.image_judge.specs.RightAnswers.{LoadsOf, Shows}
 use Rattle.image_judge.specs.Views.{JudgeView}
-use Rattle.object.specs.Sections.{Sections}
+use Rattle.program.specs.Sections.{Sections}
 use Rattle.recovery.specs.Routine.{Recovers}
 use Rattle.recovery_run.specs.declared.Cause as run
 

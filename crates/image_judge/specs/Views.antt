@@ -1,6 +1,6 @@
 -- What a contract sees of a run that is judged by a recovery routine.
 use Rattle.std.specs.Prelude.{ℕ, List}
-use Rattle.object.specs.Sections.{Sections}
+use Rattle.program.specs.Sections.{Sections}
 use Rattle.store_trace.specs.declared.event.Event.{Event}
 
 -- the routine and the most steps that it makes on an image; the lines of the medium from which the run started, and its events

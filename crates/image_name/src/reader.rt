@@ -8,8 +8,8 @@ ghost use Rattle.image_name.specs.declared.name.ImageName.{ImageName as AnImageN
 
 use crate::cut::Cut;
 use crate::name::ImageName;
-use decimal::decimal;
 use std::alloc::{AllocError, Global};
+use text::decimal;
 
 /// The line and the number that a word says.
 fn entry(word: &str) -> Option<(u32, u32)>

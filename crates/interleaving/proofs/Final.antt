@@ -11,7 +11,7 @@ use Rattle.std.specs.Prelude.{All, Contains, ◌⊎◌, ◌==◌, if◌then◌el
 use Rattle.std.specs.List.Sorted.{IsNonDecreasingBy}
 use Rattle.hart.specs.declared.state.HartState.{HartState}
 use Rattle.machine.specs.Run.{Config, RunsTo}
-use Rattle.machine.specs.Stands.{MachineView, Stands}
+use Rattle.machine.specs.Represents.{MachineView, Represents}
 use Rattle.machine.proofs.Determined.{runs_once}
 use Rattle.machine.proofs.Evicting.{alike_itself}
 use Rattle.machine.proofs.RunParts.{run_parted}
@@ -39,7 +39,7 @@ first_none : (k : ℕ) (c d : Config) → k ≤ 0 → RunsTo c (take k []) d →
 first_none zero c d few runs = runs
 first_none (suc k) c d few runs = absurd (omega arith)
 
-starts : (machine : MachineView) (c : Config) → machine.shared.trace ≡ [] → Stands machine c → c.common.trace ≡ []
+starts : (machine : MachineView) (c : Config) → machine.shared.trace ≡ [] → Represents machine c → c.common.trace ≡ []
 starts machine c none stands = sym stands.shared.trace ∙ none
 
 agrees_none : (machine : MachineView) → Agrees (record { machine = machine; items = []; made = 0; stores = [] })
@@ -49,7 +49,7 @@ agrees_none machine = record {
   within = All-nil (λ (s : FirstStore). s.step ≤ 0);
 }
 
-pub has_begun : (machine : MachineView) (c : Config) (seed limit : ℕ) → machine.shared.trace ≡ [] → Stands machine c
+pub has_begun : (machine : MachineView) (c : Config) (seed limit : ℕ) → machine.shared.trace ≡ [] → Represents machine c
     → HasTaken c seed limit (record { machine = machine; items = []; made = 0; stores = [] }) seed
 has_begun machine c seed limit none stands = record {
   turns = [];
@@ -58,7 +58,7 @@ has_begun machine c seed limit none stands = record {
   taken = refl;
   made = record {
     runs = refl;
-    stands = stands;
+    represents = stands;
     items = refl;
     made = refl;
     stores = λ k d few runs. rw (first_none k c d few runs, starts machine c none stands) refl;
@@ -85,7 +85,7 @@ has_drawn m c seed limit state begins has over = record {
     turns = has.turns;
     taken = has.taken;
     made = refl;
-    over = ends_by m.machine.harts has.end.harts has.left m.made limit has.made.stands.harts has.all over;
+    over = ends_by m.machine.harts has.end.harts has.left m.made limit has.made.represents.harts has.all over;
   };
   state_is = refl;
   runs = has.made.runs;
@@ -199,7 +199,7 @@ pub all_made : (machine : MachineView) (old new : MakingView) (start state limit
     → old ≡ record { machine = machine; items = []; made = 0; stores = [] } → machine.shared.trace ≡ []
     → ((c : Config) (seed : ℕ) → HasTaken c seed limit old start → HasTaken c seed limit new state)
     → (running new.machine.harts ≡ []) ⊎ (new.made ≡ limit) → items ≡ new.items → made ≡ new.made → stores ≡ new.stores
-    → (c : Config) → Stands machine c → HasDrawn c start limit items made stores state
+    → (c : Config) → Represents machine c → HasDrawn c start limit items made stores state
 all_made machine old new start state limit items made stores e none taken over i m s c stands =
     let begun : HasTaken c start limit old start = rw e (has_begun machine c start limit none stands) in
     rw (i, m, s) (has_drawn new c start limit state (starts machine c none stands) (taken c start begun) over)

@@ -6,7 +6,7 @@ use Rattle.std.proofs.Math.Seq.{take-length}
 use Rattle.interleaving.specs.declared.fault.InterleaveFault.{InterleaveFault}
 use Rattle.machine.specs.Stops.{is_stopped}
 use Rattle.machine.specs.Run.{Config, RunsTo, StepsTo}
-use Rattle.machine.specs.Stands.{IsRunning, MachineView, Runs}
+use Rattle.machine.specs.Represents.{IsRunning, MachineView, Runs}
 use Rattle.machine.proofs.Determined.{runs_once}
 use Rattle.machine.proofs.Refusing.{event_is_longer}
 use Rattle.machine.proofs.RunParts.{grows}
@@ -102,20 +102,20 @@ continues_step old new h runs running items made stores = record {
   made = made;
   agrees = agrees_step old new h (line_at (slice_get new.machine.shared.trace (length old.machine.shared.trace))) items made stores;
   goes = λ c end past has.
-      let after = runs.stands end has.stands in
+      let after = runs.represents end has.represents in
       let d : Config = after.0 in
       let moves : StepsTo end (Hart h) d = one_step end d (Hart h) after.1 in
       let g = grows end d (Hart h) moves in
-      let runs_there : IsRunning (slice_get end.harts h) = rw has.stands.harts at running in
+      let runs_there : IsRunning (slice_get end.harts h) = rw has.represents.harts at running in
       let one : Interleaves end (Hart h ∷ []) d = (d, runs_there, moves, refl) in
       let all : Interleaves c (past ++ Hart h ∷ []) d = run_more c end d past (Hart h ∷ []) has.runs one in
       let noted : new.stores ≡ with_store (old.made + 1) old.stores (line_at (slice_get d.common.trace (length end.common.trace))) =
-      rw (made, after.2.shared.trace, has.stands.shared.trace) at stores in (
+      rw (made, after.2.shared.trace, has.represents.shared.trace) at stores in (
         d,
         one,
         record {
           runs = all;
-          stands = after.2;
+          represents = after.2;
           items = items ∙ ap (λ (steps : List Step). steps ++ Hart h ∷ []) has.items;
           made = made ∙ ap (λ (n : ℕ). n + 1) has.made ∙ sym (length-append past (Hart h ∷ []));
           stores = stores_past c end d past h old.made old.stores new.stores g.more has.runs all has.made g.trace g.few has.stores has.agrees.within noted;
@@ -148,7 +148,7 @@ pub room_made : (old new : MachineView) (h : ℕ) → Runs old new (Hart h ∷ [
 room_made old new h runs running few = record {
   running = running;
   goes = λ c stands.
-      let after = runs.stands c stands in
+      let after = runs.represents c stands in
       (after.0, one_step c after.0 (Hart h) after.1, rw after.2.shared.trace at few);
 }
 

@@ -8,7 +8,7 @@ use Rattle.hart.specs.declared.state.HartState.{HartState}
 use Rattle.hart.specs.declared.state.Status.{Status}
 use Rattle.hart.specs.declared.state.Status.TheVariants.{Running}
 use Rattle.machine.specs.Run.{Config, RunsTo}
-use Rattle.machine.specs.Stands.{IsRunning}
+use Rattle.machine.specs.Represents.{IsRunning}
 use Rattle.machine.specs.Stops.{has_stopped, is_stopped}
 use Rattle.machine.proofs.Determined.{runs_once}
 use Rattle.machine.proofs.RunParts.{run_joined, run_parted}

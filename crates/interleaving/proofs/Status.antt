@@ -4,7 +4,7 @@ use Rattle.std.proofs.lemmas.Option.{slice_get_cases}
 use Rattle.hart.specs.declared.state.HartState.{HartState}
 use Rattle.hart.specs.declared.state.Status.{Status}
 use Rattle.hart.specs.declared.state.Status.TheVariants.{Running, Exited, Trapped}
-use Rattle.machine.specs.Stands.{IsRunning}
+use Rattle.machine.specs.Represents.{IsRunning}
 use Rattle.machine.specs.Stops.{has_stopped, is_stopped}
 
 -- a hart that is there and hasn't stopped runs

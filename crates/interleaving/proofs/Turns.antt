@@ -4,7 +4,7 @@ use Rattle.std.proofs.lemmas.List.{length-replicate}
 use Rattle.std.proofs.lemmas.Grind.{flat_map-append}
 use Rattle.hart.specs.declared.state.HartState.{HartState}
 use Rattle.machine.specs.Run.{Config, StepsTo}
-use Rattle.machine.specs.Stands.{IsRunning, MachineView, Stands}
+use Rattle.machine.specs.Represents.{IsRunning, MachineView, Represents}
 use Rattle.machine.proofs.Refusing.{event_is_longer}
 use Rattle.schedule.specs.declared.items.Step.{Step}
 use Rattle.schedule.specs.declared.items.Step.TheVariants.{Hart}
@@ -24,7 +24,7 @@ steps_more turns h n =
     flat_map-append (λ (turn : ℕ × ℕ). replicate turn.1 (Hart turn.0)) turns ((h, n) ∷ [])
     ∙ ap (λ (more : List Step). turn_steps turns ++ more) (append-nil (replicate n (Hart h)))
 
--- a hart among those that run, by what the machine stands for
+-- a hart among those that run, by what the machine represents
 drawn_there : (harts others : List HartState) (state h : ℕ) → harts ≡ others
     → slice_get (running harts) (below (length (running harts)) state) ≡ Some h
     → slice_get (running others) (below (length (running others)) state) ≡ Some h
@@ -45,13 +45,13 @@ taken_more old new state last h limit less drawn makes e c seed has =
     let q : Stand = record { config = went.0; state = last; left = has.left - n } in
     let turn : TakesTurn p h n q = record {
       some = omega arith;
-      hart = drawn_there old.machine.harts has.end.harts state h has.made.stands.harts drawn;
+      hart = drawn_there old.machine.harts has.end.harts state h has.made.represents.harts drawn;
       makes = record {
         few = few;
         runs = went.1;
         all = elim makes.all [
           | inl all ↦ inl (rw left_is at all)
-          | inr stopped ↦ inr (rw went.2.stands.harts at stopped)
+          | inr stopped ↦ inr (rw went.2.represents.harts at stopped)
         ];
       };
       state = e;
@@ -76,7 +76,7 @@ went_on seen old new h count limit e fits makes =
     (omega arith, omega arith)
 
 -- what a held step says of the draw
-held_there : (fault : InterleaveFault) (m : MachineView) (h : ℕ) (c d : Config) (seed limit : ℕ) → Stands m d → IsHeld m h fault
+held_there : (fault : InterleaveFault) (m : MachineView) (h : ℕ) (c d : Config) (seed limit : ℕ) → Represents m d → IsHeld m h fault
     → ((after : Config) → IsRunning (slice_get d.harts h) → StepsTo d (Hart h) after → ComesTo c seed limit after) → StopsDrawing c seed limit fault
 held_there TraceFull m h c d seed limit stands held comes =
     let next = event_is_longer m (Hart h) d held.harts stands held.event in
@@ -93,12 +93,12 @@ stops : (old : MakingView) (state h limit : ℕ) (fault : InterleaveFault) → o
 stops old state h limit fault less drawn among c seed has =
     let went = among.continues.goes c has.end (turn_steps has.turns) has.made in
     let left_is : limit - old.made ≡ has.left = let all = has.all in omega arith in
-    held_there fault among.at.machine h c went.0 seed limit went.2.stands among.held (λ after running step. record {
+    held_there fault among.at.machine h c went.0 seed limit went.2.represents among.held (λ after running step. record {
       turns = has.turns;
       stand = record { config = has.end; state = state; left = has.left };
       taken = has.taken;
       hart = h;
-      drawn = drawn_there old.machine.harts has.end.harts state h has.made.stands.harts drawn;
+      drawn = drawn_there old.machine.harts has.end.harts state h has.made.represents.harts drawn;
       made = among.made;
       more = rw left_is at among.fewer;
       before = went.0;

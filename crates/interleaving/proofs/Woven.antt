@@ -6,7 +6,7 @@ use Rattle.std.proofs.Math.Seq.{take-append_seam}
 use Rattle.std.specs.Prelude.{All, Contains}
 use Rattle.machine.specs.Evicting.{AreAlike}
 use Rattle.machine.specs.Run.{Config, RunsTo, StepsTo}
-use Rattle.machine.specs.Stands.{IsRunning}
+use Rattle.machine.specs.Represents.{IsRunning}
 use Rattle.machine.proofs.Evicting.{runs_alike}
 use Rattle.schedule.specs.Grammar.{hart_steps}
 use Rattle.schedule.specs.Steps.{all_steps}

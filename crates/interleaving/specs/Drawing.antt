@@ -9,7 +9,7 @@ use Rattle.interleaving.specs.declared.evictions.Eviction.{Eviction}
 use Rattle.interleaving.specs.declared.fault.InterleaveFault.{InterleaveFault}
 use Rattle.interleaving.specs.declared.fault.InterleaveFault.TheVariants.{TraceFull, Memory}
 use Rattle.machine.specs.Run.{Config, RunsTo, StepsTo}
-use Rattle.machine.specs.Stands.{IsRunning}
+use Rattle.machine.specs.Represents.{IsRunning}
 use Rattle.machine.specs.Stops.{is_stopped}
 use Rattle.schedule.specs.Steps.{all_steps}
 use Rattle.schedule.specs.declared.items.Item.{Item}

@@ -10,7 +10,7 @@ use Rattle.interleaving.specs.declared.fault.InterleaveFault.{InterleaveFault}
 use Rattle.interleaving.specs.declared.fault.InterleaveFault.TheVariants.{TraceFull, Memory}
 use Rattle.machine.specs.Outcomes.{HartMakesEvent}
 use Rattle.machine.specs.Run.{Config, RunsTo, StepsTo}
-use Rattle.machine.specs.Stands.{IsRunning, MachineView, Stands}
+use Rattle.machine.specs.Represents.{IsRunning, MachineView, Represents}
 use Rattle.machine.specs.Stops.{is_stopped}
 use Rattle.schedule.specs.Grammar.{hart_steps}
 use Rattle.schedule.specs.Steps.{all_steps}
@@ -51,7 +51,7 @@ pub record Agrees (making : MakingView) : Type 0 where
 -- from c it has made these steps to the end
 pub record HasMade (c : Config) (steps : List Step) (end : Config) (making : MakingView) : Type 0 where
   pub runs : Interleaves c steps end
-  pub stands : Stands making.machine end
+  pub represents : Represents making.machine end
   pub items : all_steps making.items ≡ steps
   pub made : making.made ≡ length steps
   pub stores : AreFirstStores c steps making.stores
@@ -82,7 +82,7 @@ pub record IsFull (machine : MachineView) (h : ℕ) : Type 0 where
 -- the next step of hart h, which runs, leaves 65,536 events at most
 pub record HasRoom (machine : MachineView) (h : ℕ) : Type 0 where
   pub running : IsRunning (slice_get machine.harts h)
-  pub goes : (c : Config) → Stands machine c → (after : Config) × StepsTo c (Hart h) after × (length after.common.trace ≤ 65536)
+  pub goes : (c : Config) → Represents machine c → (after : Config) × StepsTo c (Hart h) after × (length after.common.trace ≤ 65536)
 
 -- why a machine doesn't make the next step of hart h, or it isn't kept: the trace is full, or memory was refused where it isn't
 abbrev pub IsHeld : MachineView → ℕ → InterleaveFault → Type 0

@@ -3,7 +3,7 @@
 ghost use Rattle.interleaving.specs.Drawing.{IsDrawn, StopsDrawing};
 ghost use Rattle.interleaving.specs.Interleaves.{IsWhole};
 ghost use Rattle.machine.specs.Run.{Config};
-ghost use Rattle.machine.specs.Stands.{Stands};
+ghost use Rattle.machine.specs.Represents.{Represents};
 ghost use Rattle.schedule.specs.Grammar.{hart_steps};
 ghost use Rattle.std.specs.Prelude.{◌≡◌, ◌≤◌, [], IfErr, IfOk};
 
@@ -35,9 +35,9 @@ pub fn interleave(
 ) -> Result<Schedule, InterleaveFault>
     requires { machine.shared.trace ≡ [] }
     ensures within { IfOk result (λ schedule. hart_steps schedule ≤ steps) }
-    ensures whole { IfOk result (λ schedule. (c : Config) → Stands machine c → IsWhole c steps evictions schedule) }
-    ensures drawn { IfOk result (λ schedule. (c : Config) → Stands machine c → IsDrawn c seed steps evictions schedule) }
-    ensures err { IfErr result (λ fault. (c : Config) → Stands machine c → StopsDrawing c seed steps fault) }
+    ensures whole { IfOk result (λ schedule. (c : Config) → Represents machine c → IsWhole c steps evictions schedule) }
+    ensures drawn { IfOk result (λ schedule. (c : Config) → Represents machine c → IsDrawn c seed steps evictions schedule) }
+    ensures err { IfErr result (λ fault. (c : Config) → Represents machine c → StopsDrawing c seed steps fault) }
 {
     let mut numbers = Numbers::new(seed);
     let made = make_all(alloc, machine, &mut numbers, steps)?;

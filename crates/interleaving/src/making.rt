@@ -5,7 +5,7 @@ ghost use Rattle.interleaving.specs.Interleaves.{running};
 ghost use Rattle.interleaving.specs.Making.{Agrees, Continues, HasDrawn, HasTaken, IsHeld, IsHeldAmong, MakesSteps, line_at, with_store};
 ghost use Rattle.interleaving.specs.SplitMix.{next_state};
 ghost use Rattle.machine.specs.Run.{Config};
-ghost use Rattle.machine.specs.Stands.{IsRunning, Runs, Stands};
+ghost use Rattle.machine.specs.Represents.{IsRunning, Runs, Represents};
 ghost use Rattle.schedule.specs.Grammar.{hart_steps};
 ghost use Rattle.std.specs.List.Sorted.{IsNonDecreasingBy};
 ghost use Rattle.std.specs.List.{list_any};
@@ -55,13 +55,13 @@ pub(crate) fn make_all(
     limit: u32,
 ) -> Result<Made, InterleaveFault>
     requires { machine.shared.trace ≡ [] }
-    ensures made { IfOk result (λ made. (c : Config) → Stands machine c →
+    ensures made { IfOk result (λ made. (c : Config) → Represents machine c →
         HasDrawn c numbers.old limit made.schedule made.steps made.stores.items numbers.new) }
     ensures count { IfOk result (λ made. hart_steps made.schedule ≡ made.steps) }
     ensures limit { IfOk result (λ made. made.steps ≤ limit) }
     ensures ascending { IfOk result (λ made. IsNonDecreasingBy (λ store. store.step) made.stores.items) }
     ensures within { IfOk result (λ made. All (λ store. store.step ≤ made.steps) made.stores.items) }
-    ensures err { IfErr result (λ fault. (c : Config) → Stands machine c → StopsDrawing c numbers.old limit fault) }
+    ensures err { IfErr result (λ fault. (c : Config) → Represents machine c → StopsDrawing c numbers.old limit fault) }
 {
     let mut making = Making::new(alloc, machine);
     match making.take_turns(numbers, limit) {

@@ -22,13 +22,13 @@ use Rattle.isa_table.specs.declared.instruction.AtomicOp.{AtomicOp}
 use Rattle.isa_table.specs.declared.instruction.AtomicOp.TheVariants.{Sc, Amoswap, Amoadd, Amoxor, Amoand, Amoor, Amomin, Amomax, Amominu, Amomaxu}
 use Rattle.isa_table.specs.declared.instruction.SystemOp.{SystemOp}
 use Rattle.isa_table.specs.declared.instruction.SystemOp.TheVariants.{Ecall, Ebreak}
-use Rattle.isa_table.specs.Table.{upper_opcode, branch_funct3, load_funct3, store_funct3, immediate_opcode, immediate_funct3, shift_opcode, shift_funct3, shift_funct6, register_opcode, register_funct3, register_funct7, cache_function, width_funct3, atomic_funct5, system_word}
+use Rattle.isa_table.specs.Table.{upper_opcode, branch_funct3, load_funct3, store_funct3, immediate_key, shift_key, register_key, cache_function, width_funct3, atomic_funct5, system_word}
 
 pub upper_opcodes : (op : UpperOp) → (upper_opcode op ≡ 0x37) ⊎ (upper_opcode op ≡ 0x17)
 upper_opcodes Lui = inl refl
 upper_opcodes Auipc = inr refl
 
-pub immediate_opcodes : (op : ImmediateOp) → (immediate_opcode op ≡ 0x13) ⊎ (immediate_opcode op ≡ 0x1b)
+pub immediate_opcodes : (op : ImmediateOp) → ((immediate_key op).opcode ≡ 0x13) ⊎ ((immediate_key op).opcode ≡ 0x1b)
 immediate_opcodes Addi = inl refl
 immediate_opcodes Slti = inl refl
 immediate_opcodes Sltiu = inl refl
@@ -37,7 +37,7 @@ immediate_opcodes Ori = inl refl
 immediate_opcodes Andi = inl refl
 immediate_opcodes Addiw = inr refl
 
-pub shift_opcodes : (op : ShiftOp) → (shift_opcode op ≡ 0x13) ⊎ (shift_opcode op ≡ 0x1b)
+pub shift_opcodes : (op : ShiftOp) → ((shift_key op).opcode ≡ 0x13) ⊎ ((shift_key op).opcode ≡ 0x1b)
 shift_opcodes Slli = inl refl
 shift_opcodes Srli = inl refl
 shift_opcodes Srai = inl refl
@@ -45,7 +45,7 @@ shift_opcodes Slliw = inr refl
 shift_opcodes Srliw = inr refl
 shift_opcodes Sraiw = inr refl
 
-pub register_opcodes : (op : RegisterOp) → (register_opcode op ≡ 0x33) ⊎ (register_opcode op ≡ 0x3b)
+pub register_opcodes : (op : RegisterOp) → ((register_key op).opcode ≡ 0x33) ⊎ ((register_key op).opcode ≡ 0x3b)
 register_opcodes Add = inl refl
 register_opcodes Sub = inl refl
 register_opcodes Sll = inl refl
@@ -62,7 +62,7 @@ register_opcodes Sllw = inr refl
 register_opcodes Srlw = inr refl
 register_opcodes Sraw = inr refl
 
-pub shift_funct3s : (op : ShiftOp) → (shift_funct3 op ≡ 1) ⊎ (shift_funct3 op ≡ 5)
+pub shift_funct3s : (op : ShiftOp) → ((shift_key op).funct3 ≡ 1) ⊎ ((shift_key op).funct3 ≡ 5)
 shift_funct3s Slli = inl refl
 shift_funct3s Srli = inr refl
 shift_funct3s Srai = inr refl
@@ -71,7 +71,7 @@ shift_funct3s Srliw = inr refl
 shift_funct3s Sraiw = inr refl
 
 -- the other operations with an immediate have other numbers
-pub immediate_unshifted : (op : ImmediateOp) → (immediate_funct3 op ≡ 1) ⊎ (immediate_funct3 op ≡ 5) → ⊥
+pub immediate_unshifted : (op : ImmediateOp) → ((immediate_key op).funct3 ≡ 1) ⊎ ((immediate_key op).funct3 ≡ 5) → ⊥
 immediate_unshifted Addi e = absurd (grind arith)
 immediate_unshifted Slti e = absurd (grind arith)
 immediate_unshifted Sltiu e = absurd (grind arith)
@@ -93,7 +93,7 @@ atomic_stores Amomax e = absurd (omega arith)
 atomic_stores Amominu e = absurd (omega arith)
 atomic_stores Amomaxu e = absurd (omega arith)
 
-pub immediate_opcode_small : (op : ImmediateOp) → immediate_opcode op < 2 ^ 7
+pub immediate_opcode_small : (op : ImmediateOp) → (immediate_key op).opcode < 2 ^ 7
 immediate_opcode_small Addi = lit< tt
 immediate_opcode_small Slti = lit< tt
 immediate_opcode_small Sltiu = lit< tt
@@ -102,7 +102,7 @@ immediate_opcode_small Ori = lit< tt
 immediate_opcode_small Andi = lit< tt
 immediate_opcode_small Addiw = lit< tt
 
-pub register_opcode_small : (op : RegisterOp) → register_opcode op < 2 ^ 7
+pub register_opcode_small : (op : RegisterOp) → (register_key op).opcode < 2 ^ 7
 register_opcode_small Add = lit< tt
 register_opcode_small Sub = lit< tt
 register_opcode_small Sll = lit< tt
@@ -119,7 +119,7 @@ register_opcode_small Sllw = lit< tt
 register_opcode_small Srlw = lit< tt
 register_opcode_small Sraw = lit< tt
 
-pub shift_opcode_small : (op : ShiftOp) → shift_opcode op < 2 ^ 7
+pub shift_opcode_small : (op : ShiftOp) → (shift_key op).opcode < 2 ^ 7
 shift_opcode_small Slli = lit< tt
 shift_opcode_small Srli = lit< tt
 shift_opcode_small Srai = lit< tt
@@ -127,7 +127,7 @@ shift_opcode_small Slliw = lit< tt
 shift_opcode_small Srliw = lit< tt
 shift_opcode_small Sraiw = lit< tt
 
-pub shift_funct3_small : (op : ShiftOp) → shift_funct3 op < 2 ^ 3
+pub shift_funct3_small : (op : ShiftOp) → (shift_key op).funct3 < 2 ^ 3
 shift_funct3_small Slli = lit< tt
 shift_funct3_small Srli = lit< tt
 shift_funct3_small Srai = lit< tt
@@ -135,7 +135,7 @@ shift_funct3_small Slliw = lit< tt
 shift_funct3_small Srliw = lit< tt
 shift_funct3_small Sraiw = lit< tt
 
-pub shift_funct6_small : (op : ShiftOp) → shift_funct6 op < 2 ^ 6
+pub shift_funct6_small : (op : ShiftOp) → (shift_key op).top < 2 ^ 6
 shift_funct6_small Slli = lit< tt
 shift_funct6_small Srli = lit< tt
 shift_funct6_small Srai = lit< tt
@@ -143,7 +143,7 @@ shift_funct6_small Slliw = lit< tt
 shift_funct6_small Srliw = lit< tt
 shift_funct6_small Sraiw = lit< tt
 
-pub register_funct3_small : (op : RegisterOp) → register_funct3 op < 2 ^ 3
+pub register_funct3_small : (op : RegisterOp) → (register_key op).funct3 < 2 ^ 3
 register_funct3_small Add = lit< tt
 register_funct3_small Sub = lit< tt
 register_funct3_small Sll = lit< tt
@@ -201,7 +201,7 @@ store_op_same Sw Sw e = refl
 store_op_same Sd Sd e = refl
 store_op_same a b e = absurd (omega arith)
 
-pub immediate_op_same : (a b : ImmediateOp) → immediate_opcode a ≡ immediate_opcode b → immediate_funct3 a ≡ immediate_funct3 b → a ≡ b
+pub immediate_op_same : (a b : ImmediateOp) → (immediate_key a).opcode ≡ (immediate_key b).opcode → (immediate_key a).funct3 ≡ (immediate_key b).funct3 → a ≡ b
 immediate_op_same Addi Addi e f = refl
 immediate_op_same Slti Slti e f = refl
 immediate_op_same Sltiu Sltiu e f = refl
@@ -211,7 +211,7 @@ immediate_op_same Andi Andi e f = refl
 immediate_op_same Addiw Addiw e f = refl
 immediate_op_same a b e f = absurd (omega arith)
 
-pub shift_op_same : (a b : ShiftOp) → shift_opcode a ≡ shift_opcode b → shift_funct3 a ≡ shift_funct3 b → shift_funct6 a ≡ shift_funct6 b → a ≡ b
+pub shift_op_same : (a b : ShiftOp) → (shift_key a).opcode ≡ (shift_key b).opcode → (shift_key a).funct3 ≡ (shift_key b).funct3 → (shift_key a).top ≡ (shift_key b).top → a ≡ b
 shift_op_same Slli Slli e f g = refl
 shift_op_same Srli Srli e f g = refl
 shift_op_same Srai Srai e f g = refl
@@ -220,7 +220,7 @@ shift_op_same Srliw Srliw e f g = refl
 shift_op_same Sraiw Sraiw e f g = refl
 shift_op_same a b e f g = absurd (omega arith)
 
-pub register_op_same : (a b : RegisterOp) → register_opcode a ≡ register_opcode b → register_funct3 a ≡ register_funct3 b → register_funct7 a ≡ register_funct7 b → a ≡ b
+pub register_op_same : (a b : RegisterOp) → (register_key a).opcode ≡ (register_key b).opcode → (register_key a).funct3 ≡ (register_key b).funct3 → (register_key a).top ≡ (register_key b).top → a ≡ b
 register_op_same Add Add e f g = refl
 register_op_same Sub Sub e f g = refl
 register_op_same Sll Sll e f g = refl

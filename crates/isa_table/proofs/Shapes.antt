@@ -17,7 +17,7 @@ use Rattle.isa_table.specs.declared.instruction.AtomicOp.{AtomicOp}
 use Rattle.isa_table.specs.declared.instruction.SystemOp.{SystemOp}
 use Rattle.isa_table.specs.declared.register.Reg.{Reg}
 use Rattle.isa_table.specs.Operands.{HasRd, HasRs1, HasRs2, i_immediate, s_immediate, b_immediate, j_immediate, shift_bits, flag, set_bits}
-use Rattle.isa_table.specs.Table.{Spells, upper_opcode, branch_funct3, load_funct3, store_funct3, immediate_opcode, immediate_funct3, shift_opcode, shift_funct3, shift_funct6, register_opcode, register_funct3, register_funct7, cache_function, width_funct3, atomic_funct5, system_word}
+use Rattle.isa_table.specs.Table.{Spells, upper_opcode, branch_funct3, load_funct3, store_funct3, immediate_key, shift_key, register_key, cache_function, width_funct3, atomic_funct5, system_word}
 use Rattle.isa_table.proofs.Masks.{masked_7f, masked_707f, masked_fe00707f, masked_f800707f, masked_f9f0707f, masked_fff07fff, masked_ffffffff}
 use Rattle.isa_table.proofs.Mnemonics.{upper_opcodes, immediate_opcodes, immediate_opcode_small, register_opcode_small, shift_opcodes, register_opcodes, shift_funct3s, immediate_unshifted, atomic_stores, register_funct3_small, width_funct3_small, system_opcode}
 use Rattle.isa_table.proofs.Shifts.{shift_unmasked}
@@ -31,12 +31,12 @@ HasParts w (Branch op rs1 rs2 distance) = (field w 0 7 ≡ 0x63) × (field w 12 
 HasParts w (Load op rd rs1 offset) = (field w 0 7 ≡ 0x03) × (field w 12 3 ≡ load_funct3 op)
 HasParts w (Store op rs2 rs1 offset) = (field w 0 7 ≡ 0x23) × (field w 12 3 ≡ store_funct3 op)
 HasParts w (Immediate op rd rs1 immediate) =
-    (field w 0 7 ≡ immediate_opcode op) × (field w 12 3 ≡ immediate_funct3 op)
+    (field w 0 7 ≡ (immediate_key op).opcode) × (field w 12 3 ≡ (immediate_key op).funct3)
 HasParts w (Shift op rd rs1 amount) =
-    (field w 0 7 ≡ shift_opcode op) × (field w 12 3 ≡ shift_funct3 op) × (field w 26 6 ≡ shift_funct6 op)
+    (field w 0 7 ≡ (shift_key op).opcode) × (field w 12 3 ≡ (shift_key op).funct3) × (field w 26 6 ≡ (shift_key op).top)
     × (field w 20 6 < 2 ^ shift_bits op)
 HasParts w (Register op rd rs1 rs2) =
-    (field w 0 7 ≡ register_opcode op) × (field w 12 3 ≡ register_funct3 op) × (field w 25 7 ≡ register_funct7 op)
+    (field w 0 7 ≡ (register_key op).opcode) × (field w 12 3 ≡ (register_key op).funct3) × (field w 25 7 ≡ (register_key op).top)
 HasParts w (Fence predecessor successor) = (field w 0 7 ≡ 0x0f) × (field w 12 3 ≡ 0)
 HasParts w FenceI = (field w 0 7 ≡ 0x0f) × (field w 12 3 ≡ 1)
 HasParts w (Cache op rs1) =
@@ -185,7 +185,7 @@ store_only w h e (Store op rs2 rs1 offset) s =
 store_only w h e i s = absurd (grind (arith, e, opcode_is w h i s))
 
 pub immediate_only : (w : ℕ) → w < 2 ^ 32 → ((field w 0 7 ≡ 0x13) ⊎ (field w 0 7 ≡ 0x1b)) → ((field w 12 3 ≡ 1) ⊎ (field w 12 3 ≡ 5) → ⊥) → (i : Instr) → Spells w i
-    → (op : ImmediateOp) × (rd : Reg) × (rs1 : Reg) × (i ≡ Immediate op rd rs1 (i_immediate w)) × (field w 0 7 ≡ immediate_opcode op) × (field w 12 3 ≡ immediate_funct3 op) × HasRd w rd × HasRs1 w rs1
+    → (op : ImmediateOp) × (rd : Reg) × (rs1 : Reg) × (i ≡ Immediate op rd rs1 (i_immediate w)) × (field w 0 7 ≡ (immediate_key op).opcode) × (field w 12 3 ≡ (immediate_key op).funct3) × HasRd w rd × HasRs1 w rs1
 immediate_only w h e f (Immediate op rd rs1 immediate) s =
     let p : HasParts w (Immediate op rd rs1 immediate) = parts w h (Immediate op rd rs1 immediate) s in
     (op, rd, rs1, cc (s.operands.2), p.0, p.1, s.operands.0, s.operands.1)
@@ -193,7 +193,7 @@ immediate_only w h e f (Shift op rd rs1 amount) s = absurd (f (rw ((parts w h (S
 immediate_only w h e f i s = absurd (grind (arith, e, opcode_is w h i s))
 
 pub shift_only : (w : ℕ) → w < 2 ^ 32 → ((field w 0 7 ≡ 0x13) ⊎ (field w 0 7 ≡ 0x1b)) → ((field w 12 3 ≡ 1) ⊎ (field w 12 3 ≡ 5)) → (i : Instr) → Spells w i
-    → (op : ShiftOp) × (rd : Reg) × (rs1 : Reg) × (i ≡ Shift op rd rs1 (field w 20 (shift_bits op))) × (field w 0 7 ≡ shift_opcode op) × (field w 12 3 ≡ shift_funct3 op) × (field w 26 6 ≡ shift_funct6 op) × (field w 20 6 < 2 ^ shift_bits op) × HasRd w rd × HasRs1 w rs1
+    → (op : ShiftOp) × (rd : Reg) × (rs1 : Reg) × (i ≡ Shift op rd rs1 (field w 20 (shift_bits op))) × (field w 0 7 ≡ (shift_key op).opcode) × (field w 12 3 ≡ (shift_key op).funct3) × (field w 26 6 ≡ (shift_key op).top) × (field w 20 6 < 2 ^ shift_bits op) × HasRd w rd × HasRs1 w rs1
 shift_only w h e f (Shift op rd rs1 amount) s =
     let p : HasParts w (Shift op rd rs1 amount) = parts w h (Shift op rd rs1 amount) s in
     (op, rd, rs1, cc (s.operands.2), p.0, p.1, p.2, p.3, s.operands.0, s.operands.1)
@@ -201,7 +201,7 @@ shift_only w h e f (Immediate op rd rs1 immediate) s = absurd (immediate_unshift
 shift_only w h e f i s = absurd (grind (arith, e, opcode_is w h i s))
 
 pub register_only : (w : ℕ) → w < 2 ^ 32 → ((field w 0 7 ≡ 0x33) ⊎ (field w 0 7 ≡ 0x3b)) → (i : Instr) → Spells w i
-    → (op : RegisterOp) × (rd : Reg) × (rs1 : Reg) × (rs2 : Reg) × (i ≡ Register op rd rs1 rs2) × (field w 0 7 ≡ register_opcode op) × (field w 12 3 ≡ register_funct3 op) × (field w 25 7 ≡ register_funct7 op) × HasRd w rd × HasRs1 w rs1 × HasRs2 w rs2
+    → (op : RegisterOp) × (rd : Reg) × (rs1 : Reg) × (rs2 : Reg) × (i ≡ Register op rd rs1 rs2) × (field w 0 7 ≡ (register_key op).opcode) × (field w 12 3 ≡ (register_key op).funct3) × (field w 25 7 ≡ (register_key op).top) × HasRd w rd × HasRs1 w rs1 × HasRs2 w rs2
 register_only w h e (Register op rd rs1 rs2) s =
     let p : HasParts w (Register op rd rs1 rs2) = parts w h (Register op rd rs1 rs2) s in
     (op, rd, rs1, rs2, refl, p.0, p.1, p.2, s.operands.0, s.operands.1, s.operands.2)

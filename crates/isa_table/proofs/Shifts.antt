@@ -4,7 +4,7 @@ use Rattle.word_bits.specs.Numbers.{field}
 use Rattle.isa_table.specs.declared.instruction.ShiftOp.{ShiftOp}
 use Rattle.isa_table.specs.declared.instruction.ShiftOp.TheVariants.{Slli, Srli, Srai, Slliw, Srliw, Sraiw}
 use Rattle.isa_table.specs.Operands.{shift_bits}
-use Rattle.isa_table.specs.Table.{shift_mask, shift_opcode, shift_funct3, shift_funct6}
+use Rattle.isa_table.specs.Table.{shift_mask, shift_key}
 use Rattle.isa_table.proofs.Mnemonics.{shift_opcode_small, shift_funct3_small, shift_funct6_small}
 use Rattle.isa_table.proofs.Masks.{masked_fc00707f, masked_fe00707f}
 
@@ -43,15 +43,15 @@ unmasked m n o f g w (inr e) ho hf hg s =
     let k = masked_fe00707f w in
     (omega arith, omega arith, omega arith, rw e.1 (omega arith))
 
-pub shift_masked : (op : ShiftOp) (w : ℕ) → field w 26 6 ≡ shift_funct6 op → field w 20 6 < 2 ^ shift_bits op
-    → bit_and w (shift_mask op) ≡ field w 0 7 + field w 12 3 * 2 ^ 12 + shift_funct6 op * 2 ^ 26
+pub shift_masked : (op : ShiftOp) (w : ℕ) → field w 26 6 ≡ (shift_key op).top → field w 20 6 < 2 ^ shift_bits op
+    → bit_and w (shift_mask op) ≡ field w 0 7 + field w 12 3 * 2 ^ 12 + (shift_key op).top * 2 ^ 26
 shift_masked op w f h = masked _ (shift_bits op) _ w (widths op) f h
 
 pub shift_amount : (op : ShiftOp) (w : ℕ) → field w 20 6 < 2 ^ shift_bits op → field w 20 (shift_bits op) ≡ field w 20 6
 shift_amount op w h = amount _ _ w (widths op) h
 
 pub shift_unmasked : (op : ShiftOp) (w : ℕ)
-    → bit_and w (shift_mask op) ≡ shift_opcode op + shift_funct3 op * 2 ^ 12 + shift_funct6 op * 2 ^ 26
-    → (field w 0 7 ≡ shift_opcode op) × (field w 12 3 ≡ shift_funct3 op) × (field w 26 6 ≡ shift_funct6 op)
+    → bit_and w (shift_mask op) ≡ (shift_key op).opcode + (shift_key op).funct3 * 2 ^ 12 + (shift_key op).top * 2 ^ 26
+    → (field w 0 7 ≡ (shift_key op).opcode) × (field w 12 3 ≡ (shift_key op).funct3) × (field w 26 6 ≡ (shift_key op).top)
     × (field w 20 6 < 2 ^ shift_bits op)
 shift_unmasked op w s = unmasked _ _ _ _ _ w (widths op) (shift_opcode_small op) (shift_funct3_small op) (shift_funct6_small op) s

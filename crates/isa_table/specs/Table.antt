@@ -26,6 +26,7 @@ use Rattle.isa_table.specs.declared.instruction.AtomicOp.{AtomicOp}
 use Rattle.isa_table.specs.declared.instruction.AtomicOp.TheVariants.{Sc, Amoswap, Amoadd, Amoxor, Amoand, Amoor, Amomin, Amomax, Amominu, Amomaxu}
 use Rattle.isa_table.specs.declared.instruction.SystemOp.{SystemOp}
 use Rattle.isa_table.specs.declared.instruction.SystemOp.TheVariants.{Ecall, Ebreak}
+use Rattle.isa_table.specs.declared.keys.Key.{Key}
 use Rattle.isa_table.specs.Operands.{HasOperands, HasZeros}
 
 -- U-type: bits 6 to 0
@@ -59,54 +60,30 @@ store_funct3 Sh = 1
 store_funct3 Sw = 2
 store_funct3 Sd = 3
 
--- I-type, on doublewords 0010011 and on words 0011011: bits 6 to 0
-abbrev pub immediate_opcode : ImmediateOp → ℕ
-immediate_opcode Addi = 0x13
-immediate_opcode Slti = 0x13
-immediate_opcode Sltiu = 0x13
-immediate_opcode Xori = 0x13
-immediate_opcode Ori = 0x13
-immediate_opcode Andi = 0x13
-immediate_opcode Addiw = 0x1b
+-- the fields that tell the mnemonics of a format apart: bits 6 to 0, bits 14 to 12, and those from the top on that the format names
+abbrev pub key : ℕ → ℕ → ℕ → Key
+key opcode funct3 top = record { opcode = opcode; funct3 = funct3; top = top }
 
--- I-type: bits 14 to 12
-abbrev pub immediate_funct3 : ImmediateOp → ℕ
-immediate_funct3 Addi = 0
-immediate_funct3 Slti = 2
-immediate_funct3 Sltiu = 3
-immediate_funct3 Xori = 4
-immediate_funct3 Ori = 6
-immediate_funct3 Andi = 7
-immediate_funct3 Addiw = 0
+-- I-type, on doublewords 0010011 and on words 0011011
+abbrev pub immediate_key : ImmediateOp → Key
+immediate_key Addi = key 0x13 0 0
+immediate_key Slti = key 0x13 2 0
+immediate_key Sltiu = key 0x13 3 0
+immediate_key Xori = key 0x13 4 0
+immediate_key Ori = key 0x13 6 0
+immediate_key Andi = key 0x13 7 0
+immediate_key Addiw = key 0x1b 0 0
 
--- I-type with a shift: bits 6 to 0
-abbrev pub shift_opcode : ShiftOp → ℕ
-shift_opcode Slli = 0x13
-shift_opcode Srli = 0x13
-shift_opcode Srai = 0x13
-shift_opcode Slliw = 0x1b
-shift_opcode Srliw = 0x1b
-shift_opcode Sraiw = 0x1b
+-- I-type with a shift: its top are bits 31 to 26
+abbrev pub shift_key : ShiftOp → Key
+shift_key Slli = key 0x13 1 0
+shift_key Srli = key 0x13 5 0
+shift_key Srai = key 0x13 5 0b010000
+shift_key Slliw = key 0x1b 1 0
+shift_key Srliw = key 0x1b 5 0
+shift_key Sraiw = key 0x1b 5 0b010000
 
--- I-type with a shift: bits 14 to 12
-abbrev pub shift_funct3 : ShiftOp → ℕ
-shift_funct3 Slli = 1
-shift_funct3 Srli = 5
-shift_funct3 Srai = 5
-shift_funct3 Slliw = 1
-shift_funct3 Srliw = 5
-shift_funct3 Sraiw = 5
-
--- I-type with a shift: bits 31 to 26
-abbrev pub shift_funct6 : ShiftOp → ℕ
-shift_funct6 Slli = 0
-shift_funct6 Srli = 0
-shift_funct6 Srai = 0b010000
-shift_funct6 Slliw = 0
-shift_funct6 Srliw = 0
-shift_funct6 Sraiw = 0b010000
-
--- I-type with a shift: bit 25 is of the amount where doublewords are shifted, and zero where words are
+-- bit 25 is of the amount where doublewords are shifted, and zero where words are
 abbrev pub shift_mask : ShiftOp → ℕ
 shift_mask Slli = 0xfc00707f
 shift_mask Srli = 0xfc00707f
@@ -115,59 +92,23 @@ shift_mask Slliw = 0xfe00707f
 shift_mask Srliw = 0xfe00707f
 shift_mask Sraiw = 0xfe00707f
 
--- R-type, on doublewords 0110011 and on words 0111011: bits 6 to 0
-abbrev pub register_opcode : RegisterOp → ℕ
-register_opcode Add = 0x33
-register_opcode Sub = 0x33
-register_opcode Sll = 0x33
-register_opcode Slt = 0x33
-register_opcode Sltu = 0x33
-register_opcode Xor = 0x33
-register_opcode Srl = 0x33
-register_opcode Sra = 0x33
-register_opcode Or = 0x33
-register_opcode And = 0x33
-register_opcode Addw = 0x3b
-register_opcode Subw = 0x3b
-register_opcode Sllw = 0x3b
-register_opcode Srlw = 0x3b
-register_opcode Sraw = 0x3b
-
--- R-type: bits 14 to 12
-abbrev pub register_funct3 : RegisterOp → ℕ
-register_funct3 Add = 0
-register_funct3 Sub = 0
-register_funct3 Sll = 1
-register_funct3 Slt = 2
-register_funct3 Sltu = 3
-register_funct3 Xor = 4
-register_funct3 Srl = 5
-register_funct3 Sra = 5
-register_funct3 Or = 6
-register_funct3 And = 7
-register_funct3 Addw = 0
-register_funct3 Subw = 0
-register_funct3 Sllw = 1
-register_funct3 Srlw = 5
-register_funct3 Sraw = 5
-
--- R-type: bits 31 to 25
-abbrev pub register_funct7 : RegisterOp → ℕ
-register_funct7 Add = 0
-register_funct7 Sub = 0b0100000
-register_funct7 Sll = 0
-register_funct7 Slt = 0
-register_funct7 Sltu = 0
-register_funct7 Xor = 0
-register_funct7 Srl = 0
-register_funct7 Sra = 0b0100000
-register_funct7 Or = 0
-register_funct7 And = 0
-register_funct7 Addw = 0
-register_funct7 Subw = 0b0100000
-register_funct7 Sllw = 0
-register_funct7 Srlw = 0
-register_funct7 Sraw = 0b0100000
+-- R-type, on doublewords 0110011 and on words 0111011: its top are bits 31 to 25
+abbrev pub register_key : RegisterOp → Key
+register_key Add = key 0x33 0 0
+register_key Sub = key 0x33 0 0b0100000
+register_key Sll = key 0x33 1 0
+register_key Slt = key 0x33 2 0
+register_key Sltu = key 0x33 3 0
+register_key Xor = key 0x33 4 0
+register_key Srl = key 0x33 5 0
+register_key Sra = key 0x33 5 0b0100000
+register_key Or = key 0x33 6 0
+register_key And = key 0x33 7 0
+register_key Addw = key 0x3b 0 0
+register_key Subw = key 0x3b 0 0b0100000
+register_key Sllw = key 0x3b 1 0
+register_key Srlw = key 0x3b 5 0
+register_key Sraw = key 0x3b 5 0b0100000
 
 -- cbo, opcode 0001111 with 010 in bits 14 to 12: bits 31 to 20
 abbrev pub cache_function : CacheOp → ℕ
@@ -214,11 +155,11 @@ row_of (JumpRegister rd rs1 offset) = row 0x707f 0x67
 row_of (Branch op rs1 rs2 distance) = row 0x707f (0x63 + branch_funct3 op * 2 ^ 12)
 row_of (Load op rd rs1 offset) = row 0x707f (0x03 + load_funct3 op * 2 ^ 12)
 row_of (Store op rs2 rs1 offset) = row 0x707f (0x23 + store_funct3 op * 2 ^ 12)
-row_of (Immediate op rd rs1 immediate) = row 0x707f (immediate_opcode op + immediate_funct3 op * 2 ^ 12)
+row_of (Immediate op rd rs1 immediate) = row 0x707f ((immediate_key op).opcode + (immediate_key op).funct3 * 2 ^ 12)
 row_of (Shift op rd rs1 amount) =
-    row (shift_mask op) (shift_opcode op + shift_funct3 op * 2 ^ 12 + shift_funct6 op * 2 ^ 26)
+    row (shift_mask op) ((shift_key op).opcode + (shift_key op).funct3 * 2 ^ 12 + (shift_key op).top * 2 ^ 26)
 row_of (Register op rd rs1 rs2) =
-    row 0xfe00707f (register_opcode op + register_funct3 op * 2 ^ 12 + register_funct7 op * 2 ^ 25)
+    row 0xfe00707f ((register_key op).opcode + (register_key op).funct3 * 2 ^ 12 + (register_key op).top * 2 ^ 25)
 row_of (Fence predecessor successor) = row 0x707f 0x0f
 row_of FenceI = row 0x707f 0x100f
 row_of (Cache op rs1) = row 0xfff07fff (0x200f + cache_function op * 2 ^ 20)

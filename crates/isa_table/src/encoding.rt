@@ -129,14 +129,9 @@ fn immediate(op: ImmediateOp, rd: Reg, rs1: Reg, value: i32) -> u32
     requires { FitsBits 12 value }
     ensures { IsCanonical result (Instr.Immediate op rd rs1 value) }
 {
+    let key = keys::immediate_key(op);
     let bits = low_bits(value, 12);
-    join_upper(
-        keys::immediate_opcode(op),
-        u32::from(rd.number),
-        keys::immediate_funct3(op),
-        rs1,
-        bits,
-    )
+    join_upper(key.opcode, u32::from(rd.number), key.funct3, rs1, bits)
 }
 
 #[tactic(auto, using(crate::proofs::Shifts::shift_masked, crate::proofs::Shifts::shift_amount))]
@@ -144,27 +139,23 @@ fn shift(op: ShiftOp, rd: Reg, rs1: Reg, amount: u32) -> u32
     requires { HasShiftInRange (Instr.Shift op rd rs1 amount) }
     ensures { IsCanonical result (Instr.Shift op rd rs1 amount) }
 {
-    let upper = keys::shift_funct6(op) * 64 + amount;
-    join_upper(
-        keys::shift_opcode(op),
-        u32::from(rd.number),
-        keys::shift_funct3(op),
-        rs1,
-        upper,
-    )
+    let key = keys::shift_key(op);
+    let upper = key.top * 64 + amount;
+    join_upper(key.opcode, u32::from(rd.number), key.funct3, rs1, upper)
 }
 
 #[tactic(auto, using(crate::proofs::Masks::masked_fe00707f))]
 fn register(op: RegisterOp, rd: Reg, rs1: Reg, rs2: Reg) -> u32
     ensures { IsCanonical result (Instr.Register op rd rs1 rs2) }
 {
+    let key = keys::register_key(op);
     join(
-        keys::register_opcode(op),
+        key.opcode,
         u32::from(rd.number),
-        keys::register_funct3(op),
+        key.funct3,
         rs1,
         u32::from(rs2.number),
-        keys::register_funct7(op),
+        key.top,
     )
 }
 

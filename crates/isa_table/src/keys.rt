@@ -3,16 +3,37 @@
 //! Source: RISC-V Unprivileged ISA 20191213, chapter 24 (opcode listings); CMO 1.0.
 
 ghost use Rattle.isa_table.specs.Table.{upper_opcode, branch_funct3, load_funct3, store_funct3};
-ghost use Rattle.isa_table.specs.Table.{immediate_opcode, immediate_funct3, shift_opcode};
-ghost use Rattle.isa_table.specs.Table.{shift_funct3, shift_funct6, register_opcode};
-ghost use Rattle.isa_table.specs.Table.{register_funct3, register_funct7, cache_function};
-ghost use Rattle.isa_table.specs.Table.{width_funct3, atomic_funct5, system_word};
+ghost use Rattle.isa_table.specs.Table.{immediate_key, key, register_key, shift_key};
+ghost use Rattle.isa_table.specs.Table.{cache_function, width_funct3, atomic_funct5, system_word};
 ghost use Rattle.std.specs.Prelude.{◌≡◌, ◌^◌, ◌<◌};
 
 use crate::instruction::{
     AtomicOp, AtomicWidth, BranchOp, CacheOp, ImmediateOp, LoadOp, RegisterOp, ShiftOp, StoreOp,
     SystemOp, UpperOp,
 };
+
+/// The fields that tell the mnemonics of one format apart.
+#[derive(Clone, Copy)]
+pub struct Key {
+    /// Bits 6 to 0.
+    pub opcode: u32,
+    /// Bits 14 to 12.
+    pub funct3: u32,
+    /// The highest bits: seven of a register instruction, six of a shift; 0 where there are none.
+    pub top: u32,
+}
+
+impl Key {
+    fn new(opcode: u32, funct3: u32, top: u32) -> Key
+        ensures { result ≡ key opcode funct3 top }
+    {
+        Key {
+            opcode,
+            funct3,
+            top,
+        }
+    }
+}
 
 pub fn upper_opcode(op: UpperOp) -> u32
     ensures value { result ≡ upper_opcode op }
@@ -65,121 +86,61 @@ pub fn store_funct3(op: StoreOp) -> u32
     }
 }
 
-pub fn immediate_opcode(op: ImmediateOp) -> u32
-    ensures value { result ≡ immediate_opcode op }
-    ensures below { result < 2 ^ 7 }
+pub fn immediate_key(op: ImmediateOp) -> Key
+    ensures value { result ≡ immediate_key op }
+    ensures opcode { result.opcode < 2 ^ 7 }
+    ensures funct3 { result.funct3 < 2 ^ 3 }
+    ensures top { result.top < 2 ^ 6 }
 {
     match op {
-        ImmediateOp::Addi
-        | ImmediateOp::Slti
-        | ImmediateOp::Sltiu
-        | ImmediateOp::Xori
-        | ImmediateOp::Ori
-        | ImmediateOp::Andi => 0x13,
-        ImmediateOp::Addiw => 0x1b,
+        ImmediateOp::Addi => Key::new(0x13, 0, 0),
+        ImmediateOp::Slti => Key::new(0x13, 2, 0),
+        ImmediateOp::Sltiu => Key::new(0x13, 3, 0),
+        ImmediateOp::Xori => Key::new(0x13, 4, 0),
+        ImmediateOp::Ori => Key::new(0x13, 6, 0),
+        ImmediateOp::Andi => Key::new(0x13, 7, 0),
+        ImmediateOp::Addiw => Key::new(0x1b, 0, 0),
     }
 }
 
-pub fn immediate_funct3(op: ImmediateOp) -> u32
-    ensures value { result ≡ immediate_funct3 op }
-    ensures below { result < 2 ^ 3 }
+pub fn shift_key(op: ShiftOp) -> Key
+    ensures value { result ≡ shift_key op }
+    ensures opcode { result.opcode < 2 ^ 7 }
+    ensures funct3 { result.funct3 < 2 ^ 3 }
+    ensures top { result.top < 2 ^ 6 }
 {
     match op {
-        ImmediateOp::Addi | ImmediateOp::Addiw => 0,
-        ImmediateOp::Slti => 2,
-        ImmediateOp::Sltiu => 3,
-        ImmediateOp::Xori => 4,
-        ImmediateOp::Ori => 6,
-        ImmediateOp::Andi => 7,
+        ShiftOp::Slli => Key::new(0x13, 1, 0),
+        ShiftOp::Srli => Key::new(0x13, 5, 0),
+        ShiftOp::Srai => Key::new(0x13, 5, 0b010000),
+        ShiftOp::Slliw => Key::new(0x1b, 1, 0),
+        ShiftOp::Srliw => Key::new(0x1b, 5, 0),
+        ShiftOp::Sraiw => Key::new(0x1b, 5, 0b010000),
     }
 }
 
-pub fn shift_opcode(op: ShiftOp) -> u32
-    ensures value { result ≡ shift_opcode op }
-    ensures below { result < 2 ^ 7 }
+pub fn register_key(op: RegisterOp) -> Key
+    ensures value { result ≡ register_key op }
+    ensures opcode { result.opcode < 2 ^ 7 }
+    ensures funct3 { result.funct3 < 2 ^ 3 }
+    ensures top { result.top < 2 ^ 7 }
 {
     match op {
-        ShiftOp::Slli | ShiftOp::Srli | ShiftOp::Srai => 0x13,
-        ShiftOp::Slliw | ShiftOp::Srliw | ShiftOp::Sraiw => 0x1b,
-    }
-}
-
-pub fn shift_funct3(op: ShiftOp) -> u32
-    ensures value { result ≡ shift_funct3 op }
-    ensures below { result < 2 ^ 3 }
-{
-    match op {
-        ShiftOp::Slli | ShiftOp::Slliw => 1,
-        ShiftOp::Srli | ShiftOp::Srai | ShiftOp::Srliw | ShiftOp::Sraiw => 5,
-    }
-}
-
-pub fn shift_funct6(op: ShiftOp) -> u32
-    ensures value { result ≡ shift_funct6 op }
-    ensures below { result < 2 ^ 6 }
-{
-    match op {
-        ShiftOp::Slli | ShiftOp::Srli | ShiftOp::Slliw | ShiftOp::Srliw => 0,
-        ShiftOp::Srai | ShiftOp::Sraiw => 0b010000,
-    }
-}
-
-pub fn register_opcode(op: RegisterOp) -> u32
-    ensures value { result ≡ register_opcode op }
-    ensures below { result < 2 ^ 7 }
-{
-    match op {
-        RegisterOp::Add
-        | RegisterOp::Sub
-        | RegisterOp::Sll
-        | RegisterOp::Slt
-        | RegisterOp::Sltu
-        | RegisterOp::Xor
-        | RegisterOp::Srl
-        | RegisterOp::Sra
-        | RegisterOp::Or
-        | RegisterOp::And => 0x33,
-        RegisterOp::Addw
-        | RegisterOp::Subw
-        | RegisterOp::Sllw
-        | RegisterOp::Srlw
-        | RegisterOp::Sraw => 0x3b,
-    }
-}
-
-pub fn register_funct3(op: RegisterOp) -> u32
-    ensures value { result ≡ register_funct3 op }
-    ensures below { result < 2 ^ 3 }
-{
-    match op {
-        RegisterOp::Add | RegisterOp::Sub | RegisterOp::Addw | RegisterOp::Subw => 0,
-        RegisterOp::Sll | RegisterOp::Sllw => 1,
-        RegisterOp::Slt => 2,
-        RegisterOp::Sltu => 3,
-        RegisterOp::Xor => 4,
-        RegisterOp::Srl | RegisterOp::Sra | RegisterOp::Srlw | RegisterOp::Sraw => 5,
-        RegisterOp::Or => 6,
-        RegisterOp::And => 7,
-    }
-}
-
-pub fn register_funct7(op: RegisterOp) -> u32
-    ensures value { result ≡ register_funct7 op }
-    ensures below { result < 2 ^ 7 }
-{
-    match op {
-        RegisterOp::Add
-        | RegisterOp::Sll
-        | RegisterOp::Slt
-        | RegisterOp::Sltu
-        | RegisterOp::Xor
-        | RegisterOp::Srl
-        | RegisterOp::Or
-        | RegisterOp::And
-        | RegisterOp::Addw
-        | RegisterOp::Sllw
-        | RegisterOp::Srlw => 0,
-        RegisterOp::Sub | RegisterOp::Sra | RegisterOp::Subw | RegisterOp::Sraw => 0b0100000,
+        RegisterOp::Add => Key::new(0x33, 0, 0),
+        RegisterOp::Sub => Key::new(0x33, 0, 0b0100000),
+        RegisterOp::Sll => Key::new(0x33, 1, 0),
+        RegisterOp::Slt => Key::new(0x33, 2, 0),
+        RegisterOp::Sltu => Key::new(0x33, 3, 0),
+        RegisterOp::Xor => Key::new(0x33, 4, 0),
+        RegisterOp::Srl => Key::new(0x33, 5, 0),
+        RegisterOp::Sra => Key::new(0x33, 5, 0b0100000),
+        RegisterOp::Or => Key::new(0x33, 6, 0),
+        RegisterOp::And => Key::new(0x33, 7, 0),
+        RegisterOp::Addw => Key::new(0x3b, 0, 0),
+        RegisterOp::Subw => Key::new(0x3b, 0, 0b0100000),
+        RegisterOp::Sllw => Key::new(0x3b, 1, 0),
+        RegisterOp::Srlw => Key::new(0x3b, 5, 0),
+        RegisterOp::Sraw => Key::new(0x3b, 5, 0b0100000),
     }
 }
 

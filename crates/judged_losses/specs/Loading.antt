@@ -1,7 +1,7 @@
 -- The lines of an image that a recovery routine loads.
 -- This project's own: what a routine does on a crash image (Vinter, USENIX ATC 2022) depends on what it loads of it.
 use Rattle.std.specs.Prelude.{ℕ, List, Result}
-use Rattle.object.specs.Sections.{Sections}
+use Rattle.program.specs.Sections.{Sections}
 use Rattle.recovery.specs.Routine.{Recovers}
 use Rattle.recovery_run.specs.declared.Cause.{Cause}
 

@@ -2,7 +2,7 @@
 #![tactic(auto)]
 
 mod begun;
-mod text;
+mod printed;
 mod words;
 
-pub use text::listing_text;
+pub use printed::listing_text;

@@ -13,7 +13,7 @@ use Rattle.shared_memory.specs.declared.history.Entry.{Entry}
 use Rattle.shared_memory.specs.declared.history.Entry.TheVariants.{Asked}
 use Rattle.shared_memory.specs.Histories.{copied, is_renewing, replayed, text_of}
 use Rattle.machine.specs.Run.{fetched}
-use Rattle.machine.specs.Stands.{copies_after, text_bytes}
+use Rattle.machine.specs.Represents.{copies_after, text_bytes}
 
 -- the text of a flat memory is that of its text region
 pub text_there : (ram : RamView) (persistent : Memory) → text_bytes ram.text ≡ text_of (flat (ram_bytes ram) persistent)

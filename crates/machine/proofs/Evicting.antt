@@ -19,7 +19,7 @@ use Rattle.shared_memory.specs.declared.history.Entry.TheVariants.{Asked, Evicte
 use Rattle.machine.specs.Evicting.{AreAlike, hart_steps, requests}
 use Rattle.shared_memory.specs.Histories.{calls_of, copied, has_reserved, is_renewal, memory_after, replayed, text_of}
 use Rattle.machine.specs.Run.{Config, HartSteps, HartStepsIfThere, Meets, RunsTo, StepsTo, after_request, fetched, fetched_by, with_hart}
-use Rattle.shared_memory.specs.Served.{events_of, replied, reply_after}
+use Rattle.shared_memory.specs.Replies.{events_of, replied, reply_after}
 
 -- what is read off a history is read off its requests
 calls_kept : (history : List Entry) → flat_map calls_of history ≡ flat_map calls_of (requests history)

@@ -1,4 +1,5 @@
 pub mod Copying
+pub mod Counting
 pub mod Determined
 pub mod Evicting
 pub mod Refusing

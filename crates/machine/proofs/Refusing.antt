@@ -22,8 +22,8 @@ use Rattle.machine.specs.Outcomes.{HartMakesEvent, MakesEvent}
 use Rattle.machine.specs.Refusals.{LacksHart, LacksLine, Refuses}
 use Rattle.shared_memory.specs.Refusals.{IsEventFault, RefusesRequest}
 use Rattle.machine.specs.Run.{Config, Executes, StepsTo, after_request, fetched, fetched_by}
-use Rattle.shared_memory.specs.Served.{events_of, reply_after}
-use Rattle.machine.specs.Stands.{IsThere, MachineView, Stands, copy_of}
+use Rattle.shared_memory.specs.Replies.{events_of, reply_after}
+use Rattle.machine.specs.Represents.{IsThere, MachineView, Represents, copy_of}
 use Rattle.shared_memory.specs.SharedView.{Serves, SharedView, reply_to}
 use Rattle.machine.proofs.Determined.{needs_once}
 use Rattle.shared_memory.proofs.Shown.{reply_stands}
@@ -74,7 +74,7 @@ longer m new h s request reply there needs serves makes =
 executes_word : (c d : Config) (h : ℕ) (s : HartState) (word other : Option ℕ) → word ≡ other → Executes c h s word d → Executes c h s other d
 executes_word c d h s word other e executes = rw e at executes
 
-asks_longer : (m : MachineView) (h : ℕ) (s : HartState) (c : Config) (request : Request) → length m.harts ≤ 8 → Stands m c
+asks_longer : (m : MachineView) (h : ℕ) (s : HartState) (c : Config) (request : Request) → length m.harts ≤ 8 → Represents m c
     → slice_get m.harts h ≡ Some s → s.status ≡ Running → Needs s (fetched (copy_of m h) s.pc) (Ask request)
     → length (events_of h request (reply_to m.shared h request)) ≡ 1
     → (d : Config) × StepsTo c (Hart h) d × (length d.common.trace ≡ length c.common.trace + 1)
@@ -93,13 +93,13 @@ asks_longer m h s c request few stands there running needs event =
       length-append c.common.trace (events_of h request reply) ∙ ap (λ (n : ℕ). length c.common.trace + n) one,
     )
 
-hart_event_is_longer : (m : MachineView) (h : ℕ) (o : Option HartState) (c : Config) → length m.harts ≤ 8 → Stands m c → slice_get m.harts h ≡ o
+hart_event_is_longer : (m : MachineView) (h : ℕ) (o : Option HartState) (c : Config) → length m.harts ≤ 8 → Represents m c → slice_get m.harts h ≡ o
     → HartMakesEvent m h → (d : Config) × StepsTo c (Hart h) d × (length d.common.trace ≡ length c.common.trace + 1)
 hart_event_is_longer m h None c few stands there makes = absurd (rw there at makes.running)
 hart_event_is_longer m h (Some s) c few stands there makes =
     asks_longer m h s c makes.request few stands there (rw there at makes.running) (rw there at makes.asks) makes.event
 
-pub event_is_longer : (m : MachineView) (step : Step) (c : Config) → length m.harts ≤ 8 → Stands m c → MakesEvent m step
+pub event_is_longer : (m : MachineView) (step : Step) (c : Config) → length m.harts ≤ 8 → Represents m c → MakesEvent m step
     → (d : Config) × StepsTo c step d × (length d.common.trace ≡ length c.common.trace + 1)
 event_is_longer m (Hart h) c few stands makes = hart_event_is_longer m h (slice_get m.harts h) c few stands refl makes
 event_is_longer m (Evict line) c few stands makes = absurd makes

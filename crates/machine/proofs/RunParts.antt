@@ -15,7 +15,7 @@ use Rattle.schedule.specs.declared.items.Step.TheVariants.{Hart, Evict}
 use Rattle.store_trace.specs.declared.event.Event.{Event}
 use Rattle.shared_memory.specs.Histories.{Write, written}
 use Rattle.machine.specs.Run.{Config, HartSteps, HartStepsIfThere, Meets, RunsTo, StepsTo, fetched_by}
-use Rattle.shared_memory.specs.Served.{events_of, events_of_write, reply_after}
+use Rattle.shared_memory.specs.Replies.{events_of, events_of_write, reply_after}
 
 pub run_joined : (c d e : Config) (first others : List Step) → RunsTo c first d → RunsTo d others e → RunsTo c (first ++ others) e
 run_joined c d e [] others a b = rw (← a) b

@@ -1,4 +1,4 @@
--- One step of a machine is one step of what it stands for.
+-- One step of a machine is one step of what it represents.
 use Rattle.std.proofs.Common.{◌≡◌, ℕ, List, [], ◌∷◌, length, All, Some, slice_get, slice_set, ◌<◌, get_or, get_or-set_same, refl, ap, ◌∙◌}
 use Rattle.std.proofs.Math.ListN.{length-set}
 use Rattle.std.proofs.lemmas.List.Elements.{All-nil, All-push}
@@ -20,9 +20,9 @@ use Rattle.schedule.specs.declared.items.Step.TheVariants.{Hart, Evict}
 use Rattle.shared_memory.specs.declared.history.Entry.TheVariants.{Asked, Evicted}
 use Rattle.shared_memory.specs.Histories.{copied, replayed, text_of}
 use Rattle.machine.specs.Outcomes.{hart_outcome, outcome_of}
-use Rattle.shared_memory.specs.Served.{asked, reply_after}
+use Rattle.shared_memory.specs.Replies.{asked, reply_after}
 use Rattle.machine.specs.Run.{Config, Executes, HartSteps, RunsTo, StepsTo, after_request, fetched, fetched_by, with_hart}
-use Rattle.machine.specs.Stands.{Answers, IsThere, MachineView, Runs, Stands, copies_after, copy_of, text_bytes}
+use Rattle.machine.specs.Represents.{Answers, IsThere, MachineView, Runs, Represents, copies_after, copy_of, text_bytes}
 use Rattle.shared_memory.specs.SharedView.{Evicts, SharedView, Shows, lines_shown}
 use Rattle.clean_fence.specs.Rules.{PmView, SameSizes}
 use Rattle.shared_memory.proofs.Shown.{evicted_shows, reply_stands, served_shows}
@@ -42,7 +42,7 @@ evicts old new shared line there evicted e = record {
   harts = rw e refl;
   lines = rw e evicted.steps.sizes.lines;
   capacity = rw e evicted.steps.sizes.capacity;
-  stands = λ c s.
+  represents = λ c s.
       let d : Config = record c { common = record c.common { history = Evicted line ∷ c.common.history } } in (
         d,
         one_step c d (Evict line) refl,
@@ -68,7 +68,7 @@ pub hart_steps : (c d : Config) (h : ℕ) (s : HartState) → slice_get c.harts 
 hart_steps c d h s there running x = rw there (running_steps c d h s s.status running x)
 
 -- a hart fetches from its copy
-pub word_stands : (m : MachineView) (c : Config) (h pc : ℕ) → Stands m c → h < length m.harts
+pub word_stands : (m : MachineView) (c : Config) (h pc : ℕ) → Represents m c → h < length m.harts
     → fetched (copy_of m h) pc ≡ fetched_by c h pc
 word_stands m c h pc stands inside = ap (λ (text : Memory). fetched text pc) (stands.copies h inside)
 
@@ -78,7 +78,7 @@ with_state m h s = record m { harts = slice_set m.harts h s }
 
 executes : (old new : MachineView) (h : ℕ) (s after : HartState) → slice_get old.harts h ≡ Some s → s.status ≡ Running
     → new.harts ≡ slice_set old.harts h after → SameSizes old.shared.cache new.shared.cache
-    → ((c : Config) → Stands old c → (d : Config) × Executes c h s (fetched (copy_of old h) s.pc) d × Stands new d)
+    → ((c : Config) → Represents old c → (d : Config) × Executes c h s (fetched (copy_of old h) s.pc) d × Represents new d)
     → Runs old new (Hart h ∷ [])
 executes old new h s after there running harts sizes makes =
     let inside : h < length old.harts = slice_get_within old.harts h s there in
@@ -87,14 +87,14 @@ executes old new h s after there running harts sizes makes =
       harts = ap (λ (l : List HartState). length l) harts ∙ simp length-set;
       lines = sizes.lines;
       capacity = sizes.capacity;
-      stands = λ c stands.
+      represents = λ c stands.
           let made = makes c stands in
           let there_too : slice_get c.harts h ≡ Some s = rw (← stands.harts) there in
           (made.0, one_step c made.0 (Hart h) (hart_steps c made.0 h s there_too running (rw (word_stands old c h s.pc stands inside) at made.1)), made.2);
     }
 
 -- the copies of a machine with another state of a hart
-copies_kept : (m : MachineView) (c : Config) (h k : ℕ) (after : HartState) → Stands m c → k < length (slice_set m.harts h after)
+copies_kept : (m : MachineView) (c : Config) (h k : ℕ) (after : HartState) → Represents m c → k < length (slice_set m.harts h after)
     → copy_of m k ≡ copied c.common.initial k c.common.history
 copies_kept m c h k after stands inside = stands.copies k (simp length-set at inside)
 
@@ -134,7 +134,7 @@ pub goes_on_answered : (old new : MachineView) (shared : SharedView) (h : ℕ) (
     → new ≡ record { harts = slice_set old.harts h after; copies = copies_after old.copies h request shared.ram.text; shared = shared }
     → Runs old new (Hart h ∷ [])
 goes_on_answered old new shared h s after i request few each there running needs spelled a e =
-    executes old new h s after there running (rw e refl) (rw e a.serves.steps.sizes) (λ c stands.
+    executes old new h s after there running (rw e refl) (rw e a.serves.steps.1.sizes) (λ c stands.
     let reply : Reply = reply_after c.common h request in
     let told : after ≡ answered s i reply =
     a.answered ∙ ap (λ (r : Reply). answered s i r) (a.serves.reply ∙ reply_stands old.shared h request c.common few stands.shared) in

@@ -1,6 +1,7 @@
 pub mod Evicting
 pub mod Outcomes
 pub mod Refusals
+pub mod Represents
 pub mod Run
-pub mod Stands
+pub mod RunLaws
 pub mod Stops

@@ -9,8 +9,8 @@ use Rattle.machine.specs.declared.machine.Outcome.{Outcome}
 use Rattle.machine.specs.declared.machine.Outcome.TheVariants.{Done, Exited, Trapped, Stopped}
 use Rattle.schedule.specs.declared.items.Step.{Step}
 use Rattle.schedule.specs.declared.items.Step.TheVariants.{Hart, Evict}
-use Rattle.shared_memory.specs.Served.{events_of}
-use Rattle.machine.specs.Stands.{IsRunning, MachineView, NeedsAt}
+use Rattle.shared_memory.specs.Replies.{events_of}
+use Rattle.machine.specs.Represents.{IsRunning, MachineView, NeedsAt}
 use Rattle.shared_memory.specs.SharedView.{reply_to}
 
 -- by a hart's status after a step that it made

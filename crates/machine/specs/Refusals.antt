@@ -5,7 +5,7 @@ use Rattle.shared_memory.specs.declared.fault.StepFault.TheVariants.{NoSuchHart,
 use Rattle.schedule.specs.declared.items.Step.{Step}
 use Rattle.schedule.specs.declared.items.Step.TheVariants.{Hart, Evict}
 use Rattle.machine.specs.Outcomes.{MakesEvent}
-use Rattle.machine.specs.Stands.{MachineView}
+use Rattle.machine.specs.Represents.{MachineView}
 
 -- it is a step of a hart that isn't there
 abbrev pub LacksHart : MachineView → Step → Type 0
@@ -28,3 +28,7 @@ Refuses machine step Memory = MakesEvent machine step × (length machine.shared.
 abbrev pub RefusesNext : MachineView → Option Step → StepFault → Type 0
 RefusesNext machine None fault = ⊥
 RefusesNext machine (Some step) fault = Refuses machine step fault
+
+-- the machine refuses the step, and is as it was
+abbrev pub IsRefused : MachineView → Step → MachineView → StepFault → Type 0
+IsRefused old step new fault = (new ≡ old) × Refuses old step fault

@@ -6,7 +6,7 @@ use Rattle.std.specs.List.{range_with_len}
 use Rattle.isa_table.specs.declared.instruction.Instr.{Instr}
 use Rattle.line_memory.specs.Memory.{Memory, loaded_from}
 use Rattle.line_memory.specs.declared.TheConstants.{TEXT_BASE, TEXT_SIZE}
-use Rattle.object.specs.Sections.{Sections}
+use Rattle.program.specs.Sections.{Sections}
 use Rattle.hart.specs.declared.state.HartState.{HartState}
 use Rattle.hart.specs.declared.state.Status.{Status}
 use Rattle.hart.specs.declared.state.Status.TheVariants.{Running, Exited, Trapped}
@@ -19,7 +19,7 @@ use Rattle.shared_memory.specs.declared.history.Entry.TheVariants.{Evicted}
 use Rattle.schedule.specs.declared.items.Step.{Step}
 use Rattle.schedule.specs.declared.items.Step.TheVariants.{Hart, Evict}
 use Rattle.shared_memory.specs.Histories.{copied}
-use Rattle.shared_memory.specs.Served.{Common, asked, common_at_start, reply_after}
+use Rattle.shared_memory.specs.Replies.{Common, asked, common_at_start, reply_after}
 
 -- all that a run changes: the harts, by their number, and what they share
 pub record Config : Type 0 where

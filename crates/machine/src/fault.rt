@@ -1,5 +1,6 @@
 //! Where a run is refused a step.
 
+use schedule::{Halted, Place};
 use shared_memory::StepFault;
 use thiserror::Error;
 
@@ -7,9 +8,20 @@ use thiserror::Error;
 #[derive(Clone, Copy, Debug, PartialEq, Eq, Error)]
 #[error("{fault}")]
 pub struct RunStop {
-    /// The number of the item, from 0.
-    pub item: usize,
-    /// How many steps of that item were made.
-    pub steps: u32,
+    /// The place at the step that was refused.
+    pub place: Place,
     pub fault: StepFault,
+}
+
+impl From<Halted<StepFault>> for RunStop {
+    ghost use Rattle.std.specs.Prelude.{◌≡◌};
+
+    ghost from_gives = { λ halted stop. stop ≡ record { place = halted.place; fault = halted.halt } };
+
+    fn from(halted: Halted<StepFault>) -> RunStop {
+        RunStop {
+            place: halted.place,
+            fault: halted.halt,
+        }
+    }
 }

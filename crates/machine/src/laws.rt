@@ -5,7 +5,7 @@ ghost use Rattle.machine.specs.Evicting.{AreAlike, hart_steps};
 ghost use Rattle.machine.specs.Refusals.{Refuses};
 ghost use Rattle.machine.specs.Run.{Config, RunsTo, StepsTo};
 ghost use Rattle.machine.specs.Outcomes.{MakesEvent};
-ghost use Rattle.machine.specs.Stands.{MachineView, Stands};
+ghost use Rattle.machine.specs.Represents.{MachineView, Represents};
 ghost use Rattle.shared_memory.specs.declared.fault.StepFault.{StepFault};
 ghost use Rattle.schedule.specs.declared.items.Step.{Step};
 ghost use Rattle.store_trace.specs.declared.event.Event.{Event};
@@ -25,10 +25,10 @@ pub fn refusal_is_determined()
         Refuses machine step f → Refuses machine step g → f ≡ g }
 {}
 
-/// A step that makes an event makes the trace of all that the machine stands for one longer.
+/// A step that makes an event makes the trace of all that the machine represents one longer.
 #[tactic(auto, using(crate::proofs::Refusing::event_is_longer))]
 pub fn event_is_longer()
-    ensures { (machine : MachineView) (step : Step) (c : Config) → length machine.harts ≤ 8 → Stands machine c →
+    ensures { (machine : MachineView) (step : Step) (c : Config) → length machine.harts ≤ 8 → Represents machine c →
         MakesEvent machine step → (d : Config) × StepsTo c step d × (length d.common.trace ≡ length c.common.trace + 1) }
 {}
 

@@ -13,6 +13,6 @@ pub use laws::{
     run_is_determined, trace_grows,
 };
 pub use machine::{Machine, Outcome};
-pub use schedule::{Item, Schedule, Step};
+pub use schedule::{Item, Place, Schedule, Step};
 pub use shared_memory::{Entry, Shared, StepFault};
 pub use text_copy::TextCopy;

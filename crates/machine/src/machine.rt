@@ -5,7 +5,8 @@ ghost use Rattle.crash_model.specs.Cut.{IsCutImage};
 ghost use Rattle.crash_model.specs.Image.{image};
 ghost use Rattle.crash_model.specs.WrittenBack.{back};
 ghost use Rattle.store_trace.specs.History.{history};
-ghost use Rattle.shared_memory.specs.Persisted.{AreAmong, persisted, touched};
+ghost use Rattle.clean_fence.specs.Represents.{AreAmong};
+ghost use Rattle.shared_memory.specs.Persisted.{persisted, touched};
 ghost use Rattle.hart.specs.Effect.{start};
 ghost use Rattle.hart.specs.Needs.{Needs};
 ghost use Rattle.hart.specs.Requests.{IsRequest};
@@ -16,7 +17,7 @@ ghost use Rattle.machine.specs.Refusals.{LacksHart, LacksLine, Refuses};
 ghost use Rattle.shared_memory.specs.Refusals.{RefusesRequest};
 ghost use Rattle.machine.specs.Run.{Config, fetched as fetched_from, started};
 ghost use Rattle.machine.specs.Stops.{is_stopped};
-ghost use Rattle.machine.specs.Stands.{Answers, IsRunning, NeedsAt, Runs, Stands, copy_of};
+ghost use Rattle.machine.specs.Represents.{Answers, IsRunning, NeedsAt, Runs, Represents, copy_of};
 ghost use Rattle.shared_memory.specs.SharedView.{Evicts, memory_of};
 
 use crate::text_copy::{TextCopy, renew_after, starting_copies};
@@ -53,7 +54,7 @@ pub struct Machine {
 }
 
 impl Model for Machine {
-    ghost use Rattle.machine.specs.Stands.{MachineView};
+    ghost use Rattle.machine.specs.Represents.{MachineView};
     ghost use Rattle.std.specs.Prelude.{◌≡◌, ◌≤◌, All, length};
     ghost use Rattle.store_trace.specs.TraceView.{NamesLine};
 
@@ -75,7 +76,7 @@ impl Machine {
         harts: u32,
         capacity: u32,
     ) -> Result<Machine, StepFault>
-        ensures ok { IfOk result (λ machine. Stands machine (started program medium harts)) }
+        ensures ok { IfOk result (λ machine. Represents machine (started program medium harts)) }
         ensures lines { IfOk result (λ machine. machine.shared.cache.lines ≡ medium) }
         ensures capacity { IfOk result (λ machine. machine.shared.cache.cache.capacity ≡ capacity) }
         ensures count { (result ≡ Err StepFault.NoSuchHart) ↔ ((harts < 1) ⊎ (8 < harts)) }
@@ -189,10 +190,10 @@ impl Machine {
         ensures named { All (NamesLine (length result.0)) result.1.events }
 
         // every leaving is a cut
-        ensures cut { (c : Config) → Stands self c → IsCutImage c.common.start (history c.common.trace) result.0 }
+        ensures cut { (c : Config) → Represents self c → IsCutImage c.common.start (history c.common.trace) result.0 }
 
         // with room for all lines that were loaded or stored, the cut is what the steps of the run have written back
-        ensures written_back { (c : Config) (lines : List ℕ) → Stands self c → length lines ≤ self.shared.cache.cache.capacity →
+        ensures written_back { (c : Config) (lines : List ℕ) → Represents self c → length lines ≤ self.shared.cache.cache.capacity →
             AreAmong (touched c.common.history) lines →
             result.0 ≡ image c.common.start (λ l. (back l (persisted c.common.history)).count) (history c.common.trace) }
     {

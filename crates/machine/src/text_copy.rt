@@ -3,7 +3,7 @@
 ghost use Rattle.std.specs.Prelude.{◌≡◌, ◌+◌, ◌<◌, ◌≤◌, ◌++◌, ◌∷◌, [], replicate, length, IfOk, IfErr};
 ghost use Rattle.line_memory.specs.declared.TheConstants.{TEXT_SIZE};
 ghost use Rattle.machine.specs.Run.{fetched};
-ghost use Rattle.machine.specs.Stands.{copies_after, text_bytes};
+ghost use Rattle.machine.specs.Represents.{copies_after, text_bytes};
 ghost use Rattle.word_bits.specs.Bytes.{loaded};
 
 use byteorder::{ByteOrder, LittleEndian};

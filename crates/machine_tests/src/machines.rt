@@ -2,7 +2,7 @@
 
 use crate::programs::{FIRST_RUN, machine_of};
 use hart::{Need, Request, Status, Trap};
-use machine::{Machine, Outcome, RunStop, Schedule, Step, StepFault};
+use machine::{Machine, Outcome, Place, RunStop, Schedule, Step, StepFault};
 use std::alloc::Global;
 
 /// A program, how it is run, and what comes of it.
@@ -84,8 +84,7 @@ static RUNS: [Run; 10] = [
         capacity: 512,
         schedule: "h0*3 e512",
         stop: Some(RunStop {
-            item: 1,
-            steps: 0,
+            place: Place { item: 1, steps: 0 },
             fault: StepFault::NoSuchLine,
         }),
         seen: Seen {
@@ -103,8 +102,7 @@ static RUNS: [Run; 10] = [
         capacity: 512,
         schedule: "h1",
         stop: Some(RunStop {
-            item: 0,
-            steps: 0,
+            place: Place { item: 0, steps: 0 },
             fault: StepFault::NoSuchHart,
         }),
         seen: Seen {

@@ -2,8 +2,7 @@
 
 use line_memory::Medium;
 use machine::Machine;
-use object::Object;
-use program::{Program, load};
+use program::{Object, Program, load};
 use schedule::Schedule;
 use shared_memory::StepFault;
 use std::alloc::{AllocError, Global};

@@ -3,7 +3,7 @@
 use crate::programs::{
     FENCE, FENCES, TWO_IMAGES, TWO_LINES, first_of_line, is_written_so, start_of,
 };
-use machine::RunStop;
+use machine::{Place, RunStop};
 use recording::{Recorded, record};
 use schedule::Schedule;
 use shared_memory::StepFault;
@@ -195,8 +195,7 @@ static RECORDINGS: [Recording; 6] = [
 
 /// The stop of a run that isn't begun, since memory was refused.
 const NOT_BEGUN: RunStop = RunStop {
-    item: 0,
-    steps: 0,
+    place: Place { item: 0, steps: 0 },
     fault: StepFault::Memory,
 };
 
@@ -289,8 +288,7 @@ static REFUSED: [(u32, &str, RunStop); 5] = [
         1,
         "h0 e512",
         RunStop {
-            item: 1,
-            steps: 0,
+            place: Place { item: 1, steps: 0 },
             fault: StepFault::NoSuchLine,
         },
     ),
@@ -298,8 +296,7 @@ static REFUSED: [(u32, &str, RunStop); 5] = [
         1,
         "h0*2 e511 h1",
         RunStop {
-            item: 2,
-            steps: 0,
+            place: Place { item: 2, steps: 0 },
             fault: StepFault::NoSuchHart,
         },
     ),
@@ -307,8 +304,7 @@ static REFUSED: [(u32, &str, RunStop); 5] = [
         0,
         "",
         RunStop {
-            item: 0,
-            steps: 0,
+            place: Place { item: 0, steps: 0 },
             fault: StepFault::NoSuchHart,
         },
     ),
@@ -316,8 +312,7 @@ static REFUSED: [(u32, &str, RunStop); 5] = [
         9,
         "h0*2",
         RunStop {
-            item: 0,
-            steps: 0,
+            place: Place { item: 0, steps: 0 },
             fault: StepFault::NoSuchHart,
         },
     ),
@@ -325,8 +320,10 @@ static REFUSED: [(u32, &str, RunStop); 5] = [
         1,
         "e0 h0*131073",
         RunStop {
-            item: 1,
-            steps: 131_072,
+            place: Place {
+                item: 1,
+                steps: 131_072,
+            },
             fault: StepFault::TraceFull,
         },
     ),

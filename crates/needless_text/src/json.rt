@@ -6,7 +6,7 @@ ghost use Rattle.std.specs.List.{zip};
 ghost use Rattle.std.specs.Prelude.{◌≡◌, IfOk, length, string_bytes};
 
 use crate::form::Form;
-use crate::text::waste_in;
+use crate::waste::waste_in;
 use assemble::LineNumbers;
 use needless::Reason;
 use run_trace::TracedEvent;

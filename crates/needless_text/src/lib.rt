@@ -4,8 +4,8 @@
 mod always;
 mod form;
 mod json;
-mod text;
 mod uses;
+mod waste;
 
 pub use json::waste_json;
-pub use text::waste_text;
+pub use waste::waste_text;

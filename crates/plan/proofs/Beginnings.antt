@@ -59,25 +59,25 @@ pub no_inode_word : (words : List (List ℕ)) → words ≡ [] → (digits : Lis
 no_inode_word words e digits inode more f n = cc
 
 -- a keyword and a number
-pub count_said : (keyword : List ℕ) (low high : ℕ) (words one two : List (List ℕ)) (word : List ℕ) (found : Option ℕ) → words ≡ keyword ∷ one
-    → one ≡ word ∷ two → two ≡ [] → SomeIff found (IsNumeral 10 word × (low ≤ digits_value 10 word) × (digits_value 10 word ≤ high)) (digits_value 10 word)
+pub count_said : (keyword : List ℕ) (low high : ℕ) (words one : List (List ℕ)) (word : List ℕ) (found : Option ℕ) → words ≡ keyword ∷ one
+    → one ≡ word ∷ [] → SomeIff found (IsNumeral 10 word × (low ≤ digits_value 10 word) × (digits_value 10 word ≤ high)) (digits_value 10 word)
     → IfSome found (SaysCount keyword low high words)
-count_said keyword low high words one two word None e f g n = tt
-count_said keyword low high words one two word (Some count) e f g n = record {
+count_said keyword low high words one word None e f n = tt
+count_said keyword low high words one word (Some count) e f n = record {
   digits = word;
-  spelled = rw (e, f, g) refl;
+  spelled = rw (e, f) refl;
   is_number = record { numeral = n.0.0; value = n.1 };
   least = rw n.1 n.0.1;
   most = rw n.1 n.0.2;
 }
 
-pub no_count : (keyword : List ℕ) (low high : ℕ) (words one two : List (List ℕ)) (word : List ℕ) (found : Option ℕ) → words ≡ keyword ∷ one
-    → one ≡ word ∷ two → SomeIff found (IsNumeral 10 word × (low ≤ digits_value 10 word) × (digits_value 10 word ≤ high)) (digits_value 10 word)
+pub no_count : (keyword : List ℕ) (low high : ℕ) (words one : List (List ℕ)) (word : List ℕ) (found : Option ℕ) → words ≡ keyword ∷ one
+    → one ≡ word ∷ [] → SomeIff found (IsNumeral 10 word × (low ≤ digits_value 10 word) × (digits_value 10 word ≤ high)) (digits_value 10 word)
     → IfNone found ((count : ℕ) → ¬ (SaysCount keyword low high words count))
-no_count keyword low high words one two word (Some found) e f n = tt
-no_count keyword low high words one two word None e f n = λ count s.
+no_count keyword low high words one word (Some found) e f n = tt
+no_count keyword low high words one word None e f n = λ count s.
     let after : one ≡ s.digits ∷ [] = rest_same words keyword keyword one (s.digits ∷ []) e s.spelled in
-    let same : s.digits ≡ word = first_same one s.digits word [] two after f in
+    let same : s.digits ≡ word = first_same one s.digits word [] [] after f in
     let value : digits_value 10 word ≡ count = ap (digits_value 10) (sym same) ∙ sym s.is_number.value in
     n (numeral_along s.digits word same s.is_number.numeral, rw value s.least, rw value s.most)
 
@@ -85,17 +85,9 @@ pub no_keyword : (keyword : List ℕ) (low high : ℕ) (words : List (List ℕ))
     → (count : ℕ) → ¬ (SaysCount keyword low high words count)
 no_keyword keyword low high words none count s = none (s.digits ∷ []) s.spelled
 
-pub keyword_alone : (keyword : List ℕ) (low high : ℕ) (words one : List (List ℕ)) → words ≡ keyword ∷ one → one ≡ []
+pub no_only_word : (keyword : List ℕ) (low high : ℕ) (words one : List (List ℕ)) → words ≡ keyword ∷ one → ((word : List ℕ) → one ≢ word ∷ [])
     → (count : ℕ) → ¬ (SaysCount keyword low high words count)
-keyword_alone keyword low high words one e f count s =
-    let after : one ≡ s.digits ∷ [] = rest_same words keyword keyword one (s.digits ∷ []) e s.spelled in
-    cc
-
-pub more_than_count : (keyword : List ℕ) (low high : ℕ) (words one two : List (List ℕ)) (word : List ℕ) → words ≡ keyword ∷ one
-    → one ≡ word ∷ two → ¬ (two ≡ []) → (count : ℕ) → ¬ (SaysCount keyword low high words count)
-more_than_count keyword low high words one two word e f more count s =
-    let after : one ≡ s.digits ∷ [] = rest_same words keyword keyword one (s.digits ∷ []) e s.spelled in
-    more (rest_same one word s.digits two [] f after)
+no_only_word keyword low high words one e none count s = none s.digits (rest_same words keyword keyword one (s.digits ∷ []) e s.spelled)
 
 -- a layout
 pub layout_one : (words : List (List ℕ)) (count : ℕ) → SaysCount (codes "layout") 1 2 words count → count ≡ 1 → SaysLayout words One

@@ -4,7 +4,7 @@ use Rattle.nova_log.specs.declared.layout.Layout.{Layout}
 use Rattle.nova_log.specs.declared.layout.Layout.TheVariants.{One, Two}
 use Rattle.plan.specs.declared.fault.PlanCode.TheVariants as code
 use Rattle.plan.specs.declared.operation.Action.TheVariants.{Append, Rename}
-use Rattle.plan.specs.declared.wording.WordedAction.TheVariants as worded
+use Rattle.plan.specs.declared.operation_line.WordedAction.TheVariants as worded
 use Rattle.plan.specs.Plans.{IsName, longest_name}
 use Rattle.plan.specs.Worded.{Allows, Forbids, HoldsInode, HoldsName}
 

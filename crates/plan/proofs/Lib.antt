@@ -1,10 +1,8 @@
 pub mod Beginnings
 pub mod Drafting
-pub mod FirstWords
 pub mod Headers
 pub mod Judgements
 pub mod Lining
-pub mod Numerals
 pub mod Reading
 pub mod Refusals
 pub mod Rules

@@ -5,7 +5,7 @@ use Rattle.std.proofs.lemmas.List.Splits.{length-slice_split, slice_split_first,
 use Rattle.std.proofs.lemmas.List.{drop_all}
 use Rattle.std.proofs.lemmas.List.Elements.{All-from_get_or}
 use Rattle.std.proofs.lemmas.List.Sums.{fails_before_first}
-use Rattle.plan.proofs.FirstWords.{found, missing}
+use Rattle.text.proofs.Parting.{found, missing}
 use Rattle.plan.specs.Lines.{is_line_end, lines, without_empty_end}
 
 kept : (line : List ℕ) (rest : List (List ℕ)) → 0 < length rest → without_empty_end (line ∷ rest) ≡ line ∷ without_empty_end rest

@@ -14,7 +14,8 @@ use Rattle.plan.proofs.Headers.{counted_is_none, draft_begins, empty_is_none, op
 use Rattle.plan.proofs.Unique.{count_unique, head_same, opening_unique, operations_unique, tail_same}
 use Rattle.plan.specs.Drafts.{IsDraft, IsUnfinished, TakesOperation}
 use Rattle.plan.specs.Grammar.{BeginsThrough, BreaksRule, IsFirstFault, IsPlan, OnText, SaysPlan, code_number}
-use Rattle.plan.specs.Lines.{is_filled, is_hash, lines, statements, words}
+use Rattle.plan.specs.Lines.{is_hash, lines, statements}
+use Rattle.text.specs.Words.{is_filled, words}
 use Rattle.plan.specs.Plans.{KeepsRules, PlanView, by_parts}
 
 -- the lines before the rest, and the draft of them

@@ -9,7 +9,7 @@ use Rattle.plan.specs.declared.fault.PlanCode.{PlanCode}
 use Rattle.plan.specs.declared.fault.PlanCode.TheVariants as code
 use Rattle.plan.specs.declared.operation.Action.{Action}
 use Rattle.plan.specs.declared.operation.Operation.{Operation}
-use Rattle.plan.specs.declared.wording.Wording.{Wording}
+use Rattle.plan.specs.declared.operation_line.Wording.{Wording}
 use Rattle.plan.proofs.Unique.{operation_of}
 use Rattle.plan.specs.Drafts.{AddsLine, BreaksAt, BreaksLine}
 use Rattle.plan.specs.Grammar.{OnText, SaysOperation}

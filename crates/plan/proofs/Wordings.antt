@@ -3,8 +3,8 @@ use Rattle.std.proofs.Common.{◌≡◌, ◌≢◌, ℕ, List, [], ◌∷◌, Op
 use Rattle.plan.specs.declared.operation.Action.{Action}
 use Rattle.plan.specs.declared.operation.Action.TheVariants.{Append, Rename}
 use Rattle.plan.specs.declared.operation.Operation.{Operation}
-use Rattle.plan.specs.declared.wording.WordedAction.{WordedAction}
-use Rattle.plan.specs.declared.wording.WordedAction.TheVariants as worded
+use Rattle.plan.specs.declared.operation_line.WordedAction.{WordedAction}
+use Rattle.plan.specs.declared.operation_line.WordedAction.TheVariants as worded
 use Rattle.plan.proofs.Beginnings.{first_same, rest_same}
 use Rattle.plan.specs.Grammar.{IsNumber, SaysAction, SaysAppend, SaysOperation, SaysRename}
 use Rattle.plan.specs.Worded.{BeginsInode, BeginsWide, HoldsName, WordsAction, WordsOperation}

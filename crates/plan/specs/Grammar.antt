@@ -11,7 +11,8 @@ use Rattle.plan.specs.declared.fault.PlanCode.TheVariants as code
 use Rattle.plan.specs.declared.operation.Action.{Action}
 use Rattle.plan.specs.declared.operation.Action.TheVariants.{Append, Rename}
 use Rattle.plan.specs.declared.operation.Operation.{Operation}
-use Rattle.plan.specs.Lines.{is_hash, lines, statements, words}
+use Rattle.plan.specs.Lines.{is_hash, lines, statements}
+use Rattle.text.specs.Words.{words}
 use Rattle.plan.specs.Plans.{KeepsRules, PlanView}
 
 -- decimal digits of the number, leading zeros among them

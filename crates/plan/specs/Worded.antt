@@ -7,9 +7,9 @@ use Rattle.plan.specs.declared.fault.PlanCode.TheVariants as code
 use Rattle.plan.specs.declared.operation.Action.{Action}
 use Rattle.plan.specs.declared.operation.Action.TheVariants.{Append, Rename}
 use Rattle.plan.specs.declared.operation.Operation.{Operation}
-use Rattle.plan.specs.declared.wording.WordedAction.{WordedAction}
-use Rattle.plan.specs.declared.wording.WordedAction.TheVariants as worded
-use Rattle.plan.specs.declared.wording.Wording.{Wording}
+use Rattle.plan.specs.declared.operation_line.WordedAction.{WordedAction}
+use Rattle.plan.specs.declared.operation_line.WordedAction.TheVariants as worded
+use Rattle.plan.specs.declared.operation_line.Wording.{Wording}
 use Rattle.plan.specs.Grammar.{IsNumber, IsWide, SaysAction, SaysOperation}
 use Rattle.plan.specs.Plans.{HasInodes, HasName, IsName}
 

@@ -4,16 +4,17 @@ ghost use Rattle.std.specs.Prelude.{◌≡◌, ◌++◌, ◌∷◌, [], ℕ, Lis
 ghost use Rattle.std.specs.List.{before_first};
 ghost use Rattle.plan.specs.Drafts.{AddsLine, BreaksLine, Grows, IsDraft, IsUnfinished, TakesOperation};
 ghost use Rattle.plan.specs.Grammar.{BreaksRule, OnText, SaysInodes, SaysPages};
-ghost use Rattle.plan.specs.Lines.{is_hash, statements, words};
+ghost use Rattle.plan.specs.Lines.{is_hash, statements};
+ghost use Rattle.text.specs.Words.{words};
 ghost use Rattle.plan.specs.Plans.{PlanView};
 
 use crate::fault::PlanCode;
 use crate::lines::uncommented;
 use crate::numbers::{count_line, layout_line};
 use crate::plan::Plan;
-use crate::words::is_blank;
 use nova_log::{Layout, MAX_INODES, MAX_JOURNALS, MAX_PAGES};
 use std::alloc::Global;
+use text::is_blank;
 
 /// What the lines so far give.
 #[derive(Drop)]
@@ -35,7 +36,7 @@ pub(crate) enum Draft {
 }
 
 /// The draft with the line of the inodes.
-fn counted(layout: Layout, line: &[u8]) -> Result<Draft, PlanCode>
+fn with_inodes(layout: Layout, line: &[u8]) -> Result<Draft, PlanCode>
     ensures ok { IfOk result (λ next. (inodes : ℕ) × SaysInodes (words line.now) inodes
         × (next ≡ Draft.Counted layout inodes)) }
     ensures code { IfErr result (λ code. code ≡ PlanCode.Line) }
@@ -48,7 +49,7 @@ fn counted(layout: Layout, line: &[u8]) -> Result<Draft, PlanCode>
 }
 
 /// The draft with the line of the pages.
-fn paged(layout: Layout, inodes: u32, line: &[u8]) -> Result<Draft, PlanCode>
+fn with_pages(layout: Layout, inodes: u32, line: &[u8]) -> Result<Draft, PlanCode>
     ensures ok { IfOk result (λ next. (pages : ℕ) × SaysPages inodes (words line.now) pages
         × (next ≡ Draft.Paged layout inodes pages)) }
     ensures code { IfErr result (λ code. code ≡ PlanCode.Line) }
@@ -65,7 +66,7 @@ fn paged(layout: Layout, inodes: u32, line: &[u8]) -> Result<Draft, PlanCode>
 }
 
 /// The draft with the line of an operation.
-fn grown(mut plan: Plan, line: &[u8]) -> Result<Draft, PlanCode>
+fn add_operation(mut plan: Plan, line: &[u8]) -> Result<Draft, PlanCode>
     ensures ok { IfOk result (Grows plan (words line.now)) }
     ensures err { IfErr result (λ code. OnText code (BreaksLine plan (words line.now) code)) }
     ensures memory { IfErr result (λ code. code ≡ PlanCode.Memory → (next : PlanView) × AddsLine plan (words line.now) next) }
@@ -87,10 +88,10 @@ impl Draft {
         match self {
             Draft::Empty => match layout_line(line) {
                 Some(layout) => Ok(Draft::Opened { layout }),
-                None => counted(Layout::One, line),
+                None => with_inodes(Layout::One, line),
             },
-            Draft::Opened { layout } => counted(layout, line),
-            Draft::Counted { layout, inodes } => paged(layout, inodes, line),
+            Draft::Opened { layout } => with_inodes(layout, line),
+            Draft::Counted { layout, inodes } => with_pages(layout, inodes, line),
             Draft::Paged {
                 layout,
                 inodes,
@@ -101,7 +102,7 @@ impl Draft {
                 ))),
                 None => Err(PlanCode::Line),
             },
-            Draft::Whole(plan) => grown(plan, line),
+            Draft::Whole(plan) => add_operation(plan, line),
         }
     }
 

@@ -7,11 +7,10 @@ pub use plan::Plan;
 
 mod draft;
 mod fault;
-mod judging;
 mod lines;
 mod numbers;
 mod operation;
+mod operation_line;
 mod plan;
 mod reader;
-mod wording;
-mod words;
+mod validation;

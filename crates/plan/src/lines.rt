@@ -37,7 +37,7 @@ pub(crate) fn first_line(text: &[u8]) -> Option<(&[u8], &[u8])>
 }
 
 /// A line without its comment.
-#[tactic(auto, using(crate::proofs::FirstWords::ends_at))]
+#[tactic(auto, using(text::proofs::Parting::ends_at))]
 pub(crate) fn uncommented(line: &[u8]) -> &[u8]
     ensures { result.now ≡ before_first is_hash line.now }
 {

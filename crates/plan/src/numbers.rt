@@ -1,49 +1,21 @@
 //! The numbers and the names that words are.
 
-ghost use Rattle.std.specs.Prelude.{◌≡◌, ◌<◌, ◌^◌, ◌↔◌, ◌∷◌, List, ℕ, IfNone, IfSome, IsTrue, SomeIff};
-ghost use Rattle.std.specs.Char.{is_ascii_digit};
+ghost use Rattle.std.specs.Prelude.{◌≡◌, ◌∷◌, List, ℕ, IfNone, IfSome};
 ghost use Rattle.std.specs.List.{list_all};
-ghost use Rattle.std.specs.Str.Parse.{IsNumeral, digits_value};
 ghost use Rattle.plan.specs.Grammar.{IsNumber, IsWide, SaysCount, SaysLayout};
-ghost use Rattle.plan.specs.Lines.{words};
+ghost use Rattle.text.specs.Words.{words};
 ghost use Rattle.plan.specs.Plans.{is_name_byte};
 ghost use Rattle.plan.specs.Worded.{BeginsInode, BeginsWide, HoldsName};
 ghost use Rattle.nova_log.specs.declared.layout.Layout.{Layout as ALayout};
 
-use crate::words::{after_keyword, first_word, is_blank};
-use decimal::{decimal, decimal_within};
 use nova_log::Layout;
+use text::{
+    Blanks, after_keyword, decimal, decimal_within, first_word, number_in, only_word, wide_decimal,
+};
 use volume::Name;
 
 /// The most bytes of a name under any layout.
 const LONGEST_NAME: usize = 96;
-
-fn has_digits_alone(word: &[u8]) -> bool
-    ensures { result ≡ list_all is_ascii_digit word.now }
-{
-    word.iter().all(|byte| byte.is_ascii_digit())
-}
-
-/// Whether a word is a number in decimal digits, however large.
-#[tactic(auto, using(crate::proofs::Numerals::some_digits, crate::proofs::Numerals::digits_pass))]
-fn is_number(word: &[u8]) -> bool
-    ensures { IsTrue result ↔ IsNumeral 10 word.now }
-{
-    !word.is_empty() && has_digits_alone(word)
-}
-
-/// The number of 64 bits that a word writes in decimal digits.
-#[tactic(auto, using(crate::proofs::Numerals::signed_is_none, crate::proofs::Numerals::not_text_is_none, crate::proofs::Numerals::parsed))]
-fn wide_number(word: &[u8]) -> Option<u64>
-    ensures { SomeIff result (IsNumeral 10 word.now × (digits_value 10 word.now < 2 ^ 64))
-        (digits_value 10 word.now) }
-{
-    match word {
-        // std's reader of numbers takes a sign.
-        [b'+', ..] => None,
-        _ => str::from_utf8(word).ok()?.parse().ok(),
-    }
-}
 
 /// The number of 64 bits that a line's first word is, and what follows it.
 #[tactic(auto, using(crate::proofs::Beginnings::wide_begins, crate::proofs::Beginnings::no_wide, crate::proofs::Beginnings::no_word))]
@@ -51,8 +23,8 @@ pub(crate) fn after_number(line: &[u8]) -> Option<(u64, &[u8])>
     ensures some { IfSome result (λ found. BeginsWide (words line.now) found.0 (words found.1.now)) }
     ensures none { IfNone result ((number : ℕ) (rest : List (List ℕ)) → ¬ (BeginsWide (words line.now) number rest)) }
 {
-    let (word, rest) = first_word(line)?;
-    Some((wide_number(word)?, rest))
+    let (word, rest) = first_word(line, Blanks::Spaces)?;
+    Some((wide_decimal(word)?, rest))
 }
 
 /// The number that a line's first word is, and what follows it. None in place of a number past 32 bits.
@@ -62,27 +34,19 @@ pub(crate) fn after_inode(line: &[u8]) -> Option<(Option<u32>, &[u8])>
     ensures none { IfNone result ((digits : List ℕ) (inode : ℕ) (rest : List (List ℕ)) → words line.now ≡ digits ∷ rest
         → ¬ (IsNumber digits inode)) }
 {
-    let (word, rest) = first_word(line)?;
-    if is_number(word) {
-        Some((decimal(word), rest))
-    } else {
-        None
-    }
+    let (word, rest) = first_word(line, Blanks::Spaces)?;
+    number_in(word, 10)?;
+    Some((decimal(word), rest))
 }
 
 /// The number in a line that has a keyword and a number from `low` to `high`, and nothing else.
-#[tactic(auto, using(crate::proofs::Beginnings::count_said, crate::proofs::Beginnings::no_count, crate::proofs::Beginnings::no_keyword, crate::proofs::Beginnings::keyword_alone, crate::proofs::Beginnings::more_than_count))]
+#[tactic(auto, using(crate::proofs::Beginnings::count_said, crate::proofs::Beginnings::no_count, crate::proofs::Beginnings::no_keyword, crate::proofs::Beginnings::no_only_word))]
 pub(crate) fn count_line(line: &[u8], keyword: &[u8], low: u32, high: u32) -> Option<u32>
     ensures some { IfSome result (SaysCount keyword.now low high (words line.now)) }
     ensures none { IfNone result ((count : ℕ) → ¬ (SaysCount keyword.now low high (words line.now) count)) }
 {
     let rest = after_keyword(line, keyword)?;
-    let (word, rest) = first_word(rest)?;
-    if is_blank(rest) {
-        decimal_within(word, low, high)
-    } else {
-        None
-    }
+    decimal_within(only_word(rest)?, low, high)
 }
 
 /// The layout that a line gives.

@@ -4,13 +4,13 @@ ghost use Rattle.std.specs.Prelude.{◌≡◌, ◌≢◌, ◌==◌, [], IfErr, I
 ghost use Rattle.std.specs.List.{list_any};
 ghost use Rattle.plan.specs.Drafts.{AddsLine, BreaksLine};
 ghost use Rattle.plan.specs.Grammar.{OnText, SaysOperation};
-ghost use Rattle.plan.specs.Lines.{words};
+ghost use Rattle.text.specs.Words.{words};
 ghost use Rattle.plan.specs.Plans.{KeepsRules, PlanView, by_parts, made, with_operation};
 
 use crate::fault::PlanCode;
-use crate::judging::judged;
 use crate::operation::{Action, Operation};
-use crate::wording::worded_operation;
+use crate::operation_line::worded_operation;
+use crate::validation::check_action;
 use nova_log::Layout;
 use std::alloc::Global;
 use std::marker::Model;
@@ -72,7 +72,7 @@ impl Plan {
         if is_taken(&self.operations, wording.number) {
             return Err(PlanCode::Twice);
         }
-        match judged(self.layout, self.inodes, wording.action) {
+        match check_action(self.layout, self.inodes, wording.action) {
             Ok(action) => Ok((wording.number, action)),
             Err(code) => Err(code),
         }

@@ -1,7 +1,7 @@
 -- What loading makes of an object: a text region filled with zeros past the object's text.
 use Rattle.std.specs.Prelude.{ℕ, ◌≡◌, ◌-◌, ◌<◌, ◌≤◌, List, ◌++◌, length, replicate, slice_get, Some}
-use Rattle.object.specs.Sections.{Sections}
-use Rattle.object.specs.declared.TheConstants.{TEXT_LIMIT}
+use Rattle.program.specs.Sections.{Sections}
+use Rattle.program.specs.declared.TheConstants.{TEXT_LIMIT}
 
 -- the bytes, and zeros up to a size
 abbrev pub zero_filled : List ℕ → ℕ → List ℕ

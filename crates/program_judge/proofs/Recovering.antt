@@ -8,7 +8,7 @@ use Rattle.machine.specs.Run.{Config}
 use Rattle.moment_verdict.specs.Verdicts.{PassBetween}
 use Rattle.moment_verdict.specs.declared.verdict.Verdict.{Verdict}
 use Rattle.moment_verdict.specs.declared.verdict.Verdict.TheVariants.{Pass}
-use Rattle.object.specs.Sections.{Sections}
+use Rattle.program.specs.Sections.{Sections}
 use Rattle.parallel_moments.specs.Rows.{end_of}
 use Rattle.schedule.specs.Steps.{all_steps}
 use Rattle.schedule.specs.declared.items.Item.{Item}

@@ -15,7 +15,7 @@ use Rattle.judge_marks.specs.declared.fault.MarkFault.TheVariants as marks
 use Rattle.judge_marks.specs.declared.moments.Window.{Window}
 use Rattle.machine.specs.Run.{Config, RunsTo}
 use Rattle.moment_verdict.specs.declared.verdict.Verdict.{Verdict}
-use Rattle.object.specs.Sections.{Sections}
+use Rattle.program.specs.Sections.{Sections}
 use Rattle.parallel_moments.specs.Rows.{end_of}
 use Rattle.program_judge.specs.declared.judging.JudgingFault.{JudgingFault}
 use Rattle.program_judge.specs.declared.judging.JudgingFault.TheVariants.{Step as StepRefused, Marks as WrongMarks, NoSuchMoment, Memory}

@@ -2,7 +2,7 @@
 
 ghost use Rattle.crash_image.specs.Named.{IsNamed};
 ghost use Rattle.crash_image.specs.View.{HasLines};
-ghost use Rattle.object.specs.Sections.{Sections};
+ghost use Rattle.program.specs.Sections.{Sections};
 ghost use Rattle.program_picture.specs.Picturing.{FailsToPicture, HasImageAt, HasPicture, IsUnnamed, LacksPicture};
 ghost use Rattle.schedule.specs.Grammar.{hart_steps};
 ghost use Rattle.std.specs.Prelude.{◌≡◌, ◌^◌, ◌<◌, ◌≤◌, ℕ, List, IfErr, IfOk, OnOk, length};

@@ -5,7 +5,7 @@ use Rattle.store_trace.specs.TraceView.{NamesLine}
 use Rattle.store_trace.specs.declared.event.Event.{Event}
 use Rattle.machine.specs.Run.{Config, RunsTo}
 use Rattle.machine.specs.declared.fault.RunStop.{RunStop}
-use Rattle.machine.specs.Stands.{MachineView, Stands}
+use Rattle.machine.specs.Represents.{MachineView, Represents}
 use Rattle.run_trace.specs.Traced.{StopsTracing, Traces, TracedRun, events_in}
 use Rattle.run_trace.specs.declared.traced_event.TracedEvent.{TracedEvent}
 use Rattle.run_trace.proofs.Traces.{has_events, is_run}
@@ -28,7 +28,7 @@ pub causes_of_run : (s : Setup) (schedule : List Item) (planned : List ℕ) (mac
 causes_of_run s schedule planned machine causes ran are = record {
   end = ran.has_made.end;
   is_end = is_end s schedule machine ran;
-  causes_are = rw (← ran.has_made.stands.harts, ← ran.has_made.stands.shared.trace) are;
+  causes_are = rw (← ran.has_made.represents.harts, ← ran.has_made.represents.shared.trace) are;
 }
 
 pub runs_whole : (s : Setup) (schedule : List Item) (planned : List ℕ) (machine : MachineView)
@@ -36,7 +36,7 @@ pub runs_whole : (s : Setup) (schedule : List Item) (planned : List ℕ) (machin
 runs_whole s schedule planned machine ran whole = record {
   end = ran.has_made.end;
   is_end = is_end s schedule machine ran;
-  whole = rw (← ran.has_made.stands.harts, ← ran.has_made.stands.shared.trace) whole;
+  whole = rw (← ran.has_made.represents.harts, ← ran.has_made.represents.shared.trace) whole;
 }
 
 -- the events that a machine's run makes from the start are those of Run
@@ -49,7 +49,7 @@ pub is_traced : (s : Setup) (schedule : List Item) (old new : MachineView) (trac
     → Traces old new (all_steps schedule) traced → IsTraced s schedule traced × HasTrace s schedule (events_in traced)
 is_traced s schedule old new traced at traces =
     let made = (has_run s schedule old new at traces.runs traces.few).has_made in
-    let told = traces.traces (start_of s) at.stands in
+    let told = traces.traces (start_of s) at.represents in
     let events : events_in traced ≡ told.0.common.trace = new_events (start_of s) told.0 0 schedule traced refl told.1 in
     let few : length (events_in traced) ≤ 65536 = subst (λ (l : List Event). length l ≤ 65536) (told.2.shared.trace ∙ sym events) traces.few in (
       record {
@@ -73,7 +73,7 @@ is_traced s schedule old new traced at traces =
 pub trace_of_new : (s : Setup) (schedule : List Item) (old new : MachineView) (traced : List TracedEvent) → IsAtStart s old
     → Traces old new (all_steps schedule) traced → new.shared.trace ≡ events_in traced
 trace_of_new s schedule old new traced at traces =
-    let told = traces.traces (start_of s) at.stands in
+    let told = traces.traces (start_of s) at.represents in
     told.2.shared.trace ∙ sym (new_events (start_of s) told.0 0 schedule traced refl told.1)
 
 -- which names lines of the medium alone

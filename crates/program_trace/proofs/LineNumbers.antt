@@ -4,7 +4,7 @@ use Rattle.assemble.specs.Assembly.{IsFirstFault, lines_back}
 use Rattle.assemble.specs.LineNumbers.{line_number, number_at}
 use Rattle.assemble.specs.declared.fault.AsmFault.{AsmFault}
 use Rattle.assemble.proofs.OneAnswer.{no_fault}
-use Rattle.object.specs.Sections.{Sections}
+use Rattle.program.specs.Sections.{Sections}
 use Rattle.program_trace.specs.Lines.{line_of}
 use Rattle.run_text.specs.Places.{line_in}
 use Rattle.crash_test.specs.Programs.{IsObjectOf, IsProgramOf, begins_as_object}

@@ -1,13 +1,13 @@
 //! The line numbers of a program's source.
 
-ghost use Rattle.object.specs.Sections.{Sections};
+ghost use Rattle.program.specs.Sections.{Sections};
 ghost use Rattle.program_trace.specs.Lines.{line_of};
 ghost use Rattle.run_text.specs.Places.{line_in};
 ghost use Rattle.std.specs.Prelude.{◌≡◌, ℕ, IfOk};
 ghost use Rattle.crash_test.specs.Programs.{IsProgramOf};
 
 use assemble::{AsmCode, LineNumbers, line_numbers};
-use object::MAGIC;
+use program::MAGIC;
 use std::alloc::{AllocError, Global};
 
 /// The line numbers of the source in a program's file; None where the file is an object's.

@@ -1,28 +1,33 @@
 -- The hart steps of a run are counted, and its events are numbered by them.
-use Rattle.std.proofs.Common.{◌≡◌, ℕ, zero, suc, ◌+◌, ◌<◌, ◌≤◌, ◌⊎◌, List, [], ◌∷◌, ◌++◌, length, take, replicate, Some, true, All, Option, None, slice_get, get_or, refl, sym, ap, ◌∙◌, inl, inr, arith, lit<, append_assoc}
+use Rattle.std.proofs.Common.{◌≡◌, ℕ, zero, suc, ◌+◌, ◌<◌, ◌≤◌, ◌⊎◌, List, [], ◌∷◌, ◌++◌, length, take, replicate, Some, true, All, Option, None, slice_get, get_or, refl, sym, ap, ◌∙◌, inl, inr, arith, subst, ◌^◌, append_assoc}
 use Rattle.std.proofs.lemmas.Bool.{cases_lt}
-use Rattle.std.proofs.lemmas.List.{append-nil, get_or-replicate, length-append, length-replicate, replicate_more, replicate-append-replicate, take-replicate, take_more}
-use Rattle.std.proofs.lemmas.List.Elements.{filter-append}
-use Rattle.std.proofs.lemmas.Grind.{flat_map-append}
+use Rattle.std.proofs.lemmas.List.{length-append, take_more}
 use Rattle.std.proofs.lemmas.Option.{slice_get-get_or, slice_get_within}
 use Rattle.hart.specs.declared.state.HartState.{HartState}
 use Rattle.schedule.specs.declared.items.Item.{Item}
 use Rattle.schedule.specs.declared.items.Step.{Step}
 use Rattle.schedule.specs.declared.items.Step.TheVariants.{Hart, Evict}
-use Rattle.schedule.specs.Steps.{all_steps, steps_of}
+use Rattle.schedule.specs.Steps.{all_steps}
 use Rattle.store_trace.specs.declared.event.Event.{Event}
 use Rattle.recording.specs.Recorded.{AreNumbers, IsAmong, IsMadeBy, MayLackRoom, RecordedView, Records, StopsRecording}
-use Rattle.machine.specs.Evicting.{hart_steps, is_hart_step}
-use Rattle.recording.specs.Recorders.{Continues, HasRecorded, HoldsAfter, HoldsAt, IsHeld, MayGrow, RecorderView}
+use Rattle.recording.proofs.Leaving.{left_at}
+use Rattle.machine.specs.Evicting.{hart_steps}
+use Rattle.recording.specs.Recorders.{Continues, HasRecorded, IsHeld, Makes, MayGrow, RecorderView}
 use Rattle.machine.specs.Run.{Config, RunsTo, StepsTo}
-use Rattle.machine.specs.Refusals.{RefusesNext}
-use Rattle.machine.specs.Stands.{IsRunning, IsThere, MachineView, Runs, Stands}
-use Rattle.machine.specs.Stops.{is_stopped, steps_of_item}
+use Rattle.machine.specs.Refusals.{Refuses}
+use Rattle.machine.specs.Represents.{IsRunning, IsThere, MachineView, Runs, Represents}
+use Rattle.machine.specs.Stops.{is_stopped}
+use Rattle.schedule.specs.Grammar.{hart_steps as count_of_hart_steps}
+use Rattle.schedule.specs.Places.{steps_after}
+use Rattle.schedule.specs.Walks.{Comes, HaltsAt}
+use Rattle.schedule.specs.declared.place.Place.{Place}
+use Rattle.schedule.proofs.Places.{after_start, step_there}
+use Rattle.machine.proofs.Counting.{all_counted, counted, items_counted}
 use Rattle.machine.specs.declared.fault.RunStop.{RunStop}
 use Rattle.shared_memory.specs.declared.fault.StepFault.{StepFault}
 use Rattle.shared_memory.specs.declared.fault.StepFault.TheVariants.{Memory}
 use Rattle.machine.proofs.RunParts.{grows, run_joined}
-use Rattle.machine.proofs.Steps.{runs_more, runs_none, stopped_runs}
+use Rattle.machine.proofs.Steps.{stopped_runs}
 
 -- a longer run has the same numbers
 made_kept : (c : Config) (steps more : List Step) (i n : ℕ) → IsMadeBy c steps i n → IsMadeBy c (steps ++ more) i n
@@ -60,24 +65,16 @@ numbers_pushed c steps numbers number all made i n got = elim (pushed_get number
   | inr last ↦ rw (last.0, last.1) made
 ]
 
--- hart steps are counted
-counted : (xs ys : List Step) → length (hart_steps (xs ++ ys)) ≡ length (hart_steps xs) + length (hart_steps ys)
-counted xs ys = ap (λ (l : List Step). length l) (filter-append is_hart_step xs ys) ∙ length-append (hart_steps xs) (hart_steps ys)
-
-all_counted : (n h : ℕ) → length (hart_steps (replicate n (Hart h))) ≡ n
-all_counted zero h = refl
-all_counted (suc n) h = ap (λ (k : ℕ). suc k) (all_counted n h)
-
 -- steps that make no event
 recorded_same : (old new : RecorderView) (more : List Step) (c : Config) (past : List Step) (r : HasRecorded c past old) (end : Config)
-    → RunsTo r.end more end → Stands new.machine end → new.made ≡ old.made + length (hart_steps more)
+    → RunsTo r.end more end → Represents new.machine end → new.made ≡ old.made + length (hart_steps more)
     → length end.common.trace ≡ length r.end.common.trace → new.numbers ≡ old.numbers → HasRecorded c (past ++ more) new
 recorded_same old new more c past r end runs stands made same numbers =
     let count = counted past more in
     let before = r.made in record {
       end = end;
       runs = run_joined c r.end end past more r.runs runs;
-      stands = stands;
+      represents = stands;
       made = omega arith;
       each = ap (λ (l : List ℕ). length l) numbers ∙ r.each ∙ sym same;
       numbers = rw numbers (numbers_kept c past more old.numbers r.numbers);
@@ -85,7 +82,7 @@ recorded_same old new more c past r end runs stands made same numbers =
 
 -- a hart step that makes an event
 recorded_event : (old new : RecorderView) (h : ℕ) (c : Config) (past : List Step) (r : HasRecorded c past old) (end : Config)
-    → StepsTo r.end (Hart h) end → Stands new.machine end → new.made ≡ old.made + 1
+    → StepsTo r.end (Hart h) end → Represents new.machine end → new.made ≡ old.made + 1
     → length end.common.trace ≡ length r.end.common.trace + 1 → new.numbers ≡ old.numbers ++ new.made ∷ []
     → HasRecorded c (past ++ Hart h ∷ []) new
 recorded_event old new h c past r end step stands made longer numbers =
@@ -106,7 +103,7 @@ recorded_event old new h c past r end step stands made longer numbers =
     } in record {
       end = end;
       runs = run_joined c r.end end past (Hart h ∷ []) r.runs (end, step, refl);
-      stands = stands;
+      represents = stands;
       made = number ∙ sym count;
       each = ap (λ (l : List ℕ). length l) numbers ∙ length-append old.numbers (new.made ∷ [])
           ∙ ap (λ (n : ℕ). n + 1) r.each ∙ sym longer;
@@ -115,7 +112,7 @@ recorded_event old new h c past r end step stands made longer numbers =
     }
 
 recorded_hart : (old new : RecorderView) (h : ℕ) (c : Config) (past : List Step) (r : HasRecorded c past old) (end : Config)
-    → StepsTo r.end (Hart h) end → Stands new.machine end → new.made ≡ old.made + 1
+    → StepsTo r.end (Hart h) end → Represents new.machine end → new.made ≡ old.made + 1
     → (length old.numbers < length new.machine.shared.trace → new.numbers ≡ old.numbers ++ new.made ∷ [])
     → (length new.machine.shared.trace ≤ length old.numbers → new.numbers ≡ old.numbers)
     → HasRecorded c (past ++ Hart h ∷ []) new
@@ -141,8 +138,9 @@ pub continues_hart : (old new : RecorderView) (h : ℕ) → Runs old.machine new
     → Continues old new (Hart h ∷ [])
 continues_hart old new h runs made more same = record {
   runs = runs;
+  made = made;
   records = λ c past r.
-      let after = runs.stands r.end r.stands in
+      let after = runs.represents r.end r.represents in
       recorded_hart old new h c past r after.0 (one_step r.end after.0 (Hart h) after.1) after.2 made more same;
 }
 
@@ -153,8 +151,9 @@ pub continues_evicted : (old new : RecorderView) (line : ℕ) → Runs old.machi
     → new.numbers ≡ old.numbers → Continues old new (Evict line ∷ [])
 continues_evicted old new line runs made same = record {
   runs = runs;
+  made = omega arith;
   records = λ c past r.
-      let after = runs.stands r.end r.stands in
+      let after = runs.represents r.end r.represents in
       recorded_same old new (Evict line ∷ []) c past r after.0 after.1 after.2 (omega arith)
       (eviction_is_silent r.end after.0 line (one_step r.end after.0 (Evict line) after.1)) same;
 }
@@ -164,9 +163,9 @@ stopped_records : (old new : RecorderView) (h n : ℕ) → is_stopped (slice_get
     → new.made ≡ old.made + n → new.numbers ≡ old.numbers
     → (c : Config) (past : List Step) → HasRecorded c past old → HasRecorded c (past ++ replicate n (Hart h)) new
 stopped_records old new h n stopped e made same c past r =
-    let after = (stopped_runs old.machine h n stopped).stands r.end r.stands in
+    let after = (stopped_runs old.machine h n stopped).represents r.end r.represents in
     let count = all_counted n h in
-    let trace : after.0.common.trace ≡ r.end.common.trace = sym after.2.shared.trace ∙ r.stands.shared.trace in
+    let trace : after.0.common.trace ≡ r.end.common.trace = sym after.2.shared.trace ∙ r.represents.shared.trace in
     recorded_same old new (replicate n (Hart h)) c past r after.0 after.1 (rw e after.2) (omega arith)
     (ap (λ (t : List Event). length t) trace) same
 
@@ -174,83 +173,34 @@ pub continues_stopped : (old new : RecorderView) (h n : ℕ) → is_stopped (sli
     → new.made ≡ old.made + n → new.numbers ≡ old.numbers → Continues old new (replicate n (Hart h))
 continues_stopped old new h n stopped e made same = record {
   runs = rw e (stopped_runs old.machine h n stopped);
+  made = rw all_counted made;
   records = stopped_records old new h n stopped e made same;
 }
 
--- no step, and steps after steps
-pub continues_none : (m : RecorderView) → Continues m m []
-continues_none m = record { runs = runs_none m.machine; records = λ c past r. rw (append-nil past) r }
+-- what a walk from the start makes of a recorder that has made no step
+pub makes_all : (old new : RecorderView) (items : List Item) → old.made ≡ 0 → count_of_hart_steps items < 2 ^ 32
+    → Makes old (steps_after items (record { item = 0; steps = 0 })) new → Continues old new (all_steps items)
+makes_all old new items none few makes =
+    let all = items_counted items in
+    subst (λ (l : List Step). Makes old l new) (after_start items 0) makes (omega arith)
 
-pub continues_more : (old middle new : RecorderView) (xs ys : List Step) → Continues old middle xs → Continues middle new ys
-    → Continues old new (xs ++ ys)
-continues_more old middle new xs ys a b = record {
-  runs = runs_more old.machine middle.machine new.machine xs ys a.runs b.runs;
-  records = λ c past r. rw (← append_assoc past xs ys) (b.records c (past ++ xs) (a.records c past r));
-}
-
-pub hart_continues : (old middle new : RecorderView) (h n : ℕ) → Continues old middle (replicate n (Hart h))
-    → Continues middle new (Hart h ∷ []) → Continues old new (replicate (n + 1) (Hart h))
-hart_continues old middle new h n a b =
-    rw (← replicate_more n (Hart h)) (continues_more old middle new (replicate n (Hart h)) (Hart h ∷ []) a b)
-
-pub hart_rests : (old middle new : RecorderView) (h done rest count : ℕ) → done + rest ≡ count
-    → Continues old middle (replicate done (Hart h)) → Continues middle new (replicate rest (Hart h))
-    → Continues old new (replicate count (Hart h))
-hart_rests old middle new h done rest count all a b =
-    let steps : replicate done (Hart h) ++ replicate rest (Hart h) ≡ replicate count (Hart h) =
-    replicate-append-replicate done rest (Hart h) ∙ ap (λ (n : ℕ). replicate n (Hart h)) all in
-    rw (← steps) (continues_more old middle new (replicate done (Hart h)) (replicate rest (Hart h)) a b)
-
-pub items_continue : (old middle new : RecorderView) (items : List Item) (i : ℕ) (d : Item) → i < length items
-    → Continues old middle (all_steps (take i items)) → Continues middle new (steps_of (get_or items i d))
-    → Continues old new (all_steps (take (i + 1) items))
-items_continue old middle new items i d fits a b =
-    let item : Item = get_or items i d in
-    let steps : all_steps (take (i + 1) items) ≡ all_steps (take i items) ++ steps_of item =
-    ap (λ (front : List Item). all_steps front) (take_more items i d fits)
-    ∙ flat_map-append steps_of (take i items) (item ∷ [])
-    ∙ ap (λ (more : List Step). all_steps (take i items) ++ more) (append-nil (steps_of item)) in
-    rw steps (continues_more old middle new (all_steps (take i items)) (steps_of item) a b)
-
--- where a recorder goes no further
-pub hart_holds : (old middle new : RecorderView) (h done count : ℕ) (fault : StepFault) → done < count
-    → Continues old middle (replicate done (Hart h)) → new ≡ middle → IsHeld middle (Some (Hart h)) fault
-    → HoldsAfter old new (replicate count (Hart h)) done fault
-hart_holds old middle new h done count fault fits continues e held =
-    let less : done ≤ count = omega arith in
-    let next : slice_get (replicate count (Hart h)) done ≡ Some (Hart h) = slice_get-get_or (replicate count (Hart h)) done (Hart h) (rw length-replicate fits)
-    ∙ ap (λ (x : Step). Some x) (get_or-replicate count done (Hart h) (Hart h) fits) in
-    rw e (record {
-      there = rw length-replicate fits;
-      continues = rw take-replicate continues;
-      held = rw next held;
-    })
-
-pub eviction_holds : (old new : RecorderView) (line : ℕ) (fault : StepFault) → new ≡ old → IsHeld old (Some (Evict line)) fault
-    → HoldsAfter old new (Evict line ∷ []) 0 fault
-eviction_holds old new line fault e held = rw e (record { there = lit< tt; continues = continues_none old; held = held })
-
-pub item_holds : (old middle new : RecorderView) (items : List Item) (stop : RunStop) (d : Item) → stop.item < length items
-    → Continues old middle (all_steps (take stop.item items))
-    → HoldsAfter middle new (steps_of (get_or items stop.item d)) stop.steps stop.fault
-    → HoldsAt old new items stop
-item_holds old middle new items stop d fits a b =
-    let there : slice_get items stop.item ≡ Some (get_or items stop.item d) = slice_get-get_or items stop.item d fits in
-    record {
-      item = fits;
-      steps = rw there b.there;
-      continues = rw there (continues_more old middle new (all_steps (take stop.item items)) _ a b.continues);
-      held = rw there b.held;
-    }
+-- and where it halts
+makes_first : (old middle : RecorderView) (items : List Item) (place : Place) (come : Comes Makes old middle items (record { item = 0; steps = 0 }) place)
+    → old.made ≡ 0 → count_of_hart_steps items < 2 ^ 32 → Continues old middle come.steps
+makes_first old middle items place come none few =
+    let all = items_counted items in
+    let parts = ap (λ (l : List Step). length (hart_steps l)) (sym (after_start items 0) ∙ come.leads.after) in
+    let sum = counted come.steps (steps_after items place) in
+    come.made (omega arith)
 
 -- what is made of a recorder that began at c
-at_start : (c : Config) (m : RecorderView) → HasRecorded c [] m → Stands m.machine c
-at_start c m r = rw (← r.runs) r.stands
+at_start : (c : Config) (m : RecorderView) → HasRecorded c [] m → Represents m.machine c
+at_start c m r = rw (← r.runs) r.represents
 
 pub each_event : (c : Config) (old new : RecorderView) (steps : List Step) → HasRecorded c [] old → Continues old new steps
     → length new.numbers ≡ length new.machine.shared.trace
 each_event c old new steps r continues =
-    let now = continues.records c [] r in now.each ∙ ap (λ (t : List Event). length t) (sym now.stands.shared.trace)
+    let now = continues.records c [] r in now.each ∙ ap (λ (t : List Event). length t) (sym now.represents.shared.trace)
 
 among : (m : MachineView) (harts lines : ℕ) (step : Step) → harts ≡ length m.harts → lines ≡ length m.shared.cache.lines
     → IsThere m step → IsAmong harts lines step
@@ -273,62 +223,68 @@ records_all c old new recorded r continues lines capacity trace harts left numbe
           (ap (λ (l : List HartState). length l) harts ∙ continues.runs.harts) (ap (λ (l : List (List ℕ)). length l) (sym lines))
           continues.runs.there;
       runs = now.runs;
-      harts = harts ∙ now.stands.harts;
-      trace = trace ∙ now.stands.shared.trace;
+      harts = harts ∙ now.represents.harts;
+      trace = trace ∙ now.represents.shared.trace;
       numbers = rw numbers now.numbers;
-      left = record { machine = new.machine; stands = now.stands; capacity_is = continues.runs.capacity ∙ capacity; lines = left };
+      left = left_at now.end new.machine recorded.capacity recorded.left now.represents (continues.runs.capacity ∙ capacity) left;
     }
 
 -- why memory may have been refused for the next step
-numbers_lack_room : (c : Config) (steps : List Step) (recorder : RecorderView) (next : Option Step)
-    → (r : HasRecorded c steps recorder) → MayGrow recorder next → MayLackRoom r.end next
-numbers_lack_room c steps recorder None r may = may
-numbers_lack_room c steps recorder (Some (Hart h)) r may = (rw (← r.stands.harts) may.0, rw (← r.each) may.1)
-numbers_lack_room c steps recorder (Some (Evict line)) r may = may
+numbers_lack_room : (c : Config) (steps : List Step) (recorder : RecorderView) (step : Step)
+    → (r : HasRecorded c steps recorder) → MayGrow recorder step → MayLackRoom r.end (Some step)
+numbers_lack_room c steps recorder (Hart h) r may = (rw (← r.represents.harts) may.0, rw (← r.each) may.1)
+numbers_lack_room c steps recorder (Evict line) r may = may
 
 running_is_there : (machine : MachineView) (h : ℕ) (found : Option HartState) → slice_get machine.harts h ≡ found → IsRunning found
     → h < length machine.harts
 running_is_there machine h None e running = absurd running
 running_is_there machine h (Some s) e running = slice_get_within machine.harts h s e
 
-machine_lacks_room : (c : Config) (machine : MachineView) (next : Option Step) → Stands machine c → RefusesNext machine next Memory
-    → MayLackRoom c next
-machine_lacks_room c machine None stands refused = refused
-machine_lacks_room c machine (Some (Hart h)) stands refused =
+machine_lacks_room : (c : Config) (machine : MachineView) (step : Step) → Represents machine c → Refuses machine step Memory
+    → MayLackRoom c (Some step)
+machine_lacks_room c machine (Hart h) stands refused =
     (rw (← stands.harts) (running_is_there machine h (slice_get machine.harts h) refl refused.0.running), rw (← stands.shared.trace) refused.1)
-machine_lacks_room c machine (Some (Evict line)) stands refused = absurd refused.0
+machine_lacks_room c machine (Evict line) stands refused = absurd refused.0
 
-pub stops_recording : (c : Config) (lines : List (List ℕ)) (old new : RecorderView) (items : List Item) (stop : RunStop)
-    → HasRecorded c [] old → old.machine.shared.cache.lines ≡ lines → HoldsAt old new items stop → StopsRecording c (length lines) items stop
-stops_recording c lines old new items stop r same h =
-    let now = h.continues.records c [] r in
-    let next = slice_get (steps_of_item (slice_get items stop.item)) stop.steps in record {
+pub stops_recording : (c : Config) (lines : List (List ℕ)) (old new : RecorderView) (items : List Item) (place : Place) (fault : StepFault)
+    → HasRecorded c [] old → old.machine.shared.cache.lines ≡ lines → old.made ≡ 0 → count_of_hart_steps items < 2 ^ 32
+    → HaltsAt Makes IsHeld old new items (record { item = 0; steps = 0 }) place fault
+    → StopsRecording c (length lines) items (record { place = place; fault = fault })
+stops_recording c lines old new items place fault r same none few h =
+    let continues : Continues old h.middle h.before.steps = makes_first old h.middle items place h.before none few in
+    let now = continues.records c [] r in
+    let there = step_there items place h.step h.here in record {
       reached = now.end;
-      runs = now.runs;
-      reason = elim h.held [
+      runs = rw h.before.leads.before now.runs;
+      reason = elim h.halted.1 [
         | inl memory ↦ inl memory.0
         | inr refused ↦ inr (record {
           old = old.machine;
-          new = new.machine;
-          stands = at_start c old r;
+          new = h.middle.machine;
+          represents = at_start c old r;
           lines = ap (λ (l : List (List ℕ)). length l) same;
           few = refused.0;
-          stops = record { item = h.item; steps = h.steps; runs = h.continues.runs; refused = refused.1 };
+          stops = record {
+            item = there.0;
+            steps = there.1;
+            runs = rw h.before.leads.before continues.runs;
+            refused = rw h.here refused.1;
+          };
         })
       ];
-      room = λ memory. inr (elim h.held [
-        | inl grown ↦ numbers_lack_room c _ new next now grown.1
-        | inr refused ↦ machine_lacks_room now.end new.machine next now.stands (rw memory at refused.1)
-      ]);
+      room = λ memory. inr (rw h.here (elim h.halted.1 [
+        | inl grown ↦ numbers_lack_room c h.before.steps h.middle h.step now grown.1
+        | inr refused ↦ machine_lacks_room now.end h.middle.machine h.step now.represents (rw memory at refused.1)
+      ]));
     }
 
-pub memory_stops : (c : Config) (lines : ℕ) (items : List Item) (stop : RunStop) → stop.item ≡ 0 → stop.steps ≡ 0 → stop.fault ≡ Memory
+pub memory_stops : (c : Config) (lines : ℕ) (items : List Item) (stop : RunStop) → stop.place ≡ record { item = 0; steps = 0 } → stop.fault ≡ Memory
     → StopsRecording c lines items stop
-memory_stops c lines items stop item steps memory = record {
+memory_stops c lines items stop place memory = record {
   reached = c;
-  runs = rw (item, steps) refl;
+  runs = rw place refl;
   reason = inl memory;
-  room = λ _. inl (item, steps);
+  room = λ _. inl (ap (λ (p : Place). p.item) place, ap (λ (p : Place). p.steps) place);
 }
 
 -- a machine that was made has harts and a capacity within the limits

@@ -8,8 +8,9 @@ use Rattle.schedule.specs.declared.items.Step.TheVariants.{Hart, Evict}
 use Rattle.store_trace.specs.declared.event.Event.{Event}
 use Rattle.machine.specs.Evicting.{hart_steps}
 use Rattle.machine.specs.Run.{Config, RunsTo, StepsTo}
-use Rattle.machine.specs.Stands.{MachineView, Stands}
-use Rattle.machine.specs.Stops.{StopsAt, steps_before, steps_of_item}
+use Rattle.machine.specs.Represents.{MachineView, Represents}
+use Rattle.machine.specs.Stops.{StopsAt}
+use Rattle.schedule.specs.Places.{steps_before, steps_of_item}
 use Rattle.machine.specs.declared.fault.RunStop.{RunStop}
 use Rattle.shared_memory.specs.declared.fault.StepFault.TheVariants.{Memory}
 
@@ -51,7 +52,7 @@ IsAmong harts lines (Evict line) = line < lines
 -- what a power cut leaves of a machine with a cache of this capacity that has come to the end
 pub record IsLeftAt (end : Config) (capacity : ℕ) (left : List (List ℕ)) : Type 0 where
   pub machine : MachineView
-  pub stands : Stands machine end
+  pub represents : Represents machine end
   pub capacity_is : machine.shared.cache.cache.capacity ≡ capacity
   pub lines : left ≡ machine.shared.cache.lines
 
@@ -70,7 +71,7 @@ pub record Records (c : Config) (recorded : RecordedView) : Type 0 where
 pub record IsRefused (c : Config) (count : ℕ) (items : List Item) (stop : RunStop) : Type 0 where
   pub old : MachineView
   pub new : MachineView
-  pub stands : Stands old c
+  pub represents : Represents old c
   pub lines : length old.shared.cache.lines ≡ count
   pub few : length new.shared.trace ≤ 65536
   pub stops : StopsAt old new items stop
@@ -85,12 +86,12 @@ MayLackRoom c (Some (Evict line)) = ⊥
 -- memory is refused before the first step, for what is kept of the whole run, or for the next step
 pub record StopsRecording (c : Config) (lines : ℕ) (items : List Item) (stop : RunStop) : Type 0 where
   pub reached : Config
-  pub runs : RunsTo c (steps_before items stop.item stop.steps) reached
+  pub runs : RunsTo c (steps_before items stop.place.item stop.place.steps) reached
   pub reason : (stop.fault ≡ Memory) ⊎ IsRefused c lines items stop
-  pub room : stop.fault ≡ Memory → ((stop.item ≡ 0) × (stop.steps ≡ 0))
-      ⊎ MayLackRoom reached (slice_get (steps_of_item (slice_get items stop.item)) stop.steps)
+  pub room : stop.fault ≡ Memory → ((stop.place.item ≡ 0) × (stop.place.steps ≡ 0))
+      ⊎ MayLackRoom reached (slice_get (steps_of_item (slice_get items stop.place.item)) stop.place.steps)
 
 -- a stop is before the first step, or before one of the schedule's
 abbrev pub IsAtStep : List Item → RunStop → Type 0
-IsAtStep items stop = ((stop.item ≡ 0) × (stop.steps ≡ 0))
-    ⊎ ((stop.item < length items) × (stop.steps < length (steps_of_item (slice_get items stop.item))))
+IsAtStep items stop = ((stop.place.item ≡ 0) × (stop.place.steps ≡ 0))
+    ⊎ ((stop.place.item < length items) × (stop.place.steps < length (steps_of_item (slice_get items stop.place.item))))

@@ -1,15 +1,13 @@
 //! How a run is recorded.
 
-ghost use Rattle.recording.specs.Recorders.{Continues, HoldsAfter, HoldsAt, IsHeld};
-ghost use Rattle.schedule.specs.Grammar.{hart_steps as count_of_hart_steps, steps_in};
-ghost use Rattle.schedule.specs.Steps.{all_steps, steps_of};
+ghost use Rattle.recording.specs.Recorders.{IsHeld, Makes};
 ghost use Rattle.std.specs.Prelude.{◌≡◌, ◌+◌, ◌^◌, ◌<◌, ◌≤◌, [], ◌∷◌, ◌++◌, IfErr, IfOk, OnErr, OnOk, Some, length, replicate, vec_capacity, vec_len};
 
 use crate::recorded::Recorded;
 use hart::HartState;
 use line_memory::Medium;
-use machine::{Machine, RunStop};
-use schedule::{Item, Schedule, Step};
+use machine::Machine;
+use schedule::{Item, Schedule, Step, Stepper};
 use shared_memory::StepFault;
 use std::alloc::Global;
 use std::marker::Model;
@@ -18,7 +16,7 @@ use std::marker::Model;
 #[derive(Drop)]
 pub(crate) struct Recorder {
     pub(crate) machine: Machine,
-    /// How many hart steps were made.
+    /// How many hart steps were made, modulo 2^32.
     pub(crate) made: u32,
     pub(crate) numbers: Vec<u32>,
 }
@@ -34,93 +32,60 @@ impl Model for Recorder {
 /// How many events a trace has at most.
 const MOST_EVENTS: usize = 65_536;
 
-/// A step of an item that was refused, after as many as `steps` says.
-#[derive(Clone, Copy)]
-struct Hold {
-    steps: u32,
-    fault: StepFault,
+impl Stepper for Recorder {
+    ghost use Rattle.recording.specs.RecorderLaws.{makes_more, makes_none};
+    ghost use Rattle.recording.specs.Recorders.{IsHeld, Makes};
+
+    type Halt = StepFault;
+
+    ghost makes = { Makes };
+
+    ghost halts = { IsHeld };
+
+    fn step(&mut self, step: Step) -> Result<(), StepFault> {
+        match step {
+            Step::Hart(hart) => self.step_hart(hart),
+            Step::Evict(line) => self.evict(line),
+        }
+    }
+
+    /// A hart that stopped makes no event by its steps.
+    fn rest(&mut self, step: Step, count: u32) -> bool {
+        let Step::Hart(hart) = step else {
+            return false;
+        };
+        if !self.machine.has_stopped(hart) {
+            return false;
+        }
+        self.made = self.made.wrapping_add(count);
+        true
+    }
+
+    ghost no_step = { makes_none };
+
+    ghost more_steps = { makes_more };
 }
 
 impl Recorder {
-    /// Carries out the items of a schedule, in order, up to the first step that is refused.
-    #[tactic(auto, using(crate::proofs::Numbering::continues_none, std::proofs::lemmas::List::Sums::sum_by_more, std::proofs::lemmas::List::Sums::sum_by_more_le))]
-    pub(crate) fn run(&mut self, items: &[Item]) -> Result<(), RunStop>
-        requires { self.old.made + count_of_hart_steps items.now < 2 ^ 32 }
-        ensures ok { OnOk result (Continues self.old self.new (all_steps items.now)) }
-        ensures err { IfErr result (HoldsAt self.old self.new items.now) }
-    {
-        for (index, item) in items.iter().enumerate() {
-            if let Err(hold) = self.run_item(*item) {
-                return Err(RunStop {
-                    item: index,
-                    steps: hold.steps,
-                    fault: hold.fault,
-                });
-            }
-        }
-        Ok(())
-    }
-
-    #[tactic(auto, using(crate::proofs::Numbering::eviction_holds))]
-    fn run_item(&mut self, item: Item) -> Result<(), Hold>
-        requires { self.old.made + steps_in item < 2 ^ 32 }
-        ensures ok { OnOk result (Continues self.old self.new (steps_of item)) }
-        ensures made { OnOk result (self.new.made ≡ self.old.made + steps_in item) }
-        ensures err { IfErr result (λ hold. HoldsAfter self.old self.new (steps_of item) hold.steps hold.fault) }
-    {
-        match item {
-            Item::Steps { hart, count } => self.run_hart(hart, count),
-            Item::Evict { line } => match self.evict(line) {
-                Ok(()) => Ok(()),
-                Err(fault) => Err(Hold { steps: 0, fault }),
-            },
-        }
-    }
-
-    #[tactic(auto, using(crate::proofs::Numbering::continues_none))]
-    fn run_hart(&mut self, hart: u32, count: u32) -> Result<(), Hold>
-        requires { self.old.made + count < 2 ^ 32 }
-        ensures ok { OnOk result (Continues self.old self.new (replicate count (Step.Hart hart))) }
-        ensures made { OnOk result (self.new.made ≡ self.old.made + count) }
-        ensures err { IfErr result (λ hold. HoldsAfter self.old self.new (replicate count (Step.Hart hart)) hold.steps hold.fault) }
-    {
-        for done in 0..count {
-            if self.machine.has_stopped(hart) {
-                // A hart that stopped makes no event by the steps that are left.
-                self.made += count - done;
-                return Ok(());
-            }
-            if let Err(fault) = self.step_hart(hart) {
-                return Err(Hold { steps: done, fault });
-            }
-        }
-        Ok(())
-    }
-
     /// Makes the next instruction of a hart, and numbers its event if it makes one.
     #[tactic(auto, using(crate::proofs::Numbering::continues_hart))]
     fn step_hart(&mut self, hart: u32) -> Result<(), StepFault>
-        requires { self.old.made + 1 < 2 ^ 32 }
-        ensures ok { OnOk result (Continues self.old self.new (Step.Hart hart ∷ [])) }
-        ensures made { OnOk result (self.new.made ≡ self.old.made + 1) }
-        ensures err { OnErr result (self.new ≡ self.old) }
-        ensures held { IfErr result (IsHeld self.old (Some (Step.Hart hart))) }
+        ensures ok { OnOk result (Makes self.old (Step.Hart hart ∷ []) self.new) }
+        ensures held { IfErr result (IsHeld self.old (Step.Hart hart) self.new) }
     {
         make_room(&mut self.numbers, &self.machine, hart)?;
         if let Err(fault) = self.machine.step(Step::Hart(hart)) {
             return Err(fault);
         }
-        self.made += 1;
+        self.made = self.made.wrapping_add(1);
         number_event(&mut self.numbers, self.machine.events().len(), self.made);
         Ok(())
     }
 
     #[tactic(auto, using(crate::proofs::Numbering::continues_evicted))]
     fn evict(&mut self, line: u32) -> Result<(), StepFault>
-        ensures ok { OnOk result (Continues self.old self.new (Step.Evict line ∷ [])) }
-        ensures made { OnOk result (self.new.made ≡ self.old.made) }
-        ensures err { OnErr result (self.new ≡ self.old) }
-        ensures held { IfErr result (IsHeld self.old (Some (Step.Evict line))) }
+        ensures ok { OnOk result (Makes self.old (Step.Evict line ∷ []) self.new) }
+        ensures held { IfErr result (IsHeld self.old (Step.Evict line) self.new) }
     {
         if let Err(fault) = self.machine.step(Step::Evict(line)) {
             return Err(fault);

@@ -1,7 +1,7 @@
 //! Runs that are recorded.
 
 ghost use Rattle.machine.specs.Run.{started};
-ghost use Rattle.machine.specs.Stands.{Stands};
+ghost use Rattle.machine.specs.Represents.{Represents};
 ghost use Rattle.recording.specs.Recorded.{IsAtStep, Records, StopsRecording};
 ghost use Rattle.recording.specs.Recorders.{HasRecorded};
 ghost use Rattle.schedule.specs.Grammar.{hart_steps as count_of_hart_steps};
@@ -12,7 +12,7 @@ use crate::recorder::Recorder;
 use line_memory::Medium;
 use machine::{Machine, RunStop};
 use program::Program;
-use schedule::Schedule;
+use schedule::{Place, Schedule, walk};
 use shared_memory::{StepFault, check_limits};
 use std::alloc::Global;
 
@@ -37,9 +37,9 @@ pub fn record(
     ensures start { IfOk result (λ recorded. recorded.start ≡ medium) }
     ensures items { IfOk result (λ recorded. recorded.items ≡ schedule.now) }
     ensures capacity { IfOk result (λ recorded. recorded.capacity ≡ capacity) }
-    ensures harts { ((harts < 1) ⊎ (8 < harts)) → result ≡ Err (record { item = 0; steps = 0; fault = StepFault.NoSuchHart }) }
+    ensures harts { ((harts < 1) ⊎ (8 < harts)) → result ≡ Err (record { place = record { item = 0; steps = 0 }; fault = StepFault.NoSuchHart }) }
     ensures limits { (1 ≤ harts) × (harts ≤ 8) → ((capacity < 1) ⊎ (16384 < capacity)) →
-        result ≡ Err (record { item = 0; steps = 0; fault = StepFault.OutOfLimits }) }
+        result ≡ Err (record { place = record { item = 0; steps = 0 }; fault = StepFault.OutOfLimits }) }
     ensures err { IfErr result (λ stop. (1 ≤ harts) × (harts ≤ 8) → (1 ≤ capacity) × (capacity ≤ 16384) →
         StopsRecording (started program medium harts) (length medium) schedule.now stop) }
     ensures place { IfErr result (IsAtStep schedule.now) }
@@ -48,8 +48,8 @@ pub fn record(
         Ok(recorder) => recorder,
         Err(fault) => return Err(before_all(fault)),
     };
-    if let Err(stop) = recorder.run(schedule.items()) {
-        return Err(stop);
+    if let Err(halted) = walk(&mut recorder, schedule, Place::start()) {
+        return Err(RunStop::from(halted));
     }
     match recorder.finish(alloc, medium, capacity, schedule) {
         Ok(recorded) => Ok(recorded),
@@ -59,11 +59,10 @@ pub fn record(
 
 /// A stop before the first step.
 fn before_all(fault: StepFault) -> RunStop
-    ensures { result ≡ record { item = 0; steps = 0; fault = fault } }
+    ensures { result ≡ record { place = record { item = 0; steps = 0 }; fault = fault } }
 {
     RunStop {
-        item: 0,
-        steps: 0,
+        place: Place::start(),
         fault,
     }
 }
@@ -105,7 +104,7 @@ fn machine_over(
     requires some { 1 ≤ harts }
     requires room { 1 ≤ capacity }
     requires bounded { capacity ≤ 16384 }
-    ensures ok { IfOk result (λ machine. Stands machine (started program medium.now harts)) }
+    ensures ok { IfOk result (λ machine. Represents machine (started program medium.now harts)) }
     ensures lines { IfOk result (λ machine. machine.shared.cache.lines ≡ medium.now) }
     ensures capacity { IfOk result (λ machine. machine.shared.cache.cache.capacity ≡ capacity) }
     ensures err { IfErr result (λ fault. fault ≡ StepFault.Memory) }

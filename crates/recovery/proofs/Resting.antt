@@ -6,15 +6,15 @@ use Rattle.line_memory.specs.Lines.{line_bytes}
 use Rattle.line_memory.specs.Memory.{Memory}
 use Rattle.line_memory.specs.Regions.{padded}
 use Rattle.line_memory.specs.declared.TheConstants.{DATA_SIZE, TEXT_SIZE}
-use Rattle.object.specs.Sections.{Sections}
+use Rattle.program.specs.Sections.{Sections}
 use Rattle.shared_memory.specs.Histories.{text_of}
-use Rattle.shared_memory.specs.Served.{starting_memory}
+use Rattle.shared_memory.specs.Replies.{starting_memory}
 use Rattle.machine.specs.Run.{Config, started}
-use Rattle.machine.specs.Stands.{text_bytes}
+use Rattle.machine.specs.Represents.{text_bytes}
 use Rattle.machine.proofs.Copying.{text_there}
 use Rattle.recovery_run.specs.declared.Cause.{Cause}
 use Rattle.recovery_run.specs.Answers.{answer, byte_list, bytes_from}
-use Rattle.recovery.specs.Engine.{Comes, Stands, ending}
+use Rattle.recovery.specs.Engine.{Comes, Represents, ending}
 use Rattle.recovery.specs.Routine.{IsAtRest, Recovers}
 use Rattle.recovery.specs.declared.engine.Engine.{Engine}
 
@@ -33,7 +33,7 @@ starting_text program image whole =
 
 pub begins : (old new : Engine) (image : List (List ℕ)) → IsAtRest old → new.hart ≡ start 0 → new.text ≡ old.text → new.world.held ≡ old.world.held
     → new.world.reserved ≡ None → new.world.events ≡ 0 → new.world.loaded ≡ []
-    → Stands new image (started old.world.held.program image 1)
+    → Represents new image (started old.world.held.program image 1)
 begins old new image rest hart text held reserved events loaded = record {
   harts = rw hart refl;
   memory = rw held (rest.memory.memory image);
@@ -46,12 +46,12 @@ begins old new image rest hart text held reserved events loaded = record {
 }
 
 -- what a run came to
-ends : (engine : Engine) (image : List (List ℕ)) (d : Config) (full : Bool) → Stands engine image d → ending engine image full ≡ answer d full
+ends : (engine : Engine) (image : List (List ℕ)) (d : Config) (full : Bool) → Represents engine image d → ending engine image full ≡ answer d full
 ends engine image d true stands = refl
 ends engine image d false stands = rw (stands.harts, ← stands.memory) refl
 
 pub recovers : (begun new : Engine) (image : List (List ℕ)) (steps : ℕ) (program : Sections) (lines : List ℕ) (found : Result (List ℕ) Cause)
-    → Stands begun image (started program image 1) → Comes begun new image steps found → lines ≡ new.world.loaded
+    → Represents begun image (started program image 1) → Comes begun new image steps found → lines ≡ new.world.loaded
     → Recovers program image steps lines found
 recovers begun new image steps program lines found stands comes loads =
     let (d, runs, ended) = comes.runs.runs (started program image 1) stands in

@@ -1,4 +1,4 @@
--- One step of a routine is one step of what it stands for.
+-- One step of a routine is one step of what it represents.
 use Rattle.std.proofs.Common.{◌≡◌, ℕ, ◌+◌, ◌-◌, ◌<◌, List, ◌∷◌, ◌++◌, length, Some, Result, Ok, Err, IfOk, Bool, true, false, nat_le, nat_lt, slice_get, flat_map, refl, sym, ap, ◌∙◌, inl, inr, arith}
 use Rattle.std.proofs.lemmas.Bool.{cases_lt, cases_Bool, and_right, le-ltb, lt-leb}
 use Rattle.std.proofs.lemmas.List.{length-append}
@@ -19,21 +19,21 @@ use Rattle.schedule.specs.declared.items.Step.TheVariants.{Hart}
 use Rattle.shared_memory.specs.declared.history.Entry.{Entry}
 use Rattle.shared_memory.specs.declared.history.Entry.TheVariants.{Asked}
 use Rattle.shared_memory.specs.Histories.{calls_of, copied, has_reserved, is_renewing, memory_after, replayed, text_of}
-use Rattle.shared_memory.specs.Served.{events_of, reply_after}
+use Rattle.shared_memory.specs.Replies.{events_of, reply_after}
 use Rattle.machine.specs.Run.{Config, Executes, StepsTo, after_request, fetched, with_hart}
-use Rattle.machine.specs.Stands.{text_bytes}
+use Rattle.machine.specs.Represents.{text_bytes}
 use Rattle.machine.proofs.Stepping.{hart_steps}
 use Rattle.held_memory.specs.Memory.{HeldView, memory_of}
 use Rattle.held_memory.specs.Regions.{bytes_of}
 use Rattle.held_memory.proofs.Placing.{text_byte}
 use Rattle.recovery_run.specs.Loading.{lines_loaded}
-use Rattle.recovery.specs.Engine.{Answers, Goes, IsAsked, Stands}
+use Rattle.recovery.specs.Engine.{Answers, Goes, IsAsked, Represents}
 use Rattle.recovery.specs.Fetched.{FetchedView, Refetches}
 use Rattle.recovery.specs.World.{IsTooMany, Serves, is_line, reply_to}
 use Rattle.recovery.specs.declared.engine.Engine.{Engine}
 
 -- the reply is the one that the definition gives
-pub reply_stands : (engine : Engine) (image : List (List ℕ)) (request : Request) (c : Config) → Stands engine image c
+pub reply_stands : (engine : Engine) (image : List (List ℕ)) (request : Request) (c : Config) → Represents engine image c
     → reply_to engine.world image request ≡ reply_after c.common 0 request
 reply_stands engine image request c stands =
     let same : is_line engine.world.reserved ≡ has_reserved c.common.history 0 = λ i l. stands.reserved l i in
@@ -69,8 +69,8 @@ text_after old new held image initial history request reply text now was = elim 
   | inr other ↦ rw (other, text.kept other) was
 ]
 
--- a step of the running hart is one of what it stands for
-steps : (engine : Engine) (image : List (List ℕ)) (c d : Config) (need : Need) → Stands engine image c → engine.hart.status ≡ Running
+-- a step of the running hart is one of what it represents
+steps : (engine : Engine) (image : List (List ℕ)) (c d : Config) (need : Need) → Represents engine image c → engine.hart.status ≡ Running
     → Executes c 0 engine.hart (fetched (text_bytes engine.text.bytes) engine.hart.pc) d → StepsTo c (Hart 0) d
 steps engine image c d need stands running x =
     let there : slice_get c.harts 0 ≡ Some engine.hart = rw stands.harts refl in
@@ -112,10 +112,10 @@ goes_trapped old new image trap running needs e = λ c stands.
       }),
     )
 
--- what it stands for after a request
+-- what it represents after a request
 answered_stands : (old new : Engine) (image : List (List ℕ)) (i : Instr) (request : Request) (reply : Reply) (c : Config)
     → reply ≡ reply_after c.common 0 request → Serves old.world new.world image request reply → new.hart ≡ answered old.hart i reply
-    → Refetches old.text new.text new.world.held request → Stands old image c → Stands new image (after_request c 0 old.hart i request)
+    → Refetches old.text new.text new.world.held request → Represents old image c → Represents new image (after_request c 0 old.hart i request)
 answered_stands old new image i request reply c told serves hart text stands =
     let s = rw told at serves in
     let h = rw told at hart in

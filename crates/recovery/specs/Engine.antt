@@ -1,4 +1,4 @@
--- A routine under way: what it stands for in terms of Run, and what its steps do to that.
+-- A routine under way: what it represents in terms of Run, and what its steps do to that.
 use Rattle.std.specs.Prelude.{◌≡◌, ◌<◌, ◌≤◌, ℕ, List, [], ◌∷◌, Bool, true, false, Result, Err, length, flat_map}
 use Rattle.isa_table.specs.declared.instruction.Instr.{Instr}
 use Rattle.hart.specs.Effect.{answered}
@@ -7,7 +7,7 @@ use Rattle.hart.specs.declared.need.Request.{Request}
 use Rattle.schedule.specs.declared.items.Step.TheVariants.{Hart}
 use Rattle.shared_memory.specs.Histories.{calls_of, copied, replayed}
 use Rattle.machine.specs.Run.{Config, StepsTo}
-use Rattle.machine.specs.Stands.{text_bytes}
+use Rattle.machine.specs.Represents.{text_bytes}
 use Rattle.held_memory.specs.Memory.{IsSame, memory_of}
 use Rattle.recovery_run.specs.declared.Cause.{Cause}
 use Rattle.recovery_run.specs.declared.Cause.TheVariants.{Events}
@@ -18,8 +18,8 @@ use Rattle.recovery.specs.Fetched.{Refetches}
 use Rattle.recovery.specs.World.{Holds, IsTooMany, Serves}
 use Rattle.recovery.specs.declared.engine.Engine.{Engine}
 
--- over the lines of an image, it stands for a configuration of hart 0 alone
-pub record Stands (engine : Engine) (image : List (List ℕ)) (c : Config) : Type 0 where
+-- over the lines of an image, it represents a configuration of hart 0 alone
+pub record Represents (engine : Engine) (image : List (List ℕ)) (c : Config) : Type 0 where
   pub harts : c.harts ≡ engine.hart ∷ []
   pub memory : memory_of engine.world.held image ≡ c.common.memory
   pub replays : c.common.memory ≡ replayed c.common.initial c.common.history
@@ -45,15 +45,15 @@ abbrev pub IsAsked : Engine → Engine → List (List ℕ) → Instr → Request
 IsAsked old new image i request true = Answers old new image i request
 IsAsked old new image i request false = (new ≡ old) × IsTooMany old.world image request
 
--- A step was made: whatever it stood for before, it stands for what the step makes of that. Or it wasn't: it would make an event too
+-- A step was made: whatever it represented before, it represents what the step makes of that. Or it wasn't: it would make an event too
 -- many.
 abbrev pub Goes : Engine → Engine → List (List ℕ) → Bool → Type 0
-Goes old new image true = (c : Config) → Stands old image c → (d : Config) × StepsTo c (Hart 0) d × Stands new image d
-Goes old new image false = (new ≡ old) × ((c : Config) → Stands old image c → (d : Config) × StepsTo c (Hart 0) d × (65536 < length d.common.trace))
+Goes old new image true = (c : Config) → Represents old image c → (d : Config) × StepsTo c (Hart 0) d × Represents new image d
+Goes old new image false = (new ≡ old) × ((c : Config) → Represents old image c → (d : Config) × StepsTo c (Hart 0) d × (65536 < length d.common.trace))
 
 -- it ran for so many steps, and is full or not
 pub record Runs (old new : Engine) (image : List (List ℕ)) (steps : ℕ) (full : Bool) : Type 0 where
-  pub runs : (c : Config) → Stands old image c → (d : Config) × RunsFor c steps d full × Stands new image d
+  pub runs : (c : Config) → Represents old image c → (d : Config) × RunsFor c steps d full × Represents new image d
 
 -- what a run came to that ended here
 abbrev pub ending : Engine → List (List ℕ) → Bool → Result (List ℕ) Cause

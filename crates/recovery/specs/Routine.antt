@@ -1,7 +1,7 @@
 -- A routine between two runs, and what a run of it comes to.
 use Rattle.std.specs.Prelude.{◌≡◌, ℕ, List, Bool, Result, length}
 use Rattle.line_memory.specs.declared.TheConstants.{TEXT_SIZE}
-use Rattle.object.specs.Sections.{Sections}
+use Rattle.program.specs.Sections.{Sections}
 use Rattle.machine.specs.Run.{Config, started}
 use Rattle.held_memory.specs.Memory.{IsAtStart}
 use Rattle.recovery_run.specs.declared.Cause.{Cause}

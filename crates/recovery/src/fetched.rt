@@ -3,7 +3,7 @@
 ghost use Rattle.std.specs.Prelude.{◌≡◌, ◌<◌, ℕ, length, slice_get, IfOk, IfErr};
 ghost use Rattle.line_memory.specs.declared.TheConstants.{TEXT_SIZE};
 ghost use Rattle.machine.specs.Run.{fetched};
-ghost use Rattle.machine.specs.Stands.{text_bytes};
+ghost use Rattle.machine.specs.Represents.{text_bytes};
 ghost use Rattle.held_memory.specs.Regions.{bytes_of};
 ghost use Rattle.shared_memory.specs.declared.fault.StepFault.{StepFault};
 ghost use Rattle.recovery.specs.Fetched.{Refetches};

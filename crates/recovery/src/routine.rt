@@ -5,7 +5,7 @@ ghost use Rattle.line_memory.specs.declared.MediumFault.{MediumFault};
 ghost use Rattle.machine.specs.Run.{started};
 ghost use Rattle.held_lines.specs.Held.{IsOver};
 ghost use Rattle.held_memory.specs.Memory.{IsAtStart};
-ghost use Rattle.recovery.specs.Engine.{IsKept, Stands};
+ghost use Rattle.recovery.specs.Engine.{IsKept, Represents};
 ghost use Rattle.recovery.specs.Routine.{IsAtRest, Recovers};
 
 use crate::engine::Engine;
@@ -100,7 +100,7 @@ impl Engine {
     fn begin<S: Source>(&mut self, image: &S)
         requires rest { IsAtRest self.old }
         requires lines { length (S.medium image.now) ≡ length self.old.world.held.image }
-        ensures stands { Stands self.new (S.medium image.now) (started self.old.world.held.program (S.medium image.now) 1) }
+        ensures represents { Represents self.new (S.medium image.now) (started self.old.world.held.program (S.medium image.now) 1) }
         ensures over { IsOver self.new.world.held.image (S.medium image.now) }
         ensures kept { IsKept self.old self.new }
     {

@@ -9,7 +9,7 @@ ghost use Rattle.hart.specs.declared.need.Request.{Request};
 ghost use Rattle.held_lines.specs.Held.{IsOver};
 ghost use Rattle.held_memory.specs.Memory.{IsAtStart, IsSame, IsWithin, address_of, memory_of};
 ghost use Rattle.shared_memory.specs.Persisted.{line_used};
-ghost use Rattle.shared_memory.specs.Served.{access_fault, line_of};
+ghost use Rattle.shared_memory.specs.Replies.{access_fault, line_of};
 ghost use Rattle.held_memory.specs.Regions.{bytes_of};
 ghost use Rattle.isa_table.specs.declared.instruction.CacheOp.{CacheOp};
 ghost use Rattle.hart.specs.declared.need.Reply.{Reply};

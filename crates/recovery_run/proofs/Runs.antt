@@ -9,10 +9,10 @@ use Rattle.line_memory.specs.Memory.{Memory}
 use Rattle.line_memory.specs.Regions.{flat}
 use Rattle.line_memory.specs.declared.TheConstants.{PERSISTENT_BASE}
 use Rattle.line_memory.proofs.Flat.{flat_persistent, flat_ram}
-use Rattle.object.specs.Sections.{Sections}
+use Rattle.program.specs.Sections.{Sections}
 use Rattle.schedule.specs.declared.items.Step.{Step}
 use Rattle.shared_memory.specs.declared.history.Entry.{Entry}
-use Rattle.shared_memory.specs.Served.{starting_memory}
+use Rattle.shared_memory.specs.Replies.{starting_memory}
 use Rattle.shared_memory.specs.Histories.{replayed}
 use Rattle.machine.specs.Run.{Config, RunsTo, started}
 use Rattle.machine.proofs.Determined.{steps_once}

@@ -1,6 +1,6 @@
 -- What recovery loads of the images of cuts.
 use Rattle.std.specs.Prelude.{◌≡◌, ℕ, List, Bool, Result}
-use Rattle.object.specs.Sections.{Sections}
+use Rattle.program.specs.Sections.{Sections}
 use Rattle.crash_model.specs.Image.{image}
 use Rattle.crash_model.specs.declared.step.PersistenceStep.{PersistenceStep}
 use Rattle.machine.specs.Run.{Config, started}

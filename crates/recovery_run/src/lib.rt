@@ -9,7 +9,7 @@ ghost use Rattle.crash_model.specs.declared.step.PersistenceStep.{PersistenceSte
 ghost use Rattle.hart.specs.declared.state.HartState.{HartState};
 ghost use Rattle.hart.specs.declared.state.Status.TheVariants.{Running};
 ghost use Rattle.line_memory.specs.Lines.{AreLines};
-ghost use Rattle.object.specs.Sections.{Sections};
+ghost use Rattle.program.specs.Sections.{Sections};
 ghost use Rattle.schedule.specs.declared.items.Step.{Step};
 ghost use Rattle.machine.specs.Run.{Config, RunsTo, started};
 ghost use Rattle.recovery_run.specs.Answers.{answer};

@@ -14,7 +14,7 @@ use Rattle.assemble.specs.Faults.{is_defined}
 use Rattle.assemble.specs.Places.{label_of, said, section_after, place_after, size_of, value_in}
 use Rattle.assemble.specs.SourceLines.{Values, IsSourceLine}
 use Rattle.decode.specs.Text.{operand_texts, operands_text, text_of}
-use Rattle.object.specs.Sections.{Sections}
+use Rattle.program.specs.Sections.{Sections}
 use Rattle.round_trip.proofs.Names.{named}
 use Rattle.round_trip.proofs.Plain.{IsPlain, ArePlain, plain_text, words_in_line, one_line, register_plain, signed_plain, address_plain, place_plain, distance_plain, set_plain}
 use Rattle.round_trip.proofs.Shapes.{between_12, between_13, between_21, upper_between, shift_between, reads_back}

@@ -3,8 +3,7 @@ use Rattle.std.proofs.Common.{◌≡◌, ℕ, ◌<◌, ◌≤◌, Bool, true, fa
 use Rattle.std.specs.Prelude.{Some, codes}
 use Rattle.std.specs.List.{list_all}
 use Rattle.asm_lex.specs.Pieces.{is_word}
-use Rattle.asm_lex.specs.Kinds.{kind_of}
-use Rattle.asm_lex.specs.declared.Kind.TheVariants.{Name}
+use Rattle.asm_lex.specs.Kinds.{name, kind_of}
 use Rattle.isa_table.specs.Names.{atomic_name, atomic_suffix, mnemonic}
 use Rattle.isa_table.specs.declared.instruction.Instr.{Instr}
 use Rattle.isa_table.specs.declared.instruction.Instr.TheVariants.{Upper, Branch, Load, Store, Immediate, Shift, Register, Cache, LoadReserved, Atomic, System}
@@ -25,7 +24,7 @@ use Rattle.isa_table.specs.declared.instruction.SystemOp.TheVariants.{Ecall}
 -- a text that is a name from end to end
 pub record IsName (text : List ℕ) : Type 0 where
   pub run : list_all is_word text ≡ true
-  pub token : kind_of text ≡ Some Name
+  pub token : kind_of text ≡ Some (name text)
   pub there : 0 < length text
   pub short : length text ≤ 20
 

@@ -9,13 +9,11 @@ use Rattle.std.proofs.lemmas.Bool.Decides.{nat_tests}
 use Rattle.std.proofs.lemmas.Fmt.{decimal_is_IsNumeral, decimal_digit, first_decimal, length-decimal-le}
 use Rattle.asm_lex.specs.Pieces.{is_word, is_blank, begins_word}
 use Rattle.asm_lex.specs.Kinds.{are_digits, is_decimal, in_word, number_of, kind_of, mark_of}
-use Rattle.asm_lex.specs.declared.Kind.{Kind}
-use Rattle.asm_lex.specs.declared.Kind.TheVariants.{Name, Number, Open, Close, Plus, Minus}
+use Rattle.asm_lex.specs.Kinds.{Lexeme, name, number, opening, closing, colon, plus, minus}
 use Rattle.asm_lex.proofs.Spelling.{is_word-decimal, kind_of-decimal}
 use Rattle.isa_table.specs.declared.access.AccessSet.{AccessSet}
 use Rattle.isa_table.specs.declared.register.Reg.{Reg}
 use Rattle.asm_line.specs.Grammar.{by_distance, set_then, target_then}
-use Rattle.asm_line.specs.Lexemes.{Lexeme, name, number, opening, closing, colon, plus, minus, lexeme_of}
 use Rattle.asm_line.specs.Numbers.{unsigned, negated, number_then, within, exact}
 use Rattle.asm_names.specs.Registers.{register_of, register_number, plain_number, short_number, set_of}
 use Rattle.asm_names.proofs.RegisterLemmas.{same_register}
@@ -23,19 +21,19 @@ use Rattle.decode.specs.Text.{register_text, address_text, place_text, distance_
 use Rattle.round_trip.proofs.Tokens.{Writes, IsMark, run_writes, mark_then}
 
 -- marks
-open_mark : IsMark 40 Open
+open_mark : IsMark 40 opening
 unfolding is_blank is_word kind_of mark_of
 open_mark = record { no_comment = refl; no_blank = refl; no_word = refl; token = refl }
 
-close_mark : IsMark 41 Close
+close_mark : IsMark 41 closing
 unfolding is_blank is_word kind_of mark_of
 close_mark = record { no_comment = refl; no_blank = refl; no_word = refl; token = refl }
 
-plus_mark : IsMark 43 Plus
+plus_mark : IsMark 43 plus
 unfolding is_blank is_word kind_of mark_of
 plus_mark = record { no_comment = refl; no_blank = refl; no_word = refl; token = refl }
 
-minus_mark : IsMark 45 Minus
+minus_mark : IsMark 45 minus
 unfolding is_blank is_word kind_of mark_of
 minus_mark = record { no_comment = refl; no_blank = refl; no_word = refl; token = refl }
 
@@ -43,8 +41,8 @@ minus_mark = record { no_comment = refl; no_blank = refl; no_word = refl; token 
 empty_writes : Writes [] []
 empty_writes = record { tokens = λ rest more end after. after }
 
-marked : (b : ℕ) (text : List ℕ) (kind : Kind) (ls : List Lexeme) → IsMark b kind → Writes text ls → Writes (b ∷ text) (lexeme_of kind (b ∷ []) ∷ ls)
-marked b text kind ls m w = record { tokens = λ rest more end after. mark_then b (text ++ rest) kind (ls ++ more) m (w.tokens rest more end after) }
+marked : (b : ℕ) (text : List ℕ) (l : Lexeme) (ls : List Lexeme) → IsMark b l → Writes text ls → Writes (b ∷ text) (l ∷ ls)
+marked b text l ls m w = record { tokens = λ rest more end after. mark_then b (text ++ rest) l (ls ++ more) m (w.tokens rest more end after) }
 
 followed : (s t : List ℕ) (ls ms : List Lexeme) → Writes s ls → Writes t ms → ((rest : List ℕ) → begins_word (t ++ rest) ≡ false) → Writes (s ++ t) (ls ++ ms)
 followed s t ls ms u v apart = record {
@@ -53,7 +51,7 @@ followed s t ls ms u v apart = record {
 
 -- numbers
 decimal_writes : (n : ℕ) → n < 2 ^ 64 → Writes (decimal n) (number (Some n) (decimal n) ∷ [])
-decimal_writes n fits = run_writes (decimal n) (Number (Some n)) (is_word-decimal n fits) (kind_of-decimal n fits)
+decimal_writes n fits = run_writes (decimal n) (number (Some n) (decimal n)) (is_word-decimal n fits) (kind_of-decimal n fits)
 
 abbrev pub signed_lexemes : ℤ → List Lexeme
 signed_lexemes (pos n) = number (Some n) (decimal n) ∷ []
@@ -61,7 +59,7 @@ signed_lexemes (negsuc n) = minus ∷ number (Some (suc n)) (decimal (suc n)) �
 
 pub signed_writes : (z : ℤ) → unsigned_abs z < 2 ^ 64 → Writes (signed_decimal z) (signed_lexemes z)
 signed_writes (pos n) fits = decimal_writes n fits
-signed_writes (negsuc n) fits = marked 45 (decimal (suc n)) Minus _ minus_mark (decimal_writes (suc n) fits)
+signed_writes (negsuc n) fits = marked 45 (decimal (suc n)) minus _ minus_mark (decimal_writes (suc n) fits)
 
 -- a number by its sign and its size
 abbrev pub by_sign : {N : Type 0} → (ℕ → N) → (ℕ → N) → ℤ → N
@@ -119,21 +117,21 @@ x_is_word : is_word 120 ≡ true
 unfolding is_word
 x_is_word = refl
 
-x_names : (ds : List ℕ) → kind_of (120 ∷ ds) ≡ Some Name
+x_names : (ds : List ℕ) → kind_of (120 ∷ ds) ≡ Some (name (120 ∷ ds))
 unfolding kind_of is_word
 x_names ds = refl
 
 pub register_writes : (r : Reg) → Writes (register_text r) (name (register_text r) ∷ [])
 register_writes r =
     let fits : r.number < 2 ^ 64 = omega (arith, r.in_range) in
-    run_writes (register_text r) Name (rw (x_is_word, is_word-decimal r.number fits) refl) (x_names (decimal r.number))
+    run_writes (register_text r) (name (register_text r)) (rw (x_is_word, is_word-decimal r.number fits) refl) (x_names (decimal r.number))
 
 -- `(xN)` and `N(xN)`
 abbrev pub address_lexemes : Reg → List Lexeme
 address_lexemes r = opening ∷ name (register_text r) ∷ closing ∷ []
 
 pub address_writes : (r : Reg) → Writes (address_text r) (address_lexemes r)
-address_writes r = marked 40 (register_text r ++ 41 ∷ []) Open _ open_mark (followed (register_text r) (41 ∷ []) _ _ (register_writes r) (marked 41 [] Close [] close_mark empty_writes) (λ rest. close_mark.no_word))
+address_writes r = marked 40 (register_text r ++ 41 ∷ []) opening _ open_mark (followed (register_text r) (41 ∷ []) _ _ (register_writes r) (marked 41 [] closing [] close_mark empty_writes) (λ rest. close_mark.no_word))
 
 pub place_writes : (z : ℤ) (r : Reg) → unsigned_abs z < 2 ^ 64 → Writes (place_text z r) (signed_lexemes z ++ address_lexemes r)
 place_writes z r fits = followed (signed_decimal z) (address_text r) _ _ (signed_writes z fits) (address_writes r) (λ rest. open_mark.no_word)
@@ -145,23 +143,23 @@ distance_lexemes (negsuc n) = name (codes ".") ∷ minus ∷ number (Some (suc n
 
 dot_writes : Writes (codes ".") (name (codes ".") ∷ [])
 unfolding is_word kind_of
-dot_writes = run_writes (codes ".") Name refl refl
+dot_writes = run_writes (codes ".") (name (codes ".")) refl refl
 
 pub distance_writes : (z : ℤ) → unsigned_abs z < 2 ^ 64 → Writes (distance_text z) (distance_lexemes z)
-distance_writes (pos n) fits = followed (codes ".") (43 ∷ decimal n) _ _ dot_writes (marked 43 (decimal n) Plus _ plus_mark (decimal_writes n fits)) (λ rest. plus_mark.no_word)
-distance_writes (negsuc n) fits = rw add-one (followed (codes ".") (45 ∷ decimal (suc n)) _ _ dot_writes (marked 45 (decimal (suc n)) Minus _ minus_mark (decimal_writes (suc n) fits)) (λ rest. minus_mark.no_word))
+distance_writes (pos n) fits = followed (codes ".") (43 ∷ decimal n) _ _ dot_writes (marked 43 (decimal n) plus _ plus_mark (decimal_writes n fits)) (λ rest. plus_mark.no_word)
+distance_writes (negsuc n) fits = rw add-one (followed (codes ".") (45 ∷ decimal (suc n)) _ _ dot_writes (marked 45 (decimal (suc n)) minus _ minus_mark (decimal_writes (suc n) fits)) (λ rest. minus_mark.no_word))
 
 pub target_reads : (z : ℤ) → target_then (distance_lexemes z) ≡ Some (by_distance (by_sign (λ n. unsigned (Some n)) (λ n. negated (Some n)) z), [])
 target_reads (pos n) = refl
 target_reads (negsuc n) = refl
 
 -- sets of accesses: a name, or the number 0
-abbrev kind_of_letters : List ℕ → Kind
-kind_of_letters [] = Number (Some 0)
-kind_of_letters (b ∷ bs) = Name
+abbrev lexeme_of_letters : List ℕ → List ℕ → Lexeme
+lexeme_of_letters [] text = number (Some 0) text
+lexeme_of_letters (b ∷ bs) text = name text
 
 abbrev pub set_lexeme : AccessSet → Lexeme
-set_lexeme set = lexeme_of (kind_of_letters (letters set)) (set_text set)
+set_lexeme set = lexeme_of_letters (letters set) (set_text set)
 
 abbrev pub is_colon : Lexeme → Bool
 is_colon colon = true
@@ -169,7 +167,7 @@ is_colon l = false
 
 pub record ReadsAsSet (set : AccessSet) : Type 0 where
   pub run : list_all is_word (set_text set) ≡ true
-  pub token : kind_of (set_text set) ≡ Some (kind_of_letters (letters set))
+  pub token : kind_of (set_text set) ≡ Some (set_lexeme set)
   pub no_colon : is_colon (set_lexeme set) ≡ false
   pub short : length (set_text set) ≤ 44
   pub read : (rest : List Lexeme) → set_then (set_lexeme set ∷ rest) ≡ Some (set, rest)
@@ -200,4 +198,4 @@ pub set_reads : (set : AccessSet) → ReadsAsSet set
 set_reads set = sixteen set.device_input set.device_output set.memory_reads set.memory_writes
 
 pub set_writes : (set : AccessSet) → Writes (set_text set) (set_lexeme set ∷ [])
-set_writes set = run_writes (set_text set) (kind_of_letters (letters set)) (set_reads set).run (set_reads set).token
+set_writes set = run_writes (set_text set) (set_lexeme set) (set_reads set).run (set_reads set).token

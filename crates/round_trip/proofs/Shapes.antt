@@ -24,14 +24,13 @@ use Rattle.isa_table.specs.declared.instruction.AtomicOp.{AtomicOp}
 use Rattle.isa_table.specs.declared.instruction.AtomicOp.TheVariants.{Sc}
 use Rattle.isa_table.specs.declared.instruction.SystemOp.TheVariants.{Ecall}
 use Rattle.asm_line.specs.Grammar.{statement_of}
-use Rattle.asm_line.specs.Lexemes.{Lexeme, name, colon, comma}
+use Rattle.asm_lex.specs.Kinds.{Lexeme, name, colon, comma}
 use Rattle.asm_line.specs.declared.fault.AsmCode.{AsmCode}
 use Rattle.asm_line.specs.Lines.{body_of, line_of, lexemes_line, unlabelled}
 use Rattle.asm_line.specs.Meanings.{Meaning, instruction}
 use Rattle.asm_names.specs.Mnemonics.{upper_of, branch_of, load_of, store_of, immediate_of, shift_of, register_op_of, cache_of, system_of, computation_of, transfer_of, special_of, operation_of, single_of, unary_of, zero_branch_of, exchanged_branch_of, pseudo_of, directive_of, form, form_of, atomic_of, atomic_mnemonic_of, mnemonic_of}
 use Rattle.asm_line.specs.Numbers.{unsigned, negated, within}
 use Rattle.decode.specs.Text.{register_text, operand_texts, text_of}
-use Rattle.asm_lex.specs.declared.Kind.TheVariants.{Name}
 use Rattle.round_trip.proofs.Names.{named}
 use Rattle.round_trip.proofs.Tokens.{WriteAll, between, tokens_of, text_tokens}
 use Rattle.round_trip.proofs.Operands.{is_colon, by_sign, signed_lexemes, address_lexemes, distance_lexemes, set_lexeme, number_reads, number_ends, within_reads, exact_reads, register_reads, target_reads, set_reads, signed_writes, register_writes, address_writes, place_writes, distance_writes, set_writes}
@@ -176,5 +175,5 @@ line_says line ls h = rw h refl
 pub reads_back : (i : Instr) → IsChecked i → line_of (text_of i) ≡ Ok (record { label = None; meaning = instruction i })
 reads_back i h =
     let ls = between (operand_lexemes i) in
-    let tokens = text_tokens (mnemonic i) Name (operand_texts i) (operand_lexemes i) (named i).run (named i).token (written i h) in
+    let tokens = text_tokens (mnemonic i) (name (mnemonic i)) (operand_texts i) (operand_lexemes i) (named i).run (named i).token (written i h) in
     rw (line_says (text_of i) (name (mnemonic i) ∷ ls) tokens, no_label (mnemonic i) ls (no_colon i), says i h) refl

@@ -4,12 +4,10 @@ use Rattle.std.proofs.lemmas.List.{append-nil}
 use Rattle.std.specs.Prelude.{Option, Some, ◌==◌}
 use Rattle.std.specs.List.{list_all}
 use Rattle.asm_lex.specs.Pieces.{is_word, is_blank, begins_word, pieces}
-use Rattle.asm_lex.specs.Kinds.{kind_of, mark_of}
-use Rattle.asm_lex.specs.declared.Kind.{Kind}
-use Rattle.asm_lex.specs.declared.Kind.TheVariants.{Comma}
+use Rattle.asm_lex.specs.Kinds.{Lexeme, comma, kind_of, mark_of}
 use Rattle.asm_lex.proofs.Cuts.{nothing_here, blank_here, mark_here}
 use Rattle.asm_lex.proofs.Spelling.{pieces-run}
-use Rattle.asm_line.specs.Lexemes.{Lexeme, lexeme_of, lexemes_of, comma}
+use Rattle.asm_line.specs.Lexemes.{lexemes_of}
 use Rattle.decode.specs.Text.{listed, operands_text}
 
 -- the lexemes of a text
@@ -21,34 +19,34 @@ unfolding tokens_of
 none_here = rw nothing_here refl
 
 -- a run that is a token, a blank and a mark before more text
-run_first : (b : ℕ) (bs rest : List ℕ) (kind : Kind) (ls : List Lexeme) → list_all is_word (b ∷ bs) ≡ true → kind_of (b ∷ bs) ≡ Some kind → begins_word rest ≡ false → tokens_of rest ≡ Some ls → tokens_of (b ∷ bs ++ rest) ≡ Some (lexeme_of kind (b ∷ bs) ∷ ls)
+run_first : (b : ℕ) (bs rest : List ℕ) (l : Lexeme) (ls : List Lexeme) → list_all is_word (b ∷ bs) ≡ true → kind_of (b ∷ bs) ≡ Some l → begins_word rest ≡ false → tokens_of rest ≡ Some ls → tokens_of (b ∷ bs ++ rest) ≡ Some (l ∷ ls)
 unfolding tokens_of
-run_first b bs rest kind ls run is end after = rw (pieces-run b bs rest run end, is, after) refl
+run_first b bs rest l ls run is end after = rw (pieces-run b bs rest run end, is, after) refl
 
-no_token : (kind : Kind) → kind_of [] ≡ Some kind → ⊥
+no_token : (l : Lexeme) → kind_of [] ≡ Some l → ⊥
 unfolding kind_of
-no_token kind h = cc
+no_token l h = cc
 
-pub run_then : (text rest : List ℕ) (kind : Kind) (ls : List Lexeme) → list_all is_word text ≡ true → kind_of text ≡ Some kind → begins_word rest ≡ false → tokens_of rest ≡ Some ls → tokens_of (text ++ rest) ≡ Some (lexeme_of kind text ∷ ls)
-run_then [] rest kind ls run is end after = absurd (no_token kind is)
-run_then (b ∷ bs) rest kind ls run is end after = run_first b bs rest kind ls run is end after
+pub run_then : (text rest : List ℕ) (l : Lexeme) (ls : List Lexeme) → list_all is_word text ≡ true → kind_of text ≡ Some l → begins_word rest ≡ false → tokens_of rest ≡ Some ls → tokens_of (text ++ rest) ≡ Some (l ∷ ls)
+run_then [] rest l ls run is end after = absurd (no_token l is)
+run_then (b ∷ bs) rest l ls run is end after = run_first b bs rest l ls run is end after
 
 pub blank_then : (rest : List ℕ) (ls : List Lexeme) → tokens_of rest ≡ Some ls → tokens_of (32 ∷ rest) ≡ Some ls
 unfolding tokens_of is_blank
 blank_then rest ls after = rw (blank_here 32 rest refl) after
 
 -- a byte that is a mark
-pub record IsMark (b : ℕ) (kind : Kind) : Type 0 where
+pub record IsMark (b : ℕ) (l : Lexeme) : Type 0 where
   pub no_comment : (b == 35) ≡ false
   pub no_blank : is_blank b ≡ false
   pub no_word : is_word b ≡ false
-  pub token : kind_of (b ∷ []) ≡ Some kind
+  pub token : kind_of (b ∷ []) ≡ Some l
 
-pub mark_then : (b : ℕ) (rest : List ℕ) (kind : Kind) (ls : List Lexeme) → IsMark b kind → tokens_of rest ≡ Some ls → tokens_of (b ∷ rest) ≡ Some (lexeme_of kind (b ∷ []) ∷ ls)
+pub mark_then : (b : ℕ) (rest : List ℕ) (l : Lexeme) (ls : List Lexeme) → IsMark b l → tokens_of rest ≡ Some ls → tokens_of (b ∷ rest) ≡ Some (l ∷ ls)
 unfolding tokens_of
-mark_then b rest kind ls m after = rw (mark_here b rest m.no_comment m.no_blank m.no_word, m.token, after) refl
+mark_then b rest l ls m after = rw (mark_here b rest m.no_comment m.no_blank m.no_word, m.token, after) refl
 
-pub comma_mark : IsMark 44 Comma
+pub comma_mark : IsMark 44 comma
 unfolding is_blank is_word kind_of mark_of
 comma_mark = record { no_comment = refl; no_blank = refl; no_word = refl; token = refl }
 
@@ -57,8 +55,8 @@ pub record Writes (text : List ℕ) (ls : List Lexeme) : Type 0 where
   pub tokens : (rest : List ℕ) (more : List Lexeme) → begins_word rest ≡ false → tokens_of rest ≡ Some more → tokens_of (text ++ rest) ≡ Some (ls ++ more)
 
 -- a run alone
-pub run_writes : (text : List ℕ) (kind : Kind) → list_all is_word text ≡ true → kind_of text ≡ Some kind → Writes text (lexeme_of kind text ∷ [])
-run_writes text kind run is = record { tokens = λ rest more end after. run_then text rest kind more run is end after }
+pub run_writes : (text : List ℕ) (l : Lexeme) → list_all is_word text ≡ true → kind_of text ≡ Some l → Writes text (l ∷ [])
+run_writes text l run is = record { tokens = λ rest more end after. run_then text rest l more run is end after }
 
 -- each of these operands is written by its lexemes
 abbrev pub WriteAll : List (List ℕ) → List (List Lexeme) → Type 0
@@ -73,7 +71,7 @@ between (ls ∷ []) = ls
 between (ls ∷ more) = ls ++ (comma ∷ between more)
 
 comma_then : (rest : List ℕ) (ls : List Lexeme) → tokens_of rest ≡ Some ls → tokens_of (44 ∷ 32 ∷ rest) ≡ Some (comma ∷ ls)
-comma_then rest ls after = mark_then 44 (32 ∷ rest) Comma ls comma_mark (blank_then rest ls after)
+comma_then rest ls after = mark_then 44 (32 ∷ rest) comma ls comma_mark (blank_then rest ls after)
 
 alone : (t : List ℕ) (ls : List Lexeme) → Writes t ls → tokens_of t ≡ Some ls
 alone t ls w =
@@ -94,8 +92,8 @@ unfolding is_word
 no_word_blank = refl
 
 -- a name and operands
-pub text_tokens : (text : List ℕ) (kind : Kind) (ts : List (List ℕ)) (lss : List (List Lexeme)) → list_all is_word text ≡ true → kind_of text ≡ Some kind → WriteAll ts lss → tokens_of (text ++ operands_text ts) ≡ Some (lexeme_of kind text ∷ between lss)
-text_tokens text kind [] [] run is w = run_then text [] kind [] run is refl none_here
-text_tokens text kind (t ∷ ts) (ls ∷ more) run is w = run_then text (32 ∷ listed (t ∷ ts)) kind _ run is no_word_blank (blank_then _ _ (listed_tokens (t ∷ ts) (ls ∷ more) w))
-text_tokens text kind [] (ls ∷ more) run is w = absurd w
-text_tokens text kind (t ∷ ts) [] run is w = absurd w
+pub text_tokens : (text : List ℕ) (l : Lexeme) (ts : List (List ℕ)) (lss : List (List Lexeme)) → list_all is_word text ≡ true → kind_of text ≡ Some l → WriteAll ts lss → tokens_of (text ++ operands_text ts) ≡ Some (l ∷ between lss)
+text_tokens text l [] [] run is w = run_then text [] l [] run is refl none_here
+text_tokens text l (t ∷ ts) (ls ∷ more) run is w = run_then text (32 ∷ listed (t ∷ ts)) l _ run is no_word_blank (blank_then _ _ (listed_tokens (t ∷ ts) (ls ∷ more) w))
+text_tokens text l [] (ls ∷ more) run is w = absurd w
+text_tokens text l (t ∷ ts) [] run is w = absurd w

@@ -3,7 +3,7 @@ use Rattle.std.specs.Prelude.{ℕ, List, ◌++◌, Option, None, codes, decimal}
 use Rattle.std.specs.List.{flat_map}
 use Rattle.hart.specs.declared.state.Status.{Status}
 use Rattle.hart.specs.declared.state.Status.TheVariants.{Running, Exited, Trapped}
-use Rattle.hart_line.specs.HartLines.{trap_number}
+use Rattle.hart.specs.HartLines.{trap_number}
 use Rattle.whole_run.specs.declared.unfinished.Unfinished.{Unfinished}
 use Rattle.whole_run.specs.declared.unfinished.Unfinished.TheVariants.{Hart, Pending, NeverBegan}
 use Rattle.run_text.specs.Places.{line_end, pc_text}

@@ -1,7 +1,7 @@
 -- What is printed of a run's events as JSON: an object a line.
 use Rattle.std.specs.Prelude.{ℕ, ◌%◌, ◌^◌, ◌*◌, List, [], ◌++◌, Option, Some, None, codes, decimal, length}
 use Rattle.std.specs.List.{enumerate_from, flat_map}
-use Rattle.hart_line.specs.HartLines.{hexadecimal}
+use Rattle.hart.specs.HartLines.{hexadecimal}
 use Rattle.run_trace.specs.declared.traced_event.TracedEvent.{TracedEvent}
 use Rattle.store_trace.specs.declared.event.Event.{Event}
 use Rattle.store_trace.specs.declared.event.Event.TheVariants.{Store, Clean, Fence, Begin, End}

@@ -1,7 +1,7 @@
 -- Where in a program an instruction stands: its hart, its pc, and the line of the source that it comes from.
 use Rattle.std.specs.Prelude.{ℕ, List, [], ◌∷◌, ◌++◌, Option, Some, None, codes, decimal}
 use Rattle.assemble.specs.LineNumbers.{number_at}
-use Rattle.hart_line.specs.HartLines.{hexadecimal}
+use Rattle.hart.specs.HartLines.{hexadecimal}
 
 -- the line at a pc, by the line numbers of a program's source, where it has one
 abbrev pub line_in : Option (List ℕ) → ℕ → Option ℕ

@@ -1,13 +1,12 @@
 //! What is printed of a run that isn't whole.
 
-ghost use Rattle.hart_line.specs.HartLines.{trap_number};
 ghost use Rattle.run_text.specs.Causes.{line_of_cause, unfinished_text};
 ghost use Rattle.run_text.specs.Places.{line_in};
 ghost use Rattle.std.specs.Prelude.{◌≡◌, IfOk, string_bytes};
 
 use crate::place::{ShownPc, line_of};
 use assemble::LineNumbers;
-use hart::{Status, Trap};
+use hart::Status;
 use std::alloc::{AllocError, Global};
 use std::fmt;
 use std::fmt::Write;
@@ -94,22 +93,7 @@ impl fmt::Display for Standing {
         match self.status {
             Status::Running => write!(f, "running {pc}"),
             Status::Exited(code) => write!(f, "exit {code}"),
-            Status::Trapped(trap) => write!(f, "trap T{} {pc}", number_of(trap)),
+            Status::Trapped(trap) => write!(f, "trap T{} {pc}", trap.number()),
         }
-    }
-}
-
-/// The number that a trap is known by, 1 to 7.
-fn number_of(trap: Trap) -> u8
-    ensures { result ≡ trap_number trap }
-{
-    match trap {
-        Trap::NoInstruction => 1,
-        Trap::OutsideText => 2,
-        Trap::MisalignedTarget => 3,
-        Trap::MisalignedAccess => 4,
-        Trap::OutsideMemory => 5,
-        Trap::UnknownCall => 6,
-        Trap::Breakpoint => 7,
     }
 }

@@ -1,2 +1,3 @@
 pub mod Traced
+pub mod TracerLaws
 pub mod Tracers

@@ -2,7 +2,7 @@
 use Rattle.std.specs.Prelude.{◌≡◌, ◌⊎◌, ℕ, ◌+◌, ◌≤◌, List, [], ◌∷◌, ◌++◌, All, Some, length, map, slice_get}
 use Rattle.hart.specs.declared.state.HartState.{HartState}
 use Rattle.machine.specs.Run.{Config, StepsTo}
-use Rattle.machine.specs.Stands.{MachineView, Runs, Stands}
+use Rattle.machine.specs.Represents.{MachineView, Runs, Represents}
 use Rattle.machine.specs.Stops.{StopsAt}
 use Rattle.machine.specs.declared.fault.RunStop.{RunStop}
 use Rattle.run_trace.specs.declared.traced_event.TracedEvent.{TracedEvent}
@@ -44,7 +44,7 @@ TracedRun n c (step ∷ steps) end traced =
 pub record Traces (old new : MachineView) (steps : List Step) (traced : List TracedEvent) : Type 0 where
   pub runs : Runs old new steps
   pub few : length new.shared.trace ≤ 65536
-  pub traces : (c : Config) → Stands old c → (d : Config) × TracedRun 0 c steps d traced × Stands new d
+  pub traces : (c : Config) → Represents old c → (d : Config) × TracedRun 0 c steps d traced × Represents new d
 
 -- the machine makes the steps before one of the schedule's, by 65,536 events in its trace at most, and refuses that one
 pub record IsRefusedAt (old : MachineView) (items : List Item) (stop : RunStop) : Type 0 where

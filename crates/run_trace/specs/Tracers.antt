@@ -1,13 +1,10 @@
 -- A tracer: a machine that makes the steps of a schedule, and what it has told of their events so far.
-use Rattle.std.specs.Prelude.{◌≡◌, ◌⊎◌, ℕ, List, [], ◌∷◌, ◌++◌}
-use Rattle.machine.specs.Refusals.{Refuses}
+use Rattle.std.specs.Prelude.{◌≡◌, ◌⊎◌, ◌<◌, ◌^◌, ℕ, List, [], ◌∷◌, ◌++◌}
+use Rattle.machine.specs.Refusals.{IsRefused}
 use Rattle.machine.specs.Run.{Config}
-use Rattle.machine.specs.Stands.{MachineView, Runs, Stands}
-use Rattle.machine.specs.Stops.{StopsAfter, StopsAt}
-use Rattle.machine.specs.declared.fault.RunStop.{RunStop}
+use Rattle.machine.specs.Represents.{MachineView, Runs, Represents}
 use Rattle.run_trace.specs.Traced.{TracedRun, passed}
 use Rattle.run_trace.specs.declared.traced_event.TracedEvent.{TracedEvent}
-use Rattle.schedule.specs.declared.items.Item.{Item}
 use Rattle.schedule.specs.declared.items.Step.{Step}
 use Rattle.shared_memory.specs.declared.fault.StepFault.{StepFault}
 use Rattle.shared_memory.specs.declared.fault.StepFault.TheVariants.{Memory}
@@ -23,28 +20,24 @@ abbrev pub passed_all : ℕ → List Step → ℕ
 passed_all n [] = n
 passed_all n (step ∷ steps) = passed_all (passed n step) steps
 
--- from c, which the old one's machine stands for, the steps make these events, which the new one tells after the old one's
+-- from c, which the old one's machine represents, the steps make these events, which the new one tells after the old one's
 pub record Tells (old new : TracerView) (steps : List Step) (c : Config) : Type 0 where
   pub end : Config
   pub more : List TracedEvent
   pub run : TracedRun old.made c steps end more
-  pub stands : Stands new.machine end
+  pub represents : Represents new.machine end
   pub traced : new.traced ≡ old.traced ++ more
 
 -- it has gone on by these steps
 pub record Continues (old new : TracerView) (steps : List Step) : Type 0 where
   pub runs : Runs old.machine new.machine steps
   pub made : new.made ≡ passed_all old.made steps
-  pub tells : (c : Config) → Stands old.machine c → Tells old new steps c
+  pub tells : (c : Config) → Represents old.machine c → Tells old new steps c
+
+-- the same of steps that can be counted
+abbrev pub Makes : TracerView → List Step → TracerView → Type 0
+Makes old steps new = passed_all old.made steps < 2 ^ 32 → Continues old new steps
 
 -- it goes no further: memory was refused, or the machine, which is as it was, refuses the step
-abbrev pub IsHeld : TracerView → TracerView → Step → StepFault → Type 0
-IsHeld old new step fault = (fault ≡ Memory) ⊎ ((new.machine ≡ old.machine) × Refuses old.machine step fault)
-
--- of a list of steps it has made as many as `made`, and goes no further
-abbrev pub HoldsAfter : TracerView → TracerView → List Step → ℕ → StepFault → Type 0
-HoldsAfter old new steps made fault = (fault ≡ Memory) ⊎ StopsAfter old.machine new.machine steps made fault
-
--- the same, by an item of a schedule and the steps made of it
-abbrev pub HoldsAt : TracerView → TracerView → List Item → RunStop → Type 0
-HoldsAt old new items stop = (stop.fault ≡ Memory) ⊎ StopsAt old.machine new.machine items stop
+abbrev pub IsHeld : TracerView → Step → TracerView → StepFault → Type 0
+IsHeld old step new fault = (fault ≡ Memory) ⊎ IsRefused old.machine step new.machine fault

@@ -1,14 +1,14 @@
 //! How a run is traced.
 
 ghost use Rattle.run_trace.specs.Traced.{StopsTracing, Traces};
-ghost use Rattle.run_trace.specs.Tracers.{Continues, HoldsAfter, HoldsAt, IsHeld};
-ghost use Rattle.schedule.specs.Grammar.{hart_steps as count_of_hart_steps, steps_in};
-ghost use Rattle.schedule.specs.Steps.{all_steps, steps_of};
+ghost use Rattle.run_trace.specs.Tracers.{IsHeld, Makes};
+ghost use Rattle.schedule.specs.Grammar.{hart_steps as count_of_hart_steps};
+ghost use Rattle.schedule.specs.Steps.{all_steps};
 ghost use Rattle.std.specs.Prelude.{◌≡◌, ◌+◌, ◌^◌, ◌<◌, ◌≤◌, [], ◌∷◌, ◌++◌, IfErr, IfOk, OnOk, length, replicate};
 
 use crate::traced_event::TracedEvent;
 use machine::{Machine, RunStop};
-use schedule::{Item, Schedule, Step};
+use schedule::{Place, Schedule, Step, Stepper, walk};
 use shared_memory::StepFault;
 use std::alloc::Global;
 use std::marker::Model;
@@ -17,7 +17,7 @@ use std::marker::Model;
 #[derive(Drop)]
 struct Tracer {
     machine: Machine,
-    /// How many hart steps were made.
+    /// How many hart steps were made, modulo 2^32.
     made: u32,
     traced: Vec<TracedEvent>,
 }
@@ -35,13 +35,6 @@ impl Model for Tracer {
 pub struct TracedMachine {
     pub machine: Machine,
     pub traced: Vec<TracedEvent>,
-}
-
-/// A step of an item that was refused, after as many as `steps` says.
-#[derive(Clone, Copy)]
-struct Hold {
-    steps: u32,
-    fault: StepFault,
 }
 
 /// Carries out a schedule on a machine, and gives the machine and the events that this makes, in order, each with the number of
@@ -64,7 +57,7 @@ pub fn trace_run(
         made: 0,
         traced: Vec::new(alloc),
     };
-    let ended = tracer.run(schedule.items());
+    let ended = walk(&mut tracer, schedule, Place::start());
     // The trace is within its limit, also where a step was refused.
     prove!(tracer.machine.events().len() <= 65_536);
     let Tracer {
@@ -74,72 +67,49 @@ pub fn trace_run(
     } = tracer;
     match ended {
         Ok(()) => Ok(TracedMachine { machine, traced }),
-        Err(stop) => Err(stop),
+        Err(halted) => Err(RunStop::from(halted)),
     }
 }
 
+impl Stepper for Tracer {
+    ghost use Rattle.run_trace.specs.TracerLaws.{makes_more, makes_none};
+    ghost use Rattle.run_trace.specs.Tracers.{IsHeld, Makes};
+
+    type Halt = StepFault;
+
+    ghost makes = { Makes };
+
+    ghost halts = { IsHeld };
+
+    fn step(&mut self, step: Step) -> Result<(), StepFault> {
+        match step {
+            Step::Hart(hart) => self.step_hart(hart),
+            Step::Evict(line) => self.evict(line),
+        }
+    }
+
+    /// A hart that stopped makes no event by its steps.
+    fn rest(&mut self, step: Step, count: u32) -> bool {
+        let Step::Hart(hart) = step else {
+            return false;
+        };
+        if !self.machine.has_stopped(hart) {
+            return false;
+        }
+        self.made = self.made.wrapping_add(count);
+        true
+    }
+
+    ghost no_step = { makes_none };
+
+    ghost more_steps = { makes_more };
+}
+
 impl Tracer {
-    /// Carries out the items of a schedule, in order, up to the first step that is refused.
-    #[tactic(auto, using(crate::proofs::Tracing::continues_none, std::proofs::lemmas::List::Sums::sum_by_more, std::proofs::lemmas::List::Sums::sum_by_more_le))]
-    fn run(&mut self, items: &[Item]) -> Result<(), RunStop>
-        requires { self.old.made + count_of_hart_steps items.now < 2 ^ 32 }
-        ensures ok { OnOk result (Continues self.old self.new (all_steps items.now)) }
-        ensures err { IfErr result (HoldsAt self.old self.new items.now) }
-    {
-        for (index, item) in items.iter().enumerate() {
-            if let Err(hold) = self.run_item(*item) {
-                return Err(RunStop {
-                    item: index,
-                    steps: hold.steps,
-                    fault: hold.fault,
-                });
-            }
-        }
-        Ok(())
-    }
-
-    #[tactic(auto, using(crate::proofs::Tracing::eviction_holds))]
-    fn run_item(&mut self, item: Item) -> Result<(), Hold>
-        requires { self.old.made + steps_in item < 2 ^ 32 }
-        ensures ok { OnOk result (Continues self.old self.new (steps_of item)) }
-        ensures made { OnOk result (self.new.made ≡ self.old.made + steps_in item) }
-        ensures err { IfErr result (λ hold. HoldsAfter self.old self.new (steps_of item) hold.steps hold.fault) }
-    {
-        match item {
-            Item::Steps { hart, count } => self.run_hart(hart, count),
-            Item::Evict { line } => match self.evict(line) {
-                Ok(()) => Ok(()),
-                Err(fault) => Err(Hold { steps: 0, fault }),
-            },
-        }
-    }
-
-    #[tactic(auto, using(crate::proofs::Tracing::continues_none))]
-    fn run_hart(&mut self, hart: u32, count: u32) -> Result<(), Hold>
-        requires { self.old.made + count < 2 ^ 32 }
-        ensures ok { OnOk result (Continues self.old self.new (replicate count (Step.Hart hart))) }
-        ensures made { OnOk result (self.new.made ≡ self.old.made + count) }
-        ensures err { IfErr result (λ hold. HoldsAfter self.old self.new (replicate count (Step.Hart hart)) hold.steps hold.fault) }
-    {
-        for done in 0..count {
-            if self.machine.has_stopped(hart) {
-                // A hart that stopped makes no event by the steps that are left.
-                self.made += count - done;
-                return Ok(());
-            }
-            if let Err(fault) = self.step_hart(hart) {
-                return Err(Hold { steps: done, fault });
-            }
-        }
-        Ok(())
-    }
-
     /// Makes the next instruction of a hart, and tells its event if it makes one.
     fn step_hart(&mut self, hart: u32) -> Result<(), StepFault>
-        requires { self.old.made + 1 < 2 ^ 32 }
-        ensures ok { OnOk result (Continues self.old self.new (Step.Hart hart ∷ [])) }
-        ensures made { OnOk result (self.new.made ≡ self.old.made + 1) }
-        ensures held { IfErr result (IsHeld self.old self.new (Step.Hart hart)) }
+        ensures ok { OnOk result (Makes self.old (Step.Hart hart ∷ []) self.new) }
+        ensures held { IfErr result (IsHeld self.old (Step.Hart hart) self.new) }
     {
         if hart >= self.machine.harts() {
             return Err(StepFault::NoSuchHart);
@@ -149,7 +119,7 @@ impl Tracer {
         if let Err(fault) = self.machine.step(Step::Hart(hart)) {
             return Err(fault);
         }
-        self.made += 1;
+        self.made = self.made.wrapping_add(1);
         match self.machine.events().get(before) {
             Some(event) => {
                 let traced = TracedEvent {
@@ -164,9 +134,8 @@ impl Tracer {
     }
 
     fn evict(&mut self, line: u32) -> Result<(), StepFault>
-        ensures ok { OnOk result (Continues self.old self.new (Step.Evict line ∷ [])) }
-        ensures made { OnOk result (self.new.made ≡ self.old.made) }
-        ensures held { IfErr result (IsHeld self.old self.new (Step.Evict line)) }
+        ensures ok { OnOk result (Makes self.old (Step.Evict line ∷ []) self.new) }
+        ensures held { IfErr result (IsHeld self.old (Step.Evict line) self.new) }
     {
         if let Err(fault) = self.machine.step(Step::Evict(line)) {
             return Err(fault);

@@ -4,7 +4,8 @@ use Rattle.std.proofs.lemmas.List.Sums.{sum_by-cons, sum_by_push}
 use Rattle.std.specs.List.{AllZip}
 use Rattle.schedule.proofs.OneReading.{one_said}
 use Rattle.schedule.proofs.Said.{IsRead, all_said, none_says, nothing_said, one_more_said}
-use Rattle.schedule.specs.Grammar.{IsSchedule, Says, hart_steps, steps_in, words}
+use Rattle.schedule.specs.Grammar.{IsSchedule, Says, hart_steps, steps_in}
+use Rattle.text.specs.Words.{words_of_lines as words}
 use Rattle.schedule.specs.declared.items.Item.{Item}
 
 -- the words before the rest say items of so many steps

@@ -3,9 +3,10 @@ pub mod GrowingJoined
 pub mod JoinedLemmas
 pub mod Judged
 pub mod OneReading
+pub mod Places
 pub mod RunLemmas
 pub mod Said
 pub mod Stars
 pub mod Texts
-pub mod Wording
+pub mod Walks
 pub mod Written

@@ -2,8 +2,9 @@
 use Rattle.std.proofs.Common.{◌≡◌, ℕ, List, [], ◌∷◌, ◌++◌, Option, Some, None, refl, sym, ap, ◌∙◌, subst, inl, inr}
 use Rattle.std.specs.List.{AllZip}
 use Rattle.schedule.proofs.Stars.{placed}
-use Rattle.schedule.specs.Grammar.{IsNumber, IsSchedule, Says, words}
-use Rattle.schedule.specs.Places.{StepsAt}
+use Rattle.schedule.specs.Grammar.{IsNumber, IsSchedule, Says}
+use Rattle.schedule.specs.Stars.{StepsAt}
+use Rattle.text.specs.Words.{words_of_lines as words}
 use Rattle.schedule.specs.declared.items.Item.{Item}
 use Rattle.schedule.specs.declared.items.Item.TheVariants.{Steps, Evict}
 

@@ -4,7 +4,7 @@ use Rattle.std.specs.List.{position_or_len}
 use Rattle.std.proofs.lemmas.Bool.Decides.{nat_tests}
 use Rattle.std.proofs.lemmas.List.Sums.{passes_at_first, sum_by-cons, sum_by-take-drop}
 use Rattle.std.proofs.lemmas.List.{drop_all}
-use Rattle.schedule.proofs.Wording.{ends_at, found, missing, not_true}
+use Rattle.text.proofs.Parting.{ends_at, found, missing, not_true}
 use Rattle.schedule.specs.Grammar.{hart_steps, steps_in}
 use Rattle.schedule.specs.Joined.{item_before, joined, steps_before}
 use Rattle.schedule.specs.Runs.{IsFirstJoined, IsFirstBusy, IsRun, continues, is_idle}

@@ -1,7 +1,8 @@
 -- The items that a text's words say, as far as they are read.
 use Rattle.std.proofs.Common.{◌≡◌, ℕ, List, [], ◌∷◌, ◌++◌, refl, ◌∙◌, append_assoc, append-nil}
 use Rattle.std.specs.List.{AllZip}
-use Rattle.schedule.specs.Grammar.{Says, words}
+use Rattle.schedule.specs.Grammar.{Says}
+use Rattle.text.specs.Words.{words_of_lines as words}
 use Rattle.schedule.specs.declared.items.Item.{Item}
 
 -- the items are what the words before the rest say

@@ -8,9 +8,9 @@ use Rattle.std.proofs.lemmas.Bool.Decides.{nat_tests}
 use Rattle.std.proofs.lemmas.List.{take_at, drop_at, get_or_append_left, get_or_at}
 use Rattle.std.proofs.lemmas.List.Sums.{position_or_len_is, passes_at_first, split_at_first}
 use Rattle.std.proofs.lemmas.Str.Parse.{IsNumeralModel, numerals_by_value, tells_digits, not_in_digits}
-use Rattle.schedule.proofs.Wording.{found}
+use Rattle.text.proofs.Parting.{found}
 use Rattle.schedule.specs.Grammar.{IsNumber, IsStep, IsSteps, Says}
-use Rattle.schedule.specs.Places.{StepsAt}
+use Rattle.schedule.specs.Stars.{StepsAt}
 use Rattle.schedule.specs.declared.items.Item.{Item}
 use Rattle.schedule.specs.declared.items.Item.TheVariants.{Steps, Evict}
 

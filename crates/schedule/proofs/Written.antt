@@ -8,7 +8,8 @@ use Rattle.std.proofs.lemmas.List.Elements.{All-append, All-cons, All-from_get_o
 use Rattle.std.proofs.lemmas.List.Splits.{slice_split_at, slice_split_none}
 use Rattle.std.proofs.lemmas.Str.Parse.{digit_at}
 use Rattle.schedule.proofs.JoinedLemmas.{hart_steps-joined}
-use Rattle.schedule.specs.Grammar.{IsNumber, IsSchedule, Says, hart_steps, is_blank, words}
+use Rattle.schedule.specs.Grammar.{IsNumber, IsSchedule, Says, hart_steps}
+use Rattle.text.specs.Words.{is_blank, words_of_lines as words}
 use Rattle.schedule.specs.Joined.{item_text, joined, text_of}
 use Rattle.schedule.specs.Runs.{IsWritable, Writes}
 use Rattle.schedule.specs.declared.items.Item.{Item}

@@ -1,23 +1,12 @@
 -- The text of a schedule.
-use Rattle.std.specs.Prelude.{◌≡◌, ◌≤◌, ◌<◌, ◌^◌, ◌==◌, ◌||◌, ◌⊎◌, ◌++◌, ℕ, Bool, List, codes, filter, length, nat_lt, ⊤}
-use Rattle.std.specs.List.{AllZip, slice_split, sum_by}
+use Rattle.std.specs.Prelude.{◌≡◌, ◌≤◌, ◌<◌, ◌^◌, ◌⊎◌, ◌++◌, ℕ, List, codes, ⊤}
+use Rattle.std.specs.List.{AllZip, sum_by}
 use Rattle.std.specs.Str.Parse.{IsNumeral, digits_value}
 use Rattle.schedule.specs.declared.fault.ScheduleFault.{ScheduleFault}
 use Rattle.schedule.specs.declared.fault.ScheduleFault.TheVariants.{Text, Memory}
 use Rattle.schedule.specs.declared.items.Item.{Item}
 use Rattle.schedule.specs.declared.items.Item.TheVariants.{Steps, Evict}
-
--- a space or a line end
-unfoldable pub is_blank : ℕ → Bool
-is_blank byte = (byte == 32) || (byte == 10)
-
--- whether a part of a text isn't empty
-abbrev pub is_written : List ℕ → Bool
-is_written part = nat_lt 0 (length part)
-
--- the words of a text are what stands between its blanks
-abbrev pub words : List ℕ → List (List ℕ)
-words text = filter is_written (slice_split is_blank text)
+use Rattle.text.specs.Words.{words_of_lines}
 
 -- decimal digits, leading zeros among them, of a number of 32 bits
 pub record IsNumber (digits : List ℕ) (number : ℕ) : Type 0 where
@@ -63,7 +52,7 @@ hart_steps items = sum_by steps_in items
 -- the words of the text say the items, one by one, and the steps of all harts together are fewer
 -- than 2^32
 pub record IsSchedule (text : List ℕ) (items : List Item) : Type 0 where
-  pub says : AllZip Says (words text) items
+  pub says : AllZip Says (words_of_lines text) items
   pub within : hart_steps items < 2 ^ 32
 
 -- what holds of a refusal that isn't want of memory

@@ -2,16 +2,16 @@
 
 ghost use Rattle.std.specs.Prelude.{◌≡◌, ◌<◌, ◌==◌, ◌∷◌, List, IfErr, IfNone, IfOk, IfSome, IsErrOf, IsTrue, length, position};
 ghost use Rattle.std.specs.List.{AllZip};
-ghost use Rattle.schedule.specs.Grammar.{IsSchedule, OnText, Says, words};
-ghost use Rattle.schedule.specs.Places.{StepsAt};
+ghost use Rattle.schedule.specs.Grammar.{IsSchedule, OnText, Says};
+ghost use Rattle.schedule.specs.Stars.{StepsAt};
 ghost use Rattle.schedule.specs.declared.items.Item.{Item as AnItem};
+ghost use Rattle.text.specs.Words.{words_of_lines};
 
 use crate::fault::ScheduleFault;
 use crate::items::{Item, Schedule};
 use crate::limit::steps_in;
-use crate::words::first_word;
-use decimal::{decimal, decimal_within};
 use std::alloc::{AllocError, Global};
+use text::{Blanks, decimal, decimal_within, first_word};
 
 /// The place of the first star.
 fn star(text: &[u8]) -> Option<usize>
@@ -85,7 +85,7 @@ fn is_schedule(text: &[u8]) -> bool
 {
     let mut total = 0u32;
     let mut rest = text;
-    while let Some((word, after)) = first_word(rest) {
+    while let Some((word, after)) = first_word(rest, Blanks::SpacesAndLineEnds) {
         let Some(item) = item(word) else {
             return false;
         };
@@ -102,11 +102,11 @@ fn is_schedule(text: &[u8]) -> bool
 #[tactic(auto, using(crate::proofs::Said::nothing_said, crate::proofs::Said::one_more_said, crate::proofs::Said::all_said, crate::proofs::Said::none_says))]
 fn items(alloc: Global, text: &[u8]) -> Result<Schedule, AllocError>
     requires { (items : List AnItem) × IsSchedule text.now items }
-    ensures { IfOk result (AllZip Says (words text.now)) }
+    ensures { IfOk result (AllZip Says (words_of_lines text.now)) }
 {
     let mut schedule = Schedule::new(alloc);
     let mut rest = text;
-    while let Some((word, after)) = first_word(rest) {
+    while let Some((word, after)) = first_word(rest, Blanks::SpacesAndLineEnds) {
         let Some(item) = item(word) else {
             unreachable!();
         };

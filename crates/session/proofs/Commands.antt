@@ -7,10 +7,10 @@ use Rattle.schedule.specs.declared.items.Item.{Item}
 use Rattle.shared_memory.specs.declared.fault.StepFault.TheVariants as refusals
 use Rattle.session.specs.Grammar.{Asked, IsFar, IsNoHart, IsOneAddress, IsOneHart, IsRange, NamesNoHart, OnAddress, OnAsked, OnHart, SaysNamed, breaks, watches, clears, steps, shows, peeks, goes, goes_on, quits}
 use Rattle.std.specs.Str.Parse.{IsNumeral}
-use Rattle.session.specs.Numbers.{IsAddress, Writes}
-use Rattle.session.specs.Words.{words}
-use Rattle.session.specs.declared.numbers.Number.{Number}
-use Rattle.session.specs.declared.numbers.Number.TheVariants.{Small, Large}
+use Rattle.text.specs.Numbers.{IsWritten, Writes}
+use Rattle.text.specs.Words.{words}
+use Rattle.text.specs.declared.numbers.Number.{Number}
+use Rattle.text.specs.declared.numbers.Number.TheVariants.{Small, Large}
 
 -- two names differ
 abbrev same_bytes : List ℕ → List ℕ → Bool
@@ -106,13 +106,13 @@ no_address_word parts number none one = none one.word one.spelled
 pub no_hart_word : (parts : List (List ℕ)) (number : Number) → ((word : List ℕ) → parts ≢ word ∷ []) → ¬ (IsOneHart parts number)
 no_hart_word parts number none one = none one.word one.spelled
 
-pub address_said : (parts : List (List ℕ)) (word : List ℕ) (number : Number) → parts ≡ word ∷ [] → IsAddress word number → IsOneAddress parts number
+pub address_said : (parts : List (List ℕ)) (word : List ℕ) (number : Number) → parts ≡ word ∷ [] → IsWritten word number → IsOneAddress parts number
 address_said parts word number spelled address = record { word = word; spelled = spelled; address = address }
 
-address_alike : (word other : List ℕ) (number : Number) → other ≡ word → IsAddress other number → IsAddress word number
+address_alike : (word other : List ℕ) (number : Number) → other ≡ word → IsWritten other number → IsWritten word number
 address_alike word other number e said = rw (← e) said
 
-pub no_address : (parts : List (List ℕ)) (word : List ℕ) (number : Number) → parts ≡ word ∷ [] → ((n : Number) → ¬ (IsAddress word n))
+pub no_address : (parts : List (List ℕ)) (word : List ℕ) (number : Number) → parts ≡ word ∷ [] → ((n : Number) → ¬ (IsWritten word n))
     → ¬ (IsOneAddress parts number)
 no_address parts word number spelled none one =
     none number (address_alike word one.word number (same_word parts word one.word spelled one.spelled) one.address)
@@ -138,7 +138,7 @@ no_hart parts word number spelled none one =
 
 -- an address and a number of bytes
 pub range_said : (parts rest : List (List ℕ)) (word digits : List ℕ) (number : Number) (count : ℕ) → parts ≡ word ∷ rest → rest ≡ digits ∷ []
-    → IsAddress word number → Writes 10 digits (Small count) → 1 ≤ count → count ≤ 64 → IsRange parts number count
+    → IsWritten word number → Writes 10 digits (Small count) → 1 ≤ count → count ≤ 64 → IsRange parts number count
 range_said parts rest word digits number count first second address writes least most = record {
   word = word;
   digits = digits;
@@ -164,7 +164,7 @@ no_range_digits parts rest word number count first none range =
     none range.digits (rest_is parts rest word range.digits range.word first range.spelled)
 
 pub no_range_address : (parts rest : List (List ℕ)) (word : List ℕ) (number : Number) (count : ℕ) → parts ≡ word ∷ rest
-    → ((n : Number) → ¬ (IsAddress word n)) → ¬ (IsRange parts number count)
+    → ((n : Number) → ¬ (IsWritten word n)) → ¬ (IsRange parts number count)
 no_range_address parts rest word number count first none range =
     none number (address_alike word range.word number (first_word_is parts rest word range.digits range.word first range.spelled) range.address)
 

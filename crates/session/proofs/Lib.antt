@@ -1,7 +1,5 @@
 pub mod Ahead
 pub mod Commands
-pub mod FirstWords
-pub mod Numerals
 pub mod Outcomes
 pub mod Points
 pub mod Runs

@@ -4,14 +4,14 @@ use Rattle.std.specs.Io.KnownBytes.{Appends}
 use Rattle.debugger.specs.declared.fault.DebugFault.{DebugFault}
 use Rattle.debugger.specs.declared.fault.DebugFault.TheVariants as faults
 use Rattle.session.specs.Answers.{fault_text, outcome_text}
-use Rattle.session.specs.Doing.{Does, SessionState}
-use Rattle.session.specs.Failing.{AppendsFront, FailsBy}
+use Rattle.session.specs.CommandEffects.{Does, SessionState}
+use Rattle.session.specs.StreamFailures.{AppendsFront, FailsBy}
 use Rattle.session.specs.Grammar.{OnAsked, Says, meant}
 use Rattle.session.specs.Reading.{IsHeld}
-use Rattle.session.specs.Turns.{CarriesOut, ComesOut, GoesOn, IsAnswered, LacksAnswer, LineOutcome}
-use Rattle.session.specs.Words.{words}
-use Rattle.session.specs.declared.carrying.Answer.{Answer}
-use Rattle.session.specs.declared.carrying.Answer.TheVariants as answers
+use Rattle.session.specs.Dialogue.{CarriesOut, ComesOut, GoesOn, IsAnswered, LacksAnswer, LineOutcome}
+use Rattle.text.specs.Words.{words}
+use Rattle.session.specs.declared.effects.Answer.{Answer}
+use Rattle.session.specs.declared.effects.Answer.TheVariants as answers
 use Rattle.session.specs.declared.command.Command.{Command}
 use Rattle.session.specs.declared.input.Fit.{Fit}
 use Rattle.session.specs.declared.input.Fit.TheVariants as fits

@@ -5,8 +5,8 @@ use Rattle.shared_memory.specs.SharedView.{memory_of}
 use Rattle.debugger.specs.Points.{DebuggerView, can_break, has_break, has_watch, is_meant, line_start, with_break, with_watch, without}
 use Rattle.debugger.specs.declared.fault.DebugFault.{DebugFault}
 use Rattle.debugger.specs.declared.fault.DebugFault.TheVariants as faults
-use Rattle.session.specs.Doing.{Breaks, Clears, Watches}
-use Rattle.session.specs.declared.carrying.Answer.TheVariants as answers
+use Rattle.session.specs.CommandEffects.{Breaks, Clears, Watches}
+use Rattle.session.specs.declared.effects.Answer.TheVariants as answers
 
 not_false : (b : Bool) → (b ≡ false → ⊥) → b ≡ true
 not_false true off = refl

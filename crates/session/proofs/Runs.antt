@@ -2,18 +2,18 @@
 use Rattle.std.proofs.Common.{◌≡◌, ℕ, List, [], ◌++◌, Option, Some, None, Ok, Err, ap}
 use Rattle.schedule.specs.declared.items.Item.{Item}
 use Rattle.schedule.specs.declared.items.Step.{Step}
-use Rattle.machine.specs.Stands.{MachineView, Runs}
+use Rattle.machine.specs.Represents.{MachineView, Runs}
 use Rattle.machine.proofs.Steps.{runs_more, runs_none}
 use Rattle.debugger.specs.Going.{GoesTo, IsStoppedBy}
 use Rattle.debugger.specs.Points.{DebuggerView}
 use Rattle.debugger.specs.declared.fault.DebugFault.{DebugFault}
 use Rattle.debugger.specs.declared.fault.DebugFault.TheVariants as faults
-use Rattle.debugger.specs.declared.stop.Place.{Place}
+use Rattle.schedule.specs.declared.place.Place.{Place}
 use Rattle.debugger.specs.declared.stop.Stop.{Stop}
-use Rattle.session.specs.Doing.{Breaks, Clears, Does, Goes, GoesOnBy, MakesStep, Outcome, SessionState, Watches, at_start}
+use Rattle.session.specs.CommandEffects.{Breaks, Clears, Does, Goes, GoesOnBy, MakesStep, Outcome, SessionState, Watches, at_start}
 use Rattle.session.specs.Running.{SomeRun}
-use Rattle.session.specs.declared.carrying.Answer.TheVariants as answers
-use Rattle.session.specs.declared.carrying.Progress.{Progress}
+use Rattle.session.specs.declared.effects.Answer.TheVariants as answers
+use Rattle.session.specs.declared.effects.Progress.{Progress}
 use Rattle.session.specs.declared.command.Command.{Command}
 use Rattle.session.specs.declared.command.Command.TheVariants as commands
 

@@ -4,7 +4,7 @@ use Rattle.std.proofs.lemmas.List.{append_assoc, append-nil, length-append}
 use Rattle.std.proofs.lemmas.List.Elements.{All-append, All-cons, All-nil}
 use Rattle.std.proofs.KnownBytes.{Consumes-nil, Consumes-trans}
 use Rattle.session.specs.Reading.{IsHeld, IsOver, ReadsLine, Takes, ahead_of}
-use Rattle.session.specs.Turns.{IsLine, most_line}
+use Rattle.session.specs.Dialogue.{IsLine, most_line}
 use Rattle.session.specs.declared.input.Input.{Input}
 use Rattle.session.specs.declared.input.Fit.{Fit}
 use Rattle.session.specs.declared.input.Fit.TheVariants as fits

@@ -3,10 +3,10 @@ use Rattle.std.proofs.Common.{◌≡◌, ◌∙◌, ℕ, zero, suc, ◌+◌, Lis
 use Rattle.std.specs.List.{flat_map, range_with_len}
 use Rattle.hart.specs.Registers.{register}
 use Rattle.hart.specs.declared.state.HartState.{HartState}
-use Rattle.hart_line.specs.HartLines.{hexadecimal}
-use Rattle.machine.specs.Stands.{MachineView}
+use Rattle.hart.specs.HartLines.{hexadecimal}
+use Rattle.machine.specs.Represents.{MachineView}
 use Rattle.session.specs.Answers.{line_of, parted_byte, register_line}
-use Rattle.session.specs.Doing.{byte_at}
+use Rattle.session.specs.CommandEffects.{byte_at}
 
 -- a line of several parts ends behind the last
 pub end_of_line : (front middle last : List ℕ) → front ++ (middle ++ line_of last) ≡ line_of (front ++ (middle ++ last))

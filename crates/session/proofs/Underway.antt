@@ -5,13 +5,13 @@ use Rattle.std.specs.Io.KnownBytes.{Appends, Consumes}
 use Rattle.debugger.specs.Points.{DebuggerView}
 use Rattle.debugger.specs.declared.fault.DebugFault.{DebugFault}
 use Rattle.debugger.specs.declared.fault.DebugFault.TheVariants as faults
-use Rattle.session.specs.Doing.{SessionState}
-use Rattle.session.specs.Failing.{EndsBy, FailsBy}
+use Rattle.session.specs.CommandEffects.{SessionState}
+use Rattle.session.specs.StreamFailures.{EndsBy, FailsBy}
 use Rattle.session.specs.Reading.{IsHeld, IsOver, OverIf, ReadsLine, Takes, ahead_of, line_end}
 use Rattle.session.specs.Sessions.{BreaksOff, Fails, IsInputEnd, IsLastLine, Session}
-use Rattle.session.specs.Turns.{IsAnswered, LacksAnswer, Turns, beginning, none, more}
+use Rattle.session.specs.Dialogue.{IsAnswered, LacksAnswer, Turns, beginning, none, more}
 use Rattle.session.specs.declared.input.Input.{Input}
-use Rattle.session.specs.declared.carrying.Progress.{Progress}
+use Rattle.session.specs.declared.effects.Progress.{Progress}
 use Rattle.session.specs.declared.input.ReadLine.{ReadLine}
 use Rattle.session.proofs.Ahead.{near_ahead}
 use Rattle.session.proofs.Taking.{takes_more, takes_none}

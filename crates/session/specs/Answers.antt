@@ -3,17 +3,17 @@ use Rattle.std.specs.Prelude.{ℕ, ◌+◌, ◌/◌, ◌%◌, ◌++◌, ◌∷�
 use Rattle.std.specs.List.{flat_map, range_with_len}
 use Rattle.hart.specs.Registers.{register}
 use Rattle.hart.specs.declared.state.HartState.{HartState}
-use Rattle.hart_line.specs.HartLines.{hart_line, hexadecimal}
-use Rattle.machine.specs.Stands.{MachineView}
+use Rattle.hart.specs.HartLines.{hart_line, hexadecimal}
+use Rattle.machine.specs.Represents.{MachineView}
 use Rattle.shared_memory.specs.declared.fault.StepFault.{StepFault}
 use Rattle.shared_memory.specs.declared.fault.StepFault.TheVariants as refusals
 use Rattle.debugger.specs.declared.fault.DebugFault.{DebugFault}
 use Rattle.debugger.specs.declared.fault.DebugFault.TheVariants as faults
 use Rattle.debugger.specs.declared.stop.Cause.{Cause}
 use Rattle.debugger.specs.declared.stop.Cause.TheVariants as causes
-use Rattle.session.specs.Doing.{byte_at}
-use Rattle.session.specs.declared.carrying.Answer.{Answer}
-use Rattle.session.specs.declared.carrying.Answer.TheVariants as answers
+use Rattle.session.specs.CommandEffects.{byte_at}
+use Rattle.session.specs.declared.effects.Answer.{Answer}
+use Rattle.session.specs.declared.effects.Answer.TheVariants as answers
 
 -- a text and a line end
 abbrev pub line_of : List ℕ → List ℕ

@@ -6,12 +6,12 @@ use Rattle.schedule.specs.Grammar.{IsSchedule}
 use Rattle.schedule.specs.declared.items.Item.{Item}
 use Rattle.shared_memory.specs.declared.fault.StepFault.{StepFault}
 use Rattle.shared_memory.specs.declared.fault.StepFault.TheVariants as refusals
-use Rattle.session.specs.Numbers.{IsAddress, Writes}
-use Rattle.session.specs.Words.{behind, first_name, words}
 use Rattle.session.specs.declared.command.Command.{Command}
 use Rattle.session.specs.declared.command.Command.TheVariants as commands
-use Rattle.session.specs.declared.numbers.Number.{Number}
-use Rattle.session.specs.declared.numbers.Number.TheVariants.{Small, Large}
+use Rattle.text.specs.Numbers.{IsWritten, Writes}
+use Rattle.text.specs.Words.{behind_part, first_part, is_space, words}
+use Rattle.text.specs.declared.numbers.Number.{Number}
+use Rattle.text.specs.declared.numbers.Number.TheVariants.{Small, Large}
 
 -- what a line asks for, whatever the size of its numbers
 pub data Asked : Type 0 where
@@ -29,7 +29,7 @@ pub data Asked : Type 0 where
 pub record IsOneAddress (parts : List (List ℕ)) (number : Number) : Type 0 where
   pub word : List ℕ
   pub spelled : parts ≡ word ∷ []
-  pub address : IsAddress word number
+  pub address : IsWritten word number
 
 pub record IsOneHart (parts : List (List ℕ)) (number : Number) : Type 0 where
   pub word : List ℕ
@@ -41,7 +41,7 @@ pub record IsRange (parts : List (List ℕ)) (number : Number) (count : ℕ) : T
   pub word : List ℕ
   pub digits : List ℕ
   pub spelled : parts ≡ word ∷ digits ∷ []
-  pub address : IsAddress word number
+  pub address : IsWritten word number
   pub writes : Writes 10 digits (Small count)
   pub least : 1 ≤ count
   pub most : count ≤ 64
@@ -59,7 +59,7 @@ SaysNamed name rest goes_on = (name ≡ codes "go") × (words rest ≡ [])
 SaysNamed name rest quits = (name ≡ codes "quit") × (words rest ≡ [])
 
 abbrev pub Says : List ℕ → Asked → Type 0
-Says line asked = SaysNamed (first_name line) (behind line) asked
+Says line asked = SaysNamed (first_part is_space line) (behind_part is_space line) asked
 
 -- what a command was asked for by
 abbrev pub meant : Command → Asked

@@ -1,10 +1,8 @@
 pub mod Answers
-pub mod Doing
-pub mod Failing
+pub mod CommandEffects
+pub mod Dialogue
 pub mod Grammar
-pub mod Numbers
 pub mod Reading
 pub mod Running
 pub mod Sessions
-pub mod Turns
-pub mod Words
+pub mod StreamFailures

@@ -1,7 +1,7 @@
 -- How an input is read by lines: what is read ahead, and what is taken.
 use Rattle.std.specs.Prelude.{◌≡◌, ◌<◌, ◌≤◌, ◌+◌, ◌++◌, ◌∷◌, ◌⊎◌, ⊤, ℕ, Bool, true, false, List, [], Option, length, slice_range, if◌then◌else◌}
 use Rattle.std.specs.Io.KnownBytes.{Consumes, IsAtEnd}
-use Rattle.session.specs.Turns.{IsLine, most_line}
+use Rattle.session.specs.Dialogue.{IsLine, most_line}
 use Rattle.session.specs.declared.input.Input.{Input}
 use Rattle.session.specs.declared.input.Fit.{Fit}
 use Rattle.session.specs.declared.input.Fit.TheVariants as fits

@@ -1,7 +1,7 @@
 -- What commands do to a machine.
 use Rattle.std.specs.Prelude.{List}
 use Rattle.schedule.specs.declared.items.Step.{Step}
-use Rattle.machine.specs.Stands.{MachineView, Runs}
+use Rattle.machine.specs.Represents.{MachineView, Runs}
 
 -- a machine is brought to another by steps of a schedule, and by nothing else
 pub record SomeRun (old new : MachineView) : Type 0 where

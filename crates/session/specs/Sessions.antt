@@ -4,10 +4,10 @@ use Rattle.std.specs.Io.KnownBytes.{Appends, Consumes, IsAtEnd}
 use Rattle.debugger.specs.Points.{DebuggerView}
 use Rattle.debugger.specs.declared.fault.DebugFault.{DebugFault}
 use Rattle.debugger.specs.declared.fault.DebugFault.TheVariants.{Memory, InputOutput}
-use Rattle.session.specs.Doing.{SessionState}
+use Rattle.session.specs.CommandEffects.{SessionState}
 use Rattle.session.specs.Answers.{outcome_text}
-use Rattle.session.specs.Failing.{BeginsWith, one_more}
-use Rattle.session.specs.Turns.{ComesOut, IsLine, LineOutcome, Quits, Turn, Turns, beginning}
+use Rattle.session.specs.StreamFailures.{BeginsWith, one_more}
+use Rattle.session.specs.Dialogue.{ComesOut, IsLine, LineOutcome, Quits, Turn, Turns, beginning}
 
 -- an input ends at this many bytes at the latest, and no more than this many are read ahead of a line
 abbrev pub most_input : ℕ

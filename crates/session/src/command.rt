@@ -2,15 +2,14 @@
 
 ghost use Rattle.std.specs.Prelude.{◌≡◌, ◌≢◌, ◌≤◌, [], ℕ, IfErr, IfOk, MatchOption, OnErr, codes};
 ghost use Rattle.session.specs.Grammar.{IsOneAddress, IsOneHart, IsRange, OnAddress, OnAsked, OnHart, Says, SaysNamed, meant};
-ghost use Rattle.session.specs.Numbers.{Writes};
-ghost use Rattle.session.specs.Words.{words};
-ghost use Rattle.session.specs.declared.numbers.Number.{Number as ANumber};
+ghost use Rattle.text.specs.Numbers.{Writes};
+ghost use Rattle.text.specs.Words.{words};
+ghost use Rattle.text.specs.declared.numbers.Number.{Number as ANumber};
 
-use crate::numbers::{Number, address, decimal};
-use crate::words::{first_word, is_blank, only_word};
 use debugger::{DebugFault, Schedule, StepFault};
 use schedule::ScheduleFault;
 use std::alloc::Global;
+use text::{Blanks, Number, first_word, is_blank, number_in, only_word, written_number};
 
 /// The most bytes that one command shows.
 const MAX_BYTES: u64 = 64;
@@ -51,7 +50,7 @@ pub(crate) fn read_command(alloc: Global, line: &[u8]) -> Result<Option<Command>
     ensures err { IfErr result (OnAsked (Says line.now)) }
     ensures filled { OnErr result (words line.now ≢ []) }
 {
-    let Some((name, rest)) = first_word(line) else {
+    let Some((name, rest)) = first_word(line, Blanks::Spaces) else {
         return Ok(None);
     };
     match named_command(alloc, name, rest) {
@@ -191,7 +190,7 @@ fn one_address(line: &[u8]) -> Result<u64, DebugFault>
     let Some(word) = only_word(line) else {
         return Err(DebugFault::Command);
     };
-    match address(word) {
+    match written_number(word) {
         Some(Number::Small(address)) => Ok(address),
         Some(Number::Large) => Err(DebugFault::Address),
         None => Err(DebugFault::Command),
@@ -207,7 +206,7 @@ fn one_hart(line: &[u8]) -> Result<u32, DebugFault>
     let Some(word) = only_word(line) else {
         return Err(DebugFault::Command);
     };
-    match decimal(word) {
+    match number_in(word, 10) {
         Some(Number::Small(number)) => {
             if number > MAX_HART {
                 Err(DebugFault::Step(StepFault::NoSuchHart))
@@ -226,8 +225,8 @@ fn range(line: &[u8]) -> Option<(Number, u64)>
     ensures { MatchOption result ((number : ANumber) (count : ℕ) → ¬ (IsRange (words line.now) number count))
         (λ found. IsRange (words line.now) found.0 found.1) }
 {
-    let (word, rest) = first_word(line)?;
-    let Some(address) = address(word) else {
+    let (word, rest) = first_word(line, Blanks::Spaces)?;
+    let Some(address) = written_number(word) else {
         return None;
     };
     let count = byte_count(only_word(rest)?)?;
@@ -239,7 +238,7 @@ fn byte_count(word: &[u8]) -> Option<u64>
     ensures { MatchOption result ((n : ℕ) → Writes 10 word.now (Number.Small n) → 1 ≤ n → n ≤ 64 → ⊥)
         (λ count. Writes 10 word.now (Number.Small count) × (1 ≤ count) × (count ≤ 64)) }
 {
-    match decimal(word) {
+    match number_in(word, 10) {
         Some(Number::Small(count)) if (1..=MAX_BYTES).contains(&count) => Some(count),
         _ => None,
     }

@@ -1,15 +1,13 @@
 //! Commands to a debugger, read line by line, each answered by lines of text.
 #![tactic(auto)]
 
-mod answering;
-mod carrying;
+mod answers;
 mod command;
+mod dialogue;
+mod effects;
 mod input;
-mod numbers;
-mod reading;
-mod running;
-mod words;
+mod line_reader;
 
-pub use answering::step_code;
+pub use answers::step_code;
+pub use dialogue::session;
 pub use input::{Failed, Sink, Source};
-pub use running::session;

@@ -1,5 +1,5 @@
-pub mod CacheCalls
 pub mod Naming
 pub mod Reserving
 pub mod Serving
 pub mod Shown
+pub mod Stepping

@@ -22,7 +22,7 @@ use Rattle.store_trace.specs.TraceView.{NamesLine}
 use Rattle.store_trace.specs.declared.event.Event.{Event}
 use Rattle.store_trace.specs.declared.event.Event.TheVariants as events
 use Rattle.shared_memory.specs.Histories.{Write}
-use Rattle.shared_memory.specs.Served.{done_unless, events_of, events_of_write, if_persistent, line_of, outcome_unless, value_unless}
+use Rattle.shared_memory.specs.Replies.{done_unless, events_of, events_of_write, if_persistent, line_of, outcome_unless, value_unless}
 use Rattle.shared_memory.specs.SharedView.{Evicts, Serves, SharedView, holds, lines_shown, memory_of, reply_to}
 use Rattle.shared_memory.proofs.Serving.{aligned_of, count_shown, no_byte_past, wide}
 
@@ -113,7 +113,7 @@ pub served_named : (old new : SharedView) (h : ℕ) (request : Request) (r : Rep
     → All (NamesLine (length old.cache.lines)) old.trace → All (NamesLine (length new.cache.lines)) new.trace
 served_named old new h request r w serves named =
     let more : All (NamesLine (length old.cache.lines)) (events_of h request r) = rw serves.reply (request_named old h request w) in
-    rw (serves.steps.sizes.lines, serves.trace) (All-append (NamesLine (length old.cache.lines)) old.trace (events_of h request r) named more)
+    rw (serves.steps.1.sizes.lines, serves.trace) (All-append (NamesLine (length old.cache.lines)) old.trace (events_of h request r) named more)
 
 pub evicted_named : (old new : SharedView) (line : ℕ) → Evicts old new line
     → All (NamesLine (length old.cache.lines)) old.trace → All (NamesLine (length new.cache.lines)) new.trace

@@ -33,13 +33,14 @@ use Rattle.store_trace.specs.declared.event.Event.{Event}
 use Rattle.store_trace.specs.declared.event.Event.TheVariants as events
 use Rattle.shared_memory.specs.Histories.{calls_of, written}
 use Rattle.shared_memory.specs.Refusals.{IsEventFault, RefusesRequest, RefusesWrite}
-use Rattle.shared_memory.specs.CacheSteps.{CacheSteps, after_load_at, after_operation, after_operation_at, after_store_at, cache_after}
+use Rattle.clean_fence.specs.Represents.{CacheSteps}
+use Rattle.shared_memory.specs.Cached.{after_load_at, after_operation, after_operation_at, after_store_at, cache_after}
 use Rattle.shared_memory.specs.Persisted.{line_used, lines_used}
-use Rattle.shared_memory.specs.Served.{access_fault, events_of, if_persistent, line_of, offset_of, store_event}
+use Rattle.shared_memory.specs.Replies.{access_fault, events_of, if_persistent, line_of, offset_of, store_event}
 use Rattle.shared_memory.specs.declared.fault.StepFault.{StepFault}
 use Rattle.shared_memory.specs.declared.history.Entry.TheVariants.{Asked}
 use Rattle.shared_memory.specs.SharedView.{Finds, IsMark, IsPlaceIn, Reads, Serves, SharedView, Writes, holds, lines_shown, memory_of, reply_to, reserved_lines}
-use Rattle.shared_memory.proofs.CacheCalls.{idle, two_calls}
+use Rattle.shared_memory.proofs.Stepping.{idle, two_calls}
 use Rattle.shared_memory.proofs.Reserving.{lines_follow}
 
 -- there are as many lines as the medium has
@@ -172,11 +173,11 @@ event_there h address offset width value place =
     ∙ ap (λ (byte : ℕ). events.Store h (offset / 64) byte width value ∷ []) (offset_at_place address offset place)
 
 -- the same steps and lines by other names
-steps_as : (old new : PmView) (made other : List PersistenceStep) (used lines : List ℕ) → CacheSteps old new made used
-    → made ≡ other → used ≡ lines → CacheSteps old new other lines
-steps_as old new made other used lines s e f = rw (← e, ← f) s
+steps_as : (old new : PmView) (made other : List PersistenceStep) (forced used lines : List ℕ) → CacheSteps old new made forced used
+    → made ≡ other → used ≡ lines → (evicted : List ℕ) × CacheSteps old new other evicted lines
+steps_as old new made other forced used lines s e f = (forced, rw (← e, ← f) s)
 
-idle_from : (old new : PmView) → new ≡ old → CacheSteps old new [] []
+idle_from : (old new : PmView) → new ≡ old → CacheSteps old new [] [] []
 idle_from old new e = rw e (idle old)
 
 -- reads
@@ -187,20 +188,20 @@ read_in_ram shared address low = record {
   reserved = refl;
   trace = refl;
   cache = sym (loaded_below address shared.cache low);
-  steps = steps_as shared.cache shared.cache [] [] [] (line_used address) (idle shared.cache) refl (sym (none_used address low));
+  steps = steps_as shared.cache shared.cache [] [] [] [] (line_used address) (idle shared.cache) refl (sym (none_used address low));
 }
 
-pub read_in_lines : (old new : SharedView) (address offset : ℕ) → address ≡ PERSISTENT_BASE + offset
+pub read_in_lines : (old new : SharedView) (address offset : ℕ) (forced : List ℕ) → address ≡ PERSISTENT_BASE + offset
     → new.ram ≡ old.ram → new.reserved ≡ old.reserved → new.trace ≡ old.trace
     → lines_shown new ≡ lines_shown old → new.cache ≡ after_load (offset / 64) old.cache
-    → CacheSteps old.cache new.cache [] (offset / 64 ∷ []) → Reads old new address
-read_in_lines old new address offset place ram reserved trace shown cache steps = record {
+    → CacheSteps old.cache new.cache [] forced (offset / 64 ∷ []) → Reads old new address
+read_in_lines old new address offset forced place ram reserved trace shown cache steps = record {
   ram = ram;
   shown = shown;
   reserved = reserved;
   trace = trace;
   cache = cache ∙ sym (loaded_there address offset old.cache place);
-  steps = steps_as old.cache new.cache [] [] (offset / 64 ∷ []) (line_used address) steps refl (sym (used_there address offset place));
+  steps = steps_as old.cache new.cache [] [] forced (offset / 64 ∷ []) (line_used address) steps refl (sym (used_there address offset place));
 }
 
 -- writes
@@ -218,25 +219,25 @@ written_in_ram old new h address width value w low none ram cache trace reserved
       reserved = reserved;
       trace = trace ∙ sym (ap (λ (more : List Event). old.trace ++ more) silent ∙ append-nil old.trace);
       cache = cache ∙ sym (stored_below address width value old.cache low);
-      steps = steps_as old.cache new.cache [] _ [] (line_used address) (idle_from old.cache new.cache cache)
+      steps = steps_as old.cache new.cache [] _ [] [] (line_used address) (idle_from old.cache new.cache cache)
           (sym (ap (λ (made : List Event). history made) silent)) (sym (none_used address low));
     }
 
-pub written_in_lines : (old new : SharedView) (h address width offset value : ℕ) → address ≡ PERSISTENT_BASE + offset
+pub written_in_lines : (old new : SharedView) (h address width offset value : ℕ) (forced : List ℕ) → address ≡ PERSISTENT_BASE + offset
     → new.ram ≡ old.ram → new.trace ≡ old.trace ++ store_event h offset width value ∷ []
     → line_bytes (lines_shown new) ≡ stored_to (line_bytes (lines_shown old)) offset width value
     → new.cache ≡ after_store (offset / 64) (offset % 64) width value old.cache
-    → CacheSteps old.cache new.cache (step.Store (offset / 64) (offset % 64) width value ∷ []) (offset / 64 ∷ [])
+    → CacheSteps old.cache new.cache (step.Store (offset / 64) (offset % 64) width value ∷ []) forced (offset / 64 ∷ [])
     → ((calls : List Call) → Agrees old.reserved calls → Agrees new.reserved (Stored h (address / 64) ∷ calls))
     → Writes old new h address width value
-written_in_lines old new h address width offset value place ram trace bytes cache steps reserved =
+written_in_lines old new h address width offset value forced place ram trace bytes cache steps reserved =
     let event = event_there h address offset width value place in
     record {
       memory = rw (ram, bytes, place) (sym (store_persistent (ram_bytes old.ram) (line_bytes (lines_shown old)) offset width value));
       reserved = reserved;
       trace = trace ∙ sym (ap (λ (more : List Event). old.trace ++ more) event);
       cache = cache ∙ sym (stored_there address offset width value old.cache place);
-      steps = steps_as old.cache new.cache (step.Store (offset / 64) (offset % 64) width value ∷ []) _ (offset / 64 ∷ []) (line_used address) steps
+      steps = steps_as old.cache new.cache (step.Store (offset / 64) (offset % 64) width value ∷ []) _ forced (offset / 64 ∷ []) (line_used address) steps
           (sym (ap (λ (made : List Event). history made) event)) (sym (used_there address offset place));
     }
 
@@ -251,7 +252,7 @@ unchanged shared h request r reply none calls silent cache lines = record {
   reserved = λ more agrees. rw calls agrees;
   trace = rw silent (sym (append-nil shared.trace));
   cache = sym cache;
-  steps = steps_as shared.cache shared.cache [] _ [] _ (idle shared.cache) (sym (ap (λ (made : List Event). history made) silent)) (sym lines);
+  steps = steps_as shared.cache shared.cache [] _ [] [] _ (idle shared.cache) (sym (ap (λ (made : List Event). history made) silent)) (sym lines);
 }
 
 -- requests that meet a fault
@@ -321,7 +322,7 @@ combines old middle new op h address width operand found finds reads writes =
       trace = writes.trace
           ∙ ap (λ (t : List Event). t ++ if_persistent address (events.Store h (line_of address) (offset_of address) width (amo_result op width found operand))) reads.trace;
       cache = writes.cache ∙ ap (λ (cache : PmView). after_store_at address width (amo_result op width found operand) cache) reads.cache;
-      steps = two_calls old.cache middle.cache new.cache _ (line_used address) reads.steps writes.steps;
+      steps = (writes.steps.0 ++ reads.steps.0, two_calls old.cache middle.cache new.cache _ reads.steps.0 writes.steps.0 (line_used address) reads.steps.1 writes.steps.1);
     }
 
 pub combines_with : (old middle new : SharedView) (op : AtomicOp) (h address width operand found value : ℕ)
@@ -377,7 +378,7 @@ fails old ended h address width value none free ends = record {
   reserved = ends.reserved;
   trace = ends.trace ∙ sym (append-nil old.trace);
   cache = ends.cache;
-  steps = idle_from old.cache ended.cache ends.cache;
+  steps = ([], idle_from old.cache ended.cache ends.cache);
 }
 
 pub succeeds : (old ended new : SharedView) (h address width value : ℕ) → fault_of (memory_of old) address width ≡ None
@@ -454,21 +455,21 @@ marks old new h request event mark e =
       reserved = λ calls agrees. rw (e, mark.calls) agrees;
       trace = rw (e, mark.event) refl;
       cache = same ∙ sym (mark.cache old.cache);
-      steps = steps_as old.cache new.cache [] _ [] _ (idle_from old.cache new.cache same)
+      steps = steps_as old.cache new.cache [] _ [] [] _ (idle_from old.cache new.cache same)
           (sym (ap (λ (made : List Event). history made) mark.event ∙ nothing)) (sym mark.lines);
     }
 
 -- a FENCE
 pub fences : (old new : SharedView) (h : ℕ) → new.ram ≡ old.ram → new.reserved ≡ old.reserved
     → new.trace ≡ old.trace ++ events.Fence h ∷ [] → lines_shown new ≡ lines_shown old → new.cache ≡ after_fence h old.cache
-    → CacheSteps old.cache new.cache (step.Fence h ∷ []) [] → Serves old new h Fence Done
+    → CacheSteps old.cache new.cache (step.Fence h ∷ []) [] [] → Serves old new h Fence Done
 fences old new h ram reserved trace shown cache steps = record {
   reply = refl;
   memory = rw (ram, shown) refl;
   reserved = λ calls agrees. rw reserved agrees;
   trace = trace;
   cache = cache;
-  steps = steps;
+  steps = ([], steps);
 }
 
 pub fence_refused : (shared : SharedView) (h : ℕ) (fault : StepFault) → IsEventFault shared.trace fault → RefusesRequest shared h Fence fault
@@ -521,7 +522,7 @@ pub cleaned_line : (old new : SharedView) (op : CacheOp) (h address offset : ℕ
     → AreLines (lines_shown old) → address ≡ PERSISTENT_BASE + offset → offset < 64 * length old.cache.lines
     → new.ram ≡ old.ram → new.reserved ≡ old.reserved → new.trace ≡ old.trace ++ events.Clean h (offset / 64) ∷ []
     → lines_shown new ≡ lines_shown old → new.cache ≡ after_operation h op (offset / 64) old.cache
-    → CacheSteps old.cache new.cache (step.Clean h (offset / 64) ∷ []) []
+    → CacheSteps old.cache new.cache (step.Clean h (offset / 64) ∷ []) [] []
     → Serves old new h (Cbo op address) Done
 cleaned_line old new op h address offset whole place there ram reserved trace shown cache steps =
     let event = clean_there h address offset place in
@@ -531,7 +532,7 @@ cleaned_line old new op h address offset whole place there ram reserved trace sh
       reserved = λ calls agrees. rw reserved agrees;
       trace = trace ∙ sym (ap (λ (more : List Event). old.trace ++ more) event);
       cache = cache ∙ sym (operated_there h op address offset old.cache place);
-      steps = steps_as old.cache new.cache (step.Clean h (offset / 64) ∷ []) _ [] [] steps
+      steps = steps_as old.cache new.cache (step.Clean h (offset / 64) ∷ []) _ [] [] [] steps
           (sym (ap (λ (made : List Event). history made) event)) refl;
     }
 

@@ -9,19 +9,19 @@ use Rattle.crash_model.specs.WrittenBack.{back}
 use Rattle.crash_model.specs.declared.step.PersistenceStep.{PersistenceStep}
 use Rattle.crash_model.proofs.Explained.{cut_image_without_evictions, image_without_evictions}
 use Rattle.clean_fence.specs.Rules.{PmView}
-use Rattle.clean_fence.specs.Stands.{Stands}
+use Rattle.clean_fence.specs.Represents.{AreAmong, Represents}
 use Rattle.line_memory.specs.Memory.{Memory}
 use Rattle.store_trace.specs.History.{history}
 use Rattle.store_trace.specs.declared.event.Event.{Event}
 use Rattle.hart.specs.declared.need.Reply.{Reply}
 use Rattle.hart.specs.declared.need.Request.{Request}
 use Rattle.shared_memory.specs.declared.history.Entry.TheVariants.{Evicted}
-use Rattle.shared_memory.specs.CacheSteps.{StandsEvicting}
+use Rattle.shared_memory.specs.Cached.{RepresentsEvicting}
 use Rattle.shared_memory.specs.Histories.{memory_after}
-use Rattle.shared_memory.specs.Persisted.{AreAmong, lines_used, persisted, touched}
-use Rattle.shared_memory.specs.Served.{Common, asked, events_of, reply_after}
+use Rattle.shared_memory.specs.Persisted.{lines_used, persisted, touched}
+use Rattle.shared_memory.specs.Replies.{Common, asked, events_of, reply_after}
 use Rattle.shared_memory.specs.SharedView.{Evicts, Serves, SharedView, Shows, reply_to}
-use Rattle.shared_memory.proofs.CacheCalls.{history_evicts_nothing, history_more, without_append}
+use Rattle.shared_memory.proofs.Stepping.{evicting, history_evicts_nothing, history_more, unforced, without_append}
 use Rattle.shared_memory.proofs.Reserving.{held_as}
 
 -- lines among others
@@ -46,8 +46,8 @@ among_right : (xs ys lines : List ℕ) → AreAmong (xs ++ ys) lines → AreAmon
 among_right xs ys lines among = record { each = λ x h. among.each x (has_right x xs ys h) }
 
 -- the same steps by another name
-evicting_as : (start : List (List ℕ)) (p q : List PersistenceStep) (cache : PmView) → StandsEvicting start p cache → p ≡ q
-    → StandsEvicting start q cache
+evicting_as : (start : List (List ℕ)) (p q : List PersistenceStep) (cache : PmView) → RepresentsEvicting start p cache → p ≡ q
+    → RepresentsEvicting start q cache
 evicting_as start p q cache s e = rw (← e) s
 
 -- the reply to a request is the one that the definition gives
@@ -70,24 +70,23 @@ served_as_told : (old new : SharedView) (h : ℕ) (request : Request) (c : Commo
     → Serves old new h request (reply_after c h request) → Shows old c → Shows new (asked c h request)
 served_as_told old new h request c serves shows =
     let reply : Reply = reply_after c h request in
-    let made : List Event = events_of h request (reply_after c h request) in
     record {
       memory = serves.memory ∙ ap (λ (m : Memory). memory_after m request (reply_after c h request)) shows.memory;
       replays = ap (λ (m : Memory). memory_after m request (reply_after c h request)) shows.replays;
       reserved = serves.reserved _ shows.reserved;
       trace = serves.trace ∙ ap (λ (t : List Event). t ++ events_of h request (reply_after c h request)) shows.trace;
       steps = joined_steps (events_of h request (reply_after c h request)) c shows.steps;
-      cached = evicting_as c.start _ _ new.cache (serves.steps.evicting c.start (history c.trace) shows.cached)
+      cached = evicting_as c.start _ _ new.cache (evicting _ _ _ _ _ serves.steps.1 c.start (history c.trace) shows.cached)
           (ap (λ (p : List PersistenceStep). p ++ history c.trace) (history_evicts_nothing (events_of h request (reply_after c h request)))
           ∙ sym (history_more c.trace (events_of h request (reply_after c h request))));
       unforced = λ lines few among.
-          let capacity = serves.steps.sizes.capacity in
+          let capacity = serves.steps.1.sizes.capacity in
           let room : length lines ≤ old.cache.cache.capacity = omega arith in
           let before : AreAmong (touched c.history) lines =
           among_right (lines_used request (reply_after c h request)) (touched c.history) lines among in
           let now : AreAmong (lines_used request (reply_after c h request)) lines =
           among_left (lines_used request (reply_after c h request)) (touched c.history) lines among in
-          serves.steps.unforced c.start lines (persisted c.history) (shows.unforced lines room before) now;
+          unforced _ _ _ _ _ serves.steps.1 c.start lines (persisted c.history) (shows.unforced lines room before) now;
     }
 
 pub served_shows : (old new : SharedView) (h : ℕ) (request : Request) (reply : Reply) (c : Common) → h < 8
@@ -105,28 +104,28 @@ evicted_shows old new line c evicts shows = record {
   reserved = rw evicts.reserved shows.reserved;
   trace = evicts.trace ∙ shows.trace;
   steps = shows.steps;
-  cached = evicts.steps.evicting c.start (history c.trace) shows.cached;
+  cached = evicting _ _ _ _ _ evicts.steps c.start (history c.trace) shows.cached;
   unforced = λ lines few among.
       let capacity = evicts.steps.sizes.capacity in
       let room : length lines ≤ old.cache.cache.capacity = omega arith in
-      evicts.steps.unforced c.start lines (persisted c.history) (shows.unforced lines room among) (among_left [] (touched c.history) lines among);
+      unforced _ _ _ _ _ evicts.steps c.start lines (persisted c.history) (shows.unforced lines room among) (among_left [] (touched c.history) lines among);
 }
 
 -- what a power cut leaves
 pub leaves_cut : (shared : SharedView) (medium : List (List ℕ))
-    → ((start : List (List ℕ)) (p : List PersistenceStep) → Stands start p shared.cache → IsCutImage start p medium)
+    → ((start : List (List ℕ)) (p : List PersistenceStep) → Represents start p shared.cache → IsCutImage start p medium)
     → (c : Common) → Shows shared c → IsCutImage c.start (history c.trace) medium
 leaves_cut shared medium cut c shows =
     rw shows.cached.others at
-    (cut_image_without_evictions c.start shows.cached.steps medium (cut c.start shows.cached.steps shows.cached.stands))
+    (cut_image_without_evictions c.start shows.cached.steps medium (cut c.start shows.cached.steps shows.cached.represents))
 
 pub leaves_written_back : (shared : SharedView) (medium : List (List ℕ))
-    → ((start : List (List ℕ)) (p : List PersistenceStep) → Stands start p shared.cache → medium ≡ image start (λ l. (back l p).count) p)
+    → ((start : List (List ℕ)) (p : List PersistenceStep) → Represents start p shared.cache → medium ≡ image start (λ l. (back l p).count) p)
     → (c : Common) (lines : List ℕ) → Shows shared c → length lines ≤ shared.cache.cache.capacity → AreAmong (touched c.history) lines
     → medium ≡ image c.start (λ l. (back l (persisted c.history)).count) (history c.trace)
 leaves_written_back shared medium written c lines shows few among =
     let p : List PersistenceStep = persisted c.history in
     let stands = shows.unforced lines few among in
-    written c.start (persisted c.history) stands.stands
+    written c.start (persisted c.history) stands.represents
     ∙ sym (image_without_evictions c.start (λ l. (back l (persisted c.history)).count) (persisted c.history))
     ∙ ap (λ (q : List PersistenceStep). image c.start (λ l. (back l (persisted c.history)).count) q) (sym shows.steps)

@@ -1,8 +1,8 @@
-pub mod CacheSteps
+pub mod Cached
 pub mod Faults
 pub mod Histories
 pub mod Persisted
-pub mod Placed
+pub mod Placement
 pub mod Refusals
-pub mod Served
+pub mod Replies
 pub mod SharedView

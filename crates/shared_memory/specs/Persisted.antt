@@ -1,7 +1,6 @@
 -- What a history does to persistent memory: its persistence steps, and the lines that it loads and stores.
 -- Source: Vinter, USENIX ATC 2022 (the trace of stores, flushes and fences); RISC-V Cache Management Operations 1.0.
-use Rattle.std.specs.Prelude.{◌≡◌, ℕ, zero, List, [], ◌∷◌, true, nat_le, if◌then◌else◌, flat_map}
-use Rattle.index_list.specs.Lists.{has}
+use Rattle.std.specs.Prelude.{ℕ, zero, List, [], ◌∷◌, nat_le, if◌then◌else◌, flat_map}
 use Rattle.line_memory.specs.declared.TheConstants.{PERSISTENT_BASE}
 use Rattle.crash_model.specs.declared.step.PersistenceStep.{PersistenceStep}
 use Rattle.crash_model.specs.declared.step.PersistenceStep.TheVariants as step
@@ -12,7 +11,7 @@ use Rattle.hart.specs.declared.need.Reply.{Reply}
 use Rattle.hart.specs.declared.need.Reply.TheVariants.{Value, Done}
 use Rattle.shared_memory.specs.declared.history.Entry.{Entry}
 use Rattle.shared_memory.specs.declared.history.Entry.TheVariants.{Asked, Evicted}
-use Rattle.shared_memory.specs.Served.{events_of, line_of}
+use Rattle.shared_memory.specs.Replies.{events_of, line_of}
 
 -- the persistence steps of an entry: those of its events, or the eviction
 abbrev pub persisted_by : Entry → List PersistenceStep
@@ -43,7 +42,3 @@ touched_by (Evicted line) = []
 -- the lines of persistent memory that a history loads or stores
 abbrev pub touched : List Entry → List ℕ
 touched entries = flat_map touched_by entries
-
--- each of these lines is among the others
-pub record AreAmong (lines others : List ℕ) : Type 0 where
-  pub each : (line : ℕ) → has line lines ≡ true → has line others ≡ true

@@ -5,7 +5,7 @@ use Rattle.line_memory.specs.declared.TheConstants.{PERSISTENT_BASE}
 use Rattle.hart.specs.declared.need.Request.{Request}
 use Rattle.shared_memory.specs.declared.fault.StepFault.{StepFault}
 use Rattle.shared_memory.specs.declared.fault.StepFault.TheVariants.{NoSuchHart, NoSuchLine, TraceFull, Memory, OutOfLimits}
-use Rattle.shared_memory.specs.Served.{events_of}
+use Rattle.shared_memory.specs.Replies.{events_of}
 use Rattle.shared_memory.specs.SharedView.{SharedView, reply_to}
 
 -- why a trace doesn't take one more event: it is full, or else memory was refused

@@ -1,8 +1,8 @@
--- What a contract sees of what harts share, what it stands for, and what a request does to it.
+-- What a contract sees of what harts share, what it represents, and what a request does to it.
 use Rattle.std.specs.Prelude.{◌≡◌, ◌++◌, ◌∷◌, ◌/◌, ◌%◌, ◌+◌, ◌*◌, ◌<◌, ◌≤◌, ℕ, zero, suc, List, [], Option, Some, None, Bool, false, eqb, length, slice_get, flat_map}
 use Rattle.clean_fence.specs.Rules as pm
 use Rattle.clean_fence.specs.Rules.{PmView, after_evict}
-use Rattle.clean_fence.specs.Stands.{StandsUnforced}
+use Rattle.clean_fence.specs.Represents.{AreAmong, CacheSteps, RepresentsUnforced}
 use Rattle.crash_model.specs.Schedule.{without_evictions}
 use Rattle.crash_model.specs.declared.step.PersistenceStep.TheVariants as step
 use Rattle.line_memory.specs.Lines.{AreLines, line_bytes}
@@ -18,9 +18,9 @@ use Rattle.hart.specs.declared.need.Reply.TheVariants.{Done}
 use Rattle.reservation.specs.Reserved.{Agrees, Call, Stored}
 use Rattle.shared_memory.specs.declared.history.Entry.TheVariants.{Asked}
 use Rattle.shared_memory.specs.Histories.{calls_of, memory_after, replayed, written}
-use Rattle.shared_memory.specs.CacheSteps.{CacheSteps, StandsEvicting, after_load_at, after_store_at, cache_after}
-use Rattle.shared_memory.specs.Persisted.{AreAmong, line_used, lines_used, persisted, touched}
-use Rattle.shared_memory.specs.Served.{Common, events_of, if_persistent, line_of, offset_of, replied}
+use Rattle.shared_memory.specs.Cached.{RepresentsEvicting, after_load_at, after_store_at, cache_after}
+use Rattle.shared_memory.specs.Persisted.{line_used, lines_used, persisted, touched}
+use Rattle.shared_memory.specs.Replies.{Common, events_of, if_persistent, line_of, offset_of, replied}
 
 -- the lines that n harts from one on have reserved, by a word for each hart
 abbrev pub line_in : Option (Option ℕ) → Option ℕ
@@ -60,18 +60,18 @@ holds shared h l = is_line (slice_get shared.reserved h) l
 abbrev pub reply_to : SharedView → ℕ → Request → Reply
 reply_to shared h request = replied (memory_of shared) (holds shared h) request
 
--- The flat memory and the trace are those of the definition, and the reservations those of its history. The cache stands
--- for the steps of the history with evictions of its own; where it has room for all lines that the history uses, it stands
--- for those steps alone.
+-- The flat memory and the trace are those of the definition, and the reservations those of its history. The cache
+-- represents the steps of the history with evictions of its own; where it has room for all lines that the history uses, it
+-- represents those steps alone.
 pub record Shows (shared : SharedView) (c : Common) : Type 0 where
   pub memory : memory_of shared ≡ c.memory
   pub replays : c.memory ≡ replayed c.initial c.history
   pub reserved : Agrees shared.reserved (flat_map calls_of c.history)
   pub trace : shared.trace ≡ c.trace
   pub steps : history c.trace ≡ without_evictions (persisted c.history)
-  pub cached : StandsEvicting c.start (history c.trace) shared.cache
+  pub cached : RepresentsEvicting c.start (history c.trace) shared.cache
   pub unforced : (lines : List ℕ) → length lines ≤ shared.cache.cache.capacity → AreAmong (touched c.history) lines →
-      StandsUnforced c.start lines (persisted c.history) shared.cache
+      RepresentsUnforced c.start lines (persisted c.history) shared.cache
 
 -- the number that an access of memory finds
 pub record Finds (memory : Memory) (address width value : ℕ) : Type 0 where
@@ -93,7 +93,7 @@ pub record Reads (old new : SharedView) (address : ℕ) : Type 0 where
   pub reserved : new.reserved ≡ old.reserved
   pub trace : new.trace ≡ old.trace
   pub cache : new.cache ≡ after_load_at address old.cache
-  pub steps : CacheSteps old.cache new.cache [] (line_used address)
+  pub steps : (forced : List ℕ) × CacheSteps old.cache new.cache [] forced (line_used address)
 
 -- a write of hart h
 pub record Writes (old new : SharedView) (h address width value : ℕ) : Type 0 where
@@ -101,8 +101,8 @@ pub record Writes (old new : SharedView) (h address width value : ℕ) : Type 0 
   pub reserved : (calls : List Call) → Agrees old.reserved calls → Agrees new.reserved (Stored h (address / 64) ∷ calls)
   pub trace : new.trace ≡ old.trace ++ if_persistent address (events.Store h (line_of address) (offset_of address) width value)
   pub cache : new.cache ≡ after_store_at address width value old.cache
-  pub steps : CacheSteps old.cache new.cache
-      (history (if_persistent address (events.Store h (line_of address) (offset_of address) width value))) (line_used address)
+  pub steps : (forced : List ℕ) × CacheSteps old.cache new.cache
+      (history (if_persistent address (events.Store h (line_of address) (offset_of address) width value))) forced (line_used address)
 
 -- a request of hart h: the reply by flat memory and reservations, and what is shared after it
 pub record Serves (old new : SharedView) (h : ℕ) (request : Request) (r : Reply) : Type 0 where
@@ -111,7 +111,7 @@ pub record Serves (old new : SharedView) (h : ℕ) (request : Request) (r : Repl
   pub reserved : (calls : List Call) → Agrees old.reserved calls → Agrees new.reserved (calls_of (Asked h request r) ++ calls)
   pub trace : new.trace ≡ old.trace ++ events_of h request r
   pub cache : new.cache ≡ cache_after h request r old.cache
-  pub steps : CacheSteps old.cache new.cache (history (events_of h request r)) (lines_used request r)
+  pub steps : (forced : List ℕ) × CacheSteps old.cache new.cache (history (events_of h request r)) forced (lines_used request r)
 
 -- an eviction of a line, which no flat memory shows
 pub record Evicts (old new : SharedView) (line : ℕ) : Type 0 where
@@ -119,7 +119,7 @@ pub record Evicts (old new : SharedView) (line : ℕ) : Type 0 where
   pub reserved : new.reserved ≡ old.reserved
   pub trace : new.trace ≡ old.trace
   pub cache : new.cache ≡ after_evict line old.cache
-  pub steps : CacheSteps old.cache new.cache (step.Evict line ∷ []) []
+  pub steps : CacheSteps old.cache new.cache (step.Evict line ∷ []) [] []
 
 -- the request does nothing but make this event, which does nothing to persistent memory
 pub record IsMark (h : ℕ) (request : Request) (made : Event) : Type 0 where

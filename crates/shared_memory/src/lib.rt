@@ -2,7 +2,6 @@
 //! persistent memory.
 #![tactic(auto)]
 
-mod caching;
 mod fault;
 mod history;
 mod limits;

@@ -12,13 +12,16 @@ ghost use Rattle.line_memory.specs.declared.TheConstants.{TEXT_SIZE};
 ghost use Rattle.hart.specs.Memory.{amo_result};
 ghost use Rattle.hart.specs.Requests.{IsAtomicWidth, IsRequest};
 ghost use Rattle.line_memory.specs.Lines.{AreLines};
-ghost use Rattle.shared_memory.specs.Persisted.{AreAmong, persisted, touched};
-ghost use Rattle.shared_memory.specs.Placed.{IsPlaced};
+ghost use Rattle.clean_fence.specs.Rules.{memory_of as lines_found};
+ghost use Rattle.clean_fence.specs.Represents.{AreAmong, CacheSteps};
+ghost use Rattle.crash_model.specs.declared.step.PersistenceStep.TheVariants as step;
+ghost use Rattle.shared_memory.specs.Cached.{after_operation};
+ghost use Rattle.shared_memory.specs.Persisted.{persisted, touched};
+ghost use Rattle.shared_memory.specs.Placement.{IsPlaced};
 ghost use Rattle.shared_memory.specs.Refusals.{IsEventFault, RefusesRequest, RefusesWrite};
-ghost use Rattle.shared_memory.specs.Served.{access_fault, store_event};
+ghost use Rattle.shared_memory.specs.Replies.{access_fault, store_event};
 ghost use Rattle.shared_memory.specs.SharedView.{Evicts, Finds, IsMark, IsPlaceIn, Reads, Serves, Writes, lines_shown, memory_of};
 
-use crate::caching;
 use crate::fault::StepFault;
 use crate::limits::check_limits;
 use clean_fence::PmCache;
@@ -30,6 +33,9 @@ use reservation::Reservations;
 use std::alloc::Global;
 use std::marker::Model;
 use store_trace::{Event, Trace};
+
+/// How many harts a cache keeps pending lines for: each number that a hart may have.
+const HARTS: u32 = 8;
 
 /// Where an access begins that can be made.
 #[derive(Clone, Copy)]
@@ -51,9 +57,8 @@ pub struct Shared {
 }
 
 impl Model for Shared {
-    ghost use Rattle.shared_memory.specs.CacheSteps.{IsReady};
     ghost use Rattle.shared_memory.specs.SharedView.{SharedView, reserved_lines};
-    ghost use Rattle.std.specs.Prelude.{◌≤◌, length};
+    ghost use Rattle.std.specs.Prelude.{◌≡◌, ◌≤◌, length};
 
     ghost Value = { SharedView };
 
@@ -64,11 +69,11 @@ impl Model for Shared {
       trace = s.trace.events;
     } };
 
-    ghost invariant = { λ s. (length s.trace.events ≤ 65536) × IsReady s.cache };
+    ghost invariant = { λ s. (length s.trace.events ≤ 65536) × (s.cache.harts ≡ 8) };
 }
 
 impl Shared {
-    ghost use Rattle.shared_memory.specs.Served.{Common, common_at_start};
+    ghost use Rattle.shared_memory.specs.Replies.{Common, common_at_start};
     ghost use Rattle.shared_memory.specs.SharedView.{Shows};
 
     /// The memory at the start of a run of one to eight harts: a program's text and data, a medium behind an empty cache of
@@ -112,7 +117,10 @@ impl Shared {
             Ok(ram) => ram,
             Err(_) => return Err(StepFault::Memory),
         };
-        let cache = caching::start(alloc, medium, capacity)?;
+        let cache = match PmCache::new(alloc, medium, capacity, HARTS) {
+            Ok(cache) => cache,
+            Err(_) => return Err(StepFault::Memory),
+        };
         Ok(Shared {
             ram,
             cache,
@@ -148,8 +156,8 @@ impl Shared {
                 address,
                 width,
                 operand,
-            } => self.combine(hart, op, address, width, operand),
-            Request::FenceI => Ok(self.renew(hart)),
+            } => self.amo(hart, op, address, width, operand),
+            Request::FenceI => Ok(self.fence_i(hart)),
             Request::Cbo { op, address } => self.cache_operation(hart, op, address),
             Request::Fence => self.fence(hart),
             Request::Begin { op } => self.mark(hart, request, Event::Begin { hart, op }),
@@ -158,7 +166,7 @@ impl Shared {
     }
 
     /// A FENCE.I changes nothing here: who keeps the hart's copy of the text renews it.
-    fn renew(&self, hart: u32) -> Reply
+    fn fence_i(&self, hart: u32) -> Reply
         ensures serves { Serves self.now self.now hart Request.FenceI result }
         ensures limit { length self.now.trace ≤ 65536 }
     {
@@ -239,7 +247,7 @@ impl Shared {
     }
 
     /// An atomic operation: what it stores is made of the value that it finds, which is the reply.
-    fn combine(
+    fn amo(
         &mut self,
         hart: u32,
         op: AtomicOp,
@@ -256,16 +264,16 @@ impl Shared {
     {
         match self.place(address, width) {
             Ok(Place::Ram(place)) => {
-                Ok(self.combine_in_ram(hart, op, address, place, width, operand))
+                Ok(self.amo_in_ram(hart, op, address, place, width, operand))
             }
             Ok(Place::Persistent(offset)) => {
-                self.combine_in_cache(hart, op, address, offset, width, operand)
+                self.amo_in_cache(hart, op, address, offset, width, operand)
             }
             Err(fault) => Ok(Reply::Fault(access_fault(fault))),
         }
     }
 
-    fn combine_in_ram(
+    fn amo_in_ram(
         &mut self,
         hart: u32,
         op: AtomicOp,
@@ -287,7 +295,7 @@ impl Shared {
     }
 
     /// The room for the event is made before the cache is touched, so that a refusal leaves the cache as it was.
-    fn combine_in_cache(
+    fn amo_in_cache(
         &mut self,
         hart: u32,
         op: AtomicOp,
@@ -305,9 +313,9 @@ impl Shared {
         ensures refused { IfErr result (RefusesRequest self.old hart (Request.Amo op address width operand)) }
     {
         reserve_one(&mut self.trace)?;
-        let old = caching::load(&mut self.cache, offset, width);
+        let old = self.cache.load(offset, width);
         let value = amo_result(op, width, old, operand);
-        caching::store(&mut self.cache, offset, width, value);
+        self.cache.store(offset, width, value);
         push_reserved(&mut self.trace, store_event(hart, offset, width, value));
         self.reservations.stored(hart, reserved_line(address));
         Ok(Reply::Value(old))
@@ -335,7 +343,7 @@ impl Shared {
         ensures refused { IfErr result (RefusesRequest self.old hart Request.Fence) }
     {
         self.note(Event::Fence { hart })?;
-        caching::fence(&mut self.cache, hart);
+        self.cache.fence(hart);
         Ok(Reply::Done)
     }
 
@@ -383,7 +391,7 @@ impl Shared {
         ensures reads { Reads self.old self.new address }
         ensures limit { length self.new.trace ≤ 65536 }
     {
-        caching::load(&mut self.cache, offset, width)
+        self.cache.load(offset, width)
     }
 
     /// Where an access begins; the fault of one that can't be made.
@@ -475,7 +483,7 @@ impl Shared {
         ensures refused { IfErr result (RefusesWrite self.old address) }
     {
         self.note(store_event(hart, offset, width, value))?;
-        caching::store(&mut self.cache, offset, width, value);
+        self.cache.store(offset, width, value);
         self.reservations.stored(hart, reserved_line(address));
         Ok(())
     }
@@ -533,7 +541,7 @@ impl Shared {
         if line >= self.lines() {
             return Err(StepFault::NoSuchLine);
         }
-        caching::evict(&mut self.cache, line);
+        self.cache.evict(line);
         Ok(())
     }
 
@@ -593,7 +601,7 @@ impl Shared {
     {
         let line = offset / 64;
         self.note(Event::Clean { hart, line })?;
-        caching::operate(&mut self.cache, hart, op, line);
+        operate(&mut self.cache, hart, op, line);
         Ok(Reply::Done)
     }
 
@@ -618,6 +626,20 @@ impl Shared {
             Some(_) => Reply::Done,
             None => Reply::Fault(AccessFault::Outside),
         }
+    }
+}
+
+/// A hart's cache-block operation on a line: an inval acts as a flush.
+fn operate(cache: &mut PmCache, hart: u32, op: CacheOp, line: u32)
+    requires hart { hart < cache.old.harts }
+    requires there { line < length cache.old.lines }
+    ensures memory { lines_found cache.new ≡ lines_found cache.old }
+    ensures changed { cache.new ≡ after_operation hart op line cache.old }
+    ensures steps { CacheSteps cache.old cache.new (step.Clean hart line ∷ []) [] [] }
+{
+    match op {
+        CacheOp::Clean => cache.clean(hart, line),
+        CacheOp::Flush | CacheOp::Inval => cache.flush(hart, line),
     }
 }
 

@@ -3,8 +3,7 @@
 use crate::growths::ending::{Refused, ready};
 use bus::{Bus, Seat};
 use line_memory::Medium;
-use object::Object;
-use program::{Program, load};
+use program::{Object, Program, load};
 use recording::Recorded;
 use std::alloc::Global;
 

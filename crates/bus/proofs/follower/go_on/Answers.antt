@@ -1,4 +1,4 @@
-use Rattle.machine.specs.Stands.{text_bytes}
+use Rattle.machine.specs.Represents.{text_bytes}
 use Rattle.bus.proofs.Foreign.{not_stepped, stuck}
 use Rattle.bus.proofs.follower.go_on.Goals as goal
 

@@ -1,4 +1,4 @@
-use Rattle.machine.specs.Stands.{text_bytes}
+use Rattle.machine.specs.Represents.{text_bytes}
 use Rattle.bus.specs.Alone.{GoesAlone}
 use Rattle.bus.proofs.follower.go_on.Given as goal
 

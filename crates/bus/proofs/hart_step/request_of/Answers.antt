@@ -1,4 +1,4 @@
-use Rattle.machine.specs.Stands.{text_bytes}
+use Rattle.machine.specs.Represents.{text_bytes}
 use Rattle.bus.proofs.Seating.{not_trapped}
 use Rattle.bus.proofs.hart_step.request_of.Goals as goal
 

@@ -1,7 +1,7 @@
 use Rattle.std.proofs.Common.{◌≡◌, ◌∙◌, ℕ, List, Result, Ok, Err, IfOk, IfSome, length, ap}
 use Rattle.std.proofs.lemmas.List.FromFn.{length-map-range_with_len}
 use Rattle.std.specs.Result.{result_ok}
-use Rattle.object.specs.Sections.{Sections}
+use Rattle.program.specs.Sections.{Sections}
 use Rattle.bus.specs.Seats.{SeatView}
 use Rattle.bus.specs.Starting.{AreAtStart, seat_at_start}
 use Rattle.bus_tests.proofs.programs.bus_of.Goals as goal

@@ -1,6 +1,6 @@
 -- The loop keeps what the fence makes of each line; the measure, the other clauses and the rest are found.
 use Rattle.std.proofs.Common.{sym, ◌∙◌}
-use Rattle.clean_fence.proofs.Fences.{fence_begins, fence_goes, fence_stands, fence_unforced}
+use Rattle.clean_fence.proofs.Fences.{fence_begins, fence_goes, fence_steps}
 use Rattle.clean_fence.proofs.PmCache.fence.Goals as goal
 
 pub loop-line-init : goal.loop-line-init
@@ -10,8 +10,5 @@ pub loop-line-preserved : goal.loop-line-preserved
 loop-line-preserved c =
     fence_goes _ _ _ _ _ (sym c.in-Some.ensures.value) c.complete.ensures.changed c.complete.ensures.memory c.complete.ensures.sound c.loop-line.invariant
 
-pub returns-clause-stands : goal.returns-clause-stands
-returns-clause-stands c = fence_stands _ _ _ (sym c.first_pending.ensures.value ∙ c.in_default.is) c.loop-line.invariant
-
-pub returns-clause-unforced : goal.returns-clause-unforced
-returns-clause-unforced c = fence_unforced _ _ _ (sym c.first_pending.ensures.value ∙ c.in_default.is) c.loop-line.invariant
+pub returns-clause-steps : goal.returns-clause-steps
+returns-clause-steps c = fence_steps _ _ _ (sym c.first_pending.ensures.value ∙ c.in_default.is) c.loop-line.invariant

@@ -1,7 +1,7 @@
 use Rattle.std.proofs.Common.{◌≡◌, ◌∙◌, ◌-◌, ◌++◌, List, ap, length, take, drop, arith}
 use Rattle.store_trace.specs.History.{history}
 use Rattle.crash_image.specs.Bounds.{stored_bounds}
-use Rattle.crash_image.specs.Tallies.{bounds_from}
+use Rattle.crash_image.specs.FloorScan.{bounds_from}
 use Rattle.crash_image.specs.declared.bounds.Tally.{Tally}
 use Rattle.crash_image.proofs.Slices.{written}
 use Rattle.crash_image.proofs.Stored.{below_history}
@@ -10,13 +10,13 @@ use Rattle.crash_image.proofs.bounds.line_bounds.Goals as goal
 
 pub loop-at-preserved : goal.loop-at-preserved
 loop-at-preserved c =
-    let same : take c.loop-at.tallies.len (c.read.new.tallies ++ drop (length c.read.new.tallies) c.loop-at.tallies.items) ≡ c.read.new.tallies =
-    written c.loop-at.tallies.items c.read.new.tallies c.loop-at.tallies.len c.loop-at.tallies.ok.0
-    (c.read.auto.tallies ∙ ap (λ (ts : List Tally). length ts) c.deref_mut.ensures.value) in
+    let same : take c.loop-at.tallies.len (c.scan_back_over.new.tallies ++ drop (length c.scan_back_over.new.tallies) c.loop-at.tallies.items) ≡ c.scan_back_over.new.tallies =
+    written c.loop-at.tallies.items c.scan_back_over.new.tallies c.loop-at.tallies.len c.loop-at.tallies.ok.0
+    (c.scan_back_over.auto.tallies ∙ ap (λ (ts : List Tally). length ts) c.deref_mut.ensures.value) in
     rw same (
-      c.read.ensures (history c.args.events.now) (history (take (c.loop-at.at - 1) c.args.events.now)) (c.loop-at.at - 1)
+      c.scan_back_over.ensures (history c.args.events.now) (history (take (c.loop-at.at - 1) c.args.events.now)) (c.loop-at.at - 1)
           (rw c.deref_mut.ensures.value (one_back _ _ _ _ _ _ c.loop-at-test.true c.loop-at.auto.at c.loop-at.invariant.0)),
-      c.read.auto.tallies ∙ ap (λ (ts : List Tally). length ts) c.deref_mut.ensures.value ∙ c.loop-at.invariant.1,
+      c.scan_back_over.auto.tallies ∙ ap (λ (ts : List Tally). length ts) c.deref_mut.ensures.value ∙ c.loop-at.invariant.1,
     )
 
 pub returns : goal.returns

@@ -1,6 +1,6 @@
 use Rattle.std.proofs.Common.{◌≡◌, length, take}
 use Rattle.store_trace.specs.History.{history}
-use Rattle.crash_image.specs.Tallies.{AreTallies}
+use Rattle.crash_image.specs.FloorScan.{AreTallies}
 use Rattle.crash_image.proofs.bounds.line_bounds.Given as goal
 
 abbrev pub invariant-loop-at : goal.invariant-loop-at

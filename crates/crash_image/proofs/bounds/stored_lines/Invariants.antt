@@ -1,5 +1,5 @@
 use Rattle.std.proofs.Common.{◌≡◌, ◌++◌, drop}
-use Rattle.crash_image.specs.Tallies.{bounds_from}
+use Rattle.crash_image.specs.FloorScan.{bounds_from}
 use Rattle.crash_image.proofs.bounds.stored_lines.Given as goal
 
 abbrev pub invariant-loop-line : goal.invariant-loop-line

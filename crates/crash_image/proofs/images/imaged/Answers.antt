@@ -3,21 +3,21 @@ use Rattle.std.proofs.lemmas.List.{take_all}
 use Rattle.crash_image.proofs.Slices.{written}
 use Rattle.crash_model.specs.Cut.{number_in}
 use Rattle.crash_model.specs.declared.step.PersistenceStep.{PersistenceStep}
-use Rattle.crash_image.specs.Imaging.{IsImaged}
+use Rattle.crash_image.specs.ImageScan.{IsImaged}
 use Rattle.crash_image.proofs.Imaged.{imaged_all, imaged_none}
 use Rattle.crash_image.proofs.Stored.{history_more}
 use Rattle.crash_image.proofs.images.imaged.Goals as goal
 
 pub loop-event-preserved : goal.loop-event-preserved
 loop-event-preserved c =
-    let same : take c.loop-event.left.len (c.make.new.left ++ drop (length c.make.new.left) c.loop-event.left.items) ≡ c.make.new.left =
-    written c.loop-event.left.items c.make.new.left c.loop-event.left.len c.loop-event.left.ok.0
-    (c.make.auto.left ∙ ap (λ (ns : List ℕ). length ns) c.deref_mut.ensures.value) in
+    let same : take c.loop-event.left.len (c.apply_if_due.new.left ++ drop (length c.apply_if_due.new.left) c.loop-event.left.items) ≡ c.apply_if_due.new.left =
+    written c.loop-event.left.items c.apply_if_due.new.left c.loop-event.left.len c.loop-event.left.ok.0
+    (c.apply_if_due.auto.left ∙ ap (λ (ns : List ℕ). length ns) c.deref_mut.ensures.value) in
     rw same (
-      subst (λ (p : List PersistenceStep). IsImaged c.args.medium.now (number_in c.args.entries.now) p c.make.new.left c.make.new.medium)
+      subst (λ (p : List PersistenceStep). IsImaged c.args.medium.now (number_in c.args.entries.now) p c.apply_if_due.new.left c.apply_if_due.new.medium)
           (sym (history_more c.args.events.now c.loop-event.event-index _ c.loop-event-test.true))
-          (c.make.ensures.image _ _ _ (rw c.deref_mut.ensures.value c.loop-event.invariant.0)),
-      c.make.ensures.whole,
+          (c.apply_if_due.ensures.image _ _ _ (rw c.deref_mut.ensures.value c.loop-event.invariant.0)),
+      c.apply_if_due.ensures.whole,
     )
 
 pub returns-clause-ok : goal.returns-clause-ok
@@ -33,9 +33,9 @@ loop-event-init c = (
   c.in_ok-made.ensures.whole,
 )
 
-pub make-requires-clause-named : goal.make-requires-clause-named
-make-requires-clause-named c = rw c.loop-event.invariant.0.size (c.requires.named c.loop-event.event-index _ c.loop-event-test.true)
+pub apply_if_due-requires-clause-named : goal.apply_if_due-requires-clause-named
+apply_if_due-requires-clause-named c = rw c.loop-event.invariant.0.size (c.requires.named c.loop-event.event-index _ c.loop-event-test.true)
 
-pub make-requires-clause-counts : goal.make-requires-clause-counts
-make-requires-clause-counts c =
+pub apply_if_due-requires-clause-counts : goal.apply_if_due-requires-clause-counts
+apply_if_due-requires-clause-counts c =
     ap (λ (ns : List ℕ). length ns) c.deref_mut.ensures.value ∙ c.loop-event.invariant.0.counts ∙ sym c.loop-event.invariant.0.size

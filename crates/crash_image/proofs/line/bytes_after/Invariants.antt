@@ -1,5 +1,5 @@
 use Rattle.std.proofs.Common.{take}
-use Rattle.crash_image.specs.Imaging.{IsLineMade}
+use Rattle.crash_image.specs.ImageScan.{IsLineMade}
 use Rattle.store_trace.specs.History.{history}
 use Rattle.crash_image.proofs.line.bytes_after.Given as goal
 

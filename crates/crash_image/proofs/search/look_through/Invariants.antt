@@ -1,5 +1,5 @@
 use Rattle.std.proofs.Common.{ℕ, [], take}
-use Rattle.crash_image.specs.Sought.{AreSought}
+use Rattle.crash_image.specs.LeastCut.{AreSought}
 use Rattle.line_memory.specs.Lines.{IsMedium}
 use Rattle.store_trace.specs.History.{history}
 use Rattle.crash_image.proofs.search.look_through.Given as goal

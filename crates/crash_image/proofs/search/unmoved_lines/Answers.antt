@@ -1,6 +1,6 @@
 use Rattle.std.proofs.Common.{◌≡◌, ℕ, [], length, refl, get_or, arith}
 use Rattle.line_memory.specs.Lines.{line_at}
-use Rattle.crash_image.specs.Sought.{IsSought}
+use Rattle.crash_image.specs.LeastCut.{IsSought}
 use Rattle.crash_image.specs.declared.search.Sought.{Sought}
 use Rattle.crash_image.proofs.Slices.{one_more}
 use Rattle.crash_image.proofs.search.unmoved_lines.Goals as goal
@@ -19,6 +19,6 @@ returns c = λ low given.
     record {
       lines = refl;
       size = omega (arith, all, c.loop-line.invariant.0);
-      stands = λ l h. refl;
+      represents = λ l h. refl;
       each = λ l d h. rw (given l 0 h) at (c.loop-line.invariant.1 l d (omega (arith, all, h)));
     }

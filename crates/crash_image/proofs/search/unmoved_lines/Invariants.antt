@@ -1,7 +1,7 @@
 use Rattle.std.proofs.Common.{◌≡◌, ℕ, ◌<◌, [], length}
 use Rattle.std.specs.Prelude.{slice_index_or}
 use Rattle.line_memory.specs.Lines.{line_at}
-use Rattle.crash_image.specs.Sought.{IsSought}
+use Rattle.crash_image.specs.LeastCut.{IsSought}
 use Rattle.crash_image.specs.declared.search.Sought.{Sought}
 use Rattle.crash_image.proofs.search.unmoved_lines.Given as goal
 

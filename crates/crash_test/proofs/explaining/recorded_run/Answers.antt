@@ -10,10 +10,10 @@ returns-in-Err-clause-err c =
     stops_recording _ c.args.schedule.now c.in-Err.stop
     (λ outside.
     let e = c.in-Err.ensures.harts outside in
-    let same : c.in-Err.stop ≡ record { item = 0; steps = 0; fault = NoSuchHart } = cc in
+    let same : c.in-Err.stop ≡ record { place = record { item = 0; steps = 0 }; fault = NoSuchHart } = cc in
     ap (λ (stop : RunStop). stop.fault) same)
     (λ within outside.
     let e = (rw count at c.in-Err.ensures.limits) within outside in
-    let same : c.in-Err.stop ≡ record { item = 0; steps = 0; fault = OutOfLimits } = cc in
+    let same : c.in-Err.stop ≡ record { place = record { item = 0; steps = 0 }; fault = OutOfLimits } = cc in
     ap (λ (stop : RunStop). stop.fault) same)
     (rw count at c.in-Err.ensures.err)

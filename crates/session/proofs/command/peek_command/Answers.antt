@@ -1,6 +1,6 @@
 use Rattle.std.proofs.Common.{refl}
 use Rattle.session.specs.Grammar.{peeks}
-use Rattle.session.specs.declared.numbers.Number.TheVariants.{Large}
+use Rattle.text.specs.declared.numbers.Number.TheVariants.{Large}
 use Rattle.session.proofs.command.peek_command.Goals as goal
 
 pub returns-in-Some-Large-default-clause-err : goal.returns-in-Some-Large-default-clause-err

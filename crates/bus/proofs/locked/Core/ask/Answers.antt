@@ -29,8 +29,8 @@ invariant_of-self-2 c =
       asked_kept _ _ c.self.inside.history.items c.add_entry.new.history.items _ c.request.new.self c.self.inside.harts c.args.hart c.args.request c.in_ok-reply.reply
           there i.4 i.0 serves added,
       asked_below c.self.inside.harts c.self.inside.history.items c.add_entry.new.history.items c.args.hart c.args.request c.in_ok-reply.reply there i.1 added,
-      serves.steps.sizes.lines ∙ i.2,
-      serves.steps.sizes.capacity ∙ i.3,
+      serves.steps.1.sizes.lines ∙ i.2,
+      serves.steps.1.sizes.capacity ∙ i.3,
       i.4,
       c.request.ensures.limit,
       asked_lines _ c.self.inside.history.items c.add_entry.new.history.items c.args.hart c.args.request c.in_ok-reply.reply i.6 added,

@@ -2,8 +2,8 @@ use Rattle.std.proofs.Common.{Some, None}
 use Rattle.crash_image.proofs.Least.{floors_below, least_cut_at}
 use Rattle.crash_image.proofs.cuts.Cuts.find_from.Goals as goal
 
-pub least-requires-clause-floors : goal.least-requires-clause-floors
-least-requires-clause-floors c = floors_below c.self.inside.medium.now c.self.inside.events.now c.args.self.now c.args.floors.now c.self.invariant.2 c.self.view_is c.requires.floors
+pub find_least-requires-clause-floors : goal.find_least-requires-clause-floors
+find_least-requires-clause-floors c = floors_below c.self.inside.medium.now c.self.inside.events.now c.args.self.now c.args.floors.now c.self.invariant.2 c.self.view_is c.requires.floors
 
 pub returns-in-Some-clause-ok : goal.returns-in-Some-clause-ok
 returns-in-Some-clause-ok c =

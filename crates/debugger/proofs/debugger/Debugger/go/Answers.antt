@@ -1,29 +1,38 @@
-use Rattle.std.proofs.Common.{arith}
-use Rattle.debugger.proofs.Ends.{goes_to_end, gone_further, held_within, stops_within}
+use Rattle.debugger.proofs.Ends.{first_refused, first_stops, goes_to_end, later_refused, later_stops, nothing_left}
 use Rattle.debugger.proofs.debugger.Debugger.go.Goals as goal
 
-pub returns-in-Ok-Some-clause-ok : goal.returns-in-Ok-Some-clause-ok
-returns-in-Ok-Some-clause-ok c =
-    rw (← c.items-items.ensures, c.stop_at.ensures)
-    (stops_within c.args.self.now c.loop-index.self c.go_on.new.self c.items-items.result.now c.args.from c.loop-index.index c.loop-index.steps
-    c.loop-index.moved c.equal_steps-step.result.0 c.equal_steps-step.result.1 c.in-Ok-Some.stop c.equal_steps-step.ensures
-    c.loop-index.invariant c.go_on.ensures.points (rw c.in-Ok-Some.field-0-is at c.in-Ok-Some.ensures.ok))
+pub returns-in_default-clause-ok : goal.returns-in_default-clause-ok
+returns-in_default-clause-ok c =
+    rw c.end_of.ensures (nothing_left c.args.self.now c.args.schedule.now c.args.from c.in_default.ensures.next)
+
+pub returns-in-Err-clause-ok : goal.returns-in-Err-clause-ok
+returns-in-Err-clause-ok c =
+    rw c.ended.ensures
+    (first_stops c.args.self.now c.args.schedule.now c.args.from c.in-Some.at c.in-Some.first c.in-Some.ensures.next.0 c.in-Some.ensures.next.1
+    c.make.new.self c.in-Err.halt c.in-Err.ensures.err)
 
 pub returns-in-Err-clause-err : goal.returns-in-Err-clause-err
 returns-in-Err-clause-err c =
-    rw (← c.items-items.ensures, c.held_at.ensures)
-    (held_within c.args.self.now c.loop-index.self c.go_on.new.self c.items-items.result.now c.args.from c.loop-index.index c.loop-index.steps
-    c.loop-index.moved c.equal_steps-step.result.0 c.equal_steps-step.result.1 c.in-Err.held c.equal_steps-step.ensures
-    c.loop-index.invariant c.go_on.ensures.points c.in-Err.ensures.err)
+    rw c.ended.ensures
+    (first_refused c.args.self.now c.args.schedule.now c.args.from c.in-Some.at c.in-Some.first c.in-Some.ensures.next.0 c.in-Some.ensures.next.1
+    c.make.new.self c.in-Err.halt c.in-Err.ensures.err)
 
-pub loop-index-preserved : goal.loop-index-preserved
-loop-index-preserved c =
-    gone_further c.args.self.now c.loop-index.self c.go_on.new.self c.items-items.result.now c.args.from c.loop-index.index c.loop-index.steps
-    c.loop-index.moved c.has_moved-moved.result c.equal_steps-step.result.0 c.equal_steps-step.result.1 c.equal_steps-step.ensures
-    c.loop-index.invariant c.go_on.ensures.points (rw c.in-Ok-None.field-0-is at c.in-Ok-None.ensures.ok) c.has_moved-moved.ensures
+pub returns-in-Ok-clause-ok : goal.returns-in-Ok-clause-ok
+returns-in-Ok-clause-ok c =
+    rw c.end_of-in-Ok.ensures
+    (goes_to_end c.args.self.now c.args.schedule.now c.args.from c.in-Some.at c.in-Some.first c.in-Some.ensures.next.0 c.in-Some.ensures.next.1
+    c.make.new.self c.in_default-make.ensures.ok c.walk.new.stepper (rw c.behind.ensures at c.in-Ok.ensures.ok))
 
-pub returns-clause-ok : goal.returns-clause-ok
-returns-clause-ok c =
-    rw (← c.items-items.ensures)
-    (goes_to_end c.args.self.now c.loop-index.self c.items-items.result.now c.args.from c.loop-index.index c.loop-index.steps c.loop-index.moved
-    (omega arith) c.loop-index.invariant)
+pub returns-in-Err-walk-clause-ok : goal.returns-in-Err-walk-clause-ok
+returns-in-Err-walk-clause-ok c =
+    rw c.ended-in-Err-walk.ensures
+    (later_stops c.args.self.now c.args.schedule.now c.args.from c.in-Some.at c.in-Some.first c.in-Some.ensures.next.0 c.in-Some.ensures.next.1
+    c.make.new.self c.in_default-make.ensures.ok c.walk.new.stepper c.in-Err-walk.halted.place c.in-Err-walk.halted.halt
+    (rw c.behind.ensures at c.in-Err-walk.ensures.err))
+
+pub returns-in-Err-walk-clause-err : goal.returns-in-Err-walk-clause-err
+returns-in-Err-walk-clause-err c =
+    rw c.ended-in-Err-walk.ensures
+    (later_refused c.args.self.now c.args.schedule.now c.args.from c.in-Some.at c.in-Some.first c.in-Some.ensures.next.0 c.in-Some.ensures.next.1
+    c.make.new.self c.in_default-make.ensures.ok c.walk.new.stepper c.in-Err-walk.halted.place c.in-Err-walk.halted.halt
+    (rw c.behind.ensures at c.in-Err-walk.ensures.err))

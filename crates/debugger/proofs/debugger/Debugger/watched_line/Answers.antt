@@ -1,5 +1,5 @@
 use Rattle.std.proofs.Common.{◌≡◌, false, slice_get}
-use Rattle.machine.specs.Stands.{copy_of}
+use Rattle.machine.specs.Represents.{copy_of}
 use Rattle.debugger.specs.Points.{has_watch}
 use Rattle.debugger.proofs.Watching.{unwatched_line}
 use Rattle.debugger.proofs.debugger.Debugger.watched_line.Goals as goal

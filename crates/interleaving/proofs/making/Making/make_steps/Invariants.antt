@@ -1,5 +1,5 @@
 use Rattle.std.proofs.Common.{◌≡◌, ◌+◌, replicate, slice_get}
-use Rattle.machine.specs.Stands.{IsRunning}
+use Rattle.machine.specs.Represents.{IsRunning}
 use Rattle.schedule.specs.declared.items.Step.TheVariants.{Hart}
 use Rattle.interleaving.specs.Making.{Continues}
 use Rattle.interleaving.proofs.making.Making.make_steps.Given as goal

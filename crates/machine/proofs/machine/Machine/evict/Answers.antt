@@ -1,5 +1,5 @@
 use Rattle.std.proofs.Common.{ap, refl}
-use Rattle.machine.specs.Stands.{MachineView}
+use Rattle.machine.specs.Represents.{MachineView}
 use Rattle.machine.proofs.Stepping.{evicts}
 use Rattle.machine.proofs.machine.Machine.evict.Goals as goal
 

@@ -3,7 +3,7 @@ use Rattle.std.proofs.lemmas.Option.{slice_get_within}
 use Rattle.hart.specs.declared.state.Status.TheVariants.{Running, Trapped}
 use Rattle.schedule.specs.declared.items.Step.TheVariants.{Hart}
 use Rattle.machine.specs.Refusals.{Refuses}
-use Rattle.machine.specs.Stands.{MachineView}
+use Rattle.machine.specs.Represents.{MachineView}
 use Rattle.machine.proofs.Refusing.{longer, refused_with_request, silent_alone, silent_trap}
 use Rattle.machine.proofs.Stepping.{goes_on_alone, goes_on_answered, outcome_made, put_there, traps}
 use Rattle.machine.proofs.machine.Machine.execute.Goals.{in-Done, in-Stop, in-Ask+in_ok-ask-in-Ask}

@@ -1,5 +1,5 @@
 use Rattle.std.proofs.Common.{ap}
-use Rattle.machine.specs.Stands.{MachineView}
+use Rattle.machine.specs.Represents.{MachineView}
 use Rattle.machine.proofs.machine.Machine.power_cut.Goals as goal
 
 pub returns-clause-cut : goal.returns-clause-cut

@@ -3,8 +3,8 @@ use Rattle.recovery.specs.World.{WorldView}
 use Rattle.recovery.proofs.Resting.{begins}
 use Rattle.recovery.proofs.engine.Engine.begin.Goals as goal
 
-pub returns-clause-stands : goal.returns-clause-stands
-returns-clause-stands g c =
+pub returns-clause-represents : goal.returns-clause-represents
+returns-clause-represents g c =
     begins c.args.self.now (record { world = c.begin.new.self; text = c.args.self.now.text; hart = c.start-self.result }) (g.S.Source.medium c.args.image.now)
     c.requires.rest c.start-self.ensures refl (ap (λ (w : WorldView). w.held) c.begin.ensures) (ap (λ (w : WorldView). w.reserved) c.begin.ensures)
     (ap (λ (w : WorldView). w.events) c.begin.ensures) (ap (λ (w : WorldView). w.loaded) c.begin.ensures)

@@ -7,7 +7,7 @@ use Rattle.recovery.proofs.routine.Routine.run.Goals as goal
 
 pub returns-clause-ok : goal.returns-clause-ok
 returns-clause-ok g c =
-    let stands = rw (ap (λ (r : RoutineView). r.program) c.self.view_is) at c.begin.ensures.stands in
+    let stands = rw (ap (λ (r : RoutineView). r.program) c.self.view_is) at c.begin.ensures.represents in
     IfOk-weaker c.recover-found.result
     (Comes c.begin.new.self c.recover-found.new.self (g.S.Source.medium c.args.image.now) c.args.steps)
     (Recovers c.args.self.now.program (g.S.Source.medium c.args.image.now) c.args.steps c.set_back.new.self.world.loaded)

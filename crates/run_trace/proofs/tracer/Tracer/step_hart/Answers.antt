@@ -1,4 +1,5 @@
 use Rattle.std.proofs.Common.{refl, length}
+use Rattle.std.proofs.Math.Nat.{mod-eq_of_lt}
 use Rattle.std.proofs.lemmas.Result.{on_ok_weaker}
 use Rattle.run_trace.proofs.Tracing.{continues_event, continues_silent, item_there, past_item}
 use Rattle.run_trace.proofs.tracer.Tracer.step_hart.Goals as goal
@@ -7,12 +8,12 @@ pub returns-in-Some-clause-ok : goal.returns-in-Some-clause-ok
 returns-in-Some-clause-ok c =
     let got = item_there c.events.result.now (length c.events-before.result.now) c.in-Some.event c.in-Some.ensures.lookup in
     rw (← c.self.view_is) (on_ok_weaker c.push_traced.result
-    (continues_event _ _ c.args.hart c.hart.result.now _ c.in_default.ensures.runs c.hart.ensures refl refl refl
-    (rw (c.events-before.ensures.value, c.events.ensures.value) at got))
+    (λ traced few. continues_event _ _ c.args.hart c.hart.result.now _ c.in_default.ensures.runs c.hart.ensures refl (mod-eq_of_lt few) (mod-eq_of_lt few)
+    (rw (c.events-before.ensures.value, c.events.ensures.value) at got) traced)
     c.push_traced.ensures.ok)
 
 pub returns-in-None-clause-ok : goal.returns-in-None-clause-ok
 returns-in-None-clause-ok c =
-    let few = past_item c.events.result.now (length c.events-before.result.now) c.in-None.ensures.lookup in
-    rw (← c.self.view_is) (continues_silent _ _ c.args.hart c.in_default.ensures.runs refl
-    (rw (c.events-before.ensures.value, c.events.ensures.value) at few) refl)
+    let past = past_item c.events.result.now (length c.events-before.result.now) c.in-None.ensures.lookup in
+    rw (← c.self.view_is) (λ few. continues_silent _ _ c.args.hart c.in_default.ensures.runs (mod-eq_of_lt few)
+    (rw (c.events-before.ensures.value, c.events.ensures.value) at past) refl)

@@ -1,17 +1,17 @@
-use Rattle.std.proofs.Common.{[], refl, ap}
+use Rattle.std.proofs.Common.{[], refl, ap, arith}
 use Rattle.clean_fence.specs.Rules.{PmView}
 use Rattle.shared_memory.proofs.Reserving.{lines_agree}
 use Rattle.shared_memory.proofs.shared.Shared.made.Goals as goal
 
 pub returns-clause-ok : goal.returns-clause-ok
 returns-clause-ok c =
-    let capacity = ap (λ (v : PmView). v.cache.capacity) c.in_ok-cache.ensures.made in
+    let capacity = ap (λ (v : PmView). v.cache.capacity) c.in-Ok-new.ensures.made in
     record {
-      memory = rw (c.in-Ok.ensures.ok, c.text_bytes.ensures.text, c.data_bytes.ensures.static_data, c.in_ok-cache.ensures.memory) refl;
+      memory = rw (c.in-Ok.ensures.ok, c.text_bytes.ensures.text, c.data_bytes.ensures.static_data, c.in-Ok-new.ensures.memory) refl;
       replays = refl;
-      reserved = lines_agree c.new.result [] c.new.ensures;
-      trace = c.new-2.ensures;
+      reserved = lines_agree c.new-2.result [] c.new-2.ensures;
+      trace = c.new-3.ensures;
       steps = refl;
-      cached = record { steps = []; others = refl; stands = c.in_ok-cache.ensures.stands };
-      unforced = λ lines few among. c.in_ok-cache.ensures.unforced lines (rw capacity at few);
+      cached = record { steps = []; others = refl; represents = (c.in-Ok-new.ensures.represents [] (omega arith)).represents };
+      unforced = λ lines few among. c.in-Ok-new.ensures.represents lines (rw capacity at few);
     }

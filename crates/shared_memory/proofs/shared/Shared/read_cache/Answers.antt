@@ -12,7 +12,7 @@ returns-clause-value c =
 pub returns-clause-reads : goal.returns-clause-reads
 returns-clause-reads c =
     let cache = ap (λ (s : SharedView). s.cache) c.self.view_is in
-    read_in_lines c.args.self.now _ c.args.address c.args.offset c.requires.place.place
+    read_in_lines c.args.self.now _ c.args.address c.args.offset _ c.requires.place.place
     (ap (λ (s : SharedView). s.ram) c.self.view_is) (ap (λ (s : SharedView). s.reserved) c.self.view_is)
     (ap (λ (s : SharedView). s.trace) c.self.view_is)
     (rw cache at c.load.ensures.memory) (rw cache at c.load.ensures.changed) (rw cache at c.load.ensures.steps)

@@ -8,7 +8,7 @@ returns-clause-ok c =
     let opened = c.self.view_is ∙ c.in_ok-note.ensures.ok in
     let cache = ap (λ (s : SharedView). s.cache) opened in
     let trace = ap (λ (s : SharedView). s.trace) opened in
-    written_in_lines c.args.self.now _ c.args.hart c.args.address c.args.width c.args.offset c.args.value c.requires.place.place
+    written_in_lines c.args.self.now _ c.args.hart c.args.address c.args.width c.args.offset c.args.value _ c.requires.place.place
     (ap (λ (s : SharedView). s.ram) opened) (rw c.store_event.ensures at trace)
     (rw cache at c.store.ensures.bytes) (rw cache at c.store.ensures.changed) (rw cache at c.store.ensures.steps)
     (stored_more c.args.self.now.reserved (reserved_lines c.stored.new.self 0 8) c.self.inside.reservations c.stored.new.self c.args.hart

@@ -1,0 +1,52 @@
+-- Each step in its turn.
+use Rattle.std.proofs.Common.{Ok, Err, refl, rules}
+use Rattle.command_line.proofs.judge.open_judge.Goals as goal
+
+pub returns-clause-opens : goal.returns-clause-opens
+returns-clause-opens g c = record {
+  found = Ok c.in_ok-run.run';
+  between = c.read_run.new.files;
+  first = rw c.in_ok-run.was at c.read_run.ensures.reads;
+  after = record {
+    found = Ok c.in_ok-recovery.recovery;
+    between = c.read_recovery.new.files;
+    first = rw (c.in_ok-recovery.was, c.as_str.ensures.value) at c.read_recovery.ensures;
+    after = record {
+      found = Ok tt;
+      between = c.read_recovery.new.files;
+      first = record { value = rw c.in_ok-demand_whole.was at c.demand_whole.ensures; untouched = refl };
+      after = record { value = record { opens = (refl, refl, refl) }; untouched = refl };
+    };
+  };
+}
+
+pub returns-in_err-demand_whole-clause-opens : goal.returns-in_err-demand_whole-clause-opens
+returns-in_err-demand_whole-clause-opens g c = record {
+  found = Ok c.in_ok-run.run';
+  between = c.read_run.new.files;
+  first = rw c.in_ok-run.was at c.read_run.ensures.reads;
+  after = record {
+    found = Ok c.in_ok-recovery.recovery;
+    between = c.read_recovery.new.files;
+    first = rw (c.in_ok-recovery.was, c.as_str.ensures.value) at c.read_recovery.ensures;
+    after = record {
+      found = Err c.in_err-demand_whole.field-0.0;
+      between = c.read_recovery.new.files;
+      first = record { value = rw c.in_err-demand_whole.was at c.demand_whole.ensures; untouched = refl };
+      after = (search rules, refl);
+    };
+  };
+}
+
+pub returns-in_err-recovery-clause-opens : goal.returns-in_err-recovery-clause-opens
+returns-in_err-recovery-clause-opens g c = record {
+  found = Ok c.in_ok-run.run';
+  between = c.read_run.new.files;
+  first = rw c.in_ok-run.was at c.read_run.ensures.reads;
+  after = record {
+    found = Err c.in_err-recovery.field-0.0;
+    between = c.read_recovery.new.files;
+    first = rw (c.in_err-recovery.was, c.as_str.ensures.value) at c.read_recovery.ensures;
+    after = (search rules, refl);
+  };
+}

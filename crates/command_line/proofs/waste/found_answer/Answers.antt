@@ -1,0 +1,13 @@
+-- The text by the line numbers of the file is that by its source's lines.
+use Rattle.std.specs.List.{zip}
+use Rattle.command_line.proofs.SourceLines.{waste_of_source}
+use Rattle.command_line.proofs.waste.found_answer.Goals as goal
+
+pub returns : goal.returns
+returns c =
+    record {
+      answer = (
+        rw c.of.ensures.text (waste_of_source c.args.json c.args.file.now c.in_ok-lines.lines (zip c.args.run.now.traced.items c.args.run.now.reasons.items) _ c.in_ok-lines.ensures c.in_ok-text.ensures),
+        c.of.ensures.status,
+      );
+    }

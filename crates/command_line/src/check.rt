@@ -1,0 +1,160 @@
+//! The command that checks a run.
+
+ghost use Rattle.std.specs.Prelude.{◌≡◌, ◌^◌, ◌<◌, IfOk, IfSome};
+ghost use Rattle.arguments.specs.Line.{IsWithin};
+ghost use Rattle.arguments.specs.Spans.{IsUpward};
+ghost use Rattle.command_line.specs.Checking.{IsOpen, JudgesCheck, JudgesOpen, OpensCheck, Watches, cause_text};
+ghost use Rattle.command_line.specs.Reasons.{Explains, ExplainsOne};
+ghost use Rattle.command_line.specs.Verdicts.{failing};
+ghost use Rattle.image_causes.specs.Told.{IsAsked};
+ghost use Rattle.schedule.specs.Grammar.{hart_steps};
+ghost use Rattle.command_line.specs.Reading.{setup_of};
+
+use crate::answer::Answer;
+use crate::codes::volume_code;
+use crate::failure::Failure;
+use crate::files::Files;
+use crate::opened::OpenCheck;
+use crate::reading::{RunFiles, read_plan, read_run};
+use crate::verdicts::{ToldCause, failing, verdict_answer};
+use crate::watched_check::watched_verdict;
+use crate::whole::demand_whole;
+use arguments::{CheckCommand, Moments};
+use crash_test::{check_moments, check_program};
+use image_check::{Cause, Verdict};
+use image_name::ImageName;
+use program_losses::{ExplainedImage, explain_losses};
+use std::alloc::{AllocError, Global};
+use std::io::Write;
+use std::thread::Threads;
+use std::time::Clock;
+
+/// `check`: reads the files of a plan, a program, a schedule and a medium, and with `--whole` demands that the run is whole.
+pub(crate) fn open_check<F: Files>(
+    alloc: Global,
+    command: CheckCommand,
+    files: &mut F,
+) -> Result<OpenCheck, Failure>
+    requires workers { IsWithin 1 8 command.workers }
+    requires moments { IfSome command.moments IsUpward }
+    ensures opens { OpensCheck F.read_gives command files.old result files.new }
+    ensures ready { IfOk result IsOpen }
+{
+    let plan = read_plan(alloc, command.plan.as_str(), files)?;
+    let run = read_run(alloc, &command.run, files)?;
+    demand_whole(alloc, &command.run, &run, plan.operations())?;
+    Ok(OpenCheck { command, plan, run })
+}
+
+/// Gives the verdict on a run, with `--why` also what a failing image lacks and keeps. With `--progress` standard error is told how far the
+/// check has come.
+pub(crate) fn judge_check<T: Threads + Sync + Clock, E: Write>(
+    rt: &T,
+    alloc: Global,
+    check: &OpenCheck,
+    errors: &mut E,
+) -> Result<Answer, Failure>
+    requires { IsOpen check.now }
+    ensures { JudgesCheck E.contents check.now errors.old result errors.new }
+{
+    let OpenCheck { command, run, .. } = check;
+    let verdict = verdict(rt, alloc, check, errors)?;
+    let why = why(alloc, command, run, &verdict)?;
+    verdict_answer(alloc, &run.file, &verdict, &why, command.json)
+}
+
+/// The verdict, told on the way or not.
+fn verdict<T: Threads + Sync + Clock, E: Write>(
+    rt: &T,
+    alloc: Global,
+    check: &OpenCheck,
+    errors: &mut E,
+) -> Result<Verdict<Cause>, Failure>
+    requires { IsOpen check.now }
+    ensures { Watches E.contents check.now errors.old result errors.new }
+{
+    if check.command.progress {
+        watched_verdict(rt, alloc, check, errors)
+    } else {
+        quiet_verdict(rt, alloc, check)
+    }
+}
+
+fn quiet_verdict<T: Threads + Sync>(
+    rt: &T,
+    alloc: Global,
+    check: &OpenCheck,
+) -> Result<Verdict<Cause>, Failure>
+    requires { IsOpen check.now }
+    ensures { JudgesOpen check.now result }
+{
+    let OpenCheck { command, plan, run } = check;
+    let harts = command.run.machine.harts;
+    let workers = command.workers;
+    let program = run.program.copy(alloc)?;
+    let medium = run.medium.copy(alloc)?;
+    let schedule = &run.schedule;
+    match command.moments {
+        Some(Moments { first, last }) => Ok(check_moments(
+            rt, alloc, plan, program, medium, harts, schedule, first, last, workers,
+        )?),
+        None => Ok(check_program(rt, alloc, plan, program, medium, harts, schedule, workers)?),
+    }
+}
+
+/// `--why`: of a failing image what it lacks and keeps, and how it comes about.
+fn why(
+    alloc: Global,
+    command: &CheckCommand,
+    run: &RunFiles,
+    verdict: &Verdict<Cause>,
+) -> Result<Option<ExplainedImage>, Failure>
+    requires { hart_steps run.now.schedule < 2 ^ 32 }
+    ensures told { Explains IsAsked (setup_of command.now.run run.now) run.now.schedule (failing command.now.why verdict.now) result }
+    ensures few { IfOk result (λ why. IfSome why (λ explained. hart_steps explained.schedule < 2 ^ 32)) }
+{
+    match failing(command.why, verdict) {
+        Some((moment, image)) => Ok(Some(explained(alloc, command, run, moment, image)?)),
+        None => Ok(None),
+    }
+}
+
+fn explained(
+    alloc: Global,
+    command: &CheckCommand,
+    run: &RunFiles,
+    moment: u32,
+    image: &ImageName,
+) -> Result<ExplainedImage, Failure>
+    requires { hart_steps run.now.schedule < 2 ^ 32 }
+    ensures told { ExplainsOne IsAsked (setup_of command.now.run run.now) run.now.schedule moment image.now result }
+    ensures few { IfOk result (λ explained. hart_steps explained.schedule < 2 ^ 32) }
+{
+    let harts = command.run.machine.harts;
+    let RunFiles {
+        program,
+        schedule,
+        medium,
+        ..
+    } = run;
+    Ok(explain_losses(alloc, program, medium, harts, schedule, moment, image)?)
+}
+
+impl ToldCause for Cause {
+    ghost use Rattle.command_line.specs.Checking.{cause_text};
+
+    ghost told = { cause_text };
+
+    fn text(self, alloc: Global) -> Result<String, AllocError> {
+        format!(in alloc; "{}", cause_text(self))
+    }
+}
+
+fn cause_text(cause: Cause) -> &'static str
+    ensures { result.now ≡ cause_text cause }
+{
+    match cause {
+        Cause::Fault(fault) => volume_code(fault),
+        Cause::Illegal => "illegal",
+    }
+}

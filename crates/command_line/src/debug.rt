@@ -1,0 +1,91 @@
+//! The command that debugs a program: its machine, and the session over the standard streams.
+
+ghost use Rattle.std.specs.Prelude.{◌≡◌, IfErr};
+ghost use Rattle.std.specs.Result.{result_map_both};
+ghost use Rattle.command_line.specs.Debugging.{FailsBy, HoldsSession, OpensFile, Starts};
+ghost use Rattle.command_line.specs.Failures.{failure_of_session};
+ghost use Rattle.command_line.specs.Running.{machine_of};
+
+use crate::failure::Failure;
+use crate::files::Files;
+use crate::reading::{read_medium, read_program};
+use crate::run::capacity;
+use crate::streams::{StandardInput, StandardOutput};
+use arguments::{DebugCommand, MachineOptions};
+use crash_test::start_program;
+use debugger::{DebugFault, Debugger};
+use line_memory::Medium;
+use machine::Machine;
+use program::Program;
+use session::session;
+use std::alloc::Global;
+use std::io::{Read, Write};
+
+/// `debug`: reads the files of a program and of a medium, and makes the machine of a session.
+pub(crate) fn open_file<F: Files>(
+    alloc: Global,
+    command: &DebugCommand,
+    files: &mut F,
+) -> Result<Machine, Failure>
+    ensures { OpensFile F.read_gives command.now files.old result files.new }
+{
+    let program = read_program(alloc, command.program.as_str(), files)?;
+    let medium = read_medium(alloc, &command.machine.medium, files)?;
+    start(alloc, &command.machine, program, medium)
+}
+
+/// The machine that the options ask for.
+pub(crate) fn start(
+    alloc: Global,
+    options: &MachineOptions,
+    program: Program,
+    medium: Medium,
+) -> Result<Machine, Failure>
+    ensures { Starts (machine_of options.now program medium) result }
+{
+    let capacity = capacity(options, &medium);
+    Ok(start_program(alloc, program, medium, options.harts, capacity)?)
+}
+
+/// Holds a session on a machine, and gives the status with which it ends: each command is answered on standard output
+/// before the next is asked for on standard input.
+pub(crate) fn hold_session<R: Read, W: Write>(
+    alloc: Global,
+    machine: Machine,
+    input: &mut R,
+    output: &mut W,
+) -> Result<u8, Failure>
+    ensures { HoldsSession machine (R.remaining input.old) (R.remaining input.new) (W.contents output.old) (W.contents output.new) result }
+{
+    let mut source = StandardInput { input, failures: 0 };
+    let mut sink = StandardOutput {
+        output,
+        failures: 0,
+    };
+    converse(alloc, machine, &mut source, &mut sink)
+}
+
+/// A session over standard input and standard output, whose failures are counted.
+fn converse<R: Read, W: Write>(
+    alloc: Global,
+    machine: Machine,
+    source: &mut StandardInput<R>,
+    sink: &mut StandardOutput<W>,
+) -> Result<u8, Failure>
+    ensures same { (source.new.input.ghost_name ≡ source.old.input.ghost_name) × (sink.new.output.ghost_name ≡ sink.old.output.ghost_name) }
+    ensures holds { HoldsSession machine (R.remaining source.old.input.now) (R.remaining source.new.input.now)
+        (W.contents sink.old.output.now) (W.contents sink.new.output.now) result }
+    ensures counts { IfErr result (FailsBy source.old.failures source.new.failures sink.old.failures sink.new.failures) }
+{
+    let mut debugger = Debugger::new(machine);
+    let held = session(alloc, &mut debugger, source, sink);
+    status_of(held)
+}
+
+/// The status with which a session ends, or the failure of its fault.
+fn status_of(held: Result<(), DebugFault>) -> Result<u8, Failure>
+    ensures { result ≡ result_map_both (λ _. 0) failure_of_session held }
+{
+    held?;
+    Ok(0)
+}

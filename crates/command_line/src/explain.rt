@@ -1,0 +1,66 @@
+//! The command that explains a crash image.
+
+ghost use Rattle.std.specs.Prelude.{◌<◌, ◌^◌, IfOk};
+ghost use Rattle.schedule.specs.Grammar.{hart_steps};
+ghost use Rattle.command_line.specs.Explaining.{Explained, ExplainsFile};
+ghost use Rattle.command_line.specs.Steps.{Prints};
+ghost use Rattle.command_line.specs.Writing.{schedule_line};
+ghost use Rattle.command_line.specs.Reading.{setup_of};
+
+use crate::answer::Answer;
+use crate::failure::Failure;
+use crate::files::Files;
+use crate::reading::{RunFiles, read_run};
+use crate::whole::demand_whole;
+use crate::writing::schedule_line;
+use arguments::ExplainCommand;
+use crash_test::explain_image;
+use schedule::Schedule;
+use std::alloc::Global;
+
+/// `explain`: reads the files of a program, a schedule and a medium, and gives the schedule that leaves one image of a moment
+/// of the run.
+pub(crate) fn explain_file<F: Files>(
+    alloc: Global,
+    command: &ExplainCommand,
+    files: &mut F,
+) -> Result<Answer, Failure>
+    ensures { ExplainsFile F.read_gives command.now files.old result files.new }
+{
+    let run = read_run(alloc, &command.run, files)?;
+    demand_whole(alloc, &command.run, &run, &[])?;
+    let explanation = explanation(alloc, run, command)?;
+    schedule_answer(alloc, &explanation)
+}
+
+fn explanation(alloc: Global, run: RunFiles, command: &ExplainCommand) -> Result<Schedule, Failure>
+    requires { hart_steps run.schedule < 2 ^ 32 }
+    ensures explained { Explained (setup_of command.now.run run) run.schedule command.now.moment command.now.image result }
+    ensures few { IfOk result (λ explanation. hart_steps explanation < 2 ^ 32) }
+{
+    let RunFiles {
+        program,
+        schedule,
+        medium,
+        ..
+    } = run;
+    let harts = command.run.machine.harts;
+    Ok(explain_image(
+        alloc,
+        program,
+        medium,
+        harts,
+        &schedule,
+        command.moment,
+        &command.image,
+    )?)
+}
+
+/// The line of a schedule.
+pub(crate) fn schedule_answer(alloc: Global, schedule: &Schedule) -> Result<Answer, Failure>
+    requires { hart_steps schedule.now < 2 ^ 32 }
+    ensures { Prints (schedule_line schedule.now) 0 result }
+{
+    let text = schedule_line(alloc, schedule)?;
+    Ok(Answer::of(text, 0))
+}

@@ -1,0 +1,85 @@
+//! The command that prints the events of a run.
+
+ghost use Rattle.command_line.specs.Reading.{setup_of};
+ghost use Rattle.command_line.specs.Steps.{Prints};
+ghost use Rattle.command_line.specs.Tracing.{Traced, TracesFile, told_events};
+ghost use Rattle.program_trace.specs.Lines.{line_of};
+ghost use Rattle.run_text.specs.Places.{line_in};
+ghost use Rattle.schedule.specs.Grammar.{hart_steps};
+ghost use Rattle.std.specs.Prelude.{◌≡◌, ◌^◌, ◌<◌, IfOk, string_bytes};
+ghost use Rattle.std.specs.Result.{result_map_both};
+ghost use Rattle.crash_test.specs.Programs.{IsProgramOf};
+ghost use Rattle.program.specs.Sections.{Sections};
+
+use crate::answer::Answer;
+use crate::failure::Failure;
+use crate::files::Files;
+use crate::reading::{RunFiles, read_run};
+use crate::whole::demand_whole;
+use arguments::{ReportCommand, ScheduledRun};
+use assemble::LineNumbers;
+use program_trace::{source_lines, trace_program};
+use run_text::{trace_json, trace_text};
+use run_trace::TracedEvent;
+use std::alloc::{AllocError, Global};
+
+/// `trace`: reads the files of a program, a schedule and a medium, and prints the events of the run, each with its hart step,
+/// the pc before it and its line in the source.
+pub(crate) fn trace_file<F: Files>(
+    alloc: Global,
+    command: &ReportCommand,
+    files: &mut F,
+) -> Result<Answer, Failure>
+    ensures { TracesFile F.read_gives command.now files.old result files.new }
+{
+    let run = read_run(alloc, &command.run, files)?;
+    demand_whole(alloc, &command.run, &run, &[])?;
+    let traced = traced(alloc, &command.run, &run)?;
+    trace_answer(alloc, &run.file, &traced, command.json)
+}
+
+fn traced(
+    alloc: Global,
+    command: &ScheduledRun,
+    run: &RunFiles,
+) -> Result<Vec<TracedEvent>, Failure>
+    requires { hart_steps run.now.schedule < 2 ^ 32 }
+    ensures { Traced (setup_of command.now run.now) run.now.schedule (result_map_both (λ traced. traced.items) (λ failure. failure) result) }
+{
+    let harts = command.machine.harts;
+    let program = run.program.copy(alloc)?;
+    let medium = run.medium.copy(alloc)?;
+    let events = trace_program(alloc, program, medium, harts, &run.schedule)?;
+    Ok(events.traced)
+}
+
+#[tactic(auto, using(crate::proofs::SourceLines::traced_of_source))]
+fn trace_answer(
+    alloc: Global,
+    file: &[u8],
+    traced: &[TracedEvent],
+    json: bool,
+) -> Result<Answer, Failure>
+    requires { (program : Sections) × IsProgramOf file.now program }
+    ensures { Prints (told_events json (line_of file.now) traced.now) 0 result }
+{
+    let lines = source_lines(alloc, file)?;
+    let text = told_events(alloc, traced, &lines, json)?;
+    Ok(Answer::of(text, 0))
+}
+
+/// The events of a run, as text or as JSON.
+fn told_events(
+    alloc: Global,
+    traced: &[TracedEvent],
+    lines: &Option<LineNumbers>,
+    json: bool,
+) -> Result<String, AllocError>
+    ensures { IfOk result (λ text. string_bytes text ≡ told_events json (line_in lines.now) traced.now) }
+{
+    if json {
+        trace_json(alloc, traced, lines)
+    } else {
+        trace_text(alloc, traced, lines)
+    }
+}

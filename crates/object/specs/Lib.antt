@@ -1,2 +1,0 @@
-pub mod ObjectFile
-pub mod Sections

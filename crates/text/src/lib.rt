@@ -1,0 +1,10 @@
+//! The words of a line, and the numbers that words write.
+#![tactic(auto)]
+
+mod numbers;
+#[cfg(test)]
+mod tests;
+mod words;
+
+pub use numbers::{Number, decimal, decimal_within, number_in, wide_decimal, written_number};
+pub use words::{Blanks, after_keyword, first_word, is_blank, only_word};
