@@ -5,11 +5,11 @@
 //! hexadecimal digits in either case. Spaces, tabs and comments, from `#` on, stand between tokens.
 #![tactic(auto)]
 
-ghost use Rattle.asm_lex.specs.Kinds.{are_tokens};
+ghost use Rattle.asm_lex.specs.Kinds.{are_tokens, kind_of, lexeme_of};
 ghost use Rattle.asm_lex.specs.Pieces.{pieces};
 ghost use Rattle.asm_lex.specs.Tokens.{AreTokensOf, IsFaultOf};
-ghost use Rattle.asm_lex.specs.declared.LexFault.TheVariants.{Memory};
-ghost use Rattle.std.specs.Prelude.{◌≡◌, true, IfErr, IfOk};
+ghost use Rattle.asm_lex.specs.declared.LexFault.TheVariants.{BadToken, Memory};
+ghost use Rattle.std.specs.Prelude.{◌≡◌, Some, false, true, map, IfErr, IfOk, OnOk};
 
 mod kinds;
 mod lines;
@@ -75,19 +75,18 @@ fn are_tokens(source: &[u8]) -> bool
     true
 }
 
-/// The tokens of a line of which each piece is one.
+/// The tokens of a line. Memory may be told of a line with a bad token, too, which stands behind what was found.
 #[tactic(auto, using(crate::proofs::Lexing::lexed_start, crate::proofs::Lexing::lexed_all))]
 fn collect<'a>(alloc: Global, source: &'a [u8], line: u32) -> Result<Vec<Token<'a>>, LexFault>
-    requires { are_tokens (pieces source.now) ≡ true }
     ensures found { IfOk result (λ found. AreTokensOf source.now line found.items) }
-    ensures fault { IfErr result (λ fault. fault ≡ LexFault.Memory) }
+    ensures bad { IfErr result (λ fault. fault ≡ BadToken → are_tokens (pieces source.now) ≡ false) }
 {
     let mut found = Vec::new(alloc);
     let mut at = 0;
     while let Some((start, end)) = next_piece(source, at) {
         let text = &source[start..end];
         let Some(kind) = kind_of(text) else {
-            unreachable!();
+            return Err(LexFault::BadToken);
         };
         found.push(Token {
             text,
@@ -109,9 +108,43 @@ pub fn tokens<'a>(alloc: Global, source: &'a [u8], line: u32) -> Result<Vec<Toke
     ensures found { IfOk result (λ found. AreTokensOf source.now line found.items) }
     ensures fault { IfErr result (IsFaultOf source.now) }
 {
-    // Looked for before anything grows, so that a bad token is never told as want of memory.
-    if !are_tokens(source) {
-        return Err(LexFault::BadToken);
+    let found = collect(alloc, source, line);
+    match found {
+        // The rest of the line is looked at, so that a bad token is never told as want of memory.
+        Err(LexFault::Memory) if !are_tokens(source) => Err(LexFault::BadToken),
+        _ => found,
     }
-    collect(alloc, source, line)
+}
+
+/// What the pieces of a line are, each a token. Memory may be told of a line with a bad token, too, which stands behind what was found.
+#[tactic(auto, using(crate::proofs::KindLists::kinds_start, crate::proofs::KindLists::kinds_all, crate::proofs::KindLists::all_tokens))]
+fn collect_kinds<'a>(alloc: Global, source: &'a [u8]) -> Result<Vec<Kind<'a>>, LexFault>
+    ensures found { IfOk result (λ found. map kind_of (pieces source.now) ≡ map (λ kind. Some (lexeme_of kind)) found.items) }
+    ensures tokens { OnOk result (are_tokens (pieces source.now) ≡ true) }
+    ensures bad { IfErr result (λ fault. fault ≡ BadToken → are_tokens (pieces source.now) ≡ false) }
+{
+    let mut found = Vec::new(alloc);
+    let mut at = 0;
+    while let Some((start, end)) = next_piece(source, at) {
+        let Some(kind) = kind_of(&source[start..end]) else {
+            return Err(LexFault::BadToken);
+        };
+        found.push(kind)?;
+        at = end;
+    }
+    Ok(found)
+}
+
+/// What the tokens of one line are, as [`tokens`] gives them, without their places.
+pub fn token_kinds<'a>(alloc: Global, source: &'a [u8]) -> Result<Vec<Kind<'a>>, LexFault>
+    ensures found { IfOk result (λ found. map kind_of (pieces source.now) ≡ map (λ kind. Some (lexeme_of kind)) found.items) }
+    ensures tokens { OnOk result (are_tokens (pieces source.now) ≡ true) }
+    ensures fault { IfErr result (IsFaultOf source.now) }
+{
+    let found = collect_kinds(alloc, source);
+    match found {
+        // The rest of the line is looked at, so that a bad token is never told as want of memory.
+        Err(LexFault::Memory) if !are_tokens(source) => Err(LexFault::BadToken),
+        _ => found,
+    }
 }

@@ -4,8 +4,8 @@ use Rattle.std.specs.Prelude.{Some, None, Option, is_some, true}
 use Rattle.std.specs.List.{list_all}
 use Rattle.asm_lex.specs.Pieces.{pieces}
 use Rattle.asm_lex.specs.Kinds.{Lexeme, kind_of, lexeme_of, are_tokens}
-use Rattle.asm_lex.specs.Tokens.{text_of, AreTokensOf, IsFaultOf}
-use Rattle.asm_lex.specs.declared.Token.{Token}
+use Rattle.asm_lex.specs.Tokens.{IsFaultOf}
+use Rattle.asm_lex.specs.declared.Kind.{Kind}
 use Rattle.asm_line.specs.declared.fault.AsmCode.TheVariants as codes
 use Rattle.asm_lex.specs.declared.LexFault.{LexFault}
 use Rattle.asm_lex.specs.declared.LexFault.TheVariants.{BadToken, Memory}
@@ -14,16 +14,19 @@ use Rattle.asm_line.specs.Lexemes.{lexemes_of, with_lexeme}
 use Rattle.asm_line.specs.Lines.{lexemes_line, line_of}
 use Rattle.asm_line.specs.Steps.{all_seen}
 
--- the lexemes of tokens
-lexemes_along : (ts : List Token) → ((k : ℕ) (d : Token) → k < length ts → kind_of (text_of (get_or ts k d)) ≡ Some (lexeme_of (get_or ts k d).kind)) → lexemes_of (map text_of ts) ≡ Some (all_seen (map (λ (u : Token). u.kind) ts))
-lexemes_along [] h = refl
-lexemes_along (t ∷ ts) h = rw (h 0 t (omega arith), lexemes_along ts (λ k d lt. h (suc k) d (omega arith))) refl
+-- the lexemes of pieces by their kinds
+lexemes_along : (ps : List (List ℕ)) (ks : List Kind) → map kind_of ps ≡ map (λ (k : Kind). Some (lexeme_of k)) ks → lexemes_of ps ≡ Some (all_seen ks)
+lexemes_along [] [] same = refl
+lexemes_along [] (k ∷ ks) same = absurd (cc)
+lexemes_along (p ∷ ps) [] same = absurd (cc)
+lexemes_along (p ∷ ps) (k ∷ ks) same =
+    let first : kind_of p ≡ Some (lexeme_of k) = cc in
+    let rest : map kind_of ps ≡ map (λ (j : Kind). Some (lexeme_of j)) ks = cc in
+    rw (first, lexemes_along ps ks rest) refl
 
-pub line_of_tokens : (line : List ℕ) (number : ℕ) (ts : List Token) → AreTokensOf line number ts → line_of line ≡ lexemes_line (all_seen (map (λ (u : Token). u.kind) ts))
+pub line_of_kinds : (line : List ℕ) (ks : List Kind) → map kind_of (pieces line) ≡ map (λ (k : Kind). Some (lexeme_of k)) ks → line_of line ≡ lexemes_line (all_seen ks)
 unfolding line_of
-line_of_tokens line number ts tokens =
-    let found : lexemes_of (pieces line) ≡ Some (all_seen (map (λ (u : Token). u.kind) ts)) = rw (← tokens.texts) (lexemes_along ts tokens.kinds) in
-    rw found refl
+line_of_kinds line ks same = rw (lexemes_along (pieces line) ks same) refl
 
 -- a piece that is no token
 lexeme_missing : (l : Option Lexeme) (rest : Option (List Lexeme)) (tokens : Bool) → (is_some l && tokens) ≡ false → (tokens ≡ false → rest ≡ None) → with_lexeme l rest ≡ None

@@ -13,7 +13,7 @@ ghost use Rattle.asm_lex.specs.Pieces.{pieces};
 ghost use Rattle.asm_line.specs.Faults.{Fails};
 ghost use Rattle.asm_line.specs.Lines.{line_of};
 ghost use Rattle.asm_line.specs.Meanings.{line_meaning, meaning_of, IsInRange};
-ghost use Rattle.std.specs.Prelude.{◌≡◌, Ok, IfOk, IfErr, IsErrOf, map, true};
+ghost use Rattle.std.specs.Prelude.{◌≡◌, Ok, IfOk, IfErr, IsErrOf, true};
 
 mod directives;
 mod fault;
@@ -25,13 +25,13 @@ mod pseudo;
 mod range;
 mod statement;
 
-use asm_lex::{Kind, Token, tokens};
+use asm_lex::token_kinds;
 pub use asm_names::{NumberWidth, Section};
 pub use fault::AsmCode;
 pub use line::{Line, Statement};
 pub use pseudo::halves;
 use statement::line_at;
-use std::alloc::{AllocError, Global};
+use std::alloc::Global;
 
 /// What a source line says. `line` is the line's bytes without its end.
 ///
@@ -45,14 +45,6 @@ pub fn read_line<'a>(alloc: Global, line: &'a [u8]) -> Result<Line<'a>, AsmCode>
     ensures memory { IsErrOf result AsmCode.Memory → are_tokens (pieces line.now) ≡ true }
     ensures in_range { IfOk result (λ read. IsInRange (meaning_of read.statement)) }
 {
-    let tokens = tokens(alloc, line, 1)?;
-    let lexemes = lexemes(alloc, &tokens)?;
+    let lexemes = token_kinds(alloc, line)?;
     line_at(alloc, &lexemes)
-}
-
-/// What tokens are, without their places.
-fn lexemes<'a>(alloc: Global, tokens: &[Token<'a>]) -> Result<Vec<Kind<'a>>, AllocError>
-    ensures { IfOk result (λ found. found.items ≡ map (λ t. t.kind) tokens.now) }
-{
-    tokens.iter().map(|token| token.kind).collect(alloc)
 }

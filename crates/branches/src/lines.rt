@@ -37,6 +37,7 @@ impl LineSet {
     }
 
     /// Whether the line is in the set.
+    #[inline(always)]
     pub fn contains(&self, line: u32) -> bool
         ensures { result ≡ is_flagged line self.now }
     {
@@ -53,6 +54,7 @@ impl LineSet {
 
     /// Puts a line into the set. True where it wasn't in it.
     #[tactic(auto, using(crate::proofs::Listed::flag_set, crate::proofs::Listed::flag_kept, crate::proofs::Listed::flag_listed))]
+    #[inline(always)]
     pub fn insert(&mut self, line: u32) -> Result<bool, AllocError>
         requires { line < length self.old }
         ensures value { IfOk result (λ new. is_flagged line self.old ≡ not new) }

@@ -77,6 +77,7 @@ impl Numbers {
 
     /// Raises a line, unless it is raised: the last entry of a line counts.
     #[tactic(auto, using(crate::proofs::Listed::number_listed))]
+    #[inline(always)]
     fn raise(&mut self, line: u32, number: u32) -> Result<(), AllocError>
         requires { line < length self.old }
         ensures raised { OnOk result ((l : ℕ) → slice_index self.new l ≡ (if (l == line) && (slice_index self.old l == 0) then number else slice_index self.old l)) }

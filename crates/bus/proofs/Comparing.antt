@@ -1,5 +1,5 @@
 -- A history that is compared with the lists of seats.
-use Rattle.std.proofs.Common.{Result, Ok, Err, IfOk, ◌≡◌, ◌≢◌, ℕ, zero, suc, ◌+◌, ◌<◌, ◌≤◌, ◌^◌, List, [], ◌∷◌, ◌++◌, Bool, MatchBool, true, false, Some, eqb, length, map, replicate, reverse, slice_get, slice_index_or, slice_set, take, drop, refl, sym, ap, subst, ◌∙◌, inl, inr, append_assoc, arith, eq-eqb}
+use Rattle.std.proofs.Common.{◌≡◌, ◌≢◌, ℕ, zero, suc, ◌+◌, ◌<◌, ◌≤◌, ◌^◌, List, [], ◌∷◌, ◌++◌, Bool, MatchBool, true, false, Some, eqb, length, map, replicate, reverse, slice_get, slice_index_or, slice_set, take, drop, refl, sym, ap, subst, ◌∙◌, inl, inr, append_assoc, arith, eq-eqb}
 use Rattle.std.proofs.lemmas.Bool.{cases_Bool, cases_eq, ne_eqb}
 use Rattle.std.proofs.Math.Nat.{mod-add-mod, mod-eq_of_lt, zero-mod}
 use Rattle.std.proofs.lemmas.List.{length-reverse, map-append, reverse-append, take_all, take_more}
@@ -30,7 +30,6 @@ use Rattle.bus.specs.Gathered.{earlier, gathered, steps_to}
 use Rattle.bus.specs.Leading.{HasMade, IsLed}
 use Rattle.bus.specs.Listed.{AllLed, AreListed, AreNotWhole, AreRun, AreWhole, EvictsAlso, HasOtherCopy, IsAccountOf, IsListOf, IsListed, IsNextOf, IsNotWhole, IsUnlisted, IsWhole, NewestIs, all_taken, in_word, numbered}
 use Rattle.bus.specs.Replays.{CoreView}
-use Rattle.bus.specs.Runs.{steps_of}
 use Rattle.bus.specs.Seats.{AreCounted, SeatView, steps_in}
 use Rattle.bus.specs.Together.{count_of}
 use Rattle.bus.proofs.Agreeing.{copy_passes}
@@ -237,7 +236,7 @@ unfolding numbered
 numbered_none lists = refl
 
 pub listed_none : (seats : List SeatView) (counts : List ℕ) (runs : Runs) → ((h n : ℕ) → slice_get counts h ≡ Some n → n ≡ 0)
-    → steps_of runs ≡ [] → runs.made ≡ 0 → runs.numbers.items ≡ [] → AreListed seats counts [] runs
+    → all_steps runs.schedule ≡ [] → runs.made ≡ 0 → runs.numbers.items ≡ [] → AreListed seats counts [] runs
 unfolding gathered count_of
 listed_none seats counts runs zeros none made numbers =
     let nothing = none_taken seats counts zeros in
@@ -297,20 +296,20 @@ some_count : (a b : ℕ) → Some a ≡ Some b → a ≡ b
 some_count a b e = cc
 
 pub run_asked : (history : List Entry) (lists : List (List Exchange)) (h : ℕ) (request : Request) (reply : Reply) (old new : Runs) (x : Exchange)
-    (xs : List Exchange) → slice_get lists h ≡ Some xs → steps_of new ≡ (steps_of old ++ replicate x.steps (Hart h)) ++ Hart h ∷ []
+    (xs : List Exchange) → slice_get lists h ≡ Some xs → all_steps new.schedule ≡ (all_steps old.schedule ++ replicate x.steps (Hart h)) ++ Hart h ∷ []
     → new.made ≡ in_word (in_word (old.made + x.steps) + 1)
     → new.numbers.items ≡ old.numbers.items ++ map (λ (event : Event). new.made) (events_of h request reply)
     → AreRun history lists old → AreRun (Asked h request reply ∷ history) (slice_set lists h (x ∷ xs)) new
 run_asked history lists h request reply old new x xs got added made numbers a =
-    let all : steps_of new ≡ steps_of old ++ (replicate x.steps (Hart h) ++ Hart h ∷ []) =
-    added ∙ append_assoc (steps_of old) (replicate x.steps (Hart h)) (Hart h ∷ []) in
-    let more : AreGathered (Asked h request reply ∷ history) (slice_set lists h (x ∷ xs)) (steps_of new) =
-    rw all (gathered_asked history lists (steps_of old) h request reply x xs got a.gathered) in
-    let total : hart_count (steps_of new) ≡ hart_count (steps_of old) + (x.steps + 1) =
-    ap hart_count all ∙ total_append (steps_of old) (replicate x.steps (Hart h) ++ Hart h ∷ [])
-    ∙ ap (λ (k : ℕ). hart_count (steps_of old) + k) (exchange_total x.steps h) in
-    let made_is : new.made ≡ in_word (hart_count (steps_of new)) =
-    made ∙ counted_on old.made (hart_count (steps_of old)) x.steps (hart_count (steps_of new)) a.made total in
+    let all : all_steps new.schedule ≡ all_steps old.schedule ++ (replicate x.steps (Hart h) ++ Hart h ∷ []) =
+    added ∙ append_assoc (all_steps old.schedule) (replicate x.steps (Hart h)) (Hart h ∷ []) in
+    let more : AreGathered (Asked h request reply ∷ history) (slice_set lists h (x ∷ xs)) (all_steps new.schedule) =
+    rw all (gathered_asked history lists (all_steps old.schedule) h request reply x xs got a.gathered) in
+    let total : hart_count (all_steps new.schedule) ≡ hart_count (all_steps old.schedule) + (x.steps + 1) =
+    ap hart_count all ∙ total_append (all_steps old.schedule) (replicate x.steps (Hart h) ++ Hart h ∷ [])
+    ∙ ap (λ (k : ℕ). hart_count (all_steps old.schedule) + k) (exchange_total x.steps h) in
+    let made_is : new.made ≡ in_word (hart_count (all_steps new.schedule)) =
+    made ∙ counted_on old.made (hart_count (all_steps old.schedule)) x.steps (hart_count (all_steps new.schedule)) a.made total in
     record {
       gathered = more;
       made = made_is;
@@ -320,10 +319,10 @@ run_asked history lists h request reply old new x xs got added made numbers a =
 
 pub is_next : (seat : SeatView) (n m h : ℕ) (request : Request) (reply : Reply) (old one two new : Runs) (x : Exchange)
     → slice_get (reverse seat.exchanges) n ≡ Some x → x.request ≡ request → x.reply ≡ reply → m ≡ n + 1
-    → steps_of one ≡ steps_of old ++ replicate x.steps (Hart h) → one.made ≡ in_word (old.made + x.steps)
-    → one.numbers.items ≡ old.numbers.items → steps_of two ≡ steps_of one ++ replicate 1 (Hart h) → two.made ≡ in_word (one.made + 1)
+    → all_steps one.schedule ≡ all_steps old.schedule ++ replicate x.steps (Hart h) → one.made ≡ in_word (old.made + x.steps)
+    → one.numbers.items ≡ old.numbers.items → all_steps two.schedule ≡ all_steps one.schedule ++ replicate 1 (Hart h) → two.made ≡ in_word (one.made + 1)
     → two.numbers.items ≡ one.numbers.items
-    → new.numbers.items ≡ two.numbers.items ++ map (λ (event : Event). two.made) (events_of h request reply) → steps_of new ≡ steps_of two
+    → new.numbers.items ≡ two.numbers.items ++ map (λ (event : Event). two.made) (events_of h request reply) → new.schedule ≡ two.schedule
     → new.made ≡ two.made → IsNextOf seat n m h request reply old new
 is_next seat n m h request reply old one two new x there asked told next first made_one same_one last made_two same_two numbers steps made = record {
   first = x;
@@ -331,7 +330,7 @@ is_next seat n m h request reply old one two new x there asked told next first m
   asked = asked;
   told = told;
   next = next;
-  added = steps ∙ last ∙ ap (λ (l : List Step). l ++ Hart h ∷ []) first;
+  added = ap all_steps steps ∙ last ∙ ap (λ (l : List Step). l ++ Hart h ∷ []) first;
   made = made ∙ made_two ∙ ap (λ (k : ℕ). in_word (k + 1)) made_one;
   numbers = numbers ∙ ap (λ (l : List ℕ). l ++ map (λ (event : Event). two.made) (events_of h request reply)) (same_two ∙ same_one)
       ∙ ap (λ (k : ℕ). old.numbers.items ++ map (λ (event : Event). k) (events_of h request reply)) (sym made);
@@ -377,14 +376,14 @@ pub listed_evicted : (seats : List SeatView) (counts : List ℕ) (line : ℕ) (o
     → (history : List Entry) → AreListed seats counts history old → AreListed seats counts (Evicted line ∷ history) new
 listed_evicted seats counts line old new e history a =
     let lists : List (List Exchange) = all_taken seats counts in
-    let sum : hart_count (steps_of old ++ Evict line ∷ []) ≡ hart_count (steps_of old) + hart_count (Evict line ∷ []) =
-    total_append (steps_of old) (Evict line ∷ []) in
-    let longer : hart_count (steps_of new) ≡ hart_count (steps_of old ++ Evict line ∷ []) = ap hart_count e.added in
-    let total : hart_count (steps_of old) ≡ hart_count (steps_of new) = omega (arith, sum, longer) in
+    let sum : hart_count (all_steps old.schedule ++ Evict line ∷ []) ≡ hart_count (all_steps old.schedule) + hart_count (Evict line ∷ []) =
+    total_append (all_steps old.schedule) (Evict line ∷ []) in
+    let longer : hart_count (all_steps new.schedule) ≡ hart_count (all_steps old.schedule ++ Evict line ∷ []) = ap hart_count e.added in
+    let total : hart_count (all_steps old.schedule) ≡ hart_count (all_steps new.schedule) = omega (arith, sum, longer) in
     record {
       each = λ h seat n got there. let before = a.each h seat n got there in record { place = before.place; list = before.list };
       run = record {
-        gathered = rw e.added (gathered_evicted history lists (steps_of old) line a.run.gathered);
+        gathered = rw e.added (gathered_evicted history lists (all_steps old.schedule) line a.run.gathered);
         made = e.made ∙ a.run.made ∙ ap in_word total;
         numbers = e.numbers ∙ a.run.numbers ∙ ap (λ (l : List ℕ). map in_word l) (sym (numbered_evicted history lists line));
       };
@@ -464,7 +463,7 @@ pub whole_none : (text : List ℕ) (seats : List SeatView) (counts : List ℕ) (
 unfolding last_steps
 whole_none text seats counts runs = record {
   each = λ h seat n less got there. absurd (omega (arith, less));
-  added = append_nothing (steps_of runs);
+  added = append_nothing (all_steps runs.schedule);
   numbers = refl;
 }
 
@@ -472,7 +471,7 @@ pub whole_one : (text : List ℕ) (n : ℕ) (seats : List SeatView) (counts : Li
     → ((h : ℕ) (s : SeatView) → slice_get seats h ≡ Some s → s.hart ≡ h)
     → length seats ≤ length counts → n < length seats → seat ≡ slice_index_or seats n seat
     → AreWhole text n seats counts old middle → IsWhole text seat (slice_index_or counts n 0)
-    → steps_of new ≡ steps_of middle ++ replicate seat.since (Hart seat.hart) → new.numbers.items ≡ middle.numbers.items
+    → all_steps new.schedule ≡ all_steps middle.schedule ++ replicate seat.since (Hart seat.hart) → new.numbers.items ≡ middle.numbers.items
     → AreWhole text (n + 1) seats counts old new
 whole_one text n seats counts old middle new seat numbered enough inside seat_is before whole added same =
     let also : n < length counts = omega (arith, inside, enough) in
@@ -487,7 +486,7 @@ whole_one text n seats counts old middle new seat numbered enough inside seat_is
             subst (λ (k : ℕ). IsWhole text s k) too (subst (λ (y : SeatView). IsWhole text y (slice_index_or counts n 0)) is whole)
         | inr apart ↦ before.each h s j (omega (arith, less, apart)) s_got j_got
       ];
-      added = last_added n seats seat (steps_of old) (steps_of middle) (steps_of new) numbered inside seat_is before.added added;
+      added = last_added n seats seat (all_steps old.schedule) (all_steps middle.schedule) (all_steps new.schedule) numbered inside seat_is before.added added;
       numbers = same ∙ before.numbers;
     }
 
@@ -558,7 +557,7 @@ numbers_within (Asked h request reply ∷ before) lists few =
 pub is_account : (core : CoreView) (seats : List SeatView) (counts : List ℕ) (old new : Runs) (items : List Item) (numbers : List ℕ)
     (history : List Entry) → length seats ≡ core.harts → core.harts ≤ 8 → ((h : ℕ) (s : SeatView) → slice_get seats h ≡ Some s → s.hart ≡ h)
     → length seats ≤ length counts → reverse history ≡ core.history → AreListed seats counts (reverse history) old
-    → AreWhole core.program.text (length seats) seats counts old new → all_steps items ≡ steps_of new → numbers ≡ new.numbers.items
+    → AreWhole core.program.text (length seats) seats counts old new → all_steps items ≡ all_steps new.schedule → numbers ≡ new.numbers.items
     → IsAccountOf core seats items numbers
 is_account core seats counts old new items numbers history count most numbered_so enough turned a w made same =
     let listed : AreListed seats counts core.history old = subst (λ (l : List Entry). AreListed seats counts l old) turned a in
@@ -573,13 +572,13 @@ is_account core seats counts old new items numbers history count most numbered_s
     let counts_are : (h : ℕ) (s : SeatView) → slice_get seats h ≡ Some s → AreCounted s.made s.budget s.since s.exchanges = λ h s got.
     let n = beside h s got in
     let x = whole h s n.0 got n.1 in x.counted in
-    let added : all_steps items ≡ steps_of old ++ last_steps 0 seats =
-    made ∙ (w.added ∙ ap (λ (l : List SeatView). steps_of old ++ last_steps 0 l) (take_all (length seats) seats (omega arith))) in
+    let added : all_steps items ≡ all_steps old.schedule ++ last_steps 0 seats =
+    made ∙ (w.added ∙ ap (λ (l : List SeatView). all_steps old.schedule ++ last_steps 0 l) (take_all (length seats) seats (omega arith))) in
     let schedule : IsScheduleOf core seats items =
-    scheduled core seats items (steps_of old) most count counts_are run.gathered added in
+    scheduled core seats items (all_steps old.schedule) most count counts_are run.gathered added in
     let few : hart_count (gathered core.history (map (λ (seat : SeatView). seat.exchanges) seats)) < 2 ^ 32 =
     let steps = ap hart_count run.gathered.steps_are in
-    let within = counted_before (steps_of old) (all_steps items) (last_steps 0 seats) added in
+    let within = counted_before (all_steps old.schedule) (all_steps items) (last_steps 0 seats) added in
     let all = hart_steps_are items in
     let limit = schedule.few in
     omega (arith, steps, within, all, limit) in
@@ -720,8 +719,3 @@ is_so false P Q is found = absurd (cc)
 pub not_so : (b : Bool) (P Q : Type 0) → b ≡ false → MatchBool b P Q → Q
 not_so true P Q is found = absurd (cc)
 not_so false P Q is found = found
-
--- of a result whose value has two properties
-pub both_ok : {X E : Type 0} (r : Result X E) (P Q R : X → Type 0) → ((x : X) → P x → Q x → R x) → IfOk r P → IfOk r Q → IfOk r R
-both_ok (Ok x) P Q R f p q = f x p q
-both_ok (Err e) P Q R f p q = tt

@@ -1,5 +1,5 @@
 -- How the harts of seats are run once more, in the order of a core's history.
-use Rattle.std.proofs.Common.{◌≡◌, ◌≢◌, ℕ, zero, suc, ◌+◌, ◌<◌, ◌≤◌, List, [], ◌∷◌, ◌++◌, Some, Bool, MatchBool, true, false, not, eqb, length, replicate, reverse, slice_get, slice_set, slice_index_or, take, refl, sym, ap, subst, ◌∙◌, inl, inr, append_assoc, arith}
+use Rattle.std.proofs.Common.{◌≡◌, ◌≢◌, ℕ, zero, suc, ◌+◌, ◌<◌, ◌≤◌, List, [], ◌∷◌, ◌++◌, Some, Bool, MatchBool, true, false, not, eqb, length, replicate, reverse, slice_get, slice_set, slice_index_or, take, refl, sym, ap, subst, ◌∙◌, inl, inr, arith}
 use Rattle.std.proofs.lemmas.Bool.{cases_Bool, cases_eq, eq-eqb, ne_eqb}
 use Rattle.std.proofs.lemmas.List.{length-reverse, reverse-append, reverse-reverse, take_all, take_more}
 use Rattle.std.proofs.lemmas.Option.{get_or_from_slice_get, slice_get_read, slice_get_within}
@@ -16,9 +16,6 @@ use Rattle.line_memory.specs.Memory.{Memory}
 use Rattle.machine.proofs.Determined.{needs_once}
 use Rattle.machine.specs.Run.{fetched}
 use Rattle.machine.specs.Represents.{text_bytes}
-use Rattle.schedule.specs.Steps.{all_steps, steps_of}
-use Rattle.schedule.specs.declared.items.Item.{Item}
-use Rattle.schedule.specs.declared.items.Item.TheVariants as items_of
 use Rattle.schedule.specs.declared.items.Step.{Step}
 use Rattle.schedule.specs.declared.items.Step.TheVariants.{Hart, Evict}
 use Rattle.shared_memory.specs.Histories.{copied, is_renewing, replayed, text_of}
@@ -304,9 +301,3 @@ evicted_followed old new seats fs line core = record {
   core = core;
   follow = λ all_follow k s f got there. follows_evicted old new line s f core (all_follow k s f got there);
 }
-
--- an eviction at the end of a schedule
-pub one_eviction : (items : List Item) (line : ℕ) → all_steps (items ++ items_of.Evict line ∷ []) ≡ all_steps items ++ Evict line ∷ []
-one_eviction [] line = refl
-one_eviction (item ∷ items) line =
-    ap (λ (l : List Step). steps_of item ++ l) (one_eviction items line) ∙ sym (append_assoc (steps_of item) (all_steps items) (Evict line ∷ []))

@@ -78,7 +78,7 @@ module _ (bus : BusView) (given seats : List SeatView) (recorded : RecordedView)
       }
 
   pub have_run : HaveRun bus given recorded
-  have_run = record { start = done.start; capacity = done.capacity; records = done.records; within = within_at; ended = spent_at }
+  have_run = record { start = done.start; capacity = done.capacity; records = done.records; left_is = done.left_is; within = within_at; ended = spent_at }
 
 -- why seats aren't gathered is seen of their numbers alone
 pub refused_so : (harts : ℕ) (given seats : List SeatView) (fault : FinishFault) → map badge seats ≡ map badge given

@@ -17,7 +17,6 @@ pub mod Refusing
 pub mod Replayed
 pub mod Replaying
 pub mod Rounds
-pub mod Running
 pub mod SameStart
 pub mod Seating
 pub mod Starting

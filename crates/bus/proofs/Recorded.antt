@@ -6,6 +6,9 @@ use Rattle.machine.specs.Run.{Config, RunsTo, started}
 use Rattle.machine.specs.Represents.{MachineView, Represents, text_bytes}
 use Rattle.recording.specs.Recorded.{AreNumbers, IsAmong, RecordedView, Records}
 use Rattle.recording.proofs.Leaving.{left_at}
+use Rattle.machine.specs.Left.{IsLeftBy}
+use Rattle.machine.proofs.Leaving.{left_at_end}
+use Rattle.shared_memory.specs.SharedView.{IsExact}
 use Rattle.schedule.specs.Grammar.{hart_steps}
 use Rattle.schedule.specs.Steps.{all_steps}
 use Rattle.schedule.specs.declared.items.Item.{Item}
@@ -134,6 +137,17 @@ records_so core seats items numbers is below lines capacity all account =
       left = left_at _ (machine_of core seats) _ _ (stands_at core seats is all) capacity refl;
     }
 
+-- what is left is what the cache of the whole run leaves
+left_so : (core : CoreView) (seats : List SeatView) (items : List Item) (numbers : List ℕ)
+    → IsReplay core.program core.start core.history core.shared → IsExact core.shared (common_of core) → AreBelow core.harts core.history
+    → core.shared.cache.cache.capacity ≡ core.capacity → AllAgree core seats → IsAccountOf core seats items numbers
+    → IsLeftBy (started core.program core.start core.harts) (all_steps items) core.capacity core.shared.cache.lines
+left_so core seats items numbers is exact below capacity all account =
+    let c : Config = started core.program core.start core.harts in
+    let runs : RunsTo c (all_steps items) (end_of core seats) =
+    subst (λ (l : List Step). RunsTo c l (end_of core seats)) (sym account.schedule.steps) (agreeing_runs core seats is below all) in
+    left_at_end c (all_steps items) (end_of core seats) core.shared core.capacity core.shared.cache.lines runs exact capacity refl
+
 -- there is a number for each event
 pub numbers_each : (core : CoreView) (seats : List SeatView) (items : List Item) (numbers : List ℕ) (trace : List Event)
     → IsReplay core.program core.start core.history core.shared → AreBelow core.harts core.history → AllAgree core seats
@@ -143,10 +157,11 @@ numbers_each core seats items numbers trace is below all account same =
     ap (λ (l : List ℕ). length l) account.numbers_are ∙ n.each ∙ ap (λ (l : List Event). length l) (sym is.shows.trace ∙ sym same)
 
 pub are_recorded : (core : CoreView) (seats : List SeatView) (items : List Item) (numbers : List ℕ) (recorded : RecordedView)
-    → IsReplay core.program core.start core.history core.shared → AreBelow core.harts core.history → LinesBelow (length core.start) core.history
+    → IsReplay core.program core.start core.history core.shared → IsExact core.shared (common_of core) → AreBelow core.harts core.history
+    → LinesBelow (length core.start) core.history
     → core.shared.cache.cache.capacity ≡ core.capacity → AllAgree core seats → IsAccountOf core seats items numbers
     → recorded ≡ recorded_of core seats items numbers → AreRecorded core seats recorded
-are_recorded core seats items numbers recorded is below lines capacity all account same = rw same (record {
+are_recorded core seats items numbers recorded is exact below lines capacity all account same = rw same (record {
   agree = all;
   start_is = refl;
   capacity = refl;
@@ -156,6 +171,7 @@ are_recorded core seats items numbers recorded is below lines capacity all accou
   made = account.schedule.made;
   within = account.schedule.within;
   records = records_so core seats items numbers is below lines capacity all account;
+  left_is = left_so core seats items numbers is exact below capacity all account;
 })
 
 pub few_recorded : (core : CoreView) (seats : List SeatView) (items : List Item) (numbers : List ℕ) (recorded : RecordedView)
@@ -174,6 +190,7 @@ is_gathered core old new recorded placed r = record {
   harts = r.harts;
   trace = r.trace;
   records = r.records;
+  left_is = r.left_is;
 }
 
 -- the core of a bus
@@ -190,6 +207,7 @@ is_finished bus core old new recorded is placed r = record {
   made = r.made;
   within = r.within;
   records = rw (← is.program, ← is.start_is, ← is.harts) r.records;
+  left_is = rw (← is.program, ← is.start_is, ← is.harts) r.left_is;
 }
 
 pub refuses_finish : (harts : ℕ) (seats : List SeatView) (fault : FinishFault) → RefusesNumbers harts seats fault → RefusesFinish harts seats fault

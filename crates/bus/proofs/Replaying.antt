@@ -12,8 +12,8 @@ use Rattle.shared_memory.specs.declared.history.Entry.{Entry}
 use Rattle.shared_memory.specs.declared.history.Entry.TheVariants.{Asked, Evicted}
 use Rattle.shared_memory.specs.Histories.{replayed, text_of}
 use Rattle.shared_memory.specs.Replies.{Common, reply_after, starting_memory}
-use Rattle.shared_memory.specs.SharedView.{Evicts, Serves, SharedView, lines_shown}
-use Rattle.shared_memory.proofs.Shown.{evicted_shows, reply_stands, served_shows}
+use Rattle.shared_memory.specs.SharedView.{Evicts, IsExact, Serves, SharedView, lines_shown}
+use Rattle.shared_memory.proofs.Shown.{evicted_exact, evicted_shows, reply_stands, served_exact, served_shows}
 use Rattle.bus.specs.Replays.{AreBelow, CoreView, IsReplay, LinesBelow, replay}
 use Rattle.bus.specs.Serving.{EvictsLine, Tells}
 
@@ -44,6 +44,19 @@ evicted_more program start history old new line is evicts = record {
   told = ap (λ (t : List Entry). Evicted line ∷ t) is.told;
   shows = evicted_shows old new line (replay program start history) evicts is.shows;
 }
+
+-- and its cache is still the one that the history leaves
+exact_more : (program : Sections) (start : List (List ℕ)) (history : List Entry) (old new : SharedView) (h : ℕ) (request : Request) (reply : Reply)
+    → h < 8 → IsReplay program start history old → IsExact old (replay program start history) → Serves old new h request reply
+    → IsExact new (replay program start (Asked h request reply ∷ history))
+unfolding replay
+exact_more program start history old new h request reply few is exact serves =
+    served_exact old new h request reply (replay program start history) few serves is.shows exact
+
+exact_evicted : (program : Sections) (start : List (List ℕ)) (history : List Entry) (old new : SharedView) (line : ℕ)
+    → IsExact old (replay program start history) → Evicts old new line → IsExact new (replay program start (Evicted line ∷ history))
+unfolding replay
+exact_evicted program start history old new line exact evicts = evicted_exact old new line (replay program start history) evicts exact
 
 -- the first memory of a replay is that of its start
 pub initial_is : (program : Sections) (start : List (List ℕ)) (history : List Entry)
@@ -80,6 +93,18 @@ pub evicted_kept : (program : Sections) (start : List (List ℕ)) (entries all :
     → IsReplay program start (reverse all) new
 evicted_kept program start entries all old new line is evicts e =
     rw (e, reverse_more entries (Evicted line)) (evicted_more program start (reverse entries) old new line is evicts)
+
+pub asked_exact : (program : Sections) (start : List (List ℕ)) (entries all : List Entry) (old new : SharedView) (harts h : ℕ) (request : Request) (reply : Reply)
+    → h < harts → harts ≤ 8 → IsReplay program start (reverse entries) old → IsExact old (replay program start (reverse entries))
+    → Serves old new h request reply → all ≡ entries ++ Asked h request reply ∷ [] → IsExact new (replay program start (reverse all))
+asked_exact program start entries all old new harts h request reply there few is exact serves e =
+    rw (e, reverse_more entries (Asked h request reply)) (exact_more program start (reverse entries) old new h request reply (omega arith) is exact serves)
+
+pub evicted_stays_exact : (program : Sections) (start : List (List ℕ)) (entries all : List Entry) (old new : SharedView) (line : ℕ)
+    → IsExact old (replay program start (reverse entries)) → Evicts old new line → all ≡ entries ++ Evicted line ∷ []
+    → IsExact new (replay program start (reverse all))
+evicted_stays_exact program start entries all old new line exact evicts e =
+    rw (e, reverse_more entries (Evicted line)) (exact_evicted program start (reverse entries) old new line exact evicts)
 
 -- each hart of the history is one of the core's
 pub asked_below : (harts : ℕ) (entries all : List Entry) (h : ℕ) (request : Request) (reply : Reply) → h < harts

@@ -9,7 +9,7 @@ use Rattle.machine.specs.Represents.{text_bytes}
 use Rattle.machine.proofs.Copying.{text_there}
 use Rattle.shared_memory.specs.Histories.{text_of}
 use Rattle.shared_memory.specs.Replies.{common_at_start, starting_memory}
-use Rattle.shared_memory.specs.SharedView.{SharedView, Shows, lines_shown}
+use Rattle.shared_memory.specs.SharedView.{IsExact, SharedView, Shows, lines_shown}
 use Rattle.bus.specs.Agreeing.{Agrees}
 use Rattle.bus.specs.Begun.{AreNew, IsNew}
 use Rattle.bus.specs.Finished.{AllAgree}
@@ -75,14 +75,19 @@ fresh_of_new core fresh new = record {
   replay_is = rw (new.program_is, new.start_is, new.none) (starts_replay core.program core.start fresh.shared new.shows);
 }
 
+starts_exact : (program : Sections) (start : List (List ℕ)) (shared : SharedView) → IsExact shared (common_at_start program start)
+    → IsExact shared (replay program start [])
+unfolding replay
+starts_exact program start shared exact = exact
+
 -- what is said of each core, of one with no history
 pub new_invariant : (program : Sections) (start : List (List ℕ)) (harts capacity : ℕ) (shared : SharedView) (entries : List Entry) → harts ≤ 8
-    → Shows shared (common_at_start program start) → shared.cache.lines ≡ start → shared.cache.cache.capacity ≡ capacity → shared.trace ≡ []
-    → entries ≡ []
+    → Shows shared (common_at_start program start) → IsExact shared (common_at_start program start) → shared.cache.lines ≡ start
+    → shared.cache.cache.capacity ≡ capacity → shared.trace ≡ [] → entries ≡ []
     → IsReplay program start (reverse entries) shared × AreBelow harts (reverse entries) × (length shared.cache.lines ≡ length start)
     × (shared.cache.cache.capacity ≡ capacity) × (harts ≤ 8) × (length shared.trace ≤ 65536) × LinesBelow (length start) (reverse entries)
-    × All (NamesLine (length shared.cache.lines)) shared.trace
-new_invariant program start harts capacity shared entries few shows lines room trace none =
+    × All (NamesLine (length shared.cache.lines)) shared.trace × IsExact shared (replay program start (reverse entries))
+new_invariant program start harts capacity shared entries few shows exact lines room trace none =
     let short : length shared.trace ≡ 0 = ap (λ (l : List Event). length l) trace in (
       rw none (starts_replay program start shared shows),
       rw none tt,
@@ -92,6 +97,7 @@ new_invariant program start harts capacity shared entries few shows lines room t
       omega (arith, short),
       rw none tt,
       (λ k d less. absurd (omega (arith, less, short))),
+      rw none (starts_exact program start shared exact),
     )
 
 -- with its seats

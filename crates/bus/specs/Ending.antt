@@ -1,6 +1,7 @@
 -- What comes of gathering what seats have made, and why it may not be gathered.
 use Rattle.std.specs.Prelude.{◌≡◌, ◌≢◌, ◌⊎◌, ◌<◌, ◌≤◌, ℕ, List, Some, map, slice_get}
 use Rattle.std.specs.Prelude.{IsPermutation}
+use Rattle.machine.specs.Left.{IsLeftBy}
 use Rattle.machine.specs.Run.{started}
 use Rattle.recording.specs.Recorded.{RecordedView, Records}
 use Rattle.schedule.specs.Steps.{all_steps}
@@ -59,6 +60,7 @@ pub record IsGathered (core : CoreView) (seats : List SeatView) (recorded : Reco
   pub harts : recorded.harts ≡ map (λ (seat : SeatView). seat.state) by_number
   pub trace : recorded.trace ≡ core.shared.trace
   pub records : Records (started core.program core.start core.harts) recorded
+  pub left_is : IsLeftBy (started core.program core.start core.harts) (all_steps recorded.items) recorded.capacity recorded.left
 
 -- why seats aren't gathered, the first of these that holds: a hart of the core has no seat; a number stands twice or is too
 -- large; a seat doesn't agree with the core; or memory was refused

@@ -5,6 +5,7 @@ use Rattle.hart.specs.declared.state.HartState.{HartState}
 use Rattle.hart.specs.declared.need.Request.{Request}
 use Rattle.hart.specs.declared.need.Reply.{Reply}
 use Rattle.line_memory.specs.Memory.{Memory}
+use Rattle.machine.specs.Left.{IsLeftBy}
 use Rattle.machine.specs.Run.{started}
 use Rattle.machine.specs.Represents.{text_bytes}
 use Rattle.recording.specs.Recorded.{RecordedView, Records}
@@ -126,6 +127,7 @@ pub record AreRecorded (core : CoreView) (seats : List SeatView) (recorded : Rec
   pub made : (h : ℕ) (seat : SeatView) → slice_get seats h ≡ Some seat → count_of h (all_steps recorded.items) ≡ seat.made
   pub within : (h : ℕ) (seat : SeatView) → slice_get seats h ≡ Some seat → seat.made ≤ seat.budget
   pub records : Records (started core.program core.start core.harts) recorded
+  pub left_is : IsLeftBy (started core.program core.start core.harts) (all_steps recorded.items) recorded.capacity recorded.left
 
 -- the core is that of the bus, as it began
 pub record IsCoreOf (bus : BusView) (core : CoreView) : Type 0 where

@@ -14,7 +14,6 @@ pub mod Listed
 pub mod Numbering
 pub mod Refusals
 pub mod Replays
-pub mod Runs
 pub mod Seating
 pub mod Seats
 pub mod Serving

@@ -3,6 +3,7 @@ use Rattle.std.specs.Prelude.{◌≡◌, ◌≤◌, ◌<◌, ◌+◌, ◌%◌, �
 use Rattle.hart.specs.declared.need.Request.{Request}
 use Rattle.hart.specs.declared.need.Reply.{Reply}
 use Rattle.machine.specs.Represents.{text_bytes}
+use Rattle.schedule.specs.Steps.{all_steps}
 use Rattle.schedule.specs.declared.items.Item.{Item}
 use Rattle.schedule.specs.declared.items.Step.TheVariants.{Hart, Evict}
 use Rattle.shared_memory.specs.declared.history.Entry.{Entry}
@@ -16,7 +17,6 @@ use Rattle.bus.specs.Following.{AreGathered, IsScheduleOf, hart_count, oldest}
 use Rattle.bus.specs.Gathered.{earlier, gathered}
 use Rattle.bus.specs.Leading.{IsLed}
 use Rattle.bus.specs.Replays.{CoreView}
-use Rattle.bus.specs.Runs.{steps_of}
 use Rattle.bus.specs.Seats.{AreCounted, SeatView}
 
 -- the newest exchange is this request with this reply, and so on with those before it
@@ -59,8 +59,8 @@ in_word n = n % 2 ^ 32
 
 -- the steps are those of the history by these exchanges, and the numbers those of its events
 pub record AreRun (history : List Entry) (lists : List (List Exchange)) (runs : Runs) : Type 0 where
-  pub gathered : AreGathered history lists (steps_of runs)
-  pub made : runs.made ≡ in_word (hart_count (steps_of runs))
+  pub gathered : AreGathered history lists (all_steps runs.schedule)
+  pub made : runs.made ≡ in_word (hart_count (all_steps runs.schedule))
   pub numbers : runs.numbers.items ≡ map in_word (numbered history lists)
 
 -- so many exchanges of each seat are those of its hart in the history, which is run by them
@@ -76,13 +76,13 @@ pub record IsNextOf (seat : SeatView) (n m h : ℕ) (request : Request) (reply :
   pub asked : first.request ≡ request
   pub told : first.reply ≡ reply
   pub next : m ≡ n + 1
-  pub added : steps_of new ≡ (steps_of old ++ replicate first.steps (Hart h)) ++ Hart h ∷ []
+  pub added : all_steps new.schedule ≡ (all_steps old.schedule ++ replicate first.steps (Hart h)) ++ Hart h ∷ []
   pub made : new.made ≡ in_word (in_word (old.made + first.steps) + 1)
   pub numbers : new.numbers.items ≡ old.numbers.items ++ map (λ (event : Event). new.made) (events_of h request reply)
 
 -- an eviction comes after the other steps
 pub record EvictsAlso (line : ℕ) (old new : Runs) : Type 0 where
-  pub added : steps_of new ≡ steps_of old ++ Evict line ∷ []
+  pub added : all_steps new.schedule ≡ all_steps old.schedule ++ Evict line ∷ []
   pub made : new.made ≡ old.made
   pub numbers : new.numbers.items ≡ old.numbers.items
 
@@ -102,7 +102,7 @@ pub record IsWhole (text : List ℕ) (seat : SeatView) (n : ℕ) : Type 0 where
 -- so are the first n seats, and their last steps come after the others; the numbers stay
 pub record AreWhole (text : List ℕ) (n : ℕ) (seats : List SeatView) (counts : List ℕ) (old new : Runs) : Type 0 where
   pub each : (h : ℕ) (seat : SeatView) (k : ℕ) → h < n → slice_get seats h ≡ Some seat → slice_get counts h ≡ Some k → IsWhole text seat k
-  pub added : steps_of new ≡ steps_of old ++ last_steps 0 (take n seats)
+  pub added : all_steps new.schedule ≡ all_steps old.schedule ++ last_steps 0 (take n seats)
   pub numbers : new.numbers.items ≡ old.numbers.items
 
 -- the seat wasn't loaded with this text, or these aren't all of its exchanges

@@ -2,6 +2,7 @@
 use Rattle.std.specs.Prelude.{◌≡◌, ◌⊎◌, ◌≤◌, ℕ, List, [], ◌∷◌, Some, eqb, if◌then◌else◌, suc, IsPermutation, length, map, slice_get}
 use Rattle.hart.specs.declared.state.HartState.{HartState}
 use Rattle.hart.specs.declared.state.Status.TheVariants.{Running}
+use Rattle.machine.specs.Left.{IsLeftBy}
 use Rattle.machine.specs.Run.{started}
 use Rattle.recording.specs.Recorded.{RecordedView, Records}
 use Rattle.schedule.specs.Steps.{all_steps}
@@ -34,6 +35,7 @@ pub record IsFinished (bus : BusView) (seats : List SeatView) (recorded : Record
   pub made : (h : ℕ) (seat : SeatView) → slice_get by_number h ≡ Some seat → count_of h (all_steps recorded.items) ≡ seat.made
   pub within : (h : ℕ) (seat : SeatView) → slice_get by_number h ≡ Some seat → seat.made ≤ seat.budget
   pub records : Records (started bus.program bus.start bus.harts) recorded
+  pub left_is : IsLeftBy (started bus.program bus.start bus.harts) (all_steps recorded.items) recorded.capacity recorded.left
 
 -- of the steps as many are hart h's as the seat of its number may make
 pub record IsAtBudget (seats : List SeatView) (steps : List Step) (h : ℕ) : Type 0 where
@@ -57,6 +59,7 @@ pub record HaveRun (bus : BusView) (seats : List SeatView) (recorded : RecordedV
   pub start : recorded.start ≡ bus.start
   pub capacity : recorded.capacity ≡ bus.capacity
   pub records : Records (started bus.program bus.start bus.harts) recorded
+  pub left_is : IsLeftBy (started bus.program bus.start bus.harts) (all_steps recorded.items) recorded.capacity recorded.left
   pub within : (h : ℕ) (s : HartState) → slice_get recorded.harts h ≡ Some s → IsWithinBudget seats (all_steps recorded.items) h
   pub ended : (h : ℕ) (s : HartState) → slice_get recorded.harts h ≡ Some s → s.status ≡ Running
       → IsAtBudget seats (all_steps recorded.items) h

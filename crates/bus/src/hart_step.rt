@@ -10,18 +10,19 @@ ghost use Rattle.machine.specs.Represents.{text_bytes};
 ghost use Rattle.shared_memory.specs.Histories.{is_renewing};
 ghost use Rattle.bus.specs.Alone.{Asks, IsAsking, StepsAlone};
 
-use hart::{Advance, HartState, Request, Status, advance, instruction};
+use hart::{Advance, HartState, Request, Status, advance};
 use isa_table::Instr;
 use machine::TextCopy;
 
 /// Makes the next instruction of a running hart where it needs no request, and says whether it did.
 #[tactic(auto, using(crate::proofs::Seating::goes_on, crate::proofs::Seating::traps, crate::proofs::Seating::asks))]
+#[inline(always)]
 pub(crate) fn go_alone(state: &mut HartState, copy: &TextCopy) -> bool
     requires { state.old.status ≡ Status.Running }
     ensures { MatchBool result (StepsAlone (text_bytes copy.now) state.old state.new)
         ((state.new ≡ state.old) × ((request : Request) × Asks (text_bytes copy.now) state.old request)) }
 {
-    let instr = match instruction(copy.fetch(state.pc)) {
+    let instr = match copy.instruction(state.pc) {
         Ok(instr) => instr,
         Err(trap) => {
             state.status = Status::Trapped(trap);
@@ -47,8 +48,7 @@ pub(crate) fn request_of(state: &mut HartState, copy: &TextCopy) -> (Instr, Requ
     ensures spelled { IsSpelledBy (fetched (text_bytes copy.now) state.old.pc) result.0 }
     ensures request { IsRequest result.1 }
 {
-    let word = copy.fetch(state.pc);
-    let instr = match instruction(word) {
+    let instr = match copy.instruction(state.pc) {
         Ok(instr) => instr,
         Err(_trap) => unreachable!(),
     };

@@ -3,6 +3,7 @@
 
 ghost use Rattle.std.specs.Prelude.{◌≡◌, ◌≤◌, ◌++◌, ◌∷◌, [], IfErr, IfOk, List, MatchBool, OnOk, Some, ℕ, length, replicate, reverse, slice_get, true};
 ghost use Rattle.line_memory.specs.declared.TheConstants.{TEXT_SIZE};
+ghost use Rattle.schedule.specs.Steps.{all_steps};
 ghost use Rattle.schedule.specs.declared.items.Step.{Step};
 ghost use Rattle.shared_memory.specs.declared.history.Entry.{Entry as AnEntry};
 ghost use Rattle.bus.specs.Agreeing.{Agrees};
@@ -10,7 +11,6 @@ ghost use Rattle.bus.specs.Finished.{AllAgree};
 ghost use Rattle.bus.specs.Following.{IfForeign, IsFreshOf, IsNotNext};
 ghost use Rattle.bus.specs.Listed.{AllLed, AreListed, AreNotWhole, AreWhole, HasOtherCopy, IsAccountOf, IsListOf, IsNextOf, IsNotWhole, IsUnlisted, IsWhole};
 ghost use Rattle.bus.specs.Replays.{AreBelow};
-ghost use Rattle.bus.specs.Runs.{steps_of};
 ghost use Rattle.bus.specs.Seats.{SeatView};
 
 use crate::finish_fault::FinishFault;
@@ -103,7 +103,7 @@ fn list_all(
 #[tactic(auto, using(crate::proofs::Comparing::is_whole, crate::proofs::Comparing::not_loaded, crate::proofs::Comparing::not_used, crate::proofs::Foreign::memory_is))]
 fn end_seat(text: &[u8], seat: &Seat<'_>, count: usize, runs: &mut Runs) -> Result<(), FinishFault>
     ensures whole { OnOk result (IsWhole text.now seat.now count) }
-    ensures steps { OnOk result (steps_of runs.new ≡ steps_of runs.old ++ replicate seat.now.since (Step.Hart seat.now.hart)) }
+    ensures steps { OnOk result (all_steps runs.new.schedule ≡ all_steps runs.old.schedule ++ replicate seat.now.since (Step.Hart seat.now.hart)) }
     ensures numbers { OnOk result (runs.new.numbers.items ≡ runs.old.numbers.items) }
     ensures err { IfErr result (IfForeign (IsNotWhole text.now seat.now count)) }
 {
@@ -154,7 +154,7 @@ pub(crate) fn account_of(
     let _ = core.harts();
     list_all(seats, &mut counts, core.history(), &mut runs)?;
     end_seats(core.program().text_bytes(), seats, &counts, &mut runs)?;
-    runs.finish()
+    Ok(runs.finish())
 }
 
 /// Checks that seats agree with a core whose lists and texts are those of its history and program. Only where one of their

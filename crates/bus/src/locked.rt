@@ -6,11 +6,12 @@ ghost use Rattle.line_memory.specs.declared.TheConstants.{TEXT_SIZE};
 ghost use Rattle.machine.specs.Represents.{text_bytes};
 ghost use Rattle.shared_memory.specs.Histories.{replayed, text_of};
 ghost use Rattle.shared_memory.specs.Replies.{starting_memory};
+ghost use Rattle.shared_memory.specs.SharedView.{IsExact};
 ghost use Rattle.bus.specs.Agreeing.{Agrees};
 ghost use Rattle.bus.specs.Finished.{AllAgree};
 ghost use Rattle.bus.specs.Limits.{AreWithin, RefusesStart};
 ghost use Rattle.bus.specs.Refusals.{RefusesLine, RefusesSeat, RefusesTelling};
-ghost use Rattle.bus.specs.Replays.{AreBelow, IsReplay, LinesBelow};
+ghost use Rattle.bus.specs.Replays.{AreBelow, IsReplay, LinesBelow, common_of};
 ghost use Rattle.store_trace.specs.TraceView.{NamesLine};
 ghost use Rattle.bus.specs.Seating.{AsksNext};
 ghost use Rattle.bus.specs.Seats.{SeatView};
@@ -46,7 +47,8 @@ pub struct Core<'p> {
 }
 
 impl<'p> Model for Core<'p> {
-    ghost use Rattle.bus.specs.Replays.{AreBelow, CoreView, IsReplay, LinesBelow};
+    ghost use Rattle.bus.specs.Replays.{AreBelow, CoreView, IsReplay, LinesBelow, replay};
+    ghost use Rattle.shared_memory.specs.SharedView.{IsExact};
     ghost use Rattle.std.specs.Prelude.{◌≡◌, ◌≤◌, All, length, reverse};
     ghost use Rattle.store_trace.specs.TraceView.{NamesLine};
 
@@ -64,7 +66,8 @@ impl<'p> Model for Core<'p> {
     ghost invariant = { λ c. IsReplay c.program.now c.start (reverse c.history.items) c.shared
         × AreBelow c.harts (reverse c.history.items) × (length c.shared.cache.lines ≡ length c.start)
         × (c.shared.cache.cache.capacity ≡ c.capacity) × (c.harts ≤ 8) × (length c.shared.trace ≤ 65536)
-        × LinesBelow (length c.start) (reverse c.history.items) × All (NamesLine (length c.shared.cache.lines)) c.shared.trace };
+        × LinesBelow (length c.start) (reverse c.history.items) × All (NamesLine (length c.shared.cache.lines)) c.shared.trace
+        × IsExact c.shared (replay c.program.now c.start (reverse c.history.items)) };
 }
 
 impl<'p> Core<'p> {
@@ -196,6 +199,7 @@ impl<'p> Core<'p> {
     pub fn history(&self) -> &[Entry]
         ensures value { reverse result.now ≡ self.now.history }
         ensures replay { IsReplay self.now.program self.now.start self.now.history self.now.shared }
+        ensures exact { IsExact self.now.shared (common_of self.now) }
         ensures harts { AreBelow self.now.harts self.now.history }
     {
         &self.history

@@ -130,6 +130,7 @@ impl<'p> Seat<'p> {
     /// Makes the next step where it needs no request, without lock or memory. None says that the next step is a request, and
     /// then nothing has changed.
     #[tactic(auto, using(crate::proofs::Agreeing::local_agrees, crate::proofs::Counting::since_fits, crate::proofs::Counting::counted_step, crate::proofs::Leading::led_step_if))]
+    #[inline(always)]
     pub fn step_local(&mut self) -> Option<Outcome>
         ensures none { IfNone result ((self.new ≡ self.old) × AsksNext self.old) }
         ensures some { IfSome result (IsLocalStep self.old self.new) }

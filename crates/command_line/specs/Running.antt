@@ -8,7 +8,7 @@ use Rattle.machine.specs.Represents.{MachineView}
 use Rattle.program.specs.Sections.{Sections}
 use Rattle.schedule.specs.declared.items.Item.{Item}
 use Rattle.recording.specs.Recorded.{RecordedView}
-use Rattle.crash_test.specs.Runs.{FailsToRun, FailsTogether, HasRun, HasRunTogether, IsRunOf, Setup, setup}
+use Rattle.crash_test.specs.Runs.{FailsToRun, FailsTogether, HasRun, HasRunTogether, IsLeftOf, IsRunOf, Setup, setup}
 use Rattle.command_line.specs.Failures.{failure_of_step, failure_of_together}
 use Rattle.command_line.specs.Reading.{ReadsMedium, ReadsProgram, ReadsSchedule}
 use Rattle.command_line.specs.Reports.{run_report}
@@ -22,17 +22,23 @@ use Rattle.command_line.specs.declared.failure.Failure.{Failure}
 abbrev pub machine_of : MachineOptions → Sections → List (List ℕ) → Setup
 machine_of options program medium = setup program medium options.harts (unwrap_or options.capacity (length medium))
 
--- what harts make that run together, none of them for more steps than so many, and their schedule's run; or why they don't
+-- what harts make that run together, none of them for more steps than so many, and their schedule's run, with what a power cut
+-- leaves; or why they don't
 pub record HasFinished (s : Setup) (steps : ℕ) (recorded : RecordedView) : Type 0 where
   pub together : HasRunTogether s steps recorded
   pub run : IsRunOf s recorded
+  pub left : IsLeftOf s recorded.items recorded.left
 
 pub record RunsTogether (s : Setup) (steps : ℕ) (outcome : Result RecordedView Failure) : Type 0 where
   pub runs : MatchResult outcome (HasFinished s steps) (Tells (FailsTogether s steps) failure_of_together)
 
--- a machine that has run by a schedule, or why a step is refused
+-- a machine that has run by a schedule, with what a power cut leaves; or why a step is refused
+pub record HasReplayed (s : Setup) (schedule : List Item) (machine : MachineView) : Type 0 where
+  pub run : HasRun s schedule machine
+  pub left : IsLeftOf s schedule machine.shared.cache.lines
+
 pub record RunsBySchedule (s : Setup) (schedule : List Item) (outcome : Result MachineView Failure) : Type 0 where
-  pub runs : MatchResult outcome (HasRun s schedule) (Tells (FailsToRun s schedule) failure_of_step)
+  pub runs : MatchResult outcome (HasReplayed s schedule) (Tells (FailsToRun s schedule) failure_of_step)
 
 -- the outcome is this answer
 pub record Gives (answer : Answer) (outcome : Result Answer Failure) : Type 0 where

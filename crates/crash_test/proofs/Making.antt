@@ -1,9 +1,10 @@
 -- What a machine has made that was at the start of a setup.
-use Rattle.std.proofs.Common.{◌≡◌, ◌⊎◌, ℕ, ◌<◌, ◌≤◌, List, All, length, inl, inr, sym, ap, ◌∙◌}
+use Rattle.std.proofs.Common.{◌≡◌, ◌⊎◌, ℕ, ◌<◌, ◌≤◌, List, All, length, inl, inr, refl, sym, ap, ◌∙◌}
 use Rattle.std.proofs.lemmas.Bool.{cases_lt}
 use Rattle.std.proofs.lemmas.List.FromFn.{length-map-range_with_len}
 use Rattle.hart.specs.Effect.{start}
-use Rattle.machine.specs.Represents.{IsThere, MachineView, Runs, Represents}
+use Rattle.machine.proofs.Leaving.{left_by}
+use Rattle.machine.specs.Represents.{IsThere, MachineView, Runs, RunsExactly, Represents, RepresentsExactly}
 use Rattle.machine.specs.Stops.{StopsAt}
 use Rattle.machine.specs.declared.fault.RunStop.{RunStop}
 use Rattle.recording.proofs.Numbering.{all_among}
@@ -11,7 +12,7 @@ use Rattle.schedule.specs.Steps.{all_steps}
 use Rattle.schedule.specs.declared.items.Item.{Item}
 use Rattle.schedule.specs.declared.items.Step.{Step}
 use Rattle.shared_memory.specs.declared.fault.StepFault.TheVariants.{NoSuchHart, OutOfLimits}
-use Rattle.crash_test.specs.Runs.{AreThere, FailsToRun, HasMade, HasRun, IsAtStart, IsOutside, IsWithin, Setup, start_of}
+use Rattle.crash_test.specs.Runs.{AreThere, FailsToRun, HasMade, HasRun, IsAtStart, IsLeftOf, IsOutside, IsWithin, Setup, start_of}
 
 -- a number that isn't outside two limits is within them
 between : (low n high : ℕ) → ((n < low) ⊎ (high < n) → ⊥) → (low ≤ n) × (n ≤ high)
@@ -52,6 +53,11 @@ pub has_run : (s : Setup) (schedule : List Item) (old new : MachineView) → IsA
     → length new.shared.trace ≤ 65536 → HasRun s schedule new
 has_run s schedule old new at runs few =
     record { has_made = has_made s (all_steps schedule) old new at runs few; capacity = runs.capacity ∙ at.capacity }
+
+pub left_of : (s : Setup) (schedule : List Item) (old new : MachineView) → IsAtStart s old → RepresentsExactly old (start_of s)
+    → Runs old new (all_steps schedule) → RunsExactly old new (all_steps schedule) → IsLeftOf s schedule new.shared.cache.lines
+left_of s schedule old new at stands runs exact =
+    left_by (start_of s) (all_steps schedule) old new s.capacity new.shared.cache.lines stands exact (runs.capacity ∙ at.capacity) refl
 
 pub stops_at : (s : Setup) (schedule : List Item) (old new : MachineView) (stop : RunStop) → IsAtStart s old
     → StopsAt old new schedule stop → length new.shared.trace ≤ 65536 → FailsToRun s schedule stop.fault

@@ -1,5 +1,5 @@
 -- What harts that ran together have made of a setup.
-use Rattle.std.proofs.Common.{◌≡◌, ℕ, zero, suc, ◌+◌, ◌<◌, ◌≤◌, List, [], ◌∷◌, Option, Some, None, length, map, slice_get, refl, sym, ap, ◌∙◌, inl, inr, arith}
+use Rattle.std.proofs.Common.{◌≡◌, ℕ, zero, suc, ◌+◌, ◌<◌, ◌≤◌, List, [], ◌∷◌, Option, Some, None, length, map, slice_get, refl, sym, ap, subst, ◌∙◌, inl, inr, arith}
 use Rattle.std.proofs.Math.ListN.{length-set}
 use Rattle.std.proofs.lemmas.List.FromFn.{length-map-range_with_len}
 use Rattle.std.proofs.lemmas.Option.{slice_get_within}
@@ -20,13 +20,14 @@ use Rattle.hart.specs.declared.state.HartState.{HartState}
 use Rattle.hart.specs.declared.state.Status.{Status}
 use Rattle.hart.specs.declared.state.Status.TheVariants.{Running, Exited, Trapped}
 use Rattle.machine.proofs.Determined.{runs_once}
+use Rattle.machine.specs.Left.{IsLeftBy}
 use Rattle.machine.specs.Run.{Config, HartSteps, HartStepsIfThere, Meets, RunsTo, fetched_by}
 use Rattle.machine.specs.Represents.{MachineView}
 use Rattle.recording.specs.Recorded.{RecordedView, Records}
 use Rattle.schedule.specs.Steps.{all_steps}
 use Rattle.schedule.specs.declared.items.Step.{Step}
 use Rattle.schedule.specs.declared.items.Step.TheVariants.{Hart, Evict}
-use Rattle.crash_test.specs.Runs.{AreThere, FailsTogether, HasRun, HasRunTogether, HaveMadeAll, HaveMadeAtMost, IsRunOf, IsUnfinished, IsWithin, Setup, start_of, unfinished_of}
+use Rattle.crash_test.specs.Runs.{AreThere, FailsTogether, HasRun, HasRunTogether, HaveMadeAll, HaveMadeAtMost, IsLeftOf, IsRunOf, IsUnfinished, IsWithin, Setup, start_of, unfinished_of}
 use Rattle.crash_test.specs.declared.runs.TogetherFault.{TogetherFault}
 
 -- a run has as many harts at its end as at its start
@@ -172,6 +173,12 @@ has_run_together s steps bus seats recorded w is start run =
       most = most_made s steps (bus_of s) seats recorded start r;
       ended = all_made s steps (bus_of s) seats recorded start r;
     }
+
+pub left_together : (s : Setup) (bus : BusView) (seats : List SeatView) (recorded : RecordedView) → bus ≡ bus_of s
+    → HaveRun bus seats recorded → IsLeftOf s recorded.items recorded.left
+left_together s bus seats recorded is run =
+    let r : HaveRun (bus_of s) seats recorded = rw is at run in
+    subst (λ (n : ℕ). IsLeftBy (start_of s) (all_steps recorded.items) n recorded.left) r.capacity r.left_is
 
 -- the run that is recorded, by a machine
 pub is_run_of : (s : Setup) (steps : ℕ) (recorded : RecordedView) → HasRunTogether s steps recorded → length recorded.trace ≤ 65536

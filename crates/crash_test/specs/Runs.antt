@@ -7,6 +7,7 @@ use Rattle.bus.specs.declared.finish_fault.FinishFault.{FinishFault}
 use Rattle.bus.specs.declared.finish_fault.FinishFault.TheVariants as finish
 use Rattle.hart.specs.declared.state.HartState.{HartState}
 use Rattle.hart.specs.declared.state.Status.TheVariants.{Running}
+use Rattle.machine.specs.Left.{IsLeftBy}
 use Rattle.machine.specs.Refusals.{RefusesNext}
 use Rattle.machine.specs.Run.{Config, RunsTo, started}
 use Rattle.machine.specs.Represents.{MachineView, Represents}
@@ -84,6 +85,11 @@ pub record HasMade (s : Setup) (steps : List Step) (machine : MachineView) : Typ
 pub record HasRun (s : Setup) (schedule : List Item) (machine : MachineView) : Type 0 where
   pub has_made : HasMade s (all_steps schedule) machine
   pub capacity : machine.shared.cache.cache.capacity ≡ s.capacity
+
+-- these lines are what a power cut leaves after the schedule: the medium behind the one cache, of the setup's capacity, that all
+-- requests and evictions of the run leave
+abbrev pub IsLeftOf : Setup → List Item → List (List ℕ) → Type 0
+IsLeftOf s schedule lines = IsLeftBy (start_of s) (all_steps schedule) s.capacity lines
 
 -- the events of the run by a schedule, each step of which is there: 65,536 at most
 pub record HasTrace (s : Setup) (schedule : List Item) (trace : List Event) : Type 0 where

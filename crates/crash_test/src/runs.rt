@@ -1,9 +1,10 @@
 //! Runs of a program: on harts that run together, and by a schedule.
 
 ghost use Rattle.crash_image.specs.View.{HasLines};
+ghost use Rattle.machine.specs.Represents.{RepresentsExactly};
 ghost use Rattle.schedule.specs.Grammar.{hart_steps};
 ghost use Rattle.std.specs.Prelude.{◌≡◌, ◌^◌, ◌<◌, IfErr, IfOk};
-ghost use Rattle.crash_test.specs.Runs.{FailsToRun, FailsToStart, FailsTogether, HasRun, HasRunTogether, HasTrace, IsAtStart, IsRunOf, IsUnfinished, setup, unfinished_of, with_room};
+ghost use Rattle.crash_test.specs.Runs.{FailsToRun, FailsToStart, FailsTogether, HasRun, HasRunTogether, HasTrace, IsAtStart, IsLeftOf, IsRunOf, IsUnfinished, setup, start_of, unfinished_of, with_room};
 
 use bus::{Bus, FinishFault, RunFault, run_harts};
 use gate::Open;
@@ -48,6 +49,7 @@ pub fn run_program<R: Threads + Wait + Sync>(
 ) -> Result<Recorded, TogetherFault>
     ensures ok { IfOk result (HasRunTogether (setup program medium harts capacity) steps) }
     ensures run { IfOk result (IsRunOf (setup program medium harts capacity)) }
+    ensures left { IfOk result (λ recorded. IsLeftOf (setup program medium harts capacity) recorded.items recorded.left) }
     ensures few { IfOk result (λ recorded. hart_steps recorded.items < 2 ^ 32) }
     ensures err { IfErr result (FailsTogether (setup program medium harts capacity) steps) }
 {
@@ -94,6 +96,7 @@ pub fn replay(
     schedule: &Schedule,
 ) -> Result<Machine, StepFault>
     ensures ok { IfOk result (HasRun (setup program medium harts capacity) schedule.now) }
+    ensures left { IfOk result (λ machine. IsLeftOf (setup program medium harts capacity) schedule.now machine.shared.cache.lines) }
     ensures err { IfErr result (FailsToRun (setup program medium harts capacity) schedule.now) }
 {
     let mut machine = start_program(alloc, program, medium, harts, capacity)?;
@@ -121,6 +124,7 @@ pub fn start_program(
     capacity: u32,
 ) -> Result<Machine, StepFault>
     ensures ok { IfOk result (IsAtStart (setup program medium harts capacity)) }
+    ensures exact { IfOk result (λ machine. RepresentsExactly machine (start_of (setup program medium harts capacity))) }
     ensures err { IfErr result (FailsToStart (setup program medium harts capacity)) }
 {
     match Machine::new(alloc, program, medium, harts, capacity) {

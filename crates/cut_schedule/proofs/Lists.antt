@@ -40,15 +40,6 @@ after_steps h n items =
     hart_steps_append (replicate n (Hart h)) (all_steps items)
     ∙ ap (λ (l : List Step). l ++ hart_steps (all_steps items)) (harts_alone h n)
 
--- further steps of the same hart
-pub joined_steps : (before : List Step) (h g n m sum : ℕ) → g ≡ h → sum ≡ n + m →
-    before ++ replicate sum (Hart g) ≡ (before ++ replicate n (Hart g)) ++ replicate m (Hart h)
-joined_steps before h g n m sum same is =
-    rw same (
-    ap (λ (l : List Step). before ++ l)
-    (ap (λ (k : ℕ). replicate k (Hart h)) is ∙ sym (replicate-append-replicate n m (Hart h)))
-    ∙ sym (append_assoc before (replicate n (Hart h)) (replicate m (Hart h))))
-
 -- fewer steps of a hart, and the rest of them
 pub parted_steps : (h n m count : ℕ) (rest : List Step) → n + m ≡ count →
     replicate count (Hart h) ++ rest ≡ replicate n (Hart h) ++ (replicate m (Hart h) ++ rest)

@@ -3,19 +3,18 @@
 ghost use Rattle.crash_model.specs.Cut.{IsCut, number_in};
 ghost use Rattle.crash_model.specs.declared.step.PersistenceStep.{PersistenceStep};
 ghost use Rattle.cut_schedule.specs.Explains.{Explains, steps_by};
-ghost use Rattle.cut_schedule.specs.Walking.{AreDue, Follows, line_due};
+ghost use Rattle.cut_schedule.specs.Walking.{AreDue, Follows, eviction_of, line_due};
 ghost use Rattle.schedule.specs.Grammar.{hart_steps};
 ghost use Rattle.schedule.specs.Joined.{HasSteps};
 ghost use Rattle.schedule.specs.Steps.{all_steps};
 ghost use Rattle.store_trace.specs.History.{at_moment, steps_of};
 ghost use Rattle.store_trace.specs.TraceView.{NamesLine};
-ghost use Rattle.std.specs.Prelude.{◌≡◌, ◌↔◌, ◌<◌, ◌≤◌, ◌++◌, ℕ, List, All, IfOk, IsErrOf, length};
+ghost use Rattle.std.specs.Prelude.{◌≡◌, ◌↔◌, ◌<◌, ◌≤◌, ◌++◌, ℕ, List, All, IfOk, IsErrOf, OnOk, length};
 
-use crate::growing::GrowingSchedule;
 use crate::recorded_steps::RecordedSteps;
 use crash_image::{Cut, Cuts, ImageFault, numbers_of_lines};
-use machine::Schedule;
 use recording::Recorded;
+use schedule::{Item, Schedule};
 use std::alloc::{AllocError, Global};
 use store_trace::Event;
 
@@ -47,7 +46,7 @@ pub fn explain(
 }
 
 /// The schedule of the cut with these entries, of which each is of a line that is there.
-#[tactic(auto, using(crate::proofs::Following::at_start, crate::proofs::Following::at_next, crate::proofs::Following::at_end))]
+#[tactic(auto, using(crate::proofs::Following::at_start))]
 fn explained(
     alloc: Global,
     recorded: &Recorded,
@@ -65,14 +64,25 @@ fn explained(
     let last = steps_by(numbers, moment);
     let mut due = numbers_of_lines(alloc, recorded.start().lines(), entries)?;
     let mut steps = RecordedSteps::of(recorded.schedule().items());
-    let mut schedule = GrowingSchedule::new(alloc);
+    let mut schedule = Schedule::new(alloc);
     for index in 0..moment as usize {
         // The numbers of a run go up, so none of them is past the last.
         steps.copy_through(numbers[index].min(last), &mut schedule)?;
         let line = line_due(&mut due, events[index]);
-        schedule.push_eviction(line)?;
+        push_eviction(&mut schedule, line)?;
     }
-    schedule.finish()
+    Ok(schedule)
+}
+
+/// Adds the eviction of a line, if there is one.
+fn push_eviction(schedule: &mut Schedule, line: Option<u32>) -> Result<(), AllocError>
+    ensures steps { OnOk result (all_steps schedule.new ≡ all_steps schedule.old ++ eviction_of line) }
+    ensures items { All HasSteps schedule.old → All HasSteps schedule.new }
+{
+    match line {
+        Some(line) => schedule.push(Item::Evict { line }),
+        None => Ok(()),
+    }
 }
 
 /// How many hart steps are made by the moment: those through its last event.

@@ -4,5 +4,4 @@
 pub use explaining::explain;
 
 mod explaining;
-mod growing;
 mod recorded_steps;

@@ -2,11 +2,11 @@
 
 ghost use Rattle.cut_schedule.specs.Walking.{TakesSteps};
 ghost use Rattle.machine.specs.Evicting.{hart_steps};
+ghost use Rattle.schedule.specs.Joined.{HasSteps};
 ghost use Rattle.schedule.specs.Steps.{all_steps};
-ghost use Rattle.std.specs.Prelude.{◌≡◌, ◌≤◌, ◌++◌, [], max, IfSome, IfNone, MatchOption, OnOk, replicate};
+ghost use Rattle.std.specs.Prelude.{◌≡◌, ◌≤◌, ◌++◌, [], max, All, IfSome, IfNone, MatchOption, OnOk, replicate};
 
-use crate::growing::GrowingSchedule;
-use machine::{Item, Step};
+use schedule::{Item, Schedule, Step};
 use std::alloc::AllocError;
 use std::marker::Model;
 
@@ -55,10 +55,11 @@ impl<'a> RecordedSteps<'a> {
     pub(crate) fn copy_through(
         &mut self,
         number: u32,
-        schedule: &mut GrowingSchedule,
+        schedule: &mut Schedule,
     ) -> Result<(), AllocError>
-        ensures copied { OnOk result (TakesSteps self.old self.new schedule.old schedule.new) }
+        ensures copied { OnOk result (TakesSteps self.old self.new (all_steps schedule.old) (all_steps schedule.new)) }
         ensures taken { OnOk result (self.new.taken ≡ max self.old.taken number) }
+        ensures items { All HasSteps schedule.old → All HasSteps schedule.new }
     {
         while self.taken < number {
             let Some((hart, count)) = self.next_run(number - self.taken) else {

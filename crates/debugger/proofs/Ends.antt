@@ -8,7 +8,7 @@ use Rattle.schedule.specs.declared.items.Item.{Item}
 use Rattle.schedule.specs.declared.items.Step.{Step}
 use Rattle.schedule.specs.declared.items.Step.TheVariants.{Hart}
 use Rattle.schedule.specs.declared.place.Place.{Place}
-use Rattle.schedule.proofs.Places.{leads_behind, leads_more, nothing_after, reached, step_there}
+use Rattle.schedule.proofs.Places.{leads_behind, leads_end, leads_more, nothing_after, place_at, place_behind, reached, step_there}
 use Rattle.shared_memory.specs.declared.fault.StepFault.{StepFault}
 use Rattle.machine.specs.Refusals.{Refuses}
 use Rattle.machine.specs.Run.{Config, StepsTo}
@@ -25,7 +25,6 @@ use Rattle.debugger.specs.declared.stop.Cause.TheVariants as causes
 use Rattle.debugger.specs.declared.stop.Halt.{Halt}
 use Rattle.debugger.specs.declared.stop.Halt.TheVariants as halts
 use Rattle.debugger.proofs.Causes.{IsQuiet, carried, quiet_more, stop_more, untouched}
-use Rattle.debugger.proofs.Places.{leads_end, place_at, place_behind}
 use Rattle.debugger.proofs.Walking.{hart_there, moves_there, onto_there, same_break, unbroken_there}
 
 -- the stop at the last step of a run: at a breakpoint behind it, by its own access to a watched line, or since no step is left

@@ -8,6 +8,7 @@ use crate::state::HartState;
 use isa_table::Reg;
 
 /// The address of the instruction after this one.
+#[inline(always)]
 pub(crate) fn next_pc(state: &HartState) -> u64
     ensures { result ≡ next_pc state.now }
 {
@@ -15,6 +16,7 @@ pub(crate) fn next_pc(state: &HartState) -> u64
 }
 
 /// Goes on to the instruction after this one.
+#[inline(always)]
 pub(crate) fn go_on(state: &mut HartState)
     ensures { state.new ≡ goes_on state.old }
 {
@@ -22,6 +24,7 @@ pub(crate) fn go_on(state: &mut HartState)
 }
 
 /// Writes a register and goes on.
+#[inline(always)]
 pub(crate) fn write_to(state: &mut HartState, reg: Reg, value: u64)
     ensures { state.new ≡ writes state.old reg.number value }
 {
@@ -30,6 +33,7 @@ pub(crate) fn write_to(state: &mut HartState, reg: Reg, value: u64)
 }
 
 /// The address at an offset from the value of a register.
+#[inline(always)]
 pub(crate) fn address_at(state: &HartState, base: Reg, offset: i32) -> u64
     ensures { result ≡ address_of state.now base offset }
 {
@@ -37,6 +41,7 @@ pub(crate) fn address_at(state: &HartState, base: Reg, offset: i32) -> u64
 }
 
 /// The place at a distance from the instruction.
+#[inline(always)]
 pub(crate) fn place_at(state: &HartState, distance: i32) -> u64
     ensures { result ≡ place_of state.now distance }
 {
@@ -44,6 +49,7 @@ pub(crate) fn place_at(state: &HartState, distance: i32) -> u64
 }
 
 /// The sum as a register holds it.
+#[inline(always)]
 pub(crate) fn plus(value: u64, offset: i32) -> u64
     ensures { result ≡ wrap (pos value +ℤ offset) }
 {

@@ -11,6 +11,7 @@ use crate::need::Advance;
 use crate::state::HartState;
 use isa_table::{ImmediateOp, Instr, Reg, RegisterOp, ShiftOp, UpperOp};
 
+#[inline(always)]
 pub(crate) fn compute_upper(state: &mut HartState, op: UpperOp, rd: Reg, immediate: u32) -> Advance
     ensures effect { need_after state.new result ≡ effect state.old (Instr.Upper op rd immediate) }
     ensures kept { IsKept result state.old state.new }
@@ -24,6 +25,7 @@ pub(crate) fn compute_upper(state: &mut HartState, op: UpperOp, rd: Reg, immedia
     Advance::Done
 }
 
+#[inline(always)]
 pub(crate) fn compute(state: &mut HartState, op: RegisterOp, rd: Reg, rs1: Reg, rs2: Reg) -> Advance
     ensures effect { need_after state.new result ≡ effect state.old (Instr.Register op rd rs1 rs2) }
     ensures kept { IsKept result state.old state.new }
@@ -33,6 +35,7 @@ pub(crate) fn compute(state: &mut HartState, op: RegisterOp, rd: Reg, rs1: Reg, 
     Advance::Done
 }
 
+#[inline(always)]
 pub(crate) fn compute_immediate(
     state: &mut HartState,
     op: ImmediateOp,
@@ -48,6 +51,7 @@ pub(crate) fn compute_immediate(
     Advance::Done
 }
 
+#[inline(always)]
 pub(crate) fn compute_shift(
     state: &mut HartState,
     op: ShiftOp,
@@ -64,6 +68,7 @@ pub(crate) fn compute_shift(
 }
 
 /// An operation on the value of `rs1` and another one, with its result in `rd`.
+#[inline(always)]
 fn operate(state: &mut HartState, op: RegisterOp, rd: Reg, rs1: Reg, operand: u64)
     ensures { state.new ≡ writes state.old rd.number (result_of op (value_of state.old rs1) operand) }
 {

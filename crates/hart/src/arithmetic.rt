@@ -22,6 +22,7 @@ use isa_table::{ImmediateOp, RegisterOp, ShiftOp};
 use word_bits::{low_bits, sign_extend};
 
 /// The operation that an immediate takes part in as a second register.
+#[inline(always)]
 pub(crate) fn operation_of_immediate(op: ImmediateOp) -> RegisterOp
     ensures { result ≡ immediate_operation op }
 {
@@ -37,6 +38,7 @@ pub(crate) fn operation_of_immediate(op: ImmediateOp) -> RegisterOp
 }
 
 /// The operation that a fixed amount of a shift takes part in as a second register.
+#[inline(always)]
 pub(crate) fn operation_of_shift(op: ShiftOp) -> RegisterOp
     ensures { result ≡ shift_operation op }
 {
@@ -51,6 +53,7 @@ pub(crate) fn operation_of_shift(op: ShiftOp) -> RegisterOp
 }
 
 /// The result of an operation on the values of two registers.
+#[inline(always)]
 pub(crate) fn combine(op: RegisterOp, a: u64, b: u64) -> u64
     ensures { result ≡ result_of op a b }
 {
@@ -74,6 +77,7 @@ pub(crate) fn combine(op: RegisterOp, a: u64, b: u64) -> u64
 }
 
 #[tactic(auto, using(crate::proofs::Sizes::wrapped))]
+#[inline(always)]
 fn sum(a: u64, b: u64, bits: u32) -> u64
     requires { IsSize bits }
     ensures { result ≡ sum_of bits a b }
@@ -81,6 +85,7 @@ fn sum(a: u64, b: u64, bits: u32) -> u64
     sign_extend(a.wrapping_add(b), bits)
 }
 
+#[inline(always)]
 fn difference(a: u64, b: u64, bits: u32) -> u64
     requires { IsSize bits }
     ensures { result ≡ difference_of bits a b }
@@ -89,6 +94,7 @@ fn difference(a: u64, b: u64, bits: u32) -> u64
 }
 
 #[tactic(auto, using(crate::proofs::Sizes::wrapped))]
+#[inline(always)]
 fn left_shift(a: u64, b: u64, bits: u32) -> u64
     requires { IsSize bits }
     ensures { result ≡ left_shift_of bits a b }
@@ -96,6 +102,7 @@ fn left_shift(a: u64, b: u64, bits: u32) -> u64
     sign_extend(a << (b % u64::from(bits)), bits)
 }
 
+#[inline(always)]
 fn logical_shift(a: u64, b: u64, bits: u32) -> u64
     requires { IsSize bits }
     ensures { result ≡ logical_shift_of bits a b }
@@ -103,6 +110,7 @@ fn logical_shift(a: u64, b: u64, bits: u32) -> u64
     sign_extend(low_bits(a, bits) >> (b % u64::from(bits)), bits)
 }
 
+#[inline(always)]
 fn arithmetic_shift(a: u64, b: u64, bits: u32) -> u64
     requires { IsSize bits }
     ensures { result ≡ arithmetic_shift_of bits a b }
@@ -111,6 +119,7 @@ fn arithmetic_shift(a: u64, b: u64, bits: u32) -> u64
 }
 
 /// Whether the low bits of `a` are less than those of `b`, as signed numbers.
+#[inline(always)]
 pub(crate) fn is_less(a: u64, b: u64, bits: u32) -> bool
     requires { IsSize bits }
     ensures { result ≡ is_less_of bits a b }
@@ -119,6 +128,7 @@ pub(crate) fn is_less(a: u64, b: u64, bits: u32) -> bool
 }
 
 /// Whether the low bits of `a` are less than those of `b`, as unsigned numbers.
+#[inline(always)]
 pub(crate) fn is_below(a: u64, b: u64, bits: u32) -> bool
     requires { IsSize bits }
     ensures { result ≡ is_below_of bits a b }
@@ -126,6 +136,7 @@ pub(crate) fn is_below(a: u64, b: u64, bits: u32) -> bool
     low_bits(a, bits) < low_bits(b, bits)
 }
 
+#[inline(always)]
 fn as_signed(value: u64, bits: u32) -> i64
     requires { IsSize bits }
     ensures { result ≡ signed value bits }

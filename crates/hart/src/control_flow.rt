@@ -13,6 +13,7 @@ use crate::need::Advance;
 use crate::state::{HartState, Trap};
 use isa_table::{BranchOp, Instr, Reg};
 
+#[inline(always)]
 pub(crate) fn jump(state: &mut HartState, rd: Reg, distance: i32) -> Advance
     ensures effect { need_after state.new result ≡ effect state.old (Instr.Jump rd distance) }
     ensures kept { IsKept result state.old state.new }
@@ -21,6 +22,7 @@ pub(crate) fn jump(state: &mut HartState, rd: Reg, distance: i32) -> Advance
     link(state, rd, target)
 }
 
+#[inline(always)]
 pub(crate) fn jump_register(state: &mut HartState, rd: Reg, rs1: Reg, offset: i32) -> Advance
     ensures effect { need_after state.new result ≡ effect state.old (Instr.JumpRegister rd rs1 offset) }
     ensures kept { IsKept result state.old state.new }
@@ -29,6 +31,7 @@ pub(crate) fn jump_register(state: &mut HartState, rd: Reg, rs1: Reg, offset: i3
     link(state, rd, address - address % 2)
 }
 
+#[inline(always)]
 pub(crate) fn branch(
     state: &mut HartState,
     op: BranchOp,
@@ -47,6 +50,7 @@ pub(crate) fn branch(
     go_to(state, target)
 }
 
+#[inline(always)]
 fn is_taken(op: BranchOp, a: u64, b: u64) -> bool
     ensures { result ≡ is_taken_by op a b }
 {
@@ -61,6 +65,7 @@ fn is_taken(op: BranchOp, a: u64, b: u64) -> bool
 }
 
 /// A jump that leaves the address of the instruction after it in `rd`.
+#[inline(always)]
 fn link(state: &mut HartState, rd: Reg, target: u64) -> Advance
     ensures effect { need_after state.new result ≡ jumps state.old rd.number target }
     ensures kept { IsKept result state.old state.new }
@@ -74,6 +79,7 @@ fn link(state: &mut HartState, rd: Reg, target: u64) -> Advance
 }
 
 /// The hart at a target, or the trap of one that is no multiple of four.
+#[inline(always)]
 fn go_to(state: &mut HartState, target: u64) -> Advance
     ensures effect { need_after state.new result ≡ goes_to state.old target }
     ensures kept { IsKept result state.old state.new }

@@ -69,6 +69,7 @@ impl Registers {
     }
 
     /// The value of a register; x0 is zero.
+    #[inline(always)]
     pub fn get(&self, reg: Reg) -> u64
         ensures { result ≡ register self.now reg.number }
     {
@@ -80,6 +81,7 @@ impl Registers {
     }
 
     /// Writes a register; a write to x0 is dropped.
+    #[inline(always)]
     pub fn set(&mut self, reg: Reg, value: u64)
         ensures { self.new ≡ written self.old reg.number value }
     {

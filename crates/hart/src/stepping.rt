@@ -1,9 +1,9 @@
 //! The next instruction of a hart: which it is, what it needs, and how far it is made without a reply.
 
-ghost use Rattle.std.specs.Prelude.{◌≡◌, ◌⊎◌, IfOk, IfErr};
+ghost use Rattle.std.specs.Prelude.{◌≡◌};
 ghost use Rattle.hart.specs.Effect.{effect};
 ghost use Rattle.hart.specs.InPlace.{IsKept, need_after};
-ghost use Rattle.hart.specs.Needs.{IsSpelledBy, Needs};
+ghost use Rattle.hart.specs.Needs.{IsInstruction, Needs};
 ghost use Rattle.hart.specs.Requests.{AsksRequest};
 
 use crate::alu::{compute, compute_immediate, compute_shift, compute_upper};
@@ -39,10 +39,7 @@ pub fn next(state: &HartState, fetched: Option<u32>) -> Need
 /// The next instruction of a hart. `fetched` is the word at its pc, or None where pc is outside the text region; then the
 /// trap is OutsideText, and NoInstruction where the word spells none.
 pub fn instruction(fetched: Option<u32>) -> Result<Instr, Trap>
-    ensures spelled { IfOk result (IsSpelledBy fetched) }
-    ensures ok { IfOk result (λ instr. (state : HartState) → Needs state fetched (effect state instr)) }
-    ensures err { IfErr result (λ trap. (state : HartState) → Needs state fetched (Need.Stop trap)) }
-    ensures cause { IfErr result (λ trap. (trap ≡ Trap.OutsideText) ⊎ (trap ≡ Trap.NoInstruction)) }
+    ensures { IsInstruction fetched result }
 {
     match fetched {
         None => Err(Trap::OutsideText),
@@ -53,6 +50,7 @@ pub fn instruction(fetched: Option<u32>) -> Result<Instr, Trap>
 /// Makes an instruction of a running hart in place, as far as it needs nothing: what `next` gives, without a copy of
 /// the hart.
 #[rattlefmt::skip]
+#[inline(always)]
 pub fn advance(state: &mut HartState, instr: Instr) -> Advance
     ensures effect { need_after state.new result ≡ effect state.old instr }
     ensures request { AsksRequest (need_after state.new result) }

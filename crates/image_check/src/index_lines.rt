@@ -102,6 +102,7 @@ impl<'a, 'b> IndexLines<'a, 'b> {
 }
 
 /// The number of stores of a line in the cut.
+#[inline(always)]
 fn number_of(index: &TraceIndex, moment: u32, numbers: &[u32], line: u32) -> u32
     requires there { moment ≤ length index.now.events }
     requires line { line < length index.now.start }
@@ -125,6 +126,7 @@ impl LineSource for IndexLines<'_, '_> {
         self.index.lines()
     }
 
+    #[inline(always)]
     fn line(&mut self, n: u32) -> Result<[u8; 64], VolumeFault> {
         if self.asked.push(n).is_err() {
             return Err(VolumeFault::Memory);

@@ -102,7 +102,11 @@ impl Outcomes {
         let Some(settled) = &self.settled else {
             return Ok(false);
         };
-        let expected = as_shown(alloc, plan, settled, &self.under_way, volume)?;
+        let under_way = self.under_way.as_slice();
+        if under_way.is_empty() {
+            return Ok(settled.equals(volume));
+        }
+        let expected = as_shown(alloc, plan, settled, under_way, volume)?;
         Ok(expected.equals(volume))
     }
 }

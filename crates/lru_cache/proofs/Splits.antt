@@ -1,11 +1,12 @@
 -- The orders of lines, by the lists of the arena that holds them.
-use Rattle.std.proofs.Common.{◌≡◌, ℕ, zero, suc, ◌+◌, ◌<◌, ◌≤◌, List, [], ◌∷◌, length, map, refl, sym, ap, ◌∙◌, arith, slice_index_or, slice_set, take, drop, nat_le, replicate, if◌then◌else◌}
-use Rattle.std.proofs.lemmas.Bool.{le-leb, lt-leb}
+use Rattle.std.proofs.Common.{◌≡◌, ℕ, zero, suc, ◌+◌, ◌<◌, ◌≤◌, List, [], ◌∷◌, Some, length, map, refl, sym, ap, ◌∙◌, arith, slice_index_or, slice_set, take, drop, nat_le, replicate, if◌then◌else◌}
+use Rattle.std.proofs.lemmas.Bool.{eq-eqb, le-leb, lt-leb}
 use Rattle.std.proofs.lemmas.List.{get_or-take, get_or-drop, get_or-map, get_or-set_same, get_or-set_other, set-get_or, take-set-le, drop-set-lt, drop-set-add, ext_get_or, length-take, length-drop, length-map}
+use Rattle.std.proofs.Math.Nat.{mod-lt}
 use Rattle.std.proofs.Math.Seq.{take-set-lt}
-use Rattle.index_list.specs.Lists.{Lists, without, with_list, IsDistinct, IsSound}
+use Rattle.index_list.specs.Lists.{Lists, first, without, with_list, IsDistinct, IsSound}
 use Rattle.index_list.proofs.Members.{list_steps}
-use Rattle.lru_cache.specs.Order.{LineOrders, IsOrdered, empty_orders, order_after_write_back}
+use Rattle.lru_cache.specs.Order.{LineOrders, IsOrdered, empty_orders, order_after_use, order_after_write_back, recent_in, set_of}
 use Rattle.lru_cache.specs.Split.{orders_in}
 
 same_orders : (n : ℕ) (r s : List (List ℕ)) (d e : List ℕ) (m o : List (List ℕ)) → r ≡ s → d ≡ e → m ≡ o →
@@ -59,6 +60,18 @@ pub orders_empty : (n : ℕ) → orders_in (record { nodes = n; lists = replicat
 unfolding orders_in
 orders_empty n = refl
 
+-- the most recently used line of its set stays that by a use
+again_first : (line : ℕ) (xs : List ℕ) → first xs ≡ Some line → line ∷ without line xs ≡ xs
+again_first line [] e = cc
+again_first line (x ∷ xs) e = let same : x ≡ line = cc in rw (same, eq-eqb line line refl) refl
+
+pub used_again : (a : Lists) (line : ℕ) → first (slice_index_or a.lists (set_of line) []) ≡ Some line → order_after_use line (orders_in a) ≡ orders_in a
+used_again a line e =
+    let set = set_of line in
+    let recent : recent_in (orders_in a) set ≡ slice_index_or a.lists set [] = recency_in a set (mod-lt line (omega arith)) in
+    let stays : line ∷ without line (recent_in (orders_in a) set) ≡ recent_in (orders_in a) set = again_first line (recent_in (orders_in a) set) (rw recent e) in
+    rw (stays, set-get_or (orders_in a).recency set []) refl
+
 -- each list is sound
 distinct_past : (xs : List (List ℕ)) (k : ℕ) → ((j : ℕ) → j < length xs → IsDistinct (slice_index_or xs j [])) → IsDistinct (slice_index_or xs k [])
 distinct_past [] k each = tt
@@ -100,4 +113,4 @@ orders_written a b line s t n each =
     rw n (same_orders a.nodes (take 8 b.lists) (take 8 a.lists) (slice_index_or b.lists 8 []) (without line (slice_index_or a.lists 8 []))
     (drop 9 b.lists) (map (without line) (drop 9 a.lists)) recency (from 8 (omega arith)) marked)
 
-pub ruleset split_steps = (list_steps, set-get_or, lines_in, recency_in, dirty_in, marked_from, recency_put, dirty_put, marked_put, orders_empty, ordered_in, orders_written)
+pub ruleset split_steps = (used_again, list_steps, set-get_or, lines_in, recency_in, dirty_in, marked_from, recency_put, dirty_put, marked_put, orders_empty, ordered_in, orders_written)

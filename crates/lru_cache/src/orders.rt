@@ -89,6 +89,9 @@ impl Orders {
         ensures sound { IsOrdered self.new }
     {
         let set = (line % SETS) as usize;
+        if self.arena.front(set) == Some(line) {
+            return;
+        }
         if self.arena.contains(set, line) {
             self.arena.move_front(set, line);
         } else {

@@ -1,7 +1,9 @@
 pub mod Copying
 pub mod Counting
+pub mod Decoding
 pub mod Determined
 pub mod Evicting
+pub mod Leaving
 pub mod Refusing
 pub mod RunParts
 pub mod Stepping

@@ -22,10 +22,10 @@ use Rattle.shared_memory.specs.Histories.{copied, replayed, text_of}
 use Rattle.machine.specs.Outcomes.{hart_outcome, outcome_of}
 use Rattle.shared_memory.specs.Replies.{asked, reply_after}
 use Rattle.machine.specs.Run.{Config, Executes, HartSteps, RunsTo, StepsTo, after_request, fetched, fetched_by, with_hart}
-use Rattle.machine.specs.Represents.{Answers, IsThere, MachineView, Runs, Represents, copies_after, copy_of, text_bytes}
-use Rattle.shared_memory.specs.SharedView.{Evicts, SharedView, Shows, lines_shown}
+use Rattle.machine.specs.Represents.{Answers, IsThere, MachineView, Represents, RunsBoth, copies_after, copy_of, text_bytes}
+use Rattle.shared_memory.specs.SharedView.{Evicts, IsExact, SharedView, Shows, lines_shown}
 use Rattle.clean_fence.specs.Rules.{PmView, SameSizes}
-use Rattle.shared_memory.proofs.Shown.{evicted_shows, reply_stands, served_shows}
+use Rattle.shared_memory.proofs.Shown.{evicted_exact, evicted_shows, reply_stands, served_exact, served_shows}
 use Rattle.machine.proofs.Copying.{copied_more, text_there}
 
 -- one step as a run
@@ -35,24 +35,42 @@ one_step c d step h = (d, h, refl)
 one_there : (m : MachineView) (step : Step) → IsThere m step → All (IsThere m) (step ∷ [])
 one_there m step there = All-push (IsThere m) [] step (All-nil (IsThere m)) there
 
-pub evicts : (old new : MachineView) (shared : SharedView) (line : ℕ) → line < length old.shared.cache.lines → Evicts old.shared shared line
-    → new ≡ record old { shared = shared } → Runs old new (Evict line ∷ [])
-evicts old new shared line there evicted e = record {
-  there = one_there old (Evict line) there;
-  harts = rw e refl;
-  lines = rw e evicted.steps.sizes.lines;
-  capacity = rw e evicted.steps.sizes.capacity;
-  represents = λ c s.
-      let d : Config = record c { common = record c.common { history = Evicted line ∷ c.common.history } } in (
-        d,
-        one_step c d (Evict line) refl,
-        rw e (record {
-          harts = s.harts;
-          shared = evicted_shows old.shared shared line c.common evicted s.shared;
-          copies = s.copies;
-        }),
-      );
+-- what a step makes of a configuration that the machine represents; exact stays exact
+pub record Makes (old new : MachineView) (step : Step) (c : Config) : Type 0 where
+  pub made : Config
+  pub steps : StepsTo c step made
+  pub represents : Represents new made
+  pub exact : IsExact old.shared c.common → IsExact new.shared made.common
+
+runs_by : (old new : MachineView) (step : Step) → IsThere old step → length new.harts ≡ length old.harts → SameSizes old.shared.cache new.shared.cache
+    → ((c : Config) → Represents old c → Makes old new step c) → RunsBoth old new (step ∷ [])
+runs_by old new step there harts sizes makes = record {
+  runs = record {
+    there = one_there old step there;
+    harts = harts;
+    lines = sizes.lines;
+    capacity = sizes.capacity;
+    represents = λ c stands. let m = makes c stands in (m.made, one_step c m.made step m.steps, m.represents);
+  };
+  exact = record {
+    represents = λ c stands.
+        let m = makes c stands.represents in
+        (m.made, one_step c m.made step m.steps, record { represents = m.represents; exact = m.exact stands.exact });
+  };
 }
+
+pub evicts : (old new : MachineView) (shared : SharedView) (line : ℕ) → line < length old.shared.cache.lines → Evicts old.shared shared line
+    → new ≡ record old { shared = shared } → RunsBoth old new (Evict line ∷ [])
+evicts old new shared line there evicted e = runs_by old new (Evict line) there (rw e refl) (rw e evicted.steps.sizes) (λ c s. record {
+  made = record c { common = record c.common { history = Evicted line ∷ c.common.history } };
+  steps = refl;
+  represents = rw e (record {
+    harts = s.harts;
+    shared = evicted_shows old.shared shared line c.common evicted s.shared;
+    copies = s.copies;
+  });
+  exact = λ exact. rw e (evicted_exact old.shared shared line c.common evicted exact);
+})
 
 -- a machine whose cache is as it was
 same_sizes : (cache : PmView) → SameSizes cache cache
@@ -78,20 +96,19 @@ with_state m h s = record m { harts = slice_set m.harts h s }
 
 executes : (old new : MachineView) (h : ℕ) (s after : HartState) → slice_get old.harts h ≡ Some s → s.status ≡ Running
     → new.harts ≡ slice_set old.harts h after → SameSizes old.shared.cache new.shared.cache
-    → ((c : Config) → Represents old c → (d : Config) × Executes c h s (fetched (copy_of old h) s.pc) d × Represents new d)
-    → Runs old new (Hart h ∷ [])
+    → ((c : Config) → Represents old c → (d : Config) × Executes c h s (fetched (copy_of old h) s.pc) d × Represents new d
+    × (IsExact old.shared c.common → IsExact new.shared d.common))
+    → RunsBoth old new (Hart h ∷ [])
 executes old new h s after there running harts sizes makes =
     let inside : h < length old.harts = slice_get_within old.harts h s there in
-    record {
-      there = one_there old (Hart h) inside;
-      harts = ap (λ (l : List HartState). length l) harts ∙ simp length-set;
-      lines = sizes.lines;
-      capacity = sizes.capacity;
-      represents = λ c stands.
-          let made = makes c stands in
-          let there_too : slice_get c.harts h ≡ Some s = rw (← stands.harts) there in
-          (made.0, one_step c made.0 (Hart h) (hart_steps c made.0 h s there_too running (rw (word_stands old c h s.pc stands inside) at made.1)), made.2);
-    }
+    runs_by old new (Hart h) inside (ap (λ (l : List HartState). length l) harts ∙ simp length-set) sizes (λ c stands.
+    let made = makes c stands in
+    let there_too : slice_get c.harts h ≡ Some s = rw (← stands.harts) there in record {
+      made = made.0;
+      steps = hart_steps c made.0 h s there_too running (rw (word_stands old c h s.pc stands inside) at made.1);
+      represents = made.2;
+      exact = made.3;
+    })
 
 -- the copies of a machine with another state of a hart
 copies_kept : (m : MachineView) (c : Config) (h k : ℕ) (after : HartState) → Represents m c → k < length (slice_set m.harts h after)
@@ -104,7 +121,7 @@ put_there harts h s t there e = rw (← e) at (slice_get-get_or harts h t (slice
 
 -- the three ways of a step
 pub goes_on_alone : (old new : MachineView) (h : ℕ) (s after : HartState) → slice_get old.harts h ≡ Some s → s.status ≡ Running
-    → Needs s (fetched (copy_of old h) s.pc) (Local after) → new ≡ with_state old h after → Runs old new (Hart h ∷ [])
+    → Needs s (fetched (copy_of old h) s.pc) (Local after) → new ≡ with_state old h after → RunsBoth old new (Hart h ∷ [])
 goes_on_alone old new h s after there running needs e = executes old new h s after there running (rw e refl) (rw e (same_sizes old.shared.cache)) (λ c stands. (
   with_hart c h after,
   (Local after, needs, refl),
@@ -113,11 +130,12 @@ goes_on_alone old new h s after there running needs e = executes old new h s aft
     shared = rw e stands.shared;
     copies = rw e (λ k inside. copies_kept old c h k after stands inside);
   },
+  λ exact. rw e exact,
 ))
 
 pub traps : (old new : MachineView) (h : ℕ) (s after : HartState) (trap : Trap) → slice_get old.harts h ≡ Some s → s.status ≡ Running
     → Needs s (fetched (copy_of old h) s.pc) (Stop trap) → after ≡ record s { status = Trapped trap } → new ≡ with_state old h after
-    → Runs old new (Hart h ∷ [])
+    → RunsBoth old new (Hart h ∷ [])
 traps old new h s after trap there running needs stopped e = executes old new h s after there running (rw e refl) (rw e (same_sizes old.shared.cache)) (λ c stands. (
   with_hart c h (record s { status = Trapped trap }),
   (Stop trap, needs, refl),
@@ -126,13 +144,14 @@ traps old new h s after trap there running needs stopped e = executes old new h 
     shared = rw e stands.shared;
     copies = rw e (λ k inside. copies_kept old c h k after stands inside);
   },
+  λ exact. rw e exact,
 ))
 
 pub goes_on_answered : (old new : MachineView) (shared : SharedView) (h : ℕ) (s after : HartState) (i : Instr) (request : Request)
     → h < 8 → length old.copies ≡ length old.harts → slice_get old.harts h ≡ Some s → s.status ≡ Running
     → Needs s (fetched (copy_of old h) s.pc) (Ask request) → IsSpelledBy (fetched (copy_of old h) s.pc) i → Answers old.shared shared h s i request after
     → new ≡ record { harts = slice_set old.harts h after; copies = copies_after old.copies h request shared.ram.text; shared = shared }
-    → Runs old new (Hart h ∷ [])
+    → RunsBoth old new (Hart h ∷ [])
 goes_on_answered old new shared h s after i request few each there running needs spelled a e =
     executes old new h s after there running (rw e refl) (rw e a.serves.steps.1.sizes) (λ c stands.
     let reply : Reply = reply_after c.common h request in
@@ -151,6 +170,7 @@ goes_on_answered old new shared h s after i request few each there running needs
             copied_more old.copies shared.ram.text c.common.initial c.common.history h k request reply inside now
             (copies_kept old c h k after stands less));
       },
+      λ exact. rw e (served_exact old.shared shared h request a.reply c.common few a.serves stands.shared exact),
     ))
 
 -- what the step of a running hart answers

@@ -13,9 +13,10 @@ use Rattle.schedule.specs.declared.items.Item.{Item}
 use Rattle.schedule.specs.declared.items.Step.{Step}
 use Rattle.schedule.specs.declared.items.Step.TheVariants.{Hart}
 use Rattle.machine.specs.Run.{Config, HartSteps, HartStepsIfThere, RunsTo}
-use Rattle.machine.specs.Represents.{IsThere, MachineView, Runs}
+use Rattle.machine.specs.Represents.{IsThere, MachineView, Runs, RunsBoth, RunsExactly}
 use Rattle.machine.specs.Stops.{StopsAt, has_stopped, is_stopped}
 use Rattle.machine.specs.Refusals.{IsRefused}
+use Rattle.schedule.specs.Places.{steps_before}
 pub use Rattle.machine.specs.RunLaws.{runs_more, runs_none}
 use Rattle.shared_memory.specs.declared.fault.StepFault.{StepFault}
 
@@ -48,6 +49,12 @@ stopped_runs m h n e = record {
   represents = λ c s. (c, all_rest c h n (rw (← s.harts) e), s);
 }
 
+pub stopped_exactly : (m : MachineView) (h n : ℕ) → is_stopped (slice_get m.harts h) ≡ true → RunsExactly m m (replicate n (Hart h))
+stopped_exactly m h n e = record { represents = λ c s. (c, all_rest c h n (rw (← s.represents.harts) e), s) }
+
+pub stopped_both : (m : MachineView) (h n : ℕ) → is_stopped (slice_get m.harts h) ≡ true → RunsBoth m m (replicate n (Hart h))
+stopped_both m h n e = record { runs = stopped_runs m h n e; exact = stopped_exactly m h n e }
+
 -- a walk that halts stops the run there
 pub stops_at : (old new : MachineView) (items : List Item) (place : Place) (fault : StepFault)
     → HaltsAt (λ (m : MachineView) (steps : List Step) (n : MachineView). Runs m n steps) IsRefused old new items (record { item = 0; steps = 0 }) place fault
@@ -60,3 +67,19 @@ stops_at old new items place fault halts =
       runs = rw (halts.halted.0, halts.before.leads.before) halts.before.made;
       refused = rw (halts.here, halts.halted.0) halts.halted.1;
     }
+
+pub both_stop_at : (old new : MachineView) (items : List Item) (place : Place) (fault : StepFault)
+    → HaltsAt (λ (m : MachineView) (steps : List Step) (n : MachineView). RunsBoth m n steps) IsRefused old new items (record { item = 0; steps = 0 }) place fault
+    → StopsAt old new items (record { place = place; fault = fault })
+both_stop_at old new items place fault halts = stops_at old new items place fault (record {
+  middle = halts.middle;
+  step = halts.step;
+  before = record { steps = halts.before.steps; leads = halts.before.leads; made = halts.before.made.runs };
+  here = halts.here;
+  halted = halts.halted;
+})
+
+pub exact_up_to : (old new : MachineView) (items : List Item) (place : Place) (fault : StepFault)
+    → HaltsAt (λ (m : MachineView) (steps : List Step) (n : MachineView). RunsBoth m n steps) IsRefused old new items (record { item = 0; steps = 0 }) place fault
+    → RunsExactly old new (steps_before items place.item place.steps)
+exact_up_to old new items place fault halts = rw (halts.halted.0, halts.before.leads.before) halts.before.made.exact

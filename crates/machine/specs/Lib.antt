@@ -1,4 +1,6 @@
+pub mod Decoded
 pub mod Evicting
+pub mod Left
 pub mod Outcomes
 pub mod Refusals
 pub mod Represents

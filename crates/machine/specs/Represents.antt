@@ -15,7 +15,7 @@ use Rattle.schedule.specs.declared.items.Step.{Step}
 use Rattle.schedule.specs.declared.items.Step.TheVariants.{Hart, Evict}
 use Rattle.shared_memory.specs.Histories.{copied, is_renewing}
 use Rattle.machine.specs.Run.{Config, RunsTo, fetched}
-use Rattle.shared_memory.specs.SharedView.{Serves, SharedView, Shows}
+use Rattle.shared_memory.specs.SharedView.{IsExact, Serves, SharedView, Shows}
 
 -- what a contract sees of a machine: the harts, the text that each of them fetches, and what they share
 pub record MachineView : Type 0 where
@@ -38,6 +38,11 @@ pub record Represents (machine : MachineView) (c : Config) : Type 0 where
   pub harts : machine.harts ≡ c.harts
   pub shared : Shows machine.shared c.common
   pub copies : (h : ℕ) → h < length machine.harts → copy_of machine h ≡ copied c.common.initial h c.common.history
+
+-- it represents the configuration with the one cache that the requests and evictions of its history leave
+pub record RepresentsExactly (machine : MachineView) (c : Config) : Type 0 where
+  pub represents : Represents machine c
+  pub exact : IsExact machine.shared c.common
 
 -- hart h, whose state is s, after the reply to the request of its instruction i
 pub record Answers (old new : SharedView) (h : ℕ) (s : HartState) (i : Instr) (request : Request) (after : HartState) : Type 0 where
@@ -67,3 +72,12 @@ pub record Runs (old new : MachineView) (steps : List Step) : Type 0 where
   pub lines : length new.shared.cache.lines ≡ length old.shared.cache.lines
   pub capacity : new.shared.cache.cache.capacity ≡ old.shared.cache.cache.capacity
   pub represents : (c : Config) → Represents old c → (d : Config) × RunsTo c steps d × Represents new d
+
+-- whatever the old machine represents exactly, the new one represents exactly what these steps make of it
+pub record RunsExactly (old new : MachineView) (steps : List Step) : Type 0 where
+  pub represents : (c : Config) → RepresentsExactly old c → (d : Config) × RunsTo c steps d × RepresentsExactly new d
+
+-- both
+pub record RunsBoth (old new : MachineView) (steps : List Step) : Type 0 where
+  pub runs : Runs old new steps
+  pub exact : RunsExactly old new steps

@@ -4,7 +4,7 @@ use Rattle.std.proofs.lemmas.List.Elements.{All-append, All-nil}
 use Rattle.schedule.specs.declared.items.Step.{Step}
 use Rattle.schedule.specs.declared.items.Step.TheVariants.{Hart, Evict}
 use Rattle.machine.specs.Run.{Config, RunsTo}
-use Rattle.machine.specs.Represents.{IsThere, MachineView, Runs}
+use Rattle.machine.specs.Represents.{IsThere, MachineView, Runs, RunsBoth, RunsExactly}
 
 -- no step changes nothing
 pub runs_none : (m : MachineView) → Runs m m []
@@ -35,4 +35,25 @@ runs_more old middle new xs ys a b = record {
       let first = a.represents c s in
       let then = b.represents first.0 first.2 in
       (then.0, joined xs ys c first.0 then.0 first.1 then.1, then.2);
+}
+
+pub exactly_none : (m : MachineView) → RunsExactly m m []
+exactly_none m = record { represents = λ c s. (c, refl, s) }
+
+pub exactly_more : (old middle new : MachineView) (xs ys : List Step) → RunsExactly old middle xs → RunsExactly middle new ys
+    → RunsExactly old new (xs ++ ys)
+exactly_more old middle new xs ys a b = record {
+  represents = λ c s.
+      let first = a.represents c s in
+      let then = b.represents first.0 first.2 in
+      (then.0, joined xs ys c first.0 then.0 first.1 then.1, then.2);
+}
+
+pub both_none : (m : MachineView) → RunsBoth m m []
+both_none m = record { runs = runs_none m; exact = exactly_none m }
+
+pub both_more : (old middle new : MachineView) (xs ys : List Step) → RunsBoth old middle xs → RunsBoth middle new ys → RunsBoth old new (xs ++ ys)
+both_more old middle new xs ys a b = record {
+  runs = runs_more old middle new xs ys a.runs b.runs;
+  exact = exactly_more old middle new xs ys a.exact b.exact;
 }

@@ -6,9 +6,10 @@ ghost use Rattle.crash_model.specs.Image.{image};
 ghost use Rattle.crash_model.specs.WrittenBack.{back};
 ghost use Rattle.store_trace.specs.History.{history};
 ghost use Rattle.clean_fence.specs.Represents.{AreAmong};
+ghost use Rattle.shared_memory.specs.Cached.{medium_left};
 ghost use Rattle.shared_memory.specs.Persisted.{persisted, touched};
 ghost use Rattle.hart.specs.Effect.{start};
-ghost use Rattle.hart.specs.Needs.{Needs};
+ghost use Rattle.hart.specs.Needs.{IsInstruction, Needs};
 ghost use Rattle.hart.specs.Requests.{IsRequest};
 ghost use Rattle.std.specs.List.{range_with_len};
 ghost use Rattle.store_trace.specs.TraceView.{NamesLine};
@@ -17,13 +18,11 @@ ghost use Rattle.machine.specs.Refusals.{LacksHart, LacksLine, Refuses};
 ghost use Rattle.shared_memory.specs.Refusals.{RefusesRequest};
 ghost use Rattle.machine.specs.Run.{Config, fetched as fetched_from, started};
 ghost use Rattle.machine.specs.Stops.{is_stopped};
-ghost use Rattle.machine.specs.Represents.{Answers, IsRunning, NeedsAt, Runs, Represents, copy_of};
+ghost use Rattle.machine.specs.Represents.{Answers, IsRunning, NeedsAt, Runs, RunsExactly, Represents, RepresentsExactly, copy_of};
 ghost use Rattle.shared_memory.specs.SharedView.{Evicts, memory_of};
 
 use crate::text_copy::{TextCopy, renew_after, starting_copies};
-use hart::{
-    Advance, HartState, Need, Request, Status, Trap, advance, instruction, next, take_reply,
-};
+use hart::{Advance, HartState, Need, Request, Status, Trap, advance, next, take_reply};
 use isa_table::Instr;
 use line_memory::Medium;
 use program::Program;
@@ -77,6 +76,7 @@ impl Machine {
         capacity: u32,
     ) -> Result<Machine, StepFault>
         ensures ok { IfOk result (λ machine. Represents machine (started program medium harts)) }
+        ensures exact { IfOk result (λ machine. RepresentsExactly machine (started program medium harts)) }
         ensures lines { IfOk result (λ machine. machine.shared.cache.lines ≡ medium) }
         ensures capacity { IfOk result (λ machine. machine.shared.cache.cache.capacity ≡ capacity) }
         ensures count { (result ≡ Err StepFault.NoSuchHart) ↔ ((harts < 1) ⊎ (8 < harts)) }
@@ -110,9 +110,12 @@ impl Machine {
     }
 
     /// Makes one step of a schedule. A refused step changes nothing.
+    #[inline(always)]
+    #[inline(always)]
     pub fn step(&mut self, step: Step) -> Result<Outcome, StepFault>
         ensures ok { IfOk result (λ outcome. outcome ≡ outcome_after self.old.harts self.new.harts step) }
         ensures runs { OnOk result (Runs self.old self.new (step ∷ [])) }
+        ensures exact { OnOk result (RunsExactly self.old self.new (step ∷ [])) }
         ensures event { OnOk result (MakesEvent self.old step → length self.new.shared.trace ≡ length self.old.shared.trace + 1) }
         ensures limit { length self.new.shared.trace ≤ 65536 }
         ensures named { All (NamesLine (length self.new.shared.cache.lines)) self.new.shared.trace }
@@ -196,15 +199,22 @@ impl Machine {
         ensures written_back { (c : Config) (lines : List ℕ) → Represents self c → length lines ≤ self.shared.cache.cache.capacity →
             AreAmong (touched c.common.history) lines →
             result.0 ≡ image c.common.start (λ l. (back l (persisted c.common.history)).count) (history c.common.trace) }
+
+        // at any capacity it is the medium behind the one cache that the requests and evictions of the run leave
+        ensures exact { (c : Config) → RepresentsExactly self c →
+            result.0 ≡ medium_left self.shared.cache.cache.capacity c.common.start c.common.history }
     {
         let Machine { shared, .. } = self;
         shared.power_cut()
     }
 
+    #[inline(always)]
+    #[inline(always)]
     fn step_hart(&mut self, hart: u32) -> Result<Outcome, StepFault>
         ensures there { OnOk result (hart < length self.old.harts) }
         ensures ok { IfOk result (λ outcome. outcome ≡ outcome_after self.old.harts self.new.harts (Step.Hart hart)) }
         ensures runs { OnOk result (Runs self.old self.new (Step.Hart hart ∷ [])) }
+        ensures exact { OnOk result (RunsExactly self.old self.new (Step.Hart hart ∷ [])) }
         ensures event { OnOk result (MakesEvent self.old (Step.Hart hart) → length self.new.shared.trace ≡ length self.old.shared.trace + 1) }
         ensures limit { length self.new.shared.trace ≤ 65536 }
         ensures named { All (NamesLine (length self.new.shared.cache.lines)) self.new.shared.trace }
@@ -224,6 +234,7 @@ impl Machine {
         ensures ok { IfOk result (λ outcome. outcome ≡ Outcome.Done) }
         ensures there { OnOk result (line < length self.old.shared.cache.lines) }
         ensures runs { OnOk result (Runs self.old self.new (Step.Evict line ∷ [])) }
+        ensures exact { OnOk result (RunsExactly self.old self.new (Step.Evict line ∷ [])) }
         ensures event { OnOk result (MakesEvent self.old (Step.Evict line) → length self.new.shared.trace ≡ length self.old.shared.trace + 1) }
         ensures limit { length self.new.shared.trace ≤ 65536 }
         ensures named { All (NamesLine (length self.new.shared.cache.lines)) self.new.shared.trace }
@@ -235,20 +246,23 @@ impl Machine {
     }
 
     /// Makes the next instruction of a running hart.
+    #[inline(always)]
+    #[inline(always)]
     fn execute(&mut self, hart: u32) -> Result<Outcome, StepFault>
         requires running { IsRunning (slice_get self.old.harts hart) }
         ensures ok { IfOk result (λ outcome. outcome ≡ outcome_after self.old.harts self.new.harts (Step.Hart hart)) }
         ensures runs { OnOk result (Runs self.old self.new (Step.Hart hart ∷ [])) }
+        ensures exact { OnOk result (RunsExactly self.old self.new (Step.Hart hart ∷ [])) }
         ensures event { OnOk result (MakesEvent self.old (Step.Hart hart) → length self.new.shared.trace ≡ length self.old.shared.trace + 1) }
         ensures limit { length self.new.shared.trace ≤ 65536 }
         ensures named { All (NamesLine (length self.new.shared.cache.lines)) self.new.shared.trace }
         ensures err { OnErr result (self.new ≡ self.old) }
         ensures refused { IfErr result (Refuses self.old (Step.Hart hart)) }
     {
-        let fetched = self.fetch(hart, self.hart(hart).pc);
+        let next = self.instruction(hart, self.hart(hart).pc);
         let harts = &mut self.harts;
         let state = &mut harts[hart as usize];
-        let instr = match instruction(fetched) {
+        let instr = match next {
             Ok(instr) => instr,
             Err(trap) => {
                 state.status = Status::Trapped(trap);
@@ -273,6 +287,16 @@ impl Machine {
     {
         let copy = &self.copies[hart as usize];
         copy.fetch(pc)
+    }
+
+    /// The instruction that the word of a hart's copy of the text at `pc` spells, or the trap where there is none.
+    #[inline(always)]
+    fn instruction(&self, hart: u32, pc: u64) -> Result<Instr, Trap>
+        requires { hart < length self.now.harts }
+        ensures { IsInstruction (fetched_from (copy_of self.now hart) pc) result }
+    {
+        let copy = &self.copies[hart as usize];
+        copy.instruction(pc)
     }
 }
 

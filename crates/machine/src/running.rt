@@ -1,8 +1,9 @@
 //! Runs of a schedule.
 
 ghost use Rattle.std.specs.Prelude.{OnOk, IfErr};
+ghost use Rattle.schedule.specs.Places.{steps_before};
 ghost use Rattle.schedule.specs.Steps.{all_steps};
-ghost use Rattle.machine.specs.Represents.{Runs};
+ghost use Rattle.machine.specs.Represents.{Runs, RunsExactly};
 ghost use Rattle.machine.specs.Stops.{StopsAt};
 
 use crate::fault::RunStop;
@@ -11,13 +12,13 @@ use schedule::{Place, Schedule, Step, Stepper, walk};
 use shared_memory::StepFault;
 
 impl Stepper for Machine {
-    ghost use Rattle.machine.specs.RunLaws.{runs_more, runs_none};
+    ghost use Rattle.machine.specs.RunLaws.{both_more, both_none};
     ghost use Rattle.machine.specs.Refusals.{IsRefused};
-    ghost use Rattle.machine.specs.Represents.{Runs};
+    ghost use Rattle.machine.specs.Represents.{RunsBoth};
 
     type Halt = StepFault;
 
-    ghost makes = { λ old steps new. Runs old new steps };
+    ghost makes = { λ old steps new. RunsBoth old new steps };
 
     ghost halts = { IsRefused };
 
@@ -36,17 +37,19 @@ impl Stepper for Machine {
         }
     }
 
-    ghost no_step = { runs_none };
+    ghost no_step = { both_none };
 
-    ghost more_steps = { runs_more };
+    ghost more_steps = { both_more };
 }
 
 impl Machine {
     /// Carries out the items of a schedule, in order, up to the first step that is refused. The steps before it stand.
-    #[tactic(auto, using(crate::proofs::Steps::stops_at))]
+    #[tactic(auto, using(crate::proofs::Steps::both_stop_at, crate::proofs::Steps::exact_up_to))]
     pub fn run(&mut self, schedule: &Schedule) -> Result<(), RunStop>
         ensures ok { OnOk result (Runs self.old self.new (all_steps schedule.now)) }
+        ensures exact { OnOk result (RunsExactly self.old self.new (all_steps schedule.now)) }
         ensures err { IfErr result (StopsAt self.old self.new schedule.now) }
+        ensures exact_up_to { IfErr result (λ stop. RunsExactly self.old self.new (steps_before schedule.now stop.place.item stop.place.steps)) }
     {
         walk(self, schedule, Place::start())?;
         Ok(())

@@ -1,33 +1,45 @@
 //! A hart's copy of the text, from which it fetches.
 
-ghost use Rattle.std.specs.Prelude.{◌≡◌, ◌+◌, ◌<◌, ◌≤◌, ◌++◌, ◌∷◌, [], replicate, length, IfOk, IfErr};
+ghost use Rattle.std.specs.Prelude.{◌≡◌, ◌+◌, ◌*◌, ◌<◌, ◌≤◌, ℕ, List, ◌++◌, ◌∷◌, [], replicate, length, IfOk, IfErr, OnOk};
+ghost use Rattle.hart.specs.Needs.{IsInstruction};
 ghost use Rattle.line_memory.specs.declared.TheConstants.{TEXT_SIZE};
+ghost use Rattle.machine.specs.Decoded.{AreDecoded, AreMixed};
 ghost use Rattle.machine.specs.Run.{fetched};
 ghost use Rattle.machine.specs.Represents.{copies_after, text_bytes};
 ghost use Rattle.word_bits.specs.Bytes.{loaded};
 
 use byteorder::{ByteOrder, LittleEndian};
-use hart::Request;
-use line_memory::{TEXT_BASE, TEXT_SIZE};
+use hart::{Request, Trap, instruction};
+use isa_table::Instr;
+use line_memory::{LINE_SIZE, TEXT_BASE, TEXT_SIZE};
 use shared_memory::StepFault;
 use std::alloc::Global;
 use std::marker::Model;
+
+/// The number of words of the text region.
+const WORDS: usize = 16_384;
+
+/// The number of words of a line.
+const WORDS_OF_LINE: usize = LINE_SIZE / 4;
 
 /// The bytes of a whole text region, as they stood when the copy was made or last renewed.
 #[derive(Drop)]
 pub struct TextCopy {
     bytes: Vec<u8>,
+    /// The instruction that each of their words spells, or the trap where it spells none.
+    decoded: Vec<Result<Instr, Trap>>,
 }
 
 impl Model for TextCopy {
     ghost use Rattle.std.specs.Prelude.{◌≡◌, ℕ, List, length};
     ghost use Rattle.line_memory.specs.declared.TheConstants.{TEXT_SIZE};
+    ghost use Rattle.machine.specs.Decoded.{AreDecoded};
 
     ghost Value = { List ℕ };
 
     ghost view = { λ t. t.bytes.items };
 
-    ghost invariant = { λ t. length t.bytes.items ≡ TEXT_SIZE };
+    ghost invariant = { λ t. (length t.bytes.items ≡ TEXT_SIZE) × AreDecoded t.bytes.items t.decoded.items };
 }
 
 impl TextCopy {
@@ -37,8 +49,9 @@ impl TextCopy {
         ensures ok { IfOk result (λ made. made ≡ text.now) }
         ensures err { IfErr result (λ fault. fault ≡ StepFault.Memory) }
     {
+        let decoded = decode_words(alloc, text)?;
         match text.to_vec(alloc) {
-            Ok(bytes) => Ok(TextCopy { bytes }),
+            Ok(bytes) => Ok(TextCopy { bytes, decoded }),
             Err(_) => Err(StepFault::Memory),
         }
     }
@@ -48,6 +61,7 @@ impl TextCopy {
         requires { length text.now ≡ TEXT_SIZE }
         ensures { self.new ≡ text.now }
     {
+        decode_changed(&mut self.decoded, &self.bytes, text);
         self.bytes.copy_from_slice(text);
     }
 
@@ -67,6 +81,77 @@ impl TextCopy {
             return None;
         }
         Some(word_at(&self.bytes, (pc - TEXT_BASE) as usize))
+    }
+
+    /// The instruction that the word at `pc` spells, or the trap where there is none.
+    #[inline(always)]
+    pub fn instruction(&self, pc: u64) -> Result<Instr, Trap>
+        ensures { IsInstruction (fetched (text_bytes self.now) pc) result }
+    {
+        if pc < TEXT_BASE || pc >= TEXT_BASE + TEXT_SIZE {
+            return Err(Trap::OutsideText);
+        }
+        let place = pc - TEXT_BASE;
+        if place % 4 != 0 {
+            return instruction(self.fetch(pc));
+        }
+        self.decoded[(place / 4) as usize]
+    }
+}
+
+/// The instructions that the words of a text spell.
+#[tactic(auto, using(crate::proofs::Decoding::more_decoded))]
+fn decode_words(alloc: Global, text: &[u8]) -> Result<Vec<Result<Instr, Trap>>, StepFault>
+    requires { length text.now ≡ TEXT_SIZE }
+    ensures ok { IfOk result (λ decoded. AreDecoded text.now decoded.items) }
+    ensures err { IfErr result (λ fault. fault ≡ StepFault.Memory) }
+{
+    let mut decoded = Vec::new(alloc);
+    for word in 0..WORDS {
+        push_instruction(&mut decoded, instruction(Some(word_at(text, 4 * word))))?;
+    }
+    Ok(decoded)
+}
+
+fn push_instruction(
+    decoded: &mut Vec<Result<Instr, Trap>>,
+    instr: Result<Instr, Trap>,
+) -> Result<(), StepFault>
+    ensures ok { OnOk result (decoded.new.items ≡ decoded.old.items ++ instr ∷ []) }
+    ensures err { IfErr result (λ fault. fault ≡ StepFault.Memory) }
+{
+    match decoded.push(instr) {
+        Ok(()) => Ok(()),
+        Err(_) => Err(StepFault::Memory),
+    }
+}
+
+/// Decodes the lines of a text anew in which it differs from the one before.
+#[tactic(auto, using(crate::proofs::Decoding::none_mixed, crate::proofs::Decoding::all_mixed))]
+fn decode_changed(decoded: &mut [Result<Instr, Trap>], before: &[u8], text: &[u8])
+    requires before { length before.now ≡ TEXT_SIZE }
+    requires whole { length text.now ≡ TEXT_SIZE }
+    requires decoded { AreDecoded before.now decoded.old }
+    ensures { AreDecoded text.now decoded.new }
+{
+    for line in 0..WORDS / WORDS_OF_LINE {
+        let at = line * LINE_SIZE;
+        if before[at..at + LINE_SIZE] != text[at..at + LINE_SIZE] {
+            decode_line(decoded, text, line);
+        }
+    }
+}
+
+/// Decodes the words of a line of a text anew.
+fn decode_line(decoded: &mut [Result<Instr, Trap>], text: &[u8], line: usize)
+    requires line { 16 * line + 16 ≤ length decoded.old }
+    requires whole { 4 * length decoded.old ≤ length text.now }
+    ensures count { length decoded.new ≡ length decoded.old }
+    ensures mixed { (before : List ℕ) → AreMixed text.now before (16 * line) decoded.old → AreMixed text.now before (16 * line + 16) decoded.new }
+{
+    let first = line * WORDS_OF_LINE;
+    for word in first..first + WORDS_OF_LINE {
+        decoded[word] = instruction(Some(word_at(text, 4 * word)));
     }
 }
 

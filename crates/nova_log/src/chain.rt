@@ -14,21 +14,21 @@ use crate::source::LineSource;
 use crate::superblock::Geometry;
 use crate::{Shape, VolumeFault};
 use line_memory::{LINE_SIZE, load_bytes};
-use std::alloc::{AllocError, Global};
+use std::alloc::AllocError;
 
-/// Asks for the links of a log from its head to its tail. The result is the positions of its entries.
+/// Asks for the links of a log from its head to its tail. The positions become those of its entries.
 #[tactic(auto, using(crate::proofs::Questions::leads_start, crate::proofs::Questions::leads_more, crate::proofs::Questions::leads_end, crate::proofs::Questions::leads_stopped, crate::proofs::Chains::chain_ended, crate::proofs::Chains::chain_goes, crate::proofs::Chains::links_ended, crate::proofs::Chains::links_go, crate::proofs::Chains::page_room))]
 pub(crate) fn read_chain<S: LineSource>(
-    alloc: Global,
     source: &mut S,
     geometry: &Geometry,
     inode: Inode,
-) -> Result<Vec<u64>, VolumeFault>
+    positions: &mut Vec<u64>,
+) -> Result<(), VolumeFault>
     requires sound { IsGeometry geometry.now (length (S.medium source.old)) }
     requires head { is_page geometry.now.pages inode.head ≡ true }
     ensures same { S.medium source.new ≡ S.medium source.old }
-    ensures positions { IfOk result (λ p. p.items ≡ chain geometry.now.shape (S.medium source.old) inode.tail geometry.now.pages inode.head) }
-    ensures room { IfOk result (λ p. All (λ position. position + 128 ≤ page_at geometry.now.pages) p.items) }
+    ensures positions { OnOk result (positions.new.items ≡ chain geometry.now.shape (S.medium source.old) inode.tail geometry.now.pages inode.head) }
+    ensures room { OnOk result (All (λ position. position + 128 ≤ page_at geometry.now.pages) positions.new.items) }
     ensures ok { IfOk result (λ _.
         IsThrough (link_questions geometry.now.shape geometry.now.pages (S.medium source.old) inode.tail geometry.now.pages inode.head)
         (S.asked source.old) (S.asked source.new)) }
@@ -36,13 +36,13 @@ pub(crate) fn read_chain<S: LineSource>(
         ⊎ IsStopped (link_questions geometry.now.shape geometry.now.pages (S.medium source.old) inode.tail geometry.now.pages inode.head)
         fault (S.asked source.old) (S.asked source.new)) }
 {
-    let mut positions = Vec::new(alloc);
+    positions.clear();
     let mut page = inode.head;
     let mut more = geometry.pages;
     'pages: loop {
-        push_positions(&mut positions, &geometry.shape, page, inode.tail)?;
+        push_positions(positions, &geometry.shape, page, inode.tail)?;
         if is_ended(&geometry.shape, page, inode.tail) {
-            return Ok(positions);
+            return Ok(());
         }
         more -= 1;
         page = read_link(source, geometry, page, more)?;
@@ -79,6 +79,7 @@ fn read_link<S: LineSource>(
 
 /// The next page, by a link line.
 #[tactic(auto, unfolding(crate::specs::Chains::link_fault))]
+#[inline(always)]
 fn next_page(line: &[u8; LINE_SIZE], pages: u64, more: u64) -> Result<u64, VolumeFault>
     requires whole { length line.now ≡ 64 }
     requires pages { pages ≤ 240 }
@@ -99,6 +100,7 @@ fn next_page(line: &[u8; LINE_SIZE], pages: u64, more: u64) -> Result<u64, Volum
 }
 
 /// Adds the positions of a page's entries before the tail.
+#[inline(always)]
 fn push_positions(
     positions: &mut Vec<u64>,
     shape: &Shape,
@@ -116,6 +118,7 @@ fn push_positions(
 }
 
 /// How many of a page's entries stand before the tail.
+#[inline(always)]
 fn count_before(shape: &Shape, page: u64, tail: u64) -> u64
     requires shape { IsShape shape.now }
     requires page { page < 2 ^ 32 }
@@ -130,6 +133,7 @@ fn count_before(shape: &Shape, page: u64, tail: u64) -> u64
 }
 
 /// The position of a page's link line, after all of its entries.
+#[inline(always)]
 fn link_position(shape: &Shape, page: u64) -> u64
     requires shape { IsShape shape.now }
     requires page { page < 2 ^ 32 }
@@ -139,6 +143,7 @@ fn link_position(shape: &Shape, page: u64) -> u64
 }
 
 /// Whether a chain ends in this page.
+#[inline(always)]
 fn is_ended(shape: &Shape, page: u64, tail: u64) -> bool
     requires shape { IsShape shape.now }
     requires page { page < 2 ^ 32 }

@@ -1,6 +1,6 @@
 //! The entries of a log.
 
-ghost use Rattle.std.specs.Prelude.{◌≡◌, ◌⊎◌, ◌+◌, ◌/◌, ◌<◌, ◌≤◌, ◌&&◌, leb, Some, None, length, map, slice_index, IfErr, IfOk};
+ghost use Rattle.std.specs.Prelude.{◌≡◌, ◌⊎◌, ◌+◌, ◌++◌, ◌/◌, ◌<◌, ◌≤◌, ◌&&◌, leb, Some, None, drop, length, map, slice_index, take, IfErr, IfOk};
 ghost use Rattle.std.specs.List.{All, flat_map};
 ghost use Rattle.nova_log.specs.Entries.{entry_at, entry_fault, entry_in, entry_questions, kind_of};
 ghost use Rattle.nova_log.specs.Questions.{IsStopped, IsThrough};
@@ -41,7 +41,7 @@ pub(crate) fn read_entries<S: LineSource>(
     ensures err { IfErr result (λ fault. (fault ≡ VolumeFault.Memory)
         ⊎ IsStopped (flat_map (entry_questions longest (S.medium source.old)) positions.now) fault (S.asked source.old) (S.asked source.new)) }
 {
-    let mut log = Log::new(alloc);
+    let mut log = Log::with_capacity(alloc, positions.len())?;
     for position in positions {
         let entry = read_entry(source, longest, *position)?;
         log.push(entry)?;
@@ -51,6 +51,7 @@ pub(crate) fn read_entries<S: LineSource>(
 
 /// Asks for an entry's first line, and where its name goes on there for its second.
 #[tactic(auto, using(crate::proofs::Questions::through_one, crate::proofs::Questions::stopped_one, crate::proofs::Questions::through_both, crate::proofs::Questions::stopped_second, crate::proofs::Questions::stopped_first, crate::proofs::Entries::short_entry))]
+#[inline(always)]
 fn read_entry<S: LineSource>(
     source: &mut S,
     longest: u8,
@@ -78,6 +79,7 @@ fn read_entry<S: LineSource>(
 
 /// What an entry's first line says of its kind and its name.
 #[tactic(auto, unfolding(crate::specs::Entries::entry_fault))]
+#[inline(always)]
 fn header_of(line: &[u8; LINE_SIZE], longest: u8) -> Result<Header, VolumeFault>
     requires whole { length line.now ≡ 64 }
     requires longest { longest ≤ 96 }
@@ -101,6 +103,7 @@ fn header_of(line: &[u8; LINE_SIZE], longest: u8) -> Result<Header, VolumeFault>
 }
 
 /// Whether a name may have so many bytes.
+#[inline(always)]
 fn is_length(bytes: u8, longest: u8) -> bool
     ensures { result ≡ (leb 1 bytes && leb bytes longest) }
 {
@@ -108,7 +111,8 @@ fn is_length(bytes: u8, longest: u8) -> bool
 }
 
 /// The entry of two lines, of which the first has this header.
-#[tactic(auto, using(crate::proofs::Entries::both_lines), unfolding(crate::specs::Entries::entry_in))]
+#[tactic(auto, unfolding(crate::specs::Entries::entry_in))]
+#[inline(always)]
 fn make_entry(header: Header, first: &[u8; LINE_SIZE], second: &[u8; LINE_SIZE]) -> Entry
     requires first { length first.now ≡ 64 }
     requires second { length second.now ≡ 64 }
@@ -117,13 +121,28 @@ fn make_entry(header: Header, first: &[u8; LINE_SIZE], second: &[u8; LINE_SIZE])
     requires short { header.name_length ≤ 96 }
     ensures { result ≡ entry_in first.now second.now }
 {
-    let mut bytes = [0; 2 * LINE_SIZE];
-    replace_bytes(&mut bytes, 0, first);
-    replace_bytes(&mut bytes, LINE_SIZE, second);
     Entry {
         operation: load_bytes(first, 8, 8),
         kind: header.kind,
-        name: Name::from_bytes(&bytes[NAME_AT..NAME_AT + header.name_length as usize]),
+        name: name_in(header.name_length, first, second),
         value: load_bytes(first, 16, 8),
     }
+}
+
+/// The name of so many bytes that two lines hold.
+#[tactic(auto, using(crate::proofs::Entries::both_lines))]
+fn name_in(bytes: u8, first: &[u8; LINE_SIZE], second: &[u8; LINE_SIZE]) -> Name
+    requires first { length first.now ≡ 64 }
+    requires second { length second.now ≡ 64 }
+    requires short { bytes ≤ 96 }
+    ensures { result ≡ take bytes (drop 24 (first.now ++ second.now)) }
+{
+    // A write has none, and most entries are writes.
+    if bytes == 0 {
+        return Name::empty();
+    }
+    let mut both = [0; 2 * LINE_SIZE];
+    replace_bytes(&mut both, 0, first);
+    replace_bytes(&mut both, LINE_SIZE, second);
+    Name::from_bytes(&both[NAME_AT..NAME_AT + bytes as usize])
 }

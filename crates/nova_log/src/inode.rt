@@ -48,7 +48,7 @@ pub(crate) fn read_inodes<S: LineSource>(
         ⊎ IsStopped (flat_map (inode_questions geometry.now.pages (S.medium source.old)) (range_with_len 0 geometry.now.inodes))
         fault (S.asked source.old) (S.asked source.new)) }
 {
-    let mut inodes = Vec::new(alloc);
+    let mut inodes = Vec::with_capacity(alloc, geometry.inodes as usize)?;
     for n in 0..geometry.inodes {
         let own = read_inode(source, geometry.pages, n)?;
         let inode = Inode {
@@ -61,6 +61,7 @@ pub(crate) fn read_inodes<S: LineSource>(
 }
 
 /// The tail that is restored for inode n, or else its own.
+#[inline(always)]
 fn restored_or(restored: &Restored, n: u64, own: u64) -> u64
     requires { n < 64 }
     ensures { result ≡ unwrap_or (slice_index_or restored.now n None) own }
@@ -70,6 +71,7 @@ fn restored_or(restored: &Restored, n: u64, own: u64) -> u64
 
 /// Asks for an inode, whose tail is its own.
 #[tactic(auto, using(crate::proofs::Questions::through_one, crate::proofs::Questions::stopped_one))]
+#[inline(always)]
 fn read_inode<S: LineSource>(source: &mut S, pages: u64, n: u64) -> Result<Inode, VolumeFault>
     requires room { 512 ≤ length (S.medium source.old) }
     requires few { n < 64 }
@@ -90,6 +92,7 @@ fn read_inode<S: LineSource>(source: &mut S, pages: u64, n: u64) -> Result<Inode
 
 /// The inode that a line holds.
 #[tactic(auto, unfolding(crate::specs::Inodes::head_fault))]
+#[inline(always)]
 fn inode_of(line: &[u8; LINE_SIZE], pages: u64) -> Result<Inode, VolumeFault>
     requires whole { length line.now ≡ 64 }
     requires pages { pages ≤ 240 }
@@ -109,6 +112,7 @@ fn inode_of(line: &[u8; LINE_SIZE], pages: u64) -> Result<Inode, VolumeFault>
 }
 
 /// Whether this is the offset of one of so many pages.
+#[inline(always)]
 pub(crate) fn is_page_offset(pages: u64, offset: u64) -> bool
     requires { pages ≤ 240 }
     ensures { result ≡ is_page pages offset }

@@ -64,20 +64,22 @@ fn read_logs<S: LineSource>(
     ensures err { IfErr result (λ fault. (fault ≡ VolumeFault.Memory)
         ⊎ IsStopped (flat_map (log_questions geometry.now (S.medium source.old)) inodes.now) fault (S.asked source.old) (S.asked source.new)) }
 {
-    let mut volume = Volume::new(alloc);
+    let mut volume = Volume::with_capacity(alloc, inodes.len())?;
+    let mut positions = Vec::new(alloc);
     for inode in inodes {
-        let log = read_log(alloc, source, geometry, *inode)?;
+        let log = read_log(alloc, source, geometry, *inode, &mut positions)?;
         volume.push_log(log)?;
     }
     Ok(volume)
 }
 
-/// Asks for the links of a log, and then for its entries.
+/// Asks for the links of a log, and then for its entries, whose positions are noted.
 fn read_log<S: LineSource>(
     alloc: Global,
     source: &mut S,
     geometry: &Geometry,
     inode: Inode,
+    positions: &mut Vec<u64>,
 ) -> Result<Log, VolumeFault>
     requires sound { IsGeometry geometry.now (length (S.medium source.old)) }
     requires head { is_page geometry.now.pages inode.head ≡ true }
@@ -87,7 +89,7 @@ fn read_log<S: LineSource>(
     ensures err { IfErr result (λ fault. (fault ≡ VolumeFault.Memory)
         ⊎ IsStopped (log_questions geometry.now (S.medium source.old) inode) fault (S.asked source.old) (S.asked source.new)) }
 {
-    let positions = read_chain(alloc, source, geometry, inode)?;
+    read_chain(source, geometry, inode, positions)?;
     let log = read_entries(
         alloc,
         source,

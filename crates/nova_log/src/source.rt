@@ -88,6 +88,7 @@ impl LineSource for MediumLines<'_> {
 }
 
 /// Adds an item at the end.
+#[inline(always)]
 pub(crate) fn push_item<T: Drop>(items: &mut Vec<T>, item: T) -> Result<(), AllocError>
     ensures { OnOk result (items.new.items ≡ items.old.items ++ item ∷ []) }
 {

@@ -87,5 +87,5 @@ named_of_new s schedule old new traced events at traces named =
 -- why a run isn't traced is why there is none
 pub stops : (s : Setup) (schedule : List Item) (old : MachineView) (stop : RunStop) → IsAtStart s old → StopsTracing old schedule stop
     → FailsToRun s schedule stop.fault
-stops s schedule old stop at (inl memory) = inl memory
+stops s schedule old stop at (inl memory) = inl memory.0
 stops s schedule old stop at (inr refused) = stops_at s schedule old refused.new stop at refused.stops refused.few

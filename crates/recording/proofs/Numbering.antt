@@ -1,7 +1,6 @@
--- The hart steps of a run are counted, and its events are numbered by them.
-use Rattle.std.proofs.Common.{◌≡◌, ℕ, zero, suc, ◌+◌, ◌<◌, ◌≤◌, ◌⊎◌, List, [], ◌∷◌, ◌++◌, length, take, replicate, Some, true, All, Option, None, slice_get, get_or, refl, sym, ap, ◌∙◌, inl, inr, arith, subst, ◌^◌, append_assoc}
-use Rattle.std.proofs.lemmas.Bool.{cases_lt}
-use Rattle.std.proofs.lemmas.List.{length-append, take_more}
+-- The events of a run are numbered by its hart steps.
+use Rattle.std.proofs.Common.{◌≡◌, ℕ, zero, suc, ◌+◌, ◌<◌, ◌≤◌, ◌⊎◌, List, [], ◌∷◌, ◌++◌, length, take, map, Some, All, Option, None, slice_get, get_or, refl, sym, ap, ◌∙◌, inl, inr, arith, append_assoc, append-nil}
+use Rattle.std.proofs.lemmas.List.{length-append, length-map, map-append, take_more}
 use Rattle.std.proofs.lemmas.Option.{slice_get-get_or, slice_get_within}
 use Rattle.hart.specs.declared.state.HartState.{HartState}
 use Rattle.schedule.specs.declared.items.Item.{Item}
@@ -9,25 +8,20 @@ use Rattle.schedule.specs.declared.items.Step.{Step}
 use Rattle.schedule.specs.declared.items.Step.TheVariants.{Hart, Evict}
 use Rattle.schedule.specs.Steps.{all_steps}
 use Rattle.store_trace.specs.declared.event.Event.{Event}
-use Rattle.recording.specs.Recorded.{AreNumbers, IsAmong, IsMadeBy, MayLackRoom, RecordedView, Records, StopsRecording}
+use Rattle.recording.specs.Recorded.{AreNumbers, IsAmong, IsAtStep, IsMadeBy, MayLackRoom, RecordedView, Records, StopsRecording}
 use Rattle.recording.proofs.Leaving.{left_at}
+use Rattle.run_trace.specs.Traced.{StopsTracing, TakesMemory, TracedRun, TracedStep, Traces, events_in, passed}
+use Rattle.run_trace.specs.declared.traced_event.TracedEvent.{TracedEvent}
+use Rattle.run_trace.proofs.Traces.{has_events, is_run}
 use Rattle.machine.specs.Evicting.{hart_steps}
-use Rattle.recording.specs.Recorders.{Continues, HasRecorded, IsHeld, Makes, MayGrow, RecorderView}
-use Rattle.machine.specs.Run.{Config, RunsTo, StepsTo}
-use Rattle.machine.specs.Refusals.{Refuses}
-use Rattle.machine.specs.Represents.{IsRunning, IsThere, MachineView, Runs, Represents}
-use Rattle.machine.specs.Stops.{is_stopped}
-use Rattle.schedule.specs.Grammar.{hart_steps as count_of_hart_steps}
-use Rattle.schedule.specs.Places.{steps_after}
-use Rattle.schedule.specs.Walks.{Comes, HaltsAt}
+use Rattle.machine.specs.Run.{Config, RunsTo}
+use Rattle.machine.specs.Refusals.{RefusesNext}
+use Rattle.machine.specs.Represents.{IsRunning, IsThere, MachineView, Represents}
 use Rattle.schedule.specs.declared.place.Place.{Place}
-use Rattle.schedule.proofs.Places.{after_start, step_there}
-use Rattle.machine.proofs.Counting.{all_counted, counted, items_counted}
+use Rattle.machine.proofs.Counting.{counted}
 use Rattle.machine.specs.declared.fault.RunStop.{RunStop}
-use Rattle.shared_memory.specs.declared.fault.StepFault.{StepFault}
 use Rattle.shared_memory.specs.declared.fault.StepFault.TheVariants.{Memory}
 use Rattle.machine.proofs.RunParts.{grows, run_joined}
-use Rattle.machine.proofs.Steps.{stopped_runs}
 
 -- a longer run has the same numbers
 made_kept : (c : Config) (steps more : List Step) (i n : ℕ) → IsMadeBy c steps i n → IsMadeBy c (steps ++ more) i n
@@ -65,142 +59,53 @@ numbers_pushed c steps numbers number all made i n got = elim (pushed_get number
   | inr last ↦ rw (last.0, last.1) made
 ]
 
--- steps that make no event
-recorded_same : (old new : RecorderView) (more : List Step) (c : Config) (past : List Step) (r : HasRecorded c past old) (end : Config)
-    → RunsTo r.end more end → Represents new.machine end → new.made ≡ old.made + length (hart_steps more)
-    → length end.common.trace ≡ length r.end.common.trace → new.numbers ≡ old.numbers → HasRecorded c (past ++ more) new
-recorded_same old new more c past r end runs stands made same numbers =
-    let count = counted past more in
-    let before = r.made in record {
-      end = end;
-      runs = run_joined c r.end end past more r.runs runs;
-      represents = stands;
-      made = omega arith;
-      each = ap (λ (l : List ℕ). length l) numbers ∙ r.each ∙ sym same;
-      numbers = rw numbers (numbers_kept c past more old.numbers r.numbers);
-    }
-
--- a hart step that makes an event
-recorded_event : (old new : RecorderView) (h : ℕ) (c : Config) (past : List Step) (r : HasRecorded c past old) (end : Config)
-    → StepsTo r.end (Hart h) end → Represents new.machine end → new.made ≡ old.made + 1
-    → length end.common.trace ≡ length r.end.common.trace + 1 → new.numbers ≡ old.numbers ++ new.made ∷ []
-    → HasRecorded c (past ++ Hart h ∷ []) new
-recorded_event old new h c past r end step stands made longer numbers =
-    let count = counted past (Hart h ∷ []) in
-    let number : new.made ≡ length (hart_steps past) + 1 = made ∙ ap (λ (n : ℕ). n + 1) r.made in
-    let last : IsMadeBy c (past ++ Hart h ∷ []) (length old.numbers) new.made = record {
+-- and those of the events of one step more
+one_more : (c d e : Config) (past : List Step) (step : Step) (numbers : List ℕ) (here : List TracedEvent) → RunsTo c past d
+    → length numbers ≡ length d.common.trace → AreNumbers c past numbers → TracedStep (length (hart_steps past)) d step e here
+    → AreNumbers c (past ++ step ∷ []) (numbers ++ map (λ (t : TracedEvent). t.step) here)
+one_more c d e past step numbers [] runs each are told = rw append-nil (numbers_kept c past (step ∷ []) numbers are)
+one_more c d e past (Evict line) numbers (t ∷ []) runs each are told = absurd (told.pcs 0 t (omega arith))
+one_more c d e past (Hart h) numbers (t ∷ []) runs each are told =
+    let longer = ap (λ (l : List Event). length l) told.events ∙ length-append d.common.trace (t.event ∷ []) in
+    numbers_pushed c (past ++ Hart h ∷ []) numbers t.step (numbers_kept c past (Hart h ∷ []) numbers are) (record {
       before = past;
       hart = h;
       after = [];
-      old = r.end;
-      new = end;
+      old = d;
+      new = e;
       split = refl;
-      number = number;
-      runs = r.runs;
-      makes = step;
-      earlier = sym r.each;
-      event = longer ∙ ap (λ (n : ℕ). n + 1) (sym r.each);
-    } in record {
-      end = end;
-      runs = run_joined c r.end end past (Hart h ∷ []) r.runs (end, step, refl);
-      represents = stands;
-      made = number ∙ sym count;
-      each = ap (λ (l : List ℕ). length l) numbers ∙ length-append old.numbers (new.made ∷ [])
-          ∙ ap (λ (n : ℕ). n + 1) r.each ∙ sym longer;
-      numbers = rw numbers (numbers_pushed c (past ++ Hart h ∷ []) old.numbers new.made
-          (numbers_kept c past (Hart h ∷ []) old.numbers r.numbers) last);
-    }
-
-recorded_hart : (old new : RecorderView) (h : ℕ) (c : Config) (past : List Step) (r : HasRecorded c past old) (end : Config)
-    → StepsTo r.end (Hart h) end → Represents new.machine end → new.made ≡ old.made + 1
-    → (length old.numbers < length new.machine.shared.trace → new.numbers ≡ old.numbers ++ new.made ∷ [])
-    → (length new.machine.shared.trace ≤ length old.numbers → new.numbers ≡ old.numbers)
-    → HasRecorded c (past ++ Hart h ∷ []) new
-recorded_hart old new h c past r end step stands made more same =
-    let g = grows r.end end (Hart h) step in
-    let all = ap (λ (t : List Event). length t) g.trace in
-    let sum = length-append r.end.common.trace g.more in
+      number = told.numbers 0 t (omega arith);
+      runs = runs;
+      makes = told.steps;
+      earlier = sym each;
+      event = omega arith;
+    })
+one_more c d e past step numbers (t ∷ u ∷ more) runs each are told =
+    let g = grows d e step told.steps in
     let few = g.few in
-    let each = r.each in
-    let now = ap (λ (t : List Event). length t) stands.shared.trace in
-    elim (cases_lt (length old.numbers) (length new.machine.shared.trace)) [
-      | inl less ↦ recorded_event old new h c past r end step stands made (omega arith) (more less)
-      | inr none ↦ recorded_same old new (Hart h ∷ []) c past r end (end, step, refl) stands made (omega arith) (same none)
-    ]
+    let added = ap (λ (l : List Event). length l) g.trace ∙ length-append d.common.trace g.more in
+    let told_all = ap (λ (l : List Event). length l) told.events ∙ length-append d.common.trace (events_in (t ∷ u ∷ more)) in
+    absurd (omega arith)
 
--- the end of a run of one step
-pub one_step : (c d : Config) (step : Step) → RunsTo c (step ∷ []) d → StepsTo c step d
-one_step c d step run = rw run.2 run.1
+passed_more : (past : List Step) (step : Step) → passed (length (hart_steps past)) step ≡ length (hart_steps (past ++ step ∷ []))
+passed_more past (Hart h) = sym (counted past (Hart h ∷ []))
+passed_more past (Evict line) = let sum = counted past (Evict line ∷ []) in omega arith
 
-pub continues_hart : (old new : RecorderView) (h : ℕ) → Runs old.machine new.machine (Hart h ∷ []) → new.made ≡ old.made + 1
-    → (length old.numbers < length new.machine.shared.trace → new.numbers ≡ old.numbers ++ new.made ∷ [])
-    → (length new.machine.shared.trace ≤ length old.numbers → new.numbers ≡ old.numbers)
-    → Continues old new (Hart h ∷ [])
-continues_hart old new h runs made more same = record {
-  runs = runs;
-  made = made;
-  records = λ c past r.
-      let after = runs.represents r.end r.represents in
-      recorded_hart old new h c past r after.0 (one_step r.end after.0 (Hart h) after.1) after.2 made more same;
-}
-
-eviction_is_silent : (c d : Config) (line : ℕ) → StepsTo c (Evict line) d → length d.common.trace ≡ length c.common.trace
-eviction_is_silent c d line step = rw step refl
-
-pub continues_evicted : (old new : RecorderView) (line : ℕ) → Runs old.machine new.machine (Evict line ∷ []) → new.made ≡ old.made
-    → new.numbers ≡ old.numbers → Continues old new (Evict line ∷ [])
-continues_evicted old new line runs made same = record {
-  runs = runs;
-  made = omega arith;
-  records = λ c past r.
-      let after = runs.represents r.end r.represents in
-      recorded_same old new (Evict line ∷ []) c past r after.0 after.1 after.2 (omega arith)
-      (eviction_is_silent r.end after.0 line (one_step r.end after.0 (Evict line) after.1)) same;
-}
-
--- the steps of a hart that stopped
-stopped_records : (old new : RecorderView) (h n : ℕ) → is_stopped (slice_get old.machine.harts h) ≡ true → new.machine ≡ old.machine
-    → new.made ≡ old.made + n → new.numbers ≡ old.numbers
-    → (c : Config) (past : List Step) → HasRecorded c past old → HasRecorded c (past ++ replicate n (Hart h)) new
-stopped_records old new h n stopped e made same c past r =
-    let after = (stopped_runs old.machine h n stopped).represents r.end r.represents in
-    let count = all_counted n h in
-    let trace : after.0.common.trace ≡ r.end.common.trace = sym after.2.shared.trace ∙ r.represents.shared.trace in
-    recorded_same old new (replicate n (Hart h)) c past r after.0 after.1 (rw e after.2) (omega arith)
-    (ap (λ (t : List Event). length t) trace) same
-
-pub continues_stopped : (old new : RecorderView) (h n : ℕ) → is_stopped (slice_get old.machine.harts h) ≡ true → new.machine ≡ old.machine
-    → new.made ≡ old.made + n → new.numbers ≡ old.numbers → Continues old new (replicate n (Hart h))
-continues_stopped old new h n stopped e made same = record {
-  runs = rw e (stopped_runs old.machine h n stopped);
-  made = rw all_counted made;
-  records = stopped_records old new h n stopped e made same;
-}
-
--- what a walk from the start makes of a recorder that has made no step
-pub makes_all : (old new : RecorderView) (items : List Item) → old.made ≡ 0 → count_of_hart_steps items < 2 ^ 32
-    → Makes old (steps_after items (record { item = 0; steps = 0 })) new → Continues old new (all_steps items)
-makes_all old new items none few makes =
-    let all = items_counted items in
-    subst (λ (l : List Step). Makes old l new) (after_start items 0) makes (omega arith)
-
--- and where it halts
-makes_first : (old middle : RecorderView) (items : List Item) (place : Place) (come : Comes Makes old middle items (record { item = 0; steps = 0 }) place)
-    → old.made ≡ 0 → count_of_hart_steps items < 2 ^ 32 → Continues old middle come.steps
-makes_first old middle items place come none few =
-    let all = items_counted items in
-    let parts = ap (λ (l : List Step). length (hart_steps l)) (sym (after_start items 0) ∙ come.leads.after) in
-    let sum = counted come.steps (steps_after items place) in
-    come.made (omega arith)
-
--- what is made of a recorder that began at c
-at_start : (c : Config) (m : RecorderView) → HasRecorded c [] m → Represents m.machine c
-at_start c m r = rw (← r.runs) r.represents
-
-pub each_event : (c : Config) (old new : RecorderView) (steps : List Step) → HasRecorded c [] old → Continues old new steps
-    → length new.numbers ≡ length new.machine.shared.trace
-each_event c old new steps r continues =
-    let now = continues.records c [] r in now.each ∙ ap (λ (t : List Event). length t) (sym now.represents.shared.trace)
+-- a traced run numbers its events
+pub traced_numbers : (c d e : Config) (past steps : List Step) (numbers : List ℕ) (traced : List TracedEvent) → RunsTo c past d
+    → length numbers ≡ length d.common.trace → AreNumbers c past numbers → TracedRun (length (hart_steps past)) d steps e traced
+    → AreNumbers c (past ++ steps) (numbers ++ map (λ (t : TracedEvent). t.step) traced)
+traced_numbers c d e past [] numbers traced runs each are told = rw (told.1, append-nil, append-nil) are
+traced_numbers c d e past (step ∷ steps) numbers traced runs each are told =
+    let here : List ℕ = map (λ (t : TracedEvent). t.step) told.1 in
+    let first = one_more c d told.0 past step numbers told.1 runs each are told.4 in
+    let longer = ap (λ (l : List Event). length l) told.4.events ∙ length-append d.common.trace (events_in told.1) in
+    let sum = length-append numbers here in
+    let same = length-map told.1 (λ (t : TracedEvent). t.step) in
+    let events = length-map told.1 (λ (t : TracedEvent). t.event) in
+    let rest = traced_numbers c told.0 e (past ++ step ∷ []) steps (numbers ++ here) told.2
+    (run_joined c d told.0 past (step ∷ []) runs (told.0, told.4.steps, refl)) (omega arith) first (rw passed_more at told.5) in
+    rw (told.3, map-append, ← append_assoc numbers here, ← append_assoc past (step ∷ []) steps) rest
 
 among : (m : MachineView) (harts lines : ℕ) (step : Step) → harts ≡ length m.harts → lines ≡ length m.shared.cache.lines
     → IsThere m step → IsAmong harts lines step
@@ -211,72 +116,79 @@ pub all_among : (m : MachineView) (harts lines : ℕ) (steps : List Step) → ha
     → All (IsThere m) steps → All (IsAmong harts lines) steps
 all_among m harts lines steps e f there k d inside = among m harts lines _ e f (there k d inside)
 
-pub records_all : (c : Config) (old new : RecorderView) (recorded : RecordedView) → HasRecorded c [] old
-    → Continues old new (all_steps recorded.items) → old.machine.shared.cache.lines ≡ recorded.start
-    → old.machine.shared.cache.cache.capacity ≡ recorded.capacity
-    → recorded.trace ≡ new.machine.shared.trace → recorded.harts ≡ new.machine.harts → recorded.left ≡ new.machine.shared.cache.lines
-    → recorded.steps ≡ new.numbers → Records c recorded
-records_all c old new recorded r continues lines capacity trace harts left numbers =
-    let now = continues.records c [] r in record {
-      end = now.end;
-      there = all_among old.machine (length recorded.harts) (length recorded.start) (all_steps recorded.items)
-          (ap (λ (l : List HartState). length l) harts ∙ continues.runs.harts) (ap (λ (l : List (List ℕ)). length l) (sym lines))
-          continues.runs.there;
-      runs = now.runs;
-      harts = harts ∙ now.represents.harts;
-      trace = trace ∙ now.represents.shared.trace;
-      numbers = rw numbers now.numbers;
-      left = left_at now.end new.machine recorded.capacity recorded.left now.represents (continues.runs.capacity ∙ capacity) left;
+pub records_all : (c : Config) (old new : MachineView) (traced : List TracedEvent) (recorded : RecordedView) → Represents old c
+    → c.common.trace ≡ [] → Traces old new (all_steps recorded.items) traced → old.shared.cache.lines ≡ recorded.start
+    → old.shared.cache.cache.capacity ≡ recorded.capacity → recorded.trace ≡ new.shared.trace → recorded.harts ≡ new.harts
+    → recorded.left ≡ new.shared.cache.lines → recorded.steps ≡ map (λ (t : TracedEvent). t.step) traced → Records c recorded
+records_all c old new traced recorded stands none traces lines capacity trace harts left numbers =
+    let told = traces.traces c stands in record {
+      end = told.0;
+      there = all_among old (length recorded.harts) (length recorded.start) (all_steps recorded.items)
+          (ap (λ (l : List HartState). length l) harts ∙ traces.runs.harts) (ap (λ (l : List (List ℕ)). length l) (sym lines))
+          traces.runs.there;
+      runs = is_run 0 c told.0 (all_steps recorded.items) traced told.1;
+      harts = harts ∙ told.2.harts;
+      trace = trace ∙ told.2.shared.trace;
+      numbers = rw numbers (traced_numbers c c told.0 [] (all_steps recorded.items) [] traced refl
+          (sym (ap (λ (l : List Event). length l) none)) (λ i n got. absurd (cc)) told.1);
+      left = left_at told.0 new recorded.capacity recorded.left told.2 (traces.runs.capacity ∙ capacity) left;
     }
 
+-- each event has its number
+pub each_event : (c : Config) (old new : MachineView) (steps : List Step) (traced : List TracedEvent) → Represents old c
+    → c.common.trace ≡ [] → Traces old new steps traced → length traced ≡ length new.shared.trace
+each_event c old new steps traced stands none traces =
+    let told = traces.traces c stands in
+    let events : told.0.common.trace ≡ events_in traced =
+    has_events 0 c told.0 steps traced told.1 ∙ ap (λ (l : List Event). l ++ events_in traced) none in
+    sym (length-map traced (λ (t : TracedEvent). t.event)) ∙ ap (λ (l : List Event). length l) (sym (told.2.shared.trace ∙ events))
+
 -- why memory may have been refused for the next step
-numbers_lack_room : (c : Config) (steps : List Step) (recorder : RecorderView) (step : Step)
-    → (r : HasRecorded c steps recorder) → MayGrow recorder step → MayLackRoom r.end (Some step)
-numbers_lack_room c steps recorder (Hart h) r may = (rw (← r.represents.harts) may.0, rw (← r.each) may.1)
-numbers_lack_room c steps recorder (Evict line) r may = may
+takes_memory : (c : Config) (machine : MachineView) (next : Option Step) → Represents machine c → TakesMemory machine next → MayLackRoom c next
+takes_memory c machine None stands takes = takes
+takes_memory c machine (Some (Hart h)) stands takes = (rw (← stands.harts) takes.0, rw (← stands.shared.trace) takes.1)
+takes_memory c machine (Some (Evict line)) stands takes = takes
 
 running_is_there : (machine : MachineView) (h : ℕ) (found : Option HartState) → slice_get machine.harts h ≡ found → IsRunning found
     → h < length machine.harts
 running_is_there machine h None e running = absurd running
 running_is_there machine h (Some s) e running = slice_get_within machine.harts h s e
 
-machine_lacks_room : (c : Config) (machine : MachineView) (step : Step) → Represents machine c → Refuses machine step Memory
-    → MayLackRoom c (Some step)
-machine_lacks_room c machine (Hart h) stands refused =
-    (rw (← stands.harts) (running_is_there machine h (slice_get machine.harts h) refl refused.0.running), rw (← stands.shared.trace) refused.1)
-machine_lacks_room c machine (Evict line) stands refused = absurd refused.0
+machine_lacks_room : (c : Config) (machine : MachineView) (next : Option Step) → Represents machine c → RefusesNext machine next Memory
+    → MayLackRoom c next
+machine_lacks_room c machine None stands refused = refused
+machine_lacks_room c machine (Some (Hart h)) stands refused =
+    takes_memory c machine (Some (Hart h)) stands
+    (running_is_there machine h (slice_get machine.harts h) refl refused.0.running, refused.1)
+machine_lacks_room c machine (Some (Evict line)) stands refused = refused.0
 
-pub stops_recording : (c : Config) (lines : List (List ℕ)) (old new : RecorderView) (items : List Item) (place : Place) (fault : StepFault)
-    → HasRecorded c [] old → old.machine.shared.cache.lines ≡ lines → old.made ≡ 0 → count_of_hart_steps items < 2 ^ 32
-    → HaltsAt Makes IsHeld old new items (record { item = 0; steps = 0 }) place fault
-    → StopsRecording c (length lines) items (record { place = place; fault = fault })
-stops_recording c lines old new items place fault r same none few h =
-    let continues : Continues old h.middle h.before.steps = makes_first old h.middle items place h.before none few in
-    let now = continues.records c [] r in
-    let there = step_there items place h.step h.here in record {
-      reached = now.end;
-      runs = rw h.before.leads.before now.runs;
-      reason = elim h.halted.1 [
-        | inl memory ↦ inl memory.0
-        | inr refused ↦ inr (record {
-          old = old.machine;
-          new = h.middle.machine;
-          represents = at_start c old r;
-          lines = ap (λ (l : List (List ℕ)). length l) same;
-          few = refused.0;
-          stops = record {
-            item = there.0;
-            steps = there.1;
-            runs = rw h.before.leads.before continues.runs;
-            refused = rw h.here refused.1;
-          };
-        })
-      ];
-      room = λ memory. inr (rw h.here (elim h.halted.1 [
-        | inl grown ↦ numbers_lack_room c h.before.steps h.middle h.step now grown.1
-        | inr refused ↦ machine_lacks_room now.end h.middle.machine h.step now.represents (rw memory at refused.1)
-      ]));
+pub stops_recording : (c : Config) (lines : List (List ℕ)) (old : MachineView) (items : List Item) (stop : RunStop) → Represents old c
+    → old.shared.cache.lines ≡ lines → StopsTracing old items stop → StopsRecording c (length lines) items stop
+stops_recording c lines old items stop stands same (inl lacks) =
+    let after = lacks.1.runs.represents c stands in record {
+      reached = after.0;
+      runs = after.1;
+      reason = inl lacks.0;
+      room = λ memory. inr (takes_memory after.0 lacks.1.new _ after.2 lacks.1.takes);
     }
+stops_recording c lines old items stop stands same (inr refused) =
+    let after = refused.stops.runs.represents c stands in record {
+      reached = after.0;
+      runs = after.1;
+      reason = inr (record {
+        old = old;
+        new = refused.new;
+        represents = stands;
+        lines = ap (λ (l : List (List ℕ)). length l) same;
+        few = refused.few;
+        stops = refused.stops;
+      });
+      room = λ memory. inr (machine_lacks_room after.0 refused.new _ after.2 (rw memory at refused.stops.refused));
+    }
+
+pub at_step : (old : MachineView) (items : List Item) (stop : RunStop) → StopsTracing old items stop → IsAtStep items stop
+at_step old items stop (inl lacks) = inr (lacks.1.item, lacks.1.steps)
+at_step old items stop (inr refused) = inr (refused.stops.item, refused.stops.steps)
 
 pub memory_stops : (c : Config) (lines : ℕ) (items : List Item) (stop : RunStop) → stop.place ≡ record { item = 0; steps = 0 } → stop.fault ≡ Memory
     → StopsRecording c lines items stop

@@ -1,3 +1,1 @@
 pub mod Recorded
-pub mod RecorderLaws
-pub mod Recorders

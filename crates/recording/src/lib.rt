@@ -1,8 +1,8 @@
 //! What is kept of a run, for those who look at it afterwards.
 #![tactic(auto)]
 
+mod finishing;
 mod recorded;
-mod recorder;
 mod recording;
 
 pub use recorded::Recorded;

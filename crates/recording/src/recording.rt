@@ -1,18 +1,20 @@
 //! Runs that are recorded.
 
+ghost use Rattle.machine.specs.Left.{IsLeftBy};
 ghost use Rattle.machine.specs.Run.{started};
-ghost use Rattle.machine.specs.Represents.{Represents};
+ghost use Rattle.machine.specs.Represents.{Represents, RepresentsExactly};
 ghost use Rattle.recording.specs.Recorded.{IsAtStep, Records, StopsRecording};
-ghost use Rattle.recording.specs.Recorders.{HasRecorded};
 ghost use Rattle.schedule.specs.Grammar.{hart_steps as count_of_hart_steps};
-ghost use Rattle.std.specs.Prelude.{◌≡◌, ◌^◌, ◌<◌, ◌≤◌, ◌⊎◌, [], IfErr, IfOk, length};
+ghost use Rattle.schedule.specs.Steps.{all_steps};
+ghost use Rattle.std.specs.Prelude.{◌≡◌, ◌^◌, ◌<◌, ◌≤◌, ◌⊎◌, IfErr, IfOk, length};
 
+use crate::finishing::finish;
 use crate::recorded::Recorded;
-use crate::recorder::Recorder;
 use line_memory::Medium;
 use machine::{Machine, RunStop};
 use program::Program;
-use schedule::{Place, Schedule, walk};
+use run_trace::trace_run;
+use schedule::{Place, Schedule};
 use shared_memory::{StepFault, check_limits};
 use std::alloc::Global;
 
@@ -34,6 +36,7 @@ pub fn record(
 ) -> Result<Recorded, RunStop>
     requires { count_of_hart_steps schedule.now < 2 ^ 32 }
     ensures ok { IfOk result (Records (started program medium harts)) }
+    ensures exact { IfOk result (λ recorded. IsLeftBy (started program medium harts) (all_steps recorded.items) recorded.capacity recorded.left) }
     ensures start { IfOk result (λ recorded. recorded.start ≡ medium) }
     ensures items { IfOk result (λ recorded. recorded.items ≡ schedule.now) }
     ensures capacity { IfOk result (λ recorded. recorded.capacity ≡ capacity) }
@@ -44,14 +47,15 @@ pub fn record(
         StopsRecording (started program medium harts) (length medium) schedule.now stop) }
     ensures place { IfErr result (IsAtStep schedule.now) }
 {
-    let mut recorder = match prepare(alloc, program, &medium, harts, capacity) {
-        Ok(recorder) => recorder,
+    let machine = match prepare(alloc, program, &medium, harts, capacity) {
+        Ok(machine) => machine,
         Err(fault) => return Err(before_all(fault)),
     };
-    if let Err(halted) = walk(&mut recorder, schedule, Place::start()) {
-        return Err(RunStop::from(halted));
-    }
-    match recorder.finish(alloc, medium, capacity, schedule) {
+    let traced = match trace_run(alloc, machine, schedule) {
+        Ok(traced) => traced,
+        Err(stop) => return Err(stop),
+    };
+    match finish(alloc, traced, medium, capacity, schedule) {
         Ok(recorded) => Ok(recorded),
         Err(fault) => Err(before_all(fault)),
     }
@@ -67,29 +71,25 @@ fn before_all(fault: StepFault) -> RunStop
     }
 }
 
-/// A recorder at its start.
+/// A machine within its limits, over a copy of the medium.
 fn prepare(
     alloc: Global,
     program: Program,
     medium: &Medium,
     harts: u32,
     capacity: u32,
-) -> Result<Recorder, StepFault>
-    ensures ok { IfOk result (HasRecorded (started program medium.now harts) []) }
-    ensures lines { IfOk result (λ recorder. recorder.machine.shared.cache.lines ≡ medium.now) }
-    ensures capacity { IfOk result (λ recorder. recorder.machine.shared.cache.cache.capacity ≡ capacity) }
-    ensures made { IfOk result (λ recorder. recorder.made ≡ 0) }
+) -> Result<Machine, StepFault>
+    ensures ok { IfOk result (λ machine. Represents machine (started program medium.now harts)) }
+    ensures exact { IfOk result (λ machine. RepresentsExactly machine (started program medium.now harts)) }
+    ensures lines { IfOk result (λ machine. machine.shared.cache.lines ≡ medium.now) }
+    ensures capacity { IfOk result (λ machine. machine.shared.cache.cache.capacity ≡ capacity) }
     ensures within { IfOk result (λ _. (1 ≤ harts) × (harts ≤ 8) × (1 ≤ capacity) × (capacity ≤ 16384)) }
     ensures harts { ((harts < 1) ⊎ (8 < harts)) → result ≡ Err StepFault.NoSuchHart }
     ensures limits { (1 ≤ harts) × (harts ≤ 8) → ((capacity < 1) ⊎ (16384 < capacity)) → result ≡ Err StepFault.OutOfLimits }
     ensures err { IfErr result (λ fault. (1 ≤ harts) × (harts ≤ 8) → (1 ≤ capacity) × (capacity ≤ 16384) → fault ≡ StepFault.Memory) }
 {
     check_limits(harts, capacity)?;
-    Ok(Recorder {
-        machine: machine_over(alloc, program, medium, harts, capacity)?,
-        made: 0,
-        numbers: Vec::new(alloc),
-    })
+    machine_over(alloc, program, medium, harts, capacity)
 }
 
 /// A machine over a copy of the medium.
@@ -105,6 +105,7 @@ fn machine_over(
     requires room { 1 ≤ capacity }
     requires bounded { capacity ≤ 16384 }
     ensures ok { IfOk result (λ machine. Represents machine (started program medium.now harts)) }
+    ensures exact { IfOk result (λ machine. RepresentsExactly machine (started program medium.now harts)) }
     ensures lines { IfOk result (λ machine. machine.shared.cache.lines ≡ medium.now) }
     ensures capacity { IfOk result (λ machine. machine.shared.cache.cache.capacity ≡ capacity) }
     ensures err { IfErr result (λ fault. fault ≡ StepFault.Memory) }

@@ -9,7 +9,7 @@ ghost use Rattle.recovery.specs.Engine.{Goes, IsAsked, IsKept, Runs};
 
 use crate::fetched::FetchedText;
 use crate::world::{Served, World};
-use hart::{Advance, HartState, Request, Status, advance, instruction, take_reply};
+use hart::{Advance, HartState, Request, Status, advance, take_reply};
 use held_memory::Source;
 use isa_table::Instr;
 use std::alloc::AllocError;
@@ -59,7 +59,7 @@ impl Engine {
         ensures over { IsOver self.new.world.held.image (S.medium image.now) }
         ensures kept { IsKept self.old self.new }
     {
-        let instr = match instruction(self.text.fetch(self.hart.pc)) {
+        let instr = match self.text.instruction(self.hart.pc) {
             Ok(instr) => instr,
             Err(trap) => {
                 self.hart.status = Status::Trapped(trap);

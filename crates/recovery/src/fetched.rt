@@ -2,6 +2,7 @@
 
 ghost use Rattle.std.specs.Prelude.{◌≡◌, ◌<◌, ℕ, length, slice_get, IfOk, IfErr};
 ghost use Rattle.line_memory.specs.declared.TheConstants.{TEXT_SIZE};
+ghost use Rattle.hart.specs.Needs.{IsInstruction};
 ghost use Rattle.machine.specs.Run.{fetched};
 ghost use Rattle.machine.specs.Represents.{text_bytes};
 ghost use Rattle.held_memory.specs.Regions.{bytes_of};
@@ -9,7 +10,8 @@ ghost use Rattle.shared_memory.specs.declared.fault.StepFault.{StepFault};
 ghost use Rattle.recovery.specs.Fetched.{Refetches};
 
 use crate::world::World;
-use hart::Request;
+use hart::{Request, Trap};
+use isa_table::Instr;
 use line_memory::TEXT_SIZE;
 use machine::{StepFault, TextCopy};
 use std::alloc::Global;
@@ -59,14 +61,14 @@ impl FetchedText {
         })
     }
 
-    /// The word at `pc`; None where it doesn't lie in the text region.
-    pub fn fetch(&self, pc: u64) -> Option<u32>
-        ensures { result ≡ fetched (text_bytes self.now.bytes) pc }
+    /// The instruction that the word at `pc` spells, or the trap where there is none.
+    pub fn instruction(&self, pc: u64) -> Result<Instr, Trap>
+        ensures { IsInstruction (fetched (text_bytes self.now.bytes) pc) result }
     {
         if self.is_renewed {
-            self.renewed.fetch(pc)
+            self.renewed.instruction(pc)
         } else {
-            self.start.fetch(pc)
+            self.start.instruction(pc)
         }
     }
 

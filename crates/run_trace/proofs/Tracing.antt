@@ -6,12 +6,12 @@ use Rattle.std.proofs.lemmas.Option.{slice_get_read, slice_get_within}
 use Rattle.std.specs.Slice.{IsItemAt}
 use Rattle.hart.specs.declared.state.HartState.{HartState}
 use Rattle.machine.specs.Run.{Config, RunsTo, StepsTo}
-use Rattle.machine.specs.Represents.{MachineView, Runs, Represents}
+use Rattle.machine.specs.Represents.{MachineView, Runs, RunsExactly, Represents}
 use Rattle.machine.specs.Stops.{is_stopped}
 use Rattle.machine.specs.Evicting.{hart_steps}
 use Rattle.machine.proofs.RunParts.{grows, run_grows}
 use Rattle.machine.proofs.Counting.{all_counted, counted, items_counted}
-use Rattle.machine.proofs.Steps.{stopped_runs, stops_at}
+use Rattle.machine.proofs.Steps.{stopped_exactly, stopped_runs, stops_at}
 use Rattle.run_trace.specs.Traced.{IsPcBefore, StopsTracing, TracedRun, TracedStep, Traces, passed}
 use Rattle.run_trace.specs.TracerLaws.{passed_is}
 use Rattle.run_trace.specs.Tracers.{Continues, IsHeld, Makes, Tells, TracerView}
@@ -19,7 +19,7 @@ use Rattle.run_trace.specs.declared.traced_event.TracedEvent.{TracedEvent}
 use Rattle.schedule.specs.declared.items.Item.{Item}
 use Rattle.schedule.specs.declared.items.Step.{Step}
 use Rattle.schedule.specs.declared.items.Step.TheVariants.{Hart, Evict}
-use Rattle.schedule.proofs.Places.{after_start}
+use Rattle.schedule.proofs.Places.{after_start, step_there}
 use Rattle.schedule.specs.Grammar.{hart_steps as count_of_hart_steps}
 use Rattle.schedule.specs.Places.{steps_after}
 use Rattle.schedule.specs.Steps.{all_steps}
@@ -129,19 +129,21 @@ tells_event old new h s t runs there pc number got traced c stands =
     }
 
 pub continues_event : (old new : TracerView) (h : ℕ) (s : HartState) (t : TracedEvent) → Runs old.machine new.machine (Hart h ∷ [])
-    → slice_get old.machine.harts h ≡ Some s → t.pc ≡ s.pc → t.step ≡ old.made + 1 → new.made ≡ old.made + 1
+    → RunsExactly old.machine new.machine (Hart h ∷ []) → slice_get old.machine.harts h ≡ Some s → t.pc ≡ s.pc → t.step ≡ old.made + 1 → new.made ≡ old.made + 1
     → slice_get new.machine.shared.trace (length old.machine.shared.trace) ≡ Some t.event → new.traced ≡ old.traced ++ t ∷ []
     → Continues old new (Hart h ∷ [])
-continues_event old new h s t runs there pc number made got traced = record {
+continues_event old new h s t runs exact there pc number made got traced = record {
   runs = runs;
+  exact = exact;
   made = made;
   tells = tells_event old new h s t runs there pc number got traced;
 }
 
-pub continues_silent : (old new : TracerView) (h : ℕ) → Runs old.machine new.machine (Hart h ∷ []) → new.made ≡ old.made + 1
-    → length new.machine.shared.trace ≤ length old.machine.shared.trace → new.traced ≡ old.traced → Continues old new (Hart h ∷ [])
-continues_silent old new h runs made same traced = record {
+pub continues_silent : (old new : TracerView) (h : ℕ) → Runs old.machine new.machine (Hart h ∷ [])
+    → RunsExactly old.machine new.machine (Hart h ∷ []) → new.made ≡ old.made + 1 → length new.machine.shared.trace ≤ length old.machine.shared.trace → new.traced ≡ old.traced → Continues old new (Hart h ∷ [])
+continues_silent old new h runs exact made same traced = record {
   runs = runs;
+  exact = exact;
   made = made;
   tells = tells_none old new (Hart h ∷ []) runs same traced;
 }
@@ -154,6 +156,7 @@ continues_stopped old new h n stopped e made traced =
     let same : length new.machine.shared.trace ≡ length old.machine.shared.trace = ap (λ (m : MachineView). length m.shared.trace) e in
     record {
       runs = runs;
+      exact = rw e (stopped_exactly old.machine h n stopped);
       made = rw (passed_is, all_counted) made;
       tells = tells_none old new (replicate n (Hart h)) runs (omega arith) traced;
     }
@@ -175,15 +178,16 @@ tells_eviction old new line runs traced c stands =
       traced = traced ∙ sym (append-nil old.traced);
     }
 
-pub continues_evicted : (old new : TracerView) (line : ℕ) → Runs old.machine new.machine (Evict line ∷ []) → new.made ≡ old.made
-    → new.traced ≡ old.traced → Continues old new (Evict line ∷ [])
-continues_evicted old new line runs made traced = record { runs = runs; made = made; tells = tells_eviction old new line runs traced }
+pub continues_evicted : (old new : TracerView) (line : ℕ) → Runs old.machine new.machine (Evict line ∷ [])
+    → RunsExactly old.machine new.machine (Evict line ∷ []) → new.made ≡ old.made → new.traced ≡ old.traced → Continues old new (Evict line ∷ [])
+continues_evicted old new line runs exact made traced = record { runs = runs; exact = exact; made = made; tells = tells_eviction old new line runs traced }
 
 -- all that a tracer tells which has told nothing before
 pub traces_all : (old new : TracerView) (steps : List Step) → old.made ≡ 0 → old.traced ≡ [] → Continues old new steps
     → length new.machine.shared.trace ≤ 65536 → Traces old.machine new.machine steps new.traced
 traces_all old new steps made none continues few = record {
   runs = continues.runs;
+  exact = continues.exact;
   few = few;
   traces = λ c stands.
       let told = continues.tells c stands in
@@ -212,17 +216,30 @@ makes_first old middle items place come none few =
 pub stops_tracing : (old new : TracerView) (items : List Item) (place : Place) (fault : StepFault) → old.made ≡ 0 → count_of_hart_steps items < 2 ^ 32
     → HaltsAt Makes IsHeld old new items (record { item = 0; steps = 0 }) place fault → length new.machine.shared.trace ≤ 65536
     → StopsTracing old.machine items (record { place = place; fault = fault })
-stops_tracing old new items place fault none small h few = elim h.halted [
-  | inl memory ↦ inl memory
-  | inr refused ↦ inr (record {
-    new = new.machine;
-    few = few;
-    stops = stops_at old.machine new.machine items place fault (record {
-      middle = h.middle.machine;
-      step = h.step;
-      before = record { steps = h.before.steps; leads = h.before.leads; made = (makes_first old h.middle items place h.before none small).runs };
-      here = h.here;
-      halted = refused;
-    });
-  })
-]
+stops_tracing old new items place fault none small h few =
+    let runs = (makes_first old h.middle items place h.before none small).runs in
+    elim h.halted [
+      | inl memory ↦
+          let there = step_there items place h.step h.here in
+          inl (
+            memory.0,
+            record {
+              new = h.middle.machine;
+              item = there.0;
+              steps = there.1;
+              runs = rw h.before.leads.before runs;
+              takes = rw h.here memory.1;
+            },
+          )
+      | inr refused ↦ inr (record {
+        new = new.machine;
+        few = few;
+        stops = stops_at old.machine new.machine items place fault (record {
+          middle = h.middle.machine;
+          step = h.step;
+          before = record { steps = h.before.steps; leads = h.before.leads; made = runs };
+          here = h.here;
+          halted = refused;
+        });
+      })
+    ]

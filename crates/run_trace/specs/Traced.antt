@@ -1,11 +1,12 @@
 -- A run with its events told one by one: which hart step made each, and the pc that its hart had before that step.
-use Rattle.std.specs.Prelude.{◌≡◌, ◌⊎◌, ℕ, ◌+◌, ◌≤◌, List, [], ◌∷◌, ◌++◌, All, Some, length, map, slice_get}
+use Rattle.std.specs.Prelude.{◌≡◌, ◌⊎◌, ℕ, ◌+◌, ◌<◌, ◌≤◌, List, [], ◌∷◌, ◌++◌, All, Option, Some, None, length, map, slice_get}
 use Rattle.hart.specs.declared.state.HartState.{HartState}
 use Rattle.machine.specs.Run.{Config, StepsTo}
-use Rattle.machine.specs.Represents.{MachineView, Runs, Represents}
+use Rattle.machine.specs.Represents.{MachineView, Runs, RunsExactly, Represents}
 use Rattle.machine.specs.Stops.{StopsAt}
 use Rattle.machine.specs.declared.fault.RunStop.{RunStop}
 use Rattle.run_trace.specs.declared.traced_event.TracedEvent.{TracedEvent}
+use Rattle.schedule.specs.Places.{steps_before, steps_of_item}
 use Rattle.schedule.specs.declared.items.Item.{Item}
 use Rattle.schedule.specs.declared.items.Step.{Step}
 use Rattle.schedule.specs.declared.items.Step.TheVariants.{Hart, Evict}
@@ -43,6 +44,7 @@ TracedRun n c (step ∷ steps) end traced =
 -- events
 pub record Traces (old new : MachineView) (steps : List Step) (traced : List TracedEvent) : Type 0 where
   pub runs : Runs old new steps
+  pub exact : RunsExactly old new steps
   pub few : length new.shared.trace ≤ 65536
   pub traces : (c : Config) → Represents old c → (d : Config) × TracedRun 0 c steps d traced × Represents new d
 
@@ -52,6 +54,20 @@ pub record IsRefusedAt (old : MachineView) (items : List Item) (stop : RunStop) 
   pub few : length new.shared.trace ≤ 65536
   pub stops : StopsAt old new items stop
 
--- a run isn't traced to its end: memory was refused, or the machine refuses a step
+-- a step takes memory: it is that of a hart which is there, and the trace isn't full
+abbrev pub TakesMemory : MachineView → Option Step → Type 0
+TakesMemory machine None = ⊥
+TakesMemory machine (Some (Hart h)) = (h < length machine.harts) × (length machine.shared.trace < 65536)
+TakesMemory machine (Some (Evict line)) = ⊥
+
+-- the machine makes the steps before one of the schedule's, and that one takes memory
+pub record LacksMemoryAt (old : MachineView) (items : List Item) (stop : RunStop) : Type 0 where
+  pub new : MachineView
+  pub item : stop.place.item < length items
+  pub steps : stop.place.steps < length (steps_of_item (slice_get items stop.place.item))
+  pub runs : Runs old new (steps_before items stop.place.item stop.place.steps)
+  pub takes : TakesMemory new (slice_get (steps_of_item (slice_get items stop.place.item)) stop.place.steps)
+
+-- a run isn't traced to its end: memory was refused for a step that takes some, or the machine refuses a step
 abbrev pub StopsTracing : MachineView → List Item → RunStop → Type 0
-StopsTracing old items stop = (stop.fault ≡ Memory) ⊎ IsRefusedAt old items stop
+StopsTracing old items stop = ((stop.fault ≡ Memory) × LacksMemoryAt old items stop) ⊎ IsRefusedAt old items stop

@@ -4,7 +4,7 @@ use Rattle.schedule.specs.declared.items.Step.{Step}
 use Rattle.schedule.specs.declared.items.Step.TheVariants.{Hart, Evict}
 use Rattle.machine.specs.Evicting.{hart_steps}
 use Rattle.machine.specs.Run.{Config}
-use Rattle.machine.specs.RunLaws.{runs_more, runs_none}
+use Rattle.machine.specs.RunLaws.{exactly_more, exactly_none, runs_more, runs_none}
 use Rattle.machine.specs.Represents.{Represents}
 use Rattle.run_trace.specs.Traced.{TracedRun, passed}
 use Rattle.run_trace.specs.Tracers.{Continues, Makes, Tells, TracerView, passed_all}
@@ -50,6 +50,7 @@ tells_more old middle new xs ys a b c stands =
 pub makes_none : (m : TracerView) → Makes m [] m
 makes_none m few = record {
   runs = runs_none m.machine;
+  exact = exactly_none m.machine;
   made = refl;
   tells = λ c s. record { end = c; more = []; run = (refl, refl); represents = s; traced = sym (append-nil m.traced) };
 }
@@ -63,6 +64,7 @@ makes_more old middle new xs ys first others few =
     let b : Continues middle new ys = others (omega arith) in
     record {
       runs = runs_more old.machine middle.machine new.machine xs ys a.runs b.runs;
+      exact = exactly_more old.machine middle.machine new.machine xs ys a.exact b.exact;
       made = b.made ∙ then ∙ sym all;
       tells = tells_more old middle new xs ys a b;
     }

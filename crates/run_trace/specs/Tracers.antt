@@ -1,9 +1,9 @@
 -- A tracer: a machine that makes the steps of a schedule, and what it has told of their events so far.
-use Rattle.std.specs.Prelude.{◌≡◌, ◌⊎◌, ◌<◌, ◌^◌, ℕ, List, [], ◌∷◌, ◌++◌}
+use Rattle.std.specs.Prelude.{◌≡◌, ◌⊎◌, ◌<◌, ◌^◌, ℕ, List, [], ◌∷◌, ◌++◌, Some}
 use Rattle.machine.specs.Refusals.{IsRefused}
 use Rattle.machine.specs.Run.{Config}
-use Rattle.machine.specs.Represents.{MachineView, Runs, Represents}
-use Rattle.run_trace.specs.Traced.{TracedRun, passed}
+use Rattle.machine.specs.Represents.{MachineView, Runs, RunsExactly, Represents}
+use Rattle.run_trace.specs.Traced.{TakesMemory, TracedRun, passed}
 use Rattle.run_trace.specs.declared.traced_event.TracedEvent.{TracedEvent}
 use Rattle.schedule.specs.declared.items.Step.{Step}
 use Rattle.shared_memory.specs.declared.fault.StepFault.{StepFault}
@@ -31,6 +31,7 @@ pub record Tells (old new : TracerView) (steps : List Step) (c : Config) : Type 
 -- it has gone on by these steps
 pub record Continues (old new : TracerView) (steps : List Step) : Type 0 where
   pub runs : Runs old.machine new.machine steps
+  pub exact : RunsExactly old.machine new.machine steps
   pub made : new.made ≡ passed_all old.made steps
   pub tells : (c : Config) → Represents old.machine c → Tells old new steps c
 
@@ -38,6 +39,6 @@ pub record Continues (old new : TracerView) (steps : List Step) : Type 0 where
 abbrev pub Makes : TracerView → List Step → TracerView → Type 0
 Makes old steps new = passed_all old.made steps < 2 ^ 32 → Continues old new steps
 
--- it goes no further: memory was refused, or the machine, which is as it was, refuses the step
+-- it goes no further: memory was refused for the step, or the machine, which is as it was, refuses it
 abbrev pub IsHeld : TracerView → Step → TracerView → StepFault → Type 0
-IsHeld old step new fault = (fault ≡ Memory) ⊎ IsRefused old.machine step new.machine fault
+IsHeld old step new fault = ((fault ≡ Memory) × TakesMemory old.machine (Some step)) ⊎ IsRefused old.machine step new.machine fault

@@ -4,7 +4,7 @@ use Rattle.std.proofs.lemmas.Bool.Decides.{nat_tests}
 use Rattle.std.proofs.lemmas.List.{replicate-append-replicate}
 use Rattle.std.proofs.lemmas.List.Sums.{sum_by-cons}
 use Rattle.schedule.specs.Grammar.{hart_steps, steps_in}
-use Rattle.schedule.specs.Joined.{AreApart, AreJoined, HasSteps, Joins, item_before, joined, steps_before}
+use Rattle.schedule.specs.Joined.{AreApart, AreJoined, HasSteps, Joins, item_before, joined, run_before}
 use Rattle.schedule.specs.Steps.{all_steps, steps_of}
 use Rattle.schedule.specs.declared.items.Step.TheVariants.{Hart}
 use Rattle.schedule.specs.declared.items.Item.{Item}
@@ -18,12 +18,12 @@ other_number m n e = λ same. grind (arith, nat_tests)
 
 -- how many steps there are
 counted_next : (hart count next more : ℕ) (rest : List Item) (t : Bool) → eqb hart next ≡ t
-    → hart_steps (steps_before hart count (Steps next more ∷ rest)) ≡ count + hart_steps (Steps next more ∷ rest)
+    → hart_steps (run_before hart count (Steps next more ∷ rest)) ≡ count + hart_steps (Steps next more ∷ rest)
 counted_next hart count next more rest true same =
     rw (same, sum_by-cons steps_in (Steps hart (count + more)) rest, sum_by-cons steps_in (Steps next more) rest) (omega arith)
 counted_next hart count next more rest false other = rw (other, sum_by-cons steps_in (Steps hart count) (Steps next more ∷ rest)) refl
 
-counted_steps : (hart count : ℕ) (items : List Item) → hart_steps (steps_before hart count items) ≡ count + hart_steps items
+counted_steps : (hart count : ℕ) (items : List Item) → hart_steps (run_before hart count items) ≡ count + hart_steps items
 counted_steps hart count [] = sum_by-cons steps_in (Steps hart count) []
 counted_steps hart count (Evict line ∷ rest) = sum_by-cons steps_in (Steps hart count) (Evict line ∷ rest)
 counted_steps hart count (Steps next more ∷ rest) = counted_next hart count next more rest (eqb hart next) refl
@@ -43,13 +43,13 @@ hart_steps-joined (item ∷ items) =
 
 -- which steps they are
 made_next : (hart count next more : ℕ) (rest : List Item) (t : Bool) → eqb hart next ≡ t
-    → all_steps (steps_before hart count (Steps next more ∷ rest)) ≡ replicate count (Hart hart) ++ all_steps (Steps next more ∷ rest)
+    → all_steps (run_before hart count (Steps next more ∷ rest)) ≡ replicate count (Hart hart) ++ all_steps (Steps next more ∷ rest)
 made_next hart count next more rest true same =
     let hart_is : hart ≡ next = same_number hart next same in
     rw (same, ← replicate-append-replicate count more (Hart hart), append_assoc) (rw hart_is refl)
 made_next hart count next more rest false other = rw other refl
 
-made_steps : (hart count : ℕ) (items : List Item) → all_steps (steps_before hart count items) ≡ replicate count (Hart hart) ++ all_steps items
+made_steps : (hart count : ℕ) (items : List Item) → all_steps (run_before hart count items) ≡ replicate count (Hart hart) ++ all_steps items
 made_steps hart count [] = refl
 made_steps hart count (Evict line ∷ rest) = refl
 made_steps hart count (Steps next more ∷ rest) = made_next hart count next more rest (eqb hart next) refl
@@ -74,13 +74,13 @@ longer hart count more (Steps next last ∷ rest) all = (omega (arith, all.0), a
 longer hart count more (Evict line ∷ rest) all = (omega (arith, all.0), all.1, all.2)
 
 joins_next : (hart count next more : ℕ) (rest : List Item) (t : Bool) → eqb hart next ≡ t → 1 ≤ count
-    → AreJoined (Steps next more ∷ rest) → AreJoined (steps_before hart count (Steps next more ∷ rest))
+    → AreJoined (Steps next more ∷ rest) → AreJoined (run_before hart count (Steps next more ∷ rest))
 joins_next hart count next more rest true same some all =
     let P : ℕ → Type 0 = λ h. AreJoined (Steps h more ∷ rest) in
     rw same (longer hart count more rest (subst P (sym (same_number hart next same)) all))
 joins_next hart count next more rest false other some all = rw other (some, other_number hart next other, all)
 
-joins_steps : (hart count : ℕ) (items : List Item) → 1 ≤ count → AreJoined items → AreJoined (steps_before hart count items)
+joins_steps : (hart count : ℕ) (items : List Item) → 1 ≤ count → AreJoined items → AreJoined (run_before hart count items)
 joins_steps hart count [] some all = some
 joins_steps hart count (Evict line ∷ rest) some all = (some, tt, all)
 joins_steps hart count (Steps next more ∷ rest) some all = joins_next hart count next more rest (eqb hart next) refl some all

@@ -3,7 +3,7 @@ use Rattle.std.proofs.Common.{◌≡◌, ℕ, zero, suc, ◌+◌, ◌-◌, ◌<�
 use Rattle.std.proofs.lemmas.List.{append-nil, drop-replicate, get_or-replicate, length-replicate, take-append-drop}
 use Rattle.std.proofs.lemmas.Option.{slice_get-get_or, slice_get_within}
 use Rattle.std.proofs.Math.Seq.{take-append_seam}
-use Rattle.schedule.specs.Places.{IsReached, IsStepAt, Leads, steps_after, steps_before, steps_of_item}
+use Rattle.schedule.specs.Places.{IsPlaceOf, IsReached, IsStepAt, Leads, steps_after, steps_before, steps_of_item}
 use Rattle.schedule.specs.Steps.{all_steps, steps_of}
 use Rattle.schedule.specs.declared.items.Item.{Item}
 use Rattle.schedule.specs.declared.items.Step.{Step}
@@ -32,6 +32,22 @@ all_before (item ∷ items) zero steps past = absurd (omega arith)
 all_before (item ∷ items) (suc i) steps past =
     append_assoc (steps_of item) (all_steps (take i items)) (take steps (steps_of_item (slice_get items i)))
     ∙ ap (λ (l : List Step). steps_of item ++ l) (all_before items i steps (omega arith))
+
+-- the steps on both sides of a place
+all_round : (items : List Item) (i steps : ℕ)
+    → steps_before items i steps ++ steps_after items (record { item = i; steps = steps }) ≡ all_steps items
+all_round [] zero zero = refl
+all_round [] zero (suc steps) = refl
+all_round [] (suc i) zero = refl
+all_round [] (suc i) (suc steps) = refl
+all_round (item ∷ items) zero steps =
+    sym (append_assoc (take steps (steps_of item)) (drop steps (steps_of item)) (all_steps items))
+    ∙ ap (λ (l : List Step). l ++ all_steps items) (take-append-drop steps (steps_of item))
+all_round (item ∷ items) (suc i) steps =
+    ap (λ (l : List Step). l ++ steps_after items (record { item = i; steps = steps }))
+    (append_assoc (steps_of item) (all_steps (take i items)) (take steps (steps_of_item (slice_get items i))))
+    ∙ append_assoc (steps_of item) (steps_before items i steps) (steps_after items (record { item = i; steps = steps }))
+    ∙ ap (λ (l : List Step). steps_of item ++ l) (all_round items i steps)
 
 -- an item that has steps is one of the schedule's
 pub item_inside : (items : List Item) (i steps : ℕ) → steps < length (steps_of_item (slice_get items i)) → i < length items
@@ -73,6 +89,14 @@ pub leads_all : (items : List Item) (from : Place) (i steps : ℕ) (made : List 
 leads_all items from i steps made past leads =
     leads.after ∙ ap (λ (l : List Step). made ++ l) (nothing_after items i steps past) ∙ append-nil made
 
+-- from a place behind the last item
+pub leads_end : (items : List Item) (place : Place) → Leads items place (record { item = length items; steps = 0 }) (steps_after items place)
+leads_end items place = record {
+  before = all_before items (length items) 0 (omega arith) ∙ sym (all_round items place.item place.steps);
+  after = sym (append-nil (steps_after items place))
+      ∙ ap (λ (l : List Step). steps_after items place ++ l) (sym (nothing_after items (length items) 0 (omega arith)));
+}
+
 -- within an item, whose steps are all equal
 module _ (items : List Item) (i : ℕ) (step : Step) (count : ℕ) (equal : steps_of_item (slice_get items i) ≡ replicate count step) where
   pub leads_to_next : (steps : ℕ) → Leads items (record { item = i; steps = steps }) (record { item = i + 1; steps = 0 }) (replicate (count - steps) step)
@@ -105,6 +129,14 @@ pub step_there : (items : List Item) (place : Place) (step : Step) → IsStepAt 
 step_there items place step here =
     let inside = slice_get_within (steps_of_item (slice_get items place.item)) place.steps step here in
     (item_inside items place.item place.steps inside, inside)
+
+-- a place at a step is one of the schedule's, and so is the place behind it
+pub place_at : (items : List Item) (place : Place) (step : Step) → IsStepAt items place step → IsPlaceOf items place
+place_at items place step here = let there = step_there items place step here in record { item = omega arith; steps = omega arith }
+
+pub place_behind : (items : List Item) (place : Place) (step : Step) → IsStepAt items place step
+    → IsPlaceOf items (record { item = place.item; steps = place.steps + 1 })
+place_behind items place step here = let there = step_there items place step here in record { item = omega arith; steps = omega arith }
 
 -- behind a step
 cut_at : (steps : List Step) (n : ℕ) (step : Step) → slice_get steps n ≡ Some step

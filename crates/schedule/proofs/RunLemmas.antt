@@ -6,7 +6,7 @@ use Rattle.std.proofs.lemmas.List.Sums.{passes_at_first, sum_by-cons, sum_by-tak
 use Rattle.std.proofs.lemmas.List.{drop_all}
 use Rattle.text.proofs.Parting.{ends_at, found, missing, not_true}
 use Rattle.schedule.specs.Grammar.{hart_steps, steps_in}
-use Rattle.schedule.specs.Joined.{item_before, joined, steps_before}
+use Rattle.schedule.specs.Joined.{item_before, joined, run_before}
 use Rattle.schedule.specs.Runs.{IsFirstJoined, IsFirstBusy, IsRun, continues, is_idle}
 use Rattle.schedule.specs.declared.items.Item.{Item}
 use Rattle.schedule.specs.declared.items.Item.TheVariants.{Steps, Evict}
@@ -18,17 +18,17 @@ abbrev run_end : ℕ → List Item → ℕ
 run_end hart items = position_or_len (λ item. not (continues hart item)) items
 
 -- what begins with steps of a hart goes on doing so with further items before it
-same_hart_before : (hart count : ℕ) (items : List Item) → (more : ℕ) × (rest : List Item) × (steps_before hart count items ≡ Steps hart more ∷ rest)
+same_hart_before : (hart count : ℕ) (items : List Item) → (more : ℕ) × (rest : List Item) × (run_before hart count items ≡ Steps hart more ∷ rest)
 same_hart_before hart count [] = (count, [], refl)
 same_hart_before hart count (Evict line ∷ rest) = (count, Evict line ∷ rest, refl)
 same_hart_before hart count (Steps next more ∷ rest) = joins_or_not (eqb hart next) refl where
-  joins_or_not : (t : Bool) → eqb hart next ≡ t → (all : ℕ) × (after : List Item) × (steps_before hart count (Steps next more ∷ rest) ≡ Steps hart all ∷ after)
+  joins_or_not : (t : Bool) → eqb hart next ≡ t → (all : ℕ) × (after : List Item) × (run_before hart count (Steps next more ∷ rest) ≡ Steps hart all ∷ after)
   joins_or_not true h = (count + more, rest, rw h refl)
   joins_or_not false h = (count, Steps next more ∷ rest, rw h refl)
 
 -- an item that isn't idle and doesn't go on with a hart's steps stays apart from them
 stays_apart : (hart count : ℕ) (item : Item) (items : List Item) → is_idle item ≡ false → continues hart item ≡ false
-    → steps_before hart count (item_before item items) ≡ Steps hart count ∷ item_before item items
+    → run_before hart count (item_before item items) ≡ Steps hart count ∷ item_before item items
 stays_apart hart count (Evict line) items busy other = refl
 stays_apart hart count (Steps next more) items busy other =
     let (all, rest, begins) = same_hart_before next more items in
@@ -36,7 +36,7 @@ stays_apart hart count (Steps next more) items busy other =
     rw (busy, begins, differs) refl
 
 abbrev TakesIn : ℕ → List Item → ℕ → Type 0
-TakesIn hart items place = (count : ℕ) → steps_before hart count (joined items) ≡ Steps hart (count + hart_steps (take place items)) ∷ joined (drop place items)
+TakesIn hart items place = (count : ℕ) → run_before hart count (joined items) ≡ Steps hart (count + hart_steps (take place items)) ∷ joined (drop place items)
 
 idle_taken : (hart : ℕ) (item : Item) (items : List Item) (place : ℕ) → is_idle item ≡ true → TakesIn hart items place → TakesIn hart (item ∷ items) (suc place)
 idle_taken hart (Steps next more) items place idle takes count =

@@ -7,16 +7,16 @@ use Rattle.schedule.specs.declared.items.Item.{Item}
 use Rattle.schedule.specs.declared.items.Item.TheVariants.{Steps, Evict}
 
 -- as many steps of a hart as the count says before joined items
-abbrev pub steps_before : ℕ → ℕ → List Item → List Item
-steps_before hart count [] = Steps hart count ∷ []
-steps_before hart count (Evict line ∷ rest) = Steps hart count ∷ Evict line ∷ rest
-steps_before hart count (Steps next more ∷ rest) =
+abbrev pub run_before : ℕ → ℕ → List Item → List Item
+run_before hart count [] = Steps hart count ∷ []
+run_before hart count (Evict line ∷ rest) = Steps hart count ∷ Evict line ∷ rest
+run_before hart count (Steps next more ∷ rest) =
     if hart == next then Steps hart (count + more) ∷ rest else Steps hart count ∷ Steps next more ∷ rest
 
 -- an item before joined items; no steps leave no item
 abbrev pub item_before : Item → List Item → List Item
 item_before (Evict line) rest = Evict line ∷ rest
-item_before (Steps hart count) rest = if count == 0 then rest else steps_before hart count rest
+item_before (Steps hart count) rest = if count == 0 then rest else run_before hart count rest
 
 abbrev pub joined : List Item → List Item
 joined [] = []

@@ -2,7 +2,7 @@
 use Rattle.std.specs.Prelude.{◌≡◌, ◌==◌, ◌||◌, ◌<◌, ◌≤◌, ◌^◌, ◌+◌, ℕ, Bool, false, List, [], ◌∷◌, codes, length}
 use Rattle.std.specs.List.{AllByRecursion}
 use Rattle.schedule.specs.Grammar.{hart_steps, steps_in}
-use Rattle.schedule.specs.Joined.{item_before, joined, steps_before, text_of}
+use Rattle.schedule.specs.Joined.{item_before, joined, run_before, text_of}
 use Rattle.schedule.specs.declared.items.Item.{Item}
 use Rattle.schedule.specs.declared.items.Item.TheVariants.{Steps, Evict}
 
@@ -30,7 +30,7 @@ pub record IsFirstBusy (items : List Item) (item : Item) (after : List Item) : T
 
 -- steps of a hart before the items take in the run, and the rest follows them
 pub record IsRun (hart : ℕ) (items run rest : List Item) : Type 0 where
-  pub taken : (count : ℕ) → steps_before hart count (joined items) ≡ Steps hart (count + hart_steps run) ∷ joined rest
+  pub taken : (count : ℕ) → run_before hart count (joined items) ≡ Steps hart (count + hart_steps run) ∷ joined rest
   pub steps : hart_steps run + hart_steps rest ≡ hart_steps items
   pub shorter : length rest ≤ length items
 

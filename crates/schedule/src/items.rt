@@ -1,8 +1,8 @@
 //! The items of a schedule.
 
-ghost use Rattle.std.specs.Prelude.{◌≡◌, ◌<◌, ◌+◌, ◌^◌, [], ◌∷◌, ◌++◌, OnOk, OnErr};
+ghost use Rattle.std.specs.Prelude.{◌≡◌, ◌<◌, ◌+◌, ◌^◌, [], ◌∷◌, ◌++◌, All, IfOk, OnErr, OnOk, replicate};
 ghost use Rattle.schedule.specs.Grammar.{hart_steps};
-ghost use Rattle.schedule.specs.Joined.{AreJoined};
+ghost use Rattle.schedule.specs.Joined.{AreJoined, HasSteps};
 ghost use Rattle.schedule.specs.Steps.{all_steps};
 
 use std::alloc::{AllocError, Global};
@@ -60,25 +60,47 @@ impl Schedule {
         Ok(())
     }
 
-    /// Adds one step of a hart at the end, to the last item where that is steps of this hart. A refused growth leaves the
-    /// schedule as it was.
-    #[tactic(auto, using(crate::proofs::Growing::one_more, crate::proofs::Growing::one_first, crate::proofs::GrowingJoined::more_joined))]
+    /// Adds one step of a hart at the end, as `push_steps` does.
     pub fn push_step(&mut self, hart: u32) -> Result<(), AllocError>
         ensures ok { OnOk result (all_steps self.new ≡ all_steps self.old ++ Step.Hart hart ∷ []) }
         ensures joined { OnOk result (AreJoined self.old → hart_steps self.old + 1 < 2 ^ 32 → AreJoined self.new) }
         ensures err { OnErr result (self.new ≡ self.old) }
     {
+        self.push_steps(hart, 1)
+    }
+
+    /// Adds `more` steps of a hart at the end, to the last item where that is steps of this hart and can count them. No item
+    /// comes of no steps. A refused growth leaves the schedule as it was.
+    #[tactic(auto, using(crate::proofs::Growing::more, crate::proofs::Growing::first, crate::proofs::GrowingJoined::more_joined))]
+    pub fn push_steps(&mut self, hart: u32, more: u32) -> Result<(), AllocError>
+        ensures ok { OnOk result (all_steps self.new ≡ all_steps self.old ++ replicate more (Step.Hart hart)) }
+        ensures joined { OnOk result (AreJoined self.old → hart_steps self.old + more < 2 ^ 32 → AreJoined self.new) }
+        ensures items { All HasSteps self.old → All HasSteps self.new }
+        ensures err { OnErr result (self.new ≡ self.old) }
+    {
+        if more == 0 {
+            return Ok(());
+        }
         match self.items.last().copied() {
-            Some(Item::Steps { hart: last, count }) if last == hart && count < u32::MAX => {
+            Some(Item::Steps { hart: last, count }) if last == hart && more <= u32::MAX - count => {
                 let end = self.items.len() - 1;
                 self.items[end] = Item::Steps {
                     hart,
-                    count: count + 1,
+                    count: count + more,
                 };
                 Ok(())
             }
-            _ => self.push(Item::Steps { hart, count: 1 }),
+            _ => self.push(Item::Steps { hart, count: more }),
         }
+    }
+
+    /// Another schedule of the same items.
+    pub fn copy(&self, alloc: Global) -> Result<Schedule, AllocError>
+        ensures { IfOk result (λ copy. copy ≡ self.now) }
+    {
+        Ok(Schedule {
+            items: Vec::from_slice(alloc, &self.items)?,
+        })
     }
 
     /// The items, in order.

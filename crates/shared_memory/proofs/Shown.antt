@@ -8,19 +8,20 @@ use Rattle.crash_model.specs.Schedule.{without_evictions}
 use Rattle.crash_model.specs.WrittenBack.{back}
 use Rattle.crash_model.specs.declared.step.PersistenceStep.{PersistenceStep}
 use Rattle.crash_model.proofs.Explained.{cut_image_without_evictions, image_without_evictions}
-use Rattle.clean_fence.specs.Rules.{PmView}
+use Rattle.clean_fence.specs.Rules.{PmView, after_evict}
 use Rattle.clean_fence.specs.Represents.{AreAmong, Represents}
 use Rattle.line_memory.specs.Memory.{Memory}
 use Rattle.store_trace.specs.History.{history}
 use Rattle.store_trace.specs.declared.event.Event.{Event}
 use Rattle.hart.specs.declared.need.Reply.{Reply}
 use Rattle.hart.specs.declared.need.Request.{Request}
-use Rattle.shared_memory.specs.declared.history.Entry.TheVariants.{Evicted}
-use Rattle.shared_memory.specs.Cached.{RepresentsEvicting}
+use Rattle.shared_memory.specs.declared.history.Entry.{Entry}
+use Rattle.shared_memory.specs.declared.history.Entry.TheVariants.{Asked, Evicted}
+use Rattle.shared_memory.specs.Cached.{RepresentsEvicting, cache_after, cache_left, medium_left}
 use Rattle.shared_memory.specs.Histories.{memory_after}
 use Rattle.shared_memory.specs.Persisted.{lines_used, persisted, touched}
 use Rattle.shared_memory.specs.Replies.{Common, asked, events_of, reply_after}
-use Rattle.shared_memory.specs.SharedView.{Evicts, Serves, SharedView, Shows, reply_to}
+use Rattle.shared_memory.specs.SharedView.{Evicts, IsExact, Serves, SharedView, Shows, reply_to}
 use Rattle.shared_memory.proofs.Stepping.{evicting, history_evicts_nothing, history_more, unforced, without_append}
 use Rattle.shared_memory.proofs.Reserving.{held_as}
 
@@ -110,6 +111,34 @@ evicted_shows old new line c evicts shows = record {
       let room : length lines ≤ old.cache.cache.capacity = omega arith in
       unforced _ _ _ _ _ evicts.steps c.start lines (persisted c.history) (shows.unforced lines room among) (among_left [] (touched c.history) lines among);
 }
+
+-- an exact cache stays exact: the same cache of the same capacity
+exact_as : (old new next : PmView) (start : List (List ℕ)) (entries : List Entry) → new.cache.capacity ≡ old.cache.capacity
+    → new ≡ next → next ≡ cache_left old.cache.capacity start entries → new ≡ cache_left new.cache.capacity start entries
+exact_as old new next start entries capacity is left =
+    is ∙ left ∙ ap (λ (n : ℕ). cache_left n start entries) (sym capacity)
+
+pub served_exact : (old new : SharedView) (h : ℕ) (request : Request) (reply : Reply) (c : Common) → h < 8
+    → Serves old new h request reply → Shows old c → IsExact old c → IsExact new (asked c h request)
+served_exact old new h request reply c few serves shows exact =
+    let same : reply ≡ reply_after c h request = serves.reply ∙ reply_stands old h request c few shows in record {
+      cache = exact_as old.cache new.cache (cache_after h request reply old.cache) c.start (Asked h request (reply_after c h request) ∷ c.history)
+          serves.steps.1.sizes.capacity serves.cache
+          (ap (λ (r : Reply). cache_after h request r old.cache) same
+          ∙ ap (λ (cache : PmView). cache_after h request (reply_after c h request) cache) exact.cache);
+    }
+
+pub evicted_exact : (old new : SharedView) (line : ℕ) (c : Common) → Evicts old new line → IsExact old c
+    → IsExact new (record c { history = Evicted line ∷ c.history })
+evicted_exact old new line c evicts exact = record {
+  cache = exact_as old.cache new.cache (after_evict line old.cache) c.start (Evicted line ∷ c.history)
+      evicts.steps.sizes.capacity evicts.cache (ap (λ (cache : PmView). after_evict line cache) exact.cache);
+}
+
+-- the medium behind an exact cache
+pub exact_medium : (shared : SharedView) (c : Common) → IsExact shared c
+    → shared.cache.lines ≡ medium_left shared.cache.cache.capacity c.start c.history
+exact_medium shared c exact = ap (λ (cache : PmView). cache.lines) exact.cache
 
 -- what a power cut leaves
 pub leaves_cut : (shared : SharedView) (medium : List (List ℕ))

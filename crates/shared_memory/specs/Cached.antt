@@ -1,10 +1,10 @@
 -- The cache behind persistent memory: what requests make of it, and of all that it represents.
 -- Source: RISC-V Cache Management Operations 1.0, chapter 2; that cbo.inval acts as cbo.flush is this project's own choice.
-use Rattle.std.specs.Prelude.{◌≡◌, ℕ, zero, List, nat_le, if◌then◌else◌}
+use Rattle.std.specs.Prelude.{◌≡◌, ℕ, zero, List, [], ◌∷◌, nat_le, if◌then◌else◌}
 use Rattle.line_memory.specs.declared.TheConstants.{PERSISTENT_BASE}
 use Rattle.crash_model.specs.Schedule.{without_evictions}
 use Rattle.crash_model.specs.declared.step.PersistenceStep.{PersistenceStep}
-use Rattle.clean_fence.specs.Rules.{PmView, after_clean, after_fence, after_flush, after_load, after_store}
+use Rattle.clean_fence.specs.Rules.{PmView, after_clean, after_evict, after_fence, after_flush, after_load, after_store, started}
 use Rattle.clean_fence.specs.Represents.{Represents}
 use Rattle.isa_table.specs.declared.instruction.CacheOp.{CacheOp}
 use Rattle.isa_table.specs.declared.instruction.CacheOp.TheVariants as ops
@@ -13,6 +13,8 @@ use Rattle.hart.specs.declared.need.Request.{Request}
 use Rattle.hart.specs.declared.need.Request.TheVariants.{Load, Store, Lr, Sc, Amo, Cbo, Fence}
 use Rattle.hart.specs.declared.need.Reply.{Reply}
 use Rattle.hart.specs.declared.need.Reply.TheVariants.{Value, Done}
+use Rattle.shared_memory.specs.declared.history.Entry.{Entry}
+use Rattle.shared_memory.specs.declared.history.Entry.TheVariants.{Asked, Evicted}
 use Rattle.shared_memory.specs.Replies.{line_of, offset_of}
 
 -- the cache after a load from an address, and after a store to it: one of text or data leaves it as it is
@@ -44,6 +46,17 @@ cache_after h (Amo op a w operand) (Value old) cache = after_store_at a w (amo_r
 cache_after h (Cbo op a) Done cache = after_operation_at h op a cache
 cache_after h Fence Done cache = after_fence h cache
 cache_after h request reply cache = cache
+
+-- the one cache that a history leaves, whose newest entry is first: each of its requests and evictions, by the rules, from
+-- an empty cache of this capacity for eight harts over the lines at the start
+abbrev pub cache_left : ℕ → List (List ℕ) → List Entry → PmView
+cache_left capacity start [] = started capacity 8 start
+cache_left capacity start (Asked h request reply ∷ before) = cache_after h request reply (cache_left capacity start before)
+cache_left capacity start (Evicted line ∷ before) = after_evict line (cache_left capacity start before)
+
+-- the medium behind that cache, which a power cut then leaves
+abbrev pub medium_left : ℕ → List (List ℕ) → List Entry → List (List ℕ)
+medium_left capacity start entries = (cache_left capacity start entries).lines
 
 -- It represents steps which are these ones but for evictions, wherever those came.
 pub record RepresentsEvicting (start : List (List ℕ)) (p : List PersistenceStep) (cache : PmView) : Type 0 where

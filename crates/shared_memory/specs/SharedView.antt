@@ -18,7 +18,7 @@ use Rattle.hart.specs.declared.need.Reply.TheVariants.{Done}
 use Rattle.reservation.specs.Reserved.{Agrees, Call, Stored}
 use Rattle.shared_memory.specs.declared.history.Entry.TheVariants.{Asked}
 use Rattle.shared_memory.specs.Histories.{calls_of, memory_after, replayed, written}
-use Rattle.shared_memory.specs.Cached.{RepresentsEvicting, after_load_at, after_store_at, cache_after}
+use Rattle.shared_memory.specs.Cached.{RepresentsEvicting, after_load_at, after_store_at, cache_after, cache_left}
 use Rattle.shared_memory.specs.Persisted.{line_used, lines_used, persisted, touched}
 use Rattle.shared_memory.specs.Replies.{Common, events_of, if_persistent, line_of, offset_of, replied}
 
@@ -72,6 +72,10 @@ pub record Shows (shared : SharedView) (c : Common) : Type 0 where
   pub cached : RepresentsEvicting c.start (history c.trace) shared.cache
   pub unforced : (lines : List ℕ) → length lines ≤ shared.cache.cache.capacity → AreAmong (touched c.history) lines →
       RepresentsUnforced c.start lines (persisted c.history) shared.cache
+
+-- The cache is the one that the history leaves, with the medium behind it: at any capacity, whichever lines had to leave.
+pub record IsExact (shared : SharedView) (c : Common) : Type 0 where
+  pub cache : shared.cache ≡ cache_left shared.cache.cache.capacity c.start c.history
 
 -- the number that an access of memory finds
 pub record Finds (memory : Memory) (address width value : ℕ) : Type 0 where

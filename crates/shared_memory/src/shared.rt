@@ -1,7 +1,7 @@
 //! What the harts of a machine share: its memory, behind a cache where it is persistent, and its trace. It serves their
 //! requests.
 
-ghost use Rattle.std.specs.Prelude.{◌≡◌, ◌↔◌, ◌⊎◌, ◌+◌, ◌*◌, ◌/◌, ◌%◌, ◌^◌, ◌<◌, ◌≤◌, ℕ, None, Some, List, [], ◌∷◌, ◌++◌, IfOk, IfErr, OnOk, OnErr, length};
+ghost use Rattle.std.specs.Prelude.{◌≡◌, ◌≢◌, ◌↔◌, ◌⊎◌, ◌+◌, ◌*◌, ◌/◌, ◌%◌, ◌^◌, ◌<◌, ◌≤◌, ℕ, None, Some, List, [], ◌∷◌, ◌++◌, IfOk, IfErr, OnOk, OnErr, MatchBool, length};
 ghost use Rattle.crash_model.specs.Cut.{IsCutImage};
 ghost use Rattle.crash_model.specs.Image.{image};
 ghost use Rattle.crash_model.specs.WrittenBack.{back};
@@ -74,7 +74,7 @@ impl Model for Shared {
 
 impl Shared {
     ghost use Rattle.shared_memory.specs.Replies.{Common, common_at_start};
-    ghost use Rattle.shared_memory.specs.SharedView.{Shows};
+    ghost use Rattle.shared_memory.specs.SharedView.{IsExact, Shows};
 
     /// The memory at the start of a run of one to eight harts: a program's text and data, a medium behind an empty cache of
     /// 1 to 16,384 lines, and an empty trace. NoSuchHart comes before OutOfLimits, and both before any memory is taken.
@@ -86,6 +86,7 @@ impl Shared {
         capacity: u32,
     ) -> Result<Shared, StepFault>
         ensures ok { IfOk result (λ shared. Shows shared (common_at_start program.now medium)) }
+        ensures exact { IfOk result (λ shared. IsExact shared (common_at_start program.now medium)) }
         ensures lines { IfOk result (λ shared. shared.cache.lines ≡ medium) }
         ensures capacity { IfOk result (λ shared. shared.cache.cache.capacity ≡ capacity) }
         ensures trace { IfOk result (λ shared. shared.trace ≡ []) }
@@ -108,6 +109,7 @@ impl Shared {
     ) -> Result<Shared, StepFault>
         requires { 1 ≤ capacity }
         ensures ok { IfOk result (λ shared. Shows shared (common_at_start program.now medium)) }
+        ensures exact { IfOk result (λ shared. IsExact shared (common_at_start program.now medium)) }
         ensures lines { IfOk result (λ shared. shared.cache.lines ≡ medium) }
         ensures capacity { IfOk result (λ shared. shared.cache.cache.capacity ≡ capacity) }
         ensures trace { IfOk result (λ shared. shared.trace ≡ []) }
@@ -419,7 +421,7 @@ impl Shared {
     {
         let offset = address - PERSISTENT_BASE;
         let size = self.size();
-        if offset % u64::from(width) != 0 {
+        if !is_aligned(offset, width) {
             return Err(MemFault::Misaligned);
         }
         if offset >= size {
@@ -676,6 +678,19 @@ fn store_event(hart: u32, offset: u32, width: u32, value: u64) -> Event
         offset: offset % 64,
         width,
         value,
+    }
+}
+
+/// Whether an access of this width may begin at an offset. No division: it stands on the way of every load and store.
+fn is_aligned(offset: u64, width: u32) -> bool
+    requires { IsWidth width }
+    ensures { MatchBool result (offset % width ≡ 0) (offset % width ≢ 0) }
+{
+    match width {
+        1 => true,
+        2 => offset % 2 == 0,
+        4 => offset % 4 == 0,
+        _ => offset % 8 == 0,
     }
 }
 

@@ -71,6 +71,7 @@ impl<'a> TraceIndex<'a> {
     }
 
     /// How many stores the line has at the moment.
+    #[inline(always)]
     pub fn stores(&self, line: u32, moment: u32) -> u32
         requires line { line < length self.now.start }
         requires moment { moment ≤ length self.now.events }
@@ -80,6 +81,7 @@ impl<'a> TraceIndex<'a> {
     }
 
     /// How many of the line's first stores are in the medium for certain at the moment.
+    #[inline(always)]
     pub fn floor(&self, line: u32, moment: u32) -> u32
         requires line { line < length self.now.start }
         requires moment { moment ≤ length self.now.events }
@@ -90,6 +92,7 @@ impl<'a> TraceIndex<'a> {
     }
 
     /// The bytes of the line after its first `number` stores, at each moment that has them.
+    #[inline(always)]
     pub fn line(&self, line: u32, number: u32) -> &[u8; 64]
         requires line { line < length self.now.start }
         requires number { number ≤ stores line (history self.now.events) }

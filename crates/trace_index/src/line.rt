@@ -90,6 +90,7 @@ fn store_in_line(bytes: &mut [u8; 64], offset: u32, width: u32, value: u64)
 }
 
 /// How many of the stores are of events before the moment.
+#[inline(always)]
 pub fn stores_before(stores: &[StoredLine], moment: u32) -> usize
     ensures within { result ≤ length stores.now }
     ensures place { (count : ℕ) → IsPlace store_event stores.now moment count → result ≡ count }
@@ -98,6 +99,7 @@ pub fn stores_before(stores: &[StoredLine], moment: u32) -> usize
 }
 
 /// How many of the raises are of events before the moment.
+#[inline(always)]
 pub fn raises_before(raises: &[Raise], moment: u32) -> usize
     ensures within { result ≤ length raises.now }
     ensures place { (count : ℕ) → IsPlace raise_event raises.now moment count → result ≡ count }
@@ -106,6 +108,7 @@ pub fn raises_before(raises: &[Raise], moment: u32) -> usize
 }
 
 /// The floor after the first `count` raises.
+#[inline(always)]
 pub fn floor_after(raises: &[Raise], count: usize) -> u32
     requires { count ≤ length raises.now }
     ensures { result ≡ floor_before raises.now count }
@@ -118,6 +121,7 @@ pub fn floor_after(raises: &[Raise], count: usize) -> u32
 }
 
 /// The bytes after the first `count` stores, of a line that started with `start`.
+#[inline(always)]
 pub fn bytes_after<'a>(start: &'a [u8; 64], stores: &'a [StoredLine], count: usize) -> &'a [u8; 64]
     requires { count ≤ length stores.now }
     ensures { result.now ≡ bytes_before start.now stores.now count }

@@ -30,6 +30,7 @@ pub struct Entry {
 
 impl Entry {
     /// Whether two entries are the same in every part.
+    #[inline(always)]
     pub fn equals(&self, other: &Entry) -> bool
         ensures { IsTrue result ↔ (self.now ≡ other.now) }
     {

@@ -31,7 +31,17 @@ impl Log {
         }
     }
 
+    /// The log without entries, with room for so many.
+    pub fn with_capacity(alloc: Global, entries: usize) -> Result<Log, AllocError>
+        ensures { IfOk result (λ log. log ≡ []) }
+    {
+        Ok(Log {
+            entries: Vec::with_capacity(alloc, entries)?,
+        })
+    }
+
     /// Adds an entry at the end. A refused growth leaves the log as it was.
+    #[inline(always)]
     pub fn push(&mut self, entry: Entry) -> Result<(), AllocError>
         ensures ok { OnOk result (self.new ≡ self.old ++ entry ∷ []) }
         ensures err { OnErr result (self.new ≡ self.old) }
@@ -57,6 +67,7 @@ impl Log {
     }
 
     /// Whether two logs have the same entries.
+    #[inline(always)]
     pub fn equals(&self, other: &Log) -> bool
         ensures { IsTrue result ↔ (self.now ≡ other.now) }
     {

@@ -30,6 +30,7 @@ impl Model for Name {
 
 impl Name {
     /// The name without bytes, as entries of kind `Write` have it.
+    #[inline(always)]
     pub fn empty() -> Name
         ensures { result ≡ [] }
     {
@@ -40,6 +41,7 @@ impl Name {
     }
 
     /// The name of these bytes.
+    #[inline(always)]
     pub fn from_bytes(bytes: &[u8]) -> Name
         requires { length bytes.now ≤ 96 }
         ensures { result ≡ bytes.now }
@@ -54,6 +56,7 @@ impl Name {
     }
 
     /// The bytes of the name.
+    #[inline(always)]
     pub fn as_bytes(&self) -> &[u8]
         ensures value { result.now ≡ self.now }
         ensures short { length self.now ≤ 96 }
@@ -62,6 +65,7 @@ impl Name {
     }
 
     /// Whether two names are of the same bytes.
+    #[inline(always)]
     pub fn equals(&self, other: &Name) -> bool
         ensures { IsTrue result ↔ (self.now ≡ other.now) }
     {

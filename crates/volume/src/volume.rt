@@ -36,6 +36,15 @@ impl Volume {
         }
     }
 
+    /// The volume without inodes, with room for so many.
+    pub fn with_capacity(alloc: Global, inodes: usize) -> Result<Volume, AllocError>
+        ensures { IfOk result (λ volume. volume ≡ []) }
+    {
+        Ok(Volume {
+            logs: Vec::with_capacity(alloc, inodes)?,
+        })
+    }
+
     /// Adds an inode with this log after the others. A refused growth leaves the volume as it was.
     pub fn push_log(&mut self, log: Log) -> Result<(), AllocError>
         requires { length self.old + 1 < 2 ^ 32 }

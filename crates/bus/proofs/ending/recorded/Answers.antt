@@ -12,7 +12,7 @@ returns-clause-ok c = (
   rw c.in_ok-schedule.was tt,
   λ seats accounted.
       let made = rw c.in_ok-schedule.was at accounted in
-      are_recorded c.args.core seats _ _ c.of.result c.history.ensures.replay c.history.ensures.harts c.power_cut-start.ensures.below
+      are_recorded c.args.core seats _ _ c.of.result c.history.ensures.replay c.history.ensures.exact c.history.ensures.harts c.power_cut-start.ensures.below
       c.power_cut-start.ensures.capacity made.agree made.account
       (rw (c.power_cut-start.ensures.start, c.power_cut-start.ensures.left, c.power_cut-start.ensures.trace, c.capacity-capacity.ensures.value, made.states_are) at c.of.ensures),
 )

@@ -6,7 +6,7 @@ use Rattle.nova_log.proofs.entry.read_entries.Goals as goal
 
 pub returns-in_err-entry-clause-err : goal.returns-in_err-entry-clause-err
 returns-in_err-entry-clause-err g c =
-    let p = err_from_is_err_and c.from_residual.result c.from_residual.ensures.1 in
+    let p = err_from_is_err_and c.from_residual-in_err-entry.result c.from_residual-in_err-entry.ensures.1 in
     let f = entry_questions c.args.longest (g.S.LineSource.medium c.args.source.now) in
     let h = rw c.loop-position.invariant.same at c.in_err-entry.ensures.err in
     rw (p.1, p.2) (elim h [

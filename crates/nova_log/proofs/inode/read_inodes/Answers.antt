@@ -9,7 +9,7 @@ use Rattle.nova_log.proofs.inode.read_inodes.Goals as goal
 
 pub returns-in_err-own-clause-err : goal.returns-in_err-own-clause-err
 returns-in_err-own-clause-err g c =
-    let p = err_from_is_err_and c.from_residual.result c.from_residual.ensures.1 in
+    let p = err_from_is_err_and c.from_residual-in_err-own.result c.from_residual-in_err-own.ensures.1 in
     let f = inode_questions c.args.geometry.now.pages (g.S.LineSource.medium c.args.source.now) in
     let h = rw c.loop-n.invariant.same at c.in_err-own.ensures.err in
     rw (p.1, p.2) (elim h [

@@ -6,7 +6,7 @@ use Rattle.nova_log.proofs.recovery.read_logs.Goals as goal
 
 pub returns-in_err-log-clause-err : goal.returns-in_err-log-clause-err
 returns-in_err-log-clause-err g c =
-    let p = err_from_is_err_and c.from_residual.result c.from_residual.ensures.1 in
+    let p = err_from_is_err_and c.from_residual-in_err-log.result c.from_residual-in_err-log.ensures.1 in
     let f = log_questions c.args.geometry.now (g.S.LineSource.medium c.args.source.now) in
     let h = rw c.loop-inode.invariant.same at c.in_err-log.ensures.err in
     rw (p.1, p.2) (elim h [

@@ -3,7 +3,7 @@ use Rattle.std.proofs.lemmas.Result.{err_from_is_err_and}
 use Rattle.bus.specs.Replays.{CoreView}
 use Rattle.shared_memory.proofs.Naming.{served_named}
 use Rattle.bus.proofs.Refusing.{refuses_telling, telling_for_memory}
-use Rattle.bus.proofs.Replaying.{asked_below, asked_kept, asked_lines, renews_is, tells_is}
+use Rattle.bus.proofs.Replaying.{asked_below, asked_exact, asked_kept, asked_lines, renews_is, tells_is}
 use Rattle.bus.proofs.locked.Core.ask.Goals as goal
 
 pub returns-clause-ok : goal.returns-clause-ok
@@ -35,6 +35,8 @@ invariant_of-self-2 c =
       c.request.ensures.limit,
       asked_lines _ c.self.inside.history.items c.add_entry.new.history.items c.args.hart c.args.request c.in_ok-reply.reply i.6 added,
       served_named c.self.inside.shared c.request.new.self c.args.hart c.args.request c.in_ok-reply.reply c.requires.width serves i.7,
+      asked_exact _ _ c.self.inside.history.items c.add_entry.new.history.items _ c.request.new.self c.self.inside.harts c.args.hart c.args.request c.in_ok-reply.reply
+          there i.4 i.0 i.8 serves added,
     )
 
 pub returns-in_err-make_room-clause-refused : goal.returns-in_err-make_room-clause-refused

@@ -3,7 +3,7 @@ use Rattle.std.proofs.lemmas.Result.{err_from_is_err_and}
 use Rattle.std.proofs.Common.{◌∙◌}
 use Rattle.shared_memory.proofs.Naming.{evicted_named}
 use Rattle.bus.proofs.Refusing.{line_for_memory, refuses_line}
-use Rattle.bus.proofs.Replaying.{evicted_below, evicted_kept, evicted_lines, evicts_is}
+use Rattle.bus.proofs.Replaying.{evicted_below, evicted_kept, evicted_lines, evicted_stays_exact, evicts_is}
 use Rattle.bus.proofs.locked.Core.evict.Goals as goal
 
 pub invariant_of-self-2 : goal.invariant_of-self-2
@@ -19,6 +19,7 @@ invariant_of-self-2 c =
       c.evict.ensures.limit,
       evicted_lines _ c.self.inside.history.items c.add_entry.new.history.items c.args.line (rw i.2 at c.in_ok-evict.ensures.there) i.6 added,
       evicted_named c.self.inside.shared c.evict.new.self c.args.line evicts i.7,
+      evicted_stays_exact _ _ c.self.inside.history.items c.add_entry.new.history.items _ c.evict.new.self c.args.line i.8 evicts added,
     )
 
 pub returns-in_err-make_room-clause-refused : goal.returns-in_err-make_room-clause-refused

@@ -23,6 +23,7 @@ loop-self-preserved c =
     let before = ap (λ (s : StepsView). s.taken) c.next_run.view_is in (
       takes_more _ _ _ _ _ _ _ c.loop-self.invariant.0 (omega arith)
           (c.in-Some.ensures.some.2 ∙ ap (λ (s : StepsView). replicate c.in-Some.count (Hart c.in-Some.hart) ++ s.left) (sym c.self-in-loop-self.view_is))
-          c.in_ok-push_steps.ensures,
+          c.in_ok-push_steps.ensures.ok,
       omega arith,
+      λ all. c.in_ok-push_steps.ensures.items (c.loop-self.invariant.2 all),
     )

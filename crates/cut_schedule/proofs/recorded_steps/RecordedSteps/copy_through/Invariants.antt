@@ -1,10 +1,13 @@
-use Rattle.std.proofs.Common.{◌≤◌, ◌-◌, max}
+use Rattle.std.proofs.Common.{◌≤◌, ◌-◌, All, max}
+use Rattle.schedule.specs.Joined.{HasSteps}
+use Rattle.schedule.specs.Steps.{all_steps}
 use Rattle.cut_schedule.specs.Walking.{TakesSteps}
 use Rattle.cut_schedule.proofs.recorded_steps.RecordedSteps.copy_through.Given as goal
 
 abbrev pub invariant-loop-self : goal.invariant-loop-self
 invariant-loop-self l =
-    TakesSteps l.initial.self l.self l.initial.schedule l.schedule × (l.self.taken ≤ max l.initial.self.taken l.number)
+    TakesSteps l.initial.self l.self (all_steps l.initial.schedule) (all_steps l.schedule) × (l.self.taken ≤ max l.initial.self.taken l.number)
+    × (All HasSteps l.initial.schedule → All HasSteps l.schedule)
 
 abbrev pub decreases-loop-self : goal.decreases-loop-self
 decreases-loop-self l = l.number - l.self.taken

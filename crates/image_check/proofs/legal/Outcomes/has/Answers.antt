@@ -1,4 +1,5 @@
-use Rattle.std.proofs.Common.{◌≡◌, ℕ, List, Option, Some, sym, subst, true≢false}
+use Rattle.std.proofs.Common.{◌≡◌, ℕ, List, [], ◌∷◌, Bool, true, Option, Some, length, refl, sym, ◌∙◌, subst, true≢false, arith}
+use Rattle.std.specs.Prelude.{◌==◌}
 use Rattle.std.specs.Prelude.{filter}
 use Rattle.std.specs.List.{flat_map}
 use Rattle.std.specs.Result.{result_ok}
@@ -9,6 +10,11 @@ use Rattle.image_check.specs.Planned.{planned}
 use Rattle.image_check.proofs.Judging.{compared_legal, none_legal}
 use Rattle.image_check.proofs.legal.Outcomes.has.Goals as goal
 
+-- a list that is told to be empty
+empty_items : (xs ys : List ℕ) (b : Bool) → xs ≡ ys → b ≡ (length xs == 0) → b ≡ true → ys ≡ []
+empty_items [] ys b same is told = sym same
+empty_items (x ∷ xs) ys b same is told = absurd (true≢false (sym told ∙ is ∙ grind (arith)))
+
 pub returns-in_default : goal.returns-in_default
 returns-in_default c = λ start events o a. (
   λ f. absurd (true≢false (sym f)),
@@ -18,10 +24,18 @@ returns-in_default c = λ start events o a. (
 
 pub returns : goal.returns
 returns c = λ start events o a.
-    compared_legal c.args.plan.now.operations start events c.in-Some.settled c.args.volume.now c.in_ok-expected.expected c.args.self.now.under_way.items c.equals.result
+    compared_legal c.args.plan.now.operations start events c.in-Some.settled c.args.volume.now c.in_ok-expected.expected c.args.self.now.under_way.items c.equals-2.result
     (subst (λ (s : Option (List (List Entry))). AreOutcomes c.args.plan.now.operations (result_ok start) events s c.args.self.now.under_way.items) c.in-Some.is o)
     a
     (subst (λ (ops : List ℕ). with_entries c.in-Some.settled (flat_map (planned c.args.plan.now.operations)
     (filter (λ op. is_shown c.in-Some.settled c.args.volume.now (planned c.args.plan.now.operations op)) ops)) ≡ Some c.in_ok-expected.expected)
-    c.deref.ensures.value c.in_ok-expected.ensures)
-    c.equals.ensures
+    c.as_slice-under_way.ensures.value c.in_ok-expected.ensures)
+    c.equals-2.ensures
+
+pub returns-then-is_empty : goal.returns-then-is_empty
+returns-then-is_empty c = λ start events o a.
+    compared_legal c.args.plan.now.operations start events c.in-Some.settled c.args.volume.now c.in-Some.settled [] c.equals.result
+    (subst (λ (ops : List ℕ). AreOutcomes c.args.plan.now.operations (result_ok start) events (Some c.in-Some.settled) ops)
+    (empty_items c.as_slice-under_way.result.now c.args.self.now.under_way.items c.is_empty.result c.as_slice-under_way.ensures.value c.is_empty.ensures c.if-is_empty.true)
+    (subst (λ (s : Option (List (List Entry))). AreOutcomes c.args.plan.now.operations (result_ok start) events s c.args.self.now.under_way.items) c.in-Some.is o))
+    a refl c.equals.ensures

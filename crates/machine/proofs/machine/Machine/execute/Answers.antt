@@ -16,13 +16,23 @@ returns-in-Err-clause-runs c =
     let there = put_there c.args.self.now.harts c.args.hart c.hart.result.now s c.hart.ensures (rw harts at c.index_mut-state.ensures.value) in
     let same : c.hart.result.now ≡ s = search rules in
     let running : s.status ≡ Running = rw there at c.requires.running in
-    traps c.args.self.now _ c.args.hart s (record s { status = Trapped c.in-Err.trap }) c.in-Err.trap there running
-    (rw (c.fetch-fetched.ensures, same) at (c.in-Err.ensures.err s)) refl (rw (← c.self.view_is) refl)
+    (traps c.args.self.now _ c.args.hart s (record s { status = Trapped c.in-Err.trap }) c.in-Err.trap there running
+    (rw same at (c.in-Err.ensures.traps s)) refl (rw (← c.self.view_is) refl)).runs
+
+pub returns-in-Err-clause-exact : goal.returns-in-Err-clause-exact
+returns-in-Err-clause-exact c =
+    let s = c.index_mut-state.result.now in
+    let harts = ap (λ (m : MachineView). m.harts) c.self.view_is in
+    let there = put_there c.args.self.now.harts c.args.hart c.hart.result.now s c.hart.ensures (rw harts at c.index_mut-state.ensures.value) in
+    let same : c.hart.result.now ≡ s = search rules in
+    let running : s.status ≡ Running = rw there at c.requires.running in
+    (traps c.args.self.now _ c.args.hart s (record s { status = Trapped c.in-Err.trap }) c.in-Err.trap there running
+    (rw same at (c.in-Err.ensures.traps s)) refl (rw (← c.self.view_is) refl)).exact
 
 pub returns-in-Err-clause-event : goal.returns-in-Err-clause-event
 returns-in-Err-clause-event c = λ makes.
     absurd (silent_trap c.args.self.now c.args.hart c.hart.result.now c.in-Err.trap c.hart.ensures
-    (rw c.fetch-fetched.ensures at (c.in-Err.ensures.err c.hart.result.now)) makes)
+    (c.in-Err.ensures.traps c.hart.result.now) makes)
 
 pub ask-requires-clause-hart : goal.ask-requires-clause-hart
 ask-requires-clause-hart c =
@@ -53,15 +63,15 @@ returns-clause-runs c =
     let there = put_there c.args.self.now.harts c.args.hart c.hart.result.now s c.hart.ensures (rw harts at c.index_mut-state.ensures.value) in
     let same : c.hart.result.now ≡ s = search rules in
     let running : s.status ≡ Running = rw there at c.requires.running in
-    let needs = rw (c.fetch-fetched.ensures, same) at (c.in-Ok.ensures.ok s) in
+    let needs = rw same at (c.in-Ok.ensures.needs s) in
     elim c.match-advance.branch [
       | in-Done w ↦
-          goes_on_alone c.args.self.now _ c.args.hart s c.advance.new.state there running (rw (← w.in-Done.ensures.effect) at needs)
-          (rw (w.self-inside-is, w.state-is, ← c.self.view_is) refl)
+          (goes_on_alone c.args.self.now _ c.args.hart s c.advance.new.state there running (rw (← w.in-Done.ensures.effect) at needs)
+          (rw (w.self-inside-is, w.state-is, ← c.self.view_is) refl)).runs
       | in-Stop w ↦
-          traps c.args.self.now _ c.args.hart s c.match-advance.state w.in-Stop.trap there running (rw (← w.in-Stop.ensures.effect) at needs)
+          (traps c.args.self.now _ c.args.hart s c.match-advance.state w.in-Stop.trap there running (rw (← w.in-Stop.ensures.effect) at needs)
           (rw w.in-Stop.ensures.kept at w.state-is)
-          (rw (w.self-inside-is, ← c.self.view_is) refl)
+          (rw (w.self-inside-is, ← c.self.view_is) refl)).runs
       | in-Ask+in_ok-ask-in-Ask w ↦
           let copies = ap (λ (m : MachineView). m.copies) c.self.view_is in
           let shared = ap (λ (m : MachineView). m.shared) c.self.view_is in
@@ -69,11 +79,41 @@ returns-clause-runs c =
           let most = rw harts at c.self.invariant.0 in
           let inside = slice_get_within c.args.self.now.harts c.args.hart s there in
           let few : c.args.hart < 8 = omega arith in
-          let spelled = rw (c.fetch-fetched.ensures, same) at c.in-Ok.ensures.spelled in
-          goes_on_answered c.args.self.now _ w.ask.new.shared c.args.hart s c.match-advance.state c.in-Ok.instr w.in-Ask.request few each
+          let spelled = rw same at c.in-Ok.ensures.spelled in
+          (goes_on_answered c.args.self.now _ w.ask.new.shared c.args.hart s c.match-advance.state c.in-Ok.instr w.in-Ask.request few each
           there running (rw (← w.in-Ask.ensures.effect) at needs) spelled
           (rw (shared, w.in-Ask.ensures.kept, ← w.state-is) at w.in_ok-ask-in-Ask.ensures.ok)
-          (rw (w.self-inside-is, w.renew_after.ensures.copies, w.text.ensures.value, ← c.self.view_is) refl)
+          (rw (w.self-inside-is, w.renew_after.ensures.copies, w.text.ensures.value, ← c.self.view_is) refl)).runs
+    ]
+
+pub returns-clause-exact : goal.returns-clause-exact
+returns-clause-exact c =
+    let s = c.index_mut-state.result.now in
+    let harts = ap (λ (m : MachineView). m.harts) c.self.view_is in
+    let there = put_there c.args.self.now.harts c.args.hart c.hart.result.now s c.hart.ensures (rw harts at c.index_mut-state.ensures.value) in
+    let same : c.hart.result.now ≡ s = search rules in
+    let running : s.status ≡ Running = rw there at c.requires.running in
+    let needs = rw same at (c.in-Ok.ensures.needs s) in
+    elim c.match-advance.branch [
+      | in-Done w ↦
+          (goes_on_alone c.args.self.now _ c.args.hart s c.advance.new.state there running (rw (← w.in-Done.ensures.effect) at needs)
+          (rw (w.self-inside-is, w.state-is, ← c.self.view_is) refl)).exact
+      | in-Stop w ↦
+          (traps c.args.self.now _ c.args.hart s c.match-advance.state w.in-Stop.trap there running (rw (← w.in-Stop.ensures.effect) at needs)
+          (rw w.in-Stop.ensures.kept at w.state-is)
+          (rw (w.self-inside-is, ← c.self.view_is) refl)).exact
+      | in-Ask+in_ok-ask-in-Ask w ↦
+          let copies = ap (λ (m : MachineView). m.copies) c.self.view_is in
+          let shared = ap (λ (m : MachineView). m.shared) c.self.view_is in
+          let each = rw (copies, harts) at c.self.invariant.1 in
+          let most = rw harts at c.self.invariant.0 in
+          let inside = slice_get_within c.args.self.now.harts c.args.hart s there in
+          let few : c.args.hart < 8 = omega arith in
+          let spelled = rw same at c.in-Ok.ensures.spelled in
+          (goes_on_answered c.args.self.now _ w.ask.new.shared c.args.hart s c.match-advance.state c.in-Ok.instr w.in-Ask.request few each
+          there running (rw (← w.in-Ask.ensures.effect) at needs) spelled
+          (rw (shared, w.in-Ask.ensures.kept, ← w.state-is) at w.in_ok-ask-in-Ask.ensures.ok)
+          (rw (w.self-inside-is, w.renew_after.ensures.copies, w.text.ensures.value, ← c.self.view_is) refl)).exact
     ]
 
 pub returns-clause-event : goal.returns-clause-event
@@ -82,7 +122,7 @@ returns-clause-event c =
     let harts = ap (λ (m : MachineView). m.harts) c.self.view_is in
     let there = put_there c.args.self.now.harts c.args.hart c.hart.result.now s c.hart.ensures (rw harts at c.index_mut-state.ensures.value) in
     let same : c.hart.result.now ≡ s = search rules in
-    let needs = rw (c.fetch-fetched.ensures, same) at (c.in-Ok.ensures.ok s) in
+    let needs = rw same at (c.in-Ok.ensures.needs s) in
     elim c.match-advance.branch [
       | in-Done w ↦ λ makes.
           absurd (silent_alone c.args.self.now c.args.hart s c.advance.new.state there (rw (← w.in-Done.ensures.effect) at needs) makes)
@@ -104,7 +144,7 @@ returns-in_err-ask-in-Ask-clause-refused c =
     let there = put_there c.args.self.now.harts c.args.hart s c.index_mut-state.result.now c.hart.ensures (rw harts at c.index_mut-state.ensures.value) in
     let same : c.index_mut-state.result.now ≡ s = search rules in
     let running : s.status ≡ Running = rw c.hart.ensures at c.requires.running in
-    let needs = rw (← c.in-Ask.ensures.effect, c.fetch-fetched.ensures, same) at (c.in-Ok.ensures.ok c.index_mut-state.result.now) in
+    let needs = rw (← c.in-Ask.ensures.effect, same) at (c.in-Ok.ensures.needs c.index_mut-state.result.now) in
     let refused : Refuses c.args.self.now (Hart c.args.hart) c.in_err-ask-in-Ask.field-0.0 =
     refused_with_request c.args.self.now c.args.hart s c.in-Ask.request _ c.hart.ensures running needs
     (rw shared at c.in_err-ask-in-Ask.ensures.refused) in search rules
