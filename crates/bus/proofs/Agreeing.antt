@@ -8,7 +8,7 @@ use Rattle.line_memory.specs.Memory.{Memory}
 use Rattle.machine.specs.Represents.{text_bytes}
 use Rattle.shared_memory.specs.declared.history.Entry.{Entry}
 use Rattle.shared_memory.specs.declared.history.Entry.TheVariants.{Asked}
-use Rattle.shared_memory.specs.Histories.{copied, is_renewing, replayed, text_of}
+use Rattle.shared_memory.specs.Histories.{fetched_text, is_renewing, replayed, text_of}
 use Rattle.shared_memory.specs.Replies.{starting_memory}
 use Rattle.hart.specs.Effect.{answered}
 use Rattle.bus.specs.declared.exchange.Exchange.{Exchange}
@@ -51,7 +51,7 @@ pub passes : (initial : Memory) (h g : ℕ) (request : Request) (reply : Reply) 
 passes initial h g request reply history xs t other part = rw other part
 
 pub copy_passes : (initial : Memory) (h g : ℕ) (request : Request) (reply : Reply) (history : List Entry)
-    → eqb g h ≡ false → copied initial h (Asked g request reply ∷ history) ≡ copied initial h history
+    → eqb g h ≡ false → fetched_text initial h (Asked g request reply ∷ history) ≡ fetched_text initial h history
 copy_passes initial h g request reply history other = elim (cases_Bool (is_renewing request)) [
   | inl renews ↦ rw (renews, other) refl
   | inr not ↦ rw not refl
@@ -76,16 +76,16 @@ evicted_agrees old new line seat v a =
 
 -- of the seat's own hart: one exchange more
 own_copy : (initial : Memory) (h : ℕ) (request : Request) (reply : Reply) (history : List Entry) (old new text : List ℕ)
-    → text_bytes old ≡ copied initial h history → (is_renewing request ≡ true → new ≡ text) → (is_renewing request ≡ false → new ≡ old)
+    → text_bytes old ≡ fetched_text initial h history → (is_renewing request ≡ true → new ≡ text) → (is_renewing request ≡ false → new ≡ old)
     → text_bytes text ≡ text_of (replayed initial (Asked h request reply ∷ history))
-    → text_bytes new ≡ copied initial h (Asked h request reply ∷ history)
+    → text_bytes new ≡ fetched_text initial h (Asked h request reply ∷ history)
 own_copy initial h request reply history old new text was renewed kept now = elim (cases_Bool (is_renewing request)) [
   | inl renews ↦ rw (renews, eq-eqb h h refl, renewed renews) now
   | inr not ↦ rw (not, kept not) was
 ]
 
 pub own_part : (initial : Memory) (h : ℕ) (history : List Entry) (x : Exchange) (xs : List Exchange) (s t : HartState)
-    → IsPart initial h history xs s → Exchanges (copied initial h history) s x t
+    → IsPart initial h history xs s → Exchanges (fetched_text initial h history) s x t
     → IsPart initial h (Asked h x.request x.reply ∷ history) (x ∷ xs) t
 own_part initial h history x xs s t part exchanges = rw (eq-eqb h h refl) (refl, refl, (s, part, exchanges))
 
@@ -99,7 +99,7 @@ served_agrees old new before after outcome v a =
     v.renews ∙ ap (λ (core : CoreView). text_of (replayed initial core.history)) v.tells.core in
     let copy = own_copy initial before.hart v.request v.reply old.history before.copy after.copy new.shared.ram.text
     a.copy v.told.renewed v.told.kept renews in
-    let exchanges : Exchanges (copied initial before.hart old.history) a.from x t = record {
+    let exchanges : Exchanges (fetched_text initial before.hart old.history) a.from x t = record {
       at = before.state;
       alone = rw a.copy at a.alone;
       asks = rw a.copy at v.told.asks;

@@ -1,21 +1,23 @@
 -- A history that is compared with the lists of seats.
-use Rattle.std.proofs.Common.{◌≡◌, ◌≢◌, ℕ, zero, suc, ◌+◌, ◌<◌, ◌≤◌, ◌^◌, List, [], ◌∷◌, ◌++◌, Bool, MatchBool, true, false, Some, eqb, length, map, replicate, reverse, slice_get, slice_index_or, slice_set, take, drop, refl, sym, ap, subst, ◌∙◌, inl, inr, append_assoc, arith, eq-eqb}
+use Rattle.std.proofs.Common.{◌≡◌, ◌≢◌, ℕ, zero, suc, ◌+◌, ◌-◌, ◌<◌, ◌≤◌, ◌^◌, List, [], ◌∷◌, ◌++◌, Bool, MatchBool, true, false, Some, eqb, length, map, replicate, reverse, slice_get, slice_index_or, slice_set, take, drop, refl, sym, ap, subst, ◌∙◌, inl, inr, append_assoc, arith, eq-eqb}
 use Rattle.std.proofs.lemmas.Bool.{cases_Bool, cases_eq, ne_eqb}
 use Rattle.std.proofs.Math.Nat.{mod-add-mod, mod-eq_of_lt, zero-mod}
-use Rattle.std.proofs.lemmas.List.{length-reverse, map-append, reverse-append, take_all, take_more}
+use Rattle.std.proofs.lemmas.List.{append-nil, length-reverse, map-append, reverse-append, take_all, take_more}
 use Rattle.std.proofs.lemmas.Option.{slice_get_read, slice_get_within}
 use Rattle.hart.specs.declared.state.HartState.{HartState}
 use Rattle.hart.specs.declared.need.Request.{Request}
 use Rattle.hart.specs.declared.need.Reply.{Reply}
 use Rattle.line_memory.specs.Memory.{Memory}
-use Rattle.program.specs.Sections.{Sections}
-use Rattle.line_memory.specs.declared.TheConstants.{TEXT_SIZE}
+use Rattle.line_memory.specs.Lines.{line_bytes}
+use Rattle.line_memory.specs.Regions.{padded}
+use Rattle.line_memory.specs.declared.TheConstants.{DATA_SIZE, TEXT_SIZE}
+use Rattle.machine.proofs.Copying.{text_there}
 use Rattle.machine.specs.Represents.{text_bytes}
 use Rattle.schedule.specs.Steps.{all_steps}
 use Rattle.schedule.specs.declared.items.Item.{Item}
 use Rattle.schedule.specs.declared.items.Step.{Step}
 use Rattle.schedule.specs.declared.items.Step.TheVariants.{Hart, Evict}
-use Rattle.shared_memory.specs.Histories.{copied, is_renewing, text_of}
+use Rattle.shared_memory.specs.Histories.{fetched_text, is_renewing, text_of}
 use Rattle.shared_memory.specs.Replies.{events_of, starting_memory}
 use Rattle.store_trace.specs.declared.event.Event.{Event}
 use Rattle.shared_memory.specs.declared.history.Entry.{Entry}
@@ -25,7 +27,7 @@ use Rattle.bus.specs.declared.finish_fault.FinishFault.{FinishFault}
 use Rattle.bus.specs.Agreeing.{Agrees, Exchanges, IsPart, LastIs}
 use Rattle.bus.specs.Finished.{AllAgree, last_steps}
 use Rattle.bus.specs.declared.runs.Runs.{Runs}
-use Rattle.bus.specs.Following.{AreGathered, IfForeign, IsFreshOf, IsNotNext, IsScheduleOf, hart_count, oldest, steps_of_all}
+use Rattle.bus.specs.Following.{AreGathered, IfForeign, IsNotNext, IsScheduleOf, hart_count, oldest, steps_of_all}
 use Rattle.bus.specs.Gathered.{earlier, gathered, steps_to}
 use Rattle.bus.specs.Leading.{HasMade, IsLed}
 use Rattle.bus.specs.Listed.{AllLed, AreListed, AreNotWhole, AreRun, AreWhole, EvictsAlso, HasOtherCopy, IsAccountOf, IsListOf, IsListed, IsNextOf, IsNotWhole, IsUnlisted, IsWhole, NewestIs, all_taken, in_word, numbered}
@@ -36,20 +38,20 @@ use Rattle.bus.proofs.Agreeing.{copy_passes}
 use Rattle.bus.proofs.Following.{exchange_total, gathered_asked, gathered_evicted, oldest_all, oldest_more, total_append}
 use Rattle.bus.proofs.Foreign.{NoneAgree, foreign_weaker, next_is, oldest_size, parted, texts_same}
 use Rattle.bus.proofs.Places.{get_of, got_else, got_set, read_set, set_got, set_set, there_is}
-use Rattle.bus.proofs.Replayed.{append_nothing, entry_is, hart_steps_are, last_added, scheduled, text_at_start}
+use Rattle.bus.proofs.Replayed.{append_nothing, entry_is, hart_steps_are, last_added, scheduled}
 
 -- a hart that renewed its copy in none of its exchanges fetches the text of the start
 copied_at : (initial text : Memory) (h g : ℕ) (request : Request) (reply : Reply) (before : List Entry) (xs : List Exchange) (t : HartState)
-    → ((ys : List Exchange) (s : HartState) → IsListOf h before ys → HasMade text h ys s → copied initial h before ≡ text_of initial)
-    → NewestIs request reply (IsListOf h before) xs → HasMade text h xs t → copied initial h (Asked g request reply ∷ before) ≡ text_of initial
+    → ((ys : List Exchange) (s : HartState) → IsListOf h before ys → HasMade text h ys s → fetched_text initial h before ≡ text_of initial)
+    → NewestIs request reply (IsListOf h before) xs → HasMade text h xs t → fetched_text initial h (Asked g request reply ∷ before) ≡ text_of initial
 copied_at initial text h g request reply before [] t rest list made = absurd list
 copied_at initial text h g request reply before (x ∷ xs) t rest list made =
     let not : is_renewing request ≡ false = ap is_renewing (sym list.0) ∙ made.2.kept in
-    let was : copied initial h before ≡ text_of initial = rest xs made.0 list.2 made.1 in
+    let was : fetched_text initial h before ≡ text_of initial = rest xs made.0 list.2 made.1 in
     rw not was
 
 pub copied_same : (initial text : Memory) (h : ℕ) (history : List Entry) (xs : List Exchange) (t : HartState) → IsListOf h history xs
-    → HasMade text h xs t → copied initial h history ≡ text_of initial
+    → HasMade text h xs t → fetched_text initial h history ≡ text_of initial
 copied_same initial text h [] xs t list made = refl
 copied_same initial text h (Evicted line ∷ before) xs t list made = copied_same initial text h before xs t list made
 copied_same initial text h (Asked g request reply ∷ before) xs t list made = elim (cases_Bool (eqb g h)) [
@@ -64,11 +66,11 @@ part_at : (initial text : Memory) (h : ℕ) (request : Request) (reply : Reply) 
     → text ≡ text_of initial
     → ((ys : List Exchange) (s : HartState) → IsListOf h before ys → HasMade text h ys s → IsPart initial h before ys s)
     → NewestIs request reply (IsListOf h before) xs → HasMade text h xs t
-    → LastIs (copied initial h before) request reply (IsPart initial h before) xs t
+    → LastIs (fetched_text initial h before) request reply (IsPart initial h before) xs t
 part_at initial text h request reply before [] t is rest list made = absurd list
 part_at initial text h request reply before (x ∷ xs) t is rest list made =
-    let same : text ≡ copied initial h before = is ∙ sym (copied_same initial text h before xs made.0 list.2 made.1) in
-    let exchanges : Exchanges (copied initial h before) made.0 x t = subst (λ (m : Memory). Exchanges m made.0 x t) same made.2.exchanges in
+    let same : text ≡ fetched_text initial h before = is ∙ sym (copied_same initial text h before xs made.0 list.2 made.1) in
+    let exchanges : Exchanges (fetched_text initial h before) made.0 x t = subst (λ (m : Memory). Exchanges m made.0 x t) same made.2.exchanges in
     (list.0, list.1, (made.0, rest xs made.0 list.2 made.1, exchanges))
 
 pub part_of : (initial text : Memory) (h : ℕ) (history : List Entry) (xs : List Exchange) (t : HartState) → text ≡ text_of initial
@@ -108,7 +110,7 @@ list_of_part initial h [] xs t part = part.0
 list_of_part initial h (Evicted line ∷ before) xs t part = list_of_part initial h before xs t part
 list_of_part initial h (Asked g request reply ∷ before) xs t part = elim (cases_Bool (eqb g h)) [
   | inl same ↦
-      rw same (list_at_last (copied initial h before) request reply (IsPart initial h before) h before xs t
+      rw same (list_at_last (fetched_text initial h before) request reply (IsPart initial h before) h before xs t
       (λ ys s p. list_of_part initial h before ys s p) (rw same at part))
   | inr other ↦ rw other (list_of_part initial h before xs t (rw other at part))
 ]
@@ -636,35 +638,43 @@ not_whole_fails core seats counts runs history fault numbered turned a refused =
     foreign_weaker (AreNotWhole core.program.text seats counts) (NoneAgree core seats) fault
     (not_whole_none core seats counts runs history numbered turned a) refused
 
--- seats whose harts were led by the text of the start
-first_text : (core fresh : CoreView) → IsFreshOf core fresh → text_bytes fresh.shared.ram.text ≡ text_of (starting_memory core.program core.start)
-first_text core fresh is =
-    text_at_start fresh is.replay_is is.none ∙ ap (λ (p : Sections). text_of (starting_memory p fresh.start)) is.program
-    ∙ ap (λ (l : List (List ℕ)). text_of (starting_memory core.program l)) is.start_is
+-- the whole text region is padded by nothing, so that the text of the start is the program's
+padded_whole : (bytes : List ℕ) (size : ℕ) → length bytes ≡ size → padded bytes size ≡ bytes
+unfolding padded
+padded_whole bytes size whole =
+    let none : size - length bytes ≡ 0 = omega (arith, whole) in
+    rw none (append-nil bytes)
 
-pub all_agree_so : (core fresh : CoreView) (seats : List SeatView) → length seats ≡ core.harts
+first_text : (core : CoreView) → length core.program.text ≡ TEXT_SIZE
+    → text_bytes core.program.text ≡ text_of (starting_memory core.program core.start)
+first_text core whole =
+    ap (λ (bytes : List ℕ). text_bytes bytes) (sym (padded_whole core.program.text TEXT_SIZE whole))
+    ∙ text_there (record { text = padded core.program.text TEXT_SIZE; bytes = padded core.program.static_data DATA_SIZE }) (line_bytes core.start)
+
+-- seats whose harts were led by the text of the start
+pub all_agree_so : (core : CoreView) (seats : List SeatView) → length core.program.text ≡ TEXT_SIZE → length seats ≡ core.harts
     → ((h : ℕ) (s : SeatView) → slice_get seats h ≡ Some s → s.hart ≡ h)
     → ((h : ℕ) (s : SeatView) → slice_get seats h ≡ Some s → s.text ≡ core.program.text)
-    → ((h : ℕ) (s : SeatView) → slice_get seats h ≡ Some s → IsListOf s.hart core.history s.exchanges) → IsFreshOf core fresh → AllLed seats
-    → ((h : ℕ) (s : SeatView) → slice_get seats h ≡ Some s → s.copy ≡ fresh.shared.ram.text) → AllAgree core seats
-all_agree_so core fresh seats count numbered loaded list is led copies = record {
+    → ((h : ℕ) (s : SeatView) → slice_get seats h ≡ Some s → IsListOf s.hart core.history s.exchanges) → AllLed seats
+    → ((h : ℕ) (s : SeatView) → slice_get seats h ≡ Some s → s.copy ≡ core.program.text) → AllAgree core seats
+all_agree_so core seats whole count numbered loaded list led copies = record {
   count = count;
   numbered = numbered;
   each = λ h s got.
-      agrees_so core s fresh.shared.ram.text (first_text core fresh is) (list h s got) (loaded h s got) (copies h s got) (led h s got);
+      agrees_so core s core.program.text (first_text core whole) (list h s got) (loaded h s got) (copies h s got) (led h s got);
 }
 
-pub other_copy_fails : (core fresh : CoreView) (seats : List SeatView)
-    → ((h : ℕ) (s : SeatView) → slice_get seats h ≡ Some s → IsListOf s.hart core.history s.exchanges) → IsFreshOf core fresh → AllLed seats
-    → HasOtherCopy fresh.shared.ram.text seats → NoneAgree core seats
-other_copy_fails core fresh seats list is led w each =
+pub other_copy_fails : (core : CoreView) (seats : List SeatView) → length core.program.text ≡ TEXT_SIZE
+    → ((h : ℕ) (s : SeatView) → slice_get seats h ≡ Some s → IsListOf s.hart core.history s.exchanges) → AllLed seats
+    → HasOtherCopy core.program.text seats → NoneAgree core seats
+other_copy_fails core seats whole list led w each =
     let seat : SeatView = w.seat in
     let initial : Memory = starting_memory core.program core.start in
     let agrees = each w.hart seat w.there in
     let l = led w.hart seat w.there in
-    let copies : text_bytes seat.copy ≡ text_bytes fresh.shared.ram.text =
+    let copies : text_bytes seat.copy ≡ text_bytes core.program.text =
     agrees.copy ∙ copied_same initial (text_bytes seat.copy) seat.hart core.history seat.exchanges l.from (list w.hart seat w.there) l.made
-    ∙ sym (first_text core fresh is) in
+    ∙ sym (first_text core whole) in
     w.not copies
 
 -- the loops over seats

@@ -18,8 +18,8 @@ use Rattle.schedule.specs.declared.items.Step.{Step}
 use Rattle.schedule.specs.declared.items.Step.TheVariants.{Hart, Evict}
 use Rattle.shared_memory.specs.declared.history.Entry.{Entry}
 use Rattle.shared_memory.specs.declared.history.Entry.TheVariants.{Asked, Evicted}
-use Rattle.shared_memory.specs.Histories.{copied}
-use Rattle.shared_memory.specs.Replies.{Common, asked, events_of, reply_after}
+use Rattle.shared_memory.specs.Histories.{fetched_text}
+use Rattle.shared_memory.specs.Replies.{SharedState, events_of, reply_after, shared_after, trace_in}
 use Rattle.store_trace.specs.declared.event.Event.{Event}
 use Rattle.bus.specs.declared.exchange.Exchange.{Exchange}
 use Rattle.bus.specs.Agreeing.{Exchanges}
@@ -42,7 +42,7 @@ count_is (Evict line ∷ steps) = count_is steps
 
 -- an exchange makes one event at most
 few_made : (c : Config) (h : ℕ) (s t : HartState) (x : Exchange) → slice_get c.harts h ≡ Some s
-    → Exchanges (copied c.common.initial h c.common.history) s x t → length (events_of h x.request (reply_after c.common h x.request)) ≤ 1
+    → Exchanges (fetched_text c.common.initial h c.common.history) s x t → length (events_of h x.request (reply_after c.common h x.request)) ≤ 1
 few_made c h s t x there e =
     let inside = slice_get_within c.harts h s there in
     let now : Config = with_hart c h e.at in
@@ -51,17 +51,17 @@ few_made c h s t x there e =
     hart_steps now end h e.at (got_set c.harts h e.at inside) e.asks.running (Ask x.request, e.asks.needs, (e.instr, e.spelled, refl)) in
     let g = grows now end (Hart h) step in
     let events : List Event = events_of h x.request (reply_after c.common h x.request) in
-    let all : length (c.common.trace ++ events) ≡ length (c.common.trace ++ g.more) = ap (λ (l : List Event). length l) g.trace in
-    let sum = length-append c.common.trace g.more in
-    let own = length-append c.common.trace events in
+    let all : length (trace_in c.common ++ events) ≡ length (trace_in c.common ++ g.more) = ap (λ (l : List Event). length l) g.trace in
+    let sum = length-append (trace_in c.common) g.more in
+    let own = length-append (trace_in c.common) events in
     let few = g.few in
     omega (arith, all, sum, own, few)
 
 -- and that is its last step's
 event_made : (c middle : Config) (before : List Step) (h : ℕ) (s t : HartState) (x : Exchange) → RunsTo c before middle
-    → slice_get middle.harts h ≡ Some s → Exchanges (copied middle.common.initial h middle.common.history) s x t
+    → slice_get middle.harts h ≡ Some s → Exchanges (fetched_text middle.common.initial h middle.common.history) s x t
     → length (events_of h x.request (reply_after middle.common h x.request)) ≡ 1
-    → IsMadeBy c (before ++ (replicate x.steps (Hart h) ++ Hart h ∷ [])) (length middle.common.trace)
+    → IsMadeBy c (before ++ (replicate x.steps (Hart h) ++ Hart h ∷ [])) (length (trace_in middle.common))
     (hart_count (before ++ (replicate x.steps (Hart h) ++ Hart h ∷ [])))
 event_made c middle before h s t x runs there e one =
     let inside = slice_get_within middle.harts h s there in
@@ -85,7 +85,7 @@ event_made c middle before h s t x runs there e one =
       runs = run_joined c middle now before (replicate x.steps (Hart h)) runs alone;
       makes = step;
       earlier = refl;
-      event = length-append middle.common.trace events ∙ ap (λ (k : ℕ). length middle.common.trace + k) one;
+      event = length-append (trace_in middle.common) events ∙ ap (λ (k : ℕ). length (trace_in middle.common) + k) one;
     }
 
 numbers_more : (c : Config) (steps : List Step) (numbers : List ℕ) (events : List Event) (total : ℕ) → length events ≤ 1
@@ -99,7 +99,7 @@ numbers_more c steps numbers (event ∷ other ∷ events) total few all made = a
 no_numbers : (c : Config) (steps : List Step) → AreNumbers c steps []
 no_numbers c steps i n got = absurd (cc)
 
-no_events : (program : Sections) (lines : List (List ℕ)) → 0 ≡ length (replay program lines []).trace
+no_events : (program : Sections) (lines : List (List ℕ)) → 0 ≡ length (trace_in (replay program lines []))
 unfolding replay
 no_events program lines = refl
 
@@ -112,7 +112,7 @@ pub record AreNumbered (c : Config) (steps : List Step) (list : List ℕ) (trace
 pub events_numbered : (program : Sections) (lines : List (List ℕ)) (initial : Memory) (harts : ℕ) (history : List Entry)
     (lists : List (List Exchange)) (states : List HartState) → initial ≡ (replay program lines []).initial
     → (replay program lines history).history ≡ history → AreBelow harts history → AreParts initial harts history lists states
-    → AreNumbered (started program lines harts) (gathered history lists) (numbered history lists) (replay program lines history).trace
+    → AreNumbered (started program lines harts) (gathered history lists) (numbered history lists) (trace_in (replay program lines history))
 unfolding gathered numbered
 events_numbered program lines initial harts [] lists states first told below parts =
     record { numbers = no_numbers (started program lines harts) []; each = no_events program lines }
@@ -129,7 +129,7 @@ events_numbered program lines initial harts (Asked h request reply ∷ before) l
     let last = latest program lines initial harts before h request reply lists states first told below.0 parts in
     let x : Exchange = last.first in
     let others : List (List Exchange) = slice_set lists h (earlier (slice_index_or lists h [])) in
-    let common : Common = replay program lines before in
+    let common : SharedState = replay program lines before in
     let middle : Config = record { harts = last.froms; common = common } in
     let runs = gathered_runs program lines initial harts before others last.froms first last.told_before below.1 last.parts in
     let rest = events_numbered program lines initial harts before others last.froms first last.told_before below.1 last.parts in
@@ -144,11 +144,11 @@ events_numbered program lines initial harts (Asked h request reply ∷ before) l
     (subst (λ (q : Request). length (events_of h q (reply_after common h q)) ≡ 1) (sym last.asks) one)) in
     let kept = numbers_kept c (gathered before others) own (numbered before others) rest.numbers in
     let later : List ℕ = map (λ (event : Event). hart_count steps) events in
-    let made_so : AreNumbered c steps (numbered before others ++ later) (asked common h request).trace = record {
+    let made_so : AreNumbered c steps (numbered before others ++ later) (trace_in (shared_after common h request)) = record {
       numbers = numbers_more c steps (numbered before others) events (hart_count steps) few kept made;
       each = length-append (numbered before others) later ∙ ap (λ (k : ℕ). length (numbered before others) + k) (length-map events (λ (event : Event). hart_count steps))
-          ∙ ap (λ (k : ℕ). k + length events) rest.each ∙ sym (length-append common.trace events);
+          ∙ ap (λ (k : ℕ). k + length events) rest.each ∙ sym (length-append (trace_in common) events);
     } in
     let By : Reply → Type 0 = λ r.
-    AreNumbered c steps (numbered before others ++ map (λ (event : Event). hart_count steps) (events_of h request r)) (asked common h request).trace in
+    AreNumbered c steps (numbered before others ++ map (λ (event : Event). hart_count steps) (events_of h request r)) (trace_in (shared_after common h request)) in
     rw (asked_here program lines before h request reply, last.steps) (subst By (sym last.reply_is) made_so)

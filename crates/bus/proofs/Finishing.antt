@@ -7,8 +7,8 @@ use Rattle.machine.specs.Run.{Config, RunsTo, started, with_hart}
 use Rattle.machine.proofs.RunParts.{run_joined}
 use Rattle.schedule.specs.declared.items.Step.TheVariants.{Hart}
 use Rattle.shared_memory.specs.declared.history.Entry.{Entry}
-use Rattle.shared_memory.specs.Histories.{copied}
-use Rattle.shared_memory.specs.Replies.{Common, starting_memory}
+use Rattle.shared_memory.specs.Histories.{fetched_text}
+use Rattle.shared_memory.specs.Replies.{SharedState, starting_memory, trace_in}
 use Rattle.bus.specs.declared.exchange.Exchange.{Exchange}
 use Rattle.bus.specs.Agreeing.{Agrees, IsPart}
 use Rattle.bus.specs.Alone.{GoesAlone}
@@ -40,9 +40,9 @@ abbrev pub GoOn : Memory → List Entry → ℕ → List SeatView → List HartS
 GoOn initial history h [] [] = Unit {0}
 GoOn initial history h [] (f ∷ fs) = ⊥
 GoOn initial history h (seat ∷ seats) [] = ⊥
-GoOn initial history h (seat ∷ seats) (f ∷ fs) = GoesAlone (copied initial h history) seat.since f seat.state × GoOn initial history (h + 1) seats fs
+GoOn initial history h (seat ∷ seats) (f ∷ fs) = GoesAlone (fetched_text initial h history) seat.since f seat.state × GoOn initial history (h + 1) seats fs
 
-pub last_run : (common : Common) (h : ℕ) (done : List HartState) (seats : List SeatView) (froms : List HartState) → h ≡ length done
+pub last_run : (common : SharedState) (h : ℕ) (done : List HartState) (seats : List SeatView) (froms : List HartState) → h ≡ length done
     → GoOn common.initial common.history h seats froms
     → RunsTo (record { harts = done ++ froms; common = common }) (last_steps h seats) (record { harts = done ++ map (λ (s : SeatView). s.state) seats; common = common })
 unfolding last_steps
@@ -96,8 +96,8 @@ froms_of core h (seat ∷ seats) each =
     let initial : Memory = starting_memory core.program core.start in
     let here : seat.hart ≡ h = own.0 ∙ omega arith in
     let rest = froms_of core (h + 1) seats (λ i s got. let e = each (suc i) s got in (e.0 ∙ omega arith, e.1)) in
-    let goes : GoesAlone (copied initial h core.history) seat.since a.from seat.state =
-    subst (λ (k : ℕ). GoesAlone (copied initial k core.history) seat.since a.from seat.state) here
+    let goes : GoesAlone (fetched_text initial h core.history) seat.since a.from seat.state =
+    subst (λ (k : ℕ). GoesAlone (fetched_text initial k core.history) seat.since a.from seat.state) here
     (subst (λ (m : Memory). GoesAlone m seat.since a.from seat.state) a.copy a.alone) in
     let part : IsPart initial h core.history seat.exchanges a.from =
     subst (λ (k : ℕ). IsPart initial k core.history seat.exchanges a.from) here a.part in
@@ -144,7 +144,7 @@ agreeing_runs core seats is below all =
     let p = agreeing_parts core seats all in
     let found = p.found in
     let runs = gathered_runs core.program core.start initial core.harts core.history lists found.froms p.first is.told below p.parts in
-    let common : Common = common_of core in
+    let common : SharedState = common_of core in
     let first_memory : common.initial ≡ initial = initial_is core.program core.start core.history in
     let goes : GoOn common.initial common.history 0 seats found.froms = rw (first_memory, is.told) found.goes in
     let rest = last_run common 0 [] seats found.froms refl goes in
@@ -155,7 +155,7 @@ agreeing_runs core seats is below all =
 pub agreeing_numbers : (core : CoreView) (seats : List SeatView) → IsReplay core.program core.start core.history core.shared
     → AreBelow core.harts core.history → AllAgree core seats
     → AreNumbered (started core.program core.start core.harts) (all_of core seats)
-    (numbered core.history (map (λ (seat : SeatView). seat.exchanges) seats)) (common_of core).trace
+    (numbered core.history (map (λ (seat : SeatView). seat.exchanges) seats)) (trace_in (common_of core))
 agreeing_numbers core seats is below all =
     let lists : List (List Exchange) = map (λ (seat : SeatView). seat.exchanges) seats in
     let p = agreeing_parts core seats all in

@@ -18,7 +18,7 @@ use Rattle.machine.specs.Run.{fetched}
 use Rattle.machine.specs.Represents.{text_bytes}
 use Rattle.schedule.specs.declared.items.Step.{Step}
 use Rattle.schedule.specs.declared.items.Step.TheVariants.{Hart, Evict}
-use Rattle.shared_memory.specs.Histories.{copied, is_renewing, replayed, text_of}
+use Rattle.shared_memory.specs.Histories.{fetched_text, is_renewing, replayed, text_of}
 use Rattle.shared_memory.specs.Replies.{starting_memory}
 use Rattle.shared_memory.specs.declared.history.Entry.{Entry}
 use Rattle.shared_memory.specs.declared.history.Entry.TheVariants.{Asked, Evicted}
@@ -106,9 +106,9 @@ made_more old new seat before after request reply m =
 
 -- the copy of the hart that asked
 follower_copy : (initial : Memory) (h : ℕ) (request : Request) (reply : Reply) (history : List Entry) (old new : List ℕ)
-    → text_bytes old ≡ copied initial h history
+    → text_bytes old ≡ fetched_text initial h history
     → (is_renewing request ≡ true → text_bytes new ≡ text_of (replayed initial (Asked h request reply ∷ history)))
-    → (is_renewing request ≡ false → new ≡ old) → text_bytes new ≡ copied initial h (Asked h request reply ∷ history)
+    → (is_renewing request ≡ false → new ≡ old) → text_bytes new ≡ fetched_text initial h (Asked h request reply ∷ history)
 follower_copy initial h request reply history old new was renewed kept = elim (cases_Bool (is_renewing request)) [
   | inl renews ↦ rw (renews, eq-eqb h h refl) (renewed renews)
   | inr not ↦ rw (not, kept not) was
@@ -126,14 +126,14 @@ follows_own old new seat before after request reply m f =
     omega (arith, length-reverse seat.exchanges, slice_get_within (reverse seat.exchanges) before.next x m.there) in
     let next = m.next in
     let place : after.next ≤ length seat.exchanges = omega (arith, inside, next) in
-    let exchanges : Exchanges (copied initial h old.history) before.state x after.state =
+    let exchanges : Exchanges (fetched_text initial h old.history) before.state x after.state =
     subst (λ (text : Memory). Exchanges text before.state x after.state) f.copy m.exchanges in
     let own : IsPart initial h (Asked h x.request x.reply ∷ old.history) (x ∷ made_of seat before) after.state =
     own_part initial h old.history x (made_of seat before) before.state after.state f.part exchanges in
     let part : IsPart initial h (Asked h request reply ∷ old.history) (made_of seat after) after.state = rw (more, ← m.asked, ← m.told) own in
     let now : text_of (replayed initial new.history) ≡ text_of (replayed initial (Asked h request reply ∷ old.history)) =
     ap (λ (core : CoreView). text_of (replayed initial core.history)) m.core in
-    let copy : text_bytes after.copy ≡ copied initial h (Asked h request reply ∷ old.history) =
+    let copy : text_bytes after.copy ≡ fetched_text initial h (Asked h request reply ∷ old.history) =
     follower_copy initial h request reply old.history before.copy after.copy f.copy (λ renews. m.renewed renews ∙ now) m.kept in
     rw m.core (record { place = place; part = part; copy = copy })
 

@@ -23,7 +23,7 @@ use Rattle.line_memory.proofs.Accesses.{region_byte}
 use Rattle.machine.proofs.Determined.{needs_once}
 use Rattle.machine.specs.Run.{fetched}
 use Rattle.machine.specs.Represents.{text_bytes}
-use Rattle.shared_memory.specs.Histories.{copied}
+use Rattle.shared_memory.specs.Histories.{fetched_text}
 use Rattle.shared_memory.specs.Replies.{reply_after, starting_memory}
 use Rattle.shared_memory.specs.declared.history.Entry.{Entry}
 use Rattle.shared_memory.specs.declared.history.Entry.TheVariants.{Asked, Evicted}
@@ -144,7 +144,7 @@ one_part initial h [] xs ys s t a b = (a.0 ∙ sym b.0, a.1 ∙ sym b.1)
 one_part initial h (Evicted line ∷ before) xs ys s t a b = one_part initial h before xs ys s t a b
 one_part initial h (Asked g request reply ∷ before) xs ys s t a b = elim (cases_Bool (eqb g h)) [
   | inl same ↦
-      last_once (copied initial h before) request reply (IsPart initial h before) xs ys s t
+      last_once (fetched_text initial h before) request reply (IsPart initial h before) xs ys s t
       (λ vs ws v w p q. one_part initial h before vs ws v w p q) (rw same at a) (rw same at b)
   | inr other ↦ one_part initial h before xs ys s t (rw other at a) (rw other at b)
 ]
@@ -177,7 +177,7 @@ part_back initial h [] before xs t part = record { later = []; earliest = xs; fr
 part_back initial h (Evicted line ∷ later) before xs t part = part_back initial h later before xs t part
 part_back initial h (Asked g request reply ∷ later) before xs t part = elim (cases_Bool (eqb g h)) [
   | inl same ↦
-      last_back (copied initial h (later ++ before)) request reply initial h (later ++ before) before xs t
+      last_back (fetched_text initial h (later ++ before)) request reply initial h (later ++ before) before xs t
       (λ ys s p. part_back initial h later before ys s p) (rw same at part)
   | inr other ↦ part_back initial h later before xs t (rw other at part)
 ]
@@ -297,8 +297,8 @@ foreign_end core new seats fs gs history after all_follow ends full program line
     let part : IsPart initial seat.hart new.history seat.exchanges a.from =
     subst (λ (l : List Entry). IsPart initial seat.hart l seat.exchanges a.from) same_history
     (subst (λ (m : Memory). IsPart m seat.hart full.history seat.exchanges a.from) same a.part) in
-    let copy : text_bytes seat.copy ≡ copied initial seat.hart new.history =
-    a.copy ∙ ap (λ (m : Memory). copied m seat.hart full.history) same ∙ ap (λ (l : List Entry). copied initial seat.hart l) same_history in
+    let copy : text_bytes seat.copy ≡ fetched_text initial seat.hart new.history =
+    a.copy ∙ ap (λ (m : Memory). fetched_text m seat.hart full.history) same ∙ ap (λ (l : List Entry). fetched_text initial seat.hart l) same_history in
     let one = one_part initial seat.hart new.history seat.exchanges (made_of seat f) a.from f.state part follows.part in
     let used : f.next ≡ length seat.exchanges =
     sym (oldest_size f.next seat.exchanges follows.place) ∙ sym (ap (λ (l : List Exchange). length l) one.0) in

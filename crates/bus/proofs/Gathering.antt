@@ -16,8 +16,8 @@ use Rattle.schedule.specs.declared.items.Step.{Step}
 use Rattle.schedule.specs.declared.items.Step.TheVariants.{Hart, Evict}
 use Rattle.shared_memory.specs.declared.history.Entry.{Entry}
 use Rattle.shared_memory.specs.declared.history.Entry.TheVariants.{Asked, Evicted}
-use Rattle.shared_memory.specs.Histories.{copied}
-use Rattle.shared_memory.specs.Replies.{Common, asked, reply_after}
+use Rattle.shared_memory.specs.Histories.{fetched_text}
+use Rattle.shared_memory.specs.Replies.{SharedState, reply_after, shared_after}
 use Rattle.machine.specs.Run.{Config, Meets, RunsTo, StepsTo, after_request, fetched_by, started, with_hart}
 use Rattle.machine.proofs.RunParts.{run_joined}
 use Rattle.machine.proofs.Stepping.{hart_steps}
@@ -36,14 +36,14 @@ leaves_meets c h s t word (Stop trap) leaves d e w = e ∙ ap (λ (x : HartState
 leaves_meets c h s t word (Ask request) leaves d e w = absurd leaves
 
 pub alone_steps : (c : Config) (h : ℕ) (s t : HartState) → slice_get c.harts h ≡ Some s
-    → StepsAlone (copied c.common.initial h c.common.history) s t → StepsTo c (Hart h) (with_hart c h t)
+    → StepsAlone (fetched_text c.common.initial h c.common.history) s t → StepsTo c (Hart h) (with_hart c h t)
 alone_steps c h s t there step =
     hart_steps c (with_hart c h t) h s there step.running
     (step.need, step.needs, leaves_meets c h s t [] step.need step.leaves (with_hart c h t) refl (fetched_by c h s.pc))
 
 -- so are several of them
 pub alone_runs : (c : Config) (h n : ℕ) (s t : HartState) → slice_get c.harts h ≡ Some s
-    → GoesAlone (copied c.common.initial h c.common.history) n s t → RunsTo c (replicate n (Hart h)) (with_hart c h t)
+    → GoesAlone (fetched_text c.common.initial h c.common.history) n s t → RunsTo c (replicate n (Hart h)) (with_hart c h t)
 alone_runs c h zero s t there goes =
     rw goes (ap (λ (harts : List HartState). record c { harts = harts }) (set_got c.harts h s there))
 alone_runs c h (suc n) s t there goes =
@@ -59,8 +59,8 @@ alone_runs c h (suc n) s t there goes =
 
 -- an exchange is its register steps and the request
 pub exchange_runs : (c : Config) (h : ℕ) (s t : HartState) (x : Exchange) → slice_get c.harts h ≡ Some s
-    → x.reply ≡ reply_after c.common h x.request → Exchanges (copied c.common.initial h c.common.history) s x t
-    → RunsTo c (replicate x.steps (Hart h) ++ Hart h ∷ []) (record { harts = slice_set c.harts h t; common = asked c.common h x.request })
+    → x.reply ≡ reply_after c.common h x.request → Exchanges (fetched_text c.common.initial h c.common.history) s x t
+    → RunsTo c (replicate x.steps (Hart h) ++ Hart h ∷ []) (record { harts = slice_set c.harts h t; common = shared_after c.common h x.request })
 exchange_runs c h s t x there told e =
     let first = alone_runs c h x.steps s e.at there e.alone in
     let inside = slice_get_within c.harts h s there in
@@ -77,7 +77,7 @@ pub told_here : (program : Sections) (lines : List (List ℕ)) (before : List En
     → (reply ≡ reply_after (replay program lines before) h request) × ((replay program lines before).history ≡ before)
 unfolding replay
 told_here program lines before h request reply told =
-    let c : Common = replay program lines before in
+    let c : SharedState = replay program lines before in
     let all : Asked h request (reply_after c h request) ∷ c.history ≡ Asked h request reply ∷ before = told in (cc, cc)
 
 pub evicted_here : (program : Sections) (lines : List (List ℕ)) (before : List Entry) (line : ℕ)
@@ -85,11 +85,11 @@ pub evicted_here : (program : Sections) (lines : List (List ℕ)) (before : List
     → (replay program lines before).history ≡ before
 unfolding replay
 evicted_here program lines before line told =
-    let c : Common = replay program lines before in
+    let c : SharedState = replay program lines before in
     let all : Evicted line ∷ c.history ≡ Evicted line ∷ before = told in cc
 
 pub asked_here : (program : Sections) (lines : List (List ℕ)) (before : List Entry) (h : ℕ) (request : Request) (reply : Reply)
-    → replay program lines (Asked h request reply ∷ before) ≡ asked (replay program lines before) h request
+    → replay program lines (Asked h request reply ∷ before) ≡ shared_after (replay program lines before) h request
 unfolding replay
 asked_here program lines before h request reply = refl
 
@@ -123,10 +123,10 @@ pub record Newest (initial : Memory) (h : ℕ) (before : List Entry) (request : 
   pub asks : first.request ≡ request
   pub told : first.reply ≡ reply
   pub part : IsPart initial h before (earlier list) from
-  pub exchanges : Exchanges (copied initial h before) from first t
+  pub exchanges : Exchanges (fetched_text initial h before) from first t
 
 newest_is : (initial : Memory) (h : ℕ) (before : List Entry) (request : Request) (reply : Reply) (list : List Exchange) (t : HartState)
-    → LastIs (copied initial h before) request reply (IsPart initial h before) list t → Newest initial h before request reply list t
+    → LastIs (fetched_text initial h before) request reply (IsPart initial h before) list t → Newest initial h before request reply list t
 newest_is initial h before request reply [] t last = absurd last
 newest_is initial h before request reply (x ∷ xs) t last = record {
   first = x;
@@ -179,7 +179,7 @@ pub record Latest (program : Sections) (lines : List (List ℕ)) (initial : Memo
   pub told_before : (replay program lines before).history ≡ before
   pub parts : AreParts initial harts before (slice_set lists h (earlier (slice_index_or lists h []))) froms
   pub there : slice_get froms h ≡ Some from
-  pub exchanges : Exchanges (copied (replay program lines before).initial h (replay program lines before).history) from first after
+  pub exchanges : Exchanges (fetched_text (replay program lines before).initial h (replay program lines before).history) from first after
   pub back : slice_set froms h after ≡ states
 
 pub latest : (program : Sections) (lines : List (List ℕ)) (initial : Memory) (harts : ℕ) (before : List Entry) (h : ℕ) (request : Request)
@@ -195,8 +195,8 @@ latest program lines initial harts before h request reply lists states first tol
     let list : List Exchange = slice_index_or lists h [] in
     let last = newest initial h before request reply list t (parts.part h t got) in
     let x : Exchange = last.first in
-    let common : Common = replay program lines before in
-    let text : copied initial h before ≡ copied common.initial h common.history = rw (initial_of program lines before, ← first, told_both.1) refl in
+    let common : SharedState = replay program lines before in
+    let text : fetched_text initial h before ≡ fetched_text common.initial h common.history = rw (initial_of program lines before, ← first, told_both.1) refl in
     record {
       first = x;
       from = last.from;
@@ -231,10 +231,10 @@ gathered_runs program lines initial harts (Evicted line ∷ before) lists states
 gathered_runs program lines initial harts (Asked h request reply ∷ before) lists states first told below parts =
     let last = latest program lines initial harts before h request reply lists states first told below.0 parts in
     let others : List (List Exchange) = slice_set lists h (earlier (slice_index_or lists h [])) in
-    let common : Common = replay program lines before in
+    let common : SharedState = replay program lines before in
     let middle : Config = record { harts = last.froms; common = common } in
     let runs = gathered_runs program lines initial harts before others last.froms first last.told_before below.1 last.parts in
     let made = exchange_runs middle h last.from last.after last.first last.there last.told last.exchanges in
     rw (asked_here program lines before h request reply, last.steps)
-    (run_joined (started program lines harts) middle (record { harts = states; common = asked common h request }) (gathered before others)
+    (run_joined (started program lines harts) middle (record { harts = states; common = shared_after common h request }) (gathered before others)
     (replicate last.first.steps (Hart h) ++ Hart h ∷ []) runs (rw (last.back, last.asks) at made))

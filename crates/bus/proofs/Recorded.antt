@@ -16,7 +16,7 @@ use Rattle.schedule.specs.declared.items.Step.{Step}
 use Rattle.schedule.specs.declared.items.Step.TheVariants.{Hart, Evict}
 use Rattle.shared_memory.specs.declared.history.Entry.{Entry}
 use Rattle.shared_memory.specs.declared.history.Entry.TheVariants.{Asked, Evicted}
-use Rattle.shared_memory.specs.Histories.{copied}
+use Rattle.shared_memory.specs.Histories.{fetched_text}
 use Rattle.shared_memory.specs.Replies.{starting_memory}
 use Rattle.store_trace.specs.declared.event.Event.{Event}
 use Rattle.bus.specs.declared.exchange.Exchange.{Exchange}
@@ -94,9 +94,9 @@ stands_at core seats is all = record {
       let a = all.each h seat.0 seat.1 in
       let initial : Memory = starting_memory core.program core.start in
       ap (λ (bytes : List ℕ). text_bytes bytes) (copy_at seats h seat.0 seat.1) ∙ a.copy
-      ∙ ap (λ (k : ℕ). copied initial k core.history) (all.numbered h seat.0 seat.1)
-      ∙ ap (λ (m : Memory). copied m h core.history) (sym (initial_is core.program core.start core.history))
-      ∙ ap (λ (l : List Entry). copied (common_of core).initial h l) (sym is.told);
+      ∙ ap (λ (k : ℕ). fetched_text initial k core.history) (all.numbered h seat.0 seat.1)
+      ∙ ap (λ (m : Memory). fetched_text m h core.history) (sym (initial_is core.program core.start core.history))
+      ∙ ap (λ (l : List Entry). fetched_text (common_of core).initial h l) (sym is.told);
 }
 
 -- what is recorded of seats that agree

@@ -1,7 +1,8 @@
 -- Why a service is refused.
-use Rattle.std.proofs.Common.{◌≡◌, ◌⊎◌, ◌↔◌, ◌<◌, ◌≤◌, ℕ, Result, Err, length, ap, inl, inr, refl, ◌∙◌}
+use Rattle.std.proofs.Common.{◌≡◌, ◌⊎◌, ◌<◌, ◌≤◌, ℕ, length, inl, inr, refl}
 use Rattle.hart.specs.declared.need.Request.{Request}
 use Rattle.machine.specs.Represents.{text_bytes}
+use Rattle.shared_memory.specs.Limits.{AreOutsideLimits}
 use Rattle.shared_memory.specs.Refusals.{RefusesRequest}
 use Rattle.shared_memory.specs.declared.fault.StepFault.{StepFault}
 use Rattle.shared_memory.specs.declared.fault.StepFault.TheVariants.{NoSuchHart, NoSuchLine, TraceFull, Memory, OutOfLimits}
@@ -28,28 +29,19 @@ refuses_seat core seat request NoSuchHart there asks refused = absurd refused
 refuses_seat core seat request NoSuchLine there asks refused = absurd refused
 refuses_seat core seat request OutOfLimits there asks refused = absurd refused
 
--- a start that is refused for its harts or its lines
-refused_by : (harts capacity budget : ℕ) (fault : StepFault) → (fault ≡ NoSuchHart → (harts < 1) ⊎ (8 < harts))
-    → (fault ≡ OutOfLimits → (1 ≤ harts) × (harts ≤ 8) × ((capacity < 1) ⊎ (16384 < capacity)))
-    → (fault ≡ NoSuchHart) ⊎ (fault ≡ OutOfLimits) → RefusesStart harts capacity budget fault
-refused_by harts capacity budget fault count limits which = elim which [
-  | inl hart ↦ rw hart (count hart)
-  | inr other ↦
-      let bad = limits other in
-      rw other (bad.0, bad.1, elim bad.2 [ inl low ↦ inl low | inr high ↦ inr (inl high) ])
-]
-
-pub refuses_start : (harts capacity budget : ℕ) (r : Result (Unit {0}) StepFault) (fault : StepFault) → r ≡ Err fault
-    → (r ≡ Err NoSuchHart) ↔ ((harts < 1) ⊎ (8 < harts))
-    → (r ≡ Err OutOfLimits) ↔ ((1 ≤ harts) × (harts ≤ 8) × ((capacity < 1) ⊎ (16384 < capacity)))
-    → (fault ≡ NoSuchHart) ⊎ (fault ≡ OutOfLimits) → RefusesStart harts capacity budget fault
-refuses_start harts capacity budget r fault is count limits which =
-    refused_by harts capacity budget fault (λ e. count.0 (is ∙ ap (λ (f : StepFault). Err f) e)) (λ e. limits.0 (is ∙ ap (λ (f : StepFault). Err f) e)) which
+-- a number outside its limits is told so
+pub outside_cause : (harts capacity : ℕ) (fault : StepFault) → AreOutsideLimits harts capacity fault
+    → (fault ≡ NoSuchHart) ⊎ (fault ≡ OutOfLimits)
+outside_cause harts capacity NoSuchHart outside = inl refl
+outside_cause harts capacity OutOfLimits outside = inr refl
+outside_cause harts capacity NoSuchLine outside = absurd outside
+outside_cause harts capacity TraceFull outside = absurd outside
+outside_cause harts capacity Memory outside = absurd outside
 
 -- for want of memory
 pub start_for_memory : (harts capacity budget : ℕ) (fault : StepFault) → AreWithin harts capacity budget → fault ≡ Memory
     → RefusesStart harts capacity budget fault
-start_for_memory harts capacity budget fault within e = rw e within
+start_for_memory harts capacity budget fault within e = inr (inr (within, e))
 
 pub telling_for_memory : (core : CoreView) (h : ℕ) (request : Request) (fault : StepFault) → fault ≡ Memory → RefusesTelling core h request fault
 telling_for_memory core h request fault e = rw e tt

@@ -18,7 +18,7 @@ use Rattle.schedule.specs.declared.items.Item.{Item}
 use Rattle.schedule.specs.declared.items.Item.TheVariants as items_of
 use Rattle.schedule.specs.declared.items.Step.{Step}
 use Rattle.schedule.specs.declared.items.Step.TheVariants.{Hart}
-use Rattle.shared_memory.specs.Histories.{copied, text_of}
+use Rattle.shared_memory.specs.Histories.{fetched_text, text_of}
 use Rattle.shared_memory.specs.Replies.{starting_memory}
 use Rattle.shared_memory.specs.SharedView.{lines_shown}
 use Rattle.shared_memory.specs.declared.history.Entry.{Entry}
@@ -232,9 +232,9 @@ agrees_at_end core fresh seat f program lines history loaded follows ends =
     let part : IsPart (starting_memory core.program core.start) seat.hart core.history seat.exchanges f.state =
     subst (λ (m : Memory). IsPart m seat.hart core.history seat.exchanges f.state) initial
     (subst (λ (l : List Entry). IsPart was seat.hart l seat.exchanges f.state) history used) in
-    let copy : text_bytes seat.copy ≡ copied (starting_memory core.program core.start) seat.hart core.history =
-    ap (λ (bytes : List ℕ). text_bytes bytes) (sym ends.copy) ∙ follows.copy ∙ ap (λ (m : Memory). copied m seat.hart fresh.history) initial
-    ∙ ap (λ (l : List Entry). copied (starting_memory core.program core.start) seat.hart l) history in
+    let copy : text_bytes seat.copy ≡ fetched_text (starting_memory core.program core.start) seat.hart core.history =
+    ap (λ (bytes : List ℕ). text_bytes bytes) (sym ends.copy) ∙ follows.copy ∙ ap (λ (m : Memory). fetched_text m seat.hart fresh.history) initial
+    ∙ ap (λ (l : List Entry). fetched_text (starting_memory core.program core.start) seat.hart l) history in
     let alone : GoesAlone (text_bytes seat.copy) seat.since f.state seat.state =
     subst (λ (bytes : List ℕ). GoesAlone (text_bytes bytes) seat.since f.state seat.state) ends.copy ends.alone in
     record { text = loaded; copy = copy; from = f.state; part = part; alone = alone }

@@ -11,7 +11,7 @@ use Rattle.machine.proofs.Copying.{text_there}
 use Rattle.shared_memory.specs.declared.history.Entry.{Entry}
 use Rattle.shared_memory.specs.declared.history.Entry.TheVariants.{Asked, Evicted}
 use Rattle.shared_memory.specs.Histories.{replayed, text_of}
-use Rattle.shared_memory.specs.Replies.{Common, reply_after, starting_memory}
+use Rattle.shared_memory.specs.Replies.{SharedState, memory_in, reply_after, starting_memory}
 use Rattle.shared_memory.specs.SharedView.{Evicts, IsExact, Serves, SharedView, lines_shown}
 use Rattle.shared_memory.proofs.Shown.{evicted_exact, evicted_shows, reply_stands, served_exact, served_shows}
 use Rattle.bus.specs.Replays.{AreBelow, CoreView, IsReplay, LinesBelow, replay}
@@ -72,9 +72,9 @@ pub renews : (program : Sections) (start : List (List ℕ)) (history : List Entr
     → text_bytes new.ram.text ≡ text_of (replayed (starting_memory program start) (Asked h request reply ∷ history))
 renews program start history old new h request reply few is serves =
     let now = told_more program start history old new h request reply few is serves in
-    let c : Common = replay program start (Asked h request reply ∷ history) in
-    let memory : c.memory ≡ replayed (starting_memory program start) (Asked h request reply ∷ history) =
-    now.shows.replays ∙ ap (λ (m : Memory). replayed m c.history) (initial_is program start (Asked h request reply ∷ history))
+    let c : SharedState = replay program start (Asked h request reply ∷ history) in
+    let memory : memory_in c ≡ replayed (starting_memory program start) (Asked h request reply ∷ history) =
+    ap (λ (m : Memory). replayed m c.history) (initial_is program start (Asked h request reply ∷ history))
     ∙ ap (λ (entries : List Entry). replayed (starting_memory program start) entries) now.told in
     text_there new.ram (line_bytes (lines_shown new)) ∙ ap (λ (m : Memory). text_of m) (now.shows.memory ∙ memory)
 

@@ -8,8 +8,8 @@ use Rattle.line_memory.specs.Memory.{Memory}
 use Rattle.machine.specs.Represents.{text_bytes}
 use Rattle.machine.proofs.Copying.{text_there}
 use Rattle.shared_memory.specs.Histories.{text_of}
-use Rattle.shared_memory.specs.Replies.{common_at_start, starting_memory}
-use Rattle.shared_memory.specs.SharedView.{IsExact, SharedView, Shows, lines_shown}
+use Rattle.shared_memory.specs.Replies.{shared_at_start, starting_memory}
+use Rattle.shared_memory.specs.SharedView.{IsExact, RepresentsShared, SharedView, lines_shown}
 use Rattle.bus.specs.Agreeing.{Agrees}
 use Rattle.bus.specs.Begun.{AreNew, IsNew}
 use Rattle.bus.specs.Finished.{AllAgree}
@@ -21,7 +21,7 @@ use Rattle.bus.specs.Replays.{AreBelow, CoreView, IsReplay, LinesBelow, replay}
 use Rattle.bus.specs.Seats.{SeatView}
 use Rattle.bus.specs.Starting.{AreAtStart, seat_at_start}
 
-pub starts_replay : (program : Sections) (start : List (List ℕ)) (shared : SharedView) → Shows shared (common_at_start program start)
+pub starts_replay : (program : Sections) (start : List (List ℕ)) (shared : SharedView) → RepresentsShared shared (shared_at_start program start)
     → IsReplay program start [] shared
 unfolding replay
 starts_replay program start shared shows = record { told = refl; shows = shows }
@@ -45,7 +45,7 @@ agrees_at_start core budget h copy none loaded = record {
 
 -- the text of what is shared at the start
 pub are_at_start : (program : Sections) (lines : List (List ℕ)) (shared : SharedView) (harts budget : ℕ) (seats : List SeatView)
-    → Shows shared (common_at_start program lines) → seats ≡ map (seat_at_start program.text budget shared.ram.text) (range_with_len 0 harts)
+    → RepresentsShared shared (shared_at_start program lines) → seats ≡ map (seat_at_start program.text budget shared.ram.text) (range_with_len 0 harts)
     → AreAtStart program lines harts budget seats
 are_at_start program lines shared harts budget seats shows are = record {
   copy = shared.ram.text;
@@ -75,14 +75,14 @@ fresh_of_new core fresh new = record {
   replay_is = rw (new.program_is, new.start_is, new.none) (starts_replay core.program core.start fresh.shared new.shows);
 }
 
-starts_exact : (program : Sections) (start : List (List ℕ)) (shared : SharedView) → IsExact shared (common_at_start program start)
+starts_exact : (program : Sections) (start : List (List ℕ)) (shared : SharedView) → IsExact shared (shared_at_start program start)
     → IsExact shared (replay program start [])
 unfolding replay
 starts_exact program start shared exact = exact
 
 -- what is said of each core, of one with no history
 pub new_invariant : (program : Sections) (start : List (List ℕ)) (harts capacity : ℕ) (shared : SharedView) (entries : List Entry) → harts ≤ 8
-    → Shows shared (common_at_start program start) → IsExact shared (common_at_start program start) → shared.cache.lines ≡ start
+    → RepresentsShared shared (shared_at_start program start) → IsExact shared (shared_at_start program start) → shared.cache.lines ≡ start
     → shared.cache.cache.capacity ≡ capacity → shared.trace ≡ [] → entries ≡ []
     → IsReplay program start (reverse entries) shared × AreBelow harts (reverse entries) × (length shared.cache.lines ≡ length start)
     × (shared.cache.cache.capacity ≡ capacity) × (harts ≤ 8) × (length shared.trace ≤ 65536) × LinesBelow (length start) (reverse entries)

@@ -11,7 +11,7 @@ use Rattle.machine.specs.Run.{fetched}
 use Rattle.machine.specs.Represents.{text_bytes}
 use Rattle.shared_memory.specs.declared.history.Entry.{Entry}
 use Rattle.shared_memory.specs.declared.history.Entry.TheVariants.{Asked, Evicted}
-use Rattle.shared_memory.specs.Histories.{copied}
+use Rattle.shared_memory.specs.Histories.{fetched_text}
 use Rattle.shared_memory.specs.Replies.{starting_memory}
 use Rattle.bus.specs.declared.exchange.Exchange.{Exchange}
 use Rattle.bus.specs.Alone.{Asks, GoesAlone}
@@ -43,13 +43,13 @@ abbrev pub IsPart : Memory → ℕ → List Entry → List Exchange → HartStat
 IsPart initial h [] xs t = (xs ≡ []) × (t ≡ start h)
 IsPart initial h (Evicted line ∷ before) xs t = IsPart initial h before xs t
 IsPart initial h (Asked g request reply ∷ before) xs t =
-    LastIf (eqb g h) (copied initial h before) request reply (IsPart initial h before) xs t
+    LastIf (eqb g h) (fetched_text initial h before) request reply (IsPart initial h before) xs t
 
 -- the seat was loaded with the core's text, its list is its hart's part of the history, which the hart makes from its
 -- start, and the steps since then lead to where the seat is
 pub record Agrees (core : CoreView) (seat : SeatView) : Type 0 where
   pub text : seat.text ≡ core.program.text
-  pub copy : text_bytes seat.copy ≡ copied (starting_memory core.program core.start) seat.hart core.history
+  pub copy : text_bytes seat.copy ≡ fetched_text (starting_memory core.program core.start) seat.hart core.history
   pub from : HartState
   pub part : IsPart (starting_memory core.program core.start) seat.hart core.history seat.exchanges from
   pub alone : GoesAlone (text_bytes seat.copy) seat.since from seat.state

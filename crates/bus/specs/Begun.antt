@@ -1,8 +1,8 @@
 -- A core that has done nothing yet, and its seats.
 use Rattle.std.specs.Prelude.{◌≡◌, ℕ, List, []}
 use Rattle.program.specs.Sections.{Sections}
-use Rattle.shared_memory.specs.Replies.{common_at_start}
-use Rattle.shared_memory.specs.SharedView.{Shows}
+use Rattle.shared_memory.specs.Replies.{shared_at_start}
+use Rattle.shared_memory.specs.SharedView.{RepresentsShared}
 use Rattle.bus.specs.Finished.{AllAgree}
 use Rattle.bus.specs.Replays.{CoreView}
 use Rattle.bus.specs.Seats.{SeatView}
@@ -15,7 +15,7 @@ pub record IsNew (program : Sections) (start : List (List ℕ)) (harts capacity 
   pub harts_are : core.harts ≡ harts
   pub capacity_is : core.capacity ≡ capacity
   pub none : core.history ≡ []
-  pub shows : Shows core.shared (common_at_start program start)
+  pub shows : RepresentsShared core.shared (shared_at_start program start)
 
 -- so it is, and these are the seats of its harts
 pub record AreNew (program : Sections) (start : List (List ℕ)) (harts capacity budget : ℕ) (core : CoreView) (seats : List SeatView) : Type 0 where

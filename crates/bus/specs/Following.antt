@@ -14,7 +14,7 @@ use Rattle.schedule.specs.Steps.{all_steps}
 use Rattle.schedule.specs.declared.items.Item.{Item}
 use Rattle.schedule.specs.declared.items.Step.{Step}
 use Rattle.schedule.specs.declared.items.Step.TheVariants.{Hart, Evict}
-use Rattle.shared_memory.specs.Histories.{copied, is_renewing, replayed, text_of}
+use Rattle.shared_memory.specs.Histories.{fetched_text, is_renewing, replayed, text_of}
 use Rattle.shared_memory.specs.Replies.{reply_after, starting_memory}
 use Rattle.shared_memory.specs.declared.history.Entry.{Entry}
 use Rattle.shared_memory.specs.declared.history.Entry.TheVariants.{Asked}
@@ -43,7 +43,7 @@ made_of seat f = oldest f.next seat.exchanges
 pub record Follows (core : CoreView) (seat : SeatView) (f : Follower) : Type 0 where
   pub place : f.next ≤ length seat.exchanges
   pub part : IsPart (starting_memory core.program core.start) seat.hart core.history (made_of seat f) f.state
-  pub copy : text_bytes f.copy ≡ copied (starting_memory core.program core.start) seat.hart core.history
+  pub copy : text_bytes f.copy ≡ fetched_text (starting_memory core.program core.start) seat.hart core.history
 
 -- a seat for each of so many harts, by its number, and a follower for each seat
 pub record ArePaired (harts : ℕ) (seats : List SeatView) (fs : List Follower) : Type 0 where

@@ -3,18 +3,18 @@ use Rattle.std.specs.Prelude.{◌≡◌, ◌<◌, ℕ, List, [], ◌∷◌}
 use Rattle.program.specs.Sections.{Sections}
 use Rattle.shared_memory.specs.declared.history.Entry.{Entry}
 use Rattle.shared_memory.specs.declared.history.Entry.TheVariants.{Asked, Evicted}
-use Rattle.shared_memory.specs.Replies.{Common, asked, common_at_start}
-use Rattle.shared_memory.specs.SharedView.{SharedView, Shows}
+use Rattle.shared_memory.specs.Replies.{SharedState, shared_after, shared_at_start}
+use Rattle.shared_memory.specs.SharedView.{RepresentsShared, SharedView}
 
 -- an eviction does nothing but join the history
-abbrev pub with_eviction : Common → ℕ → Common
+abbrev pub with_eviction : SharedState → ℕ → SharedState
 with_eviction c line = record c { history = Evicted line ∷ c.history }
 
 -- what is shared after the requests and evictions of a history, from the start over a program and the lines of a medium; the
 -- replies of its entries are ignored
-unfoldable pub replay : Sections → List (List ℕ) → List Entry → Common
-replay program start [] = common_at_start program start
-replay program start (Asked h request reply ∷ before) = asked (replay program start before) h request
+unfoldable pub replay : Sections → List (List ℕ) → List Entry → SharedState
+replay program start [] = shared_at_start program start
+replay program start (Asked h request reply ∷ before) = shared_after (replay program start before) h request
 replay program start (Evicted line ∷ before) = with_eviction (replay program start before) line
 
 -- what a contract sees of a core: the program, the lines of the medium at the start, how many harts there are, how many
@@ -28,14 +28,14 @@ pub record CoreView : Type 0 where
   pub history : List Entry
 
 -- what a core represents
-abbrev pub common_of : CoreView → Common
+abbrev pub common_of : CoreView → SharedState
 common_of core = replay core.program core.start core.history
 
 -- memory, cache, reservations and trace are those of the history's replay, and the replies of the history are those that
 -- flat memory and the reservations give there
 pub record IsReplay (program : Sections) (start : List (List ℕ)) (history : List Entry) (shared : SharedView) : Type 0 where
   pub told : (replay program start history).history ≡ history
-  pub shows : Shows shared (replay program start history)
+  pub shows : RepresentsShared shared (replay program start history)
 
 -- each hart of a history is one of so many
 abbrev pub AreBelow : ℕ → List Entry → Type 0

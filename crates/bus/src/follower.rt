@@ -19,7 +19,7 @@ use crate::hart_step::{go_alone, renew_after, request_of};
 use crate::locked::{Core, serve_evict};
 use crate::sameness::{is_same_reply, is_same_request};
 use crate::seat::Seat;
-use hart::{HartState, Reply, Request, Status, take_reply};
+use hart::{HartState, Reply, Request, Status, resume};
 use isa_table::Instr;
 use machine::TextCopy;
 use shared_memory::Entry;
@@ -163,7 +163,7 @@ pub(crate) fn make_again(
     go_on(&mut follower.state, &follower.copy, exchange.steps)?;
     let instr = asked(&mut follower.state, &follower.copy, request)?;
     answer_again(core, seat.hart(), request, reply)?;
-    take_reply(&mut follower.state, instr, reply);
+    resume(&mut follower.state, instr, reply);
     renew_after(&mut follower.copy, request, core.text());
     follower.next += 1;
     Ok(())

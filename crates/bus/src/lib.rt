@@ -31,6 +31,7 @@ pub use ending::gather;
 pub use exchange::Exchange;
 pub use finish_fault::FinishFault;
 pub use laws::agreeing_seats_run;
+pub use limits::check_start;
 pub use lock::Bus;
 pub use locked::{Core, serve, serve_evict};
 pub use outcome::Outcome;

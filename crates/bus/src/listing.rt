@@ -8,7 +8,7 @@ ghost use Rattle.schedule.specs.declared.items.Step.{Step};
 ghost use Rattle.shared_memory.specs.declared.history.Entry.{Entry as AnEntry};
 ghost use Rattle.bus.specs.Agreeing.{Agrees};
 ghost use Rattle.bus.specs.Finished.{AllAgree};
-ghost use Rattle.bus.specs.Following.{IfForeign, IsFreshOf, IsNotNext};
+ghost use Rattle.bus.specs.Following.{IfForeign, IsNotNext};
 ghost use Rattle.bus.specs.Listed.{AllLed, AreListed, AreNotWhole, AreWhole, HasOtherCopy, IsAccountOf, IsListOf, IsNextOf, IsNotWhole, IsUnlisted, IsWhole};
 ghost use Rattle.bus.specs.Replays.{AreBelow};
 ghost use Rattle.bus.specs.Seats.{SeatView};
@@ -171,29 +171,24 @@ pub(crate) fn check_leading(
     ensures ok { OnOk result (AllAgree core.now seats.now) }
     ensures err { IfErr result (IfForeign (((h : ℕ) (seat : SeatView) → slice_get seats.now h ≡ Some seat → Agrees core.now seat) → ⊥)) }
 {
+    if are_led(seats) {
+        return check_copies(core, seats);
+    }
     let mut fresh = fresh_core(alloc, core)?;
-    check_by(alloc, core, &mut fresh, seats)
+    make_all_again(alloc, core, &mut fresh, seats)
 }
 
-/// The same by a core at the start of theirs.
-fn check_by(
-    alloc: Global,
-    core: &Core<'_>,
-    fresh: &mut Core<'_>,
-    seats: &[Seat<'_>],
-) -> Result<(), FinishFault>
+/// The same where no hart made a FENCE.I: each has to fetch the program's text. It takes no memory.
+fn check_copies(core: &Core<'_>, seats: &[Seat<'_>]) -> Result<(), FinishFault>
     requires count { length seats.now ≡ core.now.harts }
     requires numbered { (h : ℕ) (seat : SeatView) → slice_get seats.now h ≡ Some seat → seat.hart ≡ h }
     requires loaded { (h : ℕ) (seat : SeatView) → slice_get seats.now h ≡ Some seat → seat.text ≡ core.now.program.text }
     requires list { (h : ℕ) (seat : SeatView) → slice_get seats.now h ≡ Some seat → IsListOf seat.hart core.now.history seat.exchanges }
-    requires fresh { IsFreshOf core.now fresh.old }
+    requires led { AllLed seats.now }
     ensures ok { OnOk result (AllAgree core.now seats.now) }
     ensures err { IfErr result (IfForeign (((h : ℕ) (seat : SeatView) → slice_get seats.now h ≡ Some seat → Agrees core.now seat) → ⊥)) }
 {
-    if !are_led(seats) {
-        return make_all_again(alloc, core, fresh, seats);
-    }
-    if !have_copies(fresh.text(), seats) {
+    if !have_copies(core.program().text_bytes(), seats) {
         return Err(FinishFault::Foreign);
     }
     Ok(())

@@ -26,7 +26,7 @@ use crate::limits::check_start;
 use crate::outcome::{Outcome, outcome_of};
 use crate::room::{add_entry, add_exchange, make_room};
 use crate::seat::Seat;
-use hart::{Reply, Request, take_reply};
+use hart::{Reply, Request, resume};
 use line_memory::Medium;
 use program::Program;
 use shared_memory::{Entry, Shared, StepFault};
@@ -303,7 +303,7 @@ pub fn serve(core: &mut Core<'_>, seat: &mut Seat<'_>) -> Result<Outcome, StepFa
         reply,
     };
     add_exchange(&mut seat.exchanges, exchange);
-    take_reply(&mut seat.state, instr, reply);
+    resume(&mut seat.state, instr, reply);
     renew_after(&mut seat.copy, request, core.shared.text());
     seat.renewed = is_renewed_after(seat.renewed, request);
     seat.made += 1;

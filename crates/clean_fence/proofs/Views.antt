@@ -11,7 +11,7 @@ use Rattle.lru_cache.proofs.Shows.{length_shown, shown_empty}
 use Rattle.crash_model.specs.Cut.{IsCutImage}
 use Rattle.crash_model.specs.Image.{image, memory_after}
 use Rattle.crash_model.specs.Stores.{stores}
-use Rattle.crash_model.specs.WrittenBack.{back, written_back}
+use Rattle.crash_model.specs.WrittenBack.{write_back_state, written_back}
 use Rattle.crash_model.proofs.Images.{image_from_lines, image_memory, image_same}
 use Rattle.crash_model.proofs.Leaving.{written_back_image}
 use Rattle.crash_model.proofs.Pendings.{back_count}
@@ -173,10 +173,10 @@ new_stands capacity harts lines = record {
 
 -- the medium is the image of what was written back
 pub leaves_back : (start : List (List ℕ)) (p : List PersistenceStep) (v : PmView) → Represents start p v →
-    v.lines ≡ image start (λ l. (back l p).count) p
+    v.lines ≡ image start (λ l. (write_back_state l p).count) p
 leaves_back start p v s =
     image_from_lines start (λ l. written_back l p) p v.lines s.count (λ l b. (s.each l b).medium)
-    ∙ image_same start (λ l. written_back l p) (λ l. (back l p).count) p (λ l. sym (back_count l p))
+    ∙ image_same start (λ l. written_back l p) (λ l. (write_back_state l p).count) p (λ l. sym (back_count l p))
 
 -- and so the image of a cut
 pub leaves_cut : (start : List (List ℕ)) (p : List PersistenceStep) (v : PmView) → Represents start p v → IsCutImage start p v.lines

@@ -14,7 +14,7 @@ ghost use Rattle.lru_cache.specs.Cache.{IsCache, is_dirty, is_resident};
 ghost use Rattle.lru_cache.specs.Order.{marked_in};
 ghost use Rattle.crash_model.specs.Cut.{IsCutImage};
 ghost use Rattle.crash_model.specs.Image.{image, memory_after};
-ghost use Rattle.crash_model.specs.WrittenBack.{back};
+ghost use Rattle.crash_model.specs.WrittenBack.{write_back_state};
 ghost use Rattle.crash_model.specs.declared.step.PersistenceStep.{PersistenceStep};
 ghost use Rattle.crash_model.specs.declared.step.PersistenceStep.TheVariants as step;
 ghost use Rattle.clean_fence.specs.Rules.{PmView, after_clean, after_completion, after_evict, after_fence, after_flush, after_load, after_store, memory_of, started, victim};
@@ -73,6 +73,7 @@ impl PmCache {
 
     /// The number of the `width` bytes at an address; `width` is 1, 2, 4 or 8, and divides the address. The line is in the
     /// cache afterwards, and where that was full another line has left.
+    #[inline(always)]
     pub fn load(&mut self, at: u32, width: u32) -> u64
         requires width { IsWidth width }
         requires aligned { at % width ≡ 0 }
@@ -202,12 +203,13 @@ impl PmCache {
     }
 
     /// The medium as it is, which a power cut would leave.
+    #[inline(always)]
     pub fn medium(&self) -> &Medium
         ensures lines { result.now ≡ self.now.lines }
         ensures whole { AreLines (memory_of self.now) }
         ensures cut { (start : List (List ℕ)) (p : List PersistenceStep) → Represents start p self.now → IsCutImage start p result.now }
         ensures back { (start : List (List ℕ)) (p : List PersistenceStep) → Represents start p self.now →
-            result.now ≡ image start (λ l. (back l p).count) p }
+            result.now ≡ image start (λ l. (write_back_state l p).count) p }
     {
         &self.medium
     }
@@ -217,7 +219,7 @@ impl PmCache {
         ensures lines { result ≡ self.lines }
         ensures cut { (start : List (List ℕ)) (p : List PersistenceStep) → Represents start p self → IsCutImage start p result }
         ensures back { (start : List (List ℕ)) (p : List PersistenceStep) → Represents start p self →
-            result ≡ image start (λ l. (back l p).count) p }
+            result ≡ image start (λ l. (write_back_state l p).count) p }
     {
         let PmCache { medium, .. } = self;
         medium

@@ -14,7 +14,7 @@ use crate::files::Files;
 use crate::judge::judge_run;
 use crate::opened::{OpenCheck, OpenJudge};
 use crate::streams::print;
-use crate::telling::tell;
+use crate::telling::report_failure;
 use std::alloc::Global;
 use std::io::{Read, Write};
 use std::sync::Wait;
@@ -28,7 +28,7 @@ use std::time::Clock;
 ///
 /// An answer goes to standard output, and nothing of a failure does; the lines of a failure go to standard error,
 /// and where they can't be written the status still stands. With `--progress` `check` and `judge` tell there, before that, how far they have come. Only the session of `debug` reads standard input, once its
-/// files have been read and its machine made. `run`, `check` and `judge` start threads, of `rt`; what `check` and `judge` print doesn't depend on how
+/// files have been read and its machine made. `run` of several harts, `check` and `judge` start threads, of `rt`; what `check` and `judge` print doesn't depend on how
 /// many, and what `run` prints is the run that its harts made.
 pub fn execute<T: Threads + Wait + Sync + Clock, F: Files, R: Read, W: Write, E: Write>(
     rt: &T,
@@ -44,7 +44,7 @@ pub fn execute<T: Threads + Wait + Sync + Clock, F: Files, R: Read, W: Write, E:
     match answer_line(rt, alloc, words, files, input, output, errors) {
         Ok(status) => status,
         Err(failure) => {
-            let _ = tell(&failure, errors);
+            let _ = report_failure(&failure, errors);
             failure.status()
         }
     }

@@ -45,4 +45,4 @@ pub use failure::{Failure, Refusal};
 pub use files::{FileFault, Files};
 pub use opened::{OpenCheck, OpenJudge};
 pub use reporting::report;
-pub use telling::tell;
+pub use telling::report_failure;

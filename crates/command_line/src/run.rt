@@ -11,7 +11,7 @@ use crate::failure::Failure;
 use crate::files::Files;
 use crate::reading::{read_medium, read_program, read_schedule};
 use crate::reporting::report;
-use crate::writing::{leave, record};
+use crate::writing::{write_medium_file, write_schedule_file};
 use arguments::{MachineOptions, ReplayCommand, RunCommand};
 use crash_test::{replay, run_program};
 use hart::HartState;
@@ -107,7 +107,7 @@ fn record_run<F: Files>(
     requires harts { length recorded.now.harts ≤ 8 }
     ensures { RecordsRun F.write_gives command.now recorded.now files.old result files.new }
 {
-    record(alloc, &command.record, recorded.schedule(), files)?;
+    write_schedule_file(alloc, &command.record, recorded.schedule(), files)?;
     finish(alloc, recorded, &command.out, files)
 }
 
@@ -122,7 +122,7 @@ fn finish<F: Files>(
     ensures { Finishes F.write_gives (option_map string_bytes out.now) recorded.now.harts (length recorded.now.trace) recorded.now.left files.old result files.new }
 {
     let answer = report_of(alloc, recorded.harts(), recorded.trace().events().len())?;
-    leave(alloc, out, recorded.left(), files)?;
+    write_medium_file(alloc, out, recorded.left(), files)?;
     Ok(answer)
 }
 
@@ -137,7 +137,7 @@ fn finish_machine<F: Files>(
 {
     let answer = report_of_machine(alloc, &machine)?;
     let (left, _trace) = machine.power_cut();
-    leave(alloc, out, &left, files)?;
+    write_medium_file(alloc, out, &left, files)?;
     Ok(answer)
 }
 

@@ -18,7 +18,7 @@ const MAX_LINE: usize = 64;
 
 /// Writes the lines of a failure. Where standard error fails, it may have got a front of them.
 #[tactic(auto, using(crate::proofs::Written::front_all, crate::proofs::Written::front_nothing))]
-pub fn tell<E: io::Write>(failure: &Failure, errors: &mut E) -> Result<(), Failed>
+pub fn report_failure<E: io::Write>(failure: &Failure, errors: &mut E) -> Result<(), Failed>
     ensures ok { OnOk result (Appends (E.contents errors.old) (E.contents errors.new) (failure_text failure.now)) }
     ensures front { AppendsFront (E.contents errors.old) (E.contents errors.new) (failure_text failure.now) }
 {

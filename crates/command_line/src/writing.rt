@@ -39,7 +39,7 @@ fn bytes_of(alloc: Global, medium: &Medium) -> Result<Vec<u8>, Failure>
 }
 
 /// `--out`: writes the medium that a power cut leaves, where a file is named.
-pub(crate) fn leave<F: Files>(
+pub(crate) fn write_medium_file<F: Files>(
     alloc: Global,
     name: &Option<String>,
     left: &Medium,
@@ -54,7 +54,7 @@ pub(crate) fn leave<F: Files>(
 }
 
 /// `--record`: writes the line of a schedule, where a file is named.
-pub(crate) fn record<F: Files>(
+pub(crate) fn write_schedule_file<F: Files>(
     alloc: Global,
     name: &Option<String>,
     schedule: &Schedule,

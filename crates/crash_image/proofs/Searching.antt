@@ -125,12 +125,12 @@ after_store start wanted low made p shown after all m o w v d y same b size is l
     let inside : m < length all = omega (arith, b, size) in
     let line : line_at after m ≡ line_after (line_at start m) m (stores m p + 1) (step.Store m o w v ∷ p) =
     rw is (grind (arith, common_steps, b))
-    ∙ ap (λ (bytes : List ℕ). stored bytes o w v) (s.represents m there)
+    ∙ ap (λ (bytes : List ℕ). stored bytes o w v) (s.shown_is m there)
     ∙ sym (line_after_store (line_at start m) m o w v p) in
     record {
       lines = rw is (grind (arith, common_steps, s.lines));
       size = grind (arith, common_steps, s.size);
-      represents = λ l h. elim (cases_Bool (m == l)) [
+      shown_is = λ l h. elim (cases_Bool (m == l)) [
         | inl here ↦
             let eq : m ≡ l = grind (arith, nat_tests, here) in
             let count : stores m p + 1 ≡ stores m (step.Store m o w v ∷ p) = grind (arith, nat_tests) in
@@ -138,7 +138,7 @@ after_store start wanted low made p shown after all m o w v d y same b size is l
             (line ∙ ap (λ (n : ℕ). line_after (line_at start m) m n (step.Store m o w v ∷ p)) count)
         | inr other ↦
             let kept : line_at after l ≡ line_at shown l = rw is (grind (arith, common_steps, nat_tests, other)) in
-            kept ∙ s.represents l h ∙ grind (arith, nat_tests, other)
+            kept ∙ s.shown_is l h ∙ grind (arith, nat_tests, other)
       ];
       each = λ l f h. rw (sought_set all m y l f inside) (elim (cases_Bool (m == l)) [
         | inl here ↦ rw here (

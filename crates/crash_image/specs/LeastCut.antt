@@ -33,7 +33,7 @@ pub record IsSought (start wanted : List ℕ) (low l made : ℕ) (p : List Persi
 pub record AreSought (start wanted : List (List ℕ)) (low : ℕ → ℕ) (made : ℕ) (p : List PersistenceStep) (shown : List (List ℕ)) (all : List Sought) : Type 0 where
   pub lines : length shown ≡ length start
   pub size : length all ≡ length start
-  pub represents : (l : ℕ) → l < length start → line_at shown l ≡ line_after (line_at start l) l (stores l p) p
+  pub shown_is : (l : ℕ) → l < length start → line_at shown l ≡ line_after (line_at start l) l (stores l p) p
   pub each : (l : ℕ) (d : Sought) → l < length start →
       IsSought (line_at start l) (line_at wanted l) (low l) l made p (slice_index_or all l d)
 

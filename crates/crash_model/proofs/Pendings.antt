@@ -3,12 +3,12 @@ use Rattle.std.proofs.Common.{◌≡◌, ℕ, List, [], ◌∷◌, false, ◌==�
 use Rattle.std.specs.Prelude.{if◌then◌else◌}
 use Rattle.std.proofs.lemmas.Bool.Decides.{nat_tests}
 use Rattle.crash_model.proofs.Bounds.{cleaned_le_stores}
-use Rattle.crash_model.specs.WrittenBack.{back, written_back, is_pending, is_dirty}
+use Rattle.crash_model.specs.WrittenBack.{write_back_state, written_back, is_pending, is_dirty}
 use Rattle.crash_model.specs.declared.step.PersistenceStep.{PersistenceStep}
 use Rattle.crash_model.specs.declared.step.PersistenceStep.TheVariants.{Store, Clean, Fence, Evict}
 
 pub back_agrees : (l : ℕ) (p : List PersistenceStep) →
-    ((back l p).count ≡ written_back l p) × ((h : ℕ) → (back l p).pends h ≡ is_pending l h p)
+    ((write_back_state l p).count ≡ written_back l p) × ((h : ℕ) → (write_back_state l p).pends h ≡ is_pending l h p)
 back_agrees l [] = (refl, λ h. refl)
 back_agrees l (Store m o w v ∷ p) = back_agrees l p
 back_agrees l (Clean g m ∷ p) =
@@ -25,10 +25,10 @@ back_agrees l (Evict m ∷ p) =
       λ h. grind (arith, nat_tests, i.0, i.1 h, cleaned_le_stores l h p),
     )
 
-pub back_count : (l : ℕ) (p : List PersistenceStep) → (back l p).count ≡ written_back l p
+pub back_count : (l : ℕ) (p : List PersistenceStep) → (write_back_state l p).count ≡ written_back l p
 back_count l p = (back_agrees l p).0
 
-pub back_pends : (l h : ℕ) (p : List PersistenceStep) → (back l p).pends h ≡ is_pending l h p
+pub back_pends : (l h : ℕ) (p : List PersistenceStep) → (write_back_state l p).pends h ≡ is_pending l h p
 back_pends l h p = (back_agrees l p).1 h
 
 pub pends_clean : (l h g m : ℕ) (p : List PersistenceStep) →

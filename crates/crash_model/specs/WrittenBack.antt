@@ -6,25 +6,25 @@ use Rattle.crash_model.specs.declared.step.PersistenceStep.{PersistenceStep}
 use Rattle.crash_model.specs.declared.step.PersistenceStep.TheVariants.{Store, Clean, Fence, Evict}
 
 -- of one line: the number of stores at its last write-back, and the harts whose cleans of it pend
-pub record Back : Type 0 where
+pub record WriteBackState : Type 0 where
   pub count : ℕ
   pub pends : ℕ → Bool
 
 -- a write-back takes all stores made so far to the medium and ends every pending clean
-abbrev pub written : ℕ → List PersistenceStep → Back
+abbrev pub written : ℕ → List PersistenceStep → WriteBackState
 written l p = record { count = stores l p; pends = λ h. false }
 
 -- A clean of line l pends where the line has stores that weren't written back. An eviction of l writes it
 -- back, and so does a fence of a hart whose clean of l pends.
-abbrev pub back : ℕ → List PersistenceStep → Back
-back l [] = written l []
-back l (Store m offset width value ∷ p) = back l p
-back l (Clean g m ∷ p) = record {
-  count = (back l p).count;
-  pends = λ h. ((g == h) && ((m == l) && nat_lt (back l p).count (stores l p))) || (back l p).pends h;
+abbrev pub write_back_state : ℕ → List PersistenceStep → WriteBackState
+write_back_state l [] = written l []
+write_back_state l (Store m offset width value ∷ p) = write_back_state l p
+write_back_state l (Clean g m ∷ p) = record {
+  count = (write_back_state l p).count;
+  pends = λ h. ((g == h) && ((m == l) && nat_lt (write_back_state l p).count (stores l p))) || (write_back_state l p).pends h;
 }
-back l (Fence h ∷ p) = if (back l p).pends h then written l p else back l p
-back l (Evict m ∷ p) = if m == l then written l p else back l p
+write_back_state l (Fence h ∷ p) = if (write_back_state l p).pends h then written l p else write_back_state l p
+write_back_state l (Evict m ∷ p) = if m == l then written l p else write_back_state l p
 
 -- That count without the pending cleans: a clean of hart h pends exactly where fewer stores are written back
 -- than stood before h's last clean.

@@ -6,7 +6,7 @@ ghost use Rattle.crash_model.specs.Floor.{IsFloor, cleaned, floor};
 ghost use Rattle.crash_model.specs.Image.{applied, image, line_after, memory_after};
 ghost use Rattle.crash_model.specs.Schedule.{explained, without_evictions};
 ghost use Rattle.crash_model.specs.Stores.{stores, writes};
-ghost use Rattle.crash_model.specs.WrittenBack.{back, is_dirty, is_pending, written_back};
+ghost use Rattle.crash_model.specs.WrittenBack.{write_back_state, is_dirty, is_pending, written_back};
 ghost use Rattle.crash_model.specs.declared.step.PersistenceStep.TheVariants as step;
 ghost use Rattle.crash_model.specs.declared.step.PersistenceStep.{PersistenceStep};
 ghost use Rattle.std.specs.List.Sorted.{IsStrictlyIncreasing};
@@ -28,8 +28,8 @@ pub fn floor_is_greatest()
 /// What is written back, and which cleans pend, by the rules of write-backs.
 #[tactic(auto, using(crate::proofs::Pendings::back_count, crate::proofs::Pendings::back_pends))]
 pub fn written_back_by_pendings()
-    ensures count { (l : ℕ) (p : List PersistenceStep) → (back l p).count ≡ written_back l p }
-    ensures pends { (l h : ℕ) (p : List PersistenceStep) → (back l p).pends h ≡ is_pending l h p }
+    ensures count { (l : ℕ) (p : List PersistenceStep) → (write_back_state l p).count ≡ written_back l p }
+    ensures pends { (l h : ℕ) (p : List PersistenceStep) → (write_back_state l p).pends h ≡ is_pending l h p }
 {}
 
 /// A store counts for its own line, and changes nothing else.

@@ -4,6 +4,7 @@ use Rattle.image_check.specs.Verdicts.{IsVerdict, PassBetween}
 use Rattle.image_check.specs.declared.cause.Cause.{Cause}
 use Rattle.moment_verdict.specs.declared.verdict.Verdict.{Verdict}
 use Rattle.moment_verdict.specs.declared.verdict.Verdict.TheVariants.{Pass}
+use Rattle.shared_memory.specs.Replies.{trace_in}
 use Rattle.machine.proofs.Determined.{runs_once}
 use Rattle.machine.specs.Run.{Config}
 use Rattle.plan.specs.declared.operation.Operation.{Operation}
@@ -18,8 +19,8 @@ all_moments : (plan : List Operation) (s : Setup) (schedule : List Item) (trace 
     → PassBetween plan s.medium trace 0 (length trace + 1) → AlwaysPasses plan s schedule
 all_moments plan s schedule trace is passes end moment cut runs within is_cut =
     let one_end : is.end ≡ end = runs_once (start_of s) (all_steps schedule) is.end end is.run runs in
-    let same : trace ≡ end.common.trace = is.trace_is ∙ ap (λ (c : Config). c.common.trace) one_end in
-    let all : PassBetween plan s.medium end.common.trace 0 (length end.common.trace + 1) = rw same at passes in
+    let same : trace ≡ trace_in end.common = is.trace_is ∙ ap (λ (c : Config). trace_in c.common) one_end in
+    let all : PassBetween plan s.medium (trace_in end.common) 0 (length (trace_in end.common) + 1) = rw same at passes in
     (all moment (omega arith) (omega arith)).1 cut is_cut
 
 pub always_passes : (plan : List Operation) (s : Setup) (schedule : List Item) (trace : List Event) (verdict : Verdict Cause)

@@ -1,6 +1,5 @@
 -- What a machine has made that was at the start of a setup.
-use Rattle.std.proofs.Common.{◌≡◌, ◌⊎◌, ℕ, ◌<◌, ◌≤◌, List, All, length, inl, inr, refl, sym, ap, ◌∙◌}
-use Rattle.std.proofs.lemmas.Bool.{cases_lt}
+use Rattle.std.proofs.Common.{◌≡◌, ℕ, ◌≤◌, List, All, length, inl, inr, refl, sym, ap, ◌∙◌}
 use Rattle.std.proofs.lemmas.List.FromFn.{length-map-range_with_len}
 use Rattle.hart.specs.Effect.{start}
 use Rattle.machine.proofs.Leaving.{left_by}
@@ -11,19 +10,14 @@ use Rattle.recording.proofs.Numbering.{all_among}
 use Rattle.schedule.specs.Steps.{all_steps}
 use Rattle.schedule.specs.declared.items.Item.{Item}
 use Rattle.schedule.specs.declared.items.Step.{Step}
-use Rattle.shared_memory.specs.declared.fault.StepFault.TheVariants.{NoSuchHart, OutOfLimits}
-use Rattle.crash_test.specs.Runs.{AreThere, FailsToRun, HasMade, HasRun, IsAtStart, IsLeftOf, IsOutside, IsWithin, Setup, start_of}
+use Rattle.shared_memory.specs.Limits.{RefusesStart}
+use Rattle.shared_memory.specs.declared.fault.StepFault.{StepFault}
+use Rattle.crash_test.specs.Runs.{AreThere, FailsToRun, FailsToStart, HasMade, HasRun, IsAtStart, IsLeftOf, Setup, start_of}
 
--- a number that isn't outside two limits is within them
-between : (low n high : ℕ) → ((n < low) ⊎ (high < n) → ⊥) → (low ≤ n) × (n ≤ high)
-between low n high inside = (elim (cases_lt n low) [ inl below ↦ absurd (inside (inl below)) | inr rest ↦ rest ], elim (cases_lt high n) [ inl above ↦ absurd (inside (inr above)) | inr rest ↦ rest ])
-
--- where there is a machine, its numbers are within their limits
-pub is_within : (s : Setup) → (IsOutside s NoSuchHart → ⊥) → (IsOutside s OutOfLimits → ⊥) → IsWithin s
-is_within s harts lines =
-    let few = between 1 s.harts 8 harts in
-    let bounded = between 1 s.capacity 16384 (λ outside. lines (few.0, few.1, outside)) in
-    record { some_harts = few.0; few_harts = few.1; some_lines = bounded.0; few_lines = bounded.1 }
+-- why there is no machine at the start of a setup
+pub fails_to_start : (s : Setup) (fault : StepFault) → RefusesStart s.harts s.capacity fault → FailsToStart s fault
+fails_to_start s fault (inl outside) = inr outside
+fails_to_start s fault (inr refused) = inl refused.1
 
 -- a machine at the start has as many harts as its setup says
 harts_of : (s : Setup) (machine : MachineView) → Represents machine (start_of s) → length machine.harts ≡ s.harts

@@ -9,8 +9,9 @@ use Rattle.image_check.specs.Verdicts.{IsVerdict, Passes}
 use Rattle.image_check.specs.declared.cause.Cause.{Cause}
 use Rattle.moment_verdict.specs.declared.verdict.Verdict.{Verdict}
 use Rattle.moment_verdict.specs.declared.verdict.Verdict.TheVariants.{Pass}
+use Rattle.shared_memory.specs.Replies.{trace_in}
 use Rattle.machine.proofs.Determined.{runs_once}
-use Rattle.machine.proofs.Evicting.{alike_itself, runs_alike}
+use Rattle.machine.proofs.Evicting.{alike_itself, runs_alike, trace_alike}
 use Rattle.machine.proofs.RunParts.{run_grows, run_parted}
 use Rattle.machine.specs.Evicting.{hart_steps}
 use Rattle.machine.specs.Run.{Config, RunsTo}
@@ -29,11 +30,11 @@ pub record IsFront (s : Setup) (schedule : List Item) (front : List Event) : Typ
   pub whole : Config
   pub more : List Event
   pub runs : RunsTo (start_of s) (all_steps schedule) whole
-  pub trace : whole.common.trace ≡ front ++ more
+  pub trace : trace_in whole.common ≡ front ++ more
 
 events_in_front : (s : Setup) (schedule : List Item) (end whole : Config) (steps rest : List Step)
     → RunsTo (start_of s) (all_steps schedule) whole → RunsTo (start_of s) steps end
-    → hart_steps (all_steps schedule) ≡ hart_steps steps ++ hart_steps rest → IsFront s schedule end.common.trace
+    → hart_steps (all_steps schedule) ≡ hart_steps steps ++ hart_steps rest → IsFront s schedule (trace_in end.common)
 events_in_front s schedule end whole steps rest runs first split =
     let same : hart_steps (all_steps schedule) ≡ hart_steps (steps ++ rest) = split ∙ sym (hart_steps_append steps rest) in
     let other = runs_alike (start_of s) (start_of s) whole (all_steps schedule) (steps ++ rest) (alike_itself (start_of s)) same runs in
@@ -44,7 +45,7 @@ events_in_front s schedule end whole steps rest runs first split =
       whole = whole;
       more = grown.0;
       runs = runs;
-      trace = other.2.trace ∙ grown.1 ∙ ap (λ (c : Config). c.common.trace ++ grown.0) one;
+      trace = trace_alike whole other.0 other.2 ∙ grown.1 ∙ ap (λ (c : Config). trace_in c.common ++ grown.0) one;
     }
 
 taken_front : (front more : List Event) → take (length front) (front ++ more) ≡ front
@@ -56,12 +57,12 @@ front_passes : (plan : List Operation) (s : Setup) (schedule : List Item) (event
     → AlwaysPasses plan s schedule → IsFront s schedule events → IsCutImage s.medium (history events) left
     → Recovers plan s.medium events left
 front_passes plan s schedule events left passes front is =
-    let taken : take (length events) front.whole.common.trace ≡ events =
+    let taken : take (length events) (trace_in front.whole.common) ≡ events =
     ap (λ (trace : List Event). take (length events) trace) front.trace ∙ taken_front events front.more in
-    let size : length front.whole.common.trace ≡ length events + length front.more =
+    let size : length (trace_in front.whole.common) ≡ length events + length front.more =
     ap (λ (trace : List Event). length trace) front.trace ∙ length-append events front.more in
-    let within : length events ≤ length front.whole.common.trace = omega arith in
-    let judged : Passes plan s.medium (take (length events) front.whole.common.trace) is.cut =
+    let within : length events ≤ length (trace_in front.whole.common) = omega arith in
+    let judged : Passes plan s.medium (take (length events) (trace_in front.whole.common)) is.cut =
     passes front.whole (length events) is.cut front.runs within (rw taken is.bounds) in
     let passed : Passes plan s.medium events is.cut = rw taken at judged in
     record { volume = passed.volume; recovers = rw is.bytes passed.recovers; legal = passed.legal }
@@ -72,6 +73,6 @@ pub survives : (plan : List Operation) (s : Setup) (schedule : List Item) (trace
 survives plan s schedule trace verdict is judged moments images passed machine end steps rest first split stands =
     let passes = always_passes plan s schedule trace verdict is judged moments images passed in
     let front = events_in_front s schedule end is.end steps rest is.run first split in
-    let left : IsCutImage end.common.start (history end.common.trace) machine.shared.cache.lines = leaves_a_cut machine end stands in
+    let left : IsCutImage end.common.start (history (trace_in end.common)) machine.shared.cache.lines = leaves_a_cut machine end stands in
     let start : end.common.start ≡ s.medium = run_start (start_of s) end steps first in
-    front_passes plan s schedule end.common.trace machine.shared.cache.lines passes front (rw start at left)
+    front_passes plan s schedule (trace_in end.common) machine.shared.cache.lines passes front (rw start at left)

@@ -19,6 +19,7 @@ use Rattle.hart.specs.declared.need.Need.TheVariants.{Local, Ask, Stop}
 use Rattle.hart.specs.declared.state.HartState.{HartState}
 use Rattle.hart.specs.declared.state.Status.{Status}
 use Rattle.hart.specs.declared.state.Status.TheVariants.{Running, Exited, Trapped}
+use Rattle.shared_memory.specs.Replies.{trace_in}
 use Rattle.machine.proofs.Determined.{runs_once}
 use Rattle.machine.specs.Left.{IsLeftBy}
 use Rattle.machine.specs.Run.{Config, HartSteps, HartStepsIfThere, Meets, RunsTo, fetched_by}
@@ -27,7 +28,7 @@ use Rattle.recording.specs.Recorded.{RecordedView, Records}
 use Rattle.schedule.specs.Steps.{all_steps}
 use Rattle.schedule.specs.declared.items.Step.{Step}
 use Rattle.schedule.specs.declared.items.Step.TheVariants.{Hart, Evict}
-use Rattle.crash_test.specs.Runs.{AreThere, FailsTogether, HasRun, HasRunTogether, HaveMadeAll, HaveMadeAtMost, IsLeftOf, IsRunOf, IsUnfinished, IsWithin, Setup, start_of, unfinished_of}
+use Rattle.crash_test.specs.Runs.{AreThere, FailsTogether, HasRun, HasRunTogether, HaveMadeAll, HaveMadeAtMost, IsLeftOf, IsRunOf, IsUnfinished, Setup, start_of, unfinished_of}
 use Rattle.crash_test.specs.declared.runs.TogetherFault.{TogetherFault}
 
 -- a run has as many harts at its end as at its start
@@ -83,7 +84,7 @@ count_of_seats s steps seats start =
 -- there are one to eight seats
 pub some_seats : (s : Setup) (steps : ℕ) (seats : List SeatView) → AreAtStart s.program s.medium s.harts steps seats
     → AreWithin s.harts s.capacity steps → (1 ≤ length seats) × (length seats ≤ 8)
-some_seats s steps seats start within = rw (count_of_seats s steps seats start) (within.0, within.1)
+some_seats s steps seats start within = rw (count_of_seats s steps seats start) (within.0.some_harts, within.0.few_harts)
 
 -- no hart lacks a seat
 none_lacks : (s : Setup) (steps : ℕ) (seats : List SeatView) → AreAtStart s.program s.medium s.harts steps seats → LacksSeat s.harts seats → ⊥
@@ -134,11 +135,8 @@ pub fails_finish : (s : Setup) (steps : ℕ) (fault : FinishFault) (told : Toget
     → IsUnfinished fault → told ≡ unfinished_of fault → FailsTogether s steps told
 fails_finish s steps fault told within of is = rw is (finish_told s steps fault within of)
 
-within_of : (s : Setup) (steps : ℕ) → AreWithin s.harts s.capacity steps → IsWithin s
-within_of s steps w = record { some_harts = w.0; few_harts = w.1; some_lines = w.2; few_lines = w.3 }
-
 -- the harts that are recorded are as many as the setup's
-hart_count_of : (s : Setup) (recorded : RecordedView) → Records (start_of s) recorded → length recorded.harts ≡ s.harts
+pub hart_count_of : (s : Setup) (recorded : RecordedView) → Records (start_of s) recorded → length recorded.harts ≡ s.harts
 hart_count_of s recorded records =
     ap (λ (l : List HartState). length l) records.harts ∙ run_count (start_of s) records.end (all_steps recorded.items) records.runs
     ∙ length-map-range_with_len start 0 s.harts
@@ -163,9 +161,9 @@ pub has_run_together : (s : Setup) (steps : ℕ) (bus : BusView) (seats : List S
 has_run_together s steps bus seats recorded w is start run =
     let r : HaveRun (bus_of s) seats recorded = rw is at run in
     record {
-      within = within_of s steps w;
-      some_steps = w.4;
-      few_steps = w.5;
+      within = w.0;
+      some_steps = w.1;
+      few_steps = w.2;
       start = r.start;
       capacity = r.capacity;
       count = hart_count_of s recorded r.records;
@@ -206,6 +204,6 @@ is_run_of s steps recorded run few lines =
       left = left.lines;
       replayed = λ other made. (
         made.has_made.represents.harts ∙ ap (λ (c : Config). c.harts) (ends other made) ∙ sym run.records.harts,
-        made.has_made.represents.shared.trace ∙ ap (λ (c : Config). c.common.trace) (ends other made) ∙ sym run.records.trace,
+        made.has_made.represents.shared.trace ∙ ap (λ (c : Config). trace_in c.common) (ends other made) ∙ sym run.records.trace,
       );
     }

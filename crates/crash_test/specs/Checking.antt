@@ -8,6 +8,7 @@ use Rattle.image_check.specs.declared.cause.Cause.{Cause}
 use Rattle.image_check.specs.declared.fault.CheckFault.{CheckFault}
 use Rattle.image_check.specs.declared.fault.CheckFault.TheVariants as checked
 use Rattle.image_check.specs.declared.fault.OpFault.{OpFault}
+use Rattle.shared_memory.specs.Replies.{trace_in}
 use Rattle.machine.specs.Evicting.{hart_steps}
 use Rattle.machine.specs.Run.{Config, RunsTo}
 use Rattle.machine.specs.Represents.{MachineView, Represents}
@@ -41,8 +42,8 @@ HasVerdict plan s schedule verdict = HasVerdictOn plan s schedule 0 None verdict
 -- whatever a power cut leaves at whatever moment of the run recovers to a legal volume
 abbrev pub AlwaysPasses : List Operation → Setup → List Item → Type 0
 AlwaysPasses plan s schedule = (end : Config) (moment : ℕ) (cut : List (ℕ × ℕ)) → RunsTo (start_of s) (all_steps schedule) end
-    → moment ≤ length end.common.trace → IsCut (at_moment end.common.trace moment) cut
-    → Passes plan s.medium (take moment end.common.trace) cut
+    → moment ≤ length (trace_in end.common) → IsCut (at_moment (trace_in end.common) moment) cut
+    → Passes plan s.medium (take moment (trace_in end.common)) cut
 
 -- a medium recovers to a volume that is legal after these events
 pub record Recovers (plan : List Operation) (start : List (List ℕ)) (events : List Event) (left : List (List ℕ)) : Type 0 where
@@ -55,7 +56,7 @@ pub record Recovers (plan : List Operation) (start : List (List ℕ)) (events : 
 abbrev pub SurvivesPowerCuts : List Operation → Setup → List Item → Type 0
 SurvivesPowerCuts plan s schedule = (machine : MachineView) (end : Config) (steps rest : List Step)
     → RunsTo (start_of s) steps end → hart_steps (all_steps schedule) ≡ hart_steps steps ++ hart_steps rest → Represents machine end
-    → Recovers plan s.medium end.common.trace machine.shared.cache.lines
+    → Recovers plan s.medium (trace_in end.common) machine.shared.cache.lines
 
 -- the fault is that of the run's first wrong mark
 pub record HasWrongMark (plan : List Operation) (s : Setup) (schedule : List Item) (fault : OpFault) : Type 0 where

@@ -6,6 +6,7 @@ use Rattle.crash_model.specs.Image.{image}
 use Rattle.cut_schedule.specs.Explains.{Explains}
 use Rattle.image_name.specs.declared.name.ImageName.{ImageName}
 use Rattle.recording.specs.Recorded.{RecordedView, Records}
+use Rattle.shared_memory.specs.Replies.{trace_in}
 use Rattle.machine.specs.Run.{Config, RunsTo}
 use Rattle.machine.specs.Represents.{MachineView, Represents}
 use Rattle.schedule.specs.Steps.{all_steps}
@@ -57,7 +58,7 @@ pub record ExplainsImage (s : Setup) (schedule : List Item) (moment : ℕ) (name
   pub has_image : HasImage recorded.trace moment name cut
   pub explains : Explains recorded moment cut (all_steps explanation)
   pub run : RunsTo (start_of s) (all_steps explanation) end
-  pub events : end.common.trace ≡ take moment recorded.trace
+  pub events : trace_in end.common ≡ take moment recorded.trace
   pub leaves : LeavesAt end (image s.medium (number_in cut) (at_moment recorded.trace moment))
 
 -- the events of the run by a schedule, which has no such moment or no image of this name there

@@ -1,5 +1,5 @@
 -- Runs of a program by a schedule, over a medium that is given.
-use Rattle.std.specs.Prelude.{◌≡◌, ◌⊎◌, ℕ, ◌<◌, ◌≤◌, List, Some, All, length, slice_get}
+use Rattle.std.specs.Prelude.{◌≡◌, ◌⊎◌, ℕ, ◌≤◌, List, Some, All, length, slice_get}
 use Rattle.bus.specs.Limits.{AreWithin, RefusesStart}
 use Rattle.bus.specs.Stepping.{IsStepRefusal}
 use Rattle.bus.specs.Together.{count_of}
@@ -7,6 +7,7 @@ use Rattle.bus.specs.declared.finish_fault.FinishFault.{FinishFault}
 use Rattle.bus.specs.declared.finish_fault.FinishFault.TheVariants as finish
 use Rattle.hart.specs.declared.state.HartState.{HartState}
 use Rattle.hart.specs.declared.state.Status.TheVariants.{Running}
+use Rattle.shared_memory.specs.Replies.{trace_in}
 use Rattle.machine.specs.Left.{IsLeftBy}
 use Rattle.machine.specs.Refusals.{RefusesNext}
 use Rattle.machine.specs.Run.{Config, RunsTo, started}
@@ -17,6 +18,7 @@ use Rattle.schedule.specs.Places.{steps_before, steps_of_item}
 use Rattle.schedule.specs.Steps.{all_steps}
 use Rattle.schedule.specs.declared.items.Item.{Item}
 use Rattle.schedule.specs.declared.items.Step.{Step}
+use Rattle.shared_memory.specs.Limits.{AreOutsideLimits, AreWithinLimits}
 use Rattle.shared_memory.specs.declared.fault.StepFault.{StepFault}
 use Rattle.shared_memory.specs.declared.fault.StepFault.TheVariants.{NoSuchHart, NoSuchLine, TraceFull, Memory, OutOfLimits}
 use Rattle.store_trace.specs.declared.event.Event.{Event}
@@ -42,19 +44,12 @@ abbrev pub start_of : Setup → Config
 start_of s = started s.program s.medium s.harts
 
 -- one to eight harts, and 1 to 16,384 lines of cache
-pub record IsWithin (s : Setup) : Type 0 where
-  pub some_harts : 1 ≤ s.harts
-  pub few_harts : s.harts ≤ 8
-  pub some_lines : 1 ≤ s.capacity
-  pub few_lines : s.capacity ≤ 16384
+abbrev pub IsWithin : Setup → Type 0
+IsWithin s = AreWithinLimits s.harts s.capacity
 
 -- no machine is made: the number of harts is outside its limits, or else that of the cache's lines
 abbrev pub IsOutside : Setup → StepFault → Type 0
-IsOutside s NoSuchHart = (s.harts < 1) ⊎ (8 < s.harts)
-IsOutside s OutOfLimits = (1 ≤ s.harts) × (s.harts ≤ 8) × ((s.capacity < 1) ⊎ (16384 < s.capacity))
-IsOutside s NoSuchLine = ⊥
-IsOutside s TraceFull = ⊥
-IsOutside s Memory = ⊥
+IsOutside s fault = AreOutsideLimits s.harts s.capacity fault
 
 -- a machine of the setup that has made no step
 pub record IsAtStart (s : Setup) (machine : MachineView) : Type 0 where
@@ -97,7 +92,7 @@ pub record HasTrace (s : Setup) (schedule : List Item) (trace : List Event) : Ty
   pub there : AreThere s (all_steps schedule)
   pub end : Config
   pub run : RunsTo (start_of s) (all_steps schedule) end
-  pub trace_is : trace ≡ end.common.trace
+  pub trace_is : trace ≡ trace_in end.common
   pub few : length trace ≤ 65536
 
 -- a machine that has made the steps before one of the schedule's refuses that step, for this reason

@@ -76,7 +76,6 @@ pub fn explain_image(
 }
 
 /// The run by a schedule, recorded, over a medium behind a cache of as many lines.
-#[tactic(auto, using(crate::proofs::Making::is_within))]
 fn recorded_run(
     alloc: Global,
     program: Program,

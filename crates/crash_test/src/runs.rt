@@ -1,17 +1,19 @@
 //! Runs of a program: on harts that run together, and by a schedule.
 
+ghost use Rattle.bus.specs.Limits.{AreWithin};
 ghost use Rattle.crash_image.specs.View.{HasLines};
 ghost use Rattle.machine.specs.Represents.{RepresentsExactly};
+ghost use Rattle.recording.specs.Recorded.{HasGoneOn};
 ghost use Rattle.schedule.specs.Grammar.{hart_steps};
-ghost use Rattle.std.specs.Prelude.{◌≡◌, ◌^◌, ◌<◌, IfErr, IfOk};
+ghost use Rattle.std.specs.Prelude.{◌≡◌, ◌≢◌, ◌^◌, ◌<◌, IfErr, IfOk};
 ghost use Rattle.crash_test.specs.Runs.{FailsToRun, FailsToStart, FailsTogether, HasRun, HasRunTogether, HasTrace, IsAtStart, IsLeftOf, IsRunOf, IsUnfinished, setup, start_of, unfinished_of, with_room};
 
-use bus::{Bus, FinishFault, RunFault, run_harts};
+use bus::{Bus, FinishFault, RunFault, check_start, run_harts};
 use gate::Open;
 use line_memory::Medium;
 use machine::{Machine, Schedule, StepFault};
 use program::Program;
-use recording::Recorded;
+use recording::{Recorded, record_alone};
 use std::alloc::Global;
 use std::sync::Wait;
 use std::thread::Threads;
@@ -29,16 +31,92 @@ pub enum TogetherFault {
     Foreign,
 }
 
-/// Runs a program on one to eight harts, each in a thread of its own, over the medium behind an empty cache of 1 to 16,384
-/// lines, until each hart has stopped or has made as many steps as `steps` says, from 1 to 500,000,000; and gives the run that
-/// they made: its schedule has the steps of all harts in the order in which they came to memory. Harts that race may make
-/// another run the next time.
+/// Runs a program on one to eight harts, over the medium behind an empty cache of 1 to 16,384 lines, until each hart has
+/// stopped or has made as many steps as `steps` says, from 1 to 500,000,000; and gives the run that they made. One hart runs
+/// alone, in this thread, and makes the same run each time. Of several each runs in a thread of its own: their schedule has the
+/// steps of all harts in the order in which they came to memory, and harts that race may make another run the next time.
 ///
 /// # Errors
 /// NoSuchHart where `harts` isn't from 1 to 8, and else OutOfLimits where `capacity` or `steps` is outside its limits. Else
 /// TraceFull where a step's event finds the trace full, which stops all harts; Memory where a growth or a thread is refused;
-/// Foreign where what the harts have made doesn't agree.
+/// Foreign where what several harts have made doesn't agree.
 pub fn run_program<R: Threads + Wait + Sync>(
+    rt: &R,
+    alloc: Global,
+    program: Program,
+    medium: Medium,
+    harts: u32,
+    capacity: u32,
+    steps: u32,
+) -> Result<Recorded, TogetherFault>
+    ensures ok { IfOk result (HasRunTogether (setup program medium harts capacity) steps) }
+    ensures run { IfOk result (IsRunOf (setup program medium harts capacity)) }
+    ensures left { IfOk result (λ recorded. IsLeftOf (setup program medium harts capacity) recorded.items recorded.left) }
+    ensures few { IfOk result (λ recorded. hart_steps recorded.items < 2 ^ 32) }
+    ensures err { IfErr result (FailsTogether (setup program medium harts capacity) steps) }
+
+    // one hart alone steps until it stops, and no further; nothing that it made can disagree
+    ensures alone { harts ≡ 1 → IfOk result (HasGoneOn (start_of (setup program medium 1 capacity)) steps) }
+    ensures agrees { harts ≡ 1 → IfErr result (λ fault. fault ≢ TogetherFault.Foreign) }
+{
+    match harts {
+        1 => run_alone(alloc, program, medium, capacity, steps),
+        _ => run_together(rt, alloc, program, medium, harts, capacity, steps),
+    }
+}
+
+/// One hart, which shares its memory with no other, needs neither a thread nor a lock.
+fn run_alone(
+    alloc: Global,
+    program: Program,
+    medium: Medium,
+    capacity: u32,
+    steps: u32,
+) -> Result<Recorded, TogetherFault>
+    ensures ok { IfOk result (HasRunTogether (setup program medium 1 capacity) steps) }
+    ensures run { IfOk result (IsRunOf (setup program medium 1 capacity)) }
+    ensures left { IfOk result (λ recorded. IsLeftOf (setup program medium 1 capacity) recorded.items recorded.left) }
+    ensures few { IfOk result (λ recorded. hart_steps recorded.items < 2 ^ 32) }
+    ensures err { IfErr result (FailsTogether (setup program medium 1 capacity) steps) }
+    ensures alone { IfOk result (HasGoneOn (start_of (setup program medium 1 capacity)) steps) }
+    ensures agrees { IfErr result (λ fault. fault ≢ TogetherFault.Foreign) }
+{
+    match check_start(1, capacity, steps) {
+        Ok(()) => run_within(alloc, program, medium, capacity, steps),
+        Err(fault) => Err(TogetherFault::Step(fault)),
+    }
+}
+
+/// The same within the limits.
+fn run_within(
+    alloc: Global,
+    program: Program,
+    medium: Medium,
+    capacity: u32,
+    steps: u32,
+) -> Result<Recorded, TogetherFault>
+    requires within { AreWithin 1 capacity steps }
+    ensures ok { IfOk result (HasRunTogether (setup program medium 1 capacity) steps) }
+    ensures run { IfOk result (IsRunOf (setup program medium 1 capacity)) }
+    ensures left { IfOk result (λ recorded. IsLeftOf (setup program medium 1 capacity) recorded.items recorded.left) }
+    ensures few { IfOk result (λ recorded. hart_steps recorded.items < 2 ^ 32) }
+    ensures err { IfErr result (FailsTogether (setup program medium 1 capacity) steps) }
+    ensures alone { IfOk result (HasGoneOn (start_of (setup program medium 1 capacity)) steps) }
+    ensures agrees { IfErr result (λ fault. fault ≢ TogetherFault.Foreign) }
+{
+    match record_alone(alloc, program, medium, capacity, steps) {
+        Ok(recorded) => {
+            // The trace is within its limit, and as many lines are left as there were.
+            prove!(recorded.trace().events().len() <= 65_536);
+            prove!(recorded.left().lines() == recorded.start().lines());
+            Ok(recorded)
+        }
+        Err(stop) => Err(TogetherFault::Step(stop.fault)),
+    }
+}
+
+/// Harts that share their memory, each in a thread of its own.
+fn run_together<R: Threads + Wait + Sync>(
     rt: &R,
     alloc: Global,
     program: Program,
@@ -115,7 +193,6 @@ pub fn replay(
 /// # Errors
 /// NoSuchHart where `harts` isn't from 1 to 8, and else OutOfLimits where `capacity` is outside its limits. Memory where a
 /// growth is refused.
-#[tactic(auto, using(crate::proofs::Making::is_within))]
 pub fn start_program(
     alloc: Global,
     program: Program,

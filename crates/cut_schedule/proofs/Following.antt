@@ -16,6 +16,7 @@ use Rattle.crash_image.proofs.Stored.{history_more}
 use Rattle.schedule.specs.Steps.{all_steps}
 use Rattle.schedule.specs.declared.items.Step.{Step}
 use Rattle.schedule.specs.declared.items.Step.TheVariants.{Hart, Evict}
+use Rattle.shared_memory.specs.Replies.{trace_in}
 use Rattle.shared_memory.specs.Persisted.{persisted}
 use Rattle.shared_memory.specs.declared.history.Entry.{Entry}
 use Rattle.machine.specs.Evicting.{hart_steps}
@@ -49,7 +50,7 @@ explained_more k p (Begin h op) = refl
 explained_more k p (End h op) = refl
 
 -- an eviction makes no event, and its persistence step
-eviction_trace : (c d : Config) (o : Option ℕ) → RunsTo c (eviction_of o) d → d.common.trace ≡ c.common.trace
+eviction_trace : (c d : Config) (o : Option ℕ) → RunsTo c (eviction_of o) d → trace_in d.common ≡ trace_in c.common
 eviction_trace c d None run = rw run refl
 eviction_trace c d (Some line) run = rw (run.2, run.1) refl
 
@@ -165,15 +166,15 @@ steps_rise c recorded (suc i) (suc j) r each less there = elim (cases_Bool (i ==
 -- a line is due
 further_trace : (c d : Config) (recorded : RecordedView) (i number : ℕ) (steps between : List Step) (o : Option ℕ) → Records c recorded
     → IsMadeBy c (all_steps recorded.items) i number → hart_steps (steps ++ between) ≡ take number (recorded_steps recorded)
-    → RunsTo c ((steps ++ between) ++ eviction_of o) d → d.common.trace ≡ take (i + 1) recorded.trace
+    → RunsTo c ((steps ++ between) ++ eviction_of o) d → trace_in d.common ≡ take (i + 1) recorded.trace
 further_trace c d recorded i number steps between o r made same run =
     let parts = run_split c d ((steps ++ between) ++ eviction_of o) (steps ++ between) (eviction_of o) refl run in
     eviction_trace parts.0 d o parts.2
     ∙ trace_through c parts.0 recorded i number (steps ++ between) r made same parts.1
 
 -- what a run of hart steps has added, where the trace before and after it is known
-added_event : (c d : Config) (trace : List Event) (event : Event) (i : ℕ) → Adds c d → c.common.trace ≡ take i trace
-    → d.common.trace ≡ take i trace ++ event ∷ [] → persisted d.common.history ≡ steps_of event ++ persisted c.common.history
+added_event : (c d : Config) (trace : List Event) (event : Event) (i : ℕ) → Adds c d → trace_in c.common ≡ take i trace
+    → trace_in d.common ≡ take i trace ++ event ∷ [] → persisted d.common.history ≡ steps_of event ++ persisted c.common.history
 added_event c d trace event i a before after =
     let both : take i trace ++ a.more ≡ take i trace ++ event ∷ [] =
     ap (λ (t : List Event). t ++ a.more) (sym before) ∙ sym a.trace ∙ after in
@@ -194,10 +195,10 @@ further_persisted c d recorded k i made number many event steps o r there is due
     let more = run_split c parts.0 (steps ++ between) steps between refl parts.1 in
     let harts : hart_steps between ≡ between = harts_between made many (all_steps recorded.items) in
     let adds = run_adds more.0 parts.0 between (rw harts more.2) in
-    let before : more.0.common.trace ≡ take i recorded.trace = follows.trace more.0 more.1 in
+    let before : trace_in more.0.common ≡ take i recorded.trace = follows.trace more.0 more.1 in
     let next : take (i + 1) recorded.trace ≡ take i recorded.trace ++ event ∷ [] =
     take_more recorded.trace i event there ∙ ap (λ (e : Event). take i recorded.trace ++ e ∷ []) is in
-    let after : parts.0.common.trace ≡ take i recorded.trace ++ event ∷ [] =
+    let after : trace_in parts.0.common ≡ take i recorded.trace ++ event ∷ [] =
     trace_through c parts.0 recorded i number (steps ++ between) r by same parts.1 ∙ next in
     let p : List PersistenceStep = at_moment recorded.trace i in
     let moment : at_moment recorded.trace (i + 1) ≡ steps_of event ++ at_moment recorded.trace i =
@@ -331,7 +332,7 @@ at_start recorded k last left steps due taken left_is none lines each = record {
     follows = λ c start r. rw none (record {
       made_is = taken;
       evictions = tt;
-      trace = λ d run. ap (λ (x : Config). x.common.trace) run ∙ start.trace;
+      trace = λ d run. ap (λ (x : Config). trace_in x.common) run ∙ start.trace;
       persisted_is = λ d run. ap (λ (x : Config). persisted x.common.history) run
           ∙ ap (λ (entries : List Entry). persisted entries) start.history;
     });

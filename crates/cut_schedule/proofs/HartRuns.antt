@@ -12,7 +12,7 @@ use Rattle.schedule.specs.declared.items.Step.TheVariants.{Hart, Evict}
 use Rattle.store_trace.specs.History.{history}
 use Rattle.store_trace.specs.declared.event.Event.{Event}
 use Rattle.shared_memory.specs.Persisted.{persisted}
-use Rattle.shared_memory.specs.Replies.{events_of, reply_after}
+use Rattle.shared_memory.specs.Replies.{events_of, reply_after, trace_in}
 use Rattle.shared_memory.specs.declared.history.Entry.{Entry}
 use Rattle.shared_memory.proofs.Stepping.{history_more}
 use Rattle.machine.specs.Evicting.{hart_steps}
@@ -21,13 +21,13 @@ use Rattle.machine.specs.Run.{Config, HartSteps, HartStepsIfThere, Meets, RunsTo
 -- d has some events more than c, and the persistence steps of these events more
 pub record Adds (c d : Config) : Type 0 where
   pub more : List Event
-  pub trace : d.common.trace ≡ c.common.trace ++ more
+  pub trace : trace_in d.common ≡ trace_in c.common ++ more
   pub steps : persisted d.common.history ≡ history more ++ persisted c.common.history
 
-adds_none : (c d : Config) → d.common.trace ≡ c.common.trace → d.common.history ≡ c.common.history → Adds c d
+adds_none : (c d : Config) → trace_in d.common ≡ trace_in c.common → d.common.history ≡ c.common.history → Adds c d
 adds_none c d trace same = record {
   more = [];
-  trace = trace ∙ sym (append-nil c.common.trace);
+  trace = trace ∙ sym (append-nil (trace_in c.common));
   steps = ap (λ (entries : List Entry). persisted entries) same;
 }
 
@@ -55,7 +55,7 @@ step_adds c d h x = there_adds c d h (slice_get c.harts h) x
 adds_both : (c d e : Config) → Adds c d → Adds d e → Adds c e
 adds_both c d e a b = record {
   more = a.more ++ b.more;
-  trace = b.trace ∙ ap (λ (t : List Event). t ++ b.more) a.trace ∙ append_assoc c.common.trace a.more b.more;
+  trace = b.trace ∙ ap (λ (t : List Event). t ++ b.more) a.trace ∙ append_assoc (trace_in c.common) a.more b.more;
   steps = b.steps ∙ ap (λ (p : List PersistenceStep). history b.more ++ p) a.steps
       ∙ sym (append_assoc (history b.more) (history a.more) (persisted c.common.history))
       ∙ ap (λ (p : List PersistenceStep). p ++ persisted c.common.history) (sym (history_more a.more b.more));

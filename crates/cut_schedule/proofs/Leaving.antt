@@ -12,6 +12,7 @@ use Rattle.clean_fence.proofs.Views.{leaves_cut as cache_leaves_cut}
 use Rattle.clean_fence.specs.Rules.{PmView}
 use Rattle.clean_fence.specs.Represents.{AreAmong, Represents as CacheRepresents}
 use Rattle.std.proofs.lemmas.List.Elements.{All-take}
+use Rattle.shared_memory.specs.Replies.{trace_in}
 use Rattle.shared_memory.proofs.Shown.{leaves_cut}
 use Rattle.store_trace.specs.History.{at_moment, history}
 use Rattle.store_trace.specs.TraceView.{NamesLine}
@@ -30,7 +31,7 @@ use Rattle.cut_schedule.proofs.RunFrom.{first_runs}
 
 -- the medium behind the cache of a machine is the image of a cut of the events of what it represents
 pub leaves_a_cut : (machine : MachineView) (c : Config) → Represents machine c
-    → IsCutImage c.common.start (history c.common.trace) machine.shared.cache.lines
+    → IsCutImage c.common.start (history (trace_in c.common)) machine.shared.cache.lines
 leaves_a_cut machine c stands =
     leaves_cut machine.shared machine.shared.cache.lines (λ start p. cache_leaves_cut start p machine.shared.cache) c.common stands.shared
 

@@ -6,17 +6,14 @@ use Rattle.store_trace.specs.declared.event.Event.{Event}
 use Rattle.schedule.specs.Steps.{all_steps}
 use Rattle.schedule.specs.declared.items.Step.{Step}
 use Rattle.schedule.specs.declared.items.Step.TheVariants.{Hart}
-use Rattle.machine.specs.Evicting.{AreAlike}
+use Rattle.shared_memory.specs.Replies.{trace_in}
 use Rattle.machine.specs.Evicting.{hart_steps}
 use Rattle.recording.specs.Recorded.{IsMadeBy, RecordedView, Records}
 use Rattle.machine.specs.Run.{Config, RunsTo}
 use Rattle.machine.proofs.Determined.{runs_once}
-use Rattle.machine.proofs.Evicting.{runs_alike}
+use Rattle.machine.proofs.Evicting.{alike_itself, runs_alike, trace_alike}
 use Rattle.machine.proofs.RunParts.{run_grows, run_joined, run_parted}
 use Rattle.cut_schedule.proofs.Lists.{hart_steps_append, harts_of_harts, harts_taken, take_then}
-
-alike_itself : (c : Config) → AreAlike c c
-alike_itself c = record { harts = refl; start = refl; initial = refl; memory = refl; trace = refl; requests = refl }
 
 -- the hart steps of the recorded schedule
 abbrev pub recorded_steps : RecordedView → List Step
@@ -65,7 +62,7 @@ number_there c steps i n m =
 -- after these hart steps, with any evictions between them, the trace has the events through that one
 pub trace_through : (c d : Config) (recorded : RecordedView) (i n : ℕ) (steps : List Step) → Records c recorded
     → IsMadeBy c (all_steps recorded.items) i n → hart_steps steps ≡ take n (recorded_steps recorded) → RunsTo c steps d
-    → d.common.trace ≡ take (i + 1) recorded.trace
+    → trace_in d.common ≡ take (i + 1) recorded.trace
 trace_through c d recorded i n steps r m same run =
     let front : List Step = m.before ++ Hart m.hart ∷ [] in
     let there : RunsTo c front m.new = run_joined c m.old m.new m.before (Hart m.hart ∷ []) m.runs (m.new, m.makes, refl) in
@@ -75,10 +72,10 @@ trace_through c d recorded i n steps r m same run =
     let parts = run_parted c r.end front m.after (rw split at r.runs) in
     let middle : parts.0 ≡ m.new = runs_once c front parts.0 m.new parts.1 there in
     let more = run_grows parts.0 r.end m.after parts.2 in
-    let trace : recorded.trace ≡ m.new.common.trace ++ more.0 =
-    r.trace ∙ more.1 ∙ ap (λ (x : Config). x.common.trace ++ more.0) middle in
-    ap (λ (x : Config). x.common.trace) is ∙ sym mine.2.trace
-    ∙ sym (ap (λ (t : List Event). take (i + 1) t) trace ∙ take_at m.new.common.trace more.0 (i + 1) m.event)
+    let trace : recorded.trace ≡ trace_in m.new.common ++ more.0 =
+    r.trace ∙ more.1 ∙ ap (λ (x : Config). trace_in x.common ++ more.0) middle in
+    ap (λ (x : Config). trace_in x.common) is ∙ sym (trace_alike m.new mine.0 mine.2)
+    ∙ sym (ap (λ (t : List Event). take (i + 1) t) trace ∙ take_at (trace_in m.new.common) more.0 (i + 1) m.event)
 
 -- later events have higher numbers
 numbers_part : (c : Config) (recorded : RecordedView) (i j n m : ℕ) → Records c recorded → IsMadeBy c (all_steps recorded.items) i n
@@ -90,13 +87,13 @@ numbers_part c recorded i j n m r a b early late less =
     let whole : take n all ≡ take m all ++ take (n - m) (drop m all) =
     ap (λ (k : ℕ). take k all) sum ∙ take_then m (n - m) all in
     let parts = run_split c run.0 (take n all) (take m all) (take (n - m) (drop m all)) whole run.1 in
-    let last : run.0.common.trace ≡ take (i + 1) recorded.trace =
+    let last : trace_in run.0.common ≡ take (i + 1) recorded.trace =
     trace_through c run.0 recorded i n (take n all) r a (harts_taken n (all_steps recorded.items)) run.1 in
-    let first : parts.0.common.trace ≡ take (j + 1) recorded.trace =
+    let first : trace_in parts.0.common ≡ take (j + 1) recorded.trace =
     trace_through c parts.0 recorded j m (take m all) r b (harts_taken m (all_steps recorded.items)) parts.1 in
     let more = run_grows parts.0 run.0 (take (n - m) (drop m all)) parts.2 in
     let sizes = ap (λ (t : List Event). length t) more.1 in
-    let both = length-append parts.0.common.trace more.0 in
+    let both = length-append (trace_in parts.0.common) more.0 in
     let long = ap (λ (t : List Event). length t) last ∙ length-take-le (i + 1) recorded.trace (omega arith) in
     let short = ap (λ (t : List Event). length t) first ∙ length-take-le (j + 1) recorded.trace (omega arith) in
     omega arith

@@ -13,6 +13,7 @@ use Rattle.schedule.specs.Steps.{all_steps}
 use Rattle.schedule.specs.declared.items.Step.{Step}
 use Rattle.schedule.specs.declared.items.Step.TheVariants.{Evict}
 use Rattle.clean_fence.specs.Represents.{AreAmong}
+use Rattle.shared_memory.specs.Replies.{trace_in}
 use Rattle.shared_memory.specs.Persisted.{persisted, touched}
 use Rattle.machine.specs.Evicting.{hart_steps}
 use Rattle.recording.specs.Recorded.{RecordedView, Records}
@@ -51,7 +52,7 @@ pub record Leaves (c : Config) (recorded : RecordedView) (moment : ℕ) (cut : L
       MakesStore recorded moment line (number_in cut line) (length (hart_steps before))
   pub end : Config
   pub runs : RunsTo c steps end
-  pub trace : end.common.trace ≡ take moment recorded.trace
+  pub trace : trace_in end.common ≡ take moment recorded.trace
   pub persisted_is : persisted end.common.history ≡ explained (number_in cut) (at_moment recorded.trace moment)
   pub written : (l : ℕ) → written_back l (persisted end.common.history) ≡ number_in cut l
   pub left : (machine : MachineView) (lines : List ℕ) → Represents machine end →

@@ -9,6 +9,7 @@ use Rattle.store_trace.specs.declared.event.Event.TheVariants.{Store, Clean, Fen
 use Rattle.schedule.specs.Steps.{all_steps}
 use Rattle.schedule.specs.declared.items.Step.{Step}
 use Rattle.schedule.specs.declared.items.Step.TheVariants.{Hart, Evict}
+use Rattle.shared_memory.specs.Replies.{trace_in}
 use Rattle.shared_memory.specs.Persisted.{persisted}
 use Rattle.machine.specs.Evicting.{hart_steps}
 use Rattle.recording.specs.Recorded.{RecordedView, Records}
@@ -54,14 +55,14 @@ EvictInTime recorded moment k made (Evict line ∷ steps) =
 pub record FollowsFrom (c : Config) (recorded : RecordedView) (k : ℕ → ℕ) (moment made : ℕ) (steps : List Step) : Type 0 where
   pub made_is : made ≡ steps_by recorded.steps moment
   pub evictions : EvictInTime recorded moment k 0 steps
-  pub trace : (d : Config) → RunsTo c steps d → d.common.trace ≡ take moment recorded.trace
+  pub trace : (d : Config) → RunsTo c steps d → trace_in d.common ≡ take moment recorded.trace
   pub persisted_is : (d : Config) → RunsTo c steps d →
       persisted d.common.history ≡ explained k (at_moment recorded.trace moment)
 
 -- nothing has happened yet
 pub record IsStart (c : Config) : Type 0 where
   pub history : c.common.history ≡ []
-  pub trace : c.common.trace ≡ []
+  pub trace : trace_in c.common ≡ []
 
 -- the first hart steps of a recorded run, as many as `made`, with evictions that follow its events up to the moment
 pub record Follows (recorded : RecordedView) (k : ℕ → ℕ) (moment made : ℕ) (steps : List Step) : Type 0 where

@@ -9,7 +9,7 @@ use Rattle.hart.specs.declared.need.Request.{Request}
 use Rattle.hart.specs.declared.need.Request.TheVariants.{Load, Store, Lr, Sc, Amo}
 use Rattle.schedule.specs.declared.items.Step.{Step}
 use Rattle.schedule.specs.declared.items.Step.TheVariants.{Hart}
-use Rattle.shared_memory.specs.Histories.{copied}
+use Rattle.shared_memory.specs.Histories.{fetched_text}
 use Rattle.machine.specs.Run.{Config, RunsTo, StepsTo, fetched}
 use Rattle.machine.specs.Represents.{IsRunning}
 use Rattle.debugger.specs.Points.{has_break, has_watch, line_start}
@@ -29,7 +29,7 @@ touched_line request = None
 
 -- the text that hart h fetches
 abbrev pub text_at : Config → ℕ → Memory
-text_at c h = copied c.common.initial h c.common.history
+text_at c h = fetched_text c.common.initial h c.common.history
 
 -- a hart of this state, which fetches from this text, runs, and its next instruction asks for an access to the line
 pub record Accesses (state : Option HartState) (text : Memory) (line : ℕ) : Type 0 where

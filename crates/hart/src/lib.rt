@@ -17,6 +17,6 @@ mod stepping;
 pub use atomics::amo_result;
 pub use line::HartLine;
 pub use need::{AccessFault, Advance, Need, Reply, Request};
-pub use replies::{answer, take_reply};
+pub use replies::{answer, resume};
 pub use state::{HartState, Registers, Status, Trap};
 pub use stepping::{advance, instruction, next};

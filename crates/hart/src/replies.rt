@@ -18,12 +18,13 @@ pub fn answer(state: &HartState, instr: Instr, reply: Reply) -> HartState
     ensures { result ≡ answered state.now instr reply }
 {
     let mut after = *state;
-    take_reply(&mut after, instr, reply);
+    resume(&mut after, instr, reply);
     after
 }
 
 /// Takes the reply in place: the hart becomes what `answer` gives, without a copy.
-pub fn take_reply(state: &mut HartState, instr: Instr, reply: Reply)
+#[inline(always)]
+pub fn resume(state: &mut HartState, instr: Instr, reply: Reply)
     ensures { state.new ≡ answered state.old instr reply }
 {
     match reply {
@@ -33,6 +34,7 @@ pub fn take_reply(state: &mut HartState, instr: Instr, reply: Reply)
     }
 }
 
+#[inline(always)]
 fn take(state: &mut HartState, instr: Instr, value: u64)
     ensures { state.new ≡ takes state.old instr value }
 {
@@ -44,6 +46,7 @@ fn take(state: &mut HartState, instr: Instr, value: u64)
     }
 }
 
+#[inline(always)]
 fn loaded(op: LoadOp, value: u64) -> u64
     ensures { result ≡ load_result op value }
 {

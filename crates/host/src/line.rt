@@ -5,7 +5,7 @@ ghost use Rattle.std.specs.Process.{exit_status};
 ghost use Rattle.std.specs.Result.{result_map_both};
 ghost use Rattle.host.specs.Lines.{EndsBy, IsLost};
 
-use command_line::{Failure, Files, execute, tell};
+use command_line::{Failure, Files, execute, report_failure};
 use std::env;
 use std::env::Env;
 use std::io::{ErrorKind, Read, Write};
@@ -50,7 +50,7 @@ pub fn run<T: Threads + Wait + Sync + Clock + AllocGlobal, F: Files, R: Read, W:
             ExitCode::from(status)
         }
         Err(failure) => {
-            let _ = tell(&failure, errors);
+            let _ = report_failure(&failure, errors);
             ExitCode::from(failure.status())
         }
     }

@@ -6,6 +6,8 @@ use Rattle.crash_model.specs.Floor.{floor}
 use Rattle.crash_model.specs.Image.{image}
 use Rattle.crash_model.specs.Stores.{stores}
 use Rattle.line_memory.specs.Lines.{IsMedium}
+use Rattle.nova_log.specs.Kept.{AreKept}
+use Rattle.nova_log.specs.declared.kept.KeptVolume.{KeptVolume}
 use Rattle.store_trace.specs.History.{at_moment}
 use Rattle.store_trace.specs.declared.event.Event.{Event}
 
@@ -31,3 +33,7 @@ pub record AreNumbers (start : List (List ℕ)) (events : List Event) (moment : 
   pub whole : AreMedia start events moment
   pub size : length numbers ≡ length start
   pub within : IsWithinAt events moment (numbers_at events moment numbers)
+
+-- recovery of each image of the moment finds the logs that are kept
+abbrev pub AreKeptAt : List (List ℕ) → List Event → ℕ → KeptVolume → Type 0
+AreKeptAt start events moment kept = (k : ℕ → ℕ) → IsWithinAt events moment k → AreKept (image start k (at_moment events moment)) kept

@@ -8,7 +8,7 @@ ghost use Rattle.std.specs.Prelude.{◌≡◌, ◌⊎◌, [], Err, Ok, IfErr, If
 
 use crash_image::{Cut, Cuts};
 use nova_log::{LineSource, VolumeFault, recover_from};
-use std::alloc::Global;
+use std::alloc::{AllocError, Global};
 use std::marker::Model;
 use volume::Volume;
 
@@ -27,7 +27,7 @@ pub fn recover_image(alloc: Global, cuts: &Cuts, cut: &Cut) -> Result<Volume, Vo
 struct ImageLines<'a, 'b> {
     cuts: &'a Cuts<'b>,
     cut: &'a Cut,
-    /// The lines that were asked for, which a source of lines tells; no code reads them.
+    /// The lines that were asked for, which a source of lines tells.
     asked: Vec<u32>,
 }
 
@@ -77,5 +77,13 @@ impl LineSource for ImageLines<'_, '_> {
             return Err(VolumeFault::Memory);
         }
         Ok(self.cuts.line(self.cut, n))
+    }
+
+    fn asked_so_far(&self) -> &[u32] {
+        &self.asked
+    }
+
+    fn ask(&mut self, lines: &[u32]) -> Result<(), AllocError> {
+        self.asked.extend_from_slice(lines)
     }
 }

@@ -2,41 +2,44 @@
 
 ghost use Rattle.branches.specs.Numbers.{number_over};
 ghost use Rattle.crash_model.specs.Floor.{floor};
-ghost use Rattle.image_check.specs.Branching.{AreNumbers, IsWithinAt, image_of, numbers_at};
+ghost use Rattle.image_check.specs.Branching.{AreKeptAt, AreNumbers, IsWithinAt, image_of, numbers_at};
 ghost use Rattle.nova_log.specs.Volumes.{asked_lines, volume_of};
 ghost use Rattle.nova_log.specs.declared.fault.VolumeFault.TheVariants.{Memory};
 ghost use Rattle.std.specs.List.{AllByRecursion};
 ghost use Rattle.std.specs.Prelude.{◌≡◌, ◌<◌, ◌≤◌, ◌⊎◌, [], Err, Ok, length, IfErr, IfOk, OnOk};
 
-use nova_log::{LineSource, VolumeFault, recover_from};
-use std::alloc::Global;
+use nova_log::{FixedLines, KeptVolume, LineSource, VolumeFault, recover_again};
+use std::alloc::{AllocError, Global};
 use std::marker::Model;
 use std::mem;
 use trace_index::TraceIndex;
-use volume::Volume;
 
-/// The volume of the image of a cut at a moment, as recovery of the whole image gives it. The cut is given by line, with 0 for a
-/// line at its floor. Adds the lines that recovery asks.
+/// The volume of the image of a cut at a moment, as recovery of the whole image gives it: it is that which is kept then. The cut is
+/// given by line, with 0 for a line at its floor. Adds the lines that recovery asks.
 pub fn recover_cut(
     alloc: Global,
     index: &TraceIndex,
     moment: u32,
     numbers: &[u32],
     asked: &mut Vec<u32>,
-) -> Result<Volume, VolumeFault>
+    kept: &mut KeptVolume,
+) -> Result<(), VolumeFault>
     requires cut { AreNumbers index.now.start index.now.events moment numbers.now }
     requires fresh { asked.old.items ≡ [] }
-    ensures ok { IfOk result (λ volume. volume_of (image_of index.now.start index.now.events moment numbers.now) ≡ Ok volume) }
+    requires kept { AreKeptAt index.now.start index.now.events moment kept.old }
+    ensures ok { OnOk result (volume_of (image_of index.now.start index.now.events moment numbers.now) ≡ Ok kept.new.volume) }
     ensures err { IfErr result (λ fault. (fault ≡ Memory)
         ⊎ (volume_of (image_of index.now.start index.now.events moment numbers.now) ≡ Err fault)) }
     ensures ok_asked { OnOk result (asked.new.items ≡ asked_lines (image_of index.now.start index.now.events moment numbers.now)) }
     ensures err_asked { IfErr result (λ fault. (fault ≡ Memory)
         ⊎ (asked.new.items ≡ asked_lines (image_of index.now.start index.now.events moment numbers.now))) }
     ensures below { AllByRecursion (λ l. l < length index.now.start) asked.new.items }
+    ensures kept { AreKeptAt index.now.start index.now.events moment kept.new }
 {
     let before = mem::replace(asked, Vec::new(alloc));
     let mut source = IndexLines::new(index, moment, numbers, before);
-    let recovered = recover_from(alloc, &mut source);
+    let fixed = MomentLines { index, moment };
+    let recovered = recover_again(alloc, &mut source, &fixed, kept);
     *asked = source.into_asked();
     recovered
 }
@@ -133,5 +136,35 @@ impl LineSource for IndexLines<'_, '_> {
         }
         let number = number_of(self.index, self.moment, self.numbers, n);
         Ok(*self.index.line(n, number))
+    }
+
+    fn asked_so_far(&self) -> &[u32] {
+        &self.asked
+    }
+
+    fn ask(&mut self, lines: &[u32]) -> Result<(), AllocError> {
+        self.asked.extend_from_slice(lines)
+    }
+}
+
+/// The lines at a moment: those of which every store is in the medium for certain are the same in each image.
+#[derive(Drop)]
+struct MomentLines<'a, 'b> {
+    index: &'a TraceIndex<'b>,
+    moment: u32,
+    ghost there: { moment ≤ length index.now.events },
+}
+
+impl FixedLines for MomentLines<'_, '_> {
+    ghost use Rattle.crash_model.specs.Floor.{floor};
+    ghost use Rattle.crash_model.specs.Stores.{stores};
+    ghost use Rattle.store_trace.specs.History.{at_moment};
+    ghost use Rattle.std.specs.Prelude.{◌≡◌};
+
+    ghost fixed = { λ s l. floor l (at_moment s.index.now.events s.moment) ≡ stores l (at_moment s.index.now.events s.moment) };
+
+    fn is_fixed(&self, line: u32) -> bool {
+        line < self.index.lines()
+            && self.index.floor(line, self.moment) == self.index.stores(line, self.moment)
     }
 }

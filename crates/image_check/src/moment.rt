@@ -17,6 +17,7 @@ use crate::{Cause, CheckFault};
 use branches::Opener;
 use line_memory::Medium;
 use moment_verdict::MomentVerdict;
+use nova_log::KeptVolume;
 use plan::Plan;
 use std::alloc::Global;
 use store_trace::Trace;
@@ -117,14 +118,9 @@ pub(crate) fn open_moment(
     ensures err { IfErr result (λ fault. fault ≡ CheckFault.Memory) }
 {
     let moment = images.moment;
+    let mut kept = KeptVolume::new(alloc);
     let verdict = moment_verdict::open_moment(
-        alloc,
-        medium,
-        trace,
-        moment,
-        images,
-        &mut (),
-        opener,
+        alloc, medium, trace, moment, images, &mut kept, opener,
     )?;
     Ok(verdict)
 }

@@ -11,7 +11,7 @@ use crate::index_lines::recover_cut;
 use crate::judge::judge_volume;
 use crate::legal::Outcomes;
 use branches::Recovery;
-use nova_log::VolumeFault;
+use nova_log::{KeptVolume, VolumeFault};
 use plan::Plan;
 use std::alloc::{AllocError, Global};
 use trace_index::TraceIndex;
@@ -61,6 +61,7 @@ impl Recovery for MomentImages<'_, '_> {
     ghost use Rattle.crash_model.specs.Image.{image};
     ghost use Rattle.crash_model.specs.Stores.{stores};
     ghost use Rattle.crash_model.proofs.Bounds.{floor_le_stores};
+    ghost use Rattle.image_check.specs.Branching.{AreKeptAt};
     ghost use Rattle.image_check.specs.Images.{IsFound};
     ghost use Rattle.image_check.specs.Verdicts.{asks_at};
     ghost use Rattle.image_check.specs.Alike.{adaptive, branchwise, shared};
@@ -69,7 +70,7 @@ impl Recovery for MomentImages<'_, '_> {
 
     type Cause = Cause;
 
-    type Workspace = ();
+    type Workspace = KeptVolume;
 
     ghost lines = { λ s. length s.index.now.start };
 
@@ -82,7 +83,7 @@ impl Recovery for MomentImages<'_, '_> {
     ghost judged = { λ s k found. IsFound s.plan.now.operations s.index.now.start (take s.moment s.index.now.events)
         (image s.index.now.start k (at_moment s.index.now.events s.moment)) found };
 
-    ghost fits = { λ s workspace. Unit {0} };
+    ghost fits = { λ s workspace. AreKeptAt s.index.now.start s.index.now.events s.moment workspace };
 
     fn lines(&self) -> u32 {
         self.index.lines()
@@ -96,19 +97,19 @@ impl Recovery for MomentImages<'_, '_> {
         self.index.stores(line, self.moment)
     }
 
-    fn workspace(&self, _alloc: Global) -> Result<(), AllocError> {
-        Ok(())
+    fn workspace(&self, alloc: Global) -> Result<KeptVolume, AllocError> {
+        Ok(KeptVolume::new(alloc))
     }
 
     fn recover(
         &self,
         alloc: Global,
-        _workspace: &mut (),
+        workspace: &mut KeptVolume,
         numbers: &[u32],
         asked: &mut Vec<u32>,
     ) -> Result<Option<Cause>, AllocError> {
-        match recover_cut(alloc, self.index, self.moment, numbers, asked) {
-            Ok(volume) => judge_volume(alloc, self.plan, self.outcomes, &volume),
+        match recover_cut(alloc, self.index, self.moment, numbers, asked, workspace) {
+            Ok(()) => judge_volume(alloc, self.plan, self.outcomes, &workspace.volume),
             Err(VolumeFault::Memory) => Err(AllocError),
             Err(fault) => Ok(Some(Cause::Fault(fault))),
         }

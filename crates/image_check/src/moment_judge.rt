@@ -24,6 +24,7 @@ use branches::Opener;
 use crash_image::images_between;
 use line_memory::Medium;
 use moment_verdict::{MomentVerdict, open_moment_shared};
+use nova_log::KeptVolume;
 use plan::Plan;
 use std::alloc::{AllocError, Global};
 use std::marker::Model;
@@ -229,7 +230,8 @@ fn open_at<T: Threads + Sync>(
 {
     let images = MomentImages::new(&run.index, run.plan, outcomes, moment);
     let (medium, trace) = (run.medium, run.trace);
-    let verdict = open_moment_shared(rt, alloc, medium, trace, moment, &images, &mut (), opener)?;
+    let mut kept = KeptVolume::new(alloc);
+    let verdict = open_moment_shared(rt, alloc, medium, trace, moment, &images, &mut kept, opener)?;
     Ok(verdict)
 }
 

@@ -54,6 +54,7 @@ impl<const K: usize> Arena<K> {
     }
 
     /// The first node of list `k`, or `None` where it is empty.
+    #[inline(always)]
     pub fn front(&self, k: usize) -> Option<u32>
         requires { k < K }
         ensures value { result ≡ first (list_of self.now k) }

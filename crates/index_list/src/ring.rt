@@ -44,6 +44,7 @@ impl Ring {
     }
 
     /// The first node.
+    #[inline(always)]
     pub fn front(&self) -> Option<u32>
         ensures { result ≡ first self.now.items }
     {

@@ -10,10 +10,11 @@ use Rattle.std.proofs.Math.Seq.{take-length}
 use Rattle.std.specs.Prelude.{All, Contains, ◌⊎◌, ◌==◌, if◌then◌else◌}
 use Rattle.std.specs.List.Sorted.{IsNonDecreasingBy}
 use Rattle.hart.specs.declared.state.HartState.{HartState}
+use Rattle.shared_memory.specs.Replies.{trace_in}
 use Rattle.machine.specs.Run.{Config, RunsTo}
 use Rattle.machine.specs.Represents.{MachineView, Represents}
 use Rattle.machine.proofs.Determined.{runs_once}
-use Rattle.machine.proofs.Evicting.{alike_itself}
+use Rattle.machine.proofs.Evicting.{alike_itself, trace_alike}
 use Rattle.machine.proofs.RunParts.{run_parted}
 use Rattle.schedule.specs.Grammar.{hart_steps}
 use Rattle.schedule.specs.Steps.{all_steps}
@@ -39,7 +40,7 @@ first_none : (k : ℕ) (c d : Config) → k ≤ 0 → RunsTo c (take k []) d →
 first_none zero c d few runs = runs
 first_none (suc k) c d few runs = absurd (omega arith)
 
-starts : (machine : MachineView) (c : Config) → machine.shared.trace ≡ [] → Represents machine c → c.common.trace ≡ []
+starts : (machine : MachineView) (c : Config) → machine.shared.trace ≡ [] → Represents machine c → trace_in c.common ≡ []
 starts machine c none stands = sym stands.shared.trace ∙ none
 
 agrees_none : (machine : MachineView) → Agrees (record { machine = machine; items = []; made = 0; stores = [] })
@@ -75,7 +76,7 @@ ends_by harts others left made limit e all over = elim over [
   | inr last ↦ inr (omega arith)
 ]
 
-pub has_drawn : (m : MakingView) (c : Config) (seed limit state : ℕ) → c.common.trace ≡ [] → HasTaken c seed limit m state
+pub has_drawn : (m : MakingView) (c : Config) (seed limit state : ℕ) → trace_in c.common ≡ [] → HasTaken c seed limit m state
     → (running m.machine.harts ≡ []) ⊎ (m.made ≡ limit) → HasDrawn c seed limit m.items m.made m.stores state
 has_drawn m c seed limit state begins has over = record {
   steps = turn_steps has.turns;
@@ -192,7 +193,7 @@ are_stored c steps first evictions harts all k d runs j x inside =
     let is : e.step ≡ at = equal_step e.step at (filter_passes (λ (e : Eviction). eqb e.step at) evictions j x inside) in
     let front : take e.step steps ≡ take k steps = ap (λ (n : ℕ). take n steps) (is ∙ counted_front steps k harts) ∙ front_again steps k in
     let same : drawn.1.there ≡ d = runs_once c (take k steps) drawn.1.there d (rw front at drawn.1.runs) runs in
-    rw same at (contains_at (stored_lines drawn.1.there.common.trace) _ e.line drawn.1.line)
+    rw same at (contains_at (stored_lines (trace_in drawn.1.there.common)) _ e.line drawn.1.line)
 
 -- what is made of a machine at its start
 pub all_made : (machine : MachineView) (old new : MakingView) (start state limit : ℕ) (items : List Item) (made : ℕ) (stores : List FirstStore)
@@ -223,12 +224,12 @@ is_drawn c seed limit count state last made items woven stores evictions has non
 }
 
 -- it is that of a whole run
-first_later : (c : Config) (steps : List Step) (first : ℕ) → c.common.trace ≡ [] → StoresFirstAt c steps first → 0 < first
+first_later : (c : Config) (steps : List Step) (first : ℕ) → trace_in c.common ≡ [] → StoresFirstAt c steps first → 0 < first
 first_later c steps first begins at = elim (cases_lt 0 first) [
   | inl later ↦ later
   | inr low ↦
       let some = (at.1 0 c (omega arith) refl).0 (omega arith) in
-      let none : length (stored_lines c.common.trace) ≡ 0 = rw begins refl in
+      let none : length (stored_lines (trace_in c.common)) ≡ 0 = rw begins refl in
       absurd (omega arith)
 ]
 
@@ -240,26 +241,26 @@ record Comes (c : Config) (steps : List Step) (end : Config) (count : ℕ) (evic
   pub stored : AreStored c 0 steps evictions
   pub after : All (λ (e : Eviction). 0 < e.step) evictions
   pub within : All (λ (e : Eviction). e.step ≤ length steps) evictions
-  pub some : length evictions ≡ (if length (stored_lines end.common.trace) == 0 then 0 else count)
+  pub some : length evictions ≡ (if length (stored_lines (trace_in end.common)) == 0 then 0 else count)
 
-comes_none : (c end : Config) (steps : List Step) (count : ℕ) (evictions : List Eviction) → stored_lines end.common.trace ≡ [] → evictions ≡ []
+comes_none : (c end : Config) (steps : List Step) (count : ℕ) (evictions : List Eviction) → stored_lines (trace_in end.common) ≡ [] → evictions ≡ []
     → Comes c steps end count evictions
 comes_none c end steps count evictions none e = rw e (record {
-  stored = λ k d runs. All-nil (λ (e : Eviction). Contains (stored_lines d.common.trace) e.line);
+  stored = λ k d runs. All-nil (λ (e : Eviction). Contains (stored_lines (trace_in d.common)) e.line);
   after = All-nil (λ (e : Eviction). 0 < e.step);
   within = All-nil (λ (e : Eviction). e.step ≤ length steps);
   some = rw none refl;
 })
 
 comes_some : (c end : Config) (steps : List Step) (state last first count : ℕ) (evictions : List Eviction) → counted 0 steps ≡ length steps
-    → c.common.trace ≡ [] → RunsTo c steps end → StoresFirstAt c steps first → InTurn (DrawsEviction c steps first) state evictions last
+    → trace_in c.common ≡ [] → RunsTo c steps end → StoresFirstAt c steps first → InTurn (DrawsEviction c steps first) state evictions last
     → length evictions ≡ count → Comes c steps end count evictions
 comes_some c end steps state last first count evictions harts begins runs at turns number =
     let P : Eviction → Type 0 = λ e. (s : ℕ) × DrawsEviction c steps first s e in
     let all : All P evictions = in_turn_all (DrawsEviction c steps first) state last evictions turns in
     let one = first_later c steps first begins at in
     let there = (at.1 (length steps) end (omega arith) (rw (take-length steps) runs)).0 at.0 in
-    let not_none : (length (stored_lines end.common.trace) == 0) ≡ false = not_zero (length (stored_lines end.common.trace)) there in
+    let not_none : (length (stored_lines (trace_in end.common)) == 0) ≡ false = not_zero (length (stored_lines (trace_in end.common))) there in
     record {
       stored = are_stored c steps first evictions harts all;
       after = All-weaker P (λ (e : Eviction). 0 < e.step) (λ e drawn. let is = drawn.1.step in omega arith) evictions all;
@@ -268,7 +269,7 @@ comes_some c end steps state last first count evictions harts begins runs at tur
     }
 
 comes : (c : Config) (steps : List Step) (end : Stand) (count : ℕ) (evictions : List Eviction) → counted 0 steps ≡ length steps
-    → c.common.trace ≡ [] → RunsTo c steps end.config → DrawsEvictions c steps end count evictions → Comes c steps end.config count evictions
+    → trace_in c.common ≡ [] → RunsTo c steps end.config → DrawsEvictions c steps end count evictions → Comes c steps end.config count evictions
 comes c steps end count evictions harts begins runs draws = elim draws [
   | inl none ↦ comes_none c end.config steps count evictions none.0 none.1
   | inr some ↦ comes_some c end.config steps end.state some.1 some.0 count evictions harts begins runs some.2 some.3 some.4
@@ -300,11 +301,11 @@ is_whole c seed limit count state last made items woven stores evictions has non
     sym (counted_all 0 woven ∙ zero-add (hart_steps woven)) ∙ ap (λ (s : List Step). counted 0 s) is ∙ counted_woven 0 steps evictions in
     let long : length (all_steps woven) ≡ length steps + length evictions =
     ap (λ (s : List Step). length s) is ∙ woven_length 0 evictions steps come.after (rw harts come.within) in
-    let some : length evictions ≡ (if length (stored_lines run.last.common.trace) == 0 then 0 else count) = rw run.alike.trace at come.some in
+    let some : length evictions ≡ (if length (stored_lines (trace_in run.last.common)) == 0 then 0 else count) = rw (trace_alike has.end.config run.last run.alike) at come.some in
     record {
       end = run.last;
       runs = rw is run.runs;
       within = omega arith;
       whole = whole_by has.end.config.harts run.last.harts has.end.left made (hart_steps woven) limit run.alike.harts has.left (omega arith) has.drawn.over;
-      evictions = long ∙ ap (λ (n : ℕ). length steps + n) some ∙ ap (λ (n : ℕ). n + (if length (stored_lines run.last.common.trace) == 0 then 0 else count)) (sym (woven_number ∙ harts));
+      evictions = long ∙ ap (λ (n : ℕ). length steps + n) some ∙ ap (λ (n : ℕ). n + (if length (stored_lines (trace_in run.last.common)) == 0 then 0 else count)) (sym (woven_number ∙ harts));
     }

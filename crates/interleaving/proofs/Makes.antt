@@ -4,6 +4,7 @@ use Rattle.std.proofs.lemmas.Bool.{cases_lt}
 use Rattle.std.proofs.lemmas.List.{length-append, replicate_more, take-append-le}
 use Rattle.std.proofs.Math.Seq.{take-length}
 use Rattle.interleaving.specs.declared.fault.InterleaveFault.{InterleaveFault}
+use Rattle.shared_memory.specs.Replies.{trace_in}
 use Rattle.machine.specs.Stops.{is_stopped}
 use Rattle.machine.specs.Run.{Config, RunsTo, StepsTo}
 use Rattle.machine.specs.Represents.{IsRunning, MachineView, Runs}
@@ -53,9 +54,9 @@ one_step c d step run = rw run.2 run.1
 
 stores_past : (c end d : Config) (past : List Step) (h made : ℕ) (old new : List FirstStore) (more : List Event)
     → Interleaves c past end → Interleaves c (past ++ Hart h ∷ []) d → made ≡ length past
-    → d.common.trace ≡ end.common.trace ++ more → length more ≤ 1
+    → trace_in d.common ≡ trace_in end.common ++ more → length more ≤ 1
     → AreFirstStores c past old → All (λ (s : FirstStore). s.step ≤ made) old
-    → new ≡ with_store (made + 1) old (line_at (slice_get d.common.trace (length end.common.trace)))
+    → new ≡ with_store (made + 1) old (line_at (slice_get (trace_in d.common) (length (trace_in end.common))))
     → AreFirstStores c (past ++ Hart h ∷ []) new
 stores_past c end d past h made old new more run all count trace few first within e k at inside runs =
     let longer = length-append past (Hart h ∷ []) in
@@ -65,16 +66,16 @@ stores_past c end d past h made old new more run all count trace few first withi
           let before : RunsTo c (take k past) at = rw (take-append-le k past (Hart h ∷ []) fits) at runs in
           let same : stored_by k new ≡ stored_by k old =
           ap (λ (stores : List FirstStore). stored_by k stores) e
-          ∙ lines_before k made old (line_at (slice_get d.common.trace (length end.common.trace))) (omega arith) in
+          ∙ lines_before k made old (line_at (slice_get (trace_in d.common) (length (trace_in end.common)))) (omega arith) in
           first k at fits before ∙ sym same
       | inr past_it ↦
           let last : k ≡ made + 1 = omega arith in
           let whole : k ≡ length (past ++ Hart h ∷ []) = omega arith in
           let there : RunsTo c (past ++ Hart h ∷ []) at = rw (whole, take-length (past ++ Hart h ∷ [])) at runs in
           let same : at ≡ d = runs_once c (past ++ Hart h ∷ []) at d there (runs_of c d (past ++ Hart h ∷ []) all) in
-          let before : stored_lines end.common.trace ≡ stored_by made old =
+          let before : stored_lines (trace_in end.common) ≡ stored_by made old =
           rw (← count) at (first (length past) end (omega arith) (rw (take-length past) (runs_of c end past run))) in
-          let after = lines_after end.common.trace d.common.trace more made old trace few before within in
+          let after = lines_after (trace_in end.common) (trace_in d.common) more made old trace few before within in
           rw (same, last, e) after
     ]
 
@@ -109,7 +110,7 @@ continues_step old new h runs running items made stores = record {
       let runs_there : IsRunning (slice_get end.harts h) = rw has.represents.harts at running in
       let one : Interleaves end (Hart h ∷ []) d = (d, runs_there, moves, refl) in
       let all : Interleaves c (past ++ Hart h ∷ []) d = run_more c end d past (Hart h ∷ []) has.runs one in
-      let noted : new.stores ≡ with_store (old.made + 1) old.stores (line_at (slice_get d.common.trace (length end.common.trace))) =
+      let noted : new.stores ≡ with_store (old.made + 1) old.stores (line_at (slice_get (trace_in d.common) (length (trace_in end.common)))) =
       rw (made, after.2.shared.trace, has.represents.shared.trace) at stores in (
         d,
         one,
@@ -158,6 +159,6 @@ room_left machine h running harts event few = record {
   running = running;
   goes = λ c stands.
       let longer = event_is_longer machine (Hart h) c harts stands event in
-      let less : length c.common.trace < 65536 = rw stands.shared.trace at few in
+      let less : length (trace_in c.common) < 65536 = rw stands.shared.trace at few in
       (longer.0, longer.1, let more = longer.2 in omega arith);
 }

@@ -7,6 +7,7 @@ use Rattle.std.specs.Prelude.{◌⊎◌}
 use Rattle.hart.specs.declared.state.HartState.{HartState}
 use Rattle.hart.specs.declared.state.Status.{Status}
 use Rattle.hart.specs.declared.state.Status.TheVariants.{Running}
+use Rattle.shared_memory.specs.Replies.{trace_in}
 use Rattle.machine.specs.Run.{Config, RunsTo}
 use Rattle.machine.specs.Represents.{IsRunning}
 use Rattle.machine.specs.Stops.{has_stopped, is_stopped}
@@ -131,7 +132,7 @@ eviction_once c steps first state e f a b =
     let step : e.step ≡ f.step = a.step ∙ sym b.step in
     let runs : RunsTo c (take f.step steps) a.there = rw step at a.runs in
     let there : a.there ≡ b.there = runs_once c (take f.step steps) a.there b.there runs b.runs in
-    let lines : List ℕ = stored_lines b.there.common.trace in
+    let lines : List ℕ = stored_lines (trace_in b.there.common) in
     let line : e.line ≡ f.line = some_once (slice_get lines (below (length lines) (next_state state))) e.line f.line (rw there at a.line) b.line in
     ap (λ (n : ℕ). let x : Eviction = record { step = n; line = e.line } in x) step ∙ ap (λ (n : ℕ). let x : Eviction = record { step = f.step; line = n } in x) line
 
@@ -152,7 +153,7 @@ first_by c end steps n m runs a b =
     let stored = (a.1 n there.0 a.0 there.1).0 (omega arith) in
     (b.1 n there.0 a.0 there.1).1 stored
 
-stored_at_end : (c end : Config) (steps : List Step) (n : ℕ) → RunsTo c steps end → StoresFirstAt c steps n → stored_lines end.common.trace ≡ [] → ⊥
+stored_at_end : (c end : Config) (steps : List Step) (n : ℕ) → RunsTo c steps end → StoresFirstAt c steps n → stored_lines (trace_in end.common) ≡ [] → ⊥
 stored_at_end c end steps n runs a none =
     let some = (a.1 (length steps) end (omega arith) (rw (take-length steps) runs)).0 a.0 in
     let zero_lines = ap (λ (l : List ℕ). length l) none in

@@ -3,6 +3,7 @@ use Rattle.std.proofs.Common.{◌≡◌, ℕ, ◌+◌, ◌-◌, ◌<◌, ◌≤�
 use Rattle.std.proofs.lemmas.List.{length-replicate}
 use Rattle.std.proofs.lemmas.Grind.{flat_map-append}
 use Rattle.hart.specs.declared.state.HartState.{HartState}
+use Rattle.shared_memory.specs.Replies.{trace_in}
 use Rattle.machine.specs.Run.{Config, StepsTo}
 use Rattle.machine.specs.Represents.{IsRunning, MachineView, Represents}
 use Rattle.machine.proofs.Refusing.{event_is_longer}
@@ -80,7 +81,7 @@ held_there : (fault : InterleaveFault) (m : MachineView) (h : ℕ) (c d : Config
     → ((after : Config) → IsRunning (slice_get d.harts h) → StepsTo d (Hart h) after → ComesTo c seed limit after) → StopsDrawing c seed limit fault
 held_there TraceFull m h c d seed limit stands held comes =
     let next = event_is_longer m (Hart h) d held.harts stands held.event in
-    let events : length d.common.trace ≡ 65536 = rw stands.shared.trace at held.full in
+    let events : length (trace_in d.common) ≡ 65536 = rw stands.shared.trace at held.full in
     (next.0, comes next.0 (rw stands.harts at held.running) next.1, next.2 ∙ ap (λ (n : ℕ). n + 1) events)
 held_there Memory m h c d seed limit stands held comes =
     let next = held.goes d stands in

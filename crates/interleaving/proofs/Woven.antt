@@ -4,10 +4,11 @@ use Rattle.std.proofs.lemmas.List.{length-append, take-append-drop}
 use Rattle.std.proofs.lemmas.List.Elements.{All-head, All-tail}
 use Rattle.std.proofs.Math.Seq.{take-append_seam}
 use Rattle.std.specs.Prelude.{All, Contains}
+use Rattle.shared_memory.specs.Replies.{trace_in}
 use Rattle.machine.specs.Evicting.{AreAlike}
 use Rattle.machine.specs.Run.{Config, RunsTo, StepsTo}
 use Rattle.machine.specs.Represents.{IsRunning}
-use Rattle.machine.proofs.Evicting.{runs_alike}
+use Rattle.machine.proofs.Evicting.{runs_alike, trace_alike}
 use Rattle.schedule.specs.Grammar.{hart_steps}
 use Rattle.schedule.specs.Steps.{all_steps}
 use Rattle.schedule.specs.declared.items.Item.{Item}
@@ -28,14 +29,14 @@ pub record AreEvicted (c d : Config) (evictions : List Eviction) : Type 0 where
   pub runs : Interleaves d (eviction_steps evictions) end
   pub alike : AreAlike c end
 
-evicted : (c d : Config) (evictions : List Eviction) → AreAlike c d → All (λ (e : Eviction). Contains (stored_lines c.common.trace) e.line) evictions
+evicted : (c d : Config) (evictions : List Eviction) → AreAlike c d → All (λ (e : Eviction). Contains (stored_lines (trace_in c.common)) e.line) evictions
     → AreEvicted c d evictions
 evicted c d [] alike stored = record { end = d; runs = refl; alike = alike }
 evicted c d (e ∷ evictions) alike stored =
-    let P : Eviction → Type 0 = λ e. Contains (stored_lines c.common.trace) e.line in
+    let P : Eviction → Type 0 = λ e. Contains (stored_lines (trace_in c.common)) e.line in
     let first = runs_alike c d c [] (Evict e.line ∷ []) alike refl refl in
     let rest = evicted c first.0 evictions first.2 (All-tail P e evictions stored) in
-    let there : Contains (stored_lines d.common.trace) e.line = rw alike.trace at (All-head P e evictions stored) in
+    let there : Contains (stored_lines (trace_in d.common)) e.line = rw (trace_alike c d alike) at (All-head P e evictions stored) in
     record {
       end = rest.end;
       runs = (first.0, there, one_step d first.0 (Evict e.line) first.1, rest.runs);
@@ -45,7 +46,7 @@ evicted c d (e ∷ evictions) alike stored =
 -- the evictions after each step are of lines that were stored by it
 abbrev pub AreStored : Config → ℕ → List Step → List Eviction → Type 0
 AreStored c made steps evictions = (k : ℕ) (d : Config) → RunsTo c (take k steps) d →
-    All (λ (e : Eviction). Contains (stored_lines d.common.trace) e.line) (those_after (counted made (take k steps)) evictions)
+    All (λ (e : Eviction). Contains (stored_lines (trace_in d.common)) e.line) (those_after (counted made (take k steps)) evictions)
 
 pub record WovenRun (d : Config) (made : ℕ) (steps : List Step) (evictions : List Eviction) (end : Config) : Type 0 where
   pub last : Config
@@ -69,7 +70,7 @@ woven_runs c d end made (Hart h ∷ steps) evictions alike run stored =
 woven_runs c d end made (Evict line ∷ steps) evictions alike run stored =
     let step = runs_alike c d run.0 (Evict line ∷ []) (Evict line ∷ []) alike refl (run.0, run.2, refl) in
     let rest = woven_runs run.0 step.0 end made steps evictions step.2 run.3 (λ k e runs. stored (suc k) e (run.0, run.2, runs)) in
-    let there : Contains (stored_lines d.common.trace) line = rw alike.trace at run.1 in
+    let there : Contains (stored_lines (trace_in d.common)) line = rw (trace_alike c d alike) at run.1 in
     record {
       last = rest.last;
       runs = (step.0, there, one_step d step.0 (Evict line) step.1, rest.runs);

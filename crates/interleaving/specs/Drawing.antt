@@ -8,6 +8,7 @@ use Rattle.interleaving.specs.Weaving.{with_evictions}
 use Rattle.interleaving.specs.declared.evictions.Eviction.{Eviction}
 use Rattle.interleaving.specs.declared.fault.InterleaveFault.{InterleaveFault}
 use Rattle.interleaving.specs.declared.fault.InterleaveFault.TheVariants.{TraceFull, Memory}
+use Rattle.shared_memory.specs.Replies.{trace_in}
 use Rattle.machine.specs.Run.{Config, RunsTo, StepsTo}
 use Rattle.machine.specs.Represents.{IsRunning}
 use Rattle.machine.specs.Stops.{is_stopped}
@@ -58,7 +59,7 @@ pub record DrawsSteps (c : Config) (seed limit : ℕ) (steps : List Step) (end :
 -- by step n of the run from c, and no earlier one, a line is stored
 abbrev pub StoresFirstAt : Config → List Step → ℕ → Type 0
 StoresFirstAt c steps n = (n ≤ length steps) × ((k : ℕ) (d : Config) → k ≤ length steps → RunsTo c (take k steps) d →
-    (n ≤ k) ↔ (0 < length (stored_lines d.common.trace)))
+    (n ≤ k) ↔ (0 < length (stored_lines (trace_in d.common))))
 
 -- an eviction that is drawn from this state of the generator: first its step, from the first store's on, and then its line,
 -- by its number among those stored by then
@@ -67,11 +68,11 @@ pub record DrawsEviction (c : Config) (steps : List Step) (first state : ℕ) (e
   pub within : eviction.step ≤ length steps
   pub there : Config
   pub runs : RunsTo c (take eviction.step steps) there
-  pub line : slice_get (stored_lines there.common.trace) (below (length (stored_lines there.common.trace)) (next_state state)) ≡ Some eviction.line
+  pub line : slice_get (stored_lines (trace_in there.common)) (below (length (stored_lines (trace_in there.common))) (next_state state)) ≡ Some eviction.line
 
 -- evictions that are drawn for the run from c by these steps, by numbers from this state on: none where no line is stored
 abbrev pub DrawsEvictions : Config → List Step → Stand → ℕ → List Eviction → Type 0
-DrawsEvictions c steps end count evictions = ((stored_lines end.config.common.trace ≡ []) × (evictions ≡ []))
+DrawsEvictions c steps end count evictions = ((stored_lines (trace_in end.config.common) ≡ []) × (evictions ≡ []))
     ⊎ ((first : ℕ) × (last : ℕ) × StoresFirstAt c steps first × InTurn (DrawsEviction c steps first) end.state evictions last × (length evictions ≡ count))
 
 -- the schedule that a seed draws for the run from c
@@ -100,6 +101,6 @@ pub record ComesTo (c : Config) (seed limit : ℕ) (after : Config) : Type 0 whe
 -- why no schedule is drawn: a step that the draw comes to makes event 65,537, or memory was refused, at a step that doesn't or
 -- when all steps were drawn
 abbrev pub StopsDrawing : Config → ℕ → ℕ → InterleaveFault → Type 0
-StopsDrawing c seed limit TraceFull = (after : Config) × ComesTo c seed limit after × (length after.common.trace ≡ 65537)
-StopsDrawing c seed limit Memory = ((after : Config) × ComesTo c seed limit after × (length after.common.trace ≤ 65536))
+StopsDrawing c seed limit TraceFull = (after : Config) × ComesTo c seed limit after × (length (trace_in after.common) ≡ 65537)
+StopsDrawing c seed limit Memory = ((after : Config) × ComesTo c seed limit after × (length (trace_in after.common) ≤ 65536))
     ⊎ ((steps : List Step) × (end : Stand) × DrawsSteps c seed limit steps end)

@@ -2,6 +2,7 @@
 use Rattle.std.specs.Prelude.{◌≡◌, ◌⊎◌, ◌==◌, ℕ, ◌+◌, ◌≤◌, List, [], ◌∷◌, ◌++◌, Contains, Option, Some, None, filter, if◌then◌else◌, length, not, slice_get}
 use Rattle.std.specs.List.{filter_map, fold, list_any, range_with_len}
 use Rattle.hart.specs.declared.state.HartState.{HartState}
+use Rattle.shared_memory.specs.Replies.{trace_in}
 use Rattle.machine.specs.Run.{Config, StepsTo}
 use Rattle.machine.specs.Represents.{IsRunning}
 use Rattle.machine.specs.Stops.{is_stopped}
@@ -33,7 +34,7 @@ running harts = filter (λ h. not (is_stopped (slice_get harts h))) (range_with_
 -- the step may be made: its hart runs, or its line was stored before
 abbrev pub MayStep : Config → Step → Type 0
 MayStep c (Hart h) = IsRunning (slice_get c.harts h)
-MayStep c (Evict line) = Contains (stored_lines c.common.trace) line
+MayStep c (Evict line) = Contains (stored_lines (trace_in c.common)) line
 
 -- the run from c by these steps to the end, each of which may be made where it is made
 abbrev pub Interleaves : Config → List Step → Config → Type 0
@@ -47,4 +48,4 @@ pub record IsWhole (c : Config) (limit count : ℕ) (items : List Item) : Type 0
   pub within : hart_steps items ≤ limit
   pub whole : (running end.harts ≡ []) ⊎ (hart_steps items ≡ limit)
   pub evictions : length (all_steps items)
-      ≡ hart_steps items + (if length (stored_lines end.common.trace) == 0 then 0 else count)
+      ≡ hart_steps items + (if length (stored_lines (trace_in end.common)) == 0 then 0 else count)

@@ -8,6 +8,7 @@ use Rattle.interleaving.specs.Interleaves.{Interleaves, line_stored, stored_line
 use Rattle.interleaving.specs.declared.evictions.FirstStore.{FirstStore}
 use Rattle.interleaving.specs.declared.fault.InterleaveFault.{InterleaveFault}
 use Rattle.interleaving.specs.declared.fault.InterleaveFault.TheVariants.{TraceFull, Memory}
+use Rattle.shared_memory.specs.Replies.{trace_in}
 use Rattle.machine.specs.Outcomes.{HartMakesEvent}
 use Rattle.machine.specs.Run.{Config, RunsTo, StepsTo}
 use Rattle.machine.specs.Represents.{IsRunning, MachineView, Represents}
@@ -40,7 +41,7 @@ with_store step stores (Some line) =
 -- the first stores of the run from c by these steps
 abbrev pub AreFirstStores : Config → List Step → List FirstStore → Type 0
 AreFirstStores c steps stores = (k : ℕ) (d : Config) → k ≤ length steps → RunsTo c (take k steps) d →
-    stored_lines d.common.trace ≡ stored_by k stores
+    stored_lines (trace_in d.common) ≡ stored_by k stores
 
 -- its parts agree: as many steps are in the schedule as were made, and the first stores are among them, in order
 pub record Agrees (making : MakingView) : Type 0 where
@@ -82,7 +83,7 @@ pub record IsFull (machine : MachineView) (h : ℕ) : Type 0 where
 -- the next step of hart h, which runs, leaves 65,536 events at most
 pub record HasRoom (machine : MachineView) (h : ℕ) : Type 0 where
   pub running : IsRunning (slice_get machine.harts h)
-  pub goes : (c : Config) → Represents machine c → (after : Config) × StepsTo c (Hart h) after × (length after.common.trace ≤ 65536)
+  pub goes : (c : Config) → Represents machine c → (after : Config) × StepsTo c (Hart h) after × (length (trace_in after.common) ≤ 65536)
 
 -- why a machine doesn't make the next step of hart h, or it isn't kept: the trace is full, or memory was refused where it isn't
 abbrev pub IsHeld : MachineView → ℕ → InterleaveFault → Type 0
@@ -111,7 +112,7 @@ pub record HasTaken (c : Config) (seed limit : ℕ) (making : MakingView) (state
 pub record HasDrawn (c : Config) (seed limit : ℕ) (items : List Item) (made : ℕ) (stores : List FirstStore) (state : ℕ) : Type 0 where
   pub steps : List Step
   pub end : Stand
-  pub begins : c.common.trace ≡ []
+  pub begins : trace_in c.common ≡ []
   pub drawn : DrawsSteps c seed limit steps end
   pub state_is : end.state ≡ state
   pub runs : Interleaves c steps end.config

@@ -1,20 +1,29 @@
 //! Numbers in bytes, the least significant byte first.
 
-ghost use Rattle.std.specs.Prelude.{◌≡◌, ◌+◌, ◌≤◌, length};
+ghost use Rattle.std.specs.Prelude.{◌≡◌, ◌≢◌, ◌+◌, ◌%◌, ◌≤◌, MatchBool, length};
+ghost use Rattle.line_memory.specs.Memory.{IsWidth};
 ghost use Rattle.word_bits.specs.Bytes.{loaded, stored};
 
 use byteorder::{ByteOrder, LittleEndian};
 use word_bits::replace_bytes;
 
-/// The number of the `width` bytes from place `at` on.
+/// The number of the `width` bytes from place `at` on. A load of whole width copies no bytes first.
 #[tactic(auto, using(crate::proofs::Numbers::loaded_is))]
+#[inline(always)]
 pub fn load_bytes(bytes: &[u8], at: usize, width: usize) -> u64
     requires fits { at + width ≤ length bytes.now }
     requires some { 1 ≤ width }
     requires few { width ≤ 8 }
     ensures { result ≡ loaded bytes.now at width }
 {
-    LittleEndian::read_uint(&bytes[at..], width)
+    let from = &bytes[at..];
+    match width {
+        8 => LittleEndian::read_u64(from),
+        4 => u64::from(LittleEndian::read_u32(from)),
+        2 => u64::from(LittleEndian::read_u16(from)),
+        1 => u64::from(from[0]),
+        _ => LittleEndian::read_uint(from, width),
+    }
 }
 
 /// Writes the low `width` bytes of `value` from place `at` on.
@@ -26,4 +35,18 @@ pub fn store_bytes(bytes: &mut [u8], at: usize, width: usize, value: u64)
 {
     let all = value.to_le_bytes();
     replace_bytes(bytes, at, &all[..width]);
+}
+
+/// Whether an access of this width may begin at a place. No division: it stands on the way of every load and store.
+#[inline(always)]
+pub fn is_aligned(at: u64, width: u32) -> bool
+    requires { IsWidth width }
+    ensures { MatchBool result (at % width ≡ 0) (at % width ≢ 0) }
+{
+    match width {
+        1 => true,
+        2 => at % 2 == 0,
+        4 => at % 4 == 0,
+        _ => at % 8 == 0,
+    }
 }

@@ -5,7 +5,7 @@ ghost use Rattle.line_memory.specs.Memory.{IsWidth, loaded_from, stored_to, faul
 ghost use Rattle.line_memory.specs.Regions.{RamView, IsRam, padded, ram_bytes};
 ghost use Rattle.line_memory.specs.Places.{IsPlace, IsRefused, IsWithin, address_of};
 
-use crate::bytes::{load_bytes, store_bytes};
+use crate::bytes::{is_aligned, load_bytes, store_bytes};
 use crate::{DATA_BASE, DATA_SIZE, MediumFault, MemFault, TEXT_BASE, TEXT_SIZE};
 use std::alloc::Global;
 use std::marker::Model;
@@ -55,6 +55,7 @@ impl Ram {
     /// Where an access of `width` bytes at an address begins. Misaligned comes before Outside. A region's size is a multiple
     /// of each width, so the end of an aligned access need not be looked at.
     #[tactic(auto, using(crate::proofs::Accesses::ram_refused, crate::proofs::Accesses::ram_unfaulted))]
+    #[inline(always)]
     pub fn place(&self, addr: u64, width: u32) -> Result<RamPlace, MemFault>
         requires { IsWidth width }
         ensures ok { IfOk result (λ found. IsPlace addr width found) }
@@ -63,7 +64,7 @@ impl Ram {
     {
         let text_end = TEXT_BASE + self.text.len() as u64;
         let data_end = DATA_BASE + self.bytes.len() as u64;
-        if addr % u64::from(width) != 0 {
+        if !is_aligned(addr, width) {
             Err(MemFault::Misaligned)
         } else if (TEXT_BASE..text_end).contains(&addr) {
             Ok(RamPlace::Text((addr - TEXT_BASE) as usize))
@@ -75,6 +76,7 @@ impl Ram {
     }
 
     /// The number of the `width` bytes from a place on.
+    #[inline(always)]
     pub fn load_at(&self, place: RamPlace, width: u32) -> u64
         requires width { IsWidth width }
         requires within { IsWithin width place }

@@ -67,6 +67,7 @@ impl Cache {
     }
 
     /// The number of the `width` bytes at an address. Its line is resident afterwards, the most recently used of its set.
+    #[inline(always)]
     pub fn load(&mut self, medium: &mut Medium, at: u32, width: u32) -> u64
         requires over { IsOver self.old medium.old }
         requires width { IsWidth width }
@@ -188,6 +189,7 @@ impl Cache {
     }
 
     /// Whether a line has a copy here.
+    #[inline(always)]
     pub fn is_resident(&self, line: u32) -> bool
         requires { line < self.now.orders.lines }
         ensures value { result ≡ is_resident self.now line }
@@ -251,6 +253,7 @@ impl Cache {
     }
 
     /// Makes a line resident, and the most recently used of its set.
+    #[inline(always)]
     fn bring_in(&mut self, medium: &mut Medium, line: u32)
         requires over { IsOver self.old medium.old }
         requires there { line < length medium.old }
@@ -302,6 +305,7 @@ impl Cache {
     }
 
     /// Makes a line resident, where there is room, and the most recently used of its set.
+    #[inline(always)]
     fn take_in(&mut self, medium: &Medium, line: u32)
         requires over { IsOver self.old medium.now }
         requires there { line < length medium.now }
@@ -320,6 +324,7 @@ impl Cache {
     }
 
     /// The bytes of a line, as loads show them.
+    #[inline(always)]
     fn shown_line<'a>(&'a self, medium: &'a Medium, line: u32) -> &'a [u8; LINE_SIZE]
         requires over { IsOver self.now medium.now }
         requires there { line < length medium.now }
@@ -334,6 +339,7 @@ impl Cache {
     }
 
     /// Makes a resident line the most recently used of its set.
+    #[inline(always)]
     fn note_use(&mut self, line: u32)
         requires { is_resident self.old line ≡ true }
         ensures changed { (bytes : List ℕ) → slice_index_or self.old.copies line None ≡ Some bytes →

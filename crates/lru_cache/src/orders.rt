@@ -83,6 +83,7 @@ impl Orders {
     }
 
     /// Makes the line the most recently used of its set.
+    #[inline(always)]
     pub fn note_use(&mut self, line: u32)
         requires { line < self.old.lines }
         ensures changed { self.new ≡ order_after_use line self.old }

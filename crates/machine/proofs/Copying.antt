@@ -11,7 +11,7 @@ use Rattle.line_memory.specs.declared.TheConstants.{DATA_BASE, PERSISTENT_BASE, 
 use Rattle.line_memory.proofs.Accesses.{region_loaded}
 use Rattle.shared_memory.specs.declared.history.Entry.{Entry}
 use Rattle.shared_memory.specs.declared.history.Entry.TheVariants.{Asked}
-use Rattle.shared_memory.specs.Histories.{copied, is_renewing, replayed, text_of}
+use Rattle.shared_memory.specs.Histories.{fetched_text, is_renewing, replayed, text_of}
 use Rattle.machine.specs.Run.{fetched}
 use Rattle.machine.specs.Represents.{copies_after, text_bytes}
 
@@ -44,8 +44,8 @@ no_word_above text pc high =
 -- the copies after a request of hart h, where the text of a FENCE.I is that of the memory right after it
 pub copied_more : (copies : List (List ℕ)) (text : List ℕ) (initial : Memory) (history : List Entry) (h k : ℕ) (request : Request) (reply : Reply)
     → h < length copies → text_bytes text ≡ text_of (replayed initial (Asked h request reply ∷ history))
-    → text_bytes (slice_index_or copies k []) ≡ copied initial k history
-    → text_bytes (slice_index_or (copies_after copies h request text) k []) ≡ copied initial k (Asked h request reply ∷ history)
+    → text_bytes (slice_index_or copies k []) ≡ fetched_text initial k history
+    → text_bytes (slice_index_or (copies_after copies h request text) k []) ≡ fetched_text initial k (Asked h request reply ∷ history)
 copied_more copies text initial history h k request reply there now was = elim (cases_Bool (is_renewing request)) [
   | inr other ↦ rw other was
   | inl renews ↦ elim (cases_eq h k) [
@@ -58,5 +58,5 @@ copied_more copies text initial history h k request reply there now was = elim (
 
 -- the copies at the start of a run
 pub copies_at_start : (text : List ℕ) (initial : Memory) (harts h : ℕ) → h < harts → text_bytes text ≡ text_of initial
-    → text_bytes (slice_index_or (replicate harts text) h []) ≡ copied initial h []
+    → text_bytes (slice_index_or (replicate harts text) h []) ≡ fetched_text initial h []
 copies_at_start text initial harts h few same = rw (get_or-replicate harts h text [] few) same

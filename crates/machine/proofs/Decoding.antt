@@ -89,7 +89,8 @@ same_line text before line decoded e each =
 
 -- the instruction at a place of a text
 pub decoded_at : (bytes : List ℕ) (decoded : List (Result Instr Trap)) (pc place : ℕ) (instr : Result Instr Trap) → length bytes ≡ TEXT_SIZE
-    → AreDecoded bytes decoded → pc ≡ TEXT_BASE + 4 * place → 4 * place < TEXT_SIZE → instr ≡ slice_index_or decoded place instr
+    → AreDecoded bytes decoded → pc ≡ TEXT_BASE + 4 * place → place < length decoded → instr ≡ slice_index_or decoded place instr
     → IsInstruction (fetched (text_bytes bytes) pc) instr
 decoded_at bytes decoded pc place instr whole is at fits found =
-    rw (word_fetched bytes pc (4 * place) whole at (omega arith), found) (is.each place instr (omega (arith, is.whole)))
+    let within : 4 * place + 4 ≤ TEXT_SIZE = omega (arith, is.whole, is.within) in
+    rw (word_fetched bytes pc (4 * place) whole at within, found) (is.each place instr fits)

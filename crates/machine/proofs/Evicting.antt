@@ -17,9 +17,9 @@ use Rattle.store_trace.specs.declared.event.Event.{Event}
 use Rattle.shared_memory.specs.declared.history.Entry.{Entry}
 use Rattle.shared_memory.specs.declared.history.Entry.TheVariants.{Asked, Evicted}
 use Rattle.machine.specs.Evicting.{AreAlike, hart_steps, requests}
-use Rattle.shared_memory.specs.Histories.{calls_of, copied, has_reserved, is_renewal, memory_after, replayed, text_of}
+use Rattle.shared_memory.specs.Histories.{calls_of, fetched_text, has_reserved, is_renewal, memory_after, replayed, text_of}
 use Rattle.machine.specs.Run.{Config, HartSteps, HartStepsIfThere, Meets, RunsTo, StepsTo, after_request, fetched, fetched_by, with_hart}
-use Rattle.shared_memory.specs.Replies.{events_of, replied, reply_after}
+use Rattle.shared_memory.specs.Replies.{events_of, memory_in, replied, reply_after, trace_in, trace_of}
 
 -- what is read off a history is read off its requests
 calls_kept : (history : List Entry) → flat_map calls_of history ≡ flat_map calls_of (requests history)
@@ -32,25 +32,43 @@ replay_kept memory [] = refl
 replay_kept memory (Asked h request reply ∷ before) = ap (λ (m : Memory). memory_after m request reply) (replay_kept memory before)
 replay_kept memory (Evicted line ∷ before) = replay_kept memory before
 
+trace_kept : (history : List Entry) → trace_of history ≡ trace_of (requests history)
+trace_kept [] = refl
+trace_kept (Asked h request reply ∷ before) = ap (λ (t : List Event). t ++ events_of h request reply) (trace_kept before)
+trace_kept (Evicted line ∷ before) = trace_kept before
+
 chosen : (renews : Bool) (now other older oldest : Memory) → now ≡ other → older ≡ oldest
     → (if renews then now else older) ≡ (if renews then other else oldest)
 chosen true now other older oldest a b = a
 chosen false now other older oldest a b = b
 
-copy_kept : (memory : Memory) (h : ℕ) (history : List Entry) → copied memory h history ≡ copied memory h (requests history)
+copy_kept : (memory : Memory) (h : ℕ) (history : List Entry) → fetched_text memory h history ≡ fetched_text memory h (requests history)
 copy_kept memory h [] = refl
 copy_kept memory h (Asked hart request reply ∷ before) =
     chosen (is_renewal h (Asked hart request reply)) _ _ _ _
     (ap (λ (m : Memory). text_of m) (replay_kept memory (Asked hart request reply ∷ before))) (copy_kept memory h before)
 copy_kept memory h (Evicted line ∷ before) = copy_kept memory h before
 
--- so configurations that are alike fetch alike and are replied to alike
+-- so configurations that are alike have one memory and one trace, fetch alike and are replied to alike
+memory_alike : (c d : Config) → AreAlike c d → memory_in c.common ≡ memory_in d.common
+memory_alike c d alike =
+    replay_kept c.common.initial c.common.history
+    ∙ ap (λ (history : List Entry). replayed c.common.initial history) alike.requests
+    ∙ ap (λ (memory : Memory). replayed memory (requests d.common.history)) alike.initial
+    ∙ sym (replay_kept d.common.initial d.common.history)
+
+pub trace_alike : (c d : Config) → AreAlike c d → trace_in c.common ≡ trace_in d.common
+trace_alike c d alike =
+    trace_kept c.common.history
+    ∙ ap (λ (history : List Entry). trace_of history) alike.requests
+    ∙ sym (trace_kept d.common.history)
+
 fetch_alike : (c d : Config) (h pc : ℕ) → AreAlike c d → fetched_by c h pc ≡ fetched_by d h pc
 fetch_alike c d h pc alike =
-    let same : copied c.common.initial h c.common.history ≡ copied d.common.initial h d.common.history =
+    let same : fetched_text c.common.initial h c.common.history ≡ fetched_text d.common.initial h d.common.history =
     copy_kept c.common.initial h c.common.history
-    ∙ ap (λ (history : List Entry). copied c.common.initial h history) alike.requests
-    ∙ ap (λ (memory : Memory). copied memory h (requests d.common.history)) alike.initial
+    ∙ ap (λ (history : List Entry). fetched_text c.common.initial h history) alike.requests
+    ∙ ap (λ (memory : Memory). fetched_text memory h (requests d.common.history)) alike.initial
     ∙ sym (copy_kept d.common.initial h d.common.history) in
     ap (λ (text : Memory). fetched text pc) same
 
@@ -63,8 +81,8 @@ reply_alike c d h request alike =
     ∙ sym (calls_kept d.common.history) in
     let reserved : has_reserved c.common.history h ≡ has_reserved d.common.history h =
     ap (λ (calls : List Call). λ (l : ℕ). is_reserved h l calls) calls in
-    ap (λ (memory : Memory). replied memory (has_reserved c.common.history h) request) alike.memory
-    ∙ ap (λ (reserved : ℕ → Bool). replied d.common.memory reserved request) reserved
+    ap (λ (memory : Memory). replied memory (has_reserved c.common.history h) request) (memory_alike c d alike)
+    ∙ ap (λ (reserved : ℕ → Bool). replied (memory_in d.common) reserved request) reserved
 
 -- a configuration that is alike after the step of a configuration that is alike
 pub record StepsAlike (d : Config) (step : Step) (e : Config) : Type 0 where
@@ -88,8 +106,6 @@ with_hart_alike c d h s alike = record {
   harts = ap (λ (harts : List HartState). slice_set harts h s) alike.harts;
   start = alike.start;
   initial = alike.initial;
-  memory = alike.memory;
-  trace = alike.trace;
   requests = alike.requests;
 }
 
@@ -101,10 +117,6 @@ asked_alike c d h s i request alike =
           ∙ ap (λ (r : Reply). slice_set d.harts h (answered s i r)) reply;
       start = alike.start;
       initial = alike.initial;
-      memory = ap (λ (m : Memory). memory_after m request (reply_after c.common h request)) alike.memory
-          ∙ ap (λ (r : Reply). memory_after d.common.memory request r) reply;
-      trace = ap (λ (t : List Event). t ++ events_of h request (reply_after c.common h request)) alike.trace
-          ∙ ap (λ (r : Reply). d.common.trace ++ events_of h request r) reply;
       requests = ap (λ (p : List Entry). Asked h request (reply_after c.common h request) ∷ p) alike.requests
           ∙ ap (λ (r : Reply). Asked h request r ∷ requests d.common.history) reply;
     }
@@ -163,8 +175,6 @@ evicted_alike c d e line alike x = rw x (record {
   harts = alike.harts;
   start = alike.start;
   initial = alike.initial;
-  memory = alike.memory;
-  trace = alike.trace;
   requests = alike.requests;
 })
 
@@ -174,8 +184,6 @@ evicts_alike c d line alike = record {
   harts = alike.harts;
   start = alike.start;
   initial = alike.initial;
-  memory = alike.memory;
-  trace = alike.trace;
   requests = alike.requests;
 }
 
@@ -204,13 +212,11 @@ alike_then c d e a b = record {
   harts = a.harts ∙ b.harts;
   start = a.start ∙ b.start;
   initial = a.initial ∙ b.initial;
-  memory = a.memory ∙ b.memory;
-  trace = a.trace ∙ b.trace;
   requests = a.requests ∙ b.requests;
 }
 
 pub alike_itself : (c : Config) → AreAlike c c
-alike_itself c = record { harts = refl; start = refl; initial = refl; memory = refl; trace = refl; requests = refl }
+alike_itself c = record { harts = refl; start = refl; initial = refl; requests = refl }
 
 pub runs_alike : (c d e : Config) (steps others : List Step) → AreAlike c d → hart_steps steps ≡ hart_steps others
     → RunsTo c steps e → (f : Config) × RunsTo d others f × AreAlike e f

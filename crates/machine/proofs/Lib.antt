@@ -5,6 +5,8 @@ pub mod Determined
 pub mod Evicting
 pub mod Leaving
 pub mod Refusing
+pub mod RegisterSteps
 pub mod RunParts
+pub mod Stepped
 pub mod Stepping
 pub mod Steps

@@ -1,5 +1,5 @@
 -- When a step is refused.
-use Rattle.std.proofs.Common.{◌≡◌, ℕ, ◌+◌, ◌<◌, ◌≤◌, ◌↔◌, List, length, Option, Some, None, Result, Ok, Err, OnOk, IfErr, slice_get, refl, sym, ap, ◌∙◌, arith}
+use Rattle.std.proofs.Common.{◌≡◌, ℕ, ◌+◌, ◌<◌, ◌≤◌, ◌↔◌, List, length, Option, Some, None, Result, Ok, Err, IfOk, IfErr, slice_get, refl, sym, ap, ◌∙◌, arith}
 use Rattle.std.proofs.lemmas.List.{length-append}
 use Rattle.std.proofs.lemmas.Option.{slice_get_past, slice_get_within}
 use Rattle.isa_table.specs.declared.instruction.Instr.{Instr}
@@ -20,9 +20,10 @@ use Rattle.schedule.specs.declared.items.Step.{Step}
 use Rattle.schedule.specs.declared.items.Step.TheVariants.{Hart, Evict}
 use Rattle.machine.specs.Outcomes.{HartMakesEvent, MakesEvent}
 use Rattle.machine.specs.Refusals.{LacksHart, LacksLine, Refuses}
+use Rattle.machine.specs.Stepped.{HasStepped}
 use Rattle.shared_memory.specs.Refusals.{IsEventFault, RefusesRequest}
 use Rattle.machine.specs.Run.{Config, Executes, StepsTo, after_request, fetched, fetched_by}
-use Rattle.shared_memory.specs.Replies.{events_of, reply_after}
+use Rattle.shared_memory.specs.Replies.{events_of, reply_after, trace_in}
 use Rattle.machine.specs.Represents.{IsThere, MachineView, Represents, copy_of}
 use Rattle.shared_memory.specs.SharedView.{Serves, SharedView, reply_to}
 use Rattle.machine.proofs.Determined.{needs_once}
@@ -77,7 +78,7 @@ executes_word c d h s word other e executes = rw e at executes
 asks_longer : (m : MachineView) (h : ℕ) (s : HartState) (c : Config) (request : Request) → length m.harts ≤ 8 → Represents m c
     → slice_get m.harts h ≡ Some s → s.status ≡ Running → Needs s (fetched (copy_of m h) s.pc) (Ask request)
     → length (events_of h request (reply_to m.shared h request)) ≡ 1
-    → (d : Config) × StepsTo c (Hart h) d × (length d.common.trace ≡ length c.common.trace + 1)
+    → (d : Config) × StepsTo c (Hart h) d × (length (trace_in d.common) ≡ length (trace_in c.common) + 1)
 asks_longer m h s c request few stands there running needs event =
     let by = asks_by_instruction s (fetched (copy_of m h) s.pc) request needs in
     let there_too : slice_get c.harts h ≡ Some s = rw (← stands.harts) there in
@@ -90,17 +91,17 @@ asks_longer m h s c request few stands there running needs event =
     let d : Config = after_request c h s by.0 request in (
       d,
       hart_steps c d h s there_too running (executes_word c d h s (fetched (copy_of m h) s.pc) (fetched_by c h s.pc) word (Ask request, needs, (by.0, by.1, refl))),
-      length-append c.common.trace (events_of h request reply) ∙ ap (λ (n : ℕ). length c.common.trace + n) one,
+      length-append (trace_in c.common) (events_of h request reply) ∙ ap (λ (n : ℕ). length (trace_in c.common) + n) one,
     )
 
 hart_event_is_longer : (m : MachineView) (h : ℕ) (o : Option HartState) (c : Config) → length m.harts ≤ 8 → Represents m c → slice_get m.harts h ≡ o
-    → HartMakesEvent m h → (d : Config) × StepsTo c (Hart h) d × (length d.common.trace ≡ length c.common.trace + 1)
+    → HartMakesEvent m h → (d : Config) × StepsTo c (Hart h) d × (length (trace_in d.common) ≡ length (trace_in c.common) + 1)
 hart_event_is_longer m h None c few stands there makes = absurd (rw there at makes.running)
 hart_event_is_longer m h (Some s) c few stands there makes =
     asks_longer m h s c makes.request few stands there (rw there at makes.running) (rw there at makes.asks) makes.event
 
 pub event_is_longer : (m : MachineView) (step : Step) (c : Config) → length m.harts ≤ 8 → Represents m c → MakesEvent m step
-    → (d : Config) × StepsTo c step d × (length d.common.trace ≡ length c.common.trace + 1)
+    → (d : Config) × StepsTo c step d × (length (trace_in d.common) ≡ length (trace_in c.common) + 1)
 event_is_longer m (Hart h) c few stands makes = hart_event_is_longer m h (slice_get m.harts h) c few stands refl makes
 event_is_longer m (Evict line) c few stands makes = absurd makes
 
@@ -141,36 +142,40 @@ there_has_line : (m : MachineView) (step : Step) → IsThere m step → LacksLin
 there_has_line m (Hart h) there lacks = lacks
 there_has_line m (Evict line) there lacks = omega arith
 
--- which fault a step's result is
-pub no_hart_exactly : (m : MachineView) (step : Step) (r : Result Outcome StepFault) → OnOk r (IsThere m step) → IfErr r (Refuses m step)
-    → (r ≡ Err NoSuchHart) ↔ LacksHart m step
-no_hart_exactly m step (Ok o) there refused = (λ e. absurd (cc), λ lacks. absurd (there_has_hart m step there lacks))
-no_hart_exactly m step (Err NoSuchHart) there refused = (λ e. refused, λ lacks. refl)
-no_hart_exactly m step (Err NoSuchLine) there refused = (λ e. absurd (cc), λ lacks. absurd (no_hart_no_line m step lacks refused))
-no_hart_exactly m step (Err TraceFull) there refused = (λ e. absurd (cc), λ lacks. absurd (no_hart_no_event m step lacks refused.0))
-no_hart_exactly m step (Err OutOfLimits) there refused = (λ e. absurd (cc), λ lacks. absurd refused)
-no_hart_exactly m step (Err MemoryRefused) there refused = (λ e. absurd (cc), λ lacks. absurd (no_hart_no_event m step lacks refused.0))
+-- the hart, or the line, of a step that was made is there
+stepped_there : (old new : MachineView) (step : Step) (outcome : Outcome) → HasStepped old new step outcome → IsThere old step
+stepped_there old new step outcome made = made.runs.there 0 step (omega arith)
 
-pub no_line_exactly : (m : MachineView) (step : Step) (r : Result Outcome StepFault) → OnOk r (IsThere m step) → IfErr r (Refuses m step)
+-- which fault a step's result is
+pub no_hart_exactly : (m new : MachineView) (step : Step) (r : Result Outcome StepFault) → IfOk r (HasStepped m new step) → IfErr r (Refuses m step)
+    → (r ≡ Err NoSuchHart) ↔ LacksHart m step
+no_hart_exactly m new step (Ok o) made refused = (λ e. absurd (cc), λ lacks. absurd (there_has_hart m step (stepped_there m new step o made) lacks))
+no_hart_exactly m new step (Err NoSuchHart) made refused = (λ e. refused, λ lacks. refl)
+no_hart_exactly m new step (Err NoSuchLine) made refused = (λ e. absurd (cc), λ lacks. absurd (no_hart_no_line m step lacks refused))
+no_hart_exactly m new step (Err TraceFull) made refused = (λ e. absurd (cc), λ lacks. absurd (no_hart_no_event m step lacks refused.0))
+no_hart_exactly m new step (Err OutOfLimits) made refused = (λ e. absurd (cc), λ lacks. absurd refused)
+no_hart_exactly m new step (Err MemoryRefused) made refused = (λ e. absurd (cc), λ lacks. absurd (no_hart_no_event m step lacks refused.0))
+
+pub no_line_exactly : (m new : MachineView) (step : Step) (r : Result Outcome StepFault) → IfOk r (HasStepped m new step) → IfErr r (Refuses m step)
     → (r ≡ Err NoSuchLine) ↔ LacksLine m step
-no_line_exactly m step (Ok o) there refused = (λ e. absurd (cc), λ lacks. absurd (there_has_line m step there lacks))
-no_line_exactly m step (Err NoSuchHart) there refused = (λ e. absurd (cc), λ lacks. absurd (no_hart_no_line m step refused lacks))
-no_line_exactly m step (Err NoSuchLine) there refused = (λ e. refused, λ lacks. refl)
-no_line_exactly m step (Err TraceFull) there refused = (λ e. absurd (cc), λ lacks. absurd (no_line_no_event m step lacks refused.0))
-no_line_exactly m step (Err OutOfLimits) there refused = (λ e. absurd (cc), λ lacks. absurd refused)
-no_line_exactly m step (Err MemoryRefused) there refused = (λ e. absurd (cc), λ lacks. absurd (no_line_no_event m step lacks refused.0))
+no_line_exactly m new step (Ok o) made refused = (λ e. absurd (cc), λ lacks. absurd (there_has_line m step (stepped_there m new step o made) lacks))
+no_line_exactly m new step (Err NoSuchHart) made refused = (λ e. absurd (cc), λ lacks. absurd (no_hart_no_line m step refused lacks))
+no_line_exactly m new step (Err NoSuchLine) made refused = (λ e. refused, λ lacks. refl)
+no_line_exactly m new step (Err TraceFull) made refused = (λ e. absurd (cc), λ lacks. absurd (no_line_no_event m step lacks refused.0))
+no_line_exactly m new step (Err OutOfLimits) made refused = (λ e. absurd (cc), λ lacks. absurd refused)
+no_line_exactly m new step (Err MemoryRefused) made refused = (λ e. absurd (cc), λ lacks. absurd (no_line_no_event m step lacks refused.0))
 
 pub full_exactly : (old new : MachineView) (step : Step) (r : Result Outcome StepFault)
-    → OnOk r (MakesEvent old step → length new.shared.trace ≡ length old.shared.trace + 1)
+    → IfOk r (HasStepped old new step)
     → length new.shared.trace ≤ 65536 → IfErr r (Refuses old step)
     → (r ≡ Err TraceFull) ↔ (MakesEvent old step × (length old.shared.trace ≡ 65536))
-full_exactly old new step (Ok o) event limit refused =
-    (λ e. absurd (cc), λ full. let longer = event full.0 in let most = full.1 in absurd (omega arith))
-full_exactly old new step (Err NoSuchHart) event limit refused = (λ e. absurd (cc), λ full. absurd (no_hart_no_event old step refused full.0))
-full_exactly old new step (Err NoSuchLine) event limit refused = (λ e. absurd (cc), λ full. absurd (no_line_no_event old step refused full.0))
-full_exactly old new step (Err TraceFull) event limit refused = (λ e. refused, λ full. refl)
-full_exactly old new step (Err OutOfLimits) event limit refused = (λ e. absurd (cc), λ full. absurd refused)
-full_exactly old new step (Err MemoryRefused) event limit refused = (λ e. absurd (cc), λ full. let less = refused.1 in let all = full.1 in absurd (omega arith))
+full_exactly old new step (Ok o) made limit refused =
+    (λ e. absurd (cc), λ full. let longer = made.event full.0 in let most = full.1 in absurd (omega arith))
+full_exactly old new step (Err NoSuchHart) made limit refused = (λ e. absurd (cc), λ full. absurd (no_hart_no_event old step refused full.0))
+full_exactly old new step (Err NoSuchLine) made limit refused = (λ e. absurd (cc), λ full. absurd (no_line_no_event old step refused full.0))
+full_exactly old new step (Err TraceFull) made limit refused = (λ e. refused, λ full. refl)
+full_exactly old new step (Err OutOfLimits) made limit refused = (λ e. absurd (cc), λ full. absurd refused)
+full_exactly old new step (Err MemoryRefused) made limit refused = (λ e. absurd (cc), λ full. let less = refused.1 in let all = full.1 in absurd (omega arith))
 
 -- a step is refused for one reason
 pub refused_once : (m : MachineView) (step : Step) (f g : StepFault) → Refuses m step f → Refuses m step g → f ≡ g

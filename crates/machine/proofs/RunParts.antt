@@ -15,7 +15,7 @@ use Rattle.schedule.specs.declared.items.Step.TheVariants.{Hart, Evict}
 use Rattle.store_trace.specs.declared.event.Event.{Event}
 use Rattle.shared_memory.specs.Histories.{Write, written}
 use Rattle.machine.specs.Run.{Config, HartSteps, HartStepsIfThere, Meets, RunsTo, StepsTo, fetched_by}
-use Rattle.shared_memory.specs.Replies.{events_of, events_of_write, reply_after}
+use Rattle.shared_memory.specs.Replies.{events_of, events_of_write, reply_after, trace_in}
 
 pub run_joined : (c d e : Config) (first others : List Step) → RunsTo c first d → RunsTo d others e → RunsTo c (first ++ others) e
 run_joined c d e [] others a b = rw (← a) b
@@ -46,11 +46,11 @@ few_events h request reply = few_written h (written request reply)
 -- what a step adds to the trace
 pub record Grows (c d : Config) : Type 0 where
   pub more : List Event
-  pub trace : d.common.trace ≡ c.common.trace ++ more
+  pub trace : trace_in d.common ≡ trace_in c.common ++ more
   pub few : length more ≤ 1
 
-grows_not : (c d : Config) → d.common.trace ≡ c.common.trace → Grows c d
-grows_not c d e = record { more = []; trace = e ∙ sym (append-nil c.common.trace); few = search rules }
+grows_not : (c d : Config) → trace_in d.common ≡ trace_in c.common → Grows c d
+grows_not c d e = record { more = []; trace = e ∙ sym (append-nil (trace_in c.common)); few = search rules }
 
 meets_grows : (c d : Config) (h : ℕ) (s : HartState) (word : Option ℕ) (need : Need) → Meets c h s word need d → Grows c d
 meets_grows c d h s word (Local after) m = grows_not c d (rw m refl)
@@ -74,20 +74,20 @@ pub grows : (c d : Config) (step : Step) → StepsTo c step d → Grows c d
 grows c d (Hart h) x = there_grows c d h (slice_get c.harts h) x
 grows c d (Evict line) x = grows_not c d (rw x refl)
 
-pub step_grows : (c d : Config) (step : Step) → StepsTo c step d → length d.common.trace ≤ length c.common.trace + 1
+pub step_grows : (c d : Config) (step : Step) → StepsTo c step d → length (trace_in d.common) ≤ length (trace_in c.common) + 1
 step_grows c d step x =
     let g = grows c d step x in
     let all = ap (λ (t : List Event). length t) g.trace in
-    let sum = length-append c.common.trace g.more in
+    let sum = length-append (trace_in c.common) g.more in
     let few = g.few in
     omega arith
 
 appended : (a b c more rest : List Event) → b ≡ a ++ more → c ≡ b ++ rest → c ≡ a ++ (more ++ rest)
 appended a b c more rest first second = second ∙ ap (λ (t : List Event). t ++ rest) first ∙ append_assoc a more rest
 
-pub run_grows : (c d : Config) (steps : List Step) → RunsTo c steps d → (more : List Event) × (d.common.trace ≡ c.common.trace ++ more)
-run_grows c d [] x = ([], rw x (sym (append-nil c.common.trace)))
+pub run_grows : (c d : Config) (steps : List Step) → RunsTo c steps d → (more : List Event) × (trace_in d.common ≡ trace_in c.common ++ more)
+run_grows c d [] x = ([], rw x (sym (append-nil (trace_in c.common))))
 run_grows c d (step ∷ steps) x =
     let first = grows c x.0 step x.1 in
     let rest = run_grows x.0 d steps x.2 in
-    (first.more ++ rest.0, appended c.common.trace x.0.common.trace d.common.trace first.more rest.0 first.trace rest.1)
+    (first.more ++ rest.0, appended (trace_in c.common) (trace_in x.0.common) (trace_in d.common) first.more rest.0 first.trace rest.1)

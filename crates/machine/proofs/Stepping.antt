@@ -18,12 +18,12 @@ use Rattle.line_memory.specs.Memory.{Memory}
 use Rattle.schedule.specs.declared.items.Step.{Step}
 use Rattle.schedule.specs.declared.items.Step.TheVariants.{Hart, Evict}
 use Rattle.shared_memory.specs.declared.history.Entry.TheVariants.{Asked, Evicted}
-use Rattle.shared_memory.specs.Histories.{copied, replayed, text_of}
+use Rattle.shared_memory.specs.Histories.{fetched_text, replayed, text_of}
 use Rattle.machine.specs.Outcomes.{hart_outcome, outcome_of}
-use Rattle.shared_memory.specs.Replies.{asked, reply_after}
+use Rattle.shared_memory.specs.Replies.{reply_after, shared_after}
 use Rattle.machine.specs.Run.{Config, Executes, HartSteps, RunsTo, StepsTo, after_request, fetched, fetched_by, with_hart}
 use Rattle.machine.specs.Represents.{Answers, IsThere, MachineView, Represents, RunsBoth, copies_after, copy_of, text_bytes}
-use Rattle.shared_memory.specs.SharedView.{Evicts, IsExact, SharedView, Shows, lines_shown}
+use Rattle.shared_memory.specs.SharedView.{Evicts, IsExact, RepresentsShared, SharedView, lines_shown}
 use Rattle.clean_fence.specs.Rules.{PmView, SameSizes}
 use Rattle.shared_memory.proofs.Shown.{evicted_exact, evicted_shows, reply_stands, served_exact, served_shows}
 use Rattle.machine.proofs.Copying.{copied_more, text_there}
@@ -112,7 +112,7 @@ executes old new h s after there running harts sizes makes =
 
 -- the copies of a machine with another state of a hart
 copies_kept : (m : MachineView) (c : Config) (h k : ℕ) (after : HartState) → Represents m c → k < length (slice_set m.harts h after)
-    → copy_of m k ≡ copied c.common.initial k c.common.history
+    → copy_of m k ≡ fetched_text c.common.initial k c.common.history
 copies_kept m c h k after stands inside = stands.copies k (simp length-set at inside)
 
 -- what stands in the place of a hart that is there is its state
@@ -157,10 +157,10 @@ goes_on_answered old new shared h s after i request few each there running needs
     let reply : Reply = reply_after c.common h request in
     let told : after ≡ answered s i reply =
     a.answered ∙ ap (λ (r : Reply). answered s i r) (a.serves.reply ∙ reply_stands old.shared h request c.common few stands.shared) in
-    let shows : Shows shared (asked c.common h request) = served_shows old.shared shared h request a.reply c.common few a.serves stands.shared in
+    let shows : RepresentsShared shared (shared_after c.common h request) = served_shows old.shared shared h request a.reply c.common few a.serves stands.shared in
     let inside : h < length old.copies = rw each (slice_get_within old.harts h s there) in
     let now : text_bytes shared.ram.text ≡ text_of (replayed c.common.initial (Asked h request reply ∷ c.common.history)) =
-    text_there shared.ram (line_bytes (lines_shown shared)) ∙ ap (λ (memory : Memory). text_of memory) (shows.memory ∙ shows.replays) in (
+    text_there shared.ram (line_bytes (lines_shown shared)) ∙ ap (λ (memory : Memory). text_of memory) shows.memory in (
       after_request c h s i request,
       (Ask request, needs, (i, spelled, refl)),
       record {

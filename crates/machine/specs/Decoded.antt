@@ -1,10 +1,9 @@
--- A text decoded: of each of its words the instruction that it spells, or the trap where it spells none.
-use Rattle.std.specs.Prelude.{◌≡◌, ◌<◌, ◌*◌, ℕ, List, Result, Some, length, nat_lt, slice_index_or, if◌then◌else◌}
+-- A text decoded: of each word of its first lines the instruction that it spells, or the trap where it spells none.
+use Rattle.std.specs.Prelude.{◌≡◌, ◌<◌, ◌≤◌, ◌*◌, ℕ, List, Result, Some, length, nat_lt, slice_index_or, if◌then◌else◌}
 use Rattle.word_bits.specs.Bytes.{loaded}
 use Rattle.isa_table.specs.declared.instruction.Instr.{Instr}
 use Rattle.hart.specs.declared.state.Trap.{Trap}
 use Rattle.hart.specs.Needs.{IsInstruction}
-use Rattle.machine.specs.declared.text_copy.TheConstants.{WORDS}
 
 -- word k of a text, by its bytes
 abbrev pub word_of : List ℕ → ℕ → ℕ
@@ -15,9 +14,11 @@ abbrev pub AreInstructions : List ℕ → List (Result Instr Trap) → Type 0
 AreInstructions bytes decoded = (k : ℕ) (other : Result Instr Trap) → k < length decoded
     → IsInstruction (Some (word_of bytes k)) (slice_index_or decoded k other)
 
--- all words of a text are decoded
+-- the words of the first lines of a text are decoded, of sixteen words each
 pub record AreDecoded (bytes : List ℕ) (decoded : List (Result Instr Trap)) : Type 0 where
-  pub whole : length decoded ≡ WORDS
+  pub lines : ℕ
+  pub whole : length decoded ≡ 16 * lines
+  pub within : lines ≤ 1024
   pub each : AreInstructions bytes decoded
 
 -- each of the instructions is that of the word at its place: below n of one text, from n on of another

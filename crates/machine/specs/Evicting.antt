@@ -22,11 +22,9 @@ is_asked (Evicted line) = false
 abbrev pub requests : List Entry → List Entry
 requests history = filter is_asked history
 
--- two configurations are one but for the evictions of their histories
+-- two configurations are one but for the evictions of their histories: so their flat memories and their traces are the same
 pub record AreAlike (c d : Config) : Type 0 where
   pub harts : c.harts ≡ d.harts
   pub start : c.common.start ≡ d.common.start
   pub initial : c.common.initial ≡ d.common.initial
-  pub memory : c.common.memory ≡ d.common.memory
-  pub trace : c.common.trace ≡ d.common.trace
   pub requests : requests c.common.history ≡ requests d.common.history

@@ -3,7 +3,9 @@ pub mod Evicting
 pub mod Left
 pub mod Outcomes
 pub mod Refusals
+pub mod RegisterSteps
 pub mod Represents
 pub mod Run
 pub mod RunLaws
+pub mod Stepped
 pub mod Stops

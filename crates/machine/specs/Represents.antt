@@ -13,9 +13,9 @@ use Rattle.hart.specs.declared.state.Status.TheVariants.{Running}
 use Rattle.hart.specs.declared.need.Reply.{Reply}
 use Rattle.schedule.specs.declared.items.Step.{Step}
 use Rattle.schedule.specs.declared.items.Step.TheVariants.{Hart, Evict}
-use Rattle.shared_memory.specs.Histories.{copied, is_renewing}
+use Rattle.shared_memory.specs.Histories.{fetched_text, is_renewing}
 use Rattle.machine.specs.Run.{Config, RunsTo, fetched}
-use Rattle.shared_memory.specs.SharedView.{IsExact, Serves, SharedView, Shows}
+use Rattle.shared_memory.specs.SharedView.{IsExact, RepresentsShared, Serves, SharedView}
 
 -- what a contract sees of a machine: the harts, the text that each of them fetches, and what they share
 pub record MachineView : Type 0 where
@@ -36,8 +36,8 @@ copies_after copies h request text = if is_renewing request then slice_set copie
 
 pub record Represents (machine : MachineView) (c : Config) : Type 0 where
   pub harts : machine.harts ≡ c.harts
-  pub shared : Shows machine.shared c.common
-  pub copies : (h : ℕ) → h < length machine.harts → copy_of machine h ≡ copied c.common.initial h c.common.history
+  pub shared : RepresentsShared machine.shared c.common
+  pub copies : (h : ℕ) → h < length machine.harts → copy_of machine h ≡ fetched_text c.common.initial h c.common.history
 
 -- it represents the configuration with the one cache that the requests and evictions of its history leave
 pub record RepresentsExactly (machine : MachineView) (c : Config) : Type 0 where

@@ -18,19 +18,19 @@ use Rattle.hart.specs.Needs.{IsSpelledBy, Needs}
 use Rattle.shared_memory.specs.declared.history.Entry.TheVariants.{Evicted}
 use Rattle.schedule.specs.declared.items.Step.{Step}
 use Rattle.schedule.specs.declared.items.Step.TheVariants.{Hart, Evict}
-use Rattle.shared_memory.specs.Histories.{copied}
-use Rattle.shared_memory.specs.Replies.{Common, asked, common_at_start, reply_after}
+use Rattle.shared_memory.specs.Histories.{fetched_text}
+use Rattle.shared_memory.specs.Replies.{SharedState, reply_after, shared_after, shared_at_start}
 
 -- all that a run changes: the harts, by their number, and what they share
 pub record Config : Type 0 where
   pub harts : List HartState
-  pub common : Common
+  pub common : SharedState
 
 -- the start of a number of harts over a program's sections and the lines of a medium
 abbrev pub started : Sections → List (List ℕ) → ℕ → Config
 started program lines harts = record {
   harts = map start (range_with_len 0 harts);
-  common = common_at_start program lines;
+  common = shared_at_start program lines;
 }
 
 -- the word of a text at an address, None where it doesn't lie in the text region
@@ -39,7 +39,7 @@ fetched text pc = if nat_le TEXT_BASE pc && nat_le (pc + 4) (TEXT_BASE + TEXT_SI
 
 -- the word that hart h fetches: each hart has a copy of the text, which its own FENCE.I alone renews
 abbrev pub fetched_by : Config → ℕ → ℕ → Option ℕ
-fetched_by c h pc = fetched (copied c.common.initial h c.common.history) pc
+fetched_by c h pc = fetched (fetched_text c.common.initial h c.common.history) pc
 
 -- hart h as it is after a step of its own
 abbrev pub with_hart : Config → ℕ → HartState → Config
@@ -49,7 +49,7 @@ with_hart c h s = record c { harts = slice_set c.harts h s }
 abbrev pub after_request : Config → ℕ → HartState → Instr → Request → Config
 after_request c h s i request = record {
   harts = slice_set c.harts h (answered s i (reply_after c.common h request));
-  common = asked c.common h request;
+  common = shared_after c.common h request;
 }
 
 -- from c hart h comes to d when what its instruction needs is met

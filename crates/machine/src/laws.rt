@@ -1,6 +1,7 @@
 //! The laws of runs, each as the contract of a function with an empty body: a caller has the law as what that
 //! call ensures.
 
+ghost use Rattle.shared_memory.specs.Replies.{trace_in};
 ghost use Rattle.machine.specs.Evicting.{AreAlike, hart_steps};
 ghost use Rattle.machine.specs.Refusals.{Refuses};
 ghost use Rattle.machine.specs.Run.{Config, RunsTo, StepsTo};
@@ -29,7 +30,7 @@ pub fn refusal_is_determined()
 #[tactic(auto, using(crate::proofs::Refusing::event_is_longer))]
 pub fn event_is_longer()
     ensures { (machine : MachineView) (step : Step) (c : Config) → length machine.harts ≤ 8 → Represents machine c →
-        MakesEvent machine step → (d : Config) × StepsTo c step d × (length d.common.trace ≡ length c.common.trace + 1) }
+        MakesEvent machine step → (d : Config) × StepsTo c step d × (length (trace_in d.common) ≡ length (trace_in c.common) + 1) }
 {}
 
 /// A run of steps after steps is a run of the first and then of the others.
@@ -45,9 +46,9 @@ pub fn run_has_parts()
 #[tactic(auto, using(crate::proofs::RunParts::step_grows, crate::proofs::RunParts::run_grows))]
 pub fn trace_grows()
     ensures step { (c d : Config) (step : Step) → StepsTo c step d →
-        length d.common.trace ≤ length c.common.trace + 1 }
+        length (trace_in d.common) ≤ length (trace_in c.common) + 1 }
     ensures run { (c d : Config) (steps : List Step) → RunsTo c steps d →
-        (more : List Event) × (d.common.trace ≡ c.common.trace ++ more) }
+        (more : List Event) × (trace_in d.common ≡ trace_in c.common ++ more) }
 {}
 
 /// Evictions change nothing but the history: from configurations that differ in evictions alone, the same hart steps

@@ -1,6 +1,7 @@
 //! The machine: harts that interleave one instruction at a time over shared memory, by a schedule.
 #![tactic(auto)]
 
+mod alone;
 mod fault;
 mod laws;
 mod machine;

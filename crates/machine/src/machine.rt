@@ -1,11 +1,12 @@
 //! A machine of one to eight harts, and one step of it.
 
-ghost use Rattle.std.specs.Prelude.{◌≡◌, ◌+◌, ◌<◌, ◌≤◌, ◌↔◌, ◌⊎◌, ℕ, List, [], ◌∷◌, Some, length, replicate, slice_get, slice_set, map, IfOk, IfErr, OnOk, OnErr, All};
+ghost use Rattle.std.specs.Prelude.{◌≡◌, ◌<◌, ◌≤◌, ◌↔◌, ℕ, List, [], ◌∷◌, Some, length, replicate, slice_get, slice_set, map, IfOk, IfErr, OnOk, OnErr, All};
 ghost use Rattle.crash_model.specs.Cut.{IsCutImage};
 ghost use Rattle.crash_model.specs.Image.{image};
-ghost use Rattle.crash_model.specs.WrittenBack.{back};
+ghost use Rattle.crash_model.specs.WrittenBack.{write_back_state};
 ghost use Rattle.store_trace.specs.History.{history};
 ghost use Rattle.clean_fence.specs.Represents.{AreAmong};
+ghost use Rattle.shared_memory.specs.Replies.{trace_in};
 ghost use Rattle.shared_memory.specs.Cached.{medium_left};
 ghost use Rattle.shared_memory.specs.Persisted.{persisted, touched};
 ghost use Rattle.hart.specs.Effect.{start};
@@ -13,16 +14,18 @@ ghost use Rattle.hart.specs.Needs.{IsInstruction, Needs};
 ghost use Rattle.hart.specs.Requests.{IsRequest};
 ghost use Rattle.std.specs.List.{range_with_len};
 ghost use Rattle.store_trace.specs.TraceView.{NamesLine};
-ghost use Rattle.machine.specs.Outcomes.{MakesEvent, outcome_after, outcome_of};
+ghost use Rattle.machine.specs.Outcomes.{MakesEvent, outcome_of};
 ghost use Rattle.machine.specs.Refusals.{LacksHart, LacksLine, Refuses};
+ghost use Rattle.shared_memory.specs.Limits.{AreWithinLimits, RefusesStart};
 ghost use Rattle.shared_memory.specs.Refusals.{RefusesRequest};
 ghost use Rattle.machine.specs.Run.{Config, fetched as fetched_from, started};
+ghost use Rattle.machine.specs.Stepped.{HasStepped};
 ghost use Rattle.machine.specs.Stops.{is_stopped};
-ghost use Rattle.machine.specs.Represents.{Answers, IsRunning, NeedsAt, Runs, RunsExactly, Represents, RepresentsExactly, copy_of};
+ghost use Rattle.machine.specs.Represents.{Answers, IsRunning, NeedsAt, Represents, RepresentsExactly, copy_of};
 ghost use Rattle.shared_memory.specs.SharedView.{Evicts, memory_of};
 
 use crate::text_copy::{TextCopy, renew_after, starting_copies};
-use hart::{Advance, HartState, Need, Request, Status, Trap, advance, next, take_reply};
+use hart::{Advance, HartState, Need, Request, Status, Trap, advance, next, resume};
 use isa_table::Instr;
 use line_memory::Medium;
 use program::Program;
@@ -47,8 +50,8 @@ pub enum Outcome {
 /// Harts, each with a copy of the text that it fetches, over the memory and the trace that they share.
 #[derive(Drop)]
 pub struct Machine {
-    harts: Vec<HartState>,
-    copies: Vec<TextCopy>,
+    pub(crate) harts: Vec<HartState>,
+    pub(crate) copies: Vec<TextCopy>,
     shared: Shared,
 }
 
@@ -79,11 +82,8 @@ impl Machine {
         ensures exact { IfOk result (λ machine. RepresentsExactly machine (started program medium harts)) }
         ensures lines { IfOk result (λ machine. machine.shared.cache.lines ≡ medium) }
         ensures capacity { IfOk result (λ machine. machine.shared.cache.cache.capacity ≡ capacity) }
-        ensures count { (result ≡ Err StepFault.NoSuchHart) ↔ ((harts < 1) ⊎ (8 < harts)) }
-        ensures limits { (result ≡ Err StepFault.OutOfLimits)
-            ↔ ((1 ≤ harts) × (harts ≤ 8) × ((capacity < 1) ⊎ (16384 < capacity))) }
-        ensures err { IfErr result (λ fault.
-            (fault ≡ StepFault.NoSuchHart) ⊎ (fault ≡ StepFault.OutOfLimits) ⊎ (fault ≡ StepFault.Memory)) }
+        ensures within { OnOk result (AreWithinLimits harts capacity) }
+        ensures refused { IfErr result (RefusesStart harts capacity) }
     {
         let shared = Shared::new(alloc, &program, medium, harts, capacity)?;
         Machine::over(alloc, shared, harts)
@@ -111,12 +111,8 @@ impl Machine {
 
     /// Makes one step of a schedule. A refused step changes nothing.
     #[inline(always)]
-    #[inline(always)]
     pub fn step(&mut self, step: Step) -> Result<Outcome, StepFault>
-        ensures ok { IfOk result (λ outcome. outcome ≡ outcome_after self.old.harts self.new.harts step) }
-        ensures runs { OnOk result (Runs self.old self.new (step ∷ [])) }
-        ensures exact { OnOk result (RunsExactly self.old self.new (step ∷ [])) }
-        ensures event { OnOk result (MakesEvent self.old step → length self.new.shared.trace ≡ length self.old.shared.trace + 1) }
+        ensures ok { IfOk result (HasStepped self.old self.new step) }
         ensures limit { length self.new.shared.trace ≤ 65536 }
         ensures named { All (NamesLine (length self.new.shared.cache.lines)) self.new.shared.trace }
         ensures err { OnErr result (self.new ≡ self.old) }
@@ -126,10 +122,10 @@ impl Machine {
         ensures full { (result ≡ Err StepFault.TraceFull)
             ↔ (MakesEvent self.old step × (length self.old.shared.trace ≡ 65536)) }
     {
-        match step {
-            Step::Hart(hart) => self.step_hart(hart),
-            Step::Evict(line) => self.evict(line),
-        }
+        let made = self.make_step(step);
+        // a look at the trace, for its limits to be known
+        let _ = &self.shared;
+        made
     }
 
     /// The number of harts.
@@ -193,12 +189,12 @@ impl Machine {
         ensures named { All (NamesLine (length result.0)) result.1.events }
 
         // every leaving is a cut
-        ensures cut { (c : Config) → Represents self c → IsCutImage c.common.start (history c.common.trace) result.0 }
+        ensures cut { (c : Config) → Represents self c → IsCutImage c.common.start (history (trace_in c.common)) result.0 }
 
         // with room for all lines that were loaded or stored, the cut is what the steps of the run have written back
         ensures written_back { (c : Config) (lines : List ℕ) → Represents self c → length lines ≤ self.shared.cache.cache.capacity →
             AreAmong (touched c.common.history) lines →
-            result.0 ≡ image c.common.start (λ l. (back l (persisted c.common.history)).count) (history c.common.trace) }
+            result.0 ≡ image c.common.start (λ l. (write_back_state l (persisted c.common.history)).count) (history (trace_in c.common)) }
 
         // at any capacity it is the medium behind the one cache that the requests and evictions of the run leave
         ensures exact { (c : Config) → RepresentsExactly self c →
@@ -209,15 +205,20 @@ impl Machine {
     }
 
     #[inline(always)]
+    fn make_step(&mut self, step: Step) -> Result<Outcome, StepFault>
+        ensures ok { IfOk result (HasStepped self.old self.new step) }
+        ensures err { OnErr result (self.new ≡ self.old) }
+        ensures refused { IfErr result (Refuses self.old step) }
+    {
+        match step {
+            Step::Hart(hart) => self.step_hart(hart),
+            Step::Evict(line) => self.evict(line),
+        }
+    }
+
     #[inline(always)]
     fn step_hart(&mut self, hart: u32) -> Result<Outcome, StepFault>
-        ensures there { OnOk result (hart < length self.old.harts) }
-        ensures ok { IfOk result (λ outcome. outcome ≡ outcome_after self.old.harts self.new.harts (Step.Hart hart)) }
-        ensures runs { OnOk result (Runs self.old self.new (Step.Hart hart ∷ [])) }
-        ensures exact { OnOk result (RunsExactly self.old self.new (Step.Hart hart ∷ [])) }
-        ensures event { OnOk result (MakesEvent self.old (Step.Hart hart) → length self.new.shared.trace ≡ length self.old.shared.trace + 1) }
-        ensures limit { length self.new.shared.trace ≤ 65536 }
-        ensures named { All (NamesLine (length self.new.shared.cache.lines)) self.new.shared.trace }
+        ensures ok { IfOk result (HasStepped self.old self.new (Step.Hart hart)) }
         ensures err { OnErr result (self.new ≡ self.old) }
         ensures refused { IfErr result (Refuses self.old (Step.Hart hart)) }
     {
@@ -231,13 +232,7 @@ impl Machine {
     }
 
     fn evict(&mut self, line: u32) -> Result<Outcome, StepFault>
-        ensures ok { IfOk result (λ outcome. outcome ≡ Outcome.Done) }
-        ensures there { OnOk result (line < length self.old.shared.cache.lines) }
-        ensures runs { OnOk result (Runs self.old self.new (Step.Evict line ∷ [])) }
-        ensures exact { OnOk result (RunsExactly self.old self.new (Step.Evict line ∷ [])) }
-        ensures event { OnOk result (MakesEvent self.old (Step.Evict line) → length self.new.shared.trace ≡ length self.old.shared.trace + 1) }
-        ensures limit { length self.new.shared.trace ≤ 65536 }
-        ensures named { All (NamesLine (length self.new.shared.cache.lines)) self.new.shared.trace }
+        ensures ok { IfOk result (HasStepped self.old self.new (Step.Evict line)) }
         ensures err { OnErr result (self.new ≡ self.old) }
         ensures refused { IfErr result (Refuses self.old (Step.Evict line)) }
     {
@@ -247,15 +242,9 @@ impl Machine {
 
     /// Makes the next instruction of a running hart.
     #[inline(always)]
-    #[inline(always)]
     fn execute(&mut self, hart: u32) -> Result<Outcome, StepFault>
         requires running { IsRunning (slice_get self.old.harts hart) }
-        ensures ok { IfOk result (λ outcome. outcome ≡ outcome_after self.old.harts self.new.harts (Step.Hart hart)) }
-        ensures runs { OnOk result (Runs self.old self.new (Step.Hart hart ∷ [])) }
-        ensures exact { OnOk result (RunsExactly self.old self.new (Step.Hart hart ∷ [])) }
-        ensures event { OnOk result (MakesEvent self.old (Step.Hart hart) → length self.new.shared.trace ≡ length self.old.shared.trace + 1) }
-        ensures limit { length self.new.shared.trace ≤ 65536 }
-        ensures named { All (NamesLine (length self.new.shared.cache.lines)) self.new.shared.trace }
+        ensures ok { IfOk result (HasStepped self.old self.new (Step.Hart hart)) }
         ensures err { OnErr result (self.new ≡ self.old) }
         ensures refused { IfErr result (Refuses self.old (Step.Hart hart)) }
     {
@@ -300,8 +289,9 @@ impl Machine {
     }
 }
 
-/// Has a request served, and tells the hart the reply. A refusal leaves both as they were.
+/// Has a request served, and tells the hart the reply. A refusal leaves both as they were. A load goes by the shortest way.
 #[tactic(auto, using(shared_memory::proofs::Naming::served_named))]
+#[inline(always)]
 fn ask(
     shared: &mut Shared,
     hart: u32,
@@ -318,8 +308,36 @@ fn ask(
     ensures err { OnErr result ((shared.new ≡ shared.old) × (state.new ≡ state.old)) }
     ensures refused { IfErr result (RefusesRequest shared.old hart request) }
 {
+    match request {
+        Request::Load { address, width } => {
+            let reply = shared.load(hart, address, width);
+            resume(state, instr, reply);
+            Ok(())
+        }
+        _ => ask_any(shared, hart, state, instr, request),
+    }
+}
+
+/// The same for any request.
+#[tactic(auto, using(shared_memory::proofs::Naming::served_named))]
+fn ask_any(
+    shared: &mut Shared,
+    hart: u32,
+    state: &mut HartState,
+    instr: Instr,
+    request: Request,
+) -> Result<(), StepFault>
+    requires hart { hart < 8 }
+    requires width { IsRequest request }
+    requires named { All (NamesLine (length shared.old.cache.lines)) shared.old.trace }
+    ensures ok { OnOk result (Answers shared.old shared.new hart state.old instr request state.new) }
+    ensures limit { length shared.new.trace ≤ 65536 }
+    ensures named { All (NamesLine (length shared.new.cache.lines)) shared.new.trace }
+    ensures err { OnErr result ((shared.new ≡ shared.old) × (state.new ≡ state.old)) }
+    ensures refused { IfErr result (RefusesRequest shared.old hart request) }
+{
     let reply = shared.request(hart, request)?;
-    take_reply(state, instr, reply);
+    resume(state, instr, reply);
     Ok(())
 }
 

@@ -16,8 +16,8 @@ use shared_memory::StepFault;
 use std::alloc::Global;
 use std::marker::Model;
 
-/// The number of words of the text region.
-const WORDS: usize = 16_384;
+/// The number of lines of the text region.
+const LINES: usize = 1_024;
 
 /// The number of words of a line.
 const WORDS_OF_LINE: usize = LINE_SIZE / 4;
@@ -26,7 +26,8 @@ const WORDS_OF_LINE: usize = LINE_SIZE / 4;
 #[derive(Drop)]
 pub struct TextCopy {
     bytes: Vec<u8>,
-    /// The instruction that each of their words spells, or the trap where it spells none.
+    /// The instruction that each word of their first lines spells, or the trap where it spells none. The lines are those through
+    /// the last that wasn't all zeros when the copy was made; a word behind them is decoded whenever it is executed.
     decoded: Vec<Result<Instr, Trap>>,
 }
 
@@ -49,7 +50,7 @@ impl TextCopy {
         ensures ok { IfOk result (λ made. made ≡ text.now) }
         ensures err { IfErr result (λ fault. fault ≡ StepFault.Memory) }
     {
-        let decoded = decode_words(alloc, text)?;
+        let decoded = decode_lines(alloc, text, lines_used(text))?;
         match text.to_vec(alloc) {
             Ok(bytes) => Ok(TextCopy { bytes, decoded }),
             Err(_) => Err(StepFault::Memory),
@@ -88,26 +89,60 @@ impl TextCopy {
     pub fn instruction(&self, pc: u64) -> Result<Instr, Trap>
         ensures { IsInstruction (fetched (text_bytes self.now) pc) result }
     {
-        if pc < TEXT_BASE || pc >= TEXT_BASE + TEXT_SIZE {
-            return Err(Trap::OutsideText);
+        if pc >= TEXT_BASE && pc % 4 == 0 {
+            let word = ((pc - TEXT_BASE) / 4) as usize;
+            if word < self.decoded.len() {
+                return self.decoded[word];
+            }
         }
-        let place = pc - TEXT_BASE;
-        if place % 4 != 0 {
-            return instruction(self.fetch(pc));
-        }
-        self.decoded[(place / 4) as usize]
+        self.decode(pc)
+    }
+
+    /// The same by the word alone: of one behind the decoded lines, or at a pc that isn't aligned. Not inlined, since few steps
+    /// come here.
+    #[inline(never)]
+    fn decode(&self, pc: u64) -> Result<Instr, Trap>
+        ensures { IsInstruction (fetched (text_bytes self.now) pc) result }
+    {
+        instruction(self.fetch(pc))
     }
 }
 
-/// The instructions that the words of a text spell.
-#[tactic(auto, using(crate::proofs::Decoding::more_decoded))]
-fn decode_words(alloc: Global, text: &[u8]) -> Result<Vec<Result<Instr, Trap>>, StepFault>
+/// How many lines a text has through the last one that isn't all zeros.
+fn lines_used(text: &[u8]) -> usize
     requires { length text.now ≡ TEXT_SIZE }
+    ensures { result ≤ 1024 }
+{
+    for line in (0..LINES).rev() {
+        if !is_zero(&text[line * LINE_SIZE..line * LINE_SIZE + LINE_SIZE]) {
+            return line + 1;
+        }
+    }
+    0
+}
+
+/// Whether a line is all zeros.
+fn is_zero(line: &[u8]) -> bool {
+    line.iter().all(|byte| *byte == 0)
+}
+
+/// The instructions that the words of the first lines of a text spell.
+#[tactic(auto, using(crate::proofs::Decoding::more_decoded))]
+fn decode_lines(
+    alloc: Global,
+    text: &[u8],
+    lines: usize,
+) -> Result<Vec<Result<Instr, Trap>>, StepFault>
+    requires whole { length text.now ≡ TEXT_SIZE }
+    requires lines { lines ≤ 1024 }
     ensures ok { IfOk result (λ decoded. AreDecoded text.now decoded.items) }
     ensures err { IfErr result (λ fault. fault ≡ StepFault.Memory) }
 {
-    let mut decoded = Vec::new(alloc);
-    for word in 0..WORDS {
+    let words = lines * WORDS_OF_LINE;
+    let Ok(mut decoded) = Vec::with_capacity(alloc, words) else {
+        return Err(StepFault::Memory);
+    };
+    for word in 0..words {
         push_instruction(&mut decoded, instruction(Some(word_at(text, 4 * word))))?;
     }
     Ok(decoded)
@@ -126,7 +161,7 @@ fn push_instruction(
     }
 }
 
-/// Decodes the lines of a text anew in which it differs from the one before.
+/// Decodes those of the decoded lines of a text anew in which it differs from the one before.
 #[tactic(auto, using(crate::proofs::Decoding::none_mixed, crate::proofs::Decoding::all_mixed))]
 fn decode_changed(decoded: &mut [Result<Instr, Trap>], before: &[u8], text: &[u8])
     requires before { length before.now ≡ TEXT_SIZE }
@@ -134,7 +169,7 @@ fn decode_changed(decoded: &mut [Result<Instr, Trap>], before: &[u8], text: &[u8
     requires decoded { AreDecoded before.now decoded.old }
     ensures { AreDecoded text.now decoded.new }
 {
-    for line in 0..WORDS / WORDS_OF_LINE {
+    for line in 0..decoded.len() / WORDS_OF_LINE {
         let at = line * LINE_SIZE;
         if before[at..at + LINE_SIZE] != text[at..at + LINE_SIZE] {
             decode_line(decoded, text, line);

@@ -1,16 +1,15 @@
 -- Media that agree on the lines which recovery asks of one of them have the same volume, and recovery asks the same lines.
-use Rattle.std.proofs.Common.{◌≡◌, ℕ, zero, suc, ◌+◌, ◌-◌, ◌*◌, ◌/◌, ◌<◌, ◌≤◌, Bool, true, false, List, [], ◌∷◌, ◌++◌, length, map, refl, sym, ap, ◌∙◌, arith, inl, inr, cond, Option, Some, None, Result, Ok, Err}
+use Rattle.std.proofs.Common.{◌≡◌, ℕ, zero, suc, ◌+◌, ◌/◌, ◌<◌, ◌≤◌, true, false, List, [], ◌∷◌, ◌++◌, length, map, refl, sym, ap, ◌∙◌, arith, inl, inr, cond, Option, Some, None, Ok}
 use Rattle.std.proofs.lemmas.Bool.{cases_eq}
-use Rattle.std.specs.Option.{option_or}
-use Rattle.std.specs.List.{All, AllByRecursion, flat_map, range_with_len}
+use Rattle.std.specs.List.{AllByRecursion, flat_map, range_with_len}
 use Rattle.line_memory.specs.Lines.{line_at}
 use Rattle.nova_log.specs.Chains.{chain, ends_in, link_fault, link_of, link_position, link_questions, positions_in}
 use Rattle.nova_log.specs.Entries.{entry_at, entry_fault, entry_in, entry_questions, is_long}
 use Rattle.nova_log.specs.Inodes.{head_fault, inode_at, inode_questions, inodes_of}
 use Rattle.nova_log.specs.Journals.{journal_fault, journal_line, journal_questions, pending, pending_in, record_at, record_fault, record_in, record_line, record_questions, restored_tail}
 use Rattle.nova_log.specs.Superblocks.{geometry_in, geometry_of, superblock_fault, superblock_question}
-use Rattle.nova_log.specs.Volumes.{asked_lines, log_in, log_questions, logs_of, positions_of, questions_of, recovery_questions, unless_fault, volume_of}
-use Rattle.nova_log.specs.Questions.{Question, question, first_fault, lines_asked, unless_ended}
+use Rattle.nova_log.specs.Volumes.{asked_lines, log_in, log_questions, logs_of, positions_of, unless_fault, volume_of}
+use Rattle.nova_log.specs.Questions.{Question, question, first_fault, lines_asked}
 use Rattle.nova_log.proofs.Questions.{first_after, asked_after, first_before, asked_before}
 use Rattle.nova_log.specs.declared.fault.VolumeFault.{VolumeFault}
 use Rattle.nova_log.specs.declared.inode.Inode.{Inode}
@@ -22,9 +21,9 @@ abbrev pub Agrees : List (List ℕ) → List (List ℕ) → List ℕ → Type 0
 Agrees m o numbers = AllByRecursion (λ n. line_at o n ≡ line_at m n) numbers
 
 -- two lists of questions that end alike
-record Same (p q : List Question) : Type 0 where
-  first : first_fault q ≡ first_fault p
-  asked : lines_asked q ≡ lines_asked p
+pub record Same (p q : List Question) : Type 0 where
+  pub first : first_fault q ≡ first_fault p
+  pub asked : lines_asked q ≡ lines_asked p
 
 agrees_parts : (m o : List (List ℕ)) (a b : List ℕ) → Agrees m o (a ++ b) → Agrees m o a × Agrees m o b
 agrees_parts m o [] b h = (tt, h)
@@ -185,7 +184,7 @@ same_value m o longest position h =
     ]) parts.1))
 
 -- logs
-same_log : (m o : List (List ℕ)) (g : Geometry) (inode : Inode) → Agrees m o (lines_asked (log_questions g m inode)) → Same (log_questions g m inode) (log_questions g o inode)
+pub same_log : (m o : List (List ℕ)) (g : Geometry) (inode : Inode) → Agrees m o (lines_asked (log_questions g m inode)) → Same (log_questions g m inode) (log_questions g o inode)
 same_log m o g inode h =
     same_both m o
     (link_questions g.shape g.pages m inode.tail g.pages inode.head) (link_questions g.shape g.pages o inode.tail g.pages inode.head)
@@ -195,7 +194,7 @@ same_log m o g inode h =
     (same_each m o (entry_questions g.shape.longest_name m) (entry_questions g.shape.longest_name o) (positions_of g m inode)
     (λ position. same_entry m o g.shape.longest_name position) rest))
 
-same_entries : (m o : List (List ℕ)) (g : Geometry) (inode : Inode) → Clean m o (log_questions g m inode) → log_in g o inode ≡ log_in g m inode
+pub same_entries : (m o : List (List ℕ)) (g : Geometry) (inode : Inode) → Clean m o (log_questions g m inode) → log_in g o inode ≡ log_in g m inode
 same_entries m o g inode h =
     let parts = clean_parts m o (link_questions g.shape g.pages m inode.tail g.pages inode.head)
     (flat_map (entry_questions g.shape.longest_name m) (positions_of g m inode)) h in

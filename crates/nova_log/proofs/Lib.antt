@@ -2,6 +2,7 @@ pub mod Agreement
 pub mod Chains
 pub mod Entries
 pub mod Journals
+pub mod Keeping
 pub mod Lines
 pub mod Questions
 pub mod Superblocks

@@ -3,6 +3,7 @@ pub mod Entries
 pub mod Fresh
 pub mod Inodes
 pub mod Journals
+pub mod Kept
 pub mod Layouts
 pub mod Numbers
 pub mod Questions

@@ -1,6 +1,6 @@
 //! The two layouts, by one description of what they differ in.
 
-ghost use Rattle.std.specs.Prelude.{◌≡◌};
+ghost use Rattle.std.specs.Prelude.{◌≡◌, IsTrue};
 ghost use Rattle.nova_log.specs.Layouts.{shape_of};
 
 /// How the pages of a volume are laid out.
@@ -44,5 +44,17 @@ impl Layout {
                 longest_name: 96,
             },
         }
+    }
+}
+
+impl Shape {
+    /// Whether two shapes are the same.
+    pub(crate) fn equals(&self, other: &Shape) -> bool
+        ensures { IsTrue result → (self.now ≡ other.now) }
+    {
+        self.magic == other.magic
+            && self.entry_size == other.entry_size
+            && self.page_entries == other.page_entries
+            && self.longest_name == other.longest_name
     }
 }

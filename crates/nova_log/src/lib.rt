@@ -4,6 +4,7 @@
 #![tactic(auto)]
 
 pub use fault::VolumeFault;
+pub use kept::{FixedLines, KeptVolume, recover_again};
 pub use laws::{asked_lines_decide, chains_are_walks, lines_asked_so_far_decide};
 pub use layout::{Layout, Shape};
 pub use limits::{MAX_INODES, MAX_JOURNALS, MAX_PAGES};
@@ -16,6 +17,7 @@ mod entry;
 mod fault;
 mod inode;
 mod journal;
+mod kept;
 mod laws;
 mod layout;
 mod limits;

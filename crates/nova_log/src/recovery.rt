@@ -74,7 +74,7 @@ fn read_logs<S: LineSource>(
 }
 
 /// Asks for the links of a log, and then for its entries, whose positions are noted.
-fn read_log<S: LineSource>(
+pub(crate) fn read_log<S: LineSource>(
     alloc: Global,
     source: &mut S,
     geometry: &Geometry,

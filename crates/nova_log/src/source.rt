@@ -12,6 +12,7 @@ use std::marker::Model;
 ///
 /// A source keeps the list of lines asked so far.
 pub trait LineSource {
+    ghost use Rattle.std.specs.List.{AllByRecursion};
     ghost use Rattle.std.specs.Prelude.{ℕ, List};
 
     /// The medium that the source stands for.
@@ -33,6 +34,16 @@ pub trait LineSource {
         ensures asked { OnOk result (asked self.new ≡ asked self.old ++ n ∷ []) }
         ensures err { IfErr result (λ fault. fault ≡ VolumeFault.Memory) }
         ensures refused { OnErr result (asked self.new ≡ asked self.old) };
+
+    /// The lines asked so far, in order.
+    fn asked_so_far(&self) -> &[u32]
+        ensures { result.now ≡ asked self.now };
+
+    /// Asks for lines whose bytes are known.
+    fn ask(&mut self, lines: &[u32]) -> Result<(), AllocError>
+        requires { AllByRecursion (λ l. l < length (medium self.old)) lines.now }
+        ensures same { medium self.new ≡ medium self.old }
+        ensures asked { OnOk result (asked self.new ≡ asked self.old ++ lines.now) };
 }
 
 /// The lines of a medium in memory.
@@ -84,6 +95,14 @@ impl LineSource for MediumLines<'_> {
             return Err(VolumeFault::Memory);
         }
         Ok(*self.medium.read_line(n))
+    }
+
+    fn asked_so_far(&self) -> &[u32] {
+        self.asked()
+    }
+
+    fn ask(&mut self, lines: &[u32]) -> Result<(), AllocError> {
+        self.asked.extend_from_slice(lines)
     }
 }
 

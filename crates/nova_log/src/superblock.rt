@@ -1,6 +1,6 @@
 //! The first line of a volume.
 
-ghost use Rattle.std.specs.Prelude.{◌≡◌, ◌⊎◌, ◌∷◌, [], Some, None, length, IfErr, IfOk};
+ghost use Rattle.std.specs.Prelude.{◌≡◌, ◌⊎◌, ◌∷◌, [], Some, None, length, IfErr, IfOk, IsTrue};
 ghost use Rattle.nova_log.specs.Questions.{IsStopped, IsThrough};
 ghost use Rattle.nova_log.specs.Superblocks.{IsGeometry, geometry_in, geometry_of, layout_of, superblock_fault, superblock_question};
 
@@ -20,6 +20,18 @@ pub struct Geometry {
     pub pages: u64,
     /// The journals, 1 to 8.
     pub journals: u64,
+}
+
+impl Geometry {
+    /// Whether two geometries are the same.
+    pub(crate) fn equals(&self, other: &Geometry) -> bool
+        ensures { IsTrue result → (self.now ≡ other.now) }
+    {
+        self.shape.equals(&other.shape)
+            && self.inodes == other.inodes
+            && self.pages == other.pages
+            && self.journals == other.journals
+    }
 }
 
 /// Asks for the first line.

@@ -3,6 +3,7 @@ use Rattle.std.proofs.Common.{◌≡◌, ℕ, ◌+◌, ◌≤◌, List, Option, 
 use Rattle.std.specs.Prelude.{max, min}
 use Rattle.image_judge.specs.Verdicts.{IsJudged, IsVerdict, first_judged, judged_from}
 use Rattle.image_judge.specs.declared.cause.Cause.{Cause}
+use Rattle.shared_memory.specs.Replies.{trace_in}
 use Rattle.machine.proofs.Determined.{runs_once}
 use Rattle.machine.specs.Run.{Config}
 use Rattle.moment_verdict.specs.Verdicts.{PassBetween}
@@ -24,10 +25,10 @@ all_moments : (s : Setup) (schedule : List Item) (recovery : Sections) (steps : 
     → PassBetween (IsJudged (view_of s recovery steps trace)) (judged_from trace 0 (length trace + 1)) (length trace + 1) → AlwaysRecovers s schedule recovery steps
 all_moments s schedule recovery steps trace is passes end moment cut runs from within is_cut =
     let one_end : is.end ≡ end = runs_once (start_of s) (all_steps schedule) is.end end is.run runs in
-    let same : trace ≡ end.common.trace = is.trace_is ∙ ap (λ (c : Config). c.common.trace) one_end in
-    let all : PassBetween (IsJudged (view_of s recovery steps end.common.trace)) (judged_from end.common.trace 0 (length end.common.trace + 1))
-    (length end.common.trace + 1) = rw same at passes in
-    let here = all moment (from_there (first_judged end.common.trace) (length end.common.trace + 1) moment from) (omega arith) in record {
+    let same : trace ≡ trace_in end.common = is.trace_is ∙ ap (λ (c : Config). trace_in c.common) one_end in
+    let all : PassBetween (IsJudged (view_of s recovery steps (trace_in end.common))) (judged_from (trace_in end.common) 0 (length (trace_in end.common) + 1))
+    (length (trace_in end.common) + 1) = rw same at passes in
+    let here = all moment (from_there (first_judged (trace_in end.common)) (length (trace_in end.common) + 1) moment from) (omega arith) in record {
       window = here.window;
       is_window = here.is_window;
       right = here.judged.1 cut is_cut;

@@ -13,6 +13,7 @@ use Rattle.judge_marks.specs.Windows.{IsWindow}
 use Rattle.judge_marks.specs.declared.fault.MarkFault.{MarkFault}
 use Rattle.judge_marks.specs.declared.fault.MarkFault.TheVariants as marks
 use Rattle.judge_marks.specs.declared.moments.Window.{Window}
+use Rattle.shared_memory.specs.Replies.{trace_in}
 use Rattle.machine.specs.Run.{Config, RunsTo}
 use Rattle.moment_verdict.specs.declared.verdict.Verdict.{Verdict}
 use Rattle.program.specs.Sections.{Sections}
@@ -48,8 +49,8 @@ pub record IsRightAt (view : JudgeView) (moment : ℕ) (cut : ℕ → ℕ) : Typ
 
 abbrev pub AlwaysRecovers : Setup → List Item → Sections → ℕ → Type 0
 AlwaysRecovers s schedule recovery steps = (end : Config) (moment : ℕ) (cut : List (ℕ × ℕ)) → RunsTo (start_of s) (all_steps schedule) end
-    → first_judged end.common.trace ≤ moment → moment ≤ length end.common.trace → IsCut (at_moment end.common.trace moment) cut
-    → IsRightAt (view_of s recovery steps end.common.trace) moment (number_in cut)
+    → first_judged (trace_in end.common) ≤ moment → moment ≤ length (trace_in end.common) → IsCut (at_moment (trace_in end.common) moment) cut
+    → IsRightAt (view_of s recovery steps (trace_in end.common)) moment (number_in cut)
 
 -- the run's first wrong mark has this fault, or no operation begins in it
 pub record HasWrongMarks (s : Setup) (schedule : List Item) (overlapping : Bool) (fault : MarkFault) : Type 0 where

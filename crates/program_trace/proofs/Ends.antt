@@ -3,6 +3,7 @@ use Rattle.std.proofs.Common.{◌≡◌, inl, inr, ◌≤◌, ℕ, List, [], ◌
 use Rattle.std.proofs.lemmas.List.{length-map}
 use Rattle.store_trace.specs.TraceView.{NamesLine}
 use Rattle.store_trace.specs.declared.event.Event.{Event}
+use Rattle.shared_memory.specs.Replies.{trace_in}
 use Rattle.machine.specs.Run.{Config, RunsTo}
 use Rattle.machine.specs.declared.fault.RunStop.{RunStop}
 use Rattle.machine.specs.Represents.{MachineView, Represents}
@@ -40,8 +41,8 @@ runs_whole s schedule planned machine ran whole = record {
 }
 
 -- the events that a machine's run makes from the start are those of Run
-new_events : (c d : Config) (n : ℕ) (schedule : List Item) (traced : List TracedEvent) → c.common.trace ≡ []
-    → TracedRun n c (all_steps schedule) d traced → events_in traced ≡ d.common.trace
+new_events : (c d : Config) (n : ℕ) (schedule : List Item) (traced : List TracedEvent) → trace_in c.common ≡ []
+    → TracedRun n c (all_steps schedule) d traced → events_in traced ≡ trace_in d.common
 new_events c d n schedule traced empty run =
     sym (has_events n c d (all_steps schedule) traced run ∙ ap (λ (l : List Event). l ++ events_in traced) empty)
 
@@ -50,7 +51,7 @@ pub is_traced : (s : Setup) (schedule : List Item) (old new : MachineView) (trac
 is_traced s schedule old new traced at traces =
     let made = (has_run s schedule old new at traces.runs traces.few).has_made in
     let told = traces.traces (start_of s) at.represents in
-    let events : events_in traced ≡ told.0.common.trace = new_events (start_of s) told.0 0 schedule traced refl told.1 in
+    let events : events_in traced ≡ trace_in told.0.common = new_events (start_of s) told.0 0 schedule traced refl told.1 in
     let few : length (events_in traced) ≤ 65536 = subst (λ (l : List Event). length l ≤ 65536) (told.2.shared.trace ∙ sym events) traces.few in (
       record {
         within = made.within;

@@ -1,5 +1,6 @@
 -- Whether the run of a program by a schedule is whole.
 use Rattle.std.specs.Prelude.{ℕ, List}
+use Rattle.shared_memory.specs.Replies.{trace_in}
 use Rattle.machine.specs.Run.{Config, RunsTo}
 use Rattle.schedule.specs.Steps.{all_steps}
 use Rattle.schedule.specs.declared.items.Item.{Item}
@@ -18,10 +19,10 @@ pub record IsEnd (s : Setup) (schedule : List Item) (end : Config) : Type 0 wher
 pub record AreCausesOfRun (s : Setup) (schedule : List Item) (planned : List ℕ) (causes : List Unfinished) : Type 0 where
   pub end : Config
   pub is_end : IsEnd s schedule end
-  pub causes_are : AreCauses planned end.harts end.common.trace causes
+  pub causes_are : AreCauses planned end.harts (trace_in end.common) causes
 
 -- at the end of the run each hart has exited with 0, each planned operation has begun, and each that has begun has ended
 pub record RunsWhole (s : Setup) (schedule : List Item) (planned : List ℕ) : Type 0 where
   pub end : Config
   pub is_end : IsEnd s schedule end
-  pub whole : IsWhole planned end.harts end.common.trace
+  pub whole : IsWhole planned end.harts (trace_in end.common)

@@ -1,2 +1,3 @@
+pub mod OneHart
 pub mod Leaving
 pub mod Numbering

@@ -1,5 +1,5 @@
 -- The events of a run are numbered by its hart steps.
-use Rattle.std.proofs.Common.{◌≡◌, ℕ, zero, suc, ◌+◌, ◌<◌, ◌≤◌, ◌⊎◌, List, [], ◌∷◌, ◌++◌, length, take, map, Some, All, Option, None, slice_get, get_or, refl, sym, ap, ◌∙◌, inl, inr, arith, append_assoc, append-nil}
+use Rattle.std.proofs.Common.{◌≡◌, ℕ, zero, suc, ◌+◌, ◌<◌, ◌⊎◌, List, [], ◌∷◌, ◌++◌, length, take, map, Some, All, Option, None, slice_get, get_or, refl, sym, ap, ◌∙◌, inl, inr, arith, append_assoc, append-nil}
 use Rattle.std.proofs.lemmas.List.{length-append, length-map, map-append, take_more}
 use Rattle.std.proofs.lemmas.Option.{slice_get-get_or, slice_get_within}
 use Rattle.hart.specs.declared.state.HartState.{HartState}
@@ -8,11 +8,12 @@ use Rattle.schedule.specs.declared.items.Step.{Step}
 use Rattle.schedule.specs.declared.items.Step.TheVariants.{Hart, Evict}
 use Rattle.schedule.specs.Steps.{all_steps}
 use Rattle.store_trace.specs.declared.event.Event.{Event}
-use Rattle.recording.specs.Recorded.{AreNumbers, IsAmong, IsAtStep, IsMadeBy, MayLackRoom, RecordedView, Records, StopsRecording}
+use Rattle.recording.specs.Recorded.{AreNumbers, FailsToRecord, IsAmong, IsAtStep, IsMadeBy, MayLackRoom, RecordedView, Records, StopsRecording}
 use Rattle.recording.proofs.Leaving.{left_at}
 use Rattle.run_trace.specs.Traced.{StopsTracing, TakesMemory, TracedRun, TracedStep, Traces, events_in, passed}
 use Rattle.run_trace.specs.declared.traced_event.TracedEvent.{TracedEvent}
 use Rattle.run_trace.proofs.Traces.{has_events, is_run}
+use Rattle.shared_memory.specs.Replies.{trace_in}
 use Rattle.machine.specs.Evicting.{hart_steps}
 use Rattle.machine.specs.Run.{Config, RunsTo}
 use Rattle.machine.specs.Refusals.{RefusesNext}
@@ -20,6 +21,7 @@ use Rattle.machine.specs.Represents.{IsRunning, IsThere, MachineView, Represents
 use Rattle.schedule.specs.declared.place.Place.{Place}
 use Rattle.machine.proofs.Counting.{counted}
 use Rattle.machine.specs.declared.fault.RunStop.{RunStop}
+use Rattle.shared_memory.specs.Limits.{RefusesStart}
 use Rattle.shared_memory.specs.declared.fault.StepFault.TheVariants.{Memory}
 use Rattle.machine.proofs.RunParts.{grows, run_joined}
 
@@ -61,12 +63,12 @@ numbers_pushed c steps numbers number all made i n got = elim (pushed_get number
 
 -- and those of the events of one step more
 one_more : (c d e : Config) (past : List Step) (step : Step) (numbers : List ℕ) (here : List TracedEvent) → RunsTo c past d
-    → length numbers ≡ length d.common.trace → AreNumbers c past numbers → TracedStep (length (hart_steps past)) d step e here
+    → length numbers ≡ length (trace_in d.common) → AreNumbers c past numbers → TracedStep (length (hart_steps past)) d step e here
     → AreNumbers c (past ++ step ∷ []) (numbers ++ map (λ (t : TracedEvent). t.step) here)
 one_more c d e past step numbers [] runs each are told = rw append-nil (numbers_kept c past (step ∷ []) numbers are)
 one_more c d e past (Evict line) numbers (t ∷ []) runs each are told = absurd (told.pcs 0 t (omega arith))
 one_more c d e past (Hart h) numbers (t ∷ []) runs each are told =
-    let longer = ap (λ (l : List Event). length l) told.events ∙ length-append d.common.trace (t.event ∷ []) in
+    let longer = ap (λ (l : List Event). length l) told.events ∙ length-append (trace_in d.common) (t.event ∷ []) in
     numbers_pushed c (past ++ Hart h ∷ []) numbers t.step (numbers_kept c past (Hart h ∷ []) numbers are) (record {
       before = past;
       hart = h;
@@ -83,8 +85,8 @@ one_more c d e past (Hart h) numbers (t ∷ []) runs each are told =
 one_more c d e past step numbers (t ∷ u ∷ more) runs each are told =
     let g = grows d e step told.steps in
     let few = g.few in
-    let added = ap (λ (l : List Event). length l) g.trace ∙ length-append d.common.trace g.more in
-    let told_all = ap (λ (l : List Event). length l) told.events ∙ length-append d.common.trace (events_in (t ∷ u ∷ more)) in
+    let added = ap (λ (l : List Event). length l) g.trace ∙ length-append (trace_in d.common) g.more in
+    let told_all = ap (λ (l : List Event). length l) told.events ∙ length-append (trace_in d.common) (events_in (t ∷ u ∷ more)) in
     absurd (omega arith)
 
 passed_more : (past : List Step) (step : Step) → passed (length (hart_steps past)) step ≡ length (hart_steps (past ++ step ∷ []))
@@ -93,13 +95,13 @@ passed_more past (Evict line) = let sum = counted past (Evict line ∷ []) in om
 
 -- a traced run numbers its events
 pub traced_numbers : (c d e : Config) (past steps : List Step) (numbers : List ℕ) (traced : List TracedEvent) → RunsTo c past d
-    → length numbers ≡ length d.common.trace → AreNumbers c past numbers → TracedRun (length (hart_steps past)) d steps e traced
+    → length numbers ≡ length (trace_in d.common) → AreNumbers c past numbers → TracedRun (length (hart_steps past)) d steps e traced
     → AreNumbers c (past ++ steps) (numbers ++ map (λ (t : TracedEvent). t.step) traced)
 traced_numbers c d e past [] numbers traced runs each are told = rw (told.1, append-nil, append-nil) are
 traced_numbers c d e past (step ∷ steps) numbers traced runs each are told =
     let here : List ℕ = map (λ (t : TracedEvent). t.step) told.1 in
     let first = one_more c d told.0 past step numbers told.1 runs each are told.4 in
-    let longer = ap (λ (l : List Event). length l) told.4.events ∙ length-append d.common.trace (events_in told.1) in
+    let longer = ap (λ (l : List Event). length l) told.4.events ∙ length-append (trace_in d.common) (events_in told.1) in
     let sum = length-append numbers here in
     let same = length-map told.1 (λ (t : TracedEvent). t.step) in
     let events = length-map told.1 (λ (t : TracedEvent). t.event) in
@@ -117,7 +119,7 @@ pub all_among : (m : MachineView) (harts lines : ℕ) (steps : List Step) → ha
 all_among m harts lines steps e f there k d inside = among m harts lines _ e f (there k d inside)
 
 pub records_all : (c : Config) (old new : MachineView) (traced : List TracedEvent) (recorded : RecordedView) → Represents old c
-    → c.common.trace ≡ [] → Traces old new (all_steps recorded.items) traced → old.shared.cache.lines ≡ recorded.start
+    → trace_in c.common ≡ [] → Traces old new (all_steps recorded.items) traced → old.shared.cache.lines ≡ recorded.start
     → old.shared.cache.cache.capacity ≡ recorded.capacity → recorded.trace ≡ new.shared.trace → recorded.harts ≡ new.harts
     → recorded.left ≡ new.shared.cache.lines → recorded.steps ≡ map (λ (t : TracedEvent). t.step) traced → Records c recorded
 records_all c old new traced recorded stands none traces lines capacity trace harts left numbers =
@@ -136,10 +138,10 @@ records_all c old new traced recorded stands none traces lines capacity trace ha
 
 -- each event has its number
 pub each_event : (c : Config) (old new : MachineView) (steps : List Step) (traced : List TracedEvent) → Represents old c
-    → c.common.trace ≡ [] → Traces old new steps traced → length traced ≡ length new.shared.trace
+    → trace_in c.common ≡ [] → Traces old new steps traced → length traced ≡ length new.shared.trace
 each_event c old new steps traced stands none traces =
     let told = traces.traces c stands in
-    let events : told.0.common.trace ≡ events_in traced =
+    let events : trace_in told.0.common ≡ events_in traced =
     has_events 0 c told.0 steps traced told.1 ∙ ap (λ (l : List Event). l ++ events_in traced) none in
     sym (length-map traced (λ (t : TracedEvent). t.event)) ∙ ap (λ (l : List Event). length l) (sym (told.2.shared.trace ∙ events))
 
@@ -199,16 +201,12 @@ memory_stops c lines items stop place memory = record {
   room = λ _. inl (ap (λ (p : Place). p.item) place, ap (λ (p : Place). p.steps) place);
 }
 
--- a machine that was made has harts and a capacity within the limits
-pub no_such_hart : (harts capacity : ℕ) → (1 ≤ harts) × (harts ≤ 8) × (1 ≤ capacity) × (capacity ≤ 16384)
-    → ¬ ((harts < 1) ⊎ (8 < harts))
-no_such_hart harts capacity (some, few, room, bounded) (inl low) = omega arith
-no_such_hart harts capacity (some, few, room, bounded) (inr high) = omega arith
-
-pub out_of_limits : (harts capacity : ℕ) → (1 ≤ harts) × (harts ≤ 8) × (1 ≤ capacity) × (capacity ≤ 16384)
-    → ¬ ((capacity < 1) ⊎ (16384 < capacity))
-out_of_limits harts capacity (some, few, room, bounded) (inl low) = omega arith
-out_of_limits harts capacity (some, few, room, bounded) (inr high) = omega arith
+-- there is no machine to begin with
+pub fails_before : (c : Config) (harts capacity lines : ℕ) (items : List Item) (stop : RunStop) → stop.place ≡ record { item = 0; steps = 0 }
+    → RefusesStart harts capacity stop.fault → FailsToRecord c harts capacity lines items stop
+fails_before c harts capacity lines items stop place (inl outside) = inl (outside, place)
+fails_before c harts capacity lines items stop place (inr refused) =
+    inr (refused.0, memory_stops c lines items stop place refused.1)
 
 pub take_with : (xs : List HartState) (i : ℕ) (x : HartState) → slice_get xs i ≡ Some x → take (i + 1) xs ≡ take i xs ++ x ∷ []
 take_with xs i x got =

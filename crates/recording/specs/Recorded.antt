@@ -1,17 +1,20 @@
 -- What is kept of a run: from where, by which schedule and to where it went, and which hart step made each event.
-use Rattle.std.specs.Prelude.{◌≡◌, ◌⊎◌, ℕ, ◌+◌, ◌<◌, ◌≤◌, List, ◌∷◌, ◌++◌, All, Option, Some, None, length, slice_get}
+use Rattle.std.specs.Prelude.{◌≡◌, ◌⊎◌, ℕ, ◌+◌, ◌<◌, ◌≤◌, List, ◌∷◌, ◌++◌, All, Option, Some, None, length, replicate, slice_get}
 use Rattle.hart.specs.declared.state.HartState.{HartState}
 use Rattle.schedule.specs.Steps.{all_steps}
 use Rattle.schedule.specs.declared.items.Item.{Item}
 use Rattle.schedule.specs.declared.items.Step.{Step}
 use Rattle.schedule.specs.declared.items.Step.TheVariants.{Hart, Evict}
 use Rattle.store_trace.specs.declared.event.Event.{Event}
+use Rattle.shared_memory.specs.Replies.{trace_in}
 use Rattle.machine.specs.Evicting.{hart_steps}
 use Rattle.machine.specs.Run.{Config, RunsTo, StepsTo}
-use Rattle.machine.specs.Represents.{MachineView, Represents}
+use Rattle.machine.specs.Represents.{IsRunning, MachineView, Represents}
 use Rattle.machine.specs.Stops.{StopsAt}
 use Rattle.schedule.specs.Places.{steps_before, steps_of_item}
 use Rattle.machine.specs.declared.fault.RunStop.{RunStop}
+use Rattle.shared_memory.specs.Limits.{AreOutsideLimits, AreWithinLimits}
+use Rattle.run_trace.specs.Traced.{steps_alone}
 use Rattle.shared_memory.specs.declared.fault.StepFault.TheVariants.{Memory}
 
 -- what a contract sees of a recorded run: the lines of persistent memory at the start, the cache's capacity, the schedule, the events, the
@@ -37,8 +40,8 @@ pub record IsMadeBy (c : Config) (steps : List Step) (i n : ℕ) : Type 0 where
   pub number : n ≡ length (hart_steps before) + 1
   pub runs : RunsTo c before old
   pub makes : StepsTo old (Hart hart) new
-  pub earlier : length old.common.trace ≡ i
-  pub event : length new.common.trace ≡ i + 1
+  pub earlier : length (trace_in old.common) ≡ i
+  pub event : length (trace_in new.common) ≡ i + 1
 
 -- each number is that of the hart step that made its event
 abbrev pub AreNumbers : Config → List Step → List ℕ → Type 0
@@ -62,7 +65,7 @@ pub record Records (c : Config) (recorded : RecordedView) : Type 0 where
   pub there : All (IsAmong (length recorded.harts) (length recorded.start)) (all_steps recorded.items)
   pub runs : RunsTo c (all_steps recorded.items) end
   pub harts : recorded.harts ≡ end.harts
-  pub trace : recorded.trace ≡ end.common.trace
+  pub trace : recorded.trace ≡ trace_in end.common
   pub numbers : AreNumbers c (all_steps recorded.items) recorded.steps
   pub left : IsLeftAt end recorded.capacity recorded.left
 
@@ -79,7 +82,7 @@ pub record IsRefused (c : Config) (count : ℕ) (items : List Item) (stop : RunS
 -- the next step may need room: it is that of a hart which is there, and the trace isn't full
 abbrev pub MayLackRoom : Config → Option Step → Type 0
 MayLackRoom c None = ⊥
-MayLackRoom c (Some (Hart h)) = (h < length c.harts) × (length c.common.trace < 65536)
+MayLackRoom c (Some (Hart h)) = (h < length c.harts) × (length (trace_in c.common) < 65536)
 MayLackRoom c (Some (Evict line)) = ⊥
 
 -- a run from c is recorded up to the stop, and no further: memory was refused, or the machine refuses the next step;
@@ -91,7 +94,22 @@ pub record StopsRecording (c : Config) (lines : ℕ) (items : List Item) (stop :
   pub room : stop.fault ≡ Memory → ((stop.place.item ≡ 0) × (stop.place.steps ≡ 0))
       ⊎ MayLackRoom reached (slice_get (steps_of_item (slice_get items stop.place.item)) stop.place.steps)
 
+-- a run from c is not recorded: before the first step, since a number is outside its limits; or all are within them, and it is
+-- recorded up to the stop alone
+abbrev pub FailsToRecord : Config → ℕ → ℕ → ℕ → List Item → RunStop → Type 0
+FailsToRecord c harts capacity lines items stop =
+    (AreOutsideLimits harts capacity stop.fault × (stop.place ≡ record { item = 0; steps = 0 }))
+    ⊎ (AreWithinLimits harts capacity × StopsRecording c lines items stop)
+
 -- a stop is before the first step, or before one of the schedule's
 abbrev pub IsAtStep : List Item → RunStop → Type 0
 IsAtStep items stop = ((stop.place.item ≡ 0) × (stop.place.steps ≡ 0))
     ⊎ ((stop.place.item < length items) × (stop.place.steps < length (steps_of_item (slice_get items stop.place.item))))
+
+-- what is recorded is a run of steps of hart 0 alone, which runs before each of them: at its end it has stopped, or has made so many
+pub record HasGoneOn (c : Config) (most : ℕ) (recorded : RecordedView) : Type 0 where
+  pub made : ℕ
+  pub items : recorded.items ≡ steps_alone 0 made
+  pub most_made : made ≤ most
+  pub ended : IsRunning (slice_get recorded.harts 0) → made ≡ most
+  pub running : (k : ℕ) (d : Config) → k < made → RunsTo c (replicate k (Hart 0)) d → IsRunning (slice_get d.harts 0)

@@ -1,9 +1,11 @@
 //! What is kept of a run, for those who look at it afterwards.
 #![tactic(auto)]
 
+mod alone;
 mod finishing;
 mod recorded;
 mod recording;
 
+pub use alone::record_alone;
 pub use recorded::Recorded;
 pub use recording::record;

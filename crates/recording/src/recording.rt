@@ -3,10 +3,11 @@
 ghost use Rattle.machine.specs.Left.{IsLeftBy};
 ghost use Rattle.machine.specs.Run.{started};
 ghost use Rattle.machine.specs.Represents.{Represents, RepresentsExactly};
-ghost use Rattle.recording.specs.Recorded.{IsAtStep, Records, StopsRecording};
+ghost use Rattle.recording.specs.Recorded.{FailsToRecord, IsAtStep, Records};
 ghost use Rattle.schedule.specs.Grammar.{hart_steps as count_of_hart_steps};
 ghost use Rattle.schedule.specs.Steps.{all_steps};
-ghost use Rattle.std.specs.Prelude.{◌≡◌, ◌^◌, ◌<◌, ◌≤◌, ◌⊎◌, IfErr, IfOk, length};
+ghost use Rattle.shared_memory.specs.Limits.{AreWithinLimits, RefusesStart};
+ghost use Rattle.std.specs.Prelude.{◌≡◌, ◌^◌, ◌<◌, IfErr, IfOk, OnOk, length};
 
 use crate::finishing::finish;
 use crate::recorded::Recorded;
@@ -40,11 +41,8 @@ pub fn record(
     ensures start { IfOk result (λ recorded. recorded.start ≡ medium) }
     ensures items { IfOk result (λ recorded. recorded.items ≡ schedule.now) }
     ensures capacity { IfOk result (λ recorded. recorded.capacity ≡ capacity) }
-    ensures harts { ((harts < 1) ⊎ (8 < harts)) → result ≡ Err (record { place = record { item = 0; steps = 0 }; fault = StepFault.NoSuchHart }) }
-    ensures limits { (1 ≤ harts) × (harts ≤ 8) → ((capacity < 1) ⊎ (16384 < capacity)) →
-        result ≡ Err (record { place = record { item = 0; steps = 0 }; fault = StepFault.OutOfLimits }) }
-    ensures err { IfErr result (λ stop. (1 ≤ harts) × (harts ≤ 8) → (1 ≤ capacity) × (capacity ≤ 16384) →
-        StopsRecording (started program medium harts) (length medium) schedule.now stop) }
+    ensures within { OnOk result (AreWithinLimits harts capacity) }
+    ensures err { IfErr result (FailsToRecord (started program medium harts) harts capacity (length medium) schedule.now) }
     ensures place { IfErr result (IsAtStep schedule.now) }
 {
     let machine = match prepare(alloc, program, &medium, harts, capacity) {
@@ -62,7 +60,7 @@ pub fn record(
 }
 
 /// A stop before the first step.
-fn before_all(fault: StepFault) -> RunStop
+pub(crate) fn before_all(fault: StepFault) -> RunStop
     ensures { result ≡ record { place = record { item = 0; steps = 0 }; fault = fault } }
 {
     RunStop {
@@ -72,7 +70,7 @@ fn before_all(fault: StepFault) -> RunStop
 }
 
 /// A machine within its limits, over a copy of the medium.
-fn prepare(
+pub(crate) fn prepare(
     alloc: Global,
     program: Program,
     medium: &Medium,
@@ -83,10 +81,8 @@ fn prepare(
     ensures exact { IfOk result (λ machine. RepresentsExactly machine (started program medium.now harts)) }
     ensures lines { IfOk result (λ machine. machine.shared.cache.lines ≡ medium.now) }
     ensures capacity { IfOk result (λ machine. machine.shared.cache.cache.capacity ≡ capacity) }
-    ensures within { IfOk result (λ _. (1 ≤ harts) × (harts ≤ 8) × (1 ≤ capacity) × (capacity ≤ 16384)) }
-    ensures harts { ((harts < 1) ⊎ (8 < harts)) → result ≡ Err StepFault.NoSuchHart }
-    ensures limits { (1 ≤ harts) × (harts ≤ 8) → ((capacity < 1) ⊎ (16384 < capacity)) → result ≡ Err StepFault.OutOfLimits }
-    ensures err { IfErr result (λ fault. (1 ≤ harts) × (harts ≤ 8) → (1 ≤ capacity) × (capacity ≤ 16384) → fault ≡ StepFault.Memory) }
+    ensures within { OnOk result (AreWithinLimits harts capacity) }
+    ensures refused { IfErr result (RefusesStart harts capacity) }
 {
     check_limits(harts, capacity)?;
     machine_over(alloc, program, medium, harts, capacity)
@@ -100,10 +96,7 @@ fn machine_over(
     harts: u32,
     capacity: u32,
 ) -> Result<Machine, StepFault>
-    requires few { harts ≤ 8 }
-    requires some { 1 ≤ harts }
-    requires room { 1 ≤ capacity }
-    requires bounded { capacity ≤ 16384 }
+    requires { AreWithinLimits harts capacity }
     ensures ok { IfOk result (λ machine. Represents machine (started program medium.now harts)) }
     ensures exact { IfOk result (λ machine. RepresentsExactly machine (started program medium.now harts)) }
     ensures lines { IfOk result (λ machine. machine.shared.cache.lines ≡ medium.now) }

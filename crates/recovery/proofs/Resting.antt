@@ -37,7 +37,6 @@ pub begins : (old new : Engine) (image : List (List ℕ)) → IsAtRest old → n
 begins old new image rest hart text held reserved events loaded = record {
   harts = rw hart refl;
   memory = rw held (rest.memory.memory image);
-  replays = refl;
   text = rw (text, rest.fetched, rest.start) (starting_text old.world.held.program image rest.size);
   reserved = rw reserved (λ l. refl);
   events = events;

@@ -3,6 +3,7 @@ use Rattle.std.proofs.Common.{◌≡◌, ℕ, zero, suc, ◌+◌, ◌-◌, ◌<�
 use Rattle.hart.specs.declared.state.Status.{Status}
 use Rattle.hart.specs.declared.state.Status.TheVariants.{Running, Exited, Trapped}
 use Rattle.schedule.specs.declared.items.Step.TheVariants.{Hart}
+use Rattle.shared_memory.specs.Replies.{trace_in}
 use Rattle.machine.specs.Run.{Config, StepsTo}
 use Rattle.machine.specs.Stops.{has_stopped}
 use Rattle.recovery_run.specs.Recovery.{RunsFor}
@@ -24,7 +25,7 @@ runs_left c d e made steps full fits first rest =
     let all : made + (steps - made) ≡ steps = omega arith in
     rw all at (goes_on c d e made (steps - made) full first rest)
 
-full_there : (d e : Config) (left : ℕ) → 0 < left → StepsTo d (Hart 0) e → 65536 < length e.common.trace → RunsFor d left d true
+full_there : (d e : Config) (left : ℕ) → 0 < left → StepsTo d (Hart 0) e → 65536 < length (trace_in e.common) → RunsFor d left d true
 full_there d e zero some step over = absurd (omega arith)
 full_there d e (suc left) some step over = (e, step, inr (over, refl, refl))
 

@@ -18,8 +18,8 @@ use Rattle.line_memory.specs.declared.TheConstants.{TEXT_BASE, TEXT_SIZE}
 use Rattle.schedule.specs.declared.items.Step.TheVariants.{Hart}
 use Rattle.shared_memory.specs.declared.history.Entry.{Entry}
 use Rattle.shared_memory.specs.declared.history.Entry.TheVariants.{Asked}
-use Rattle.shared_memory.specs.Histories.{calls_of, copied, has_reserved, is_renewing, memory_after, replayed, text_of}
-use Rattle.shared_memory.specs.Replies.{events_of, reply_after}
+use Rattle.shared_memory.specs.Histories.{calls_of, fetched_text, has_reserved, is_renewing, memory_after, replayed, text_of}
+use Rattle.shared_memory.specs.Replies.{events_of, memory_in, reply_after, trace_in}
 use Rattle.machine.specs.Run.{Config, Executes, StepsTo, after_request, fetched, with_hart}
 use Rattle.machine.specs.Represents.{text_bytes}
 use Rattle.machine.proofs.Stepping.{hart_steps}
@@ -62,7 +62,7 @@ text_now bytes held image read =
 
 text_after : (old new : FetchedView) (held : HeldView) (image : List (List ℕ)) (initial : Memory) (history : List Entry) (request : Request) (reply : Reply)
     → Refetches old new held request → memory_of held image ≡ replayed initial (Asked 0 request reply ∷ history)
-    → text_bytes old.bytes ≡ copied initial 0 history → text_bytes new.bytes ≡ copied initial 0 (Asked 0 request reply ∷ history)
+    → text_bytes old.bytes ≡ fetched_text initial 0 history → text_bytes new.bytes ≡ fetched_text initial 0 (Asked 0 request reply ∷ history)
 text_after old new held image initial history request reply text now was = elim (cases_Bool (is_renewing request)) [
   | inl renews ↦
       rw renews (text_now new.bytes held image (text.renewed renews) ∙ ap (λ (memory : Memory). text_of memory) now)
@@ -84,7 +84,6 @@ goes_alone old new image after running needs e = λ c stands. (
   rw e (record {
     harts = rw stands.harts refl;
     memory = stands.memory;
-    replays = stands.replays;
     text = stands.text;
     reserved = stands.reserved;
     events = stands.events;
@@ -103,7 +102,6 @@ goes_trapped old new image trap running needs e = λ c stands.
       rw e (record {
         harts = rw stands.harts refl;
         memory = stands.memory;
-        replays = stands.replays;
         text = stands.text;
         reserved = stands.reserved;
         events = stands.events;
@@ -119,22 +117,18 @@ answered_stands : (old new : Engine) (image : List (List ℕ)) (i : Instr) (requ
 answered_stands old new image i request reply c told serves hart text stands =
     let s = rw told at serves in
     let h = rw told at hart in
-    let memory : memory_of new.world.held image ≡ memory_after c.common.memory request (reply_after c.common 0 request) =
+    let memory : memory_of new.world.held image ≡ memory_after (memory_in c.common) request (reply_after c.common 0 request) =
     s.memory ∙ ap (λ (m : Memory). memory_after m request (reply_after c.common 0 request)) stands.memory in
-    let replays : memory_after c.common.memory request (reply_after c.common 0 request)
-    ≡ replayed c.common.initial (Asked 0 request (reply_after c.common 0 request) ∷ c.common.history) =
-    ap (λ (m : Memory). memory_after m request (reply_after c.common 0 request)) stands.replays in
-    let all : length (c.common.trace ++ events_of 0 request (reply_after c.common 0 request))
-    ≡ length c.common.trace + length (events_of 0 request (reply_after c.common 0 request)) =
-    length-append c.common.trace (events_of 0 request (reply_after c.common 0 request)) in
-    let events : new.world.events ≡ length (c.common.trace ++ events_of 0 request (reply_after c.common 0 request)) =
+    let all : length (trace_in c.common ++ events_of 0 request (reply_after c.common 0 request))
+    ≡ length (trace_in c.common) + length (events_of 0 request (reply_after c.common 0 request)) =
+    length-append (trace_in c.common) (events_of 0 request (reply_after c.common 0 request)) in
+    let events : new.world.events ≡ length (trace_in c.common ++ events_of 0 request (reply_after c.common 0 request)) =
     s.events ∙ ap (λ (n : ℕ). n + length (events_of 0 request (reply_after c.common 0 request))) stands.events ∙ sym all in
     record {
       harts = rw (stands.harts, h) refl;
       memory = memory;
-      replays = replays;
       text = text_after old.text new.text new.world.held image c.common.initial c.common.history request (reply_after c.common 0 request) text
-          (memory ∙ replays) stands.text;
+          memory stands.text;
       reserved = s.reserved (flat_map calls_of c.common.history) stands.reserved;
       events = events;
       few = let few = s.few in omega arith;
@@ -159,9 +153,9 @@ goes_full old new image i request running needs spelled e too_many = (
   λ c stands.
       let told : reply_to old.world image request ≡ reply_after c.common 0 request = reply_stands old image request c stands in
       let more = rw told at too_many.more in
-      let all : length (c.common.trace ++ events_of 0 request (reply_after c.common 0 request))
-      ≡ length c.common.trace + length (events_of 0 request (reply_after c.common 0 request)) =
-      length-append c.common.trace (events_of 0 request (reply_after c.common 0 request)) in
+      let all : length (trace_in c.common ++ events_of 0 request (reply_after c.common 0 request))
+      ≡ length (trace_in c.common) + length (events_of 0 request (reply_after c.common 0 request)) =
+      length-append (trace_in c.common) (events_of 0 request (reply_after c.common 0 request)) in
       let count = stands.events in (
         after_request c 0 old.hart i request,
         steps old image c (after_request c 0 old.hart i request) (Ask request) stands running (Ask request, needs, (i, spelled, refl)),

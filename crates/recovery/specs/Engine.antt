@@ -5,7 +5,8 @@ use Rattle.hart.specs.Effect.{answered}
 use Rattle.hart.specs.declared.need.Reply.{Reply}
 use Rattle.hart.specs.declared.need.Request.{Request}
 use Rattle.schedule.specs.declared.items.Step.TheVariants.{Hart}
-use Rattle.shared_memory.specs.Histories.{calls_of, copied, replayed}
+use Rattle.shared_memory.specs.Replies.{memory_in, trace_in}
+use Rattle.shared_memory.specs.Histories.{calls_of, fetched_text}
 use Rattle.machine.specs.Run.{Config, StepsTo}
 use Rattle.machine.specs.Represents.{text_bytes}
 use Rattle.held_memory.specs.Memory.{IsSame, memory_of}
@@ -21,12 +22,11 @@ use Rattle.recovery.specs.declared.engine.Engine.{Engine}
 -- over the lines of an image, it represents a configuration of hart 0 alone
 pub record Represents (engine : Engine) (image : List (List ℕ)) (c : Config) : Type 0 where
   pub harts : c.harts ≡ engine.hart ∷ []
-  pub memory : memory_of engine.world.held image ≡ c.common.memory
-  pub replays : c.common.memory ≡ replayed c.common.initial c.common.history
-  pub text : text_bytes engine.text.bytes ≡ copied c.common.initial 0 c.common.history
+  pub memory : memory_of engine.world.held image ≡ memory_in c.common
+  pub text : text_bytes engine.text.bytes ≡ fetched_text c.common.initial 0 c.common.history
   pub reserved : Holds engine.world.reserved (flat_map calls_of c.common.history)
-  pub events : engine.world.events ≡ length c.common.trace
-  pub few : length c.common.trace ≤ 65536
+  pub events : engine.world.events ≡ length (trace_in c.common)
+  pub few : length (trace_in c.common) ≤ 65536
   pub lines : engine.world.loaded ≡ loaded c.common.history
 
 -- what stays the same in all that a routine does
@@ -49,7 +49,7 @@ IsAsked old new image i request false = (new ≡ old) × IsTooMany old.world ima
 -- many.
 abbrev pub Goes : Engine → Engine → List (List ℕ) → Bool → Type 0
 Goes old new image true = (c : Config) → Represents old image c → (d : Config) × StepsTo c (Hart 0) d × Represents new image d
-Goes old new image false = (new ≡ old) × ((c : Config) → Represents old image c → (d : Config) × StepsTo c (Hart 0) d × (65536 < length d.common.trace))
+Goes old new image false = (new ≡ old) × ((c : Config) → Represents old image c → (d : Config) × StepsTo c (Hart 0) d × (65536 < length (trace_in d.common)))
 
 -- it ran for so many steps, and is full or not
 pub record Runs (old new : Engine) (image : List (List ℕ)) (steps : ℕ) (full : Bool) : Type 0 where

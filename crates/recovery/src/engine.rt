@@ -9,7 +9,7 @@ ghost use Rattle.recovery.specs.Engine.{Goes, IsAsked, IsKept, Runs};
 
 use crate::fetched::FetchedText;
 use crate::world::{Served, World};
-use hart::{Advance, HartState, Request, Status, advance, take_reply};
+use hart::{Advance, HartState, Request, Status, advance, resume};
 use held_memory::Source;
 use isa_table::Instr;
 use std::alloc::AllocError;
@@ -92,7 +92,7 @@ impl Engine {
         match self.world.request(image, request)? {
             Served::Full => Ok(false),
             Served::Replied(reply) => {
-                take_reply(&mut self.hart, instr, reply);
+                resume(&mut self.hart, instr, reply);
                 self.text.renew_after(request, &self.world);
                 Ok(true)
             }

@@ -7,6 +7,7 @@ use Rattle.hart.specs.Registers.{register}
 use Rattle.hart.specs.declared.state.HartState.{HartState}
 use Rattle.hart.specs.declared.state.Status.{Status}
 use Rattle.hart.specs.declared.state.Status.TheVariants as statuses
+use Rattle.shared_memory.specs.Replies.{memory_in}
 use Rattle.machine.specs.Run.{Config}
 use Rattle.recovery_run.specs.Answers.{answer, answer_at, answer_by, answer_of_hart, bytes_from}
 use Rattle.recovery_run.specs.Loading.{AreAsOne}
@@ -40,5 +41,5 @@ answer_of_same m o (Some s) same = answer_by_same m o s s.status same
 pub answer_same : (c d : Config) (full : Bool) → AreAsOne c d → answer d full ≡ answer c full
 answer_same c d true one = refl
 answer_same c d false one =
-    ap (λ (harts : List HartState). answer_of_hart d.common.memory (slice_get harts 0)) one.harts
-    ∙ answer_of_same c.common.memory d.common.memory (slice_get c.harts 0) one.memory
+    ap (λ (harts : List HartState). answer_of_hart (memory_in d.common) (slice_get harts 0)) one.harts
+    ∙ answer_of_same (memory_in c.common) (memory_in d.common) (slice_get c.harts 0) one.memory

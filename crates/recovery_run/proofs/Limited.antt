@@ -7,7 +7,7 @@ use Rattle.line_memory.specs.Memory.{Memory}
 use Rattle.program.specs.Sections.{Sections}
 use Rattle.schedule.specs.declared.items.Step.TheVariants.{Hart}
 use Rattle.shared_memory.specs.declared.history.Entry.{Entry}
-use Rattle.shared_memory.specs.Replies.{starting_memory}
+use Rattle.shared_memory.specs.Replies.{starting_memory, trace_in}
 use Rattle.hart.specs.declared.state.HartState.{HartState}
 use Rattle.hart.specs.declared.state.Status.{Status}
 use Rattle.hart.specs.declared.state.Status.TheVariants.{Running, Exited, Trapped}
@@ -67,13 +67,13 @@ next_for m o c d (suc steps) c2 d2 full other_full count alike twins (middle, x,
     let t = twin_steps m o c d (Hart 0) middle alike twins x in
     let one : other ≡ t.end = steps_once d (Hart 0) other t.end y t.steps in
     let lengths = t.follows.events in
-    let there : length other.common.trace ≡ length t.end.common.trace = ap (λ (end : Config). length end.common.trace) one in
+    let there : length (trace_in other.common) ≡ length (trace_in t.end.common) = ap (λ (end : Config). length (trace_in end.common)) one in
     absurd (omega (arith, past, room))
 next_for m o c d (suc steps) c2 d2 full other_full count alike twins (middle, x, inl (room, later)) (other, y, inr (over, f, q)) agree =
     let t = twin_steps m o c d (Hart 0) middle alike twins x in
     let one : other ≡ t.end = steps_once d (Hart 0) other t.end y t.steps in
     let lengths = t.follows.events in
-    let there : length other.common.trace ≡ length t.end.common.trace = ap (λ (end : Config). length end.common.trace) one in
+    let there : length (trace_in other.common) ≡ length (trace_in t.end.common) = ap (λ (end : Config). length (trace_in end.common)) one in
     absurd (omega (arith, over, room))
 next_for m o c d (suc steps) c2 d2 full other_full count alike twins (middle, x, inl (room, later)) (y0, y, inl (under, then_on)) agree =
     let t = twin_steps m o c d (Hart 0) middle alike twins x in
@@ -125,7 +125,7 @@ is_whole_run c d zero (e, f) = e
 is_whole_run c d (suc steps) (middle, x, inr (over, e, f)) = cc
 is_whole_run c d (suc steps) (middle, x, inl (room, later)) = (middle, x, is_whole_run middle d steps later)
 
-pub few_events : (c d : Config) (steps : ℕ) (full : Bool) → length c.common.trace ≤ 65536 → RunsFor c steps d full → length d.common.trace ≤ 65536
+pub few_events : (c d : Config) (steps : ℕ) (full : Bool) → length (trace_in c.common) ≤ 65536 → RunsFor c steps d full → length (trace_in d.common) ≤ 65536
 few_events c d zero full few (e, f) = rw e few
 few_events c d (suc steps) full few (middle, x, inr (over, e, f)) = rw e few
 few_events c d (suc steps) full few (middle, x, inl (room, later)) = few_events middle d steps full room later
@@ -134,10 +134,10 @@ pub ends_once : (c d e : Config) (steps : ℕ) (full other : Bool) → RunsFor c
 ends_once c d e zero full other (p, q) (r, s) = (cc, cc)
 ends_once c d e (suc steps) full other (middle, x, inr (over, p, q)) (middle2, y, inr (over2, r, s)) = (cc, cc)
 ends_once c d e (suc steps) full other (middle, x, inr (over, p, q)) (middle2, y, inl (room, later)) =
-    let same = ap (λ (end : Config). length end.common.trace) (steps_once c (Hart 0) middle middle2 x y) in
+    let same = ap (λ (end : Config). length (trace_in end.common)) (steps_once c (Hart 0) middle middle2 x y) in
     absurd (omega (arith, over, room))
 ends_once c d e (suc steps) full other (middle, x, inl (room, later)) (middle2, y, inr (over, p, q)) =
-    let same = ap (λ (end : Config). length end.common.trace) (steps_once c (Hart 0) middle middle2 x y) in
+    let same = ap (λ (end : Config). length (trace_in end.common)) (steps_once c (Hart 0) middle middle2 x y) in
     absurd (omega (arith, over, room))
 ends_once c d e (suc steps) full other (middle, x, inl (room, later)) (middle2, y, inl (under, then_on)) =
     ends_once middle d e steps full other later (rw (steps_once c (Hart 0) middle middle2 x y) then_on)
@@ -158,7 +158,7 @@ still c s (Trapped trap) stopped = refl
 still_there : (c : Config) (s : HartState) (state : Option HartState) → state ≡ Some s → (s.status ≡ Running → ⊥) → HartStepsIfThere c 0 state c
 still_there c s state there stopped = rw there (still c s s.status stopped)
 
-pub stays : (c : Config) (s : HartState) (steps : ℕ) → slice_get c.harts 0 ≡ Some s → (s.status ≡ Running → ⊥) → length c.common.trace ≤ 65536
+pub stays : (c : Config) (s : HartState) (steps : ℕ) → slice_get c.harts 0 ≡ Some s → (s.status ≡ Running → ⊥) → length (trace_in c.common) ≤ 65536
     → RunsFor c steps c false
 stays c s zero there stopped few = (refl, refl)
 stays c s (suc steps) there stopped few = (c, still_there c s (slice_get c.harts 0) there stopped, inl (few, stays c s steps there stopped few))

@@ -12,13 +12,12 @@ use Rattle.line_memory.proofs.Flat.{flat_persistent, flat_ram}
 use Rattle.program.specs.Sections.{Sections}
 use Rattle.schedule.specs.declared.items.Step.{Step}
 use Rattle.shared_memory.specs.declared.history.Entry.{Entry}
-use Rattle.shared_memory.specs.Replies.{starting_memory}
-use Rattle.shared_memory.specs.Histories.{replayed}
+use Rattle.shared_memory.specs.Replies.{memory_in, starting_memory}
 use Rattle.machine.specs.Run.{Config, RunsTo, started}
 use Rattle.machine.proofs.Determined.{steps_once}
 use Rattle.recovery_run.specs.Loading.{AgreeOn, AreAsOne, loaded}
 use Rattle.recovery_run.proofs.Memories.{AgreeAt, Alike, replayed_same}
-use Rattle.recovery_run.proofs.Following.{Twins, twin_steps}
+use Rattle.recovery_run.proofs.Following.{Twins, memory_here, memory_there, twin_steps}
 
 -- lists that agree in parts
 pub all_front : {A : Type 0} (P : A → Type 0) (xs ys : List A) → AllByRecursion P (xs ++ ys) → AllByRecursion P xs
@@ -60,22 +59,16 @@ pub self_twins : (m o : Memory) (c d : Config) → Twins m o c d → Twins m m c
 self_twins m o c d twins = record {
   harts = refl;
   history = refl;
-  trace = refl;
   first = twins.first;
   other = twins.first;
-  replays = twins.replays;
-  replays_other = twins.replays;
 }
 
 pub other_twins : (m o : Memory) (c d : Config) → Twins m o c d → Twins o o d d
 other_twins m o c d twins = record {
   harts = refl;
   history = refl;
-  trace = refl;
   first = twins.other;
   other = twins.other;
-  replays = twins.replays_other;
-  replays_other = twins.replays_other;
 }
 
 pub alike_self : (m : Memory) → Alike m m
@@ -217,24 +210,20 @@ pub start_twins : (program : Sections) (lines others : List (List ℕ)) (harts :
 start_twins program lines others harts = record {
   harts = refl;
   history = refl;
-  trace = refl;
   first = refl;
   other = refl;
-  replays = refl;
-  replays_other = refl;
 }
 
-below_same : (m o : Memory) (c d : Config) → Alike m o → Twins m o c d → (a : ℕ) → a < PERSISTENT_BASE → d.common.memory a ≡ c.common.memory a
+below_same : (m o : Memory) (c d : Config) → Alike m o → Twins m o c d → (a : ℕ) → a < PERSISTENT_BASE → memory_in d.common a ≡ memory_in c.common a
 below_same m o c d alike twins a low =
-    ap (λ (memory : Memory). memory a) (twins.replays_other ∙ ap (λ (history : List Entry). replayed o history) twins.history)
+    ap (λ (memory : Memory). memory a) (memory_there m o c d twins)
     ∙ replayed_same m o c.common.history a (alike.below a low)
-    ∙ ap (λ (memory : Memory). memory a) (sym twins.replays)
+    ∙ ap (λ (memory : Memory). memory a) (sym (memory_here m o c d twins))
 
 pub as_one : (m o : Memory) (c d : Config) → Alike m o → Twins m o c d → AreAsOne c d
 as_one m o c d alike twins = record {
   harts = twins.harts;
   history = twins.history;
-  trace = twins.trace;
   memory = below_same m o c d alike twins;
 }
 

@@ -7,6 +7,7 @@ use Rattle.hart.specs.Registers.{register}
 use Rattle.hart.specs.declared.state.HartState.{HartState}
 use Rattle.hart.specs.declared.state.Status.{Status}
 use Rattle.hart.specs.declared.state.Status.TheVariants as statuses
+use Rattle.shared_memory.specs.Replies.{memory_in}
 use Rattle.machine.specs.Run.{Config}
 use Rattle.recovery_run.specs.declared.Cause.{Cause}
 use Rattle.recovery_run.specs.declared.Cause.TheVariants.{Exit, Trap, Running, Answer, Events}
@@ -41,4 +42,4 @@ answer_of_hart memory (Some s) = answer_by memory s s.status
 -- what a run of hart 0 came to that ended here, and whether it ended as its next step would make one event too many
 abbrev pub answer : Config → Bool → Result (List ℕ) Cause
 answer c true = Err Events
-answer c false = answer_of_hart c.common.memory (slice_get c.harts 0)
+answer c false = answer_of_hart (memory_in c.common) (slice_get c.harts 0)

@@ -8,6 +8,7 @@ use Rattle.hart.specs.declared.need.Request.{Request}
 use Rattle.hart.specs.declared.need.Request.TheVariants.{Load, Lr, Amo}
 use Rattle.hart.specs.declared.need.Reply.{Reply}
 use Rattle.hart.specs.declared.need.Reply.TheVariants.{Value}
+use Rattle.shared_memory.specs.Replies.{memory_in}
 use Rattle.shared_memory.specs.declared.history.Entry.{Entry}
 use Rattle.shared_memory.specs.declared.history.Entry.TheVariants.{Asked, Evicted}
 use Rattle.shared_memory.specs.Persisted.{line_used}
@@ -38,5 +39,4 @@ AgreeOn lines others asked = AllByRecursion (λ l. line_at others l ≡ line_at 
 pub record AreAsOne (c d : Config) : Type 0 where
   pub harts : d.harts ≡ c.harts
   pub history : d.common.history ≡ c.common.history
-  pub trace : d.common.trace ≡ c.common.trace
-  pub memory : (a : ℕ) → a < PERSISTENT_BASE → d.common.memory a ≡ c.common.memory a
+  pub memory : (a : ℕ) → a < PERSISTENT_BASE → memory_in d.common a ≡ memory_in c.common a

@@ -2,6 +2,7 @@
 use Rattle.std.specs.Prelude.{◌≡◌, ◌⊎◌, ◌<◌, ◌≤◌, ℕ, zero, suc, List, Bool, true, false, length, replicate}
 use Rattle.schedule.specs.declared.items.Step.{Step}
 use Rattle.schedule.specs.declared.items.Step.TheVariants.{Hart}
+use Rattle.shared_memory.specs.Replies.{trace_in}
 use Rattle.machine.specs.Run.{Config, StepsTo}
 
 -- so many steps of hart 0
@@ -13,5 +14,5 @@ alone steps = replicate steps (Hart 0)
 abbrev pub RunsFor : Config → ℕ → Config → Bool → Type 0
 RunsFor c zero d full = (d ≡ c) × (full ≡ false)
 RunsFor c (suc more) d full = (middle : Config) × StepsTo c (Hart 0) middle
-    × (((length middle.common.trace ≤ 65536) × RunsFor middle more d full)
-    ⊎ ((65536 < length middle.common.trace) × (d ≡ c) × (full ≡ true)))
+    × (((length (trace_in middle.common) ≤ 65536) × RunsFor middle more d full)
+    ⊎ ((65536 < length (trace_in middle.common)) × (d ≡ c) × (full ≡ true)))

@@ -11,6 +11,7 @@ ghost use Rattle.hart.specs.declared.state.Status.TheVariants.{Running};
 ghost use Rattle.line_memory.specs.Lines.{AreLines};
 ghost use Rattle.program.specs.Sections.{Sections};
 ghost use Rattle.schedule.specs.declared.items.Step.{Step};
+ghost use Rattle.shared_memory.specs.Replies.{trace_in};
 ghost use Rattle.machine.specs.Run.{Config, RunsTo, started};
 ghost use Rattle.recovery_run.specs.Answers.{answer};
 ghost use Rattle.recovery_run.specs.Images.{Answers, Loads};
@@ -40,8 +41,8 @@ pub fn recovery_is_a_run()
     ensures run { (c d : Config) (steps : ℕ) (full : Bool) → RunsFor c steps d full →
         (made : ℕ) × (made ≤ steps) × RunsTo c (alone made) d }
     ensures whole { (c d : Config) (steps : ℕ) → RunsFor c steps d false → RunsTo c (alone steps) d }
-    ensures few { (c d : Config) (steps : ℕ) (full : Bool) → length c.common.trace ≤ 65536 →
-        RunsFor c steps d full → length d.common.trace ≤ 65536 }
+    ensures few { (c d : Config) (steps : ℕ) (full : Bool) → length (trace_in c.common) ≤ 65536 →
+        RunsFor c steps d full → length (trace_in d.common) ≤ 65536 }
     ensures once { (c d e : Config) (steps : ℕ) (full other : Bool) →
         RunsFor c steps d full → RunsFor c steps e other → (e ≡ d) × (other ≡ full) }
 {}
@@ -52,7 +53,7 @@ pub fn recovery_has_parts()
     ensures joined { (c d e : Config) (steps more : ℕ) (full : Bool) →
         RunsFor c steps d false → RunsFor d more e full → RunsFor c (steps + more) e full }
     ensures stopped { (c : Config) (state : HartState) (steps : ℕ) → slice_get c.harts 0 ≡ Some state → state.status ≢ Running →
-        length c.common.trace ≤ 65536 → RunsFor c steps c false }
+        length (trace_in c.common) ≤ 65536 → RunsFor c steps c false }
 {}
 
 /// Media of the same length that agree on the lines that a run loads have the same run: but for persistent memory it comes

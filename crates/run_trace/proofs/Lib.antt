@@ -1,2 +1,3 @@
+pub mod OneHart
 pub mod Traces
 pub mod Tracing

@@ -2,6 +2,7 @@
 use Rattle.std.proofs.Common.{◌≡◌, ℕ, suc, List, [], ◌∷◌, ◌++◌, All, Some, refl, sym, ap, ◌∙◌, arith, append_assoc, append-nil}
 use Rattle.std.proofs.lemmas.List.{append_cancel_left, map-append}
 use Rattle.hart.specs.declared.state.HartState.{HartState}
+use Rattle.shared_memory.specs.Replies.{trace_in}
 use Rattle.machine.specs.Run.{Config, RunsTo}
 use Rattle.machine.proofs.Determined.{steps_once}
 use Rattle.run_trace.specs.Traced.{IsPcBefore, TracedRun, TracedStep, events_in, passed}
@@ -15,14 +16,14 @@ is_run n c d [] traced r = r.0
 is_run n c d (step ∷ steps) traced r = (r.0, r.4.steps, is_run (passed n step) r.0 d steps r.2 r.5)
 
 pub has_events : (n : ℕ) (c d : Config) (steps : List Step) (traced : List TracedEvent) → TracedRun n c steps d traced
-    → d.common.trace ≡ c.common.trace ++ events_in traced
-has_events n c d [] traced r = rw (r.0, r.1) (sym (append-nil c.common.trace))
+    → trace_in d.common ≡ trace_in c.common ++ events_in traced
+has_events n c d [] traced r = rw (r.0, r.1) (sym (append-nil (trace_in c.common)))
 has_events n c d (step ∷ steps) traced r =
     let rest = has_events (passed n step) r.0 d steps r.2 r.5 in
     rest ∙ ap (λ (t : List Event). t ++ events_in r.2) r.4.events
-    ∙ append_assoc c.common.trace (events_in r.1) (events_in r.2)
-    ∙ ap (λ (t : List Event). c.common.trace ++ t) (sym (map-append (λ (t : TracedEvent). t.event) r.1 r.2))
-    ∙ ap (λ (t : List TracedEvent). c.common.trace ++ events_in t) (sym r.3)
+    ∙ append_assoc (trace_in c.common) (events_in r.1) (events_in r.2)
+    ∙ ap (λ (t : List Event). trace_in c.common ++ t) (sym (map-append (λ (t : TracedEvent). t.event) r.1 r.2))
+    ∙ ap (λ (t : List TracedEvent). trace_in c.common ++ events_in t) (sym r.3)
 
 -- two lists of events of one step are one
 pc_once : (c : Config) (step : Step) (p q : ℕ) → IsPcBefore c step p → IsPcBefore c step q → p ≡ q
@@ -52,9 +53,9 @@ told_once c step n (x ∷ xs) (y ∷ ys) e nx ny px py =
 step_once : (n : ℕ) (c d e : Config) (step : Step) (xs ys : List TracedEvent) → TracedStep n c step d xs → TracedStep n c step e ys → xs ≡ ys
 step_once n c d e step xs ys a b =
     let same : d ≡ e = steps_once c step d e a.steps b.steps in
-    let both : c.common.trace ++ events_in xs ≡ c.common.trace ++ events_in ys =
-    sym a.events ∙ ap (λ (x : Config). x.common.trace) same ∙ b.events in
-    told_once c step (passed n step) xs ys (append_cancel_left c.common.trace (events_in xs) (events_in ys) both) a.numbers b.numbers a.pcs b.pcs
+    let both : trace_in c.common ++ events_in xs ≡ trace_in c.common ++ events_in ys =
+    sym a.events ∙ ap (λ (x : Config). trace_in x.common) same ∙ b.events in
+    told_once c step (passed n step) xs ys (append_cancel_left (trace_in c.common) (events_in xs) (events_in ys) both) a.numbers b.numbers a.pcs b.pcs
 
 pub traced_once : (n : ℕ) (c d e : Config) (steps : List Step) (traced other : List TracedEvent)
     → TracedRun n c steps d traced → TracedRun n c steps e other → traced ≡ other

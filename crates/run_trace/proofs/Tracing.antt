@@ -5,6 +5,7 @@ use Rattle.std.proofs.lemmas.List.Elements.{All-nil, All-cons}
 use Rattle.std.proofs.lemmas.Option.{slice_get_read, slice_get_within}
 use Rattle.std.specs.Slice.{IsItemAt}
 use Rattle.hart.specs.declared.state.HartState.{HartState}
+use Rattle.shared_memory.specs.Replies.{trace_in}
 use Rattle.machine.specs.Run.{Config, RunsTo, StepsTo}
 use Rattle.machine.specs.Represents.{MachineView, Runs, RunsExactly, Represents}
 use Rattle.machine.specs.Stops.{is_stopped}
@@ -33,26 +34,26 @@ is_empty : (xs : List Event) → length xs ≤ 0 → xs ≡ []
 is_empty [] few = refl
 is_empty (x ∷ xs) few = absurd (omega arith)
 
-silent_step : (n : ℕ) (c d : Config) (step : Step) → StepsTo c step d → length d.common.trace ≤ length c.common.trace → TracedStep n c step d []
+silent_step : (n : ℕ) (c d : Config) (step : Step) → StepsTo c step d → length (trace_in d.common) ≤ length (trace_in c.common) → TracedStep n c step d []
 silent_step n c d step moves same =
     let g = grows c d step moves in
     let all = ap (λ (t : List Event). length t) g.trace in
-    let sum = length-append c.common.trace g.more in
+    let sum = length-append (trace_in c.common) g.more in
     let none : g.more ≡ [] = is_empty g.more (omega arith) in
     record {
       steps = moves;
-      events = g.trace ∙ ap (λ (t : List Event). c.common.trace ++ t) none;
+      events = g.trace ∙ ap (λ (t : List Event). trace_in c.common ++ t) none;
       numbers = All-nil (λ (t : TracedEvent). t.step ≡ passed n step);
       pcs = All-nil (λ (t : TracedEvent). IsPcBefore c step t.pc);
     }
 
-silent_run : (n : ℕ) (c d : Config) (steps : List Step) → RunsTo c steps d → length d.common.trace ≤ length c.common.trace → TracedRun n c steps d []
+silent_run : (n : ℕ) (c d : Config) (steps : List Step) → RunsTo c steps d → length (trace_in d.common) ≤ length (trace_in c.common) → TracedRun n c steps d []
 silent_run n c d [] run same = (run, refl)
 silent_run n c d (step ∷ steps) run same =
     let g = grows c run.0 step run.1 in
-    let first = ap (λ (t : List Event). length t) g.trace ∙ length-append c.common.trace g.more in
+    let first = ap (λ (t : List Event). length t) g.trace ∙ length-append (trace_in c.common) g.more in
     let rest = run_grows run.0 d steps run.2 in
-    let last = ap (λ (t : List Event). length t) rest.1 ∙ length-append run.0.common.trace rest.0 in
+    let last = ap (λ (t : List Event). length t) rest.1 ∙ length-append (trace_in run.0.common) rest.0 in
     (run.0, [], [], refl, silent_step n c run.0 step run.1 (omega arith), silent_run (passed n step) run.0 d steps run.2 (omega arith))
 
 pub tells_none : (old new : TracerView) (steps : List Step) → Runs old.machine new.machine steps
@@ -105,8 +106,8 @@ tells_event old new h s t runs there pc number got traced c stands =
     let after = runs.represents c stands in
     let moves = one_step c after.0 (Hart h) after.1 in
     let g = grows c after.0 (Hart h) moves in
-    let read : slice_get after.0.common.trace (length c.common.trace) ≡ Some t.event = rw (stands.shared.trace, after.2.shared.trace) at got in
-    let more : g.more ≡ t.event ∷ [] = one_more c.common.trace after.0.common.trace g.more t.event g.trace g.few read in
+    let read : slice_get (trace_in after.0.common) (length (trace_in c.common)) ≡ Some t.event = rw (stands.shared.trace, after.2.shared.trace) at got in
+    let more : g.more ≡ t.event ∷ [] = one_more (trace_in c.common) (trace_in after.0.common) g.more t.event g.trace g.few read in
     let hart : slice_get c.harts h ≡ Some s = rw stands.harts at there in
     record {
       end = after.0;
@@ -118,7 +119,7 @@ tells_event old new h s t runs there pc number got traced c stands =
         refl,
         record {
           steps = moves;
-          events = g.trace ∙ ap (λ (m : List Event). c.common.trace ++ m) more;
+          events = g.trace ∙ ap (λ (m : List Event). trace_in c.common ++ m) more;
           numbers = All-cons (λ (u : TracedEvent). u.step ≡ old.made + 1) t [] number (All-nil (λ (u : TracedEvent). u.step ≡ old.made + 1));
           pcs = All-cons (λ (u : TracedEvent). IsPcBefore c (Hart h) u.pc) t [] (s, hart, pc) (All-nil (λ (u : TracedEvent). IsPcBefore c (Hart h) u.pc));
         },
@@ -162,7 +163,7 @@ continues_stopped old new h n stopped e made traced =
     }
 
 -- an eviction
-eviction_is_silent : (c d : Config) (line : ℕ) → StepsTo c (Evict line) d → length d.common.trace ≡ length c.common.trace
+eviction_is_silent : (c d : Config) (line : ℕ) → StepsTo c (Evict line) d → length (trace_in d.common) ≡ length (trace_in c.common)
 eviction_is_silent c d line step = rw step refl
 
 tells_eviction : (old new : TracerView) (line : ℕ) → Runs old.machine new.machine (Evict line ∷ []) → new.traced ≡ old.traced

@@ -1,6 +1,7 @@
 -- A run with its events told one by one: which hart step made each, and the pc that its hart had before that step.
 use Rattle.std.specs.Prelude.{◌≡◌, ◌⊎◌, ℕ, ◌+◌, ◌<◌, ◌≤◌, List, [], ◌∷◌, ◌++◌, All, Option, Some, None, length, map, slice_get}
 use Rattle.hart.specs.declared.state.HartState.{HartState}
+use Rattle.shared_memory.specs.Replies.{trace_in}
 use Rattle.machine.specs.Run.{Config, StepsTo}
 use Rattle.machine.specs.Represents.{MachineView, Runs, RunsExactly, Represents}
 use Rattle.machine.specs.Stops.{StopsAt}
@@ -8,6 +9,7 @@ use Rattle.machine.specs.declared.fault.RunStop.{RunStop}
 use Rattle.run_trace.specs.declared.traced_event.TracedEvent.{TracedEvent}
 use Rattle.schedule.specs.Places.{steps_before, steps_of_item}
 use Rattle.schedule.specs.declared.items.Item.{Item}
+use Rattle.schedule.specs.declared.items.Item.TheVariants as items
 use Rattle.schedule.specs.declared.items.Step.{Step}
 use Rattle.schedule.specs.declared.items.Step.TheVariants.{Hart, Evict}
 use Rattle.shared_memory.specs.declared.fault.StepFault.TheVariants.{Memory}
@@ -29,7 +31,7 @@ IsPcBefore c (Evict line) pc = ⊥
 -- a step, after n hart steps, from c to d, and the events that it makes
 pub record TracedStep (n : ℕ) (c : Config) (step : Step) (d : Config) (traced : List TracedEvent) : Type 0 where
   pub steps : StepsTo c step d
-  pub events : d.common.trace ≡ c.common.trace ++ events_in traced
+  pub events : trace_in d.common ≡ trace_in c.common ++ events_in traced
   pub numbers : All (λ t. t.step ≡ passed n step) traced
   pub pcs : All (λ t. IsPcBefore c step t.pc) traced
 
@@ -71,3 +73,7 @@ pub record LacksMemoryAt (old : MachineView) (items : List Item) (stop : RunStop
 -- a run isn't traced to its end: memory was refused for a step that takes some, or the machine refuses a step
 abbrev pub StopsTracing : MachineView → List Item → RunStop → Type 0
 StopsTracing old items stop = ((stop.fault ≡ Memory) × LacksMemoryAt old items stop) ⊎ IsRefusedAt old items stop
+
+-- the schedule of so many steps of one hart
+abbrev pub steps_alone : ℕ → ℕ → List Item
+steps_alone h steps = items.Steps h steps ∷ []

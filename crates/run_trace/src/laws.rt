@@ -1,5 +1,6 @@
 //! A law of traced runs, as the contract of a function with an empty body.
 
+ghost use Rattle.shared_memory.specs.Replies.{trace_in};
 ghost use Rattle.machine.specs.Run.{Config, RunsTo};
 ghost use Rattle.run_trace.specs.Traced.{TracedRun, events_in};
 ghost use Rattle.run_trace.specs.declared.traced_event.TracedEvent.{TracedEvent};
@@ -12,7 +13,7 @@ pub fn traced_run_is_run()
     ensures run { (n : ℕ) (c d : Config) (steps : List Step) (traced : List TracedEvent) →
         TracedRun n c steps d traced → RunsTo c steps d }
     ensures events { (n : ℕ) (c d : Config) (steps : List Step) (traced : List TracedEvent) →
-        TracedRun n c steps d traced → d.common.trace ≡ c.common.trace ++ events_in traced }
+        TracedRun n c steps d traced → trace_in d.common ≡ trace_in c.common ++ events_in traced }
     ensures once { (n : ℕ) (c d e : Config) (steps : List Step) (traced other : List TracedEvent) →
         TracedRun n c steps d traced → TracedRun n c steps e other → traced ≡ other }
 {}

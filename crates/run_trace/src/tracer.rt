@@ -15,11 +15,11 @@ use std::marker::Model;
 
 /// A machine that makes the steps of a schedule, and what is told of their events.
 #[derive(Drop)]
-struct Tracer {
-    machine: Machine,
+pub(crate) struct Tracer {
+    pub(crate) machine: Machine,
     /// How many hart steps were made, modulo 2^32.
-    made: u32,
-    traced: Vec<TracedEvent>,
+    pub(crate) made: u32,
+    pub(crate) traced: Vec<TracedEvent>,
 }
 
 impl Model for Tracer {
@@ -107,7 +107,8 @@ impl Stepper for Tracer {
 
 impl Tracer {
     /// Makes the next instruction of a hart, and tells its event if it makes one.
-    fn step_hart(&mut self, hart: u32) -> Result<(), StepFault>
+    #[inline(always)]
+    pub(crate) fn step_hart(&mut self, hart: u32) -> Result<(), StepFault>
         ensures ok { OnOk result (Makes self.old (Step.Hart hart ∷ []) self.new) }
         ensures held { IfErr result (IsHeld self.old (Step.Hart hart) self.new) }
     {

@@ -82,9 +82,9 @@ fn answer_line<K: Sink>(
     match carried(alloc, debugger, last, fit, line) {
         Ok(None) => Ok(true),
         Ok(Some(Answer::Quit)) => Ok(false),
-        Ok(Some(answer)) => say(answer_text(alloc, debugger, answer), sink),
+        Ok(Some(answer)) => write_answer(answer_text(alloc, debugger, answer), sink),
         Err(DebugFault::Memory) => Err(DebugFault::Memory),
-        Err(fault) => say(fault_text(alloc, fault), sink),
+        Err(fault) => write_answer(fault_text(alloc, fault), sink),
     }
 }
 
@@ -115,7 +115,7 @@ fn carried(
 }
 
 /// Writes an answer, after which the session goes on.
-fn say<K: Sink>(text: Result<String, AllocError>, sink: &mut K) -> Result<bool, DebugFault>
+fn write_answer<K: Sink>(text: Result<String, AllocError>, sink: &mut K) -> Result<bool, DebugFault>
     ensures same { K.name_of sink.new ≡ K.name_of sink.old }
     ensures goes_on { IfOk result (λ goes_on. goes_on ≡ true) }
     ensures written { OnOk result (MatchResult text

@@ -5,7 +5,7 @@ use Rattle.index_list.specs.Lists.{has}
 use Rattle.crash_model.specs.Cut.{IsCutImage}
 use Rattle.crash_model.specs.Image.{image}
 use Rattle.crash_model.specs.Schedule.{without_evictions}
-use Rattle.crash_model.specs.WrittenBack.{back}
+use Rattle.crash_model.specs.WrittenBack.{write_back_state}
 use Rattle.crash_model.specs.declared.step.PersistenceStep.{PersistenceStep}
 use Rattle.crash_model.proofs.Explained.{cut_image_without_evictions, image_without_evictions}
 use Rattle.clean_fence.specs.Rules.{PmView, after_evict}
@@ -20,8 +20,8 @@ use Rattle.shared_memory.specs.declared.history.Entry.TheVariants.{Asked, Evicte
 use Rattle.shared_memory.specs.Cached.{RepresentsEvicting, cache_after, cache_left, medium_left}
 use Rattle.shared_memory.specs.Histories.{memory_after}
 use Rattle.shared_memory.specs.Persisted.{lines_used, persisted, touched}
-use Rattle.shared_memory.specs.Replies.{Common, asked, events_of, reply_after}
-use Rattle.shared_memory.specs.SharedView.{Evicts, IsExact, Serves, SharedView, Shows, reply_to}
+use Rattle.shared_memory.specs.Replies.{SharedState, events_of, reply_after, shared_after, trace_in, trace_of}
+use Rattle.shared_memory.specs.SharedView.{Evicts, IsExact, RepresentsShared, Serves, SharedView, reply_to}
 use Rattle.shared_memory.proofs.Stepping.{evicting, history_evicts_nothing, history_more, unforced, without_append}
 use Rattle.shared_memory.proofs.Reserving.{held_as}
 
@@ -52,34 +52,34 @@ evicting_as : (start : List (List ℕ)) (p q : List PersistenceStep) (cache : Pm
 evicting_as start p q cache s e = rw (← e) s
 
 -- the reply to a request is the one that the definition gives
-pub reply_stands : (shared : SharedView) (h : ℕ) (request : Request) (c : Common) → h < 8 → Shows shared c
+pub reply_stands : (shared : SharedView) (h : ℕ) (request : Request) (c : SharedState) → h < 8 → RepresentsShared shared c
     → reply_to shared h request ≡ reply_after c h request
 reply_stands shared h request c few shows =
     rw (shows.memory, held_as shared c.history h few shows.reserved) refl
 
--- the steps of a request join those of the trace and of the history
-joined_steps : (events : List Event) (c : Common) → history c.trace ≡ without_evictions (persisted c.history)
-    → history (c.trace ++ events) ≡ without_evictions (history events ++ persisted c.history)
-joined_steps events c same =
-    history_more c.trace events
-    ∙ ap (λ (p : List PersistenceStep). history events ++ p) same
-    ∙ sym (without_append (history events) (persisted c.history)
-    ∙ ap (λ (p : List PersistenceStep). p ++ without_evictions (persisted c.history)) (history_evicts_nothing events))
+-- the steps of a history's events are its steps without the evictions
+steps_of_history : (entries : List Entry) → history (trace_of entries) ≡ without_evictions (persisted entries)
+steps_of_history [] = refl
+steps_of_history (Asked h request reply ∷ before) =
+    let events : List Event = events_of h request reply in
+    history_more (trace_of before) events
+    ∙ ap (λ (p : List PersistenceStep). history events ++ p) (steps_of_history before)
+    ∙ sym (without_append (history events) (persisted before)
+    ∙ ap (λ (p : List PersistenceStep). p ++ without_evictions (persisted before)) (history_evicts_nothing events))
+steps_of_history (Evicted line ∷ before) = steps_of_history before
 
 -- what is shared after a request shows what the definition makes of it
-served_as_told : (old new : SharedView) (h : ℕ) (request : Request) (c : Common)
-    → Serves old new h request (reply_after c h request) → Shows old c → Shows new (asked c h request)
+served_as_told : (old new : SharedView) (h : ℕ) (request : Request) (c : SharedState)
+    → Serves old new h request (reply_after c h request) → RepresentsShared old c → RepresentsShared new (shared_after c h request)
 served_as_told old new h request c serves shows =
     let reply : Reply = reply_after c h request in
     record {
       memory = serves.memory ∙ ap (λ (m : Memory). memory_after m request (reply_after c h request)) shows.memory;
-      replays = ap (λ (m : Memory). memory_after m request (reply_after c h request)) shows.replays;
       reserved = serves.reserved _ shows.reserved;
       trace = serves.trace ∙ ap (λ (t : List Event). t ++ events_of h request (reply_after c h request)) shows.trace;
-      steps = joined_steps (events_of h request (reply_after c h request)) c shows.steps;
-      cached = evicting_as c.start _ _ new.cache (evicting _ _ _ _ _ serves.steps.1 c.start (history c.trace) shows.cached)
-          (ap (λ (p : List PersistenceStep). p ++ history c.trace) (history_evicts_nothing (events_of h request (reply_after c h request)))
-          ∙ sym (history_more c.trace (events_of h request (reply_after c h request))));
+      cached = evicting_as c.start _ _ new.cache (evicting _ _ _ _ _ serves.steps.1 c.start (history (trace_in c)) shows.cached)
+          (ap (λ (p : List PersistenceStep). p ++ history (trace_in c)) (history_evicts_nothing (events_of h request (reply_after c h request)))
+          ∙ sym (history_more (trace_in c) (events_of h request (reply_after c h request))));
       unforced = λ lines few among.
           let capacity = serves.steps.1.sizes.capacity in
           let room : length lines ≤ old.cache.cache.capacity = omega arith in
@@ -90,22 +90,20 @@ served_as_told old new h request c serves shows =
           unforced _ _ _ _ _ serves.steps.1 c.start lines (persisted c.history) (shows.unforced lines room before) now;
     }
 
-pub served_shows : (old new : SharedView) (h : ℕ) (request : Request) (reply : Reply) (c : Common) → h < 8
-    → Serves old new h request reply → Shows old c → Shows new (asked c h request)
+pub served_shows : (old new : SharedView) (h : ℕ) (request : Request) (reply : Reply) (c : SharedState) → h < 8
+    → Serves old new h request reply → RepresentsShared old c → RepresentsShared new (shared_after c h request)
 served_shows old new h request reply c few serves shows =
     let same : reply ≡ reply_after c h request = serves.reply ∙ reply_stands old h request c few shows in
     served_as_told old new h request c (rw same at serves) shows
 
 -- and after an eviction
-pub evicted_shows : (old new : SharedView) (line : ℕ) (c : Common) → Evicts old new line → Shows old c
-    → Shows new (record c { history = Evicted line ∷ c.history })
+pub evicted_shows : (old new : SharedView) (line : ℕ) (c : SharedState) → Evicts old new line → RepresentsShared old c
+    → RepresentsShared new (record c { history = Evicted line ∷ c.history })
 evicted_shows old new line c evicts shows = record {
   memory = evicts.memory ∙ shows.memory;
-  replays = shows.replays;
   reserved = rw evicts.reserved shows.reserved;
   trace = evicts.trace ∙ shows.trace;
-  steps = shows.steps;
-  cached = evicting _ _ _ _ _ evicts.steps c.start (history c.trace) shows.cached;
+  cached = evicting _ _ _ _ _ evicts.steps c.start (history (trace_in c)) shows.cached;
   unforced = λ lines few among.
       let capacity = evicts.steps.sizes.capacity in
       let room : length lines ≤ old.cache.cache.capacity = omega arith in
@@ -118,8 +116,8 @@ exact_as : (old new next : PmView) (start : List (List ℕ)) (entries : List Ent
 exact_as old new next start entries capacity is left =
     is ∙ left ∙ ap (λ (n : ℕ). cache_left n start entries) (sym capacity)
 
-pub served_exact : (old new : SharedView) (h : ℕ) (request : Request) (reply : Reply) (c : Common) → h < 8
-    → Serves old new h request reply → Shows old c → IsExact old c → IsExact new (asked c h request)
+pub served_exact : (old new : SharedView) (h : ℕ) (request : Request) (reply : Reply) (c : SharedState) → h < 8
+    → Serves old new h request reply → RepresentsShared old c → IsExact old c → IsExact new (shared_after c h request)
 served_exact old new h request reply c few serves shows exact =
     let same : reply ≡ reply_after c h request = serves.reply ∙ reply_stands old h request c few shows in record {
       cache = exact_as old.cache new.cache (cache_after h request reply old.cache) c.start (Asked h request (reply_after c h request) ∷ c.history)
@@ -128,7 +126,7 @@ served_exact old new h request reply c few serves shows exact =
           ∙ ap (λ (cache : PmView). cache_after h request (reply_after c h request) cache) exact.cache);
     }
 
-pub evicted_exact : (old new : SharedView) (line : ℕ) (c : Common) → Evicts old new line → IsExact old c
+pub evicted_exact : (old new : SharedView) (line : ℕ) (c : SharedState) → Evicts old new line → IsExact old c
     → IsExact new (record c { history = Evicted line ∷ c.history })
 evicted_exact old new line c evicts exact = record {
   cache = exact_as old.cache new.cache (after_evict line old.cache) c.start (Evicted line ∷ c.history)
@@ -136,25 +134,25 @@ evicted_exact old new line c evicts exact = record {
 }
 
 -- the medium behind an exact cache
-pub exact_medium : (shared : SharedView) (c : Common) → IsExact shared c
+pub exact_medium : (shared : SharedView) (c : SharedState) → IsExact shared c
     → shared.cache.lines ≡ medium_left shared.cache.cache.capacity c.start c.history
 exact_medium shared c exact = ap (λ (cache : PmView). cache.lines) exact.cache
 
 -- what a power cut leaves
 pub leaves_cut : (shared : SharedView) (medium : List (List ℕ))
     → ((start : List (List ℕ)) (p : List PersistenceStep) → Represents start p shared.cache → IsCutImage start p medium)
-    → (c : Common) → Shows shared c → IsCutImage c.start (history c.trace) medium
+    → (c : SharedState) → RepresentsShared shared c → IsCutImage c.start (history (trace_in c)) medium
 leaves_cut shared medium cut c shows =
     rw shows.cached.others at
     (cut_image_without_evictions c.start shows.cached.steps medium (cut c.start shows.cached.steps shows.cached.represents))
 
 pub leaves_written_back : (shared : SharedView) (medium : List (List ℕ))
-    → ((start : List (List ℕ)) (p : List PersistenceStep) → Represents start p shared.cache → medium ≡ image start (λ l. (back l p).count) p)
-    → (c : Common) (lines : List ℕ) → Shows shared c → length lines ≤ shared.cache.cache.capacity → AreAmong (touched c.history) lines
-    → medium ≡ image c.start (λ l. (back l (persisted c.history)).count) (history c.trace)
+    → ((start : List (List ℕ)) (p : List PersistenceStep) → Represents start p shared.cache → medium ≡ image start (λ l. (write_back_state l p).count) p)
+    → (c : SharedState) (lines : List ℕ) → RepresentsShared shared c → length lines ≤ shared.cache.cache.capacity → AreAmong (touched c.history) lines
+    → medium ≡ image c.start (λ l. (write_back_state l (persisted c.history)).count) (history (trace_in c))
 leaves_written_back shared medium written c lines shows few among =
     let p : List PersistenceStep = persisted c.history in
     let stands = shows.unforced lines few among in
     written c.start (persisted c.history) stands.represents
-    ∙ sym (image_without_evictions c.start (λ l. (back l (persisted c.history)).count) (persisted c.history))
-    ∙ ap (λ (q : List PersistenceStep). image c.start (λ l. (back l (persisted c.history)).count) q) (sym shows.steps)
+    ∙ sym (image_without_evictions c.start (λ l. (write_back_state l (persisted c.history)).count) (persisted c.history))
+    ∙ ap (λ (q : List PersistenceStep). image c.start (λ l. (write_back_state l (persisted c.history)).count) q) (sym (steps_of_history c.history))

@@ -58,10 +58,10 @@ is_renewal h (Evicted line) = false
 
 -- the text that hart h fetches: the text of the flat memory right after the hart's last FENCE.I, else that of the
 -- memory before the history
-abbrev pub copied : Memory → ℕ → List Entry → Memory
-copied memory h [] = text_of memory
-copied memory h (entry ∷ before) =
-    if is_renewal h entry then text_of (replayed memory (entry ∷ before)) else copied memory h before
+abbrev pub fetched_text : Memory → ℕ → List Entry → Memory
+fetched_text memory h [] = text_of memory
+fetched_text memory h (entry ∷ before) =
+    if is_renewal h entry then text_of (replayed memory (entry ∷ before)) else fetched_text memory h before
 
 -- what an entry did to reservations: a write ended those of its line by other harts, an LR that didn't trap made one,
 -- and an SC that didn't trap ended its hart's

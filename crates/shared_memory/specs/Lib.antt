@@ -1,6 +1,7 @@
 pub mod Cached
 pub mod Faults
 pub mod Histories
+pub mod Limits
 pub mod Persisted
 pub mod Placement
 pub mod Refusals

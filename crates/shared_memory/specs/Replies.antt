@@ -1,4 +1,5 @@
--- What memory answers to a hart's request, and what the request leaves: in the flat memory, in the history and in the trace.
+-- What harts share: a start and a history, from which the flat memory and the trace are read; and what memory answers to a
+-- hart's request, which then joins the history.
 -- Source: RISC-V Unprivileged ISA 20191213, chapter 2 ("Load and Store Instructions"), chapter 3 ("Zifencei") and
 -- chapter 8 ("A" extension); RISC-V Cache Management Operations 1.0; which steps make events is this project's.
 use Rattle.std.specs.Prelude.{ℕ, ◌-◌, ◌/◌, ◌%◌, List, [], ◌∷◌, ◌++◌, Option, Some, None, Bool, true, false, is_some, nat_le, if◌then◌else◌}
@@ -18,18 +19,19 @@ use Rattle.hart.specs.declared.need.Reply.TheVariants.{Value, Done, Fault}
 use Rattle.hart.specs.declared.need.AccessFault.{AccessFault}
 use Rattle.hart.specs.declared.need.AccessFault.TheVariants.{Misaligned, Outside}
 use Rattle.shared_memory.specs.declared.history.Entry.{Entry}
-use Rattle.shared_memory.specs.declared.history.Entry.TheVariants.{Asked}
-use Rattle.shared_memory.specs.Histories.{Write, has_reserved, memory_after, written}
+use Rattle.shared_memory.specs.declared.history.Entry.TheVariants.{Asked, Evicted}
+use Rattle.shared_memory.specs.Histories.{Write, has_reserved, replayed, written}
 
--- what the harts share: the lines of the medium and the flat memory as they were at the start of the run; the flat memory
--- as it is; the history of requests with their replies and of evictions, the newest first; and the trace of events, the
--- oldest first
-pub record Common : Type 0 where
+-- what the harts share: the lines of the medium and the flat memory as they were at the start of the run, and the history of
+-- requests with their replies and of evictions since, the newest first
+pub record SharedState : Type 0 where
   pub start : List (List ℕ)
   pub initial : Memory
-  pub memory : Memory
   pub history : List Entry
-  pub trace : List Event
+
+-- the flat memory as it is: that of the start, after all writes of the history
+abbrev pub memory_in : SharedState → Memory
+memory_in c = replayed c.initial c.history
 
 -- the flat memory of a program's sections and the lines of a medium
 abbrev pub starting_memory : Sections → List (List ℕ) → Memory
@@ -37,13 +39,11 @@ starting_memory program lines =
     flat (ram_bytes (record { text = padded program.text TEXT_SIZE; bytes = padded program.static_data DATA_SIZE })) (line_bytes lines)
 
 -- what the harts share at the start of a run over a program's sections and the lines of a medium
-abbrev pub common_at_start : Sections → List (List ℕ) → Common
-common_at_start program lines = record {
+abbrev pub shared_at_start : Sections → List (List ℕ) → SharedState
+shared_at_start program lines = record {
   start = lines;
   initial = starting_memory program lines;
-  memory = starting_memory program lines;
   history = [];
-  trace = [];
 }
 
 abbrev pub access_fault : MemFault → AccessFault
@@ -111,17 +111,20 @@ events_of h (Begin op) Done = events.Begin h op ∷ []
 events_of h (End op) Done = events.End h op ∷ []
 events_of h request reply = events_of_write h (written request reply)
 
--- the reply to a request of hart h
-abbrev pub reply_after : Common → ℕ → Request → Reply
-reply_after c h request = replied c.memory (has_reserved c.history h) request
+-- the events of a history, the oldest first
+abbrev pub trace_of : List Entry → List Event
+trace_of [] = []
+trace_of (Asked h request reply ∷ before) = trace_of before ++ events_of h request reply
+trace_of (Evicted line ∷ before) = trace_of before
 
--- what the harts share after a request of hart h
-abbrev pub asked : Common → ℕ → Request → Common
-asked c h request =
-    let reply : Reply = reply_after c h request in record {
-      start = c.start;
-      initial = c.initial;
-      memory = memory_after c.memory request reply;
-      history = Asked h request reply ∷ c.history;
-      trace = c.trace ++ events_of h request reply;
-    }
+-- the trace as it is
+abbrev pub trace_in : SharedState → List Event
+trace_in c = trace_of c.history
+
+-- the reply to a request of hart h
+abbrev pub reply_after : SharedState → ℕ → Request → Reply
+reply_after c h request = replied (memory_in c) (has_reserved c.history h) request
+
+-- what the harts share after a request of hart h: the request joins the history, with the reply to it
+abbrev pub shared_after : SharedState → ℕ → Request → SharedState
+shared_after c h request = record c { history = Asked h request (reply_after c h request) ∷ c.history }

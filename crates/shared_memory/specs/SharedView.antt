@@ -3,7 +3,6 @@ use Rattle.std.specs.Prelude.{◌≡◌, ◌++◌, ◌∷◌, ◌/◌, ◌%◌, 
 use Rattle.clean_fence.specs.Rules as pm
 use Rattle.clean_fence.specs.Rules.{PmView, after_evict}
 use Rattle.clean_fence.specs.Represents.{AreAmong, CacheSteps, RepresentsUnforced}
-use Rattle.crash_model.specs.Schedule.{without_evictions}
 use Rattle.crash_model.specs.declared.step.PersistenceStep.TheVariants as step
 use Rattle.line_memory.specs.Lines.{AreLines, line_bytes}
 use Rattle.line_memory.specs.Memory.{Memory, fault_of, loaded_from, stored_to}
@@ -17,10 +16,10 @@ use Rattle.hart.specs.declared.need.Reply.{Reply}
 use Rattle.hart.specs.declared.need.Reply.TheVariants.{Done}
 use Rattle.reservation.specs.Reserved.{Agrees, Call, Stored}
 use Rattle.shared_memory.specs.declared.history.Entry.TheVariants.{Asked}
-use Rattle.shared_memory.specs.Histories.{calls_of, memory_after, replayed, written}
+use Rattle.shared_memory.specs.Histories.{calls_of, memory_after, written}
 use Rattle.shared_memory.specs.Cached.{RepresentsEvicting, after_load_at, after_store_at, cache_after, cache_left}
 use Rattle.shared_memory.specs.Persisted.{line_used, lines_used, persisted, touched}
-use Rattle.shared_memory.specs.Replies.{Common, events_of, if_persistent, line_of, offset_of, replied}
+use Rattle.shared_memory.specs.Replies.{SharedState, events_of, if_persistent, line_of, memory_in, offset_of, replied, trace_in}
 
 -- the lines that n harts from one on have reserved, by a word for each hart
 abbrev pub line_in : Option (Option ℕ) → Option ℕ
@@ -60,21 +59,18 @@ holds shared h l = is_line (slice_get shared.reserved h) l
 abbrev pub reply_to : SharedView → ℕ → Request → Reply
 reply_to shared h request = replied (memory_of shared) (holds shared h) request
 
--- The flat memory and the trace are those of the definition, and the reservations those of its history. The cache
--- represents the steps of the history with evictions of its own; where it has room for all lines that the history uses, it
--- represents those steps alone.
-pub record Shows (shared : SharedView) (c : Common) : Type 0 where
-  pub memory : memory_of shared ≡ c.memory
-  pub replays : c.memory ≡ replayed c.initial c.history
+-- The flat memory, the reservations and the trace are those that the history leaves. The cache represents the steps of the
+-- history with evictions of its own; where it has room for all lines that the history uses, it represents those steps alone.
+pub record RepresentsShared (shared : SharedView) (c : SharedState) : Type 0 where
+  pub memory : memory_of shared ≡ memory_in c
   pub reserved : Agrees shared.reserved (flat_map calls_of c.history)
-  pub trace : shared.trace ≡ c.trace
-  pub steps : history c.trace ≡ without_evictions (persisted c.history)
-  pub cached : RepresentsEvicting c.start (history c.trace) shared.cache
+  pub trace : shared.trace ≡ trace_in c
+  pub cached : RepresentsEvicting c.start (history (trace_in c)) shared.cache
   pub unforced : (lines : List ℕ) → length lines ≤ shared.cache.cache.capacity → AreAmong (touched c.history) lines →
       RepresentsUnforced c.start lines (persisted c.history) shared.cache
 
 -- The cache is the one that the history leaves, with the medium behind it: at any capacity, whichever lines had to leave.
-pub record IsExact (shared : SharedView) (c : Common) : Type 0 where
+pub record IsExact (shared : SharedView) (c : SharedState) : Type 0 where
   pub cache : shared.cache ≡ cache_left shared.cache.cache.capacity c.start c.history
 
 -- the number that an access of memory finds

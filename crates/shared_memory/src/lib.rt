@@ -9,5 +9,5 @@ mod shared;
 
 pub use fault::StepFault;
 pub use history::Entry;
-pub use limits::check_limits;
+pub use limits::{MAX_CAPACITY, MAX_HARTS, check_limits};
 pub use shared::Shared;

@@ -1,10 +1,10 @@
 //! What the harts of a machine share: its memory, behind a cache where it is persistent, and its trace. It serves their
 //! requests.
 
-ghost use Rattle.std.specs.Prelude.{◌≡◌, ◌≢◌, ◌↔◌, ◌⊎◌, ◌+◌, ◌*◌, ◌/◌, ◌%◌, ◌^◌, ◌<◌, ◌≤◌, ℕ, None, Some, List, [], ◌∷◌, ◌++◌, IfOk, IfErr, OnOk, OnErr, MatchBool, length};
+ghost use Rattle.std.specs.Prelude.{◌≡◌, ◌↔◌, ◌⊎◌, ◌+◌, ◌*◌, ◌/◌, ◌^◌, ◌<◌, ◌≤◌, ℕ, None, Some, List, [], ◌∷◌, ◌++◌, IfOk, IfErr, OnOk, OnErr, length};
 ghost use Rattle.crash_model.specs.Cut.{IsCutImage};
 ghost use Rattle.crash_model.specs.Image.{image};
-ghost use Rattle.crash_model.specs.WrittenBack.{back};
+ghost use Rattle.crash_model.specs.WrittenBack.{write_back_state};
 ghost use Rattle.store_trace.specs.History.{history};
 ghost use Rattle.store_trace.specs.TraceView.{IsEvent};
 ghost use Rattle.line_memory.specs.Memory.{IsWidth, fault_of};
@@ -16,6 +16,7 @@ ghost use Rattle.clean_fence.specs.Rules.{memory_of as lines_found};
 ghost use Rattle.clean_fence.specs.Represents.{AreAmong, CacheSteps};
 ghost use Rattle.crash_model.specs.declared.step.PersistenceStep.TheVariants as step;
 ghost use Rattle.shared_memory.specs.Cached.{after_operation};
+ghost use Rattle.shared_memory.specs.Limits.{AreWithinLimits, RefusesStart};
 ghost use Rattle.shared_memory.specs.Persisted.{persisted, touched};
 ghost use Rattle.shared_memory.specs.Placement.{IsPlaced};
 ghost use Rattle.shared_memory.specs.Refusals.{IsEventFault, RefusesRequest, RefusesWrite};
@@ -23,19 +24,16 @@ ghost use Rattle.shared_memory.specs.Replies.{access_fault, store_event};
 ghost use Rattle.shared_memory.specs.SharedView.{Evicts, Finds, IsMark, IsPlaceIn, Reads, Serves, Writes, lines_shown, memory_of};
 
 use crate::fault::StepFault;
-use crate::limits::check_limits;
+use crate::limits::{MAX_HARTS, check_limits};
 use clean_fence::PmCache;
 use hart::{AccessFault, Reply, Request, amo_result};
 use isa_table::{AtomicOp, CacheOp};
-use line_memory::{Medium, MemFault, PERSISTENT_BASE, Ram, RamPlace};
+use line_memory::{Medium, MemFault, PERSISTENT_BASE, Ram, RamPlace, is_aligned};
 use program::Program;
 use reservation::Reservations;
 use std::alloc::Global;
 use std::marker::Model;
 use store_trace::{Event, Trace};
-
-/// How many harts a cache keeps pending lines for: each number that a hart may have.
-const HARTS: u32 = 8;
 
 /// Where an access begins that can be made.
 #[derive(Clone, Copy)]
@@ -73,8 +71,8 @@ impl Model for Shared {
 }
 
 impl Shared {
-    ghost use Rattle.shared_memory.specs.Replies.{Common, common_at_start};
-    ghost use Rattle.shared_memory.specs.SharedView.{IsExact, Shows};
+    ghost use Rattle.shared_memory.specs.Replies.{SharedState, shared_at_start, trace_in};
+    ghost use Rattle.shared_memory.specs.SharedView.{IsExact, RepresentsShared};
 
     /// The memory at the start of a run of one to eight harts: a program's text and data, a medium behind an empty cache of
     /// 1 to 16,384 lines, and an empty trace. NoSuchHart comes before OutOfLimits, and both before any memory is taken.
@@ -85,17 +83,13 @@ impl Shared {
         harts: u32,
         capacity: u32,
     ) -> Result<Shared, StepFault>
-        ensures ok { IfOk result (λ shared. Shows shared (common_at_start program.now medium)) }
-        ensures exact { IfOk result (λ shared. IsExact shared (common_at_start program.now medium)) }
+        ensures ok { IfOk result (λ shared. RepresentsShared shared (shared_at_start program.now medium)) }
+        ensures exact { IfOk result (λ shared. IsExact shared (shared_at_start program.now medium)) }
         ensures lines { IfOk result (λ shared. shared.cache.lines ≡ medium) }
         ensures capacity { IfOk result (λ shared. shared.cache.cache.capacity ≡ capacity) }
         ensures trace { IfOk result (λ shared. shared.trace ≡ []) }
-        ensures within { OnOk result ((1 ≤ harts) × (harts ≤ 8) × (1 ≤ capacity) × (capacity ≤ 16384)) }
-        ensures count { (result ≡ Err StepFault.NoSuchHart) ↔ ((harts < 1) ⊎ (8 < harts)) }
-        ensures limits { (result ≡ Err StepFault.OutOfLimits)
-            ↔ ((1 ≤ harts) × (harts ≤ 8) × ((capacity < 1) ⊎ (16384 < capacity))) }
-        ensures err { IfErr result (λ fault.
-            (fault ≡ StepFault.NoSuchHart) ⊎ (fault ≡ StepFault.OutOfLimits) ⊎ (fault ≡ StepFault.Memory)) }
+        ensures within { OnOk result (AreWithinLimits harts capacity) }
+        ensures refused { IfErr result (RefusesStart harts capacity) }
     {
         check_limits(harts, capacity)?;
         Shared::made(alloc, program, medium, capacity)
@@ -108,8 +102,8 @@ impl Shared {
         capacity: u32,
     ) -> Result<Shared, StepFault>
         requires { 1 ≤ capacity }
-        ensures ok { IfOk result (λ shared. Shows shared (common_at_start program.now medium)) }
-        ensures exact { IfOk result (λ shared. IsExact shared (common_at_start program.now medium)) }
+        ensures ok { IfOk result (λ shared. RepresentsShared shared (shared_at_start program.now medium)) }
+        ensures exact { IfOk result (λ shared. IsExact shared (shared_at_start program.now medium)) }
         ensures lines { IfOk result (λ shared. shared.cache.lines ≡ medium) }
         ensures capacity { IfOk result (λ shared. shared.cache.cache.capacity ≡ capacity) }
         ensures trace { IfOk result (λ shared. shared.trace ≡ []) }
@@ -119,7 +113,8 @@ impl Shared {
             Ok(ram) => ram,
             Err(_) => return Err(StepFault::Memory),
         };
-        let cache = match PmCache::new(alloc, medium, capacity, HARTS) {
+        // The cache keeps pending lines for each number that a hart may have.
+        let cache = match PmCache::new(alloc, medium, capacity, MAX_HARTS) {
             Ok(cache) => cache,
             Err(_) => return Err(StepFault::Memory),
         };
@@ -140,7 +135,7 @@ impl Shared {
         ensures err { OnErr result (self.new ≡ self.old) }
         ensures refused { IfErr result (RefusesRequest self.old hart request) }
     {
-        match request {
+        let reply = match request {
             Request::Load { address, width } => Ok(self.load(hart, address, width)),
             Request::Store {
                 address,
@@ -164,35 +159,39 @@ impl Shared {
             Request::Fence => self.fence(hart),
             Request::Begin { op } => self.mark(hart, request, Event::Begin { hart, op }),
             Request::End { op } => self.mark(hart, request, Event::End { hart, op }),
-        }
+        };
+        // a look at the trace, for its limit to be known
+        let _ = &self.trace;
+        reply
     }
 
     /// A FENCE.I changes nothing here: who keeps the hart's copy of the text renews it.
     fn fence_i(&self, hart: u32) -> Reply
-        ensures serves { Serves self.now self.now hart Request.FenceI result }
-        ensures limit { length self.now.trace ≤ 65536 }
+        ensures { Serves self.now self.now hart Request.FenceI result }
     {
-        // a look at the trace, for its limit to be known
-        let _ = &self.trace;
         Reply::Done
     }
 
-    fn load(&mut self, hart: u32, address: u64, width: u32) -> Reply
+    /// Serves a hart's load, which is never refused.
+    #[inline(always)]
+    pub fn load(&mut self, hart: u32, address: u64, width: u32) -> Reply
         requires width { IsWidth width }
         ensures serves { Serves self.old self.new hart (Request.Load address width) result }
         ensures limit { length self.new.trace ≤ 65536 }
     {
-        match self.read(address, width) {
+        let reply = match self.read(address, width) {
             Ok(value) => Reply::Value(value),
             Err(fault) => Reply::Fault(access_fault(fault)),
-        }
+        };
+        // a look at the trace, for its limit to be known
+        let _ = &self.trace;
+        reply
     }
 
     fn store(&mut self, hart: u32, address: u64, width: u32, value: u64) -> Result<Reply, StepFault>
         requires hart { hart < 8 }
         requires width { IsWidth width }
         ensures ok { IfOk result (λ reply. Serves self.old self.new hart (Request.Store address width value) reply) }
-        ensures limit { length self.new.trace ≤ 65536 }
         ensures err { OnErr result (self.new ≡ self.old) }
         ensures refused { IfErr result (RefusesRequest self.old hart (Request.Store address width value)) }
     {
@@ -206,8 +205,7 @@ impl Shared {
     fn load_reserved(&mut self, hart: u32, address: u64, width: u32) -> Reply
         requires hart { hart < 8 }
         requires width { IsAtomicWidth width }
-        ensures serves { Serves self.old self.new hart (Request.Lr address width) result }
-        ensures limit { length self.new.trace ≤ 65536 }
+        ensures { Serves self.old self.new hart (Request.Lr address width) result }
     {
         match self.read(address, width) {
             Ok(value) => {
@@ -228,7 +226,6 @@ impl Shared {
         requires hart { hart < 8 }
         requires width { IsAtomicWidth width }
         ensures ok { IfOk result (λ reply. Serves self.old self.new hart (Request.Sc address width value) reply) }
-        ensures limit { length self.new.trace ≤ 65536 }
         ensures err { OnErr result (self.new ≡ self.old) }
         ensures refused { IfErr result (RefusesRequest self.old hart (Request.Sc address width value)) }
     {
@@ -260,7 +257,6 @@ impl Shared {
         requires hart { hart < 8 }
         requires width { IsAtomicWidth width }
         ensures ok { IfOk result (λ reply. Serves self.old self.new hart (Request.Amo op address width operand) reply) }
-        ensures limit { length self.new.trace ≤ 65536 }
         ensures err { OnErr result (self.new ≡ self.old) }
         ensures refused { IfErr result (RefusesRequest self.old hart (Request.Amo op address width operand)) }
     {
@@ -287,8 +283,7 @@ impl Shared {
         requires hart { hart < 8 }
         requires width { IsAtomicWidth width }
         requires placed { IsPlaced self.old address width (Place.Ram place) }
-        ensures serves { Serves self.old self.new hart (Request.Amo op address width operand) result }
-        ensures limit { length self.new.trace ≤ 65536 }
+        ensures { Serves self.old self.new hart (Request.Amo op address width operand) result }
     {
         let old = self.read_ram(address, place, width);
         let value = amo_result(op, width, old, operand);
@@ -310,7 +305,6 @@ impl Shared {
         requires width { IsAtomicWidth width }
         requires place { IsPlaceIn self.old address width offset }
         ensures ok { IfOk result (λ reply. Serves self.old self.new hart (Request.Amo op address width operand) reply) }
-        ensures limit { length self.new.trace ≤ 65536 }
         ensures err { OnErr result (self.new ≡ self.old) }
         ensures refused { IfErr result (RefusesRequest self.old hart (Request.Amo op address width operand)) }
     {
@@ -328,7 +322,6 @@ impl Shared {
         requires event { IsEvent event }
         requires marks { IsMark hart request event }
         ensures ok { IfOk result (λ reply. Serves self.old self.new hart request reply) }
-        ensures limit { length self.new.trace ≤ 65536 }
         ensures err { OnErr result (self.new ≡ self.old) }
         ensures refused { IfErr result (RefusesRequest self.old hart request) }
     {
@@ -340,7 +333,6 @@ impl Shared {
     fn fence(&mut self, hart: u32) -> Result<Reply, StepFault>
         requires hart { hart < 8 }
         ensures ok { IfOk result (λ reply. Serves self.old self.new hart Request.Fence reply) }
-        ensures limit { length self.new.trace ≤ 65536 }
         ensures err { OnErr result (self.new ≡ self.old) }
         ensures refused { IfErr result (RefusesRequest self.old hart Request.Fence) }
     {
@@ -350,6 +342,7 @@ impl Shared {
     }
 
     /// The number that the bytes of an access spell, which a load of persistent memory brings into the cache.
+    #[inline(always)]
     fn read(&mut self, address: u64, width: u32) -> Result<u64, MemFault>
         requires { IsWidth width }
         ensures ok { IfOk result (λ value. Finds (memory_of self.old) address width value) }
@@ -357,18 +350,17 @@ impl Shared {
         ensures low { OnOk result (address < 2 ^ 38) }
         ensures err { IfErr result (λ fault. fault_of (memory_of self.old) address width ≡ Some fault) }
         ensures same { OnErr result (self.new ≡ self.old) }
-        ensures limit { length self.new.trace ≤ 65536 }
     {
         let place = self.place(address, width)?;
         Ok(self.read_at(address, place, width))
     }
 
+    #[inline(always)]
     fn read_at(&mut self, address: u64, place: Place, width: u32) -> u64
         requires width { IsWidth width }
         requires placed { IsPlaced self.old address width place }
         ensures value { Finds (memory_of self.old) address width result }
         ensures reads { Reads self.old self.new address }
-        ensures limit { length self.new.trace ≤ 65536 }
     {
         match place {
             Place::Ram(place) => self.read_ram(address, place, width),
@@ -376,34 +368,34 @@ impl Shared {
         }
     }
 
+    #[inline(always)]
     fn read_ram(&self, address: u64, place: RamPlace, width: u32) -> u64
         requires width { IsWidth width }
         requires placed { IsPlaced self.now address width (Place.Ram place) }
         ensures value { Finds (memory_of self.now) address width result }
         ensures reads { Reads self.now self.now address }
-        ensures limit { length self.now.trace ≤ 65536 }
     {
         self.ram.load_at(place, width)
     }
 
+    #[inline(always)]
     fn read_cache(&mut self, address: u64, offset: u32, width: u32) -> u64
         requires width { IsWidth width }
         requires place { IsPlaceIn self.old address width offset }
         ensures value { Finds (memory_of self.old) address width result }
         ensures reads { Reads self.old self.new address }
-        ensures limit { length self.new.trace ≤ 65536 }
     {
         self.cache.load(offset, width)
     }
 
     /// Where an access begins; the fault of one that can't be made.
+    #[inline(always)]
     fn place(&self, address: u64, width: u32) -> Result<Place, MemFault>
         requires { IsWidth width }
         ensures ok { IfOk result (λ place. IsPlaced self.now address width place) }
         ensures no_fault { OnOk result (fault_of (memory_of self.now) address width ≡ None) }
         ensures low { OnOk result (address < 2 ^ 38) }
         ensures err { IfErr result (λ fault. fault_of (memory_of self.now) address width ≡ Some fault) }
-        ensures limit { length self.now.trace ≤ 65536 }
     {
         if address < PERSISTENT_BASE {
             return Ok(Place::Ram(self.ram.place(address, width)?));
@@ -412,10 +404,10 @@ impl Shared {
     }
 
     /// Where an access to persistent memory begins, counted from its base.
+    #[inline(always)]
     fn place_in_lines(&self, address: u64, width: u32) -> Result<u32, MemFault>
         requires width { IsWidth width }
         requires above { PERSISTENT_BASE ≤ address }
-        ensures limit { length self.now.trace ≤ 65536 }
         ensures ok { IfOk result (λ offset. IsPlaceIn self.now address width offset) }
         ensures err { IfErr result (λ fault. fault_of (memory_of self.now) address width ≡ Some fault) }
     {
@@ -443,7 +435,6 @@ impl Shared {
         requires width { IsWidth width }
         requires placed { IsPlaced self.old address width place }
         ensures ok { OnOk result (Writes self.old self.new hart address width value) }
-        ensures limit { length self.new.trace ≤ 65536 }
         ensures err { OnErr result (self.new ≡ self.old) }
         ensures refused { IfErr result (RefusesWrite self.old address) }
     {
@@ -460,8 +451,7 @@ impl Shared {
         requires hart { hart < 8 }
         requires width { IsWidth width }
         requires placed { IsPlaced self.old address width (Place.Ram place) }
-        ensures writes { Writes self.old self.new hart address width value }
-        ensures limit { length self.new.trace ≤ 65536 }
+        ensures { Writes self.old self.new hart address width value }
     {
         let written_line = reserved_line(address);
         self.ram.store_at(place, width, value);
@@ -480,7 +470,6 @@ impl Shared {
         requires width { IsWidth width }
         requires place { IsPlaceIn self.old address width offset }
         ensures ok { OnOk result (Writes self.old self.new hart address width value) }
-        ensures limit { length self.new.trace ≤ 65536 }
         ensures err { OnErr result (self.new ≡ self.old) }
         ensures refused { IfErr result (RefusesWrite self.old address) }
     {
@@ -493,7 +482,6 @@ impl Shared {
     fn cache_operation(&mut self, hart: u32, op: CacheOp, address: u64) -> Result<Reply, StepFault>
         requires hart { hart < 8 }
         ensures ok { IfOk result (λ reply. Serves self.old self.new hart (Request.Cbo op address) reply) }
-        ensures limit { length self.new.trace ≤ 65536 }
         ensures err { OnErr result (self.new ≡ self.old) }
         ensures refused { IfErr result (RefusesRequest self.old hart (Request.Cbo op address)) }
     {
@@ -551,10 +539,10 @@ impl Shared {
     pub fn power_cut(self) -> (Medium, Trace)
         ensures lines { result.0 ≡ self.cache.lines }
         ensures trace { result.1.events ≡ self.trace }
-        ensures cut { (c : Common) → Shows self c → IsCutImage c.start (history c.trace) result.0 }
-        ensures written_back { (c : Common) (lines : List ℕ) → Shows self c → length lines ≤ self.cache.cache.capacity →
+        ensures cut { (c : SharedState) → RepresentsShared self c → IsCutImage c.start (history (trace_in c)) result.0 }
+        ensures written_back { (c : SharedState) (lines : List ℕ) → RepresentsShared self c → length lines ≤ self.cache.cache.capacity →
             AreAmong (touched c.history) lines →
-            result.0 ≡ image c.start (λ l. (back l (persisted c.history)).count) (history c.trace) }
+            result.0 ≡ image c.start (λ l. (write_back_state l (persisted c.history)).count) (history (trace_in c)) }
     {
         let Shared { cache, trace, .. } = self;
         (cache.power_cut(), trace)
@@ -576,11 +564,11 @@ impl Shared {
     }
 
     /// The number of bytes of persistent memory.
+    #[inline(always)]
     fn size(&self) -> u64
         ensures size { result ≡ 64 * length self.now.cache.lines }
         ensures limit { result ≤ 64 * 16384 }
         ensures whole { AreLines (lines_shown self.now) }
-        ensures trace { length self.now.trace ≤ 65536 }
     {
         64 * u64::from(self.cache.medium().lines())
     }
@@ -597,7 +585,6 @@ impl Shared {
         requires there { offset < 64 * length self.old.cache.lines }
         requires whole { AreLines (lines_shown self.old) }
         ensures ok { IfOk result (λ reply. Serves self.old self.new hart (Request.Cbo op address) reply) }
-        ensures limit { length self.new.trace ≤ 65536 }
         ensures err { OnErr result (self.new ≡ self.old) }
         ensures refused { IfErr result (RefusesRequest self.old hart (Request.Cbo op address)) }
     {
@@ -611,7 +598,6 @@ impl Shared {
     fn note(&mut self, event: Event) -> Result<(), StepFault>
         requires { IsEvent event }
         ensures ok { OnOk result (self.new ≡ record self.old { trace = self.old.trace ++ event ∷ [] }) }
-        ensures limit { length self.new.trace ≤ 65536 }
         ensures err { OnErr result (self.new ≡ self.old) }
         ensures refused { IfErr result (IsEventFault self.old.trace) }
     {
@@ -678,19 +664,6 @@ fn store_event(hart: u32, offset: u32, width: u32, value: u64) -> Event
         offset: offset % 64,
         width,
         value,
-    }
-}
-
-/// Whether an access of this width may begin at an offset. No division: it stands on the way of every load and store.
-fn is_aligned(offset: u64, width: u32) -> bool
-    requires { IsWidth width }
-    ensures { MatchBool result (offset % width ≡ 0) (offset % width ≢ 0) }
-{
-    match width {
-        1 => true,
-        2 => offset % 2 == 0,
-        4 => offset % 4 == 0,
-        _ => offset % 8 == 0,
     }
 }
 

@@ -6,6 +6,7 @@ ghost use Rattle.volume.specs.Logs.{log_of};
 use crate::{Entry, Log};
 use std::alloc::{AllocError, Global};
 use std::marker::Model;
+use std::mem;
 
 /// The log of each inode, those of the lower numbers first.
 ///
@@ -77,6 +78,23 @@ impl Volume {
         ensures err { OnErr result (self.new ≡ self.old) }
     {
         self.logs[inode as usize].push(entry)
+    }
+
+    /// Takes the log of an inode out, and leaves one without entries in its place, which takes no memory.
+    pub fn take_log(&mut self, alloc: Global, inode: u32) -> Log
+        requires { inode < length self.old }
+        ensures log { result ≡ log_of self.old inode }
+        ensures left { self.new ≡ slice_set self.old inode [] }
+    {
+        mem::replace(&mut self.logs[inode as usize], Log::new(alloc))
+    }
+
+    /// Puts a log in the place of that of an inode.
+    pub fn put_log(&mut self, inode: u32, log: Log)
+        requires { inode < length self.old }
+        ensures { self.new ≡ slice_set self.old inode log }
+    {
+        self.logs[inode as usize] = log;
     }
 
     /// Another volume with the same logs.

@@ -5,7 +5,7 @@ ghost use Rattle.std.specs.Prelude.{◌<◌};
 use decode::decode;
 use hart::{
     AccessFault, Advance, HartState, Need, Registers, Reply, Request, Status, Trap, advance,
-    answer, instruction, next, take_reply,
+    answer, instruction, next, resume,
 };
 use isa_table::{CacheOp, Reg};
 use std::process::Abort;
@@ -82,7 +82,7 @@ fn step_in_place(state: &mut HartState, word: u32, reply: Reply) -> Option<Reque
             None
         }
         Advance::Ask(request) => {
-            take_reply(state, instr, reply);
+            resume(state, instr, reply);
             Some(request)
         }
     }

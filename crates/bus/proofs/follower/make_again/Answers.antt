@@ -35,5 +35,5 @@ returns-clause-ok c =
     c.go_on.new.state c.in_ok-instr.instr c.in_ok-exchange.ensures.there c.in_ok-exchange.ensures.asked c.in_ok-exchange.ensures.told
     c.in_ok-go_on.ensures.alone c.in_ok-instr.ensures.asks c.in_ok-instr.ensures.spelled (rw c.hart.ensures at c.in_ok-answer_again.ensures.core)
     c.in_ok-answer_again.ensures.text refl
-    (c.take_reply.ensures ∙ ap (λ (s : HartState). answered s c.in_ok-instr.instr c.args.reply) c.in_ok-instr.ensures.same)
+    (c.resume.ensures ∙ ap (λ (s : HartState). answered s c.in_ok-instr.instr c.args.reply) c.in_ok-instr.ensures.same)
     (λ renews. c.renew_after.ensures.renewed renews ∙ c.text.ensures.value) c.renew_after.ensures.kept

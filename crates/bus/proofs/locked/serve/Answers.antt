@@ -37,7 +37,7 @@ invariant_of-seat-2 c =
       counted_exchange c.seat.inside.made c.seat.inside.budget c.seat.inside.since c.seat.inside.exchanges.items c.add_exchange.new.exchanges.items _
           c.seat.invariant.0 (rw (sym c.seat.view_is) at c.requires.left) added refl,
       led_asked c.seat.inside.renewed c.is_renewed_after-seat-inside.result c.seat.inside.hart c.seat.inside.copy c.renew_after.new.copy
-          c.seat.inside.exchanges.items c.add_exchange.new.exchanges.items _ c.seat.inside.state c.take_reply.new.state c.request_of-instr.result.0
+          c.seat.inside.exchanges.items c.add_exchange.new.exchanges.items _ c.seat.inside.state c.resume.new.state c.request_of-instr.result.0
           c.seat.inside.since c.seat.invariant.1 refl c.request_of-instr.ensures.asks c.request_of-instr.ensures.spelled
           (search rules) c.renew_after.ensures.kept added c.is_renewed_after-seat-inside.ensures,
     )
@@ -56,7 +56,7 @@ returns-clause-ok c =
         spelled = c.request_of-instr.ensures.spelled;
         renewed = λ renews. c.renew_after.ensures.renewed renews ∙ c.text.ensures.value ∙ ap (λ (core : CoreView). core.shared.ram.text) c.core-2.view_is;
         kept = c.renew_after.ensures.kept;
-        seat = told_is _ _ _ _ _ _ _ _ _ (c.take_reply.ensures ∙ as_before) turned;
+        seat = told_is _ _ _ _ _ _ _ _ _ (c.resume.ensures ∙ as_before) turned;
       });
       renews = c.in_ok-reply.ensures.text;
       answer = c.outcome_of.ensures;

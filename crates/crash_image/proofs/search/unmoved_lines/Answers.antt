@@ -19,6 +19,6 @@ returns c = λ low given.
     record {
       lines = refl;
       size = omega (arith, all, c.loop-line.invariant.0);
-      represents = λ l h. refl;
+      shown_is = λ l h. refl;
       each = λ l d h. rw (given l 0 h) at (c.loop-line.invariant.1 l d (omega (arith, all, h)));
     }

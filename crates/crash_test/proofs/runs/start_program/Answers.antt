@@ -1,8 +1,15 @@
-use Rattle.std.proofs.Common.{rules}
+use Rattle.crash_test.specs.Runs.{setup}
+use Rattle.crash_test.proofs.Making.{fails_to_start}
 use Rattle.crash_test.proofs.runs.start_program.Goals as goal
 
 pub returns-in-Ok-clause-ok : goal.returns-in-Ok-clause-ok
-returns-in-Ok-clause-ok c = search rules
+returns-in-Ok-clause-ok c = record {
+  within = c.in-Ok.ensures.within;
+  represents = c.in-Ok.ensures.ok;
+  lines = c.in-Ok.ensures.lines;
+  capacity = c.in-Ok.ensures.capacity;
+}
 
 pub returns-in-Err-clause-err : goal.returns-in-Err-clause-err
-returns-in-Err-clause-err c = search rules
+returns-in-Err-clause-err c =
+    fails_to_start (setup c.args.program c.args.medium c.args.harts c.args.capacity) c.in-Err.fault c.in-Err.ensures.refused

@@ -7,6 +7,6 @@ returns-in-Ok g c = rw c.in-Ok.is (rw c.from.ensures (rw c.deref.ensures.value a
 pub returns-in-Err : goal.returns-in-Err
 returns-in-Err g c = rw c.in-Err.is (record {
   untouched = refl;
-  told = c.tell.ensures.front;
+  told = c.report_failure.ensures.front;
   status_is = c.from-in-Err.ensures ∙ c.status.ensures;
 })

@@ -1,4 +1,5 @@
 use Rattle.std.proofs.Common.{◌≤◌, ◌∙◌, length, take, subst, sym}
+use Rattle.crash_model.specs.Image.{image}
 use Rattle.line_memory.specs.Lines.{IsMedium}
 use Rattle.image_check.specs.RunViews.{RunView}
 use Rattle.image_check.specs.Verdicts.{IsMomentVerdict}
@@ -33,3 +34,8 @@ returns-clause-ok g c =
     (opened_moment run.plan.now.operations images.plan.now.operations images.index.now.start run.medium.now images.index.now.events run.trace.now.events
     c.args.moment images.moment c.in_ok-verdict.verdict made.plan (made.start ∙ c.run.invariant.3) (made.events ∙ c.run.invariant.4) made.moment
     c.in_ok-verdict.ensures.ok)
+
+pub open_moment_shared-requires-clause-fits : goal.open_moment_shared-requires-clause-fits
+open_moment_shared-requires-clause-fits g c κs within = λ k inside.
+    let images = c.new-images.result in
+    c.new-kept.ensures (image images.index.now.start k (at_moment images.index.now.events images.moment))

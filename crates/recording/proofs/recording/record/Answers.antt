@@ -1,27 +1,23 @@
-use Rattle.std.proofs.Common.{ℕ, List, length, refl, sym, ap, ◌∙◌}
+use Rattle.std.proofs.Common.{ℕ, List, length, refl, sym, ap, ◌∙◌, inr}
 use Rattle.recording.specs.Recorded.{RecordedView}
 use Rattle.machine.specs.declared.fault.RunStop.{RunStop}
 use Rattle.machine.proofs.Leaving.{left_by}
-use Rattle.recording.proofs.Numbering.{at_step, each_event, memory_stops, no_such_hart, out_of_limits, records_all, stops_recording}
+use Rattle.recording.proofs.Numbering.{at_step, each_event, fails_before, memory_stops, records_all, stops_recording}
 use Rattle.recording.proofs.recording.record.Goals as goal
 
 pub returns-in-Err-clause-err : goal.returns-in-Err-clause-err
-returns-in-Err-clause-err c = λ range limits.
-    memory_stops _ _ _ _ (ap (λ (stop : RunStop). stop.place) c.before_all.ensures)
-    (ap (λ (stop : RunStop). stop.fault) c.before_all.ensures ∙ c.in-Err.ensures.err range limits)
+returns-in-Err-clause-err c =
+    fails_before _ _ _ _ _ _ (ap (λ (stop : RunStop). stop.place) c.before_all.ensures)
+    (rw (← ap (λ (stop : RunStop). stop.fault) c.before_all.ensures) at c.in-Err.ensures.refused)
 
 pub returns-in-Err-trace_run-clause-err : goal.returns-in-Err-trace_run-clause-err
-returns-in-Err-trace_run-clause-err c = λ range limits.
-    stops_recording _ c.args.medium c.in-Ok.machine c.args.schedule.now _ c.in-Ok.ensures.ok c.in-Ok.ensures.lines c.in-Err-trace_run.ensures.err
+returns-in-Err-trace_run-clause-err c = inr (
+  c.in-Ok.ensures.within,
+  stops_recording _ c.args.medium c.in-Ok.machine c.args.schedule.now _ c.in-Ok.ensures.ok c.in-Ok.ensures.lines c.in-Err-trace_run.ensures.err,
+)
 
 pub returns-in-Err-trace_run-clause-place : goal.returns-in-Err-trace_run-clause-place
 returns-in-Err-trace_run-clause-place c = at_step c.in-Ok.machine c.args.schedule.now _ c.in-Err-trace_run.ensures.err
-
-pub returns-in-Err-trace_run-clause-harts : goal.returns-in-Err-trace_run-clause-harts
-returns-in-Err-trace_run-clause-harts c = λ wrong. absurd (no_such_hart _ _ c.in-Ok.ensures.within wrong)
-
-pub returns-in-Err-trace_run-clause-limits : goal.returns-in-Err-trace_run-clause-limits
-returns-in-Err-trace_run-clause-limits c = λ range wrong. absurd (out_of_limits _ _ c.in-Ok.ensures.within wrong)
 
 pub finish-requires-clause-lines : goal.finish-requires-clause-lines
 finish-requires-clause-lines c =
@@ -49,19 +45,9 @@ returns-in-Ok-finish-clause-exact c =
     left_by _ _ c.in-Ok.machine c.in-Ok-trace_run.traced.machine _ _ c.in-Ok.ensures.exact (rw items traces.exact) (traces.runs.capacity ∙ capacity)
     (ap (λ (r : RecordedView). r.left) kept)
 
-pub returns-in-Err-finish-clause-harts : goal.returns-in-Err-finish-clause-harts
-returns-in-Err-finish-clause-harts c = λ wrong. absurd (no_such_hart _ _ c.in-Ok.ensures.within wrong)
-
-pub returns-in-Err-finish-clause-limits : goal.returns-in-Err-finish-clause-limits
-returns-in-Err-finish-clause-limits c = λ range wrong. absurd (out_of_limits _ _ c.in-Ok.ensures.within wrong)
-
-pub returns-in-Ok-finish-clause-harts : goal.returns-in-Ok-finish-clause-harts
-returns-in-Ok-finish-clause-harts c = λ wrong. absurd (no_such_hart _ _ c.in-Ok.ensures.within wrong)
-
-pub returns-in-Ok-finish-clause-limits : goal.returns-in-Ok-finish-clause-limits
-returns-in-Ok-finish-clause-limits c = λ range wrong. absurd (out_of_limits _ _ c.in-Ok.ensures.within wrong)
-
 pub returns-in-Err-finish-clause-err : goal.returns-in-Err-finish-clause-err
-returns-in-Err-finish-clause-err c = λ range limits.
-    memory_stops _ _ _ _ (ap (λ (stop : RunStop). stop.place) c.before_all-in-Err-finish.ensures)
-    (ap (λ (stop : RunStop). stop.fault) c.before_all-in-Err-finish.ensures ∙ c.in-Err-finish.ensures.err)
+returns-in-Err-finish-clause-err c = inr (
+  c.in-Ok.ensures.within,
+  memory_stops _ _ _ _ (ap (λ (stop : RunStop). stop.place) c.before_all-in-Err-finish.ensures)
+      (ap (λ (stop : RunStop). stop.fault) c.before_all-in-Err-finish.ensures ∙ c.in-Err-finish.ensures.err),
+)

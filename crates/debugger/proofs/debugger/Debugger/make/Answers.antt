@@ -10,8 +10,8 @@ returns-clause-ok c =
     elim c.match-step.branch [
       | in-Ok+in-Some w ↦ rw w.result-is tt
       | in-Ok+in-None w ↦ rw w.result-is
-          (stopped_by c.args.self.now _ c.args.step (ap (λ (v : DebuggerView). v.points) c.self.view_is) (rw machine at w.in-Ok.ensures.runs)
-          c.watch_on-watch.result _ w.in-Ok.outcome c.watch_on-watch.ensures (rw machine at w.in-Ok.ensures.ok)
+          (stopped_by c.args.self.now _ c.args.step (ap (λ (v : DebuggerView). v.points) c.self.view_is) (rw machine at w.in-Ok.ensures.ok.runs)
+          c.watch_on-watch.result _ w.in-Ok.outcome c.watch_on-watch.ensures (rw machine at w.in-Ok.ensures.ok.outcome_is)
           (sym w.in-None.is ∙ w.met_by.ensures))
       | in-Err w ↦ rw w.result-is tt
     ]

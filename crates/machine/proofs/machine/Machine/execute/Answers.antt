@@ -4,35 +4,21 @@ use Rattle.hart.specs.declared.state.Status.TheVariants.{Running, Trapped}
 use Rattle.schedule.specs.declared.items.Step.TheVariants.{Hart}
 use Rattle.machine.specs.Refusals.{Refuses}
 use Rattle.machine.specs.Represents.{MachineView}
-use Rattle.machine.proofs.Refusing.{longer, refused_with_request, silent_alone, silent_trap}
-use Rattle.machine.proofs.Stepping.{goes_on_alone, goes_on_answered, outcome_made, put_there, traps}
+use Rattle.machine.proofs.Refusing.{refused_with_request}
+use Rattle.machine.proofs.Stepped.{stepped_alone, stepped_answered, stepped_trap}
+use Rattle.machine.proofs.Stepping.{put_there}
 use Rattle.machine.proofs.machine.Machine.execute.Goals.{in-Done, in-Stop, in-Ask+in_ok-ask-in-Ask}
 use Rattle.machine.proofs.machine.Machine.execute.Goals as goal
 
-pub returns-in-Err-clause-runs : goal.returns-in-Err-clause-runs
-returns-in-Err-clause-runs c =
+pub returns-in-Err-clause-ok : goal.returns-in-Err-clause-ok
+returns-in-Err-clause-ok c =
     let s = c.index_mut-state.result.now in
     let harts = ap (λ (m : MachineView). m.harts) c.self.view_is in
     let there = put_there c.args.self.now.harts c.args.hart c.hart.result.now s c.hart.ensures (rw harts at c.index_mut-state.ensures.value) in
     let same : c.hart.result.now ≡ s = search rules in
     let running : s.status ≡ Running = rw there at c.requires.running in
-    (traps c.args.self.now _ c.args.hart s (record s { status = Trapped c.in-Err.trap }) c.in-Err.trap there running
-    (rw same at (c.in-Err.ensures.traps s)) refl (rw (← c.self.view_is) refl)).runs
-
-pub returns-in-Err-clause-exact : goal.returns-in-Err-clause-exact
-returns-in-Err-clause-exact c =
-    let s = c.index_mut-state.result.now in
-    let harts = ap (λ (m : MachineView). m.harts) c.self.view_is in
-    let there = put_there c.args.self.now.harts c.args.hart c.hart.result.now s c.hart.ensures (rw harts at c.index_mut-state.ensures.value) in
-    let same : c.hart.result.now ≡ s = search rules in
-    let running : s.status ≡ Running = rw there at c.requires.running in
-    (traps c.args.self.now _ c.args.hart s (record s { status = Trapped c.in-Err.trap }) c.in-Err.trap there running
-    (rw same at (c.in-Err.ensures.traps s)) refl (rw (← c.self.view_is) refl)).exact
-
-pub returns-in-Err-clause-event : goal.returns-in-Err-clause-event
-returns-in-Err-clause-event c = λ makes.
-    absurd (silent_trap c.args.self.now c.args.hart c.hart.result.now c.in-Err.trap c.hart.ensures
-    (c.in-Err.ensures.traps c.hart.result.now) makes)
+    stepped_trap c.args.self.now _ c.args.hart s (record s { status = Trapped c.in-Err.trap }) c.in-Err.trap there running
+    (rw same at (c.in-Err.ensures.traps s)) refl (rw (← c.self.view_is) refl)
 
 pub ask-requires-clause-hart : goal.ask-requires-clause-hart
 ask-requires-clause-hart c =
@@ -53,25 +39,17 @@ returns-clause-ok c =
     let s = c.index_mut-state.result.now in
     let harts = ap (λ (m : MachineView). m.harts) c.self.view_is in
     let there = put_there c.args.self.now.harts c.args.hart c.hart.result.now s c.hart.ensures (rw harts at c.index_mut-state.ensures.value) in
-    let running : s.status ≡ Running = rw there at c.requires.running in
-    rw (c.outcome_of.ensures, harts, outcome_made c.args.self.now.harts c.args.hart s c.match-advance.state there running) refl
-
-pub returns-clause-runs : goal.returns-clause-runs
-returns-clause-runs c =
-    let s = c.index_mut-state.result.now in
-    let harts = ap (λ (m : MachineView). m.harts) c.self.view_is in
-    let there = put_there c.args.self.now.harts c.args.hart c.hart.result.now s c.hart.ensures (rw harts at c.index_mut-state.ensures.value) in
     let same : c.hart.result.now ≡ s = search rules in
     let running : s.status ≡ Running = rw there at c.requires.running in
     let needs = rw same at (c.in-Ok.ensures.needs s) in
-    elim c.match-advance.branch [
+    rw c.outcome_of.ensures (elim c.match-advance.branch [
       | in-Done w ↦
-          (goes_on_alone c.args.self.now _ c.args.hart s c.advance.new.state there running (rw (← w.in-Done.ensures.effect) at needs)
-          (rw (w.self-inside-is, w.state-is, ← c.self.view_is) refl)).runs
+          stepped_alone c.args.self.now _ c.args.hart s c.match-advance.state there running (rw (← w.in-Done.ensures.effect, ← w.state-is) at needs)
+          (rw (w.self-inside-is, ← c.self.view_is) refl)
       | in-Stop w ↦
-          (traps c.args.self.now _ c.args.hart s c.match-advance.state w.in-Stop.trap there running (rw (← w.in-Stop.ensures.effect) at needs)
+          stepped_trap c.args.self.now _ c.args.hart s c.match-advance.state w.in-Stop.trap there running (rw (← w.in-Stop.ensures.effect) at needs)
           (rw w.in-Stop.ensures.kept at w.state-is)
-          (rw (w.self-inside-is, ← c.self.view_is) refl)).runs
+          (rw (w.self-inside-is, ← c.self.view_is) refl)
       | in-Ask+in_ok-ask-in-Ask w ↦
           let copies = ap (λ (m : MachineView). m.copies) c.self.view_is in
           let shared = ap (λ (m : MachineView). m.shared) c.self.view_is in
@@ -80,61 +58,11 @@ returns-clause-runs c =
           let inside = slice_get_within c.args.self.now.harts c.args.hart s there in
           let few : c.args.hart < 8 = omega arith in
           let spelled = rw same at c.in-Ok.ensures.spelled in
-          (goes_on_answered c.args.self.now _ w.ask.new.shared c.args.hart s c.match-advance.state c.in-Ok.instr w.in-Ask.request few each
+          stepped_answered c.args.self.now _ w.ask.new.shared c.args.hart s c.match-advance.state c.in-Ok.instr w.in-Ask.request few each
           there running (rw (← w.in-Ask.ensures.effect) at needs) spelled
           (rw (shared, w.in-Ask.ensures.kept, ← w.state-is) at w.in_ok-ask-in-Ask.ensures.ok)
-          (rw (w.self-inside-is, w.renew_after.ensures.copies, w.text.ensures.value, ← c.self.view_is) refl)).runs
-    ]
-
-pub returns-clause-exact : goal.returns-clause-exact
-returns-clause-exact c =
-    let s = c.index_mut-state.result.now in
-    let harts = ap (λ (m : MachineView). m.harts) c.self.view_is in
-    let there = put_there c.args.self.now.harts c.args.hart c.hart.result.now s c.hart.ensures (rw harts at c.index_mut-state.ensures.value) in
-    let same : c.hart.result.now ≡ s = search rules in
-    let running : s.status ≡ Running = rw there at c.requires.running in
-    let needs = rw same at (c.in-Ok.ensures.needs s) in
-    elim c.match-advance.branch [
-      | in-Done w ↦
-          (goes_on_alone c.args.self.now _ c.args.hart s c.advance.new.state there running (rw (← w.in-Done.ensures.effect) at needs)
-          (rw (w.self-inside-is, w.state-is, ← c.self.view_is) refl)).exact
-      | in-Stop w ↦
-          (traps c.args.self.now _ c.args.hart s c.match-advance.state w.in-Stop.trap there running (rw (← w.in-Stop.ensures.effect) at needs)
-          (rw w.in-Stop.ensures.kept at w.state-is)
-          (rw (w.self-inside-is, ← c.self.view_is) refl)).exact
-      | in-Ask+in_ok-ask-in-Ask w ↦
-          let copies = ap (λ (m : MachineView). m.copies) c.self.view_is in
-          let shared = ap (λ (m : MachineView). m.shared) c.self.view_is in
-          let each = rw (copies, harts) at c.self.invariant.1 in
-          let most = rw harts at c.self.invariant.0 in
-          let inside = slice_get_within c.args.self.now.harts c.args.hart s there in
-          let few : c.args.hart < 8 = omega arith in
-          let spelled = rw same at c.in-Ok.ensures.spelled in
-          (goes_on_answered c.args.self.now _ w.ask.new.shared c.args.hart s c.match-advance.state c.in-Ok.instr w.in-Ask.request few each
-          there running (rw (← w.in-Ask.ensures.effect) at needs) spelled
-          (rw (shared, w.in-Ask.ensures.kept, ← w.state-is) at w.in_ok-ask-in-Ask.ensures.ok)
-          (rw (w.self-inside-is, w.renew_after.ensures.copies, w.text.ensures.value, ← c.self.view_is) refl)).exact
-    ]
-
-pub returns-clause-event : goal.returns-clause-event
-returns-clause-event c =
-    let s = c.index_mut-state.result.now in
-    let harts = ap (λ (m : MachineView). m.harts) c.self.view_is in
-    let there = put_there c.args.self.now.harts c.args.hart c.hart.result.now s c.hart.ensures (rw harts at c.index_mut-state.ensures.value) in
-    let same : c.hart.result.now ≡ s = search rules in
-    let needs = rw same at (c.in-Ok.ensures.needs s) in
-    elim c.match-advance.branch [
-      | in-Done w ↦ λ makes.
-          absurd (silent_alone c.args.self.now c.args.hart s c.advance.new.state there (rw (← w.in-Done.ensures.effect) at needs) makes)
-      | in-Stop w ↦ λ makes.
-          absurd (silent_trap c.args.self.now c.args.hart s w.in-Stop.trap there (rw (← w.in-Stop.ensures.effect) at needs) makes)
-      | in-Ask+in_ok-ask-in-Ask w ↦ λ makes.
-          let shared = ap (λ (m : MachineView). m.shared) c.self.view_is in
-          let serves = rw shared at w.in_ok-ask-in-Ask.ensures.ok.serves in
-          rw w.self-inside-is
-          (longer c.args.self.now w.ask.new.shared c.args.hart s w.in-Ask.request w.in_ok-ask-in-Ask.ensures.ok.reply there
-          (rw (← w.in-Ask.ensures.effect) at needs) serves makes)
-    ]
+          (rw (w.self-inside-is, w.renew_after.ensures.copies, w.text.ensures.value, ← c.self.view_is) refl)
+    ])
 
 pub returns-in_err-ask-in-Ask-clause-refused : goal.returns-in_err-ask-in-Ask-clause-refused
 returns-in_err-ask-in-Ask-clause-refused c =

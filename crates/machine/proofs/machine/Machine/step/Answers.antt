@@ -1,19 +1,15 @@
-use Rattle.schedule.specs.declared.items.Step.TheVariants.{Hart, Evict}
+use Rattle.std.proofs.Common.{ap}
+use Rattle.machine.specs.Represents.{MachineView}
 use Rattle.machine.proofs.Refusing.{full_exactly, no_hart_exactly, no_line_exactly}
 use Rattle.machine.proofs.machine.Machine.step.Goals as goal
 
-pub returns-in-Hart-clause-no_hart : goal.returns-in-Hart-clause-no_hart
-returns-in-Hart-clause-no_hart c =
-    rw c.in-Hart.is (no_hart_exactly c.args.self.now (Hart c.in-Hart.hart) _ c.step_hart.ensures.there c.step_hart.ensures.refused)
+pub returns-clause-no_hart : goal.returns-clause-no_hart
+returns-clause-no_hart c = no_hart_exactly c.args.self.now _ c.args.step _ c.make_step-made.ensures.ok c.make_step-made.ensures.refused
 
-pub returns-in-Hart-clause-full : goal.returns-in-Hart-clause-full
-returns-in-Hart-clause-full c =
-    rw c.in-Hart.is (full_exactly c.args.self.now c.step_hart.new.self (Hart c.in-Hart.hart) _ c.step_hart.ensures.event c.step_hart.ensures.limit c.step_hart.ensures.refused)
+pub returns-clause-no_line : goal.returns-clause-no_line
+returns-clause-no_line c = no_line_exactly c.args.self.now _ c.args.step _ c.make_step-made.ensures.ok c.make_step-made.ensures.refused
 
-pub returns-in-Evict-clause-no_line : goal.returns-in-Evict-clause-no_line
-returns-in-Evict-clause-no_line c =
-    rw c.in-Evict.is (no_line_exactly c.args.self.now (Evict c.in-Evict.line) _ c.evict.ensures.there c.evict.ensures.refused)
-
-pub returns-in-Evict-clause-full : goal.returns-in-Evict-clause-full
-returns-in-Evict-clause-full c =
-    rw c.in-Evict.is (full_exactly c.args.self.now c.evict.new.self (Evict c.in-Evict.line) _ c.evict.ensures.event c.evict.ensures.limit c.evict.ensures.refused)
+pub returns-clause-full : goal.returns-clause-full
+returns-clause-full c =
+    let shared = ap (λ (m : MachineView). m.shared) c.self.view_is in
+    full_exactly c.args.self.now _ c.args.step _ c.make_step-made.ensures.ok (rw shared at c.self.invariant.2) c.make_step-made.ensures.refused

@@ -3,8 +3,8 @@ use Rattle.shared_memory.specs.SharedView.{SharedView, reserved_lines}
 use Rattle.shared_memory.proofs.Serving.{ram_below, stored_more, written_in_ram}
 use Rattle.shared_memory.proofs.shared.Shared.write_to_ram.Goals as goal
 
-pub returns-clause-writes : goal.returns-clause-writes
-returns-clause-writes c =
+pub returns : goal.returns
+returns c =
     let ram = ap (λ (s : SharedView). s.ram) c.self.view_is in
     let below = ram_below c.args.address c.args.width c.args.place c.requires.width c.requires.placed.1 in
     written_in_ram c.args.self.now _ c.args.hart c.args.address c.args.width c.args.value c.requires.width below

@@ -1,0 +1,8 @@
+use Rattle.std.proofs.Common.{rules}
+use Rattle.command_line.proofs.writing.write_medium_file.Goals as goal
+
+pub returns-in-Some : goal.returns-in-Some
+returns-in-Some g c = record { leaves = rw c.in-Some.is (rw c.as_str.ensures.value at c.write_medium.ensures) }
+
+pub returns-in-None : goal.returns-in-None
+returns-in-None g c = record { leaves = rw c.in-None.is (search rules) }

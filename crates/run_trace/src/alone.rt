@@ -1,0 +1,102 @@
+//! How a run of one hart is traced.
+
+ghost use Rattle.machine.specs.Represents.{IsRunning};
+ghost use Rattle.machine.specs.RegisterSteps.{RunsBeforeEach};
+ghost use Rattle.run_trace.specs.Traced.{StopsTracing, Traces, steps_alone};
+ghost use Rattle.run_trace.specs.Tracers.{IsHeld, Makes};
+ghost use Rattle.schedule.specs.Walks.{HaltsAt};
+ghost use Rattle.std.specs.Prelude.{◌≡◌, ◌≤◌, IfErr, IfOk, replicate, slice_get};
+
+use crate::tracer::{TracedMachine, Tracer};
+use machine::{Machine, RunStop};
+use schedule::{Place, Step};
+use std::alloc::Global;
+
+/// What a hart has made that went on alone.
+#[derive(Drop)]
+pub struct TracedAlone {
+    /// The machine after its steps, and the events that they made.
+    pub run: TracedMachine,
+    /// How many steps it has made.
+    pub made: u32,
+}
+
+/// Makes the steps of one hart of a machine until it has stopped or has made so many; and gives the machine and the events that
+/// this makes, in order, each with the number of its hart step, from 1, and the pc that the hart had before that step. The step
+/// by which the hart stops counts, and is the last.
+///
+/// # Errors
+/// The first step that is refused, with the steps made before it, as of a schedule of so many steps of the hart. Memory where a
+/// growth is refused.
+pub fn trace_alone(
+    alloc: Global,
+    machine: Machine,
+    hart: u32,
+    most: u32,
+) -> Result<TracedAlone, RunStop>
+    ensures ok { IfOk result (λ made. Traces machine made.run.machine (replicate made.made (Step.Hart hart)) made.run.traced.items) }
+    ensures most { IfOk result (λ made. made.made ≤ most) }
+    ensures ended { IfOk result (λ made. IsRunning (slice_get made.run.machine.harts hart) → made.made ≡ most) }
+    ensures running { IfOk result (λ made. RunsBeforeEach machine hart made.made) }
+    ensures err { IfErr result (StopsTracing machine (steps_alone hart most)) }
+{
+    let mut tracer = Tracer {
+        machine,
+        made: 0,
+        traced: Vec::new(alloc),
+    };
+    let ended = go_on(&mut tracer, hart, most);
+    // The trace is within its limit, also where a step was refused.
+    prove!(tracer.machine.events().len() <= 65_536);
+    let Tracer {
+        machine,
+        traced,
+        ..
+    } = tracer;
+    match ended {
+        Ok(made) => Ok(TracedAlone {
+            run: TracedMachine { machine, traced },
+            made,
+        }),
+        Err(stop) => Err(stop),
+    }
+}
+
+/// Makes the steps of a hart until it has stopped or has made so many, and says how many it has made.
+fn go_on(tracer: &mut Tracer, hart: u32, most: u32) -> Result<u32, RunStop>
+    requires { tracer.old.made ≡ 0 }
+    ensures ok { IfOk result (λ made. Makes tracer.old (replicate made (Step.Hart hart)) tracer.new) }
+    ensures most { IfOk result (λ made. made ≤ most) }
+    ensures ended { IfOk result (λ made. IsRunning (slice_get tracer.new.machine.harts hart) → made ≡ most) }
+    ensures running { IfOk result (RunsBeforeEach tracer.old.machine hart) }
+    ensures err { IfErr result (λ stop. HaltsAt Makes IsHeld tracer.old tracer.new (steps_alone hart most) (record { item = 0; steps = 0 }) stop.place stop.fault) }
+{
+    let mut made = 0;
+    loop {
+        made += tracer.go_alone(hart, most - made);
+        if made == most || tracer.machine.has_stopped(hart) {
+            return Ok(made);
+        }
+        if let Err(fault) = tracer.step_hart(hart) {
+            let place = Place {
+                item: 0,
+                steps: made,
+            };
+            return Err(RunStop { place, fault });
+        }
+        made += 1;
+    }
+}
+
+impl Tracer {
+    /// Makes the next register steps of a hart, so many at most, and says how many they are. They make no event.
+    fn go_alone(&mut self, hart: u32, most: u32) -> u32
+        ensures most { result ≤ most }
+        ensures made { Makes self.old (replicate result (Step.Hart hart)) self.new }
+        ensures running { RunsBeforeEach self.old.machine hart result }
+    {
+        let made = self.machine.go_alone(hart, most);
+        self.made = self.made.wrapping_add(made);
+        made
+    }
+}
