@@ -1,7 +1,7 @@
 //! What one thread does with its seat.
 
 ghost use Rattle.std.specs.Prelude.{◌≡◌, ◌≤◌, [], false};
-ghost use Rattle.bus.specs.Driving.{HasEnded, IsDriven, IsRound, badge, is_last, round_after};
+ghost use Rattle.bus.specs.Driving.{IsDriven, IsRound, badge, is_last, round_after};
 ghost use Rattle.bus.specs.Seating.{AsksNext};
 ghost use Rattle.bus.specs.Seats.{SeatView};
 

@@ -1,6 +1,5 @@
 -- Behind moments that pass, a row that does, and one that doesn't, whatever judges a moment.
-use Rattle.std.proofs.Common.{◌≡◌, ℕ, ◌+◌, ◌<◌, ◌≤◌, List, Option, refl, arith}
-use Rattle.crash_image.specs.Totals.{IsImageSum}
+use Rattle.std.proofs.Common.{◌≡◌, ℕ, ◌≤◌, List, Option, refl, arith}
 use Rattle.moment_verdict.specs.Verdicts.{IsLeastMoment, IsVerdictBetween}
 use Rattle.moment_verdict.specs.declared.verdict.MomentVerdict.{MomentVerdict}
 use Rattle.moment_verdict.specs.declared.verdict.MomentVerdict.TheVariants as moments

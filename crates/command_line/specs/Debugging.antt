@@ -7,10 +7,11 @@ use Rattle.debugger.specs.declared.fault.DebugFault.{DebugFault}
 use Rattle.debugger.specs.declared.fault.DebugFault.TheVariants.{InputOutput, Memory}
 use Rattle.debugger.specs.Points.{DebuggerView}
 use Rattle.machine.specs.Represents.{MachineView}
+use Rattle.shared_memory.specs.Limits.{RefusesStart}
 use Rattle.session.specs.StreamFailures.{one_more}
 use Rattle.session.specs.Running.{SomeRun}
 use Rattle.session.specs.Sessions.{BreaksOff, Session}
-use Rattle.crash_test.specs.Runs.{FailsToStart, IsAtStart, Setup}
+use Rattle.crash_test.specs.Runs.{IsAtStart, Setup}
 use Rattle.command_line.specs.Failures.{failure_of_session, failure_of_step}
 use Rattle.command_line.specs.Reading.{ReadsMedium, ReadsProgram}
 use Rattle.command_line.specs.Running.{machine_of}
@@ -20,7 +21,7 @@ use Rattle.command_line.specs.declared.failure.Failure.TheVariants as failures
 
 -- the machine of a setup that has made no step, or why there is none
 pub record Starts (s : Setup) (outcome : Result MachineView Failure) : Type 0 where
-  pub starts : MatchResult outcome (IsAtStart s) (Tells (FailsToStart s) failure_of_step)
+  pub starts : MatchResult outcome (IsAtStart s) (Tells (RefusesStart s.harts s.capacity) failure_of_step)
 
 abbrev pub OpensFile : {F : Type 0} → Reads F → DebugCommand → Step F MachineView
 OpensFile reads command =

@@ -3,7 +3,6 @@
 ghost use Rattle.std.specs.Prelude.{◌≡◌, ◌^◌, ◌<◌, IfOk, IfSome, string_bytes};
 ghost use Rattle.command_line.specs.Reasons.{told_losses, told_why};
 ghost use Rattle.program.specs.Sections.{Sections};
-ghost use Rattle.program_trace.specs.Lines.{line_of};
 ghost use Rattle.run_text.specs.Places.{line_in};
 ghost use Rattle.schedule.specs.Grammar.{hart_steps};
 ghost use Rattle.crash_test.specs.Programs.{IsProgramOf};

@@ -1,5 +1,5 @@
 -- What one hart of a setup has made alone.
-use Rattle.std.proofs.Common.{◌≡◌, ◌⊎◌, ℕ, ◌<◌, ◌≤◌, List, [], ◌∷◌, Option, Some, None, length, replicate, slice_get, refl, sym, ap, subst, ◌∙◌, inl, inr, arith}
+use Rattle.std.proofs.Common.{◌≡◌, ℕ, ◌<◌, ◌≤◌, List, [], ◌∷◌, Some, length, replicate, slice_get, refl, ap, subst, ◌∙◌, inl, inr, arith}
 use Rattle.std.proofs.lemmas.List.{append-nil, length-replicate}
 use Rattle.std.proofs.lemmas.Option.{slice_get_within}
 use Rattle.bus.proofs.Following.{count_own}
@@ -7,12 +7,11 @@ use Rattle.bus.specs.Limits.{AreWithin}
 use Rattle.bus.specs.Stepping.{IsStepRefusal}
 use Rattle.bus.specs.Together.{count_of}
 use Rattle.hart.specs.declared.state.HartState.{HartState}
-use Rattle.hart.specs.declared.state.Status.TheVariants.{Running}
 use Rattle.machine.specs.Left.{IsLeftBy}
 use Rattle.machine.specs.Refusals.{Refuses, RefusesNext}
 use Rattle.machine.specs.Represents.{IsRunning, MachineView}
 use Rattle.machine.specs.declared.fault.RunStop.{RunStop}
-use Rattle.recording.specs.Recorded.{FailsToRecord, HasGoneOn, IsRefused as StopsMachine, RecordedView, Records, StopsRecording}
+use Rattle.recording.specs.Recorded.{FailsToRecord, HasGoneOn, RecordedView, Records, StopsRecording}
 use Rattle.schedule.proofs.Places.{step_here}
 use Rattle.schedule.specs.Grammar.{hart_steps}
 use Rattle.schedule.specs.Places.{steps_of_item}

@@ -1,5 +1,5 @@
 -- What a machine has made that was at the start of a setup.
-use Rattle.std.proofs.Common.{◌≡◌, ℕ, ◌≤◌, List, All, length, inl, inr, refl, sym, ap, ◌∙◌}
+use Rattle.std.proofs.Common.{◌≡◌, ◌≤◌, List, All, length, inr, refl, sym, ap, ◌∙◌}
 use Rattle.std.proofs.lemmas.List.FromFn.{length-map-range_with_len}
 use Rattle.hart.specs.Effect.{start}
 use Rattle.machine.proofs.Leaving.{left_by}
@@ -10,14 +10,7 @@ use Rattle.recording.proofs.Numbering.{all_among}
 use Rattle.schedule.specs.Steps.{all_steps}
 use Rattle.schedule.specs.declared.items.Item.{Item}
 use Rattle.schedule.specs.declared.items.Step.{Step}
-use Rattle.shared_memory.specs.Limits.{RefusesStart}
-use Rattle.shared_memory.specs.declared.fault.StepFault.{StepFault}
-use Rattle.crash_test.specs.Runs.{AreThere, FailsToRun, FailsToStart, HasMade, HasRun, IsAtStart, IsLeftOf, Setup, start_of}
-
--- why there is no machine at the start of a setup
-pub fails_to_start : (s : Setup) (fault : StepFault) → RefusesStart s.harts s.capacity fault → FailsToStart s fault
-fails_to_start s fault (inl outside) = inr outside
-fails_to_start s fault (inr refused) = inl refused.1
+use Rattle.crash_test.specs.Runs.{AreThere, FailsToRun, HasMade, HasRun, IsAtStart, IsLeftOf, Setup, start_of}
 
 -- a machine at the start has as many harts as its setup says
 harts_of : (s : Setup) (machine : MachineView) → Represents machine (start_of s) → length machine.harts ≡ s.harts

@@ -58,10 +58,6 @@ pub record IsAtStart (s : Setup) (machine : MachineView) : Type 0 where
   pub lines : machine.shared.cache.lines ≡ s.medium
   pub capacity : machine.shared.cache.cache.capacity ≡ s.capacity
 
--- why there is none: memory was refused, or a number is outside its limits
-abbrev pub FailsToStart : Setup → StepFault → Type 0
-FailsToStart s fault = (fault ≡ Memory) ⊎ IsOutside s fault
-
 -- the hart, or the line, of each step is there
 abbrev pub AreThere : Setup → List Step → Type 0
 AreThere s steps = All (IsAmong s.harts (length s.medium)) steps

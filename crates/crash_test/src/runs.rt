@@ -5,8 +5,9 @@ ghost use Rattle.crash_image.specs.View.{HasLines};
 ghost use Rattle.machine.specs.Represents.{RepresentsExactly};
 ghost use Rattle.recording.specs.Recorded.{HasGoneOn};
 ghost use Rattle.schedule.specs.Grammar.{hart_steps};
+ghost use Rattle.shared_memory.specs.Limits.{RefusesStart};
 ghost use Rattle.std.specs.Prelude.{◌≡◌, ◌≢◌, ◌^◌, ◌<◌, IfErr, IfOk};
-ghost use Rattle.crash_test.specs.Runs.{FailsToRun, FailsToStart, FailsTogether, HasRun, HasRunTogether, HasTrace, IsAtStart, IsLeftOf, IsRunOf, IsUnfinished, setup, start_of, unfinished_of, with_room};
+ghost use Rattle.crash_test.specs.Runs.{FailsToRun, FailsTogether, HasRun, HasRunTogether, HasTrace, IsAtStart, IsLeftOf, IsRunOf, IsUnfinished, setup, start_of, unfinished_of, with_room};
 
 use bus::{Bus, FinishFault, RunFault, check_start, run_harts};
 use gate::Open;
@@ -202,7 +203,7 @@ pub fn start_program(
 ) -> Result<Machine, StepFault>
     ensures ok { IfOk result (IsAtStart (setup program medium harts capacity)) }
     ensures exact { IfOk result (λ machine. RepresentsExactly machine (start_of (setup program medium harts capacity))) }
-    ensures err { IfErr result (FailsToStart (setup program medium harts capacity)) }
+    ensures err { IfErr result (RefusesStart harts capacity) }
 {
     match Machine::new(alloc, program, medium, harts, capacity) {
         Ok(machine) => Ok(machine),

@@ -30,11 +30,14 @@ impl Stepper for Debugger {
 
     /// The steps of a hart that has stopped: no point stops the run before or behind them.
     #[tactic(auto, using(crate::proofs::Walking::walks_rest))]
-    fn rest(&mut self, step: Step, _count: u32) -> bool {
-        match step {
-            Step::Hart(hart) => self.machine.has_stopped(hart),
-            Step::Evict(_) => false,
+    fn make_several(&mut self, step: Step, most: u32) -> u32 {
+        let Step::Hart(hart) = step else {
+            return 0;
+        };
+        if self.machine.has_stopped(hart) {
+            return most;
         }
+        0
     }
 
     ghost no_step = { walks_none };

@@ -1,12 +1,11 @@
 //! The image of a cut as recovery reads it: each line comes from the index when it is asked for.
 
-ghost use Rattle.branches.specs.Numbers.{number_over};
 ghost use Rattle.crash_model.specs.Floor.{floor};
-ghost use Rattle.image_check.specs.Branching.{AreKeptAt, AreNumbers, IsWithinAt, image_of, numbers_at};
+ghost use Rattle.image_check.specs.Branching.{AreKeptAt, AreNumbers, image_of, numbers_at};
 ghost use Rattle.nova_log.specs.Volumes.{asked_lines, volume_of};
 ghost use Rattle.nova_log.specs.declared.fault.VolumeFault.TheVariants.{Memory};
 ghost use Rattle.std.specs.List.{AllByRecursion};
-ghost use Rattle.std.specs.Prelude.{◌≡◌, ◌<◌, ◌≤◌, ◌⊎◌, [], Err, Ok, length, IfErr, IfOk, OnOk};
+ghost use Rattle.std.specs.Prelude.{◌≡◌, ◌<◌, ◌≤◌, ◌⊎◌, [], Err, Ok, length, IfErr, OnOk};
 
 use nova_log::{FixedLines, KeptVolume, LineSource, VolumeFault, recover_again};
 use std::alloc::{AllocError, Global};

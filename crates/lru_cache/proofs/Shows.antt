@@ -1,10 +1,13 @@
 -- What loads show after each change, and that a cache still stands over its medium.
 use Rattle.std.proofs.Common.{◌≡◌, ℕ, zero, suc, ◌<◌, Bool, true, false, cond, eqb, Option, Some, None, is_some, unwrap_or, List, [], ◌∷◌, length, replicate, refl, sym, ap, ◌∙◌, arith, slice_index_or, slice_set}
 use Rattle.std.proofs.lemmas.Bool.Decides.{nat_tests}
-use Rattle.std.proofs.lemmas.List.{length-set, get_or-set_same}
+use Rattle.std.proofs.lemmas.List.{length-set, get_or-set_same, set-get_or}
+use Rattle.index_list.specs.Lists.{first}
 use Rattle.index_list.proofs.Members.{has-without}
 use Rattle.line_memory.specs.Lines.{line_at, AreLines, IsMedium}
-use Rattle.lru_cache.specs.Cache.{CacheView, IsCache, IsOver, copied_over, shown, is_resident, is_dirty, after_write_back, after_drop, after_use, after_change, written_back, empty_cache}
+use Rattle.lru_cache.specs.Cache.{CacheView, IsCache, IsOver, copied_over, shown, is_resident, is_dirty, victim, after_forced, after_load, after_write_back, after_drop, after_use, after_change, written_back, empty_cache}
+use Rattle.lru_cache.specs.Order.{recent_in, set_of}
+use Rattle.lru_cache.proofs.Splits.{latest_there, used_again}
 use Rattle.lru_cache.proofs.Places.{at_put, put_same, has-list_with}
 
 pub length_shown : (copies : List (Option (List ℕ))) (lines : List (List ℕ)) → length (copied_over copies lines) ≡ length lines
@@ -99,6 +102,22 @@ module _ (c : CacheView) (s : IsCache c) (lines : List (List ℕ)) (o : IsOver c
   pub copy_there : line < length lines → is_resident c line ≡ true → slice_index_or c.copies line None ≡ Some (line_at (shown c lines) line)
   copy_there low there =
       some_from (slice_index_or c.copies line None) (line_at lines line) there ∙ ap (λ (l : List ℕ). Some l) (sym (at_shown c.copies lines line low))
+
+  -- a load from the line that is the most recently used of its set changes nothing
+  pub latest_resident : first (recent_in c.orders (set_of line)) ≡ Some line → is_resident c line ≡ true
+  latest_resident e =
+      let both = sym (s.recent line (set_of line)) ∙ latest_there c.orders line e in
+      grind (arith, nat_tests)
+
+  pub latest_victim : first (recent_in c.orders (set_of line)) ≡ Some line → victim c line ≡ None
+  latest_victim e = rw (latest_resident e) refl
+
+  pub latest_loaded : line < length lines → first (recent_in c.orders (set_of line)) ≡ Some line → after_load line c lines ≡ c
+  latest_loaded low e =
+      let bytes : List ℕ = line_at (shown c lines) line in
+      let copies : slice_set c.copies line (Some bytes) ≡ c.copies =
+      ap (λ (copy : Option (List ℕ)). slice_set c.copies line copy) (sym (copy_there low (latest_resident e))) ∙ set-get_or c.copies line None in
+      ap (λ (v : Option ℕ). after_use line bytes (after_forced v c)) (latest_victim e) ∙ rw (copies, used_again c.orders line e) refl
 
   -- each change of the cache
   pub over_write_back : line < length lines → IsOver (after_write_back line c) (written_back line c lines)

@@ -1,10 +1,9 @@
 -- The orders of lines, by the lists of the arena that holds them.
-use Rattle.std.proofs.Common.{◌≡◌, ℕ, zero, suc, ◌+◌, ◌<◌, ◌≤◌, List, [], ◌∷◌, Some, length, map, refl, sym, ap, ◌∙◌, arith, slice_index_or, slice_set, take, drop, nat_le, replicate, if◌then◌else◌}
+use Rattle.std.proofs.Common.{◌≡◌, ℕ, true, zero, suc, ◌+◌, ◌<◌, ◌≤◌, List, [], ◌∷◌, Some, length, map, refl, sym, ap, ◌∙◌, arith, slice_index_or, slice_set, take, drop, nat_le, replicate, if◌then◌else◌}
 use Rattle.std.proofs.lemmas.Bool.{eq-eqb, le-leb, lt-leb}
 use Rattle.std.proofs.lemmas.List.{get_or-take, get_or-drop, get_or-map, get_or-set_same, get_or-set_other, set-get_or, take-set-le, drop-set-lt, drop-set-add, ext_get_or, length-take, length-drop, length-map}
-use Rattle.std.proofs.Math.Nat.{mod-lt}
 use Rattle.std.proofs.Math.Seq.{take-set-lt}
-use Rattle.index_list.specs.Lists.{Lists, first, without, with_list, IsDistinct, IsSound}
+use Rattle.index_list.specs.Lists.{Lists, first, has, without, with_list, IsDistinct, IsSound}
 use Rattle.index_list.proofs.Members.{list_steps}
 use Rattle.lru_cache.specs.Order.{LineOrders, IsOrdered, empty_orders, order_after_use, order_after_write_back, recent_in, set_of}
 use Rattle.lru_cache.specs.Split.{orders_in}
@@ -65,12 +64,11 @@ again_first : (line : ℕ) (xs : List ℕ) → first xs ≡ Some line → line �
 again_first line [] e = cc
 again_first line (x ∷ xs) e = let same : x ≡ line = cc in rw (same, eq-eqb line line refl) refl
 
-pub used_again : (a : Lists) (line : ℕ) → first (slice_index_or a.lists (set_of line) []) ≡ Some line → order_after_use line (orders_in a) ≡ orders_in a
-used_again a line e =
-    let set = set_of line in
-    let recent : recent_in (orders_in a) set ≡ slice_index_or a.lists set [] = recency_in a set (mod-lt line (omega arith)) in
-    let stays : line ∷ without line (recent_in (orders_in a) set) ≡ recent_in (orders_in a) set = again_first line (recent_in (orders_in a) set) (rw recent e) in
-    rw (stays, set-get_or (orders_in a).recency set []) refl
+pub used_again : (o : LineOrders) (line : ℕ) → first (recent_in o (set_of line)) ≡ Some line → order_after_use line o ≡ o
+used_again o line e = rw (again_first line (recent_in o (set_of line)) e, set-get_or o.recency (set_of line) []) refl
+
+pub latest_there : (o : LineOrders) (line : ℕ) → first (recent_in o (set_of line)) ≡ Some line → has line (recent_in o (set_of line)) ≡ true
+latest_there o line e = rw (← again_first line (recent_in o (set_of line)) e, eq-eqb line line refl) refl
 
 -- each list is sound
 distinct_past : (xs : List (List ℕ)) (k : ℕ) → ((j : ℕ) → j < length xs → IsDistinct (slice_index_or xs j [])) → IsDistinct (slice_index_or xs k [])
@@ -113,4 +111,4 @@ orders_written a b line s t n each =
     rw n (same_orders a.nodes (take 8 b.lists) (take 8 a.lists) (slice_index_or b.lists 8 []) (without line (slice_index_or a.lists 8 []))
     (drop 9 b.lists) (map (without line) (drop 9 a.lists)) recency (from 8 (omega arith)) marked)
 
-pub ruleset split_steps = (used_again, list_steps, set-get_or, lines_in, recency_in, dirty_in, marked_from, recency_put, dirty_put, marked_put, orders_empty, ordered_in, orders_written)
+pub ruleset split_steps = (list_steps, set-get_or, lines_in, recency_in, dirty_in, marked_from, recency_put, dirty_put, marked_put, orders_empty, ordered_in, orders_written)

@@ -85,7 +85,7 @@ impl Cache {
         ensures over { IsOver self.new medium.new }
     {
         let line = at / LINE_SIZE as u32;
-        self.bring_in(medium, line);
+        self.make_latest(medium, line);
         load_bytes(
             self.shown_line(medium, line),
             at as usize % LINE_SIZE,
@@ -252,8 +252,25 @@ impl Cache {
         self.leaving[line as usize]
     }
 
-    /// Makes a line resident, and the most recently used of its set.
+    /// Makes a line resident, and the most recently used of its set, and is done at once where it is that already: loads ask this
+    /// most often. A store asks `bring_in`, since it would only guess wrong more often.
     #[inline(always)]
+    fn make_latest(&mut self, medium: &mut Medium, line: u32)
+        requires over { IsOver self.old medium.old }
+        requires there { line < length medium.old }
+        ensures resident { is_resident self.new line ≡ true }
+        ensures shown { shown self.new medium.new ≡ shown self.old medium.old }
+        ensures changed { self.new ≡ after_load line self.old medium.old }
+        ensures medium { medium.new ≡ written_by_forced (victim self.old line) self.old medium.old }
+        ensures sound { IsCache self.new }
+        ensures over { IsOver self.new medium.new }
+    {
+        if !self.orders.is_latest(line) {
+            self.bring_in(medium, line);
+        }
+    }
+
+    /// Makes a line resident, and the most recently used of its set.
     fn bring_in(&mut self, medium: &mut Medium, line: u32)
         requires over { IsOver self.old medium.old }
         requires there { line < length medium.old }
@@ -305,7 +322,6 @@ impl Cache {
     }
 
     /// Makes a line resident, where there is room, and the most recently used of its set.
-    #[inline(always)]
     fn take_in(&mut self, medium: &Medium, line: u32)
         requires over { IsOver self.old medium.now }
         requires there { line < length medium.now }
@@ -339,7 +355,6 @@ impl Cache {
     }
 
     /// Makes a resident line the most recently used of its set.
-    #[inline(always)]
     fn note_use(&mut self, line: u32)
         requires { is_resident self.old line ≡ true }
         ensures changed { (bytes : List ℕ) → slice_index_or self.old.copies line None ≡ Some bytes →

@@ -1,6 +1,6 @@
 //! The orders in which the lines of a cache stand, in one arena: a line's node has its number.
 
-ghost use Rattle.std.specs.Prelude.{◌≡◌, ℕ, ◌<◌, ◌≤◌, ◌+◌, if◌then◌else◌, List, [], true, false, nat_le, slice_index_or, slice_set, IfOk, IfSome};
+ghost use Rattle.std.specs.Prelude.{◌≡◌, ◌↔◌, ℕ, ◌<◌, ◌≤◌, ◌+◌, if◌then◌else◌, List, [], Some, true, false, nat_le, slice_index_or, slice_set, IfOk, IfSome};
 ghost use Rattle.index_list.specs.Lists.{has, without, first, last, list_of, with_list, IsSound};
 ghost use Rattle.lru_cache.specs.Order.{IsOrdered, set_of, recent_in, marked_in, list_with, empty_orders, order_after_use, order_after_drop, order_after_store, order_after_write_back, order_after_mark};
 
@@ -82,17 +82,21 @@ impl Orders {
         self.arena.front(MARKED + k as usize)
     }
 
-    /// Makes the line the most recently used of its set.
+    /// Whether the line is the most recently used of its set.
     #[inline(always)]
+    pub fn is_latest(&self, line: u32) -> bool
+        ensures { (result ≡ true) ↔ (first (recent_in self.now (set_of line)) ≡ Some line) }
+    {
+        self.arena.front((line % SETS) as usize) == Some(line)
+    }
+
+    /// Makes the line the most recently used of its set.
     pub fn note_use(&mut self, line: u32)
         requires { line < self.old.lines }
         ensures changed { self.new ≡ order_after_use line self.old }
         ensures sound { IsOrdered self.new }
     {
         let set = (line % SETS) as usize;
-        if self.arena.front(set) == Some(line) {
-            return;
-        }
         if self.arena.contains(set, line) {
             self.arena.move_front(set, line);
         } else {

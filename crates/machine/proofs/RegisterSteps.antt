@@ -4,13 +4,10 @@ use Rattle.std.proofs.lemmas.Bool.{cases_lt}
 use Rattle.std.proofs.lemmas.List.{replicate_more}
 use Rattle.std.proofs.lemmas.Option.{slice_get-get_or, slice_get_within}
 use Rattle.hart.specs.declared.state.HartState.{HartState}
-use Rattle.hart.specs.declared.state.Status.{Status}
-use Rattle.hart.specs.declared.state.Status.TheVariants.{Running, Exited, Trapped}
-use Rattle.line_memory.specs.Memory.{Memory}
 use Rattle.machine.proofs.Determined.{runs_once}
 use Rattle.machine.proofs.Stepping.{goes_on_alone, with_state}
-use Rattle.machine.specs.RegisterSteps.{AreRegisterSteps, IsRegisterStep, RunsBeforeEach}
-use Rattle.machine.specs.Represents.{IsRunning, MachineView, RunsBoth, copy_of}
+use Rattle.machine.specs.RegisterSteps.{AreRegisterSteps, RunsBeforeEach}
+use Rattle.machine.specs.Represents.{MachineView, RunsBoth, copy_of}
 use Rattle.machine.specs.Run.{RunsTo}
 use Rattle.machine.specs.RunLaws.{both_more, both_none}
 use Rattle.schedule.specs.declared.items.Step.{Step}

@@ -1,10 +1,10 @@
 //! The machine: harts that interleave one instruction at a time over shared memory, by a schedule.
 #![tactic(auto)]
 
-mod alone;
 mod fault;
 mod laws;
 mod machine;
+mod register_steps;
 mod running;
 mod text_copy;
 

@@ -1,6 +1,6 @@
 //! A machine of one to eight harts, and one step of it.
 
-ghost use Rattle.std.specs.Prelude.{◌≡◌, ◌<◌, ◌≤◌, ◌↔◌, ℕ, List, [], ◌∷◌, Some, length, replicate, slice_get, slice_set, map, IfOk, IfErr, OnOk, OnErr, All};
+ghost use Rattle.std.specs.Prelude.{◌≡◌, ◌<◌, ◌≤◌, ◌↔◌, ℕ, List, [], Some, length, replicate, slice_get, map, IfOk, IfErr, OnOk, OnErr, All};
 ghost use Rattle.crash_model.specs.Cut.{IsCutImage};
 ghost use Rattle.crash_model.specs.Image.{image};
 ghost use Rattle.crash_model.specs.WrittenBack.{write_back_state};
@@ -10,7 +10,7 @@ ghost use Rattle.shared_memory.specs.Replies.{trace_in};
 ghost use Rattle.shared_memory.specs.Cached.{medium_left};
 ghost use Rattle.shared_memory.specs.Persisted.{persisted, touched};
 ghost use Rattle.hart.specs.Effect.{start};
-ghost use Rattle.hart.specs.Needs.{IsInstruction, Needs};
+ghost use Rattle.hart.specs.Needs.{IsInstruction};
 ghost use Rattle.hart.specs.Requests.{IsRequest};
 ghost use Rattle.std.specs.List.{range_with_len};
 ghost use Rattle.store_trace.specs.TraceView.{NamesLine};

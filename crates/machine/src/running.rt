@@ -29,12 +29,15 @@ impl Stepper for Machine {
         }
     }
 
-    /// A hart that stopped changes nothing by its steps.
-    fn rest(&mut self, step: Step, _count: u32) -> bool {
-        match step {
-            Step::Hart(hart) => self.has_stopped(hart),
-            Step::Evict(_) => false,
+    /// All steps of a hart that has stopped, which change nothing; of one that runs, those by registers.
+    fn make_several(&mut self, step: Step, most: u32) -> u32 {
+        let Step::Hart(hart) = step else {
+            return 0;
+        };
+        if self.has_stopped(hart) {
+            return most;
         }
+        self.make_register_steps(hart, most)
     }
 
     ghost no_step = { both_none };

@@ -11,7 +11,7 @@ use Rattle.nova_log.specs.Volumes.{log_in, log_questions}
 use Rattle.nova_log.proofs.Agreement.{Agrees, same_entries, same_log}
 use Rattle.nova_log.proofs.Questions.{items_mapped}
 use Rattle.nova_log.specs.declared.inode.Inode.{Inode}
-use Rattle.nova_log.specs.declared.kept.LogMark.{LogMark}
+use Rattle.nova_log.specs.declared.kept.LogReading.{LogReading}
 use Rattle.nova_log.specs.declared.superblock.Geometry.{Geometry}
 use Rattle.volume.specs.declared.entry.Entry.{Entry}
 use Rattle.volume.specs.Logs.{log_of}
@@ -24,71 +24,71 @@ agrees_on : (fixed : ℕ → Type 0) (m o : List (List ℕ)) (xs : List ℕ) →
 agrees_on fixed m o [] h a = tt
 agrees_on fixed m o (x ∷ xs) h a = (h.lines x a.0, agrees_on fixed m o xs h a.1)
 
-read_alike : (fixed : ℕ → Type 0) (g : Geometry) (m o : List (List ℕ)) (mark : LogMark) (log : List Entry) → AreAlikeAt fixed m o →
-    AllByRecursion fixed mark.lines.items → IsRead g m mark log → IsRead g o mark log
-read_alike fixed g m o mark log h f r =
-    let agree : Agrees m o (lines_asked (log_questions g m mark.inode)) =
-    subst (λ (xs : List ℕ). Agrees m o xs) r.through.asked (agrees_on fixed m o mark.lines.items h f) in
-    let same = same_log m o g mark.inode agree in
+read_alike : (fixed : ℕ → Type 0) (g : Geometry) (m o : List (List ℕ)) (reading : LogReading) (log : List Entry) → AreAlikeAt fixed m o →
+    AllByRecursion fixed reading.lines.items → IsRead g m reading log → IsRead g o reading log
+read_alike fixed g m o reading log h f r =
+    let agree : Agrees m o (lines_asked (log_questions g m reading.inode)) =
+    subst (λ (xs : List ℕ). Agrees m o xs) r.through.asked (agrees_on fixed m o reading.lines.items h f) in
+    let same = same_log m o g reading.inode agree in
     record {
       through = record { clean = same.first ∙ r.through.clean; asked = r.through.asked ∙ sym same.asked };
-      entries = r.entries ∙ sym (same_entries m o g mark.inode (r.through.clean, agree));
-      below = subst (λ (n : ℕ). AllByRecursion (λ l. l < n) mark.lines.items) (sym h.size) r.below;
+      entries = r.entries ∙ sym (same_entries m o g reading.inode (r.through.clean, agree));
+      below = subst (λ (n : ℕ). AllByRecursion (λ l. l < n) reading.lines.items) (sym h.size) r.below;
     }
 
 -- a log that was just read, and is kept
-pub kept_anew : (fixed : ℕ → Type 0) (g : Geometry) (m o : List (List ℕ)) (mark : LogMark) (log : List Entry) (inode : Inode) (a b : List ℕ) →
-    IsThrough (log_questions g m inode) a b → log ≡ log_in g m inode → mark.inode ≡ inode → mark.lines.items ≡ drop (length a) b →
-    AllByRecursion (λ l. l < length m) mark.lines.items → AllByRecursion fixed mark.lines.items → AreAlikeAt fixed m o → IsRead g o mark log
-kept_anew fixed g m o mark log inode a b t entries same lines below f h =
-    let asked : mark.lines.items ≡ lines_asked (log_questions g m inode) =
+pub kept_anew : (fixed : ℕ → Type 0) (g : Geometry) (m o : List (List ℕ)) (reading : LogReading) (log : List Entry) (inode : Inode) (a b : List ℕ) →
+    IsThrough (log_questions g m inode) a b → log ≡ log_in g m inode → reading.inode ≡ inode → reading.lines.items ≡ drop (length a) b →
+    AllByRecursion (λ l. l < length m) reading.lines.items → AllByRecursion fixed reading.lines.items → AreAlikeAt fixed m o → IsRead g o reading log
+kept_anew fixed g m o reading log inode a b t entries same lines below f h =
+    let asked : reading.lines.items ≡ lines_asked (log_questions g m inode) =
     lines ∙ ap (λ (xs : List ℕ). drop (length a) xs) t.asked ∙ drop-append_seam a (lines_asked (log_questions g m inode)) in
-    read_alike fixed g m o mark log h f (record {
-      through = subst (λ (i : Inode). IsThrough (log_questions g m i) [] mark.lines.items) (sym same) (record { clean = t.clean; asked = asked });
+    read_alike fixed g m o reading log h f (record {
+      through = subst (λ (i : Inode). IsThrough (log_questions g m i) [] reading.lines.items) (sym same) (record { clean = t.clean; asked = asked });
       entries = entries ∙ ap (log_in g m) (sym same);
       below = below;
     })
 
 -- a log that is kept, asked for again
-pub asked_again : (g : Geometry) (m : List (List ℕ)) (mark : LogMark) (log : List Entry) (inode : Inode) (a b : List ℕ) → IsRead g m mark log → mark.inode ≡ inode →
-    b ≡ a ++ mark.lines.items → IsThrough (log_questions g m inode) a b
-asked_again g m mark log inode a b r same e =
+pub asked_again : (g : Geometry) (m : List (List ℕ)) (reading : LogReading) (log : List Entry) (inode : Inode) (a b : List ℕ) → IsRead g m reading log → reading.inode ≡ inode →
+    b ≡ a ++ reading.lines.items → IsThrough (log_questions g m inode) a b
+asked_again g m reading log inode a b r same e =
     subst (λ (i : Inode). IsThrough (log_questions g m i) a b) same
     (record { clean = r.through.clean; asked = e ∙ ap (λ (xs : List ℕ). a ++ xs) r.through.asked })
 
-pub log_again : (g : Geometry) (m : List (List ℕ)) (mark : LogMark) (log : List Entry) (inode : Inode) → IsRead g m mark log → mark.inode ≡ inode → log ≡ log_in g m inode
-log_again g m mark log inode r same = r.entries ∙ ap (log_in g m) same
+pub log_again : (g : Geometry) (m : List (List ℕ)) (reading : LogReading) (log : List Entry) (inode : Inode) → IsRead g m reading log → reading.inode ≡ inode → log ≡ log_in g m inode
+log_again g m reading log inode r same = r.entries ∙ ap (log_in g m) same
 
 -- one of the logs is read
-pub kept_set : (g : Geometry) (m : List (List ℕ)) (marks : List LogMark) (logs : List (List Entry)) (n : ℕ) (mark : LogMark) (log : List Entry) → n < length logs →
-    ((k : ℕ) (d : LogMark) → k < length marks → IfKept g m (get_or marks k d) (log_of logs k)) → IfKept g m mark log →
-    (k : ℕ) (d : LogMark) → k < length (set marks n mark) → IfKept g m (get_or (set marks n mark) k d) (log_of (set (set logs n []) n log) k)
-kept_set g m marks logs n mark log there h one k d less =
-    let inside : k < length marks = subst (λ (c : ℕ). k < c) (length-set marks n mark) less in
+pub kept_set : (g : Geometry) (m : List (List ℕ)) (readings : List LogReading) (logs : List (List Entry)) (n : ℕ) (reading : LogReading) (log : List Entry) → n < length logs →
+    ((k : ℕ) (d : LogReading) → k < length readings → IfKept g m (get_or readings k d) (log_of logs k)) → IfKept g m reading log →
+    (k : ℕ) (d : LogReading) → k < length (set readings n reading) → IfKept g m (get_or (set readings n reading) k d) (log_of (set (set logs n []) n log) k)
+kept_set g m readings logs n reading log there h one k d less =
+    let inside : k < length readings = subst (λ (c : ℕ). k < c) (length-set readings n reading) less in
     elim (cases_eq k n) [
       | inl e ↦
-          let here : n < length marks = subst (λ (i : ℕ). i < length marks) e inside in
+          let here : n < length readings = subst (λ (i : ℕ). i < length readings) e inside in
           let there' : n < length (set logs n []) = subst (λ (c : ℕ). n < c) (sym (length-set logs n [])) there in
-          subst (λ (i : ℕ). IfKept g m (get_or (set marks n mark) i d) (log_of (set (set logs n []) n log) i)) (sym e)
-          (rw (get_or-set_same marks n mark d here, get_or-set_same (set logs n []) n log [] there') one)
+          subst (λ (i : ℕ). IfKept g m (get_or (set readings n reading) i d) (log_of (set (set logs n []) n log) i)) (sym e)
+          (rw (get_or-set_same readings n reading d here, get_or-set_same (set logs n []) n log [] there') one)
       | inr ne ↦
-          rw (get_or-set_other marks n k mark d ne, get_or-set_other (set logs n []) n k log [] ne, get_or-set_other logs n k [] [] ne) (h k d inside)
+          rw (get_or-set_other readings n k reading d ne, get_or-set_other (set logs n []) n k log [] ne, get_or-set_other logs n k [] [] ne) (h k d inside)
     ]
 
 -- the same after the log is put back
-pub kept_put : (g : Geometry) (m : List (List ℕ)) (marks : List LogMark) (logs left next : List (List Entry)) (n : ℕ) (mark : LogMark) (log : List Entry) →
+pub kept_put : (g : Geometry) (m : List (List ℕ)) (readings : List LogReading) (logs left next : List (List Entry)) (n : ℕ) (reading : LogReading) (log : List Entry) →
     n < length logs → left ≡ set logs n [] → next ≡ set left n log →
-    ((k : ℕ) (d : LogMark) → k < length marks → IfKept g m (get_or marks k d) (log_of logs k)) → IfKept g m mark log →
-    (k : ℕ) (d : LogMark) → k < length (set marks n mark) → IfKept g m (get_or (set marks n mark) k d) (log_of next k)
-kept_put g m marks logs left next n mark log there e f h one k d less =
-    subst (λ (v : List (List Entry)). IfKept g m (get_or (set marks n mark) k d) (log_of v k))
-    (sym (f ∙ ap (λ (v : List (List Entry)). set v n log) e)) (kept_set g m marks logs n mark log there h one k d less)
+    ((k : ℕ) (d : LogReading) → k < length readings → IfKept g m (get_or readings k d) (log_of logs k)) → IfKept g m reading log →
+    (k : ℕ) (d : LogReading) → k < length (set readings n reading) → IfKept g m (get_or (set readings n reading) k d) (log_of next k)
+kept_put g m readings logs left next n reading log there e f h one k d less =
+    subst (λ (v : List (List Entry)). IfKept g m (get_or (set readings n reading) k d) (log_of v k))
+    (sym (f ∙ ap (λ (v : List (List Entry)). set v n log) e)) (kept_set g m readings logs n reading log there h one k d less)
 
-pub kept_there : (g : Geometry) (m : List (List ℕ)) (marks : List LogMark) (logs : List (List Entry)) (n : ℕ) (mark d : LogMark) (log : List Entry) →
-    n < length marks → ((k : ℕ) (d : LogMark) → k < length marks → IfKept g m (get_or marks k d) (log_of logs k)) → mark ≡ get_or marks n d → log ≡ log_of logs n →
-    IfKept g m mark log
-kept_there g m marks logs n mark d log less h e f =
-    subst (λ (x : LogMark). IfKept g m x log) (sym e) (subst (λ (l : List Entry). IfKept g m (get_or marks n d) l) (sym f) (h n d less))
+pub kept_there : (g : Geometry) (m : List (List ℕ)) (readings : List LogReading) (logs : List (List Entry)) (n : ℕ) (reading d : LogReading) (log : List Entry) →
+    n < length readings → ((k : ℕ) (d : LogReading) → k < length readings → IfKept g m (get_or readings k d) (log_of logs k)) → reading ≡ get_or readings n d → log ≡ log_of logs n →
+    IfKept g m reading log
+kept_there g m readings logs n reading d log less h e f =
+    subst (λ (x : LogReading). IfKept g m x log) (sym e) (subst (λ (l : List Entry). IfKept g m (get_or readings n d) l) (sym f) (h n d less))
 
 -- one more log of a volume
 pub logs_more : (f : Inode → List Entry) (inodes : List Inode) (n : ℕ) (d : Inode) (logs next : List (List Entry)) → n < length inodes → n < length logs →

@@ -1,11 +1,10 @@
 //! Journals, and the tails that their pending records restore.
 
-ghost use Rattle.std.specs.Prelude.{◌≡◌, ◌⊎◌, ℕ, ◌+◌, ◌-◌, ◌∷◌, ◌<◌, ◌≤◌, List, [], Some, None, length, map, slice_index_or, IfErr, IfOk};
+ghost use Rattle.std.specs.Prelude.{◌≡◌, ◌⊎◌, ℕ, ◌+◌, ◌-◌, ◌<◌, ◌≤◌, Some, None, length, map, slice_index_or, IfErr, IfOk};
 ghost use Rattle.std.specs.List.{All, flat_map, range_with_len};
 ghost use Rattle.std.specs.Option.{option_or};
-ghost use Rattle.line_memory.specs.Lines.{line_at};
 ghost use Rattle.word_bits.specs.Bytes.{loaded};
-ghost use Rattle.nova_log.specs.Journals.{HasRestored, journal_fault, journal_line, journal_questions, oldest_tail, pending, record_at, record_fault, record_in, record_questions};
+ghost use Rattle.nova_log.specs.Journals.{HasRestored, journal_fault, journal_questions, oldest_tail, pending, record_at, record_fault, record_in, record_questions};
 ghost use Rattle.nova_log.specs.Questions.{IsStopped, IsThrough};
 ghost use Rattle.nova_log.specs.Superblocks.{IsGeometry};
 

@@ -1,13 +1,12 @@
 //! The logs of a volume, kept from one run of recovery to the next.
 
-ghost use Rattle.std.specs.Prelude.{◌≡◌, ◌⊎◌, ◌++◌, ◌<◌, ◌≤◌, ℕ, List, [], true, false, Ok, Err, drop, length, map, slice_set, IfErr, IfOk, IsTrue, OnErr, OnOk};
+ghost use Rattle.std.specs.Prelude.{◌≡◌, ◌⊎◌, ◌++◌, ◌<◌, ◌≤◌, ℕ, List, true, false, Ok, Err, drop, length, map, slice_set, IfErr, IfOk, IsTrue, OnErr, OnOk};
 ghost use Rattle.std.specs.List.{All, AllByRecursion, flat_map};
 ghost use Rattle.nova_log.specs.Chains.{is_page};
 ghost use Rattle.nova_log.specs.Kept.{AreAlikeAt, AreKept, IfKept};
 ghost use Rattle.nova_log.specs.Questions.{IsStopped, IsThrough};
 ghost use Rattle.nova_log.specs.Superblocks.{IsGeometry};
 ghost use Rattle.nova_log.specs.Volumes.{asked_lines, log_in, log_questions, volume_of};
-ghost use Rattle.volume.specs.Logs.{log_of};
 
 use crate::inode::{Inode, read_inodes};
 use crate::journal::read_journals;
@@ -30,12 +29,14 @@ pub trait FixedLines {
         ensures { IsTrue result → fixed self.now line };
 }
 
-/// A log as it was read last. It is kept where it was read by fixed lines alone.
+/// How a log was read last.
 #[derive(Drop)]
-pub struct LogMark {
+pub struct LogReading {
+    /// The inode whose log it is, as it was then.
     pub inode: Inode,
     /// The lines that were asked for it, in order.
     pub lines: Vec<u32>,
+    /// Whether the log is kept, since those lines are all fixed.
     pub is_kept: bool,
     /// Whether it was read before, so that it is likely to be read again: a log isn't kept at once.
     pub was_read: bool,
@@ -44,13 +45,20 @@ pub struct LogMark {
 /// The volume that was recovered last from one of several media, and which of its logs the next run of recovery need not read again.
 #[derive(Drop)]
 pub struct KeptVolume {
+    /// The geometry that its medium's superblock tells.
     pub geometry: Geometry,
+    /// The log of each inode.
     pub volume: Volume,
-    pub marks: Vec<LogMark>,
+    /// How each of them was read last.
+    pub readings: Vec<LogReading>,
 }
 
 /// The volume of the medium that a source stands for, as [`recover_from`](crate::recover_from) gives it, with the lines asked that it asks.
 /// A log is not read again where it was read by fixed lines alone, and has the same bounds as then.
+///
+/// # Errors
+/// That of `recover_from` for this medium. Memory where a growth is refused. What is kept then is kept for other media too, as after
+/// success.
 #[tactic(auto, using(crate::proofs::Questions::through_both, crate::proofs::Questions::stopped_second, crate::proofs::Questions::stopped_first), unfolding(crate::specs::Volumes::volume_of, crate::specs::Volumes::asked_lines))]
 pub fn recover_again<S: LineSource, F: FixedLines>(
     alloc: Global,
@@ -88,7 +96,7 @@ impl KeptVolume {
                 journals: 0,
             },
             volume: Volume::new(alloc),
-            marks: Vec::new(alloc),
+            readings: Vec::new(alloc),
         }
     }
 
@@ -97,20 +105,20 @@ impl KeptVolume {
         requires { inodes ≤ 64 }
         ensures geometry { OnOk result (self.new.geometry ≡ geometry) }
         ensures volume { OnOk result (length self.new.volume ≡ inodes) }
-        ensures marks { OnOk result (length self.new.marks.items ≡ inodes) }
+        ensures readings { OnOk result (length self.new.readings.items ≡ inodes) }
         ensures kept { (medium : List (List ℕ)) → AreKept medium self.old → AreKept medium self.new }
     {
         if self.geometry.equals(&geometry)
             && self.volume.inodes() as usize == inodes
-            && self.marks.len() == inodes
+            && self.readings.len() == inodes
         {
             return Ok(());
         }
         let volume = empty_logs(alloc, inodes)?;
-        let marks = no_marks(alloc, inodes)?;
+        let readings = no_readings(alloc, inodes)?;
         self.geometry = geometry;
         self.volume = volume;
-        self.marks = marks;
+        self.readings = readings;
         Ok(())
     }
 
@@ -125,7 +133,7 @@ impl KeptVolume {
     ) -> Result<(), VolumeFault>
         requires sound { IsGeometry self.old.geometry (length (S.medium source.old)) }
         requires volume { length self.old.volume ≡ length inodes.now }
-        requires marks { length self.old.marks.items ≡ length inodes.now }
+        requires readings { length self.old.readings.items ≡ length inodes.now }
         requires few { length inodes.now ≤ 64 }
         requires heads { All (λ i. is_page self.old.geometry.pages i.head ≡ true) inodes.now }
         requires kept { AreKept (S.medium source.old) self.old }
@@ -155,14 +163,14 @@ impl KeptVolume {
     ) -> Result<(), VolumeFault>
         requires sound { IsGeometry self.old.geometry (length (S.medium source.old)) }
         requires volume { n < length self.old.volume }
-        requires marks { n < length self.old.marks.items }
+        requires readings { n < length self.old.readings.items }
         requires few { n < 64 }
         requires head { is_page self.old.geometry.pages inode.head ≡ true }
         requires kept { AreKept (S.medium source.old) self.old }
         ensures same { S.medium source.new ≡ S.medium source.old }
         ensures geometry { self.new.geometry ≡ self.old.geometry }
         ensures volume { length self.new.volume ≡ length self.old.volume }
-        ensures marks { length self.new.marks.items ≡ length self.old.marks.items }
+        ensures readings { length self.new.readings.items ≡ length self.old.readings.items }
         ensures log { OnOk result (self.new.volume ≡ slice_set self.old.volume n (log_in self.old.geometry (S.medium source.old) inode)) }
         ensures ok { IfOk result (λ _. IsThrough (log_questions self.old.geometry (S.medium source.old) inode) (S.asked source.old) (S.asked source.new)) }
         ensures err { IfErr result (λ fault. (fault ≡ VolumeFault.Memory)
@@ -171,8 +179,8 @@ impl KeptVolume {
     {
         let geometry = self.geometry;
         let mut log = self.volume.take_log(alloc, n as u32);
-        let mark = &mut self.marks[n];
-        let read = mark.read(alloc, source, fixed, &geometry, inode, positions, &mut log);
+        let reading = &mut self.readings[n];
+        let read = reading.read(alloc, source, fixed, &geometry, inode, positions, &mut log);
         self.volume.put_log(n as u32, log);
         read
     }
@@ -190,24 +198,24 @@ fn empty_logs(alloc: Global, inodes: usize) -> Result<Volume, AllocError>
     Ok(volume)
 }
 
-/// So many marks of logs that are not kept.
-fn no_marks(alloc: Global, inodes: usize) -> Result<Vec<LogMark>, AllocError>
-    ensures size { IfOk result (λ marks. length marks.items ≡ inodes) }
-    ensures none { IfOk result (λ marks. All (λ mark. mark.is_kept ≡ false) marks.items) }
+/// So many readings of logs that are not kept.
+fn no_readings(alloc: Global, inodes: usize) -> Result<Vec<LogReading>, AllocError>
+    ensures size { IfOk result (λ readings. length readings.items ≡ inodes) }
+    ensures none { IfOk result (λ readings. All (λ reading. reading.is_kept ≡ false) readings.items) }
 {
-    let mut marks = Vec::with_capacity(alloc, inodes)?;
+    let mut readings = Vec::with_capacity(alloc, inodes)?;
     for _inode in 0..inodes {
-        marks.push(LogMark::new(alloc))?;
+        readings.push(LogReading::new(alloc))?;
     }
-    Ok(marks)
+    Ok(readings)
 }
 
-impl LogMark {
+impl LogReading {
     /// Of a log that is not kept.
-    fn new(alloc: Global) -> LogMark
+    fn new(alloc: Global) -> LogReading
         ensures { result.is_kept ≡ false }
     {
-        LogMark {
+        LogReading {
             inode: Inode { head: 0, tail: 0 },
             lines: Vec::new(alloc),
             is_kept: false,

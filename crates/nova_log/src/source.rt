@@ -43,7 +43,8 @@ pub trait LineSource {
     fn ask(&mut self, lines: &[u32]) -> Result<(), AllocError>
         requires { AllByRecursion (λ l. l < length (medium self.old)) lines.now }
         ensures same { medium self.new ≡ medium self.old }
-        ensures asked { OnOk result (asked self.new ≡ asked self.old ++ lines.now) };
+        ensures asked { OnOk result (asked self.new ≡ asked self.old ++ lines.now) }
+        ensures refused { OnErr result (asked self.new ≡ asked self.old) };
 }
 
 /// The lines of a medium in memory.

@@ -1,11 +1,10 @@
 //! The text that the routine fetches: that of the start, until a FENCE.I.
 
-ghost use Rattle.std.specs.Prelude.{◌≡◌, ◌<◌, ℕ, length, slice_get, IfOk, IfErr};
+ghost use Rattle.std.specs.Prelude.{◌≡◌, ◌<◌, length, IfOk, IfErr};
 ghost use Rattle.line_memory.specs.declared.TheConstants.{TEXT_SIZE};
 ghost use Rattle.hart.specs.Needs.{IsInstruction};
 ghost use Rattle.machine.specs.Run.{fetched};
 ghost use Rattle.machine.specs.Represents.{text_bytes};
-ghost use Rattle.held_memory.specs.Regions.{bytes_of};
 ghost use Rattle.shared_memory.specs.declared.fault.StepFault.{StepFault};
 ghost use Rattle.recovery.specs.Fetched.{Refetches};
 

@@ -1,7 +1,7 @@
 //! What a routine has round it: its memory over an image, its reservation, how many events it made, and the lines that it loaded.
 
-ghost use Rattle.std.specs.Prelude.{◌≡◌, ◌+◌, ◌^◌, ◌/◌, ◌<◌, ◌≤◌, ◌++◌, ℕ, List, [], slice_get, nat_lt, None, Some, All, length, IfOk, IfErr, OnOk, OnErr};
-ghost use Rattle.line_memory.specs.Memory.{IsWidth, fault_of, loaded_from};
+ghost use Rattle.std.specs.Prelude.{◌≡◌, ◌+◌, ◌^◌, ◌/◌, ◌<◌, ◌≤◌, ◌++◌, ℕ, [], slice_get, nat_lt, None, Some, All, length, IfOk, IfErr, OnOk, OnErr};
+ghost use Rattle.line_memory.specs.Memory.{IsWidth, loaded_from};
 ghost use Rattle.line_memory.specs.declared.MediumFault.{MediumFault};
 ghost use Rattle.line_memory.specs.declared.TheConstants.{PERSISTENT_BASE, TEXT_SIZE};
 ghost use Rattle.hart.specs.Requests.{IsAtomicWidth, IsRequest};

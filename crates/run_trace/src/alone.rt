@@ -1,11 +1,11 @@
 //! How a run of one hart is traced.
 
-ghost use Rattle.machine.specs.Represents.{IsRunning};
+ghost use Rattle.machine.specs.Stops.{is_stopped};
 ghost use Rattle.machine.specs.RegisterSteps.{RunsBeforeEach};
 ghost use Rattle.run_trace.specs.Traced.{StopsTracing, Traces, steps_alone};
 ghost use Rattle.run_trace.specs.Tracers.{IsHeld, Makes};
 ghost use Rattle.schedule.specs.Walks.{HaltsAt};
-ghost use Rattle.std.specs.Prelude.{◌≡◌, ◌≤◌, IfErr, IfOk, replicate, slice_get};
+ghost use Rattle.std.specs.Prelude.{◌≡◌, ◌≤◌, ◌⊎◌, true, IfErr, IfOk, replicate, slice_get};
 
 use crate::tracer::{TracedMachine, Tracer};
 use machine::{Machine, RunStop};
@@ -36,7 +36,7 @@ pub fn trace_alone(
 ) -> Result<TracedAlone, RunStop>
     ensures ok { IfOk result (λ made. Traces machine made.run.machine (replicate made.made (Step.Hart hart)) made.run.traced.items) }
     ensures most { IfOk result (λ made. made.made ≤ most) }
-    ensures ended { IfOk result (λ made. IsRunning (slice_get made.run.machine.harts hart) → made.made ≡ most) }
+    ensures ended { IfOk result (λ made. (is_stopped (slice_get made.run.machine.harts hart) ≡ true) ⊎ (made.made ≡ most)) }
     ensures running { IfOk result (λ made. RunsBeforeEach machine hart made.made) }
     ensures err { IfErr result (StopsTracing machine (steps_alone hart most)) }
 {
@@ -67,13 +67,13 @@ fn go_on(tracer: &mut Tracer, hart: u32, most: u32) -> Result<u32, RunStop>
     requires { tracer.old.made ≡ 0 }
     ensures ok { IfOk result (λ made. Makes tracer.old (replicate made (Step.Hart hart)) tracer.new) }
     ensures most { IfOk result (λ made. made ≤ most) }
-    ensures ended { IfOk result (λ made. IsRunning (slice_get tracer.new.machine.harts hart) → made ≡ most) }
+    ensures ended { IfOk result (λ made. (is_stopped (slice_get tracer.new.machine.harts hart) ≡ true) ⊎ (made ≡ most)) }
     ensures running { IfOk result (RunsBeforeEach tracer.old.machine hart) }
     ensures err { IfErr result (λ stop. HaltsAt Makes IsHeld tracer.old tracer.new (steps_alone hart most) (record { item = 0; steps = 0 }) stop.place stop.fault) }
 {
     let mut made = 0;
     loop {
-        made += tracer.go_alone(hart, most - made);
+        made += tracer.make_register_steps(hart, most - made);
         if made == most || tracer.machine.has_stopped(hart) {
             return Ok(made);
         }
@@ -85,18 +85,5 @@ fn go_on(tracer: &mut Tracer, hart: u32, most: u32) -> Result<u32, RunStop>
             return Err(RunStop { place, fault });
         }
         made += 1;
-    }
-}
-
-impl Tracer {
-    /// Makes the next register steps of a hart, so many at most, and says how many they are. They make no event.
-    fn go_alone(&mut self, hart: u32, most: u32) -> u32
-        ensures most { result ≤ most }
-        ensures made { Makes self.old (replicate result (Step.Hart hart)) self.new }
-        ensures running { RunsBeforeEach self.old.machine hart result }
-    {
-        let made = self.machine.go_alone(hart, most);
-        self.made = self.made.wrapping_add(made);
-        made
     }
 }

@@ -1,10 +1,11 @@
 //! How a run is traced.
 
+ghost use Rattle.machine.specs.RegisterSteps.{RunsBeforeEach};
 ghost use Rattle.run_trace.specs.Traced.{StopsTracing, Traces};
 ghost use Rattle.run_trace.specs.Tracers.{IsHeld, Makes};
 ghost use Rattle.schedule.specs.Grammar.{hart_steps as count_of_hart_steps};
 ghost use Rattle.schedule.specs.Steps.{all_steps};
-ghost use Rattle.std.specs.Prelude.{◌≡◌, ◌+◌, ◌^◌, ◌<◌, ◌≤◌, [], ◌∷◌, ◌++◌, IfErr, IfOk, OnOk, length, replicate};
+ghost use Rattle.std.specs.Prelude.{◌≡◌, ◌+◌, ◌^◌, ◌<◌, ◌≤◌, [], ◌∷◌, ◌++◌, IfErr, IfOk, OnOk, replicate};
 
 use crate::traced_event::TracedEvent;
 use machine::{Machine, RunStop};
@@ -88,16 +89,16 @@ impl Stepper for Tracer {
         }
     }
 
-    /// A hart that stopped makes no event by its steps.
-    fn rest(&mut self, step: Step, count: u32) -> bool {
+    /// All steps of a hart that has stopped; of one that runs, those by registers. They make no event.
+    fn make_several(&mut self, step: Step, most: u32) -> u32 {
         let Step::Hart(hart) = step else {
-            return false;
+            return 0;
         };
         if !self.machine.has_stopped(hart) {
-            return false;
+            return self.make_register_steps(hart, most);
         }
-        self.made = self.made.wrapping_add(count);
-        true
+        self.made = self.made.wrapping_add(most);
+        most
     }
 
     ghost no_step = { makes_none };
@@ -132,6 +133,17 @@ impl Tracer {
             }
             None => Ok(()),
         }
+    }
+
+    /// Makes the next register steps of a hart, so many at most, and says how many they are. They make no event.
+    pub(crate) fn make_register_steps(&mut self, hart: u32, most: u32) -> u32
+        ensures most { result ≤ most }
+        ensures made { Makes self.old (replicate result (Step.Hart hart)) self.new }
+        ensures running { RunsBeforeEach self.old.machine hart result }
+    {
+        let made = self.machine.make_register_steps(hart, most);
+        self.made = self.made.wrapping_add(made);
+        made
     }
 
     fn evict(&mut self, line: u32) -> Result<(), StepFault>

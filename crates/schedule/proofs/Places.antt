@@ -1,5 +1,5 @@
 -- The steps on both sides of a place in a schedule.
-use Rattle.std.proofs.Common.{◌≡◌, ℕ, zero, suc, ◌+◌, ◌-◌, ◌<◌, ◌≤◌, List, [], ◌∷◌, ◌++◌, length, take, drop, replicate, Some, slice_get, refl, sym, ap, ◌∙◌, arith, append_assoc, add-one}
+use Rattle.std.proofs.Common.{◌≡◌, ℕ, zero, suc, ◌+◌, ◌-◌, ◌<◌, ◌≤◌, List, [], ◌∷◌, ◌++◌, length, take, drop, replicate, Some, slice_get, refl, sym, ap, ◌∙◌, arith, append_assoc, add-one, add-zero}
 use Rattle.std.proofs.lemmas.List.{append-nil, drop-replicate, get_or-replicate, length-replicate, take-append-drop}
 use Rattle.std.proofs.lemmas.Option.{slice_get-get_or, slice_get_within}
 use Rattle.std.proofs.Math.Seq.{take-append_seam}
@@ -155,6 +155,16 @@ leads_behind items place step here =
           ∙ sym (append_assoc (all_steps (take place.item items)) (take place.steps (steps_of_item (slice_get items place.item))) (step ∷ []));
       after = ap (λ (l : List Step). l ++ all_steps (drop (suc place.item) items)) cut.1;
     })
+
+-- behind some of an item's steps, which are all equal
+pub leads_several : (items : List Item) (i : ℕ) (step : Step) (count : ℕ) → steps_of_item (slice_get items i) ≡ replicate count step
+    → (n steps : ℕ) → steps + n ≤ count
+    → Leads items (record { item = i; steps = steps }) (record { item = i; steps = steps + n }) (replicate n step)
+leads_several items i step count equal zero steps fits = rw add-zero (leads_self items (record { item = i; steps = steps }))
+leads_several items i step count equal (suc n) steps fits =
+    let first = leads_behind items (record { item = i; steps = steps }) step (step_here items i step count equal steps (omega arith)) in
+    let place : steps + suc n ≡ steps + 1 + n = omega arith in
+    rw place (leads_more items _ _ _ (step ∷ []) (replicate n step) first (leads_several items i step count equal n (steps + 1) (omega arith)))
 
 -- the steps between two places by their number
 pub reached : (items : List Item) (from place : Place) (steps : List Step) → Leads items from place steps → IsReached items from (length steps) place

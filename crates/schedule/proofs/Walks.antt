@@ -1,11 +1,11 @@
 -- Walks through a schedule, joined from parts.
-use Rattle.std.proofs.Common.{◌≡◌, ◌++◌, ℕ, ◌+◌, ◌-◌, ◌<◌, ◌≤◌, List, [], ◌∷◌, length, replicate, slice_get}
+use Rattle.std.proofs.Common.{◌≡◌, ◌++◌, ℕ, ◌+◌, ◌<◌, ◌≤◌, List, [], ◌∷◌, length, replicate, slice_get}
 use Rattle.schedule.specs.Places.{steps_after, steps_of_item}
 use Rattle.schedule.specs.Walks.{Comes, HaltsAt}
 use Rattle.schedule.specs.declared.items.Item.{Item}
 use Rattle.schedule.specs.declared.items.Step.{Step}
 use Rattle.schedule.specs.declared.place.Place.{Place}
-use Rattle.schedule.proofs.Places.{leads_all, leads_more, leads_past, leads_self, leads_to_next, leads_behind, step_here}
+use Rattle.schedule.proofs.Places.{leads_all, leads_more, leads_past, leads_self, leads_behind, leads_several, step_here}
 
 module _ {S : Type 0} (makes : S → List Step → S → Type 0) (no_step : (s : S) → makes s [] s)
     (more_steps : (old middle new : S) (first others : List Step) → makes old first middle → makes middle others new → makes old (first ++ others) new) where
@@ -44,9 +44,9 @@ module _ {S : Type 0} (makes : S → List Step → S → Type 0) (no_step : (s :
   module _ (old middle new : S) (items : List Item) (from : Place) (i : ℕ) (step : Step) (count steps : ℕ)
       (equal : steps_of_item (slice_get items i) ≡ replicate count step)
       (come : Comes makes old middle items from (record { item = i; steps = steps })) where
-    pub comes_to_next : makes middle (replicate (count - steps) step) new → Comes makes old new items from (record { item = i + 1; steps = 0 })
-    comes_to_next made = comes_more old middle new items from _ _ come
-        (record { steps = replicate (count - steps) step; leads = leads_to_next items i step count equal steps; made = made })
+    pub comes_on : (n : ℕ) → steps + n ≤ count → makes middle (replicate n step) new → Comes makes old new items from (record { item = i; steps = steps + n })
+    comes_on n fits made = comes_more old middle new items from _ _ come
+        (record { steps = replicate n step; leads = leads_several items i step count equal n steps fits; made = made })
 
     pub comes_one : steps < count → makes middle (step ∷ []) new → Comes makes old new items from (record { item = i; steps = steps + 1 })
     comes_one fits made = comes_more old middle new items from _ _ come

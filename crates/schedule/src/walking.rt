@@ -9,7 +9,7 @@ use crate::place::{Place, equal_steps};
 
 /// What makes the steps of a schedule, one after another, up to the first at which it halts.
 pub trait Stepper {
-    ghost use Rattle.std.specs.Prelude.{◌≡◌, ℕ, List, [], ◌∷◌, ◌++◌, true, false, replicate, IfErr, OnOk};
+    ghost use Rattle.std.specs.Prelude.{◌≤◌, List, [], ◌∷◌, ◌++◌, replicate, IfErr, OnOk};
     ghost use Rattle.schedule.specs.declared.items.Step.{Step};
 
     /// Why it halts.
@@ -26,10 +26,10 @@ pub trait Stepper {
         ensures ok { OnOk result (makes self.old (step ∷ []) self.new) }
         ensures err { IfErr result (halts self.old step self.new) };
 
-    /// Makes so many equal steps at once where they change nothing but their number, and says whether it did.
-    fn rest(&mut self, step: Step, count: u32) -> bool
-        ensures all { result ≡ true → makes self.old (replicate count step) self.new }
-        ensures none { result ≡ false → self.new ≡ self.old };
+    /// Makes the first of so many equal steps where it knows a shorter way than one by one, and says how many it has made.
+    fn make_several(&mut self, step: Step, most: u32) -> u32
+        ensures most { result ≤ most }
+        ensures made { makes self.old (replicate result step) self.new };
 
     /// No step changes nothing.
     ghost no_step: { (s : Self) → makes s [] s };
@@ -78,8 +78,10 @@ fn walk_item<S: Stepper>(
     ensures behind { IfErr result (λ halted. halted.place.steps + 1 < 2 ^ 32) }
 {
     let (step, count) = equal_steps(items, from.item);
-    for steps in from.steps..count {
-        if stepper.rest(step, count - steps) {
+    let mut steps = from.steps;
+    while steps < count {
+        steps += stepper.make_several(step, count - steps);
+        if steps == count {
             return Ok(());
         }
         if let Err(halt) = stepper.step(step) {
@@ -89,6 +91,7 @@ fn walk_item<S: Stepper>(
             };
             return Err(Halted { place, halt });
         }
+        steps += 1;
     }
     Ok(())
 }

@@ -40,7 +40,8 @@ impl Bench {
         Ok(Bench { pm })
     }
 
-    /// One round on a line, with the number that is stored; gives what was loaded.
+    /// One round on a line, with the number that is stored; gives what was loaded. Inlined, since a round is what is timed.
+    #[inline(always)]
     pub fn round(&mut self, kind: Kind, line: u32, number: u64) -> u64
         requires { line < 16384 }
     {

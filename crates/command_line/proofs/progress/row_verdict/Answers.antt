@@ -1,7 +1,7 @@
 -- Each turn judges a row of moments more.
 use Rattle.std.proofs.Common.{◌<◌, ◌≤◌, Bool, subst, rules}
-use Rattle.command_line.specs.Progress.{AllPass, passes_of}
-use Rattle.command_line.proofs.JudgedRows.{row_fails, row_passes}
+use Rattle.command_line.specs.Progress.{passes_of}
+use Rattle.command_line.proofs.JudgedRows.{row_passes}
 use Rattle.command_line.proofs.OnTheWay.{IsAt, at_first, told_window}
 use Rattle.command_line.proofs.progress.row_verdict.Goals as goal
 

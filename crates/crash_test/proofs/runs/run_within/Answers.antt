@@ -1,9 +1,8 @@
 -- What the one hart of a setup makes, or why it doesn't.
-use Rattle.std.proofs.Common.{◌≡◌, ap, arith, refl, inl, inr}
+use Rattle.std.proofs.Common.{arith, refl}
 use Rattle.crash_test.specs.Runs.{setup}
 use Rattle.crash_test.proofs.Alone.{fails_alone, few_alone, has_run_alone, left_alone}
 use Rattle.crash_test.proofs.Together.{is_run_of}
-use Rattle.machine.specs.declared.fault.RunStop.{RunStop}
 use Rattle.crash_test.proofs.runs.run_within.Goals as goal
 
 pub returns-in-Ok-clause-ok : goal.returns-in-Ok-clause-ok

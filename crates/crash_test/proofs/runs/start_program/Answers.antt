@@ -1,5 +1,3 @@
-use Rattle.crash_test.specs.Runs.{setup}
-use Rattle.crash_test.proofs.Making.{fails_to_start}
 use Rattle.crash_test.proofs.runs.start_program.Goals as goal
 
 pub returns-in-Ok-clause-ok : goal.returns-in-Ok-clause-ok
@@ -11,5 +9,4 @@ returns-in-Ok-clause-ok c = record {
 }
 
 pub returns-in-Err-clause-err : goal.returns-in-Err-clause-err
-returns-in-Err-clause-err c =
-    fails_to_start (setup c.args.program c.args.medium c.args.harts c.args.capacity) c.in-Err.fault c.in-Err.ensures.refused
+returns-in-Err-clause-err c = c.in-Err.ensures.refused

@@ -1,8 +1,7 @@
 use Rattle.std.proofs.Common.{ℕ, List, length, refl, sym, ap, ◌∙◌, inr}
 use Rattle.machine.proofs.Leaving.{left_by}
-use Rattle.machine.specs.Represents.{IsRunning}
 use Rattle.machine.specs.declared.fault.RunStop.{RunStop}
-use Rattle.recording.proofs.OneHart.{traces_alone}
+use Rattle.recording.proofs.OneHart.{runs_to_most, traces_alone}
 use Rattle.recording.proofs.Numbering.{at_step, each_event, fails_before, memory_stops, records_all, stops_recording}
 use Rattle.recording.specs.Recorded.{RecordedView}
 use Rattle.recording.proofs.alone.record_alone.Goals as goal
@@ -55,7 +54,7 @@ returns-in-Ok-finish_alone-clause-steps c =
       made = c.in-Ok-trace_alone.traced.made;
       items = ap (λ (r : RecordedView). r.items) kept;
       most_made = c.in-Ok-trace_alone.ensures.most;
-      ended = rw (ap (λ (r : RecordedView). r.harts) kept) c.in-Ok-trace_alone.ensures.ended;
+      ended = rw (ap (λ (r : RecordedView). r.harts) kept) (runs_to_most _ _ _ c.in-Ok-trace_alone.ensures.ended);
       running = λ k d fits run. c.in-Ok-trace_alone.ensures.running k _ d fits c.in-Ok.ensures.ok run;
     }
 

@@ -10,8 +10,8 @@ returns-clause-log g c =
 
 pub returns-clause-kept : goal.returns-clause-kept
 returns-clause-kept g c = λ other alike before.
-    kept_put c.args.self.now.geometry other c.args.self.now.marks.items c.args.self.now.volume c.take_log-log.new.self c.put_log.new.self c.args.n c.read-read.new.self
+    kept_put c.args.self.now.geometry other c.args.self.now.readings.items c.args.self.now.volume c.take_log-log.new.self c.put_log.new.self c.args.n c.read-read.new.self
     c.read-read.new.log c.requires.volume c.take_log-log.ensures.left c.put_log.ensures before
     (c.read-read.ensures.kept other alike
-    (kept_there c.args.self.now.geometry other c.args.self.now.marks.items c.args.self.now.volume c.args.n c.index_mut-mark.result.now _ c.take_log-log.result
-    c.requires.marks before c.index_mut-mark.ensures.value c.take_log-log.ensures.log))
+    (kept_there c.args.self.now.geometry other c.args.self.now.readings.items c.args.self.now.volume c.args.n c.index_mut-reading.result.now _ c.take_log-log.result
+    c.requires.readings before c.index_mut-reading.ensures.value c.take_log-log.ensures.log))

@@ -11,8 +11,8 @@ read_log-requires-clause-sound g c = rw (c.loop-n.invariant.same_geometry, c.loo
 pub read_log-requires-clause-volume : goal.read_log-requires-clause-volume
 read_log-requires-clause-volume g c = omega (arith, c.loop-n.invariant.volume)
 
-pub read_log-requires-clause-marks : goal.read_log-requires-clause-marks
-read_log-requires-clause-marks g c = omega (arith, c.loop-n.invariant.marks)
+pub read_log-requires-clause-readings : goal.read_log-requires-clause-readings
+read_log-requires-clause-readings g c = omega (arith, c.loop-n.invariant.readings)
 
 pub read_log-requires-clause-head : goal.read_log-requires-clause-head
 read_log-requires-clause-head g c = rw (c.loop-n.invariant.same_geometry) (c.requires.heads c.loop-n.n _ (omega arith))
@@ -45,7 +45,7 @@ loop-n-preserved g c =
       same = c.read_log.ensures.same ∙ c.loop-n.invariant.same;
       same_geometry = c.read_log.ensures.geometry ∙ c.loop-n.invariant.same_geometry;
       volume = c.read_log.ensures.volume ∙ c.loop-n.invariant.volume;
-      marks = c.read_log.ensures.marks ∙ c.loop-n.invariant.marks;
+      readings = c.read_log.ensures.readings ∙ c.loop-n.invariant.readings;
       logs = logs_more (log_in geometry medium) c.args.inodes.now c.loop-n.n _ c.loop-n.self.volume c.read_log.new.self.volume (omega arith)
           (omega (arith, c.loop-n.invariant.volume)) c.loop-n.invariant.logs
           (rw (c.loop-n.invariant.same_geometry, c.loop-n.invariant.same) at c.in_ok-read_log.ensures.log);

@@ -13,7 +13,7 @@ invariant-loop-n g l =
       same : g.S.LineSource.medium l.source ≡ medium;
       same_geometry : l.self.geometry ≡ geometry;
       volume : length l.self.volume ≡ length l.inodes;
-      marks : length l.self.marks.items ≡ length l.inodes;
+      readings : length l.self.readings.items ≡ length l.inodes;
       logs : take l.n l.self.volume ≡ map (log_in geometry medium) (take l.n l.inodes);
       through : IsThrough (flat_map (log_questions geometry medium) (take l.n l.inodes)) (g.S.LineSource.asked l.fn.source) (g.S.LineSource.asked l.source);
       kept : (other : List (List ℕ)) → AreAlikeAt (g.F.FixedLines.fixed l.fixed) medium other → AreKept other l.fn.self → AreKept other l.self;

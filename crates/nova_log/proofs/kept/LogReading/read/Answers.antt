@@ -1,6 +1,6 @@
 use Rattle.std.proofs.Common.{ℕ, List, ap, ◌∙◌, drop, length, refl}
 use Rattle.nova_log.proofs.Keeping.{below_named, kept_anew}
-use Rattle.nova_log.proofs.kept.LogMark.read.Goals as goal
+use Rattle.nova_log.proofs.kept.LogReading.read.Goals as goal
 
 pub returns-clause-kept : goal.returns-clause-kept
 returns-clause-kept g c = λ other alike _ kept.

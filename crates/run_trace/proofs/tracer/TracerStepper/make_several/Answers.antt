@@ -3,9 +3,9 @@ use Rattle.std.proofs.Math.Nat.{mod-eq_of_lt}
 use Rattle.machine.proofs.Counting.{all_counted}
 use Rattle.run_trace.specs.TracerLaws.{passed_is}
 use Rattle.run_trace.proofs.Tracing.{continues_stopped}
-use Rattle.run_trace.proofs.tracer.TracerStepper.rest.Goals as goal
+use Rattle.run_trace.proofs.tracer.TracerStepper.make_several.Goals as goal
 
-pub returns-clause-all : goal.returns-clause-all
-returns-clause-all c =
-    rw (← c.self.view_is, c.in-Hart.is) (λ rests few. continues_stopped _ _ c.in-Hart.hart c.args.count (sym c.if-not-has_stopped.ensures) refl
+pub returns-clause-made : goal.returns-clause-made
+returns-clause-made c =
+    rw (← c.self.view_is, c.in-Hart.is) (λ few. continues_stopped _ _ c.in-Hart.hart c.args.most (sym c.if-not-has_stopped.ensures) refl
     (mod-eq_of_lt (rw (passed_is, all_counted) at few)) refl)

@@ -1,9 +1,8 @@
 //! Register steps of one hart, in a row.
 
-ghost use Rattle.std.specs.Prelude.{◌≡◌, ◌≤◌, length, replicate};
+ghost use Rattle.std.specs.Prelude.{◌≡◌, ◌≤◌, replicate};
 ghost use Rattle.machine.specs.RegisterSteps.{AreRegisterSteps, RunsBeforeEach};
 ghost use Rattle.machine.specs.Represents.{RunsBoth, text_bytes};
-ghost use Rattle.store_trace.specs.TraceView.{NamesLine};
 
 use crate::machine::Machine;
 use crate::text_copy::TextCopy;
@@ -13,7 +12,7 @@ use schedule::Step;
 impl Machine {
     /// Makes the next instructions of a hart up to the first that asks something of memory or traps, but so many at most, and says
     /// how many they are. A hart that isn't there or has stopped makes none. Memory and trace stay as they are.
-    pub fn go_alone(&mut self, hart: u32, most: u32) -> u32
+    pub fn make_register_steps(&mut self, hart: u32, most: u32) -> u32
         ensures most { result ≤ most }
         ensures runs { RunsBoth self.old self.new (replicate result (Step.Hart hart)) }
         ensures running { RunsBeforeEach self.old hart result }

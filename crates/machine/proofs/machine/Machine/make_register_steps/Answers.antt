@@ -1,7 +1,7 @@
 use Rattle.std.proofs.Common.{◌≡◌, ◌<◌, length, ap, arith, refl, Some, slice_get, slice_index_or, []}
 use Rattle.machine.specs.Represents.{MachineView}
 use Rattle.machine.proofs.RegisterSteps.{goes_alone, runs_before_each, state_there, text_there}
-use Rattle.machine.proofs.machine.Machine.go_alone.Goals as goal
+use Rattle.machine.proofs.machine.Machine.make_register_steps.Goals as goal
 
 pub returns-clause-runs : goal.returns-clause-runs
 returns-clause-runs c =
