@@ -28,7 +28,7 @@ impl Stepper for Debugger {
         }
     }
 
-    /// The steps of a hart that has stopped: no point stops the run before or behind them.
+    /// All steps of a hart that has stopped, since no point stops the run before or behind them; of one that runs none.
     #[tactic(auto, using(crate::proofs::Walking::walks_rest))]
     fn make_several(&mut self, step: Step, most: u32) -> u32 {
         let Step::Hart(hart) = step else {

@@ -5,7 +5,7 @@ pub mod Determined
 pub mod Evicting
 pub mod Leaving
 pub mod Refusing
-pub mod RegisterSteps
+pub mod QuietSteps
 pub mod RunParts
 pub mod Stepped
 pub mod Stepping

@@ -3,7 +3,7 @@ pub mod Evicting
 pub mod Left
 pub mod Outcomes
 pub mod Refusals
-pub mod RegisterSteps
+pub mod QuietSteps
 pub mod Represents
 pub mod Run
 pub mod RunLaws

@@ -4,7 +4,7 @@
 mod fault;
 mod laws;
 mod machine;
-mod register_steps;
+mod quiet_steps;
 mod running;
 mod text_copy;
 

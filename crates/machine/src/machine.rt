@@ -52,7 +52,7 @@ pub enum Outcome {
 pub struct Machine {
     pub(crate) harts: Vec<HartState>,
     pub(crate) copies: Vec<TextCopy>,
-    shared: Shared,
+    pub(crate) shared: Shared,
 }
 
 impl Model for Machine {

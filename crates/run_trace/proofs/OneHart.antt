@@ -11,12 +11,11 @@ use Rattle.machine.proofs.RunParts.{run_parted}
 use Rattle.machine.specs.Represents.{IsRunning, RunsBoth}
 use Rattle.machine.specs.Run.{RunsTo}
 use Rattle.machine.specs.Stops.{has_stopped, is_stopped}
-use Rattle.machine.specs.RegisterSteps.{RunsBeforeEach}
+use Rattle.machine.specs.QuietSteps.{RunsBeforeEach}
 use Rattle.run_trace.specs.Traced.{steps_alone}
 use Rattle.run_trace.specs.TracerLaws.{makes_more, passed_is}
 use Rattle.run_trace.proofs.Tracing.{tells_none}
 use Rattle.run_trace.specs.Tracers.{Continues, IsHeld, Makes, TracerView, passed_all}
-use Rattle.shared_memory.specs.SharedView.{SharedView}
 use Rattle.std.proofs.Math.Nat.{mod-eq_of_lt}
 use Rattle.schedule.proofs.Places.{step_here}
 use Rattle.schedule.specs.Places.{Leads}
@@ -24,6 +23,7 @@ use Rattle.schedule.specs.Walks.{HaltsAt}
 use Rattle.schedule.specs.declared.items.Step.{Step}
 use Rattle.schedule.specs.declared.items.Step.TheVariants.{Hart}
 use Rattle.shared_memory.specs.declared.fault.StepFault.{StepFault}
+use Rattle.store_trace.specs.declared.event.Event.{Event}
 
 -- the first ones of the hart's steps
 leads_alone : (h most made : ℕ) → made ≤ most
@@ -122,14 +122,14 @@ running_on old middle h made more none small before makes others k c d fits stan
       others left after.0 d (omega arith) after.2 (rw same at parts.2)
 ]
 
--- register steps are no event
-pub makes_registers : (old new : TracerView) (h n : ℕ) → RunsBoth old.machine new.machine (replicate n (Hart h))
-    → new.machine.shared ≡ old.machine.shared → new.made ≡ (old.made + n) % 2 ^ 32 → new.traced ≡ old.traced
+-- steps that make no event
+pub makes_quietly : (old new : TracerView) (h n : ℕ) → RunsBoth old.machine new.machine (replicate n (Hart h))
+    → new.machine.shared.trace ≡ old.machine.shared.trace → new.made ≡ (old.made + n) % 2 ^ 32 → new.traced ≡ old.traced
     → Makes old (replicate n (Hart h)) new
-makes_registers old new h n runs same made traced few =
+makes_quietly old new h n runs same made traced few =
     let count : old.made + n < 2 ^ 32 = rw (passed_is, all_counted) at few in
     let all : passed_all old.made (replicate n (Hart h)) ≡ old.made + n = rw (passed_is, all_counted) refl in
-    let trace = ap (λ (s : SharedView). length s.trace) same in
+    let trace = ap (λ (events : List Event). length events) same in
     record {
       runs = runs.runs;
       exact = runs.exact;

@@ -1,6 +1,6 @@
 //! How a run is traced.
 
-ghost use Rattle.machine.specs.RegisterSteps.{RunsBeforeEach};
+ghost use Rattle.machine.specs.QuietSteps.{RunsBeforeEach};
 ghost use Rattle.run_trace.specs.Traced.{StopsTracing, Traces};
 ghost use Rattle.run_trace.specs.Tracers.{IsHeld, Makes};
 ghost use Rattle.schedule.specs.Grammar.{hart_steps as count_of_hart_steps};
@@ -89,13 +89,13 @@ impl Stepper for Tracer {
         }
     }
 
-    /// All steps of a hart that has stopped; of one that runs, those by registers. They make no event.
+    /// All steps of a hart that has stopped; of one that runs, those up to the first that may make an event.
     fn make_several(&mut self, step: Step, most: u32) -> u32 {
         let Step::Hart(hart) = step else {
             return 0;
         };
         if !self.machine.has_stopped(hart) {
-            return self.make_register_steps(hart, most);
+            return self.make_quiet_steps(hart, most);
         }
         self.made = self.made.wrapping_add(most);
         most
@@ -135,13 +135,13 @@ impl Tracer {
         }
     }
 
-    /// Makes the next register steps of a hart, so many at most, and says how many they are. They make no event.
-    pub(crate) fn make_register_steps(&mut self, hart: u32, most: u32) -> u32
+    /// Makes the next steps of a hart that make no event, so many at most, and says how many they are.
+    pub(crate) fn make_quiet_steps(&mut self, hart: u32, most: u32) -> u32
         ensures most { result ≤ most }
         ensures made { Makes self.old (replicate result (Step.Hart hart)) self.new }
         ensures running { RunsBeforeEach self.old.machine hart result }
     {
-        let made = self.machine.make_register_steps(hart, most);
+        let made = self.machine.make_quiet_steps(hart, most);
         self.made = self.made.wrapping_add(made);
         made
     }

@@ -1,5 +1,5 @@
 use Rattle.std.proofs.Common.{◌≤◌, ◌-◌, replicate}
-use Rattle.machine.specs.RegisterSteps.{RunsBeforeEach}
+use Rattle.machine.specs.QuietSteps.{RunsBeforeEach}
 use Rattle.run_trace.specs.Tracers.{Makes}
 use Rattle.schedule.specs.declared.items.Step.TheVariants.{Hart}
 use Rattle.run_trace.proofs.alone.go_on.Given as goal
