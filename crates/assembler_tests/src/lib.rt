@@ -4,6 +4,8 @@
 #![tactic(auto)]
 
 #[cfg(test)]
+mod decimals;
+#[cfg(test)]
 mod examples;
 #[cfg(test)]
 mod files;
@@ -13,6 +15,8 @@ mod instructions;
 mod lines;
 #[cfg(test)]
 mod names;
+#[cfg(test)]
+mod numbers;
 #[cfg(test)]
 mod readings;
 #[cfg(test)]

@@ -14,6 +14,8 @@ mod growths;
 #[cfg(test)]
 mod programs;
 #[cfg(test)]
+mod stop_words;
+#[cfg(test)]
 mod together;
 #[cfg(test)]
 mod turns;

@@ -5,8 +5,6 @@ mod cut;
 mod laws;
 mod name;
 mod reader;
-#[cfg(test)]
-mod tests;
 mod writer;
 
 pub use cut::Cut;

@@ -10,6 +10,8 @@ mod events;
 #[cfg(test)]
 mod growths;
 #[cfg(test)]
+mod image_names;
+#[cfg(test)]
 mod images;
 #[cfg(test)]
 mod indexes;

@@ -19,4 +19,6 @@ mod recordings;
 #[cfg(test)]
 mod requests;
 #[cfg(test)]
+mod reservations;
+#[cfg(test)]
 mod schedules;

@@ -12,9 +12,6 @@ ghost use Rattle.reservation.specs.Reserved.{Call, Reserved, Stored, Taken, Agre
 
 use std::marker::Model;
 
-#[cfg(test)]
-mod tests;
-
 /// How many harts there are.
 const HARTS: usize = 8;
 

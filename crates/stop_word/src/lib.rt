@@ -8,6 +8,3 @@ mod rule;
 mod word;
 
 pub use word::{StopSeat, StopWord};
-
-#[cfg(test)]
-mod tests;

@@ -2,8 +2,6 @@
 #![tactic(auto)]
 
 mod numbers;
-#[cfg(test)]
-mod tests;
 mod words;
 
 pub use numbers::{Number, decimal, decimal_within, number_in, wide_decimal, written_number};

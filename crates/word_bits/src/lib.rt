@@ -61,6 +61,3 @@ pub fn replace_bytes(bytes: &mut [u8], at: usize, new: &[u8])
     let end = at + new.len();
     bytes[at..end].copy_from_slice(new);
 }
-
-#[cfg(test)]
-mod tests;

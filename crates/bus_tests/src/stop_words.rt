@@ -1,6 +1,6 @@
 //! Stop words whose seats raise them and look at them on one thread.
 
-use crate::StopWord;
+use stop_word::StopWord;
 use std::test::*;
 
 #[test]

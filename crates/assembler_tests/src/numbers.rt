@@ -1,6 +1,6 @@
 //! Values worked out by hand, from the immediates of the manual's encodings.
 
-use crate::{field, replace_bytes, sign_extend};
+use word_bits::{field, replace_bytes, sign_extend};
 
 #[test]
 fn fields_of_a_word(rt: HostRuntime) {

@@ -1,6 +1,6 @@
 //! What becomes of a reservation after the stores of other harts and after an SC.
 
-use super::Reservations;
+use reservation::Reservations;
 
 #[test]
 fn another_harts_store_ends_it(rt: HostRuntime) {

@@ -1,6 +1,6 @@
 //! Texts that name an image, and texts that don't.
 
-use crate::ImageName;
+use image_name::ImageName;
 use std::alloc::AllocError;
 use std::test::Fail;
 

@@ -1,6 +1,6 @@
 //! Texts that are numbers, and texts that are none.
 
-use crate::{decimal, decimal_within};
+use text::{decimal, decimal_within};
 
 #[test]
 fn numbers_are_digits(rt: HostRuntime) {
