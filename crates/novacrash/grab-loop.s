@@ -1,0 +1,2 @@
+loop:
+    jal x0, loop
