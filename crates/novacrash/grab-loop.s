@@ -1,2 +1,0 @@
-loop:
-    jal x0, loop
