@@ -97,15 +97,15 @@ def number(register, value):
     return [f"lui {register}, {(value + 2048) >> 12}", f"addi {register}, {register}, {(value + 2048) % 4096 - 2048}"]
 
 
-def write_loop(program, before, body, turns, name):
+def write_loop(program, before, body, turns, name, more=0):
     """Writes the program of a loop that goes round so many times and then exits, and a schedule of it. Tells its steps.
 
-    The turns are counted in s0, and a0 is what t4 has at the end."""
+    The turns are counted in s0, and a0 is what t4 has at the end; `more` is how many steps what stands before makes beyond its lines."""
     before = [*before, *number("s0", turns)]
     body = [*body, "addi s0, s0, -1", "bnez s0, loop"]
     write(f"{name}.s", before + ["loop:"] + body + ["mv a0, t4", *EXIT])
     answer_of([program, "asm", f"{name}.s", f"{name}.o"])
-    steps = len(before) + turns * len(body) + 1 + len(EXIT)
+    steps = len(before) + more + turns * len(body) + 1 + len(EXIT)
     write(f"{name}.schedule", [f"h0*{steps}"])
     return steps
 
