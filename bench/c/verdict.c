@@ -1,10 +1,11 @@
-/* A plain check of a moment, image by image, which bench/peers times beside `novacrash check`.
+/* A plain check of a moment, image by image, which bench/peers and bench/verdicts time and compare with `novacrash check`.
 
    verdict PLAN MEDIUM TRACE MOMENT
 
-   PLAN and MEDIUM are those of `check`, TRACE is what `novacrash trace` prints of the run. It makes every crash image of the moment,
-   recovers the logs by docs/FORMATS.md, compares them with what the plan allows, and prints what `check --moments MOMENT` prints. The
-   run's marks have to keep to the plan; that isn't looked at here. */
+   PLAN and MEDIUM are those of `check`, TRACE is what `novacrash trace` prints of the run; of its lines the hart and what it did are
+   read. It makes every crash image of the moment, recovers the logs by docs/FORMATS.md, compares them with what the plan allows, and
+   prints what `check --moments MOMENT` prints. Where MOMENT is `each` it judges all moments of the run, each by itself, and prints a
+   line for each. A moment with over 65,536 images isn't judged: `too many` stands for it. */
 
 #include <stdbool.h>
 #include <stdint.h>
@@ -173,11 +174,15 @@ static code recover(struct volume *v)
 
 /* The plan and the trace. */
 
+enum state { NOT_BEGUN, PENDING, ENDED };
+
 struct operation {
     uint64_t number;
     unsigned count; /* of its entries, one or two */
     unsigned inodes[2];
     struct entry entries[2];
+    enum state state; /* by the marks up to the one that is looked at */
+    unsigned hart;    /* the one that began it */
 };
 
 enum kind { STORE, CLEAN, FENCE, BEGIN, END, KINDS };
@@ -210,16 +215,19 @@ static void read_operation(const char *text)
     char name[97];
     struct operation *op = &operations[operation_count];
     if (sscanf(text, " op %llu append %u %llu", &number, &from, &value) == 3)
-        *op = (struct operation){number, 1, {from}, {entry_of(1, number, value, "")}};
+        *op = (struct operation){.number = number, .count = 1, .inodes = {from}, .entries = {entry_of(1, number, value, "")}};
     else if (sscanf(text, " op %llu rename %u %u %96s %llu", &number, &from, &to, name, &value) == 5)
-        *op = (struct operation){number, 2, {from, to}, {entry_of(3, number, value, name), entry_of(2, number, value, name)}};
+        *op = (struct operation){.number = number,
+                                 .count = 2,
+                                 .inodes = {from, to},
+                                 .entries = {entry_of(3, number, value, name), entry_of(2, number, value, name)}};
     else
         return;
     if (++operation_count == MOST_OPERATIONS)
         fail("too many operations");
 }
 
-/* An event by its line of `trace`, as `3 h0 step=5 pc=0x10010 line=5 fence`. The last line, of their number, is none. */
+/* An event by its line of `trace`, as `3 h0 step=5 pc=0x10010 line=5 fence`, or `3 h0 fence`. The last line, of their number, is none. */
 static void read_event(const char *text)
 {
     static const char *const words[KINDS] = {" store l", " clean l", " fence", " begin ", " end "};
@@ -254,7 +262,68 @@ static void read_lines(const char *name, void (*read_one)(const char *))
     fclose(file);
 }
 
-/* What the logs have to hold at the moment: these entries, and behind them of each pending operation all of its entries or none. */
+static struct operation *operation_of(uint64_t number)
+{
+    for (size_t at = 0; at < operation_count; at++)
+        if (operations[at].number == number)
+            return &operations[at];
+    return NULL;
+}
+
+/* The marks. */
+
+static bool share_inode(const struct operation *one, const struct operation *other)
+{
+    for (unsigned k = 0; k < one->count; k++)
+        for (unsigned l = 0; l < other->count; l++)
+            if (one->inodes[k] == other->inodes[l])
+                return true;
+    return false;
+}
+
+static bool shares_with_pending(const struct operation *op)
+{
+    for (const struct operation *other = operations; other < operations + operation_count; other++)
+        if (other->state == PENDING && share_inode(op, other))
+            return true;
+    return false;
+}
+
+/* The number N of the code ON of a mark that doesn't keep to the plan, or 0. */
+static code check_mark(const struct event *e)
+{
+    struct operation *op = operation_of(e->value);
+    if (op == NULL)
+        return 1;
+    if (e->kind == END) {
+        if (op->state != PENDING || op->hart != e->hart)
+            return 3;
+        op->state = ENDED;
+        return 0;
+    }
+    if (op->state != NOT_BEGUN)
+        return 2;
+    if (shares_with_pending(op))
+        return 4;
+    op->state = PENDING;
+    op->hart = e->hart;
+    return 0;
+}
+
+/* Ends where a mark anywhere in the run is wrong. */
+static void check_marks(void)
+{
+    for (const struct event *e = events; e < events + event_count; e++) {
+        code fault = e->kind == BEGIN || e->kind == END ? check_mark(e) : 0;
+        if (fault != 0) {
+            fprintf(stderr, "refused O%d\n", fault);
+            exit(2);
+        }
+    }
+}
+
+/* What the logs have to hold at the moment: these entries, and behind them of each pending operation all of its entries or none. Where
+   `possible` is false no volume is legal. */
 
 struct log {
     uint32_t count;
@@ -263,28 +332,41 @@ struct log {
 };
 
 static struct log logs[MOST_INODES];
+static unsigned log_count;
+static bool possible;
 
-static void expect_start(const struct volume *v)
+/* The volume of the medium at the start, before any event. */
+static void expect_start(struct volume *v)
 {
-    for (unsigned n = 0; n < v->inodes; n++)
+    possible = recover(v) == 0;
+    log_count = possible ? v->inodes : 0;
+    for (unsigned n = 0; n < log_count; n++) {
+        logs[n].pending = NULL;
+        logs[n].count = 0;
         for (uint32_t k = 0; k < v->counts[n]; k++) {
             const uint8_t *entry = v->image + v->entries[n][k];
             memcpy(logs[n].entries[logs[n].count++].bytes, entry, ENTRY_HEAD + entry[1]);
         }
+    }
 }
 
-static const struct operation *operation_of(uint64_t number)
+/* Whether the volume at the start has the logs of the operation. */
+static bool has_place(const struct operation *op)
 {
-    for (size_t at = 0; at < operation_count; at++)
-        if (operations[at].number == number)
-            return &operations[at];
-    fail("refused O1");
-    return NULL;
+    for (unsigned k = 0; k < op->count; k++)
+        if (op->inodes[k] >= log_count)
+            return false;
+    return true;
 }
 
+/* An operation without a place can't be in a volume: while it is pending it is in none, and once it has ended none is legal. */
 static void expect_mark(const struct event *e)
 {
     const struct operation *op = operation_of(e->value);
+    if (!has_place(op)) {
+        possible &= e->kind == BEGIN;
+        return;
+    }
     for (unsigned k = 0; k < op->count; k++) {
         struct log *log = &logs[op->inodes[k]];
         log->pending = e->kind == BEGIN ? op : NULL;
@@ -318,6 +400,8 @@ static bool has_pending_or_none(const struct volume *v, unsigned n)
 
 static bool is_legal(const struct volume *v)
 {
+    if (!possible || v->inodes != log_count)
+        return false;
     for (unsigned n = 0; n < v->inodes; n++)
         if (!has_expected(v, n) || !has_pending_or_none(v, n))
             return false;
@@ -345,6 +429,8 @@ static void place_lines(size_t moment, struct stored **place)
 {
     static const struct event *stores[MOST_EVENTS];
     static uint32_t counts[MOST_LINES];
+    memset(counts, 0, sizeof counts);
+    stored_count = 0;
     for (size_t at = 0; at < moment; at++)
         counts[events[at].line] += events[at].kind == STORE;
     uint32_t before = 0;
@@ -367,6 +453,7 @@ static void fence(unsigned hart)
 static void gather(size_t moment)
 {
     static struct stored *place[MOST_LINES];
+    memset(place, 0, sizeof place);
     place_lines(moment, place);
     for (const struct event *e = events; e < events + moment; e++) {
         struct stored *s = place[e->line];
@@ -421,9 +508,25 @@ static void read_medium(const char *name)
         fail("file");
     volume.lines = fread(image, LINE, MOST_LINES, file);
     fclose(file);
-    if (recover(&volume) != 0)
-        fail("a medium without a volume");
+}
+
+/* Judges a moment, and prints the verdict. */
+static code judge(size_t moment)
+{
     expect_start(&volume);
+    gather(moment);
+    image_number = 0;
+    bool too_many = are_too_many();
+    code fault = too_many ? 0 : judge_from(0);
+    if (too_many)
+        printf("too many moment=%zu\n", moment);
+    else if (fault == 0)
+        printf("pass moments=1 images=%u\n", image_number);
+    else if (fault < 0)
+        printf("fail moment=%zu image=%u cause=illegal\n", moment, image_number);
+    else
+        printf("fail moment=%zu image=%u cause=N%d\n", moment, image_number, fault);
+    return fault;
 }
 
 int main(int count, char **words)
@@ -433,18 +536,14 @@ int main(int count, char **words)
     read_lines(words[1], read_operation);
     read_medium(words[2]);
     read_lines(words[3], read_event);
-    size_t moment = strtoull(words[4], NULL, 10);
-    if (moment > event_count)
-        fail("refused C1");
-    gather(moment);
-    code fault = are_too_many() ? 0 : judge_from(0);
-    if (are_too_many())
-        printf("too many moment=%zu\n", moment);
-    else if (fault == 0)
-        printf("pass moments=1 images=%u\n", image_number);
-    else if (fault < 0)
-        printf("fail moment=%zu image=%u cause=illegal\n", moment, image_number);
-    else
-        printf("fail moment=%zu image=%u cause=N%d\n", moment, image_number, fault);
-    return fault != 0;
+    check_marks();
+    if (strcmp(words[4], "each") != 0) {
+        size_t moment = strtoull(words[4], NULL, 10);
+        if (moment > event_count)
+            fail("refused C1");
+        return judge(moment) != 0;
+    }
+    for (size_t moment = 0; moment <= event_count; moment++)
+        judge(moment);
+    return 0;
 }
