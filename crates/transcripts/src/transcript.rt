@@ -95,11 +95,11 @@ fn type_section<R: Threads + Wait + Sync + fs::Files + AllocGlobal, I: Read>(
     keyboard: &mut I,
 ) -> Result<Outcome, AllocError> {
     let alloc = rt.alloc();
-    let (head, turns) = match section.split_once("\n$ ") {
-        Some(parts) => parts,
-        None => return misread(alloc, section, "a command", "none"),
+    let (title, _) = section.split_once('\n').unwrap_or((section, ""));
+    let Some((head, turns)) = section.split_once("\n$ ") else {
+        return misread(alloc, title, "a command", "none");
     };
-    let (title, lines) = head.split_once('\n').unwrap_or((head, ""));
+    let (_, lines) = head.split_once('\n').unwrap_or((head, ""));
     let Some(options) = options_of(lines) else {
         return misread(alloc, title, "comments and options", lines);
     };
