@@ -164,7 +164,7 @@ const APPEND: &[&str] = &[ENTRY, FENCE, TAIL, FENCE, END];
 const NO_FIRST_FENCE: &[&str] = &[ENTRY, TAIL, FENCE, END];
 
 /// Moments of an append, which has eleven, and of one without its first fence.
-static PARTS: [Part; 3] = [
+static PARTS: [Part; 4] = [
     Part {
         pieces: APPEND,
         schedule: "h0*22",
@@ -192,6 +192,14 @@ static PARTS: [Part; 3] = [
             image: "4",
             cause: Cause::Fault(VolumeFault::Kind),
         }),
+    },
+    // a wrong mark comes before a moment that isn't there
+    Part {
+        pieces: &[UNKNOWN],
+        schedule: "h0*3",
+        first: 99,
+        last: None,
+        verdict: Err(VerdictFault::Operation(OpFault::Unknown)),
     },
 ];
 

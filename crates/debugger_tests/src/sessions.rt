@@ -115,11 +115,19 @@ fn outcome_of(alloc: Global, commands: &[u8], limits: Limits) -> Result<Outcome,
     Ok((end, text, pc))
 }
 
-/// Commands, and the answers to them.
-static TALKS: [(&str, &str); 3] = [
+/// Commands, and the answers to them. More of them stand in `sessions.transcript` of `transcripts`.
+static TALKS: [(&str, &str); 5] = [
     (
         DEBUG_SESSION,
         "ok\nbreak h0 pc=0x10008\nok\nwatch h0 line=0x40000000\n07 00\nend\nfault D1\n",
+    ),
+    (
+        "go h0 e512 h0\ngo\ngo x\ngo\nstep 0\n",
+        "fault G2\nfault G2\nfault D1\nfault G2\nh0 running pc=0x10008 x2=0x200000 x5=0x7 x6=0x40000000 x11=0x40000000\n",
+    ),
+    (
+        "go h0*4294967295\nbreak 0x10020\ngo h0*4000000000 h1*2 e512\ngo\nstep 0\n",
+        "end\nok\nfault G2\nfault G2\nh0 exit 0 pc=0x10020 x2=0x200000 x5=0x7 x6=0x40000000 x11=0x40000000 x17=0x5d\n",
     ),
     ("quit\nstep 0\n", ""),
     ("break 0x10002", "fault D2\n"),
