@@ -1,9 +1,7 @@
-//! Sessions of the debugger over standard input and output.
+//! Sessions of the debugger over standard input and output that fail.
 
-use crate::folder::folder_of_examples;
+use crate::folder::{Folder, status_of};
 use crate::screen::Screen;
-use crate::transcripts::{first_difference, words_of};
-use command_line::execute;
 use std::alloc::AllocError;
 use std::io;
 use std::io::Read;
@@ -11,175 +9,6 @@ use std::sync::Wait;
 use std::test::Fail;
 use std::thread::Threads;
 use std::time::Clock;
-
-/// A session answers each line, whatever the capacity; its last line may lack its end.
-const SESSIONS: &str = "\
-$ novacrash debug first.s
-< break 0x10008
-< go h0*8
-< watch 0x40000000
-< go
-< peek 0x40000000 2
-< go
-< jump
-ok
-break h0 pc=0x10008
-ok
-watch h0 line=0x40000000
-07 00
-end
-fault D1
-$ novacrash debug first.s --capacity 1
-< break 0x10008
-< go h0*8
-< watch 0x40000000
-< go
-< peek 0x40000000 2
-< go
-< jump
-ok
-break h0 pc=0x10008
-ok
-watch h0 line=0x40000000
-07 00
-end
-fault D1
-$ novacrash debug --capacity=512 --harts=8 first.s
-< break 0x10008
-< go h0*8
-< watch 0x40000000
-< go
-< peek 0x40000000 2
-< go
-< jump
-ok
-break h0 pc=0x10008
-ok
-watch h0 line=0x40000000
-07 00
-end
-fault D1
-$ novacrash debug first.s
-$ novacrash debug first.s
-<
-< quit
-< step 0
-$ novacrash debug first.s
-< step 0
-< step 0 (no-eol)
-h0 running pc=0x10004 x2=0x200000 x5=0x7 x11=0x40000000
-h0 running pc=0x10008 x2=0x200000 x5=0x7 x6=0x40000000 x11=0x40000000
-$ novacrash debug first.s
-< step 1
-< regs 1
-< watch 0
-< break 0x10002
-< peek 0x40000000 65
-< go e512
-fault G1
-fault G1
-fault D2
-fault D2
-fault D1
-fault G2
-$ novacrash debug counter.s --harts 2
-< regs 1
-< regs 2
-pc=0x10000
-x0=0x0
-x1=0x0
-x2=0x1ff000
-x3=0x0
-x4=0x0
-x5=0x0
-x6=0x0
-x7=0x0
-x8=0x0
-x9=0x0
-x10=0x1
-x11=0x40000000
-x12=0x0
-x13=0x0
-x14=0x0
-x15=0x0
-x16=0x0
-x17=0x0
-x18=0x0
-x19=0x0
-x20=0x0
-x21=0x0
-x22=0x0
-x23=0x0
-x24=0x0
-x25=0x0
-x26=0x0
-x27=0x0
-x28=0x0
-x29=0x0
-x30=0x0
-x31=0x0
-fault G1
-";
-
-/// A session shows the bytes of its medium, and runs an object as its source.
-const SESSIONS_OVER_A_MEDIUM: &str = "\
-$ novacrash mkfs append.plan 512 fresh
-lines 512
-$ novacrash debug append.s --medium fresh
-< peek 0x40000000 8
-< peek 0x40000040 16
-4e 4f 56 41 4c 4f 47 31
-00 40 00 00 00 00 00 00 00 40 00 00 00 00 00 00
-$ novacrash debug append.s
-< peek 0x40000000 8
-00 00 00 00 00 00 00 00
-$ novacrash asm first.s first.o
-text 32 data 0
-$ novacrash debug first.o
-< break 0x10008
-< go h0*8
-< watch 0x40000000
-< go
-< peek 0x40000000 2
-< go
-< jump
-ok
-break h0 pc=0x10008
-ok
-watch h0 line=0x40000000
-07 00
-end
-fault D1
-";
-
-/// What is at fault in the files is told before anything is read from standard input.
-const FILES_BEFORE_A_SESSION: &str = "\
-$ novacrash debug never
-! file
-[5]
-$ novacrash debug fault.s
-! refused A2 line 2
-[2]
-$ novacrash debug fault.s --medium never
-! refused A2 line 2
-[2]
-$ novacrash debug first.s --medium never
-! file
-[5]
-$ novacrash debug first.s --medium five.s
-! refused M3
-[2]
-$ novacrash debug short.o
-! refused P2
-[2]
-";
-
-#[test]
-fn sessions_answer_each_line(rt: HostRuntime) -> Result<(), Fail> {
-    let transcripts = [SESSIONS, SESSIONS_OVER_A_MEDIUM, FILES_BEFORE_A_SESSION];
-    assert_eq!(rt; first_difference(&rt, &transcripts)?, None);
-    Ok(())
-}
 
 /// The line of hart 0 after its first step, and those after each of two.
 const ONE_STEP: &str = "h0 running pc=0x10004 x2=0x200000 x5=0x7 x11=0x40000000\n";
@@ -241,7 +70,6 @@ fn end_of<R: Threads + Wait + Sync + Clock + AllocGlobal>(
     going: Going,
 ) -> Result<Option<Ended>, AllocError> {
     let alloc = rt.alloc();
-    let words = words_of(alloc, going.line)?;
     let mut input = Keyboard {
         text: b"step 0\nstep 0\n",
         at_once: 7,
@@ -250,16 +78,15 @@ fn end_of<R: Threads + Wait + Sync + Clock + AllocGlobal>(
     };
     let mut output = Screen::new(alloc, going.room, 5, going.flushes);
     let mut errors = Vec::new(alloc);
-    let mut folder = folder_of_examples(alloc)?;
-    let status = execute(
+    let mut folder = Folder::new(alloc);
+    let status = status_of(
         rt,
-        alloc,
-        &words,
         &mut folder,
+        going.line,
         &mut input,
         &mut output,
         &mut errors,
-    );
+    )?;
     if !TWO_STEPS.as_bytes().starts_with(&output.held) {
         return Ok(None);
     }

@@ -1,75 +1,92 @@
-//! Files in memory, by their names.
+//! The files of the examples, in memory, and lines that are carried out over them.
 
-use crate::copying::filled_volume;
-use crate::judge_guests::GUEST_FILES;
-use crate::judge_routines::JUDGE_FILES;
-use crate::loss_routines::LOSS_FILES;
-use crate::routines::FILES;
-use crate::showing::SHOWN_FILES;
-use crate::wasting::WASTE_FILES;
-use command_line::{FileFault, Files};
+use command_line::{FileFault, Files, execute};
 use std::alloc::{AllocError, Global};
+use std::io::{Read, Write};
+use std::sync::Wait;
+use std::thread::Threads;
+use std::time::Clock;
 
-/// Files in memory. No file can be written whose name is `unwritable`.
+/// Each file's name and text.
+static FILES: [(&str, &str); 6] = [
+    ("empty.s", ""),
+    (
+        "first.s",
+        "addi x5, x0, 7\nlui x6, 0x40000\nsd x5, 0(x6)\ncbo.clean (x6)\nfence w, w\n\
+        addi x17, x0, 93\naddi x10, x0, 0\necall\n",
+    ),
+    ("fault.s", "addi x5, x0, 7\nfoo x1\n"),
+    (
+        "append.s",
+        "li a7, 2001\nli a0, 1\necall\nld t0, 72(a1)\nadd t1, a1, t0\nli t2, 1\nsd t2, 0(t1)\nsd t2, 8(t1)\n\
+        li t3, 77\nsd t3, 16(t1)\ncbo.clean (t1)\nfence w, w\naddi t0, t0, 64\nsd t0, 72(a1)\naddi t4, a1, 64\n\
+        cbo.clean (t4)\nfence w, w\nli a7, 2002\necall\nli a7, 93\nli a0, 0\necall\n",
+    ),
+    (
+        "append.plan",
+        "inodes 1\npages 1\njournals 1\nop 1 append 0 77\n",
+    ),
+    ("append.schedule", "h0*22\n"),
+];
+
+/// Files in memory: those of the examples, and what was written last.
 #[derive(Drop)]
 pub(crate) struct Folder {
     alloc: Global,
-    files: Vec<(String, Vec<u8>)>,
+    written: (String, Vec<u8>),
 }
 
 impl Folder {
     pub(crate) fn new(alloc: Global) -> Folder {
         Folder {
             alloc,
-            files: Vec::new(alloc),
+            written: (String::new(alloc), Vec::new(alloc)),
         }
     }
 
-    /// Puts a file in place of an older one of its name.
-    pub(crate) fn put(&mut self, name: &str, bytes: &[u8]) -> Result<(), AllocError> {
+    fn keep(&mut self, name: &str, bytes: &[u8]) -> Result<(), AllocError> {
         let name = String::from_str(self.alloc, name)?;
-        let bytes = Vec::from_slice(self.alloc, bytes)?;
-        // The newest file of a name is the first that a read finds.
-        self.files.insert(0, (name, bytes))?;
-        Ok(())
-    }
-
-    /// Puts texts into files of these names.
-    fn put_all(&mut self, files: &[(&str, &str)]) -> Result<(), AllocError> {
-        for (name, text) in files {
-            self.put(name, text.as_bytes())?;
-        }
+        self.written = (name, Vec::from_slice(self.alloc, bytes)?);
         Ok(())
     }
 }
 
 impl Files for Folder {
     fn read(&mut self, name: &str) -> Result<Vec<u8>, FileFault> {
-        for (known, bytes) in &self.files {
-            if known.as_str() == name {
-                return Vec::from_slice(self.alloc, bytes).map_err(|_| FileFault::Memory);
+        if self.written.0.as_str() == name {
+            return Vec::from_slice(self.alloc, &self.written.1).map_err(|_| FileFault::Memory);
+        }
+        for (known, text) in &FILES {
+            if *known == name {
+                return Vec::from_slice(self.alloc, text.as_bytes()).map_err(|_| FileFault::Memory);
             }
         }
         Err(FileFault::Failed)
     }
 
     fn write(&mut self, name: &str, bytes: &[u8]) -> Result<(), FileFault> {
-        if name == "unwritable" {
-            return Err(FileFault::Failed);
-        }
-        self.put(name, bytes).map_err(|_| FileFault::Memory)
+        self.keep(name, bytes).map_err(|_| FileFault::Memory)
     }
 }
 
-/// A folder of the files of the examples.
-pub(crate) fn folder_of_examples(alloc: Global) -> Result<Folder, AllocError> {
-    let mut folder = Folder::new(alloc);
-    folder.put_all(&FILES)?;
-    folder.put_all(&LOSS_FILES)?;
-    folder.put_all(&JUDGE_FILES)?;
-    folder.put_all(&GUEST_FILES)?;
-    folder.put_all(&SHOWN_FILES)?;
-    folder.put_all(&WASTE_FILES)?;
-    folder.put("filled", &filled_volume(alloc)?)?;
-    Ok(folder)
+/// Carries out a line, whose words are parted by single spaces, and gives its status.
+pub(crate) fn status_of<
+    T: Threads + Wait + Sync + Clock + AllocGlobal,
+    R: Read,
+    W: Write,
+    E: Write,
+>(
+    rt: &T,
+    folder: &mut Folder,
+    line: &str,
+    input: &mut R,
+    output: &mut W,
+    errors: &mut E,
+) -> Result<u8, AllocError> {
+    let alloc = rt.alloc();
+    let words: Vec<String> = line
+        .split(' ')
+        .map(|word| String::from_str(alloc, word))
+        .try_collect(alloc)?;
+    Ok(execute(rt, alloc, &words, folder, input, output, errors))
 }

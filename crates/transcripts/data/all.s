@@ -1,0 +1,22 @@
+ld t0, 0(a1)
+ld t0, 64(a1)
+ld t0, 128(a1)
+ld t0, 192(a1)
+ld t0, 256(a1)
+ld t0, 320(a1)
+ld t0, 384(a1)
+ld t0, 448(a1)
+ld t0, 512(a1)
+ld t0, 576(a1)
+ld t0, 640(a1)
+ld t0, 704(a1)
+ld t0, 768(a1)
+ld t0, 832(a1)
+ld t0, 896(a1)
+ld t0, 960(a1)
+ld t0, 1024(a1)
+ld t0, 1088(a1)
+li a2, 0
+li a7, 93
+li a0, 0
+ecall

@@ -1,0 +1,2 @@
+j away
+foo x1

@@ -1,0 +1,5 @@
+lui a1, 256
+li a2, 0
+li a7, 93
+li a0, 0
+ecall

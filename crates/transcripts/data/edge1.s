@@ -1,0 +1,5 @@
+li a1, 5
+li a2, 0
+li a7, 93
+li a0, 0
+ecall

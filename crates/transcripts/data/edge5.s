@@ -1,0 +1,6 @@
+lui a1, 512
+addi a1, a1, -1
+li a2, 2
+li a7, 93
+li a0, 0
+ecall

@@ -1,0 +1,5 @@
+lui a1, 16
+li a2, 4
+li a7, 93
+li a0, 0
+ecall

@@ -1,0 +1,16 @@
+bnez a0, other
+li a7, 2001
+li a0, 1
+ecall
+li a7, 2002
+li a0, 1
+ecall
+li a7, 2001
+li a0, 2
+ecall
+ebreak
+other:
+li a7, 2001
+li a0, 1
+ecall
+ebreak

@@ -1,0 +1,4 @@
+bnez a0, other
+ebreak
+other:
+ebreak

@@ -1,0 +1,2 @@
+loop: sd t0, 0(a1)
+j loop

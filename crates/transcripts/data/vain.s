@@ -1,0 +1,4 @@
+cbo.clean (a1)
+fence
+cbo.clean (a1)
+ebreak
