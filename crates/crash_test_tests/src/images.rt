@@ -1,4 +1,4 @@
-//! Images that are counted and explained.
+//! Images that are counted and explained. More of them stand in the transcripts of `transcripts`.
 
 use crate::starts::{
     END, ENTRY, FENCE, FIRST_RUN, ONE_APPEND, STRAYS, Start, TAIL, TWO_IMAGES, is_written_so,
@@ -9,11 +9,8 @@ use image_name::ImageName;
 use machine::{Schedule, StepFault};
 use std::alloc::Global;
 
-static COUNTS: [(&str, u32, Result<Option<u32>, CountFault>); 6] = [
-    ("h0*8", 0, Ok(Some(1))),
-    ("h0*8", 1, Ok(Some(2))),
+static COUNTS: [(&str, u32, Result<Option<u32>, CountFault>); 3] = [
     ("h0*8", 2, Ok(Some(2))),
-    ("h0*8", 3, Ok(Some(1))),
     ("h0*8", 4, Err(CountFault::NoSuchMoment)),
     ("h1", 0, Err(CountFault::Step(StepFault::NoSuchHart))),
 ];
@@ -48,16 +45,7 @@ struct Explanation {
     explained: Result<&'static str, ExplainFault>,
 }
 
-static EXPLANATIONS: [Explanation; 11] = [
-    // two of three stores
-    Explanation {
-        plan: None,
-        pieces: &[TWO_IMAGES],
-        schedule: "h0*9",
-        moment: 5,
-        image: "0",
-        explained: Ok("h0*5 e5 h0*4"),
-    },
+static EXPLANATIONS: [Explanation; 6] = [
     // all stores
     Explanation {
         plan: None,
@@ -75,42 +63,6 @@ static EXPLANATIONS: [Explanation; 11] = [
         moment: 6,
         image: "4",
         explained: Ok("h0*13 e1"),
-    },
-    // no line above its floor
-    Explanation {
-        plan: None,
-        pieces: &[TWO_IMAGES],
-        schedule: "h0*9",
-        moment: 5,
-        image: "floor",
-        explained: Ok("h0*5 e5 h0*4"),
-    },
-    // the line above its floor
-    Explanation {
-        plan: None,
-        pieces: &[TWO_IMAGES],
-        schedule: "h0*9",
-        moment: 5,
-        image: "l5:3",
-        explained: Ok("h0*8 e5 h0*1"),
-    },
-    // below its floor
-    Explanation {
-        plan: None,
-        pieces: &[TWO_IMAGES],
-        schedule: "h0*9",
-        moment: 5,
-        image: "l5:1",
-        explained: Err(ExplainFault::NoSuchImage),
-    },
-    // a line without stores
-    Explanation {
-        plan: None,
-        pieces: &[TWO_IMAGES],
-        schedule: "h0*9",
-        moment: 5,
-        image: "l5:3,l6:0",
-        explained: Err(ExplainFault::NoSuchImage),
     },
     // a line among over 65,536 images
     Explanation {

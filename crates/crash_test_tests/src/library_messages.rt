@@ -67,10 +67,13 @@ static OBJECTS: [(LoadFault, &str); 6] = [
 #[test]
 fn programs(rt: HostRuntime) {
     let alloc = rt.alloc();
-    assert_eq!(rt; differing(alloc, &LINES), None);
-    assert_eq!(rt; differing(alloc, &SOURCES), None);
-    assert_eq!(rt; differing(alloc, &FIELDS), None);
-    assert_eq!(rt; differing(alloc, &OBJECTS), None);
+    let found = [
+        differing(alloc, &LINES),
+        differing(alloc, &SOURCES),
+        differing(alloc, &FIELDS),
+        differing(alloc, &OBJECTS),
+    ];
+    assert_eq!(rt; found, [None; 4]);
 }
 
 static STEPS: [(StepFault, &str); 5] = [
@@ -137,12 +140,15 @@ static SESSIONS: [(DebugFault, &str); 7] = [
 #[test]
 fn runs(rt: HostRuntime) {
     let alloc = rt.alloc();
-    assert_eq!(rt; differing(alloc, &STEPS), None);
-    assert_eq!(rt; differing(alloc, &STOPS), None);
-    assert_eq!(rt; differing(alloc, &SEATS), None);
-    assert_eq!(rt; differing(alloc, &HARTS), None);
-    assert_eq!(rt; differing(alloc, &SCHEDULES), None);
-    assert_eq!(rt; differing(alloc, &SESSIONS), None);
+    let found = [
+        differing(alloc, &STEPS),
+        differing(alloc, &STOPS),
+        differing(alloc, &SEATS),
+        differing(alloc, &HARTS),
+        differing(alloc, &SCHEDULES),
+        differing(alloc, &SESSIONS),
+    ];
+    assert_eq!(rt; found, [None; 6]);
 }
 
 static ACCESSES: [(MemFault, &str); 2] = [
@@ -169,10 +175,13 @@ static IMAGES: [(ImageFault, &str); 3] = [
 #[test]
 fn memories_and_images(rt: HostRuntime) {
     let alloc = rt.alloc();
-    assert_eq!(rt; differing(alloc, &ACCESSES), None);
-    assert_eq!(rt; differing(alloc, &MEDIA), None);
-    assert_eq!(rt; differing(alloc, &TRACES), None);
-    assert_eq!(rt; differing(alloc, &IMAGES), None);
+    let found = [
+        differing(alloc, &ACCESSES),
+        differing(alloc, &MEDIA),
+        differing(alloc, &TRACES),
+        differing(alloc, &IMAGES),
+    ];
+    assert_eq!(rt; found, [None; 4]);
 }
 
 static VOLUMES: [(VolumeFault, &str); 11] = [
@@ -228,10 +237,13 @@ static CAUSES: [(Cause, &str); 3] = [
 #[test]
 fn volumes_and_verdicts(rt: HostRuntime) {
     let alloc = rt.alloc();
-    assert_eq!(rt; differing(alloc, &VOLUMES), None);
-    assert_eq!(rt; differing(alloc, &PLAN_LINES), None);
-    assert_eq!(rt; differing(alloc, &PLANS), None);
-    assert_eq!(rt; differing(alloc, &MARKS), None);
-    assert_eq!(rt; differing(alloc, &CHECKS), None);
-    assert_eq!(rt; differing(alloc, &CAUSES), None);
+    let found = [
+        differing(alloc, &VOLUMES),
+        differing(alloc, &PLAN_LINES),
+        differing(alloc, &PLANS),
+        differing(alloc, &MARKS),
+        differing(alloc, &CHECKS),
+        differing(alloc, &CAUSES),
+    ];
+    assert_eq!(rt; found, [None; 6]);
 }

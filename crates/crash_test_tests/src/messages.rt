@@ -69,8 +69,11 @@ static VERDICTS: [(VerdictFault, &str); 7] = [
 #[test]
 fn faults_say_what_is_wrong(rt: HostRuntime) {
     let alloc = rt.alloc();
-    assert_eq!(rt; differing(alloc, &PROGRAMS), None);
-    assert_eq!(rt; differing(alloc, &COUNTS), None);
-    assert_eq!(rt; differing(alloc, &EXPLANATIONS), None);
-    assert_eq!(rt; differing(alloc, &VERDICTS), None);
+    let found = [
+        differing(alloc, &PROGRAMS),
+        differing(alloc, &COUNTS),
+        differing(alloc, &EXPLANATIONS),
+        differing(alloc, &VERDICTS),
+    ];
+    assert_eq!(rt; found, [None; 4]);
 }

@@ -1,4 +1,4 @@
-//! Appends that are checked.
+//! Appends that are checked. More of them stand in the transcripts of `transcripts`.
 
 ghost use Rattle.std.specs.Prelude.{◌<◌, ◌≤◌, IfSome};
 
@@ -35,7 +35,7 @@ struct Checked {
     verdict: Result<Wanted, VerdictFault>,
 }
 
-static CHECKED: [Checked; 7] = [
+static CHECKED: [Checked; 5] = [
     Checked {
         pieces: &[ENTRY, FENCE, TAIL, FENCE, END],
         schedule: "h0*22",
@@ -52,25 +52,6 @@ static CHECKED: [Checked; 7] = [
             moment: 6,
             image: "4",
             cause: Cause::Fault(VolumeFault::Kind),
-        }),
-    },
-    // without its last fence
-    Checked {
-        pieces: &[ENTRY, FENCE, TAIL, END],
-        schedule: "h0*21",
-        verdict: Ok(Wanted::Fail {
-            moment: 9,
-            image: "0",
-            cause: Cause::Illegal,
-        }),
-    },
-    // 131,072 images at its last moment, and one branch
-    Checked {
-        pieces: &[STRAYS],
-        schedule: "h0*72",
-        verdict: Ok(Wanted::Pass {
-            moments: 18,
-            images: None,
         }),
     },
     // the same, and then a tail without its entry
@@ -182,18 +163,8 @@ const APPEND: &[&str] = &[ENTRY, FENCE, TAIL, FENCE, END];
 
 const NO_FIRST_FENCE: &[&str] = &[ENTRY, TAIL, FENCE, END];
 
-/// The moments of the whole append have 1, 1, 2, 3, 4, 4, 1, 2, 2, 1 and 1 images.
-static PARTS: [Part; 8] = [
-    Part {
-        pieces: APPEND,
-        schedule: "h0*22",
-        first: 0,
-        last: Some(4),
-        verdict: Ok(Wanted::Pass {
-            moments: 5,
-            images: Some(11),
-        }),
-    },
+/// Moments of an append, which has eleven, and of one without its first fence.
+static PARTS: [Part; 4] = [
     Part {
         pieces: APPEND,
         schedule: "h0*22",
@@ -207,40 +178,9 @@ static PARTS: [Part; 8] = [
     Part {
         pieces: APPEND,
         schedule: "h0*22",
-        first: 5,
-        last: Some(5),
-        verdict: Ok(Wanted::Pass {
-            moments: 1,
-            images: Some(4),
-        }),
-    },
-    // past the last moment
-    Part {
-        pieces: APPEND,
-        schedule: "h0*22",
-        first: 10,
-        last: Some(99),
-        verdict: Ok(Wanted::Pass {
-            moments: 1,
-            images: Some(1),
-        }),
-    },
-    Part {
-        pieces: APPEND,
-        schedule: "h0*22",
         first: 11,
         last: Some(99),
         verdict: Err(VerdictFault::NoSuchMoment),
-    },
-    Part {
-        pieces: NO_FIRST_FENCE,
-        schedule: "h0*21",
-        first: 0,
-        last: Some(5),
-        verdict: Ok(Wanted::Pass {
-            moments: 6,
-            images: Some(15),
-        }),
     },
     Part {
         pieces: NO_FIRST_FENCE,

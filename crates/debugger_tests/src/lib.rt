@@ -1,9 +1,12 @@
-//! Tests of `debugger` and `session`: points, where a run stops, and commands with their answers. They stand apart, so that those
-//! crates aren't proved a second time for them. The crate has tests alone.
+//! Tests of `debugger` and `session`: points, where a run stops, commands with their answers, and streams that fail; and of what
+//! `arguments` reads. They stand apart, so that those crates aren't proved a second time for them. The crate has tests alone. More
+//! commands with their answers, and more lines, stand in the transcripts of `transcripts`.
 #![tactic(auto)]
 
 #[cfg(test)]
 mod debugging;
+#[cfg(test)]
+mod lines;
 #[cfg(test)]
 mod machines;
 #[cfg(test)]

@@ -115,8 +115,8 @@ fn outcome_of(alloc: Global, commands: &[u8], limits: Limits) -> Result<Outcome,
     Ok((end, text, pc))
 }
 
-/// Commands, and the answers to them.
-static TALKS: [(&str, &str); 38] = [
+/// Commands, and the answers to them. More of them stand in `sessions.transcript` of `transcripts`.
+static TALKS: [(&str, &str); 5] = [
     (
         DEBUG_SESSION,
         "ok\nbreak h0 pc=0x10008\nok\nwatch h0 line=0x40000000\n07 00\nend\nfault D1\n",
@@ -131,42 +131,6 @@ static TALKS: [(&str, &str); 38] = [
     ),
     ("quit\nstep 0\n", ""),
     ("break 0x10002", "fault D2\n"),
-    ("break 0x", "fault D1\n"),
-    ("break 0X10000", "fault D1\n"),
-    ("break +65536", "fault D1\n"),
-    ("break 65536", "ok\n"),
-    ("break 065536 ", "ok\n"),
-    (" clear  0x10000", "fault D2\n"),
-    ("break", "fault D1\n"),
-    ("break 0x10000 0", "fault D1\n"),
-    ("break 18446744073709551616", "fault D2\n"),
-    ("watch 0xffffffffffffffff", "fault D2\n"),
-    ("watch 0x10000000000000000", "fault D2\n"),
-    ("step 2", "fault G1\n"),
-    ("step 4294967296", "fault G1\n"),
-    ("step 18446744073709551616", "fault G1\n"),
-    ("step 0x0", "fault D1\n"),
-    ("regs 9", "fault G1\n"),
-    ("regs 0\r", "fault D1\n"),
-    ("peek 0x40000000 0", "fault D1\n"),
-    ("peek 0x40000000 65", "fault D1\n"),
-    ("peek 0x10000000000000000 65", "fault D1\n"),
-    ("peek 0x40007fff 2", "fault D2\n"),
-    ("peek 0xffffffffffffffff 2", "fault D2\n"),
-    ("peek 0x10000000000000000 1", "fault D2\n"),
-    ("peek 65536 4", "93 02 70 00\n"),
-    ("go", "fault D1\n"),
-    ("go h0*0", "fault D1\n"),
-    ("go e512", "fault G2\n"),
-    ("quit x", "fault D1\n"),
-    ("Quit", "fault D1\n"),
-    ("", ""),
-    ("  ", ""),
-    ("quit", ""),
-    (
-        "step 0",
-        "h0 running pc=0x10004 x2=0x200000 x5=0x7 x11=0x40000000\n",
-    ),
 ];
 
 /// The first of these commands that are answered in another way, and their answers.
@@ -187,14 +151,6 @@ fn commands_are_answered(rt: HostRuntime) -> Result<(), Fail> {
     Ok(())
 }
 
-/// How many lines tell the registers of hart 1; None where they don't begin with its pc and its first registers, or the
-/// run ends by a fault.
-fn registers(alloc: Global) -> Result<Option<usize>, Fail> {
-    let (end, answers, _pc) = outcome_of(alloc, b"regs 1", ALL)?;
-    let begins = answers.starts_with(b"pc=0x10000\nx0=0x0\nx1=0x0\nx2=0x1ff000\n");
-    Ok((begins && end.is_ok()).then_some(lines(&answers)))
-}
-
 fn lines(answers: &[u8]) -> usize {
     answers.iter().filter(|byte| **byte == b'\n').count()
 }
@@ -208,8 +164,7 @@ fn answers_blanks(alloc: Global, blanks: usize, expected: &[u8]) -> Result<bool,
 }
 
 #[test]
-fn long_answers_and_lines(rt: HostRuntime) -> Result<(), Fail> {
-    assert!(rt; registers(rt.alloc())? == Some(33));
+fn long_lines(rt: HostRuntime) -> Result<(), Fail> {
     assert!(rt; answers_blanks(rt.alloc(), 65_536, b"fault G1\n")?);
     assert!(rt; answers_blanks(rt.alloc(), 65_537, b"fault D1\nfault G1\n")?);
     Ok(())

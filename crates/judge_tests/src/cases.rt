@@ -24,9 +24,6 @@ pub(crate) enum Wanted {
         image: &'static str,
         cause: Cause,
     },
-    TooMany {
-        moment: u32,
-    },
 }
 
 /// A source and a recovery routine, both of several pieces, how the source is run and how its moments are judged, from one to another
@@ -144,7 +141,6 @@ fn is_verdict(alloc: Global, verdict: &Verdict<Cause>, wanted: Wanted) -> bool {
                 cause: c,
             },
         ) => *moment == m && *cause == c && is_named_so(alloc, image, i),
-        (Verdict::TooMany { moment }, Wanted::TooMany { moment: m }) => *moment == m,
         _ => false,
     }
 }
@@ -160,11 +156,7 @@ fn is_judged_so<R: Threads + Sync + AllocGlobal>(rt: &R, case: &Case, workers: u
 }
 
 /// The first case whose verdict is another one.
-pub(crate) fn differing<R: Threads + Sync + AllocGlobal>(
-    rt: &R,
-    cases: &[Case],
-    workers: u32,
-) -> Option<usize>
+fn differing<R: Threads + Sync + AllocGlobal>(rt: &R, cases: &[Case], workers: u32) -> Option<usize>
     requires { (0 < workers) × (workers ≤ 8) }
 {
     for (place, case) in cases.iter().enumerate() {

@@ -1,6 +1,7 @@
 //! Tests of the verdict by a recovery routine, from sources: small runs and routines, and what `judge_program` says of them for one
-//! worker and for several; of `judge_marks`; and each growth refused in turn, by `tools/growths --only growths judge_tests`. They
-//! stand apart, so that those crates aren't proved a second time for them. The crate has tests alone.
+//! worker and for several, of which more stand in the transcripts of `transcripts`; of `judge_marks`; and each growth refused in
+//! turn, by `tools/growths --only growths judge_tests`. They stand apart, so that those crates aren't proved a second time for them.
+//! The crate has tests alone.
 //!
 //! What is tested stands in tables. A test asks for the first place of a table whose call comes to something else than is said
 //! there.
@@ -13,16 +14,8 @@ mod ending;
 #[cfg(test)]
 mod growths;
 #[cfg(test)]
-mod lines;
-#[cfg(test)]
 mod marked;
 #[cfg(test)]
-mod marks;
-#[cfg(test)]
-mod moments;
-#[cfg(test)]
-mod pushes;
-#[cfg(test)]
-mod routines;
-#[cfg(test)]
 mod sources;
+#[cfg(test)]
+mod verdicts;

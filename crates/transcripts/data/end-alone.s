@@ -1,0 +1,4 @@
+li a7, 2002
+li a0, 1
+ecall
+ebreak
