@@ -804,17 +804,3 @@ fn help_is_asked_for(rt: HostRuntime) -> Result<(), Fail> {
     assert!(rt; other.is_none(), "{other:?}");
     Ok(())
 }
-
-/// A call that is refused memory says so, and gives its answer when it is made again.
-#[test]
-fn refused_growth(rt: HostRuntime) -> Result<(), Fail> {
-    let line = "novacrash run a.s --medium m --harts 2 --capacity 3 --steps 4 --record r --out o";
-    let first = read(rt.alloc(), line)?;
-    let asked = if first.as_str() == "memory" {
-        read(rt.alloc(), line)?
-    } else {
-        first
-    };
-    assert_eq!(rt; asked.as_str(), "run a.s / m 2 3 / 4 r o");
-    Ok(())
-}

@@ -26,7 +26,7 @@ struct Case {
     needless: &'static [(u32, Reason)],
 }
 
-static CASES: [Case; 19] = [
+static CASES: [Case; 20] = [
     Case {
         run: &[Clean(0, 0), Fence(0)],
         needless: &[(1, AlreadyThere), (2, NothingToComplete)],
@@ -105,6 +105,26 @@ static CASES: [Case; 19] = [
             (5, AlreadyThere),
             (6, NothingToComplete),
             (7, NothingToComplete),
+        ],
+    },
+    // Cleans of a clean line twice and by another hart, and fences of both with nothing pending.
+    Case {
+        run: &[
+            Store(0),
+            Clean(0, 0),
+            Fence(0),
+            Clean(0, 0),
+            Clean(0, 0),
+            Fence(0),
+            Fence(1),
+            Clean(1, 0),
+        ],
+        needless: &[
+            (4, AlreadyThere),
+            (5, AlreadyThere),
+            (6, NothingToComplete),
+            (7, NothingToComplete),
+            (8, AlreadyThere),
         ],
     },
     // Cleans and fences that meet no store, by two harts.
