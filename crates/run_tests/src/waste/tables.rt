@@ -120,7 +120,7 @@ static CASES: [Case; 20] = [
             Clean(1, 0),
         ],
         needless: &[
-            (4, AlreadyThere),
+            (4, CleanedAgain),
             (5, AlreadyThere),
             (6, NothingToComplete),
             (7, NothingToComplete),
