@@ -7,6 +7,8 @@
 #[cfg(test)]
 mod ending;
 #[cfg(test)]
+mod free_caches;
+#[cfg(test)]
 mod free_memory;
 #[cfg(test)]
 mod free_seats;
