@@ -107,7 +107,7 @@ static CASES: [Case; 20] = [
             (7, NothingToComplete),
         ],
     },
-    // Cleans of a clean line twice and by another hart, and fences of both with nothing pending.
+    // Cleans of a clean line, the last one by another hart that makes no fence after it, and fences with nothing pending.
     Case {
         run: &[
             Store(0),
@@ -124,7 +124,7 @@ static CASES: [Case; 20] = [
             (5, AlreadyThere),
             (6, NothingToComplete),
             (7, NothingToComplete),
-            (8, AlreadyThere),
+            (8, NotFenced),
         ],
     },
     // Cleans and fences that meet no store, by two harts.
