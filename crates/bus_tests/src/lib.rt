@@ -1,5 +1,5 @@
-//! Tests of `bus`: harts that take turns on one thread, by their seats, and harts that run in threads; and of `bus` and `stop_word`
-//! with each growth refused in turn. They stand apart, so that these aren't proved a second time for them. The crate has tests alone.
+//! Tests of `bus`: harts that take turns on one thread, by their seats, and harts that run in threads; and of `stop_word`. They
+//! stand apart, so that these aren't proved a second time for them. The crate has tests alone.
 //!
 //! What is tested stands in tables. A test asks for the first place of a table whose calls come to something else than is said
 //! there, and buses stay in functions that give back plain data.
@@ -9,8 +9,6 @@
 mod cores;
 #[cfg(test)]
 mod endings;
-#[cfg(test)]
-mod growths;
 #[cfg(test)]
 mod programs;
 #[cfg(test)]

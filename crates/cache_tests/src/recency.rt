@@ -244,19 +244,3 @@ fn examples(rt: HostRuntime) -> Result<(), Fail> {
     assert!(rt; wrong.is_none(), "{wrong:?}");
     Ok(())
 }
-
-/// Whether a new cache has its last line, asked for again where memory was refused.
-fn last_line_of_new(alloc: Global) -> Result<bool, MediumFault> {
-    let cache = match Cache::new(alloc, 2, 600) {
-        Err(MediumFault::Memory) => Cache::new(alloc, 2, 600)?,
-        made => made?,
-    };
-    Ok(cache.is_resident(599))
-}
-
-/// A cache that is refused memory is made when it is asked for again.
-#[test]
-fn refused_growth(rt: HostRuntime) -> Result<(), Fail> {
-    assert!(rt; !last_line_of_new(rt.alloc())?);
-    Ok(())
-}

@@ -32,6 +32,11 @@ pub(crate) fn refusal(memory: bool) -> Result<bool, Refused> {
     }
 }
 
+/// What a call comes to that was refused, and was then made again: what it left has to give the right answer.
+pub(crate) fn repeated(again: Result<bool, Refused>) -> Result<bool, Refused> {
+    refusal(matches!(again, Ok(true)))
+}
+
 /// Ends a test by whether the call's answer was the right one.
 pub(crate) fn ended(
     rt: &(impl AllocGlobal + Abort),

@@ -1,12 +1,15 @@
-//! The cuts of a moment, their images, and the schedules that leave them.
+//! The cuts of a moment, their images, and the schedules that leave them: those of a line that stands between 2 and 3.
 
-use crate::ending::{Refused, ended, ready, refusal};
-use crate::samples::{TWO_LINES, recorded_run, trace_of, zeros};
+ghost use Rattle.schedule.specs.Grammar.{hart_steps};
+ghost use Rattle.std.specs.Prelude.{◌^◌, ◌<◌};
+
+use crate::ending::{Refused, ended, ready, refusal, repeated};
+use crate::samples::{TWO_IMAGES, program_of, zeros};
 use crash_image::{Cut, Cuts, ImageFault, has_lines};
 use cut_schedule::explain;
 use line_memory::Medium;
-use recording::Recorded;
-use schedule::Schedule;
+use machine::Schedule;
+use recording::{Recorded, record};
 use std::alloc::Global;
 use store_trace::Trace;
 
@@ -15,116 +18,59 @@ fn refused_image(fault: ImageFault) -> Result<bool, Refused> {
     refusal(matches!(fault, ImageFault::Memory))
 }
 
-/// A call on the cuts of a moment.
+/// Which call is tested on the recorded run.
 #[derive(Clone, Copy)]
 enum Call {
-    /// The cuts themselves.
     Cuts,
-    /// The cut of a number.
-    Cut,
-    /// The image of a number.
     Image,
-    /// The image of a cut.
-    ImageOfCut,
-    /// The cut of an image.
-    Find,
+    Explain,
 }
 
-/// The cut of number 7: one store to line 3, and three to line 7.
-const SEVENTH: [(u32, u32); 2] = [(3, 1), (7, 3)];
-
-fn is_seventh(cut: Result<Cut, ImageFault>) -> Result<bool, Refused> {
-    match cut {
-        Ok(cut) => Ok(cut.entries() == SEVENTH.as_slice()),
-        Err(fault) => refused_image(fault),
-    }
+/// A recorded run of nine steps, whose last moment has two images.
+fn recorded_run(alloc: Global) -> Result<Recorded, Refused> {
+    let Ok(schedule) = Schedule::read(alloc, b"h0*9") else {
+        return Err(Refused::SetUp);
+    };
+    record_of(alloc, &schedule)
 }
 
-/// Whether the first doublewords of lines 3 and 7 are those of that cut.
-fn is_image(image: Result<Medium, ImageFault>) -> Result<bool, Refused> {
-    match image {
-        Ok(image) => Ok(image.lines() > 7 && image.load(192, 8) == 1 && image.load(448, 8) == 3),
-        Err(fault) => refused_image(fault),
-    }
+fn record_of(alloc: Global, schedule: &Schedule) -> Result<Recorded, Refused>
+    requires { hart_steps schedule.now < 2 ^ 32 }
+{
+    let program = program_of(alloc, TWO_IMAGES)?;
+    let medium = zeros(alloc)?;
+    ready(record(alloc, program, medium, 1, 16, schedule))
 }
 
-fn is_found(cut: Result<Option<Cut>, ImageFault>) -> Result<bool, Refused> {
-    match cut {
-        Ok(Some(cut)) => Ok(cut.entries() == SEVENTH.as_slice()),
-        Ok(None) => Ok(false),
-        Err(fault) => refused_image(fault),
-    }
-}
-
-/// Makes a call for the number 7 of the twelve cuts.
-fn called(alloc: Global, cuts: &Cuts, call: Call) -> Result<bool, Refused> {
-    if cuts.count() != Some(12) {
-        return Ok(false);
-    }
-    match call {
-        Call::Cuts => Ok(true),
-        Call::Cut => is_seventh(cuts.cut(alloc, 7)),
-        Call::Image => is_image(cuts.image(alloc, 7)),
-        Call::ImageOfCut => {
-            let cut = ready(cuts.cut(alloc, 7))?;
-            is_image(cuts.image_of(alloc, &cut))
-        }
-        Call::Find => {
-            let image = ready(cuts.image(alloc, 7))?;
-            is_found(cuts.find(alloc, &image))
-        }
-    }
-}
-
-/// Makes a call on the cuts after a trace over a medium.
-fn called_after(
-    alloc: Global,
-    medium: &Medium,
-    trace: &Trace,
-    call: Call,
-) -> Result<bool, Refused> {
+/// Whether there are two images.
+fn are_two(alloc: Global, medium: &Medium, trace: &Trace) -> Result<bool, Refused> {
     if !has_lines(medium, trace) {
         return Ok(false);
     }
     match Cuts::at(alloc, medium, trace, 5) {
-        Ok(cuts) => called(alloc, &cuts, call),
-        Err(fault) => match call {
-            Call::Cuts => refused_image(fault),
-            _ => Err(Refused::SetUp),
-        },
+        Ok(cuts) => Ok(cuts.count() == Some(2)),
+        Err(fault) => refused_image(fault),
     }
 }
 
-/// Makes a call on the cuts after stores to two lines, over zeros.
-fn on_two_lines(alloc: Global, call: Call) -> Result<bool, Refused> {
-    let medium = zeros(alloc)?;
-    let trace = trace_of(alloc, &TWO_LINES)?;
-    called_after(alloc, &medium, &trace, call)
+/// Whether line 5 has the older number in image 0.
+fn is_older(alloc: Global, cuts: &Cuts) -> Result<bool, Refused> {
+    if cuts.count() != Some(2) {
+        return Ok(false);
+    }
+    match cuts.image(alloc, 0) {
+        Ok(image) => Ok(image.lines() > 5 && image.load(320, 8) == 2),
+        Err(fault) => refused_image(fault),
+    }
 }
 
-#[test]
-fn cuts_at_a_moment(rt: HostRuntime) -> Result<(), Refused> {
-    ended(&rt, on_two_lines(rt.alloc(), Call::Cuts))
-}
-
-#[test]
-fn cut_of_a_number(rt: HostRuntime) -> Result<(), Refused> {
-    ended(&rt, on_two_lines(rt.alloc(), Call::Cut))
-}
-
-#[test]
-fn image_of_a_number(rt: HostRuntime) -> Result<(), Refused> {
-    ended(&rt, on_two_lines(rt.alloc(), Call::Image))
-}
-
-#[test]
-fn image_of_a_cut(rt: HostRuntime) -> Result<(), Refused> {
-    ended(&rt, on_two_lines(rt.alloc(), Call::ImageOfCut))
-}
-
-#[test]
-fn cut_of_an_image(rt: HostRuntime) -> Result<(), Refused> {
-    ended(&rt, on_two_lines(rt.alloc(), Call::Find))
+/// Makes image 0.
+fn older_image(alloc: Global, medium: &Medium, trace: &Trace) -> Result<bool, Refused> {
+    if !has_lines(medium, trace) {
+        return Ok(false);
+    }
+    let cuts = ready(Cuts::at(alloc, medium, trace, 5))?;
+    is_older(alloc, &cuts)
 }
 
 /// The cut of two stores to line 5.
@@ -135,12 +81,13 @@ fn cut_of_line_5(alloc: Global) -> Result<Cut, Refused> {
 }
 
 /// Whether the schedule's text is this one.
-pub(crate) fn says(alloc: Global, schedule: &Schedule, text: &str) -> Result<bool, Refused> {
+fn says(alloc: Global, schedule: &Schedule, text: &str) -> Result<bool, Refused> {
     let written = ready(schedule.write(alloc))?;
     Ok(written.as_str() == text)
 }
 
-fn explained(alloc: Global, recorded: &Recorded) -> Result<bool, Refused> {
+/// Whether image 0 is explained.
+fn is_explained(alloc: Global, recorded: &Recorded) -> Result<bool, Refused> {
     let cut = cut_of_line_5(alloc)?;
     match explain(alloc, recorded, 5, &cut) {
         Ok(schedule) => says(alloc, &schedule, "h0*5 e5 h0*4"),
@@ -148,12 +95,34 @@ fn explained(alloc: Global, recorded: &Recorded) -> Result<bool, Refused> {
     }
 }
 
-fn explained_run(alloc: Global) -> Result<bool, Refused> {
-    let recorded = ready(recorded_run(alloc))?;
-    explained(alloc, &recorded)
+fn called(alloc: Global, recorded: &Recorded, call: Call) -> Result<bool, Refused> {
+    match call {
+        Call::Cuts => are_two(alloc, recorded.start(), recorded.trace()),
+        Call::Image => older_image(alloc, recorded.start(), recorded.trace()),
+        Call::Explain => is_explained(alloc, recorded),
+    }
+}
+
+/// Makes a call on the recorded run, and again where it was refused.
+fn on_recorded(alloc: Global, call: Call) -> Result<bool, Refused> {
+    let recorded = recorded_run(alloc)?;
+    match called(alloc, &recorded, call) {
+        Err(Refused::Call) => repeated(called(alloc, &recorded, call)),
+        answer => answer,
+    }
+}
+
+#[test]
+fn cuts_at_a_moment(rt: HostRuntime) -> Result<(), Refused> {
+    ended(&rt, on_recorded(rt.alloc(), Call::Cuts))
+}
+
+#[test]
+fn image_of_a_number(rt: HostRuntime) -> Result<(), Refused> {
+    ended(&rt, on_recorded(rt.alloc(), Call::Image))
 }
 
 #[test]
 fn explain_a_cut(rt: HostRuntime) -> Result<(), Refused> {
-    ended(&rt, explained_run(rt.alloc()))
+    ended(&rt, on_recorded(rt.alloc(), Call::Explain))
 }

@@ -1,13 +1,12 @@
-//! Machines: made, stepped, run by schedules, and recorded.
+//! Machines: made, and stepped.
 
 use crate::ending::{Refused, ended, ready, refusal};
-use crate::samples::{FENCES, machine_of, recorded_run, schedule_of};
-use hart::HartState;
-use machine::{Machine, RunStop, Step, StepFault};
-use recording::Recorded;
+use crate::samples::{APPENDS, LOADS, assembled, machine_of, new_volume, program_of, zeros};
+use hart::{HartState, Status};
+use machine::{Machine, Outcome, Step, StepFault};
 use std::alloc::Global;
 
-/// The state of hart 0, the number of events, and the first byte of persistent memory.
+/// The state of hart 0, the number of events, and the byte of persistent memory that the routine stores first.
 type Seen = (Option<HartState>, usize, Option<u8>);
 
 fn seen_of(machine: &Machine) -> Seen {
@@ -16,7 +15,7 @@ fn seen_of(machine: &Machine) -> Seen {
     } else {
         None
     };
-    (state, machine.events().len(), machine.peek(0x4000_0000))
+    (state, machine.events().len(), machine.peek(0x4000_4000))
 }
 
 /// Whether a hart stands at this pc, after so many events.
@@ -24,114 +23,91 @@ fn stands(machine: &Machine, hart: u32, pc: u64, events: usize) -> bool {
     hart < machine.harts() && machine.hart(hart).pc == pc && machine.events().len() == events
 }
 
-/// Makes steps of hart 0. Whether all were made; a refused one has to change nothing that is seen.
-fn stepped(machine: &mut Machine, count: u32) -> Result<bool, Refused> {
-    for _ in 0..count {
-        let before = seen_of(machine);
-        if let Err(fault) = machine.step(Step::Hart(0)) {
-            return refusal(matches!(fault, StepFault::Memory) && seen_of(machine) == before);
-        }
-    }
-    Ok(true)
-}
-
-/// Makes eighteen steps, nine of them fences: the trace grows three times.
-fn fenced(machine: &mut Machine) -> Result<bool, Refused> {
-    Ok(stepped(machine, 18)? && stands(machine, 0, 0x1_0000, 9))
-}
-
-/// The file of `ld x5, 0(x11)`; `add x6, x5, x6`; `sd x6, -8(x2)`; `jal x0, .-12`.
-const LOADS: &[u8] =
-    b"RVXPROG1\x10\0\0\0\0\0\0\0\x83\xb2\x05\0\x33\x83\x62\0\x23\x3c\x61\xfe\x6f\xf0\x5f\xff";
-
-/// Makes forty steps without an event, and an eviction.
-fn looped(machine: &mut Machine) -> Result<bool, Refused> {
-    let is_stepped = stepped(machine, 40)?;
-    let is_evicted = machine.step(Step::Evict(0)).is_ok();
-    Ok(is_stepped && is_evicted && stands(machine, 0, 0x1_0000, 0))
-}
-
-/// Whether the steps before the refused one stand, and no others: that one was a fence.
-fn stands_at(machine: &Machine, stop: RunStop) -> bool {
-    let done = match stop.place.item {
-        0 => stop.place.steps,
-        _ => stop.place.steps.wrapping_add(5),
-    };
-    done % 2 == 0 && stands(machine, 0, 0x1_0000, (done / 2) as usize)
-}
-
-/// A run of fences by two items of one hart.
-fn ran(alloc: Global, machine: &mut Machine) -> Result<bool, Refused> {
-    let schedule = schedule_of(alloc, b"h0*5 h0*13")?;
-    match machine.run(&schedule) {
-        Ok(()) => Ok(stands(machine, 0, 0x1_0000, 9)),
-        Err(stop) => refusal(matches!(stop.fault, StepFault::Memory) && stands_at(machine, stop)),
-    }
-}
-
-/// A call on a machine.
-#[derive(Clone, Copy)]
-enum Call {
-    /// It was made.
-    New,
-    /// Steps with events.
-    Fences,
-    /// Steps without an event.
-    Loads,
-    Run,
-}
-
-fn called(alloc: Global, machine: &mut Machine, call: Call) -> Result<bool, Refused> {
-    match call {
-        Call::New => Ok(machine.harts() == 3 && stands(machine, 2, 0x1_0000, 0)),
-        Call::Fences => fenced(machine),
-        Call::Loads => looped(machine),
-        Call::Run => ran(alloc, machine),
-    }
-}
-
-/// Makes a call on a machine that was made.
-fn on_machine(alloc: Global, made: Result<Machine, Refused>, call: Call) -> Result<bool, Refused> {
-    let mut machine = made?;
-    called(alloc, &mut machine, call)
+fn made(alloc: Global) -> Result<bool, Refused> {
+    let program = program_of(alloc, LOADS)?;
+    let medium = zeros(alloc)?;
+    let machine = machine_of(alloc, program, medium, 3)?;
+    Ok(machine.harts() == 3 && stands(&machine, 2, 0x1_0000, 0))
 }
 
 #[test]
 fn machine_new(rt: HostRuntime) -> Result<(), Refused> {
-    let made = machine_of(rt.alloc(), FENCES, 3);
-    ended(&rt, on_machine(rt.alloc(), made, Call::New))
+    ended(&rt, made(rt.alloc()))
+}
+
+/// Makes a step of hart 0, and again where it was refused, which has to change nothing that is seen. Whether it was refused; None
+/// where an answer or the machine isn't as it should be.
+fn stepped_again(machine: &mut Machine) -> Option<bool> {
+    let before = seen_of(machine);
+    let Err(fault) = machine.step(Step::Hart(0)) else {
+        return Some(false);
+    };
+    let is_refused = matches!(fault, StepFault::Memory) && seen_of(machine) == before;
+    if is_refused && machine.step(Step::Hart(0)).is_ok() {
+        Some(true)
+    } else {
+        None
+    }
+}
+
+/// Makes so many steps of hart 0. Whether one of them was refused at first.
+fn all_stepped(machine: &mut Machine, count: u32) -> Option<bool> {
+    let mut is_refused = false;
+    for _ in 0..count {
+        if stepped_again(machine)? {
+            is_refused = true;
+        }
+    }
+    Some(is_refused)
+}
+
+/// Whether hart 0 has ended well after ten events, the first of its stores made.
+fn has_appended(machine: &Machine) -> bool {
+    machine.harts() == 1
+        && machine.hart(0).status == Status::Exited(0)
+        && machine.events().len() == 10
+        && machine.peek(0x4000_4000) == Some(1)
+}
+
+/// Makes the 22 steps of the routine that appends.
+fn appended(machine: &mut Machine) -> Result<bool, Refused> {
+    match all_stepped(machine, 22) {
+        Some(false) => Ok(has_appended(machine)),
+        Some(true) => refusal(has_appended(machine)),
+        None => Ok(false),
+    }
+}
+
+fn appended_over(alloc: Global) -> Result<bool, Refused> {
+    let program = assembled(alloc, APPENDS)?;
+    let medium = new_volume(alloc)?;
+    let mut machine = ready(machine_of(alloc, program, medium, 1))?;
+    appended(&mut machine)
 }
 
 #[test]
-fn machine_step_with_an_event(rt: HostRuntime) -> Result<(), Refused> {
-    let made = ready(machine_of(rt.alloc(), FENCES, 1));
-    ended(&rt, on_machine(rt.alloc(), made, Call::Fences))
+fn machine_steps_of_an_append(rt: HostRuntime) -> Result<(), Refused> {
+    ended(&rt, appended_over(rt.alloc()))
+}
+
+/// Makes forty steps without an event, and an eviction.
+fn looped(machine: &mut Machine) -> bool {
+    for _ in 0..40 {
+        if machine.step(Step::Hart(0)) != Ok(Outcome::Done) {
+            return false;
+        }
+    }
+    machine.step(Step::Evict(0)).is_ok() && stands(machine, 0, 0x1_0000, 0)
+}
+
+fn looped_alone(alloc: Global) -> Result<bool, Refused> {
+    let program = program_of(alloc, LOADS)?;
+    let medium = zeros(alloc)?;
+    let mut machine = ready(machine_of(alloc, program, medium, 1))?;
+    Ok(looped(&mut machine))
 }
 
 #[test]
 fn machine_steps_without_memory(rt: HostRuntime) -> Result<(), Refused> {
-    let made = ready(machine_of(rt.alloc(), LOADS, 1));
-    ended(&rt, on_machine(rt.alloc(), made, Call::Loads))
-}
-
-#[test]
-fn machine_run(rt: HostRuntime) -> Result<(), Refused> {
-    let made = ready(machine_of(rt.alloc(), FENCES, 1));
-    ended(&rt, on_machine(rt.alloc(), made, Call::Run))
-}
-
-/// Whether a run of nine steps was recorded whole.
-fn is_whole(made: Result<Recorded, Refused>) -> Result<bool, Refused> {
-    let recorded = made?;
-    Ok(
-        recorded.steps() == [3, 5, 6, 8, 9].as_slice()
-            && recorded.trace().events().len() == 5
-            && recorded.schedule().items().len() == 1
-            && recorded.harts().len() == 1,
-    )
-}
-
-#[test]
-fn record_a_run(rt: HostRuntime) -> Result<(), Refused> {
-    ended(&rt, is_whole(recorded_run(rt.alloc())))
+    ended(&rt, looped_alone(rt.alloc()))
 }

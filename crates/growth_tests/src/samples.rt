@@ -1,18 +1,21 @@
-//! Small programs, media, schedules and traces, which the tests hand to the calls.
-
-ghost use Rattle.schedule.specs.Grammar.{hart_steps};
-ghost use Rattle.std.specs.Prelude.{◌^◌, ◌<◌};
+//! Programs, media and traces, which the tests hand to the calls.
 
 use crate::ending::{Refused, ready};
+use assemble::assemble;
+use bus::{Bus, Seat};
 use line_memory::Medium;
-use machine::{Machine, Schedule, StepFault};
+use machine::{Machine, StepFault};
+use nova_log::{Layout, mkfs};
 use program::{Object, Program, load};
-use recording::{Recorded, record};
 use std::alloc::Global;
 use store_trace::{Event, Trace};
 
-/// The file of `fence w, w`; `jal x0, .-4`: every other step makes an event.
-pub(crate) const FENCES: &[u8] = b"RVXPROG1\x08\0\0\0\0\0\0\0\x0f\0\x10\x01\x6f\xf0\xdf\xff";
+/// The file of `addi x1, x0, 5`.
+pub(crate) const FIVE: &[u8] = b"RVXPROG1\x04\0\0\0\0\0\0\0\x93\0\x50\0";
+
+/// The file of `ld x5, 0(x11)`; `add x6, x5, x6`; `sd x6, -8(x2)`; `jal x0, .-12`: no step makes an event.
+pub(crate) const LOADS: &[u8] =
+    b"RVXPROG1\x10\0\0\0\0\0\0\0\x83\xb2\x05\0\x33\x83\x62\0\x23\x3c\x61\xfe\x6f\xf0\x5f\xff";
 
 /// The file of `addi x5, x0, 1`; `addi x6, x11, 320`; `sd x5, 0(x6)`; `addi x5, x5, 1`; `sd x5, 0(x6)`; `cbo.clean (x6)`;
 /// `addi x5, x5, 1`; `sd x5, 0(x6)`; `fence w, w`.
@@ -20,9 +23,32 @@ pub(crate) const TWO_IMAGES: &[u8] =
     b"RVXPROG1\x24\0\0\0\0\0\0\0\x93\x02\x10\0\x13\x83\x05\x14\x23\x30\x53\0\x93\x82\x12\0\x23\x30\x53\0\
     \x0f\x20\x13\0\x93\x82\x12\0\x23\x30\x53\0\x0f\0\x10\x01";
 
-/// The program of a file.
+/// The file of `amoadd.d x5, x6, (x11)`; `jal x0, .-4`: every other step is a request, with an event.
+pub(crate) const COUNTS: &[u8] = b"RVXPROG1\x08\0\0\0\0\0\0\0\xaf\xb2\x65\0\x6f\xf0\xdf\xff";
+
+/// The file of `addi x5, x5, 1`; `jal x0, .-4`: no step is a request.
+pub(crate) const REGISTERS: &[u8] = b"RVXPROG1\x08\0\0\0\0\0\0\0\x93\x82\x12\0\x6f\xf0\xdf\xff";
+
+/// Appends value 77 to the log of inode 0 as operation 1, in 22 steps.
+pub(crate) const APPENDS: &[u8] =
+    b"li a7, 2001\nli a0, 1\necall\nld t0, 72(a1)\nadd t1, a1, t0\nli t2, 1\nsd t2, 0(t1)\nsd t2, 8(t1)\n\
+    li t3, 77\nsd t3, 16(t1)\ncbo.clean (t1)\nfence w, w\naddi t0, t0, 64\nsd t0, 72(a1)\naddi t4, a1, 64\ncbo.clean (t4)\n\
+    fence w, w\nli a7, 2002\necall\nli a7, 93\nli a0, 0\necall\n";
+
+/// A thousand additions to one doubleword by each hart, which makes 3,005 steps.
+pub(crate) const COUNTER: &[u8] =
+    b"li t0, 1000\nli t1, 1\nloop: amoadd.d zero, t1, (a1)\naddi t0, t0, -1\nbnez t0, loop\n\
+    li a7, 93\nli a0, 0\necall\n";
+
+/// The program of an object's file.
 pub(crate) fn program_of(alloc: Global, file: &[u8]) -> Result<Program, Refused> {
     let object = ready(Object::read(alloc, file))?;
+    ready(load(object))
+}
+
+/// The program of a source.
+pub(crate) fn assembled(alloc: Global, source: &[u8]) -> Result<Program, Refused> {
+    let object = ready(assemble(alloc, source))?;
     ready(load(object))
 }
 
@@ -31,50 +57,38 @@ pub(crate) fn zeros(alloc: Global) -> Result<Medium, Refused> {
     ready(Medium::zero(alloc, 512))
 }
 
-/// A machine over zeros, with a cache of sixteen lines. Only the growths of its making are those of a call.
-pub(crate) fn machine_of(alloc: Global, file: &[u8], harts: u32) -> Result<Machine, Refused> {
-    let program = program_of(alloc, file)?;
-    let medium = zeros(alloc)?;
+/// A new volume of one inode with one page.
+pub(crate) fn new_volume(alloc: Global) -> Result<Medium, Refused> {
+    ready(mkfs(alloc, Layout::One, 1, 1, 1, 512))
+}
+
+/// Makes a machine over a medium. Only the growths of making the machine itself are those of a call.
+pub(crate) fn machine_of(
+    alloc: Global,
+    program: Program,
+    medium: Medium,
+    harts: u32,
+) -> Result<Machine, Refused> {
     match Machine::new(alloc, program, medium, harts, 16) {
         Ok(machine) => Ok(machine),
-        Err(fault) => Err(refused_step(fault)),
+        Err(StepFault::Memory) => Err(Refused::Call),
+        Err(_) => Err(Refused::SetUp),
     }
 }
 
-/// A recorded run of nine steps, whose last moment has two images. Only the growths of the record are those of a call.
-pub(crate) fn recorded_run(alloc: Global) -> Result<Recorded, Refused> {
-    let Ok(schedule) = Schedule::read(alloc, b"h0*9") else {
-        return Err(Refused::SetUp);
-    };
-    record_of(alloc, &schedule)
-}
-
-fn record_of(alloc: Global, schedule: &Schedule) -> Result<Recorded, Refused>
-    requires { hart_steps schedule.now < 2 ^ 32 }
-{
-    let program = program_of(alloc, TWO_IMAGES)?;
+/// A bus of two harts over zeros, each of which may make this many steps, with their seats.
+pub(crate) fn bus_of(
+    alloc: Global,
+    program: &Program,
+    budget: u32,
+) -> Result<(Bus<'_>, Vec<Seat<'_>>), Refused> {
     let medium = zeros(alloc)?;
-    match record(alloc, program, medium, 1, 16, schedule) {
-        Ok(recorded) => Ok(recorded),
-        Err(stop) => Err(refused_step(stop.fault)),
-    }
-}
-
-/// Where the growth lay that a call refused; for another fault than want of memory, nowhere in the call.
-fn refused_step(fault: StepFault) -> Refused {
-    match fault {
-        StepFault::Memory => Refused::Call,
-        _ => Refused::SetUp,
-    }
-}
-
-pub(crate) fn schedule_of(alloc: Global, text: &[u8]) -> Result<Schedule, Refused> {
-    ready(Schedule::read(alloc, text))
+    ready(Bus::new(alloc, program, medium, 2, 16, budget))
 }
 
 /// An event of hart 0. A store writes eight bytes at an offset of a line.
 #[derive(Clone, Copy)]
-pub(crate) enum Made {
+enum Made {
     Store(u32, u32, u64),
     Clean(u32),
     Fence,
@@ -82,8 +96,8 @@ pub(crate) enum Made {
     End(u64),
 }
 
-/// An append of value 77 to inode 0 as operation 1, after which its tail is moved.
-pub(crate) const APPEND: [Made; 10] = [
+/// The events of the run that appends.
+const APPEND: [Made; 10] = [
     Made::Begin(1),
     Made::Store(256, 0, 1),
     Made::Store(256, 8, 1),
@@ -96,18 +110,10 @@ pub(crate) const APPEND: [Made; 10] = [
     Made::End(1),
 ];
 
-/// Stores to lines 3 and 7 in turn: nine cuts after four of them, twelve after five.
-pub(crate) const TWO_LINES: [Made; 5] = [
-    Made::Store(3, 0, 1),
-    Made::Store(7, 0, 1),
-    Made::Store(7, 0, 2),
-    Made::Store(3, 0, 2),
-    Made::Store(7, 0, 3),
-];
-
-pub(crate) fn trace_of(alloc: Global, events: &[Made]) -> Result<Trace, Refused> {
+/// The trace of the run that appends.
+pub(crate) fn append_trace(alloc: Global) -> Result<Trace, Refused> {
     let mut trace = Trace::new(alloc);
-    for made in events {
+    for made in &APPEND {
         let event = match *made {
             Made::Store(line, offset, value) if offset % 8 == 0 && offset < 64 => Event::Store {
                 hart: 0,

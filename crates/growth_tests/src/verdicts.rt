@@ -1,16 +1,20 @@
-//! Verdicts on moments and on whole runs.
+//! The volume of a medium, and verdicts on the run that appends.
 
-use crate::ending::{Refused, ended, ready, refusal};
-use crate::samples::{APPEND, Made, trace_of};
+use crate::ending::{Refused, ended, ready, refusal, repeated};
+use crate::samples::{append_trace, new_volume};
 use crash_image::has_lines;
-use image_check::{Cause, CheckFault, ImageName, MomentVerdict, Verdict, check_moment, check_run};
+use gate::Open;
+use image_check::{Cause, CheckFault, Verdict, check_run};
 use line_memory::Medium;
-use nova_log::{Layout, VolumeFault, mkfs};
+use nova_log::{VolumeFault, recover};
+use parallel_check::check_parallel;
 use plan::Plan;
 use std::alloc::Global;
+use std::thread::Threads;
 use store_trace::Trace;
+use volume::Volume;
 
-/// A plan of one append, its new volume, and the trace of a routine.
+/// A plan of one append, its new volume, and the trace of the routine.
 #[derive(Drop)]
 struct Run {
     plan: Plan,
@@ -18,11 +22,11 @@ struct Run {
     trace: Trace,
 }
 
-fn run_of(alloc: Global, events: &[Made]) -> Result<Run, Refused> {
+fn run_of(alloc: Global) -> Result<Run, Refused> {
     let text = b"inodes 1\npages 1\njournals 1\nop 1 append 0 77\n";
     let plan = ready(Plan::read(alloc, text))?;
-    let medium = ready(mkfs(alloc, Layout::One, 1, 1, 1, 512))?;
-    let trace = trace_of(alloc, events)?;
+    let medium = new_volume(alloc)?;
+    let trace = append_trace(alloc)?;
     Ok(Run {
         plan,
         medium,
@@ -30,83 +34,105 @@ fn run_of(alloc: Global, events: &[Made]) -> Result<Run, Refused> {
     })
 }
 
-/// What a verdict on a run has to be.
-#[derive(Clone, Copy)]
-enum Expected {
-    /// Eleven moments pass, with 22 images.
-    Passes,
-    /// Image 4 of moment 6 has an entry of no kind.
-    Fails,
-}
-
-fn is_expected(verdict: &Verdict<Cause>, expected: Expected) -> bool {
+/// Whether the eleven moments pass, with 22 images.
+fn is_pass(verdict: &Verdict<Cause>) -> bool {
     match verdict {
-        Verdict::Pass { moments, images } => {
-            matches!(expected, Expected::Passes) && *moments == 11 && *images == Some(22)
-        }
-        Verdict::Fail {
-            moment,
-            image: ImageName::Number(image),
-            cause,
-        } => {
-            matches!(expected, Expected::Fails)
-                && *moment == 6
-                && *image == 4
-                && *cause == Cause::Fault(VolumeFault::Kind)
-        }
+        Verdict::Pass { moments, images } => *moments == 11 && *images == Some(22),
         _ => false,
     }
 }
 
-/// Whether the verdict on a run is as expected.
-fn is_verdict(alloc: Global, run: &Run, expected: Expected) -> Result<bool, Refused> {
+fn passes(alloc: Global, run: &Run) -> Result<bool, Refused> {
     if !has_lines(&run.medium, &run.trace) {
         return Ok(false);
     }
     match check_run(alloc, &run.plan, &run.medium, &run.trace) {
-        Ok(verdict) => Ok(is_expected(&verdict, expected)),
+        Ok(verdict) => Ok(is_pass(&verdict)),
         Err(fault) => refusal(matches!(fault, CheckFault::Memory)),
     }
 }
 
-#[test]
-fn check_a_run_that_passes(rt: HostRuntime) -> Result<(), Refused> {
-    let run = run_of(rt.alloc(), &APPEND)?;
-    ended(&rt, is_verdict(rt.alloc(), &run, Expected::Passes))
+/// Checks the run, and again where that was refused.
+fn checked(alloc: Global) -> Result<bool, Refused> {
+    let run = run_of(alloc)?;
+    match passes(alloc, &run) {
+        Err(Refused::Call) => repeated(passes(alloc, &run)),
+        answer => answer,
+    }
 }
 
-/// The append without its first fence.
-const MISSING_FENCE: [Made; 9] = [
-    Made::Begin(1),
-    Made::Store(256, 0, 1),
-    Made::Store(256, 8, 1),
-    Made::Store(256, 16, 77),
-    Made::Clean(256),
-    Made::Store(1, 8, 16_448),
-    Made::Clean(1),
-    Made::Fence,
-    Made::End(1),
-];
-
 #[test]
-fn check_a_run_that_fails(rt: HostRuntime) -> Result<(), Refused> {
-    let run = run_of(rt.alloc(), &MISSING_FENCE)?;
-    ended(&rt, is_verdict(rt.alloc(), &run, Expected::Fails))
+fn check_a_run(rt: HostRuntime) -> Result<(), Refused> {
+    ended(&rt, checked(rt.alloc()))
 }
 
-/// Whether a moment of a run passes.
-fn passes(alloc: Global, run: &Run, moment: u32) -> Result<bool, Refused> {
+fn passes_by_two<R: Threads + Sync>(rt: &R, alloc: Global, run: &Run) -> Result<bool, Refused> {
     if !has_lines(&run.medium, &run.trace) {
         return Ok(false);
     }
-    match check_moment(alloc, &run.plan, &run.medium, &run.trace, moment) {
-        Ok(verdict) => Ok(matches!(verdict, MomentVerdict::Pass)),
+    match check_parallel(rt, alloc, &run.plan, &run.medium, &run.trace, 2, &Open) {
+        Ok(verdict) => Ok(is_pass(&verdict)),
         Err(fault) => refusal(matches!(fault, CheckFault::Memory)),
     }
 }
 
+/// Checks the run by two workers, and again where that was refused.
+fn checked_by_two<R: Threads + Sync>(rt: &R, alloc: Global) -> Result<bool, Refused> {
+    let run = run_of(alloc)?;
+    match passes_by_two(rt, alloc, &run) {
+        Err(Refused::Call) => repeated(passes_by_two(rt, alloc, &run)),
+        answer => answer,
+    }
+}
+
 #[test]
-fn check_a_moment(rt: HostRuntime) -> Result<(), Refused> {
-    let run = run_of(rt.alloc(), &APPEND)?;
-    ended(&rt, passes(rt.alloc(), &run, 4))
+fn check_a_run_by_two_workers(rt: HostRuntime) -> Result<(), Refused> {
+    ended(&rt, checked_by_two(&rt, rt.alloc()))
+}
+
+/// The numbers of eight bytes that the run stores, with their offsets.
+const APPENDED: [(u32, u64); 4] = [(16_384, 1), (16_392, 1), (16_400, 77), (72, 16_448)];
+
+/// The medium after the run.
+fn left(alloc: Global) -> Result<Medium, Refused> {
+    let mut medium = new_volume(alloc)?;
+    for (offset, number) in &APPENDED {
+        if *offset % 8 != 0 || *offset >= 64 * medium.lines() {
+            return Err(Refused::SetUp);
+        }
+        medium.store(*offset, 8, *number);
+    }
+    Ok(medium)
+}
+
+/// Whether the log has the entry alone.
+fn is_appended(volume: &Volume) -> bool {
+    if volume.inodes() != 1 {
+        return false;
+    }
+    match volume.log(0) {
+        [entry] => entry.operation == 1 && entry.value == 77,
+        _ => false,
+    }
+}
+
+fn is_recovered(alloc: Global, medium: &Medium) -> Result<bool, Refused> {
+    match recover(alloc, medium) {
+        Ok(volume) => Ok(is_appended(&volume)),
+        Err(fault) => refusal(matches!(fault, VolumeFault::Memory)),
+    }
+}
+
+/// Recovers the volume, and again where that was refused.
+fn recovered(alloc: Global) -> Result<bool, Refused> {
+    let medium = left(alloc)?;
+    match is_recovered(alloc, &medium) {
+        Err(Refused::Call) => repeated(is_recovered(alloc, &medium)),
+        answer => answer,
+    }
+}
+
+#[test]
+fn recover_a_volume(rt: HostRuntime) -> Result<(), Refused> {
+    ended(&rt, recovered(rt.alloc()))
 }

@@ -1,5 +1,5 @@
-//! Tests of `crash_model`, `store_trace`, `crash_image` and `image_check`: small traces, their cuts, images and verdicts; and of the
-//! want of memory of the crates that make and judge images. They stand apart, so that those crates aren't proved a second time for
+//! Tests of `crash_model`, `store_trace`, `crash_image` and `image_check`: small traces, their cuts, images and verdicts. They
+//! stand apart, so that those crates aren't proved a second time for
 //! them. The crate has tests alone.
 #![tactic(auto)]
 
@@ -7,8 +7,6 @@
 mod branches_opened;
 #[cfg(test)]
 mod events;
-#[cfg(test)]
-mod growths;
 #[cfg(test)]
 mod image_names;
 #[cfg(test)]

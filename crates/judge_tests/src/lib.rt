@@ -1,7 +1,6 @@
 //! Tests of the verdict by a recovery routine, from sources: small runs and routines, and what `judge_program` says of them for one
-//! worker and for several, of which more stand in the transcripts of `transcripts`; of `judge_marks`; and each growth refused in
-//! turn, by `tools/growths --only growths judge_tests`. They stand apart, so that those crates aren't proved a second time for them.
-//! The crate has tests alone.
+//! worker and for several, of which more stand in the transcripts of `transcripts`; and of `judge_marks`. They stand apart, so that those crates aren't
+//! proved a second time for them. The crate has tests alone.
 //!
 //! What is tested stands in tables. A test asks for the first place of a table whose call comes to something else than is said
 //! there.
@@ -9,10 +8,6 @@
 
 #[cfg(test)]
 mod cases;
-#[cfg(test)]
-mod ending;
-#[cfg(test)]
-mod growths;
 #[cfg(test)]
 mod marked;
 #[cfg(test)]

@@ -1,7 +1,7 @@
-//! Tests of `judge_marks`: the faults of marks in small runs, the windows of their moments, and each growth of the calls
-//! refused in turn.
+//! Tests of `judge_marks`: the faults of marks in small runs, the windows of their moments, and a run of
+//! many operations.
 
 mod events;
 mod faults;
-mod growths;
+mod many;
 mod windows;

@@ -39,7 +39,21 @@ const ATOMIC: &[u8] =
     b"li t0, 3\namoadd.d t1, t0, (a1)\namoswap.w t2, t0, (a1)\nlui t4, 256\namoadd.d t5, t0, (t4)\nld t3, 0(a1)\n\
     sb t1, 1(t4)\nsb t2, 2(t4)\nsb t3, 3(t4)\nmv a1, t4\nli a2, 4\nli a7, 93\nli a0, 0\necall\n";
 
-static CASES: [Case; 16] = [
+/// Stores to text, data and six lines of the image, loads from seven lines, and answers nine bytes.
+const WIDE: &[u8] =
+    b"lui t0, 16\nsd a1, 1024(t0)\nlui t1, 256\nli t2, 7\nmv t3, a1\nloop: ld t4, 0(t3)\nsd t2, 0(t3)\naddi t3, t3, 64\n\
+    addi t2, t2, -1\nbnez t2, loop\nsb t3, 8(t1)\nmv a1, t1\nli a2, 9\nli a7, 93\nli a0, 0\necall\n";
+
+static CASES: [Case; 17] = [
+    Case {
+        source: WIDE,
+        words: &[],
+        steps: 99,
+        expected: Expected {
+            found: Ok(b"\0\0\0\0\0\0\0\0\xc0"),
+            lines: &[0, 1, 2, 3, 4, 5, 6],
+        },
+    },
     Case {
         source: READ,
         words: OLD,

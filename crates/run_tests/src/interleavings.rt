@@ -1,5 +1,4 @@
-//! Tests of `interleaving`, and of its want of memory.
+//! Tests of `interleaving`.
 
 mod drawn;
-mod growths;
 mod numbers;

@@ -1,11 +1,8 @@
 //! Tests of what is told, drawn and printed of runs and of their media, by `durability`, `needless`, `run_trace`, `interleaving`,
 //! `run_picture`, `medium_text` and `listing_text`. They stand apart, so that those crates aren't proved a second time for them.
-//! The tests with `growths` in their names end as those of `growth_tests`, and `tools/growths --only growths run_tests` refuses each
-//! growth of theirs in turn. The crate has tests alone.
+//! The crate has tests alone.
 #![tactic(auto)]
 
-#[cfg(test)]
-mod ending;
 #[cfg(test)]
 mod interleavings;
 #[cfg(test)]

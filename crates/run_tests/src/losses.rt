@@ -3,4 +3,3 @@
 mod cuts;
 mod ends;
 mod events;
-mod growths;

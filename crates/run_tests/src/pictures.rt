@@ -1,5 +1,4 @@
-//! Tests of `run_picture`, and of its want of memory.
+//! Tests of `run_picture`.
 
 mod drawn;
-mod growths;
 mod samples;

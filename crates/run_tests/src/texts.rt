@@ -1,5 +1,4 @@
-//! Tests of `medium_text` and `listing_text`: what is printed of a volume, of a line and of a program's text, with each growth of the
-//! calls refused in turn.
+//! Tests of `medium_text` and `listing_text`: what is printed of a volume, of a line and of a program's text.
 
 mod listings;
 mod media;

@@ -1,5 +1,4 @@
-//! Tests of line numbers and of `run_trace`, and of their want of memory.
+//! Tests of line numbers and of `run_trace`.
 
-mod growths;
 mod numbers;
 mod traces;

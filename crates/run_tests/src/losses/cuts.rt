@@ -1,7 +1,7 @@
 //! What is told of cuts of small runs: a volume to which one entry is appended, with a clean or a fence left out, and a few others.
 
 use crate::losses::events::Made::{Begin, Clean, End, Fence, Store};
-use crate::losses::events::{Parts, trace_of};
+use crate::losses::events::{NOTHING_CLEANED, Parts, trace_of};
 use crate::trace_lines::names_lines;
 use durability::{Cause, CutLine, Kept, Lost, ToldCut, tell_cut};
 use std::alloc::{AllocError, Global};
@@ -38,7 +38,7 @@ const NO_FIRST_FENCE: Parts = &[(
     ],
 )];
 
-static CASES: [Case; 10] = [
+static CASES: [Case; 11] = [
     Case {
         run: NO_FIRST_FENCE,
         moment: 6,
@@ -320,10 +320,24 @@ static CASES: [Case; 10] = [
         }],
         kept: &[Kept { line: 0, store: 5 }],
     },
+    Case {
+        run: NOTHING_CLEANED,
+        moment: 7,
+        cut: &[
+            CutLine { line: 0, number: 0 },
+            CutLine { line: 1, number: 1 },
+        ],
+        lost: &[Lost {
+            line: 0,
+            store: 6,
+            cause: Cause::NeverCleaned,
+        }],
+        kept: &[Kept { line: 1, store: 5 }],
+    },
 ];
 
 /// What is told of a cut of the trace, where it has the moment and names lines of the medium alone.
-pub(crate) fn tell(
+fn tell(
     alloc: Global,
     trace: &Trace,
     moment: u32,

@@ -1,7 +1,7 @@
 //! What is told of the Ends of small runs, and of stores outside operations.
 
 use crate::losses::events::Made::{Begin, Clean, End, Fence, Store};
-use crate::losses::events::{Parts, trace_of};
+use crate::losses::events::{NOTHING_CLEANED, Parts, trace_of};
 use crate::trace_lines::names_lines;
 use durability::{Cause, EndLoss, Lost, Unpersisted, tell_unpersisted};
 use std::alloc::{AllocError, Global};
@@ -26,7 +26,7 @@ struct Case {
     outside: &'static [AtLast],
 }
 
-static CASES: [Case; 18] = [
+static CASES: [Case; 19] = [
     Case {
         run: &[],
         ends: &[],
@@ -264,10 +264,28 @@ static CASES: [Case; 18] = [
             (7, 4, Cause::NeverCleaned),
         ],
     },
+    // An operation with five lines that nobody cleans, and then five stores outside operations.
+    Case {
+        run: NOTHING_CLEANED,
+        ends: &[
+            (1, 7, 0, 6, Cause::NeverCleaned),
+            (1, 7, 1, 5, Cause::NeverCleaned),
+            (1, 7, 2, 4, Cause::NeverCleaned),
+            (1, 7, 3, 3, Cause::NeverCleaned),
+            (1, 7, 4, 2, Cause::NeverCleaned),
+        ],
+        outside: &[
+            (5, 12, Cause::NeverCleaned),
+            (6, 11, Cause::NeverCleaned),
+            (7, 10, Cause::NeverCleaned),
+            (8, 9, Cause::NeverCleaned),
+            (9, 8, Cause::NeverCleaned),
+        ],
+    },
 ];
 
 /// What is told of the trace, where it names lines of the medium alone.
-pub(crate) fn tell(alloc: Global, trace: &Trace) -> Result<Option<Unpersisted>, AllocError> {
+fn tell(alloc: Global, trace: &Trace) -> Result<Option<Unpersisted>, AllocError> {
     if !names_lines(trace.events(), LINES) {
         return Ok(None);
     }

@@ -16,6 +16,28 @@ pub(crate) enum Made {
 /// The events of harts, one part after another.
 pub(crate) type Parts = &'static [(u32, &'static [Made])];
 
+/// An operation with five lines that nobody cleans, and then five stores outside operations.
+pub(crate) const NOTHING_CLEANED: Parts = &[(
+    0,
+    &[
+        Made::Begin(1),
+        Made::Store(4),
+        Made::Store(3),
+        Made::Store(2),
+        Made::Store(1),
+        Made::Store(0),
+        Made::End(1),
+        Made::Store(9),
+        Made::Store(8),
+        Made::Store(7),
+        Made::Store(6),
+        Made::Store(5),
+        Made::Begin(2),
+        Made::Clean(511),
+        Made::Fence,
+    ],
+)];
+
 pub(crate) fn trace_of(rt: &(impl AllocGlobal + Abort), parts: Parts) -> Result<Trace, TraceFault> {
     let mut trace = Trace::new(rt.alloc());
     for (hart, events) in parts {

@@ -1,9 +1,8 @@
 //! The listing of a source whose lines give no word, one, or two, and that of its words alone.
 
-use crate::ending::{Refused, ended, ready, refusal};
 use assemble::{assemble, line_numbers};
 use listing_text::listing_text;
-use std::process::Abort;
+use std::test::Fail;
 
 /// A line ends with CR and LF, and one has a byte that is no text.
 const SOURCE: &[u8] =
@@ -23,29 +22,25 @@ const WORDS: &[u8] = b"0x10000 000122b7 lui x5, 18\n\
 0x10010 00000013 addi x0, x0, 0\n\
 0x10014 00000073 ecall\n";
 
-fn lists(
-    rt: &(impl AllocGlobal + Abort),
-    is_numbered: bool,
-    expected: &[u8],
-) -> Result<bool, Refused> {
-    let object = ready(assemble(rt.alloc(), SOURCE))?;
+fn lists(rt: &impl AllocGlobal, is_numbered: bool, expected: &[u8]) -> Result<bool, Fail> {
+    let object = assemble(rt.alloc(), SOURCE)?;
     let numbers = if is_numbered {
-        Some(ready(line_numbers(rt.alloc(), SOURCE))?)
+        Some(line_numbers(rt.alloc(), SOURCE)?)
     } else {
         None
     };
-    match listing_text(rt.alloc(), object.text_bytes(), SOURCE, &numbers) {
-        Ok(listing) => Ok(listing.as_slice() == expected),
-        Err(_) => refusal(true),
-    }
+    let listing = listing_text(rt.alloc(), object.text_bytes(), SOURCE, &numbers)?;
+    Ok(listing.as_slice() == expected)
 }
 
 #[test]
-fn growths_of_a_listing(rt: HostRuntime) -> Result<(), Refused> {
-    ended(&rt, lists(&rt, true, LISTING))
+fn listing_of_a_source(rt: HostRuntime) -> Result<(), Fail> {
+    assert!(rt; lists(&rt, true, LISTING)?);
+    Ok(())
 }
 
 #[test]
-fn growths_of_a_listing_without_lines(rt: HostRuntime) -> Result<(), Refused> {
-    ended(&rt, lists(&rt, false, WORDS))
+fn listing_of_words_alone(rt: HostRuntime) -> Result<(), Fail> {
+    assert!(rt; lists(&rt, false, WORDS)?);
+    Ok(())
 }

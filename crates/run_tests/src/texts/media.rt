@@ -3,11 +3,10 @@
 ghost use Rattle.line_memory.specs.Lines.{IsMedium};
 ghost use Rattle.std.specs.Prelude.{IfOk};
 
-use crate::ending::{Refused, ended, ready, refusal};
 use line_memory::Medium;
 use medium_text::{line_text, volume_text};
 use nova_log::{Layout, VolumeFault, mkfs};
-use std::process::Abort;
+use std::test::Fail;
 
 /// How an entry begins that appends 77, and one that removes a name.
 const APPEND: [u8; 17] = [1, 0, 0, 0, 0, 0, 0, 0, 1, 0, 0, 0, 0, 0, 0, 0, 77];
@@ -26,10 +25,10 @@ const LINE: &str = "0x0 0x40004000 01 00 00 00 00 00 00 00 01 00 00 00 00 00 00 
 0x30 0x40004030 00 00 00 00 00 00 00 00 00 00 00 00 00 00 00 00\n";
 
 /// The medium with both entries, the first in line 256; the tail stands at offset 72.
-fn medium(rt: &impl AllocGlobal) -> Result<Medium, Refused>
+fn medium(rt: &impl AllocGlobal) -> Result<Medium, VolumeFault>
     ensures { IfOk result (λ medium. IsMedium medium) }
 {
-    let mut medium = ready(mkfs(rt.alloc(), Layout::One, 1, 1, 1, 512))?;
+    let mut medium = mkfs(rt.alloc(), Layout::One, 1, 1, 1, 512)?;
     let mut line = [0; 64];
     line[..17].copy_from_slice(&APPEND);
     medium.write_line(256, &line);
@@ -39,28 +38,26 @@ fn medium(rt: &impl AllocGlobal) -> Result<Medium, Refused>
     Ok(medium)
 }
 
-fn shows_volume(rt: &(impl AllocGlobal + Abort)) -> Result<bool, Refused> {
+fn shows_volume(rt: &impl AllocGlobal) -> Result<bool, Fail> {
     let medium = medium(rt)?;
-    match volume_text(rt.alloc(), &medium) {
-        Ok(text) => Ok(text.as_str() == VOLUME),
-        Err(fault) => refusal(fault == VolumeFault::Memory),
-    }
+    let text = volume_text(rt.alloc(), &medium)?;
+    Ok(text.as_str() == VOLUME)
 }
 
 #[test]
-fn growths_of_volume_text(rt: HostRuntime) -> Result<(), Refused> {
-    ended(&rt, shows_volume(&rt))
+fn text_of_a_volume(rt: HostRuntime) -> Result<(), Fail> {
+    assert!(rt; shows_volume(&rt)?);
+    Ok(())
 }
 
-fn shows_line(rt: &(impl AllocGlobal + Abort)) -> Result<bool, Refused> {
+fn shows_line(rt: &impl AllocGlobal) -> Result<bool, Fail> {
     let medium = medium(rt)?;
-    match line_text(rt.alloc(), &medium, 256) {
-        Ok(text) => Ok(text.as_str() == LINE),
-        Err(_) => refusal(true),
-    }
+    let text = line_text(rt.alloc(), &medium, 256)?;
+    Ok(text.as_str() == LINE)
 }
 
 #[test]
-fn growths_of_line_text(rt: HostRuntime) -> Result<(), Refused> {
-    ended(&rt, shows_line(&rt))
+fn text_of_a_line(rt: HostRuntime) -> Result<(), Fail> {
+    assert!(rt; shows_line(&rt)?);
+    Ok(())
 }

@@ -26,7 +26,7 @@ struct Case {
     needless: &'static [(u32, Reason)],
 }
 
-static CASES: [Case; 19] = [
+static CASES: [Case; 20] = [
     Case {
         run: &[Clean(0, 0), Fence(0)],
         needless: &[(1, AlreadyThere), (2, NothingToComplete)],
@@ -105,6 +105,26 @@ static CASES: [Case; 19] = [
             (5, AlreadyThere),
             (6, NothingToComplete),
             (7, NothingToComplete),
+        ],
+    },
+    // Cleans of a clean line, the last one by another hart that makes no fence after it, and fences with nothing pending.
+    Case {
+        run: &[
+            Store(0),
+            Clean(0, 0),
+            Fence(0),
+            Clean(0, 0),
+            Clean(0, 0),
+            Fence(0),
+            Fence(1),
+            Clean(1, 0),
+        ],
+        needless: &[
+            (4, CleanedAgain),
+            (5, AlreadyThere),
+            (6, NothingToComplete),
+            (7, NothingToComplete),
+            (8, NotFenced),
         ],
     },
     // Cleans and fences that meet no store, by two harts.

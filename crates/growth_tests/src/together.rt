@@ -1,8 +1,8 @@
 //! Two harts, each in a thread of its own. A growth may be refused in any of the threads, and a thread that isn't started is
-//! want of memory too: so `tools/growths` tells a fault here where it starts no thread.
+//! want of memory too, so that `tools/growths` starts the threads here. A refused step raises the stop word, and both end.
 
-use crate::growths::ending::{Refused, ended, refusal};
-use crate::growths::samples::{COUNTS, bus_of, program_of};
+use crate::ending::{Refused, ended, refusal};
+use crate::samples::{COUNTS, bus_of, program_of};
 use bus::{FinishFault, RunFault, StepFault, run_harts};
 use gate::Open;
 use recording::Recorded;

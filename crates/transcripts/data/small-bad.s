@@ -1,0 +1,2 @@
+addi x5, x0, 7
+add

@@ -1,0 +1,10 @@
+li a7, 2001
+li a0, 1
+ecall
+sd a0, 0(a1)
+li a7, 2002
+ecall
+sd a0, 64(a1)
+li a7, 93
+li a0, 0
+ecall
