@@ -1,6 +1,0 @@
--- The opener stays one for three lines.
-use Rattle.std.proofs.Common.{◌≡◌, length}
-use Rattle.image_tests.proofs.branches_opened.first_wrong.Given as goal
-
-abbrev pub invariant-loop-place : goal.invariant-loop-place
-invariant-loop-place l = length l.opener ≡ 3

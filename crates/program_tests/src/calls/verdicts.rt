@@ -1,0 +1,243 @@
+//! Appends that are checked. More of them stand in the transcripts of `transcripts`.
+
+ghost use Rattle.std.specs.Prelude.{◌<◌, ◌≤◌, IfSome};
+
+use crate::calls::starts::{
+    END, ENTRY, FENCE, NO_TAIL, ONE_APPEND, STRAYS, Start, TAIL, UNKNOWN, start_of,
+};
+use crash_test::{VerdictFault, check_moments, check_program};
+use image_check::{Cause, OpFault, Verdict};
+use image_name::ImageName;
+use machine::StepFault;
+use nova_log::VolumeFault;
+use plan::Plan;
+use std::alloc::Global;
+use std::thread::Threads;
+
+/// A verdict that is wanted, the bad image by its name's text.
+#[derive(Clone, Copy)]
+enum Wanted {
+    Pass {
+        moments: u64,
+        images: Option<u64>,
+    },
+    Fail {
+        moment: u32,
+        image: &'static str,
+        cause: Cause,
+    },
+}
+
+/// A source of several pieces and its schedule, and the verdict on it.
+struct Checked {
+    pieces: &'static [&'static str],
+    schedule: &'static str,
+    verdict: Result<Wanted, VerdictFault>,
+}
+
+static CHECKED: [Checked; 5] = [
+    Checked {
+        pieces: &[ENTRY, FENCE, TAIL, FENCE, END],
+        schedule: "h0*22",
+        verdict: Ok(Wanted::Pass {
+            moments: 11,
+            images: Some(22),
+        }),
+    },
+    // without its first fence
+    Checked {
+        pieces: &[ENTRY, TAIL, FENCE, END],
+        schedule: "h0*21",
+        verdict: Ok(Wanted::Fail {
+            moment: 6,
+            image: "4",
+            cause: Cause::Fault(VolumeFault::Kind),
+        }),
+    },
+    // the same, and then a tail without its entry
+    Checked {
+        pieces: &[STRAYS, NO_TAIL],
+        schedule: "h0*73",
+        verdict: Ok(Wanted::Fail {
+            moment: 18,
+            image: "l1:1",
+            cause: Cause::Fault(VolumeFault::TailNotReached),
+        }),
+    },
+    Checked {
+        pieces: &[UNKNOWN],
+        schedule: "h0*3",
+        verdict: Err(VerdictFault::Operation(OpFault::Unknown)),
+    },
+    // a line past the end
+    Checked {
+        pieces: &[FENCE],
+        schedule: "h0 e512",
+        verdict: Err(VerdictFault::Step(StepFault::NoSuchLine)),
+    },
+];
+
+/// The verdict on a source over a new volume of 512 lines, by so many workers.
+fn verdict_of<R: Threads + Sync + AllocGlobal>(
+    rt: &R,
+    checked: &Checked,
+    workers: u32,
+) -> Option<Result<Verdict<Cause>, VerdictFault>>
+    requires { (0 < workers) × (workers ≤ 8) }
+{
+    let alloc = rt.alloc();
+    let plan = Plan::read(alloc, ONE_APPEND.as_bytes()).ok()?;
+    let Start {
+        program,
+        medium,
+        schedule,
+    } = start_of(alloc, Some(ONE_APPEND), checked.pieces, checked.schedule)?;
+    Some(check_program(rt, alloc, &plan, program, medium, 1, &schedule, workers))
+}
+
+fn is_named_so(alloc: Global, image: &ImageName, text: &str) -> bool {
+    match format!(in alloc; "{image}") {
+        Ok(name) => name.as_str() == text,
+        Err(_) => false,
+    }
+}
+
+fn is_verdict(alloc: Global, verdict: &Verdict<Cause>, wanted: Wanted) -> bool {
+    match (verdict, wanted) {
+        (
+            Verdict::Pass { moments, images },
+            Wanted::Pass {
+                moments: m,
+                images: i,
+            },
+        ) => { *moments == m && *images == i }
+        (
+            Verdict::Fail {
+                moment,
+                image,
+                cause,
+            },
+            Wanted::Fail {
+                moment: m,
+                image: i,
+                cause: c,
+            },
+        ) => *moment == m && *cause == c && is_named_so(alloc, image, i),
+        _ => false,
+    }
+}
+
+fn is_checked_so<R: Threads + Sync + AllocGlobal>(rt: &R, checked: &Checked, workers: u32) -> bool
+    requires { (0 < workers) × (workers ≤ 8) }
+{
+    match (verdict_of(rt, checked, workers), checked.verdict) {
+        (Some(Ok(verdict)), Ok(wanted)) => is_verdict(rt.alloc(), &verdict, wanted),
+        (Some(Err(fault)), Err(wanted)) => fault == wanted,
+        _ => false,
+    }
+}
+
+#[test]
+fn runs_are_checked(rt: HostRuntime) {
+    for checked in &CHECKED {
+        for workers in 1..=8 {
+            assert!(rt;
+                is_checked_so(&rt, checked, workers),
+                "{} {workers}",
+                checked.schedule
+            );
+        }
+    }
+}
+
+/// A source of several pieces and its schedule, moments of its run, from one to another or to the last, and the verdict on them.
+struct Part {
+    pieces: &'static [&'static str],
+    schedule: &'static str,
+    first: u32,
+    last: Option<u32>,
+    verdict: Result<Wanted, VerdictFault>,
+}
+
+const APPEND: &[&str] = &[ENTRY, FENCE, TAIL, FENCE, END];
+
+const NO_FIRST_FENCE: &[&str] = &[ENTRY, TAIL, FENCE, END];
+
+/// Moments of an append, which has eleven, and of one without its first fence.
+static PARTS: [Part; 4] = [
+    Part {
+        pieces: APPEND,
+        schedule: "h0*22",
+        first: 5,
+        last: None,
+        verdict: Ok(Wanted::Pass {
+            moments: 6,
+            images: Some(11),
+        }),
+    },
+    Part {
+        pieces: APPEND,
+        schedule: "h0*22",
+        first: 11,
+        last: Some(99),
+        verdict: Err(VerdictFault::NoSuchMoment),
+    },
+    Part {
+        pieces: NO_FIRST_FENCE,
+        schedule: "h0*21",
+        first: 7,
+        last: Some(9),
+        verdict: Ok(Wanted::Fail {
+            moment: 7,
+            image: "4",
+            cause: Cause::Fault(VolumeFault::Kind),
+        }),
+    },
+    // a wrong mark comes before a moment that isn't there
+    Part {
+        pieces: &[UNKNOWN],
+        schedule: "h0*3",
+        first: 99,
+        last: None,
+        verdict: Err(VerdictFault::Operation(OpFault::Unknown)),
+    },
+];
+
+fn verdict_on_part<R: Threads + Sync + AllocGlobal>(
+    rt: &R,
+    part: &Part,
+    workers: u32,
+) -> Option<Result<Verdict<Cause>, VerdictFault>>
+    requires { (0 < workers) × (workers ≤ 8) }
+{
+    let alloc = rt.alloc();
+    let plan = Plan::read(alloc, ONE_APPEND.as_bytes()).ok()?;
+    let Start {
+        program,
+        medium,
+        schedule,
+    } = start_of(alloc, Some(ONE_APPEND), part.pieces, part.schedule)?;
+    let last = part.last.filter(|last| part.first <= *last);
+    Some(check_moments(
+        rt, alloc, &plan, program, medium, 1, &schedule, part.first, last, workers,
+    ))
+}
+
+fn is_judged_so<R: Threads + Sync + AllocGlobal>(rt: &R, part: &Part, workers: u32) -> bool
+    requires { (0 < workers) × (workers ≤ 8) }
+{
+    match (verdict_on_part(rt, part, workers), part.verdict) {
+        (Some(Ok(verdict)), Ok(wanted)) => is_verdict(rt.alloc(), &verdict, wanted),
+        (Some(Err(fault)), Err(wanted)) => fault == wanted,
+        _ => false,
+    }
+}
+
+#[test]
+fn moments_are_checked_in_parts(rt: HostRuntime) {
+    for (place, part) in PARTS.iter().enumerate() {
+        for workers in 1..=8 {
+            assert!(rt; is_judged_so(&rt, part, workers), "{place} {workers}");
+        }
+    }
+}

@@ -1,8 +1,0 @@
-use Rattle.std.proofs.Common.{◌≡◌, ◌+◌, ◌≤◌, length}
-use Rattle.run_tests.proofs.waste.plain.needless_by_floors.Given as goal
-
-abbrev pub invariant-loop-made : goal.invariant-loop-made
-invariant-loop-made l = record {
-  few : length l.left.items ≤ 65536;
-  place : l.at + length l.run ≡ l.made-index + length l.left.items;
-}

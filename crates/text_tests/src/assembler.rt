@@ -1,0 +1,14 @@
+//! Tests of the assembler's crates, of `object`, `program` and `round_trip`, and of `isa_table`, `decode` and `hart`: sources, their
+//! faults, and the files and bytes that come of them; words, their texts and their effects. They stand apart, so that those crates
+//! aren't proved a second time for them. The crate has tests alone.
+
+mod decimals;
+mod examples;
+mod files;
+mod instructions;
+mod lines;
+mod names;
+mod numbers;
+mod readings;
+mod sources;
+mod tokens;

@@ -1,0 +1,6 @@
+-- The opener stays one for three lines.
+use Rattle.std.proofs.Common.{◌≡◌, length}
+use Rattle.verdict_tests.proofs.images.branches_opened.first_wrong.Given as goal
+
+abbrev pub invariant-loop-place : goal.invariant-loop-place
+invariant-loop-place l = length l.opener ≡ 3

@@ -1,0 +1,13 @@
+//! Tests of `crash_model`, `store_trace`, `crash_image` and `image_check`: small traces, their cuts, images and verdicts. They
+//! stand apart, so that those crates aren't proved a second time for
+//! them. The crate has tests alone.
+
+mod branches_opened;
+mod events;
+mod image_names;
+mod images;
+mod indexes;
+mod models;
+mod second_layout;
+mod traces;
+mod verdicts;

@@ -1,0 +1,211 @@
+//! The branches of a small recovery over three lines.
+
+ghost use Rattle.branches.specs.Branches.{IsWithin};
+ghost use Rattle.std.specs.Prelude.{◌≡◌, ◌≤◌, length};
+
+use branches::{Opened, Opener, Recovery};
+use std::alloc::{AllocError, Global};
+use std::test::Fail;
+
+/// Asks line 0, and lines 1 and 2 only where line 0 has so many stores as the key. Then the image is bad where line 1 has at least
+/// so many stores, and that number is the cause. Each line stands after none of its stores, or more.
+#[derive(Clone, Copy)]
+struct Small {
+    stores: [u32; 3],
+    key: u32,
+    bad: u32,
+}
+
+impl Recovery for Small {
+    ghost use Rattle.std.specs.Prelude.{ℕ, slice_index};
+    ghost use Rattle.std.proofs.Common.{rules};
+    ghost use Rattle.verdict_tests.specs.Asked.{Asks, IsJudged, adaptive, branchwise, shared};
+
+    type Cause = u32;
+
+    type Workspace = ();
+
+    ghost lines = { λ s. 3 };
+
+    ghost low = { λ s l. 0 };
+
+    ghost high = { λ s l. slice_index s.stores l };
+
+    ghost asks = { λ s k ls. Asks s.key k ls };
+
+    ghost judged = { λ s k found. IsJudged s.key s.bad k found };
+
+    ghost fits = { λ s workspace. Unit {0} };
+
+    fn lines(&self) -> u32 {
+        3
+    }
+
+    fn floor(&self, _line: u32) -> u32 {
+        0
+    }
+
+    fn stores(&self, line: u32) -> u32 {
+        self.stores[line as usize]
+    }
+
+    fn workspace(&self, _alloc: Global) -> Result<(), AllocError> {
+        Ok(())
+    }
+
+    fn recover(
+        &self,
+        _alloc: Global,
+        _workspace: &mut (),
+        numbers: &[u32],
+        asked: &mut Vec<u32>,
+    ) -> Result<Option<u32>, AllocError> {
+        asked.push(0)?;
+        if numbers[0] != self.key {
+            return Ok(None);
+        }
+        asked.push(1)?;
+        asked.push(2)?;
+        if self.bad <= numbers[1] {
+            Ok(Some(numbers[1]))
+        } else {
+            Ok(None)
+        }
+    }
+
+    ghost ordered = { λ s l. Prim.search rules };
+
+    ghost adaptive = { λ s. adaptive s.key };
+
+    ghost shared = { λ s. shared s.key };
+
+    ghost branchwise = { λ s c k ls found a h f. branchwise s.key s.bad c k ls found a h f };
+}
+
+/// What an opening came to: over its limit, all cuts pass, or the least bad cut with its cause.
+#[derive(Clone, Copy, Debug, PartialEq, Eq)]
+enum Outcome {
+    Over,
+    Pass,
+    Bad([u32; 3], u32),
+}
+
+/// Openings in turn by one opener: the recovery, the limit, what comes of it, and the lines of four that were asked.
+static OPENINGS: [(Small, u32, Outcome, [bool; 4]); 6] = [
+    // seven branches: line 0 at 1, and the six cuts with line 0 at 0
+    (
+        Small {
+            stores: [1, 2, 1],
+            key: 0,
+            bad: 3,
+        },
+        7,
+        Outcome::Pass,
+        [true, true, true, false],
+    ),
+    (
+        Small {
+            stores: [1, 2, 1],
+            key: 0,
+            bad: 3,
+        },
+        6,
+        Outcome::Over,
+        [true, true, true, false],
+    ),
+    // the cuts from (0, 1, 0) on are bad, and then those with two stores of line 1
+    (
+        Small {
+            stores: [1, 2, 1],
+            key: 0,
+            bad: 1,
+        },
+        7,
+        Outcome::Bad([0, 1, 0], 1),
+        [true, true, true, false],
+    ),
+    // line 0 at 1 alone asks the others
+    (
+        Small {
+            stores: [1, 2, 1],
+            key: 1,
+            bad: 2,
+        },
+        7,
+        Outcome::Bad([1, 2, 0], 2),
+        [true, true, true, false],
+    ),
+    // no cut asks the others
+    (
+        Small {
+            stores: [1, 2, 1],
+            key: 5,
+            bad: 0,
+        },
+        2,
+        Outcome::Pass,
+        [true, false, false, false],
+    ),
+    (
+        Small {
+            stores: [1, 0, 0],
+            key: 5,
+            bad: 0,
+        },
+        1,
+        Outcome::Over,
+        [true, false, false, false],
+    ),
+];
+
+/// What the branches of the recovery come to.
+fn outcome_of(
+    alloc: Global,
+    opener: &mut Opener,
+    recovery: &Small,
+    limit: u32,
+) -> Result<Outcome, AllocError>
+    requires size { length opener.old ≡ 3 }
+    requires some { 1 ≤ limit }
+    ensures { length opener.new ≡ 3 }
+{
+    match opener.open(alloc, recovery, &mut (), limit)? {
+        Opened::Over => Ok(Outcome::Over),
+        Opened::Pass => Ok(Outcome::Pass),
+        Opened::Bad { numbers, cause } => Ok(Outcome::Bad(three(&numbers), cause)),
+    }
+}
+
+/// The first three numbers.
+fn three(numbers: &[u32]) -> [u32; 3] {
+    match numbers {
+        [first, second, third, ..] => [*first, *second, *third],
+        _ => [0; 3],
+    }
+}
+
+/// The place of the first opening that doesn't come to what it should.
+fn first_wrong(alloc: Global) -> Result<Option<usize>, AllocError> {
+    let mut opener = Opener::new(alloc, 3)?;
+    for (place, (recovery, limit, outcome, asked)) in OPENINGS.iter().enumerate() {
+        if *limit == 0 || outcome_of(alloc, &mut opener, recovery, *limit)? != *outcome {
+            return Ok(Some(place));
+        }
+        let were_asked = [
+            opener.was_asked(0),
+            opener.was_asked(1),
+            opener.was_asked(2),
+            opener.was_asked(3),
+        ];
+        if were_asked != *asked {
+            return Ok(Some(place));
+        }
+    }
+    Ok(None)
+}
+
+#[test]
+fn openings_in_turn(rt: HostRuntime) -> Result<(), Fail> {
+    assert_eq!(rt; first_wrong(rt.alloc())?, None);
+    Ok(())
+}

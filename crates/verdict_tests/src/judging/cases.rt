@@ -1,0 +1,180 @@
+//! Runs that are judged, and what is said of them.
+
+ghost use Rattle.std.specs.Prelude.{◌<◌, ◌≤◌, IfSome};
+
+use crate::judging::sources::{READ, REPLACED};
+use crash_test::{default_medium, load_program};
+use image_judge::{Cause, ImageName, Verdict};
+use line_memory::Medium;
+use machine::Schedule;
+use program::Program;
+use program_judge::{Judgement, JudgingFault, judge_program};
+use std::alloc::Global;
+use std::thread::Threads;
+
+/// A verdict that is wanted, the bad image by its name's text.
+#[derive(Clone, Copy)]
+pub(crate) enum Wanted {
+    Pass {
+        moments: u64,
+        images: Option<u64>,
+    },
+    Fail {
+        moment: u32,
+        image: &'static str,
+        cause: Cause,
+    },
+}
+
+/// A source and a recovery routine, both of several pieces, how the source is run and how its moments are judged, from one to another
+/// or to the last one; and the verdict.
+#[derive(Clone, Copy)]
+pub(crate) struct Case {
+    pub(crate) source: &'static [&'static str],
+    pub(crate) schedule: &'static str,
+    pub(crate) harts: u32,
+    pub(crate) recovery: &'static [&'static str],
+    pub(crate) steps: u32,
+    pub(crate) overlapping: bool,
+    pub(crate) first: u32,
+    pub(crate) last: Option<u32>,
+    pub(crate) verdict: Result<Wanted, JudgingFault>,
+}
+
+/// All moments of the record that is replaced.
+pub(crate) const CASE: Case = Case {
+    source: REPLACED,
+    schedule: "h0*27",
+    harts: 1,
+    recovery: READ,
+    steps: 1_000_000,
+    overlapping: false,
+    first: 0,
+    last: None,
+    verdict: Ok(Wanted::Pass {
+        moments: 9,
+        images: Some(16),
+    }),
+};
+
+/// The program of a source.
+pub(crate) fn program_of(alloc: Global, pieces: &[&str]) -> Option<Program> {
+    let mut source = Vec::new(alloc);
+    for piece in pieces {
+        source.extend_from_slice(piece.as_bytes()).ok()?;
+    }
+    load_program(alloc, &source).ok()
+}
+
+/// The verdict of so many workers. None where there is no such program or schedule.
+pub(crate) fn verdict_of<R: Threads + Sync + AllocGlobal>(
+    rt: &R,
+    case: &Case,
+    workers: u32,
+) -> Option<Result<Verdict<Cause>, JudgingFault>>
+    requires { (0 < workers) × (workers ≤ 8) }
+{
+    let recovery = program_of(rt.alloc(), case.recovery)?;
+    verdict_by(rt, case, &recovery, workers)
+}
+
+fn verdict_by<R: Threads + Sync + AllocGlobal>(
+    rt: &R,
+    case: &Case,
+    recovery: &Program,
+    workers: u32,
+) -> Option<Result<Verdict<Cause>, JudgingFault>>
+    requires { (0 < workers) × (workers ≤ 8) }
+{
+    let medium = default_medium(rt.alloc()).ok()?;
+    verdict_over(rt, case, recovery, &medium, workers)
+}
+
+fn verdict_over<R: Threads + Sync + AllocGlobal>(
+    rt: &R,
+    case: &Case,
+    recovery: &Program,
+    medium: &Medium,
+    workers: u32,
+) -> Option<Result<Verdict<Cause>, JudgingFault>>
+    requires { (0 < workers) × (workers ≤ 8) }
+{
+    let alloc = rt.alloc();
+    let schedule = Schedule::read(alloc, case.schedule.as_bytes()).ok()?;
+    let program = program_of(alloc, case.source)?;
+    let judgement = Judgement {
+        recovery,
+        steps: case.steps,
+        overlapping: case.overlapping,
+    };
+    let last = case.last.filter(|last| case.first <= *last);
+    Some(judge_program(
+        rt, alloc, program, medium, case.harts, &schedule, judgement, case.first, last, workers,
+    ))
+}
+
+fn is_named_so(alloc: Global, image: &ImageName, text: &str) -> bool {
+    match format!(in alloc; "{image}") {
+        Ok(name) => name.as_str() == text,
+        Err(_) => false,
+    }
+}
+
+fn is_verdict(alloc: Global, verdict: &Verdict<Cause>, wanted: Wanted) -> bool {
+    match (verdict, wanted) {
+        (
+            Verdict::Pass { moments, images },
+            Wanted::Pass {
+                moments: m,
+                images: i,
+            },
+        ) => { *moments == m && *images == i }
+        (
+            Verdict::Fail {
+                moment,
+                image,
+                cause,
+            },
+            Wanted::Fail {
+                moment: m,
+                image: i,
+                cause: c,
+            },
+        ) => *moment == m && *cause == c && is_named_so(alloc, image, i),
+        _ => false,
+    }
+}
+
+fn is_judged_so<R: Threads + Sync + AllocGlobal>(rt: &R, case: &Case, workers: u32) -> bool
+    requires { (0 < workers) × (workers ≤ 8) }
+{
+    match (verdict_of(rt, case, workers), case.verdict) {
+        (Some(Ok(verdict)), Ok(wanted)) => is_verdict(rt.alloc(), &verdict, wanted),
+        (Some(Err(fault)), Err(wanted)) => fault == wanted,
+        _ => false,
+    }
+}
+
+/// The first case whose verdict is another one.
+fn differing<R: Threads + Sync + AllocGlobal>(rt: &R, cases: &[Case], workers: u32) -> Option<usize>
+    requires { (0 < workers) × (workers ≤ 8) }
+{
+    for (place, case) in cases.iter().enumerate() {
+        if !is_judged_so(rt, case, workers) {
+            return Some(place);
+        }
+    }
+    None
+}
+
+/// The first case whose verdict is another one, for one worker, for two and for eight.
+pub(crate) fn differing_for_any<R: Threads + Sync + AllocGlobal>(
+    rt: &R,
+    cases: &[Case],
+) -> [Option<usize>; 3] {
+    [
+        differing(rt, cases, 1),
+        differing(rt, cases, 2),
+        differing(rt, cases, 8),
+    ]
+}

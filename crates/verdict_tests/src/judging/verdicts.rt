@@ -1,0 +1,74 @@
+//! Runs that are judged. More of them stand in the transcripts of `transcripts`.
+
+use crate::judging::cases::{CASE, Case, Wanted, differing_for_any};
+use crate::judging::sources::{BEGIN, RECORD_UNFENCED, SILENT};
+use image_judge::Cause;
+use judge_marks::MarkFault;
+use machine::StepFault;
+use program_judge::JudgingFault;
+
+/// Operation 1 begins on hart 0, operation 2 on hart 1.
+const TWO_HARTS: Case = Case {
+    source: &[
+        "bnez a0, other\n",
+        BEGIN,
+        "ebreak\nother:\nli a7, 2001\nli a0, 2\necall\nebreak\n",
+    ],
+    schedule: "h0*4 h1*4",
+    harts: 2,
+    recovery: SILENT,
+    ..CASE
+};
+
+static CASES: [Case; 7] = [
+    CASE,
+    // moments past the last one
+    Case {
+        first: 11,
+        last: Some(99),
+        verdict: Ok(Wanted::Pass {
+            moments: 5,
+            images: Some(7),
+        }),
+        ..CASE
+    },
+    // the pointer may come to the medium before its record
+    Case {
+        source: RECORD_UNFENCED,
+        first: 8,
+        last: Some(11),
+        verdict: Ok(Wanted::Fail {
+            moment: 11,
+            image: "3",
+            cause: Cause::Different,
+        }),
+        ..CASE
+    },
+    Case {
+        first: 99,
+        verdict: Err(JudgingFault::NoSuchMoment),
+        ..CASE
+    },
+    Case {
+        verdict: Err(JudgingFault::Marks(MarkFault::Overlaps)),
+        ..TWO_HARTS
+    },
+    Case {
+        overlapping: true,
+        verdict: Ok(Wanted::Pass {
+            moments: 2,
+            images: Some(2),
+        }),
+        ..TWO_HARTS
+    },
+    Case {
+        schedule: "h0*27 e512",
+        verdict: Err(JudgingFault::Step(StepFault::NoSuchLine)),
+        ..CASE
+    },
+];
+
+#[test]
+fn runs_are_judged(rt: HostRuntime) {
+    assert_eq!(rt; differing_for_any(&rt, &CASES), [None; 3]);
+}
