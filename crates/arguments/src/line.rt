@@ -3,7 +3,7 @@
 ghost use Rattle.std.specs.Prelude.{◌≡◌, IfOk, IfErr, MatchOption, [], None, Some, map, string_bytes};
 ghost use Rattle.clap.specs.Words.{fault_of, found_of, kind_of, rows_of, subcommand_of, subcommand_rows_of};
 ghost use Rattle.arguments.specs.Grammar.{novacrash};
-ghost use Rattle.arguments.specs.Line.{IsCommand, IsFault, IsKindOf, IsOf, IsWithinLimits, OnFault, Refuses};
+ghost use Rattle.arguments.specs.Line.{IsCommand, IsFault, IsKindOf, IsOf, IsWithinLimits, JudgesNone, MakesNone, OnFault, Refuses, ReportsNone, RunsNone};
 ghost use Rattle.arguments.specs.declared.asked.Command.{Command as ACommand};
 
 use crate::asked::{Command, LineFault};
@@ -69,27 +69,85 @@ fn asked(alloc: Global, name: &str, found: &ArgMatches<'_>) -> Result<Command, L
     ensures err { IfErr result (OnFault ((command : ACommand)
         → ¬ (IsOf name.now (rows_of (found_of found.now)) command))) }
 {
-    Ok(match name {
-        "asm" => Command::Assemble(assemble(alloc, found)?),
-        "mkfs" => Command::MakeVolume(make_volume(alloc, found)?),
-        "upgrade" => Command::Upgrade(upgrade(alloc, found)?),
-        "run" => Command::Run(run(alloc, found)?),
-        "replay" => Command::Replay(replay(alloc, found)?),
-        "debug" => Command::Debug(debug(alloc, found)?),
-        "trace" => Command::Trace(report(alloc, found)?),
-        "unpersisted" => Command::Unpersisted(report(alloc, found)?),
-        "waste" => Command::Waste(report(alloc, found)?),
-        "images" => Command::Images(images(alloc, found)?),
-        "explain" => Command::Explain(explain(alloc, found)?),
-        "check" => Command::Check(check(alloc, found)?),
-        "judge" => Command::Judge(judge(alloc, found)?),
-        "picture" => Command::Picture(picture(alloc, found)?),
-        "interleave" => Command::Interleave(interleave(alloc, found)?),
-        "show" => Command::Show(show(alloc, found)?),
-        "listing" => Command::Listing(listing(alloc, found)?),
-        "code" => Command::Code(code(alloc, found)?),
-        _ => return Err(unknown(alloc)?),
-    })
+    match name {
+        "asm" => Ok(Command::Assemble(assemble(alloc, found)?)),
+        "mkfs" => Ok(Command::MakeVolume(make_volume(alloc, found)?)),
+        "upgrade" => Ok(Command::Upgrade(upgrade(alloc, found)?)),
+        _ => asked_of_runs(alloc, name, found),
+    }
+}
+
+/// The command of a subcommand that makes no file alone.
+fn asked_of_runs(alloc: Global, name: &str, found: &ArgMatches<'_>) -> Result<Command, LineFault>
+    requires making { MakesNone name.now }
+    ensures ok { IfOk result (IsOf name.now (rows_of (found_of found.now))) }
+    ensures within { IfOk result IsWithinLimits }
+    ensures err { IfErr result (OnFault ((command : ACommand)
+        → ¬ (IsOf name.now (rows_of (found_of found.now)) command))) }
+{
+    match name {
+        "run" => Ok(Command::Run(run(alloc, found)?)),
+        "replay" => Ok(Command::Replay(replay(alloc, found)?)),
+        "debug" => Ok(Command::Debug(debug(alloc, found)?)),
+        _ => asked_of_reports(alloc, name, found),
+    }
+}
+
+/// The same of one that runs no program for itself either.
+fn asked_of_reports(alloc: Global, name: &str, found: &ArgMatches<'_>) -> Result<Command, LineFault>
+    requires making { MakesNone name.now }
+    requires running { RunsNone name.now }
+    ensures ok { IfOk result (IsOf name.now (rows_of (found_of found.now))) }
+    ensures within { IfOk result IsWithinLimits }
+    ensures err { IfErr result (OnFault ((command : ACommand)
+        → ¬ (IsOf name.now (rows_of (found_of found.now)) command))) }
+{
+    match name {
+        "trace" => Ok(Command::Trace(report(alloc, found)?)),
+        "unpersisted" => Ok(Command::Unpersisted(report(alloc, found)?)),
+        "waste" => Ok(Command::Waste(report(alloc, found)?)),
+        "images" => Ok(Command::Images(images(alloc, found)?)),
+        "explain" => Ok(Command::Explain(explain(alloc, found)?)),
+        _ => asked_of_verdicts(alloc, name, found),
+    }
+}
+
+/// The same of one that doesn't tell of a run either.
+fn asked_of_verdicts(alloc: Global, name: &str, found: &ArgMatches<'_>) -> Result<Command, LineFault>
+    requires making { MakesNone name.now }
+    requires running { RunsNone name.now }
+    requires reporting { ReportsNone name.now }
+    ensures ok { IfOk result (IsOf name.now (rows_of (found_of found.now))) }
+    ensures within { IfOk result IsWithinLimits }
+    ensures err { IfErr result (OnFault ((command : ACommand)
+        → ¬ (IsOf name.now (rows_of (found_of found.now)) command))) }
+{
+    match name {
+        "check" => Ok(Command::Check(check(alloc, found)?)),
+        "judge" => Ok(Command::Judge(judge(alloc, found)?)),
+        "picture" => Ok(Command::Picture(picture(alloc, found)?)),
+        "interleave" => Ok(Command::Interleave(interleave(alloc, found)?)),
+        _ => asked_of_files(alloc, name, found),
+    }
+}
+
+/// The same of one that does none of these.
+fn asked_of_files(alloc: Global, name: &str, found: &ArgMatches<'_>) -> Result<Command, LineFault>
+    requires making { MakesNone name.now }
+    requires running { RunsNone name.now }
+    requires reporting { ReportsNone name.now }
+    requires judging { JudgesNone name.now }
+    ensures ok { IfOk result (IsOf name.now (rows_of (found_of found.now))) }
+    ensures within { IfOk result IsWithinLimits }
+    ensures err { IfErr result (OnFault ((command : ACommand)
+        → ¬ (IsOf name.now (rows_of (found_of found.now)) command))) }
+{
+    match name {
+        "show" => Ok(Command::Show(show(alloc, found)?)),
+        "listing" => Ok(Command::Listing(listing(alloc, found)?)),
+        "code" => Ok(Command::Code(code(alloc, found)?)),
+        _ => Err(unknown(alloc)?),
+    }
 }
 
 /// The command that a line asks for. `words` begins with the program's name.
