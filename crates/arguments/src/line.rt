@@ -9,7 +9,7 @@ ghost use Rattle.arguments.specs.declared.asked.Command.{Command as ACommand};
 use crate::asked::{Command, LineFault};
 use crate::commands::{
     assemble, check, code, debug, explain, images, interleave, judge, listing, make_volume,
-    picture, replay, report, run, show, upgrade,
+    picture, replay, run, show, trace, unpersisted, upgrade, waste,
 };
 use crate::grammar::grammar;
 use clap::ArgMatches;
@@ -70,9 +70,9 @@ fn asked(alloc: Global, name: &str, found: &ArgMatches<'_>) -> Result<Command, L
         → ¬ (IsOf name.now (rows_of (found_of found.now)) command))) }
 {
     match name {
-        "asm" => Ok(Command::Assemble(assemble(alloc, found)?)),
-        "mkfs" => Ok(Command::MakeVolume(make_volume(alloc, found)?)),
-        "upgrade" => Ok(Command::Upgrade(upgrade(alloc, found)?)),
+        "asm" => assemble(alloc, found),
+        "mkfs" => make_volume(alloc, found),
+        "upgrade" => upgrade(alloc, found),
         _ => asked_of_runs(alloc, name, found),
     }
 }
@@ -86,9 +86,9 @@ fn asked_of_runs(alloc: Global, name: &str, found: &ArgMatches<'_>) -> Result<Co
         → ¬ (IsOf name.now (rows_of (found_of found.now)) command))) }
 {
     match name {
-        "run" => Ok(Command::Run(run(alloc, found)?)),
-        "replay" => Ok(Command::Replay(replay(alloc, found)?)),
-        "debug" => Ok(Command::Debug(debug(alloc, found)?)),
+        "run" => run(alloc, found),
+        "replay" => replay(alloc, found),
+        "debug" => debug(alloc, found),
         _ => asked_of_reports(alloc, name, found),
     }
 }
@@ -103,17 +103,21 @@ fn asked_of_reports(alloc: Global, name: &str, found: &ArgMatches<'_>) -> Result
         → ¬ (IsOf name.now (rows_of (found_of found.now)) command))) }
 {
     match name {
-        "trace" => Ok(Command::Trace(report(alloc, found)?)),
-        "unpersisted" => Ok(Command::Unpersisted(report(alloc, found)?)),
-        "waste" => Ok(Command::Waste(report(alloc, found)?)),
-        "images" => Ok(Command::Images(images(alloc, found)?)),
-        "explain" => Ok(Command::Explain(explain(alloc, found)?)),
+        "trace" => trace(alloc, found),
+        "unpersisted" => unpersisted(alloc, found),
+        "waste" => waste(alloc, found),
+        "images" => images(alloc, found),
+        "explain" => explain(alloc, found),
         _ => asked_of_verdicts(alloc, name, found),
     }
 }
 
 /// The same of one that doesn't tell of a run either.
-fn asked_of_verdicts(alloc: Global, name: &str, found: &ArgMatches<'_>) -> Result<Command, LineFault>
+fn asked_of_verdicts(
+    alloc: Global,
+    name: &str,
+    found: &ArgMatches<'_>,
+) -> Result<Command, LineFault>
     requires making { MakesNone name.now }
     requires running { RunsNone name.now }
     requires reporting { ReportsNone name.now }
@@ -123,10 +127,10 @@ fn asked_of_verdicts(alloc: Global, name: &str, found: &ArgMatches<'_>) -> Resul
         → ¬ (IsOf name.now (rows_of (found_of found.now)) command))) }
 {
     match name {
-        "check" => Ok(Command::Check(check(alloc, found)?)),
-        "judge" => Ok(Command::Judge(judge(alloc, found)?)),
-        "picture" => Ok(Command::Picture(picture(alloc, found)?)),
-        "interleave" => Ok(Command::Interleave(interleave(alloc, found)?)),
+        "check" => check(alloc, found),
+        "judge" => judge(alloc, found),
+        "picture" => picture(alloc, found),
+        "interleave" => interleave(alloc, found),
         _ => asked_of_files(alloc, name, found),
     }
 }
@@ -143,9 +147,9 @@ fn asked_of_files(alloc: Global, name: &str, found: &ArgMatches<'_>) -> Result<C
         → ¬ (IsOf name.now (rows_of (found_of found.now)) command))) }
 {
     match name {
-        "show" => Ok(Command::Show(show(alloc, found)?)),
-        "listing" => Ok(Command::Listing(listing(alloc, found)?)),
-        "code" => Ok(Command::Code(code(alloc, found)?)),
+        "show" => show(alloc, found),
+        "listing" => listing(alloc, found),
+        "code" => code(alloc, found),
         _ => Err(unknown(alloc)?),
     }
 }
