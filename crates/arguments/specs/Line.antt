@@ -178,7 +178,7 @@ IsOf name rows (Show command) = (name ≡ codes "show") × IsShow rows command
 IsOf name rows (Listing command) = (name ≡ codes "listing") × IsListing rows command
 IsOf name rows (Code command) = (name ≡ codes "code") × IsCode rows command
 
--- the name of no subcommand that makes a file and runs nothing
+-- the name of no subcommand that makes a file from others
 pub record MakesNone (name : Text) : Type 0 where
   pub asm : name ≢ codes "asm"
   pub mkfs : name ≢ codes "mkfs"
@@ -191,19 +191,17 @@ pub record RunsNone (name : Text) : Type 0 where
   pub debug : name ≢ codes "debug"
 
 -- the name of no subcommand that tells of a run by a schedule
-pub record ReportsNone (name : Text) : Type 0 where
+pub record TellsNone (name : Text) : Type 0 where
   pub trace : name ≢ codes "trace"
   pub unpersisted : name ≢ codes "unpersisted"
   pub waste : name ≢ codes "waste"
   pub images : name ≢ codes "images"
   pub explain : name ≢ codes "explain"
 
--- the name of no subcommand that judges a run, draws one or makes its schedule
+-- the name of no subcommand that judges a run by a schedule
 pub record JudgesNone (name : Text) : Type 0 where
   pub check : name ≢ codes "check"
   pub judge : name ≢ codes "judge"
-  pub picture : name ≢ codes "picture"
-  pub interleave : name ≢ codes "interleave"
 
 -- the command that the subcommand of a line asks for
 abbrev pub IsAsked : Option (Text × List Row) → Command → Type 0

@@ -3,7 +3,7 @@
 ghost use Rattle.std.specs.Prelude.{◌≡◌, IfOk, IfErr, MatchOption, [], None, Some, map, string_bytes};
 ghost use Rattle.clap.specs.Words.{fault_of, found_of, kind_of, rows_of, subcommand_of, subcommand_rows_of};
 ghost use Rattle.arguments.specs.Grammar.{novacrash};
-ghost use Rattle.arguments.specs.Line.{IsCommand, IsFault, IsKindOf, IsOf, IsWithinLimits, JudgesNone, MakesNone, OnFault, Refuses, ReportsNone, RunsNone};
+ghost use Rattle.arguments.specs.Line.{IsCommand, IsFault, IsKindOf, IsOf, IsWithinLimits, JudgesNone, MakesNone, OnFault, Refuses, RunsNone, TellsNone};
 ghost use Rattle.arguments.specs.declared.asked.Command.{Command as ACommand};
 
 use crate::asked::{Command, LineFault};
@@ -73,12 +73,12 @@ fn asked(alloc: Global, name: &str, found: &ArgMatches<'_>) -> Result<Command, L
         "asm" => assemble(alloc, found),
         "mkfs" => make_volume(alloc, found),
         "upgrade" => upgrade(alloc, found),
-        _ => asked_of_runs(alloc, name, found),
+        _ => asked_to_run(alloc, name, found),
     }
 }
 
-/// The command of a subcommand that makes no file alone.
-fn asked_of_runs(alloc: Global, name: &str, found: &ArgMatches<'_>) -> Result<Command, LineFault>
+/// The command of a subcommand that makes no file from others.
+fn asked_to_run(alloc: Global, name: &str, found: &ArgMatches<'_>) -> Result<Command, LineFault>
     requires making { MakesNone name.now }
     ensures ok { IfOk result (IsOf name.now (rows_of (found_of found.now))) }
     ensures within { IfOk result IsWithinLimits }
@@ -89,12 +89,12 @@ fn asked_of_runs(alloc: Global, name: &str, found: &ArgMatches<'_>) -> Result<Co
         "run" => run(alloc, found),
         "replay" => replay(alloc, found),
         "debug" => debug(alloc, found),
-        _ => asked_of_reports(alloc, name, found),
+        _ => asked_to_tell(alloc, name, found),
     }
 }
 
-/// The same of one that runs no program for itself either.
-fn asked_of_reports(alloc: Global, name: &str, found: &ArgMatches<'_>) -> Result<Command, LineFault>
+/// The command of one that doesn't run a program for itself either.
+fn asked_to_tell(alloc: Global, name: &str, found: &ArgMatches<'_>) -> Result<Command, LineFault>
     requires making { MakesNone name.now }
     requires running { RunsNone name.now }
     ensures ok { IfOk result (IsOf name.now (rows_of (found_of found.now))) }
@@ -108,19 +108,15 @@ fn asked_of_reports(alloc: Global, name: &str, found: &ArgMatches<'_>) -> Result
         "waste" => waste(alloc, found),
         "images" => images(alloc, found),
         "explain" => explain(alloc, found),
-        _ => asked_of_verdicts(alloc, name, found),
+        _ => asked_to_judge(alloc, name, found),
     }
 }
 
-/// The same of one that doesn't tell of a run either.
-fn asked_of_verdicts(
-    alloc: Global,
-    name: &str,
-    found: &ArgMatches<'_>,
-) -> Result<Command, LineFault>
+/// The command of one that doesn't tell of a run by a schedule either.
+fn asked_to_judge(alloc: Global, name: &str, found: &ArgMatches<'_>) -> Result<Command, LineFault>
     requires making { MakesNone name.now }
     requires running { RunsNone name.now }
-    requires reporting { ReportsNone name.now }
+    requires telling { TellsNone name.now }
     ensures ok { IfOk result (IsOf name.now (rows_of (found_of found.now))) }
     ensures within { IfOk result IsWithinLimits }
     ensures err { IfErr result (OnFault ((command : ACommand)
@@ -129,17 +125,15 @@ fn asked_of_verdicts(
     match name {
         "check" => check(alloc, found),
         "judge" => judge(alloc, found),
-        "picture" => picture(alloc, found),
-        "interleave" => interleave(alloc, found),
-        _ => asked_of_files(alloc, name, found),
+        _ => asked_to_show(alloc, name, found),
     }
 }
 
-/// The same of one that does none of these.
-fn asked_of_files(alloc: Global, name: &str, found: &ArgMatches<'_>) -> Result<Command, LineFault>
+/// The command of one that doesn't judge a run either.
+fn asked_to_show(alloc: Global, name: &str, found: &ArgMatches<'_>) -> Result<Command, LineFault>
     requires making { MakesNone name.now }
     requires running { RunsNone name.now }
-    requires reporting { ReportsNone name.now }
+    requires telling { TellsNone name.now }
     requires judging { JudgesNone name.now }
     ensures ok { IfOk result (IsOf name.now (rows_of (found_of found.now))) }
     ensures within { IfOk result IsWithinLimits }
@@ -147,6 +141,8 @@ fn asked_of_files(alloc: Global, name: &str, found: &ArgMatches<'_>) -> Result<C
         → ¬ (IsOf name.now (rows_of (found_of found.now)) command))) }
 {
     match name {
+        "picture" => picture(alloc, found),
+        "interleave" => interleave(alloc, found),
         "show" => show(alloc, found),
         "listing" => listing(alloc, found),
         "code" => code(alloc, found),
