@@ -182,20 +182,26 @@ is_none (s ∷ shapes) = false
 abbrev pub line : List Shape → App
 line shapes = record { top = record bare { is_leaf = is_none shapes }; subs = shapes }
 
--- the subcommands that make files and run programs, those that tell of a run by a schedule and judge it, and those that draw a run, show files,
--- and tell of what is printed
+-- the subcommands that make files, those that run programs, those that tell of a run by a schedule, those that judge it, and those that draw a run,
+-- show files, and tell of what is printed
 unfoldable pub making : List Shape
-making = assemble_shape ∷ make_volume_shape ∷ upgrade_shape ∷ run_shape ∷ replay_shape ∷ debug_shape ∷ []
+making = assemble_shape ∷ make_volume_shape ∷ upgrade_shape ∷ []
+
+unfoldable pub running : List Shape
+running = run_shape ∷ replay_shape ∷ debug_shape ∷ []
+
+unfoldable pub telling : List Shape
+telling = trace_shape ∷ unpersisted_shape ∷ waste_shape ∷ images_shape ∷ explain_shape ∷ []
 
 unfoldable pub judging : List Shape
-judging = trace_shape ∷ unpersisted_shape ∷ waste_shape ∷ images_shape ∷ explain_shape ∷ check_shape ∷ judge_shape ∷ []
+judging = check_shape ∷ judge_shape ∷ []
 
 unfoldable pub showing : List Shape
 showing = picture_shape ∷ interleave_shape ∷ show_shape ∷ listing_shape ∷ code_shape ∷ []
 
 -- the whole line
 unfoldable pub novacrash : App
-novacrash = line ((making ++ judging) ++ showing)
+novacrash = line ((((making ++ running) ++ telling) ++ judging) ++ showing)
 
 -- the rule of an argument of the table
 abbrev pub rule : Argument → Rule

@@ -178,6 +178,31 @@ IsOf name rows (Show command) = (name ≡ codes "show") × IsShow rows command
 IsOf name rows (Listing command) = (name ≡ codes "listing") × IsListing rows command
 IsOf name rows (Code command) = (name ≡ codes "code") × IsCode rows command
 
+-- the name of no subcommand that makes a file from others
+pub record MakesNone (name : Text) : Type 0 where
+  pub asm : name ≢ codes "asm"
+  pub mkfs : name ≢ codes "mkfs"
+  pub upgrade : name ≢ codes "upgrade"
+
+-- the name of no subcommand that runs a program for itself
+pub record RunsNone (name : Text) : Type 0 where
+  pub run : name ≢ codes "run"
+  pub replay : name ≢ codes "replay"
+  pub debug : name ≢ codes "debug"
+
+-- the name of no subcommand that tells of a run by a schedule
+pub record TellsNone (name : Text) : Type 0 where
+  pub trace : name ≢ codes "trace"
+  pub unpersisted : name ≢ codes "unpersisted"
+  pub waste : name ≢ codes "waste"
+  pub images : name ≢ codes "images"
+  pub explain : name ≢ codes "explain"
+
+-- the name of no subcommand that judges a run by a schedule
+pub record JudgesNone (name : Text) : Type 0 where
+  pub check : name ≢ codes "check"
+  pub judge : name ≢ codes "judge"
+
 -- the command that the subcommand of a line asks for
 abbrev pub IsAsked : Option (Text × List Row) → Command → Type 0
 IsAsked None command = ⊥

@@ -4,7 +4,7 @@ ghost use Rattle.std.specs.Prelude.{◌<◌, ◌^◌, ℕ, Bool, IfOk, IfErr, If
 ghost use Rattle.std.specs.declared.alloc.Global.{Global as AGlobal};
 ghost use Rattle.clap.specs.Words.{found_of, rows_of};
 ghost use Rattle.arguments.specs.Line.{IsAssemble, IsCheck, IsCode, IsDebug, IsExplain, IsImages, IsInterleave, IsJudge, IsListing, IsMakeVolume, IsPicture, IsReplay, IsReport, IsRun, IsScheduledRun, IsShow, IsUpgrade};
-ghost use Rattle.arguments.specs.Line.{IsCachedMachine, IsJudgedRun, IsMachineWithin, IsWithin, OnFault};
+ghost use Rattle.arguments.specs.Line.{IsCachedMachine, IsJudgedRun, IsMachineWithin, IsOf, IsWithin, IsWithinLimits, OnFault};
 ghost use Rattle.arguments.specs.Spans.{IsUpward};
 ghost use Rattle.arguments.specs.Started.{IsStarted};
 ghost use Rattle.arguments.specs.Values.{IsWord};
@@ -30,10 +30,10 @@ ghost use Rattle.arguments.specs.declared.asked.Moments.{Moments as SomeMoments}
 ghost use Rattle.arguments.specs.declared.asked.ScheduledRun.{ScheduledRun as AScheduledRun};
 
 use crate::asked::{
-    AssembleCommand, CheckCommand, CodeCommand, DebugCommand, ExplainCommand, ImagesCommand,
-    InterleaveCommand, JudgeCommand, LineFault, ListingCommand, MachineOptions, MakeVolumeCommand,
-    Moments, PictureCommand, ReplayCommand, ReportCommand, RunCommand, ScheduledRun, ShowCommand,
-    UpgradeCommand,
+    AssembleCommand, CheckCommand, CodeCommand, Command, DebugCommand, ExplainCommand,
+    ImagesCommand, InterleaveCommand, JudgeCommand, LineFault, ListingCommand, MachineOptions,
+    MakeVolumeCommand, Moments, PictureCommand, ReplayCommand, ReportCommand, RunCommand,
+    ScheduledRun, ShowCommand, UpgradeCommand,
 };
 use crate::machine::{cached_machine, whole_machine};
 use crate::moments::optional_moments;
@@ -143,8 +143,9 @@ fn judged_run(alloc: Global, found: &ArgMatches<'_>) -> Result<JudgedRun, LineFa
 }
 
 /// What `asm` is to do.
-pub(crate) fn assemble(alloc: Global, found: &ArgMatches<'_>) -> Result<AssembleCommand, LineFault>
-    ensures ok { IfOk result (IsAssemble (rows_of (found_of found.now))) }
+pub(crate) fn assemble(alloc: Global, found: &ArgMatches<'_>) -> Result<Command, LineFault>
+    ensures ok { IfOk result (IsOf (codes "asm") (rows_of (found_of found.now))) }
+    ensures within { IfOk result IsWithinLimits }
     ensures err { IfErr result (OnFault ((command : AAssembleCommand)
         → ¬ (IsAssemble (rows_of (found_of found.now)) command))) }
 {
@@ -155,46 +156,42 @@ pub(crate) fn assemble(alloc: Global, found: &ArgMatches<'_>) -> Result<Assemble
             "error: OBJECT has the name of SOURCE, which would be lost\n"
         )?));
     }
-    Ok(AssembleCommand { source, object })
+    Ok(Command::Assemble(AssembleCommand { source, object }))
 }
 
 /// What `mkfs` is to do.
-pub(crate) fn make_volume(
-    alloc: Global,
-    found: &ArgMatches<'_>,
-) -> Result<MakeVolumeCommand, LineFault>
-    ensures ok { IfOk result (IsMakeVolume (rows_of (found_of found.now))) }
-    ensures within { IfOk result (λ command. command.lines < 2 ^ 32) }
+pub(crate) fn make_volume(alloc: Global, found: &ArgMatches<'_>) -> Result<Command, LineFault>
+    ensures ok { IfOk result (IsOf (codes "mkfs") (rows_of (found_of found.now))) }
+    ensures within { IfOk result IsWithinLimits }
     ensures err { IfErr result (OnFault ((command : AMakeVolumeCommand)
         → ¬ (IsMakeVolume (rows_of (found_of found.now)) command))) }
 {
-    Ok(MakeVolumeCommand {
+    Ok(Command::MakeVolume(MakeVolumeCommand {
         lines: number_word(alloc, found, "LINES")?,
         plan: word(alloc, found, "PLAN")?,
         medium: word(alloc, found, "MEDIUM")?,
-    })
+    }))
 }
 
 /// What `upgrade` is to do.
-pub(crate) fn upgrade(alloc: Global, found: &ArgMatches<'_>) -> Result<UpgradeCommand, LineFault>
-    ensures ok { IfOk result (IsUpgrade (rows_of (found_of found.now))) }
-    ensures within { IfOk result (λ command. (command.pages < 2 ^ 32) × (command.lines < 2 ^ 32)) }
+pub(crate) fn upgrade(alloc: Global, found: &ArgMatches<'_>) -> Result<Command, LineFault>
+    ensures ok { IfOk result (IsOf (codes "upgrade") (rows_of (found_of found.now))) }
+    ensures within { IfOk result IsWithinLimits }
     ensures err { IfErr result (OnFault ((command : AnUpgradeCommand)
         → ¬ (IsUpgrade (rows_of (found_of found.now)) command))) }
 {
-    Ok(UpgradeCommand {
+    Ok(Command::Upgrade(UpgradeCommand {
         pages: number_word(alloc, found, "PAGES")?,
         lines: number_word(alloc, found, "LINES")?,
         medium: word(alloc, found, "OLD")?,
         upgraded: word(alloc, found, "NEW")?,
-    })
+    }))
 }
 
 /// What `run` is to do.
-pub(crate) fn run(alloc: Global, found: &ArgMatches<'_>) -> Result<RunCommand, LineFault>
-    ensures ok { IfOk result (IsRun (rows_of (found_of found.now))) }
-    ensures within { IfOk result (λ command. IsMachineWithin command.machine
-        × IsWithin 1 500000000 command.steps) }
+pub(crate) fn run(alloc: Global, found: &ArgMatches<'_>) -> Result<Command, LineFault>
+    ensures ok { IfOk result (IsOf (codes "run") (rows_of (found_of found.now))) }
+    ensures within { IfOk result IsWithinLimits }
     ensures err { IfErr result (OnFault ((command : ARunCommand)
         → ¬ (IsRun (rows_of (found_of found.now)) command))) }
 {
@@ -202,46 +199,46 @@ pub(crate) fn run(alloc: Global, found: &ArgMatches<'_>) -> Result<RunCommand, L
     let steps = number(alloc, found, &STEPS)?;
     let record = optional(alloc, found, "record")?;
     let out = optional(alloc, found, "out")?;
-    Ok(RunCommand {
+    Ok(Command::Run(RunCommand {
         program: started.program,
         machine: started.machine,
         steps,
         record,
         out,
-    })
+    }))
 }
 
 /// What `replay` is to do.
-pub(crate) fn replay(alloc: Global, found: &ArgMatches<'_>) -> Result<ReplayCommand, LineFault>
-    ensures ok { IfOk result (IsReplay (rows_of (found_of found.now))) }
-    ensures within { IfOk result (λ command. IsMachineWithin command.machine) }
+pub(crate) fn replay(alloc: Global, found: &ArgMatches<'_>) -> Result<Command, LineFault>
+    ensures ok { IfOk result (IsOf (codes "replay") (rows_of (found_of found.now))) }
+    ensures within { IfOk result IsWithinLimits }
     ensures err { IfErr result (OnFault ((command : AReplayCommand)
         → ¬ (IsReplay (rows_of (found_of found.now)) command))) }
 {
     let started = start_of(alloc, found)?;
     let schedule = word(alloc, found, "SCHEDULE")?;
     let out = optional(alloc, found, "out")?;
-    Ok(ReplayCommand {
+    Ok(Command::Replay(ReplayCommand {
         program: started.program,
         schedule,
         machine: started.machine,
         out,
-    })
+    }))
 }
 
 /// What `debug` is to do.
-pub(crate) fn debug(alloc: Global, found: &ArgMatches<'_>) -> Result<DebugCommand, LineFault>
-    ensures ok { IfOk result (IsDebug (rows_of (found_of found.now))) }
-    ensures within { IfOk result (λ command. IsMachineWithin command.machine) }
+pub(crate) fn debug(alloc: Global, found: &ArgMatches<'_>) -> Result<Command, LineFault>
+    ensures ok { IfOk result (IsOf (codes "debug") (rows_of (found_of found.now))) }
+    ensures within { IfOk result IsWithinLimits }
     ensures err { IfErr result (OnFault ((command : ADebugCommand)
         → ¬ (IsDebug (rows_of (found_of found.now)) command))) }
 {
     let Started { program, machine } = start_of(alloc, found)?;
-    Ok(DebugCommand { program, machine })
+    Ok(Command::Debug(DebugCommand { program, machine }))
 }
 
 /// What `trace`, `unpersisted` or `waste` is to do.
-pub(crate) fn report(alloc: Global, found: &ArgMatches<'_>) -> Result<ReportCommand, LineFault>
+fn report(alloc: Global, found: &ArgMatches<'_>) -> Result<ReportCommand, LineFault>
     ensures ok { IfOk result (IsReport (rows_of (found_of found.now))) }
     ensures within { IfOk result (λ command. IsMachineWithin command.run.machine) }
     ensures err { IfErr result (OnFault ((command : AReportCommand)
@@ -253,46 +250,74 @@ pub(crate) fn report(alloc: Global, found: &ArgMatches<'_>) -> Result<ReportComm
     })
 }
 
+/// What `trace` is to do.
+pub(crate) fn trace(alloc: Global, found: &ArgMatches<'_>) -> Result<Command, LineFault>
+    ensures ok { IfOk result (IsOf (codes "trace") (rows_of (found_of found.now))) }
+    ensures within { IfOk result IsWithinLimits }
+    ensures err { IfErr result (OnFault ((command : AReportCommand)
+        → ¬ (IsReport (rows_of (found_of found.now)) command))) }
+{
+    Ok(Command::Trace(report(alloc, found)?))
+}
+
+/// What `unpersisted` is to do.
+pub(crate) fn unpersisted(alloc: Global, found: &ArgMatches<'_>) -> Result<Command, LineFault>
+    ensures ok { IfOk result (IsOf (codes "unpersisted") (rows_of (found_of found.now))) }
+    ensures within { IfOk result IsWithinLimits }
+    ensures err { IfErr result (OnFault ((command : AReportCommand)
+        → ¬ (IsReport (rows_of (found_of found.now)) command))) }
+{
+    Ok(Command::Unpersisted(report(alloc, found)?))
+}
+
+/// What `waste` is to do.
+pub(crate) fn waste(alloc: Global, found: &ArgMatches<'_>) -> Result<Command, LineFault>
+    ensures ok { IfOk result (IsOf (codes "waste") (rows_of (found_of found.now))) }
+    ensures within { IfOk result IsWithinLimits }
+    ensures err { IfErr result (OnFault ((command : AReportCommand)
+        → ¬ (IsReport (rows_of (found_of found.now)) command))) }
+{
+    Ok(Command::Waste(report(alloc, found)?))
+}
+
 /// What `images` is to do.
-pub(crate) fn images(alloc: Global, found: &ArgMatches<'_>) -> Result<ImagesCommand, LineFault>
-    ensures ok { IfOk result (IsImages (rows_of (found_of found.now))) }
-    ensures within { IfOk result (λ command. IsMachineWithin command.run.machine × (command.moment < 2 ^ 32)) }
+pub(crate) fn images(alloc: Global, found: &ArgMatches<'_>) -> Result<Command, LineFault>
+    ensures ok { IfOk result (IsOf (codes "images") (rows_of (found_of found.now))) }
+    ensures within { IfOk result IsWithinLimits }
     ensures err { IfErr result (OnFault ((command : AImagesCommand)
         → ¬ (IsImages (rows_of (found_of found.now)) command))) }
 {
-    Ok(ImagesCommand {
+    Ok(Command::Images(ImagesCommand {
         json: flag(found, "json"),
         moment: number_word(alloc, found, "MOMENT")?,
         run: scheduled_run(alloc, found)?,
-    })
+    }))
 }
 
 /// What `explain` is to do.
-pub(crate) fn explain(alloc: Global, found: &ArgMatches<'_>) -> Result<ExplainCommand, LineFault>
-    ensures ok { IfOk result (IsExplain (rows_of (found_of found.now))) }
-    ensures within { IfOk result (λ command. IsMachineWithin command.run.machine
-        × (command.moment < 2 ^ 32) × IsProper command.image) }
+pub(crate) fn explain(alloc: Global, found: &ArgMatches<'_>) -> Result<Command, LineFault>
+    ensures ok { IfOk result (IsOf (codes "explain") (rows_of (found_of found.now))) }
+    ensures within { IfOk result IsWithinLimits }
     ensures err { IfErr result (OnFault ((command : AExplainCommand)
         → ¬ (IsExplain (rows_of (found_of found.now)) command))) }
 {
-    Ok(ExplainCommand {
+    Ok(Command::Explain(ExplainCommand {
         moment: number_word(alloc, found, "MOMENT")?,
         image: image_word(alloc, found, "IMAGE")?,
         run: scheduled_run(alloc, found)?,
-    })
+    }))
 }
 
 /// What `check` is to do.
-pub(crate) fn check(alloc: Global, found: &ArgMatches<'_>) -> Result<CheckCommand, LineFault>
-    ensures ok { IfOk result (IsCheck (rows_of (found_of found.now))) }
-    ensures within { IfOk result (λ command. IsMachineWithin command.run.machine
-        × IsWithin 1 8 command.workers × IfSome command.moments IsUpward) }
+pub(crate) fn check(alloc: Global, found: &ArgMatches<'_>) -> Result<Command, LineFault>
+    ensures ok { IfOk result (IsOf (codes "check") (rows_of (found_of found.now))) }
+    ensures within { IfOk result IsWithinLimits }
     ensures err { IfErr result (OnFault ((command : ACheckCommand)
         → ¬ (IsCheck (rows_of (found_of found.now)) command))) }
 {
     let plan = word(alloc, found, "PLAN")?;
     let judged = judged_run(alloc, found)?;
-    Ok(CheckCommand {
+    Ok(Command::Check(CheckCommand {
         plan,
         run: judged.run,
         workers: judged.workers,
@@ -300,14 +325,13 @@ pub(crate) fn check(alloc: Global, found: &ArgMatches<'_>) -> Result<CheckComman
         why: judged.why,
         json: judged.json,
         progress: judged.progress,
-    })
+    }))
 }
 
 /// What `judge` is to do.
-pub(crate) fn judge(alloc: Global, found: &ArgMatches<'_>) -> Result<JudgeCommand, LineFault>
-    ensures ok { IfOk result (IsJudge (rows_of (found_of found.now))) }
-    ensures within { IfOk result (λ command. IsMachineWithin command.run.machine
-        × IsWithin 1 500000000 command.steps × IsWithin 1 8 command.workers × IfSome command.moments IsUpward) }
+pub(crate) fn judge(alloc: Global, found: &ArgMatches<'_>) -> Result<Command, LineFault>
+    ensures ok { IfOk result (IsOf (codes "judge") (rows_of (found_of found.now))) }
+    ensures within { IfOk result IsWithinLimits }
     ensures err { IfErr result (OnFault ((command : AJudgeCommand)
         → ¬ (IsJudge (rows_of (found_of found.now)) command))) }
 {
@@ -315,7 +339,7 @@ pub(crate) fn judge(alloc: Global, found: &ArgMatches<'_>) -> Result<JudgeComman
     let steps = number(alloc, found, &RECOVERY_STEPS)?;
     let recovery = word(alloc, found, "RECOVERY")?;
     let judged = judged_run(alloc, found)?;
-    Ok(JudgeCommand {
+    Ok(Command::Judge(JudgeCommand {
         recovery,
         run: judged.run,
         steps,
@@ -325,76 +349,73 @@ pub(crate) fn judge(alloc: Global, found: &ArgMatches<'_>) -> Result<JudgeComman
         why: judged.why,
         json: judged.json,
         progress: judged.progress,
-    })
+    }))
 }
 
 /// What `picture` is to do.
-pub(crate) fn picture(alloc: Global, found: &ArgMatches<'_>) -> Result<PictureCommand, LineFault>
-    ensures ok { IfOk result (IsPicture (rows_of (found_of found.now))) }
-    ensures within { IfOk result (λ command. IsMachineWithin command.run.machine
-        × (command.moment < 2 ^ 32) × IfSome command.image IsProper) }
+pub(crate) fn picture(alloc: Global, found: &ArgMatches<'_>) -> Result<Command, LineFault>
+    ensures ok { IfOk result (IsOf (codes "picture") (rows_of (found_of found.now))) }
+    ensures within { IfOk result IsWithinLimits }
     ensures err { IfErr result (OnFault ((command : APictureCommand)
         → ¬ (IsPicture (rows_of (found_of found.now)) command))) }
 {
-    Ok(PictureCommand {
+    Ok(Command::Picture(PictureCommand {
         moment: number_word(alloc, found, "MOMENT")?,
         image: optional_image(alloc, found, "image")?,
         run: scheduled_run(alloc, found)?,
         picture: word(alloc, found, "FILE")?,
-    })
+    }))
 }
 
 /// What `interleave` is to do.
-pub(crate) fn interleave(
-    alloc: Global,
-    found: &ArgMatches<'_>,
-) -> Result<InterleaveCommand, LineFault>
-    ensures ok { IfOk result (IsInterleave (rows_of (found_of found.now))) }
-    ensures within { IfOk result (λ command. IsMachineWithin command.machine
-        × IsWithin 1 500000000 command.steps × IsWithin 0 65536 command.evictions) }
+pub(crate) fn interleave(alloc: Global, found: &ArgMatches<'_>) -> Result<Command, LineFault>
+    ensures ok { IfOk result (IsOf (codes "interleave") (rows_of (found_of found.now))) }
+    ensures within { IfOk result IsWithinLimits }
     ensures err { IfErr result (OnFault ((command : AnInterleaveCommand)
         → ¬ (IsInterleave (rows_of (found_of found.now)) command))) }
 {
-    Ok(InterleaveCommand {
+    Ok(Command::Interleave(InterleaveCommand {
         seed: seed(alloc, found)?,
         steps: number(alloc, found, &STEPS)?,
         evictions: number(alloc, found, &EVICTIONS)?,
         machine: whole_machine(alloc, found)?,
         program: word(alloc, found, "PROGRAM")?,
-    })
+    }))
 }
 
 /// What `show` is to do.
-pub(crate) fn show(alloc: Global, found: &ArgMatches<'_>) -> Result<ShowCommand, LineFault>
-    ensures ok { IfOk result (IsShow (rows_of (found_of found.now))) }
-    ensures within { IfOk result (λ command. IfSome command.line (λ line. line < 2 ^ 32)) }
+pub(crate) fn show(alloc: Global, found: &ArgMatches<'_>) -> Result<Command, LineFault>
+    ensures ok { IfOk result (IsOf (codes "show") (rows_of (found_of found.now))) }
+    ensures within { IfOk result IsWithinLimits }
     ensures err { IfErr result (OnFault ((command : AShowCommand)
         → ¬ (IsShow (rows_of (found_of found.now)) command))) }
 {
-    Ok(ShowCommand {
+    Ok(Command::Show(ShowCommand {
         line: optional_number_word(alloc, found, "LINE")?,
         medium: word(alloc, found, "MEDIUM")?,
-    })
+    }))
 }
 
 /// What `listing` is to do.
-pub(crate) fn listing(alloc: Global, found: &ArgMatches<'_>) -> Result<ListingCommand, LineFault>
-    ensures ok { IfOk result (IsListing (rows_of (found_of found.now))) }
+pub(crate) fn listing(alloc: Global, found: &ArgMatches<'_>) -> Result<Command, LineFault>
+    ensures ok { IfOk result (IsOf (codes "listing") (rows_of (found_of found.now))) }
+    ensures within { IfOk result IsWithinLimits }
     ensures err { IfErr result (OnFault ((command : AListingCommand)
         → ¬ (IsListing (rows_of (found_of found.now)) command))) }
 {
-    Ok(ListingCommand {
+    Ok(Command::Listing(ListingCommand {
         program: word(alloc, found, "PROGRAM")?,
-    })
+    }))
 }
 
 /// What `code` is to do.
-pub(crate) fn code(alloc: Global, found: &ArgMatches<'_>) -> Result<CodeCommand, LineFault>
-    ensures ok { IfOk result (IsCode (rows_of (found_of found.now))) }
+pub(crate) fn code(alloc: Global, found: &ArgMatches<'_>) -> Result<Command, LineFault>
+    ensures ok { IfOk result (IsOf (codes "code") (rows_of (found_of found.now))) }
+    ensures within { IfOk result IsWithinLimits }
     ensures err { IfErr result (OnFault ((command : ACodeCommand)
         → ¬ (IsCode (rows_of (found_of found.now)) command))) }
 {
-    Ok(CodeCommand {
+    Ok(Command::Code(CodeCommand {
         meaning: code_word(alloc, found, "CODE")?,
-    })
+    }))
 }

@@ -2,7 +2,7 @@
 
 ghost use Rattle.std.specs.Prelude.{◌≡◌, ◌++◌, [], IfOk, List, false, map};
 ghost use Rattle.clap.specs.Words.{Shape, rule_of};
-ghost use Rattle.arguments.specs.Grammar.{IsGrammar, help_option, judging, leaf, line, making, novacrash, rule, shape};
+ghost use Rattle.arguments.specs.Grammar.{IsGrammar, help_option, judging, leaf, line, making, novacrash, rule, running, shape, telling};
 
 use clap::{Arg, ArgAction};
 use std::alloc::{AllocError, Global};
@@ -253,8 +253,8 @@ const PROGRESS: Argument = Argument::Flag {
     about: "Tell on standard error how far the check has come, at most twice a second",
 };
 
-/// The subcommands that make files and run programs, in the order in which help tells them.
-static MAKING: [Subcommand; 6] = [
+/// The subcommands that make files, in the order in which help tells them.
+static MAKING: [Subcommand; 3] = [
     Subcommand {
         name: "asm",
         about: "Assemble a source and write its object",
@@ -273,6 +273,10 @@ static MAKING: [Subcommand; 6] = [
         arguments: &[OLD_MEDIUM, PAGES, LINES, UPGRADED_MEDIUM],
         ending: ending!("upgrade old.medium 1 512 new.medium"),
     },
+];
+
+/// The subcommands that run programs on a machine that the line describes, behind those.
+static RUNNING: [Subcommand; 3] = [
     Subcommand {
         name: "run",
         about: "Run a program",
@@ -296,8 +300,8 @@ static MAKING: [Subcommand; 6] = [
     },
 ];
 
-/// The subcommands that tell of a run by a schedule and judge it, in the order in which help tells them, behind those.
-static JUDGING: [Subcommand; 7] = [
+/// The subcommands that tell of a run by a schedule, behind those.
+static TELLING: [Subcommand; 5] = [
     Subcommand {
         name: "trace",
         about: "Print the events of a run by a schedule, each with its step, pc and source line",
@@ -331,6 +335,10 @@ static JUDGING: [Subcommand; 7] = [
         arguments: &[PROGRAM, SCHEDULE, MOMENT, IMAGE, MEDIUM, HARTS, WHOLE],
         ending: ending!("explain append.s append.schedule 5 2 --medium fresh.medium --whole"),
     },
+];
+
+/// The subcommands that judge a run, behind those.
+static JUDGING: [Subcommand; 2] = [
     Subcommand {
         name: "check",
         about: "Judge every crash image of a run by a schedule",
@@ -363,7 +371,7 @@ static JUDGING: [Subcommand; 7] = [
     },
 ];
 
-/// The subcommands that draw a run, that show files, and that tell of what the program prints, in the order in which help tells them, behind the others.
+/// The subcommands that draw a run, that show files, and that tell of what the program prints, behind the others.
 static SHOWING: [Subcommand; 5] = [
     Subcommand {
         name: "picture",
@@ -459,15 +467,6 @@ impl Subcommand {
     }
 }
 
-/// The line of the program.
-pub(crate) fn grammar<'a>(alloc: Global) -> Result<clap::Command<'a>, AllocError>
-    ensures { IfOk result (IsGrammar novacrash) }
-{
-    let command = with_making(alloc, bare(alloc)?)?;
-    let command = with_judging(alloc, command)?;
-    with_showing(alloc, command)
-}
-
 /// The line without subcommands, with `--help` anywhere.
 fn bare<'a>(alloc: Global) -> Result<clap::Command<'a>, AllocError>
     ensures { IfOk result (IsGrammar (line [])) }
@@ -480,34 +479,35 @@ fn bare<'a>(alloc: Global) -> Result<clap::Command<'a>, AllocError>
         .arg(help_flag(alloc))
 }
 
-fn with_making<'a>(
-    alloc: Global,
-    command: clap::Command<'a>,
-) -> Result<clap::Command<'a>, AllocError>
-    requires { IsGrammar (line []) command }
+fn with_making<'a>(alloc: Global) -> Result<clap::Command<'a>, AllocError>
     ensures { IfOk result (IsGrammar (line making)) }
 {
-    with_all(alloc, command, &MAKING)
+    with_all(alloc, bare(alloc)?, &MAKING)
 }
 
-fn with_judging<'a>(
-    alloc: Global,
-    command: clap::Command<'a>,
-) -> Result<clap::Command<'a>, AllocError>
-    requires { IsGrammar (line making) command }
-    ensures { IfOk result (IsGrammar (line (making ++ judging))) }
+fn with_running<'a>(alloc: Global) -> Result<clap::Command<'a>, AllocError>
+    ensures { IfOk result (IsGrammar (line (making ++ running))) }
 {
-    with_all(alloc, command, &JUDGING)
+    with_all(alloc, with_making(alloc)?, &RUNNING)
 }
 
-fn with_showing<'a>(
-    alloc: Global,
-    command: clap::Command<'a>,
-) -> Result<clap::Command<'a>, AllocError>
-    requires { IsGrammar (line (making ++ judging)) command }
+fn with_telling<'a>(alloc: Global) -> Result<clap::Command<'a>, AllocError>
+    ensures { IfOk result (IsGrammar (line ((making ++ running) ++ telling))) }
+{
+    with_all(alloc, with_running(alloc)?, &TELLING)
+}
+
+fn with_judging<'a>(alloc: Global) -> Result<clap::Command<'a>, AllocError>
+    ensures { IfOk result (IsGrammar (line (((making ++ running) ++ telling) ++ judging))) }
+{
+    with_all(alloc, with_telling(alloc)?, &JUDGING)
+}
+
+/// The line of the program.
+pub(crate) fn grammar<'a>(alloc: Global) -> Result<clap::Command<'a>, AllocError>
     ensures { IfOk result (IsGrammar novacrash) }
 {
-    with_all(alloc, command, &SHOWING)
+    with_all(alloc, with_judging(alloc)?, &SHOWING)
 }
 
 /// The line with these subcommands behind those that it has.

@@ -3,13 +3,13 @@
 ghost use Rattle.std.specs.Prelude.{◌≡◌, IfOk, IfErr, MatchOption, [], None, Some, map, string_bytes};
 ghost use Rattle.clap.specs.Words.{fault_of, found_of, kind_of, rows_of, subcommand_of, subcommand_rows_of};
 ghost use Rattle.arguments.specs.Grammar.{novacrash};
-ghost use Rattle.arguments.specs.Line.{IsCommand, IsFault, IsKindOf, IsOf, IsWithinLimits, OnFault, Refuses};
+ghost use Rattle.arguments.specs.Line.{IsCommand, IsFault, IsKindOf, IsOf, IsWithinLimits, JudgesNone, MakesNone, OnFault, Refuses, RunsNone, TellsNone};
 ghost use Rattle.arguments.specs.declared.asked.Command.{Command as ACommand};
 
 use crate::asked::{Command, LineFault};
 use crate::commands::{
     assemble, check, code, debug, explain, images, interleave, judge, listing, make_volume,
-    picture, replay, report, run, show, upgrade,
+    picture, replay, run, show, trace, unpersisted, upgrade, waste,
 };
 use crate::grammar::grammar;
 use clap::ArgMatches;
@@ -69,27 +69,85 @@ fn asked(alloc: Global, name: &str, found: &ArgMatches<'_>) -> Result<Command, L
     ensures err { IfErr result (OnFault ((command : ACommand)
         → ¬ (IsOf name.now (rows_of (found_of found.now)) command))) }
 {
-    Ok(match name {
-        "asm" => Command::Assemble(assemble(alloc, found)?),
-        "mkfs" => Command::MakeVolume(make_volume(alloc, found)?),
-        "upgrade" => Command::Upgrade(upgrade(alloc, found)?),
-        "run" => Command::Run(run(alloc, found)?),
-        "replay" => Command::Replay(replay(alloc, found)?),
-        "debug" => Command::Debug(debug(alloc, found)?),
-        "trace" => Command::Trace(report(alloc, found)?),
-        "unpersisted" => Command::Unpersisted(report(alloc, found)?),
-        "waste" => Command::Waste(report(alloc, found)?),
-        "images" => Command::Images(images(alloc, found)?),
-        "explain" => Command::Explain(explain(alloc, found)?),
-        "check" => Command::Check(check(alloc, found)?),
-        "judge" => Command::Judge(judge(alloc, found)?),
-        "picture" => Command::Picture(picture(alloc, found)?),
-        "interleave" => Command::Interleave(interleave(alloc, found)?),
-        "show" => Command::Show(show(alloc, found)?),
-        "listing" => Command::Listing(listing(alloc, found)?),
-        "code" => Command::Code(code(alloc, found)?),
-        _ => return Err(unknown(alloc)?),
-    })
+    match name {
+        "asm" => assemble(alloc, found),
+        "mkfs" => make_volume(alloc, found),
+        "upgrade" => upgrade(alloc, found),
+        _ => asked_to_run(alloc, name, found),
+    }
+}
+
+/// The command of a subcommand that makes no file from others.
+fn asked_to_run(alloc: Global, name: &str, found: &ArgMatches<'_>) -> Result<Command, LineFault>
+    requires making { MakesNone name.now }
+    ensures ok { IfOk result (IsOf name.now (rows_of (found_of found.now))) }
+    ensures within { IfOk result IsWithinLimits }
+    ensures err { IfErr result (OnFault ((command : ACommand)
+        → ¬ (IsOf name.now (rows_of (found_of found.now)) command))) }
+{
+    match name {
+        "run" => run(alloc, found),
+        "replay" => replay(alloc, found),
+        "debug" => debug(alloc, found),
+        _ => asked_to_tell(alloc, name, found),
+    }
+}
+
+/// The command of one that doesn't run a program for itself either.
+fn asked_to_tell(alloc: Global, name: &str, found: &ArgMatches<'_>) -> Result<Command, LineFault>
+    requires making { MakesNone name.now }
+    requires running { RunsNone name.now }
+    ensures ok { IfOk result (IsOf name.now (rows_of (found_of found.now))) }
+    ensures within { IfOk result IsWithinLimits }
+    ensures err { IfErr result (OnFault ((command : ACommand)
+        → ¬ (IsOf name.now (rows_of (found_of found.now)) command))) }
+{
+    match name {
+        "trace" => trace(alloc, found),
+        "unpersisted" => unpersisted(alloc, found),
+        "waste" => waste(alloc, found),
+        "images" => images(alloc, found),
+        "explain" => explain(alloc, found),
+        _ => asked_to_judge(alloc, name, found),
+    }
+}
+
+/// The command of one that doesn't tell of a run by a schedule either.
+fn asked_to_judge(alloc: Global, name: &str, found: &ArgMatches<'_>) -> Result<Command, LineFault>
+    requires making { MakesNone name.now }
+    requires running { RunsNone name.now }
+    requires telling { TellsNone name.now }
+    ensures ok { IfOk result (IsOf name.now (rows_of (found_of found.now))) }
+    ensures within { IfOk result IsWithinLimits }
+    ensures err { IfErr result (OnFault ((command : ACommand)
+        → ¬ (IsOf name.now (rows_of (found_of found.now)) command))) }
+{
+    match name {
+        "check" => check(alloc, found),
+        "judge" => judge(alloc, found),
+        _ => asked_to_show(alloc, name, found),
+    }
+}
+
+/// The command of one that doesn't judge a run either.
+fn asked_to_show(alloc: Global, name: &str, found: &ArgMatches<'_>) -> Result<Command, LineFault>
+    requires making { MakesNone name.now }
+    requires running { RunsNone name.now }
+    requires telling { TellsNone name.now }
+    requires judging { JudgesNone name.now }
+    ensures ok { IfOk result (IsOf name.now (rows_of (found_of found.now))) }
+    ensures within { IfOk result IsWithinLimits }
+    ensures err { IfErr result (OnFault ((command : ACommand)
+        → ¬ (IsOf name.now (rows_of (found_of found.now)) command))) }
+{
+    match name {
+        "picture" => picture(alloc, found),
+        "interleave" => interleave(alloc, found),
+        "show" => show(alloc, found),
+        "listing" => listing(alloc, found),
+        "code" => code(alloc, found),
+        _ => Err(unknown(alloc)?),
+    }
 }
 
 /// The command that a line asks for. `words` begins with the program's name.

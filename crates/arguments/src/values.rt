@@ -35,15 +35,24 @@ pub(crate) fn flag(found: &ArgMatches<'_>, name: &str) -> bool
     }
 }
 
+/// The value of a word that a command needs.
+fn needed<'a>(alloc: Global, found: &ArgMatches<'a>, name: &str) -> Result<&'a str, LineFault>
+    ensures ok { IfOk result (λ value. first_of name.now (rows_of (found_of found.now)) ≡ Some value.now) }
+    ensures err { IfErr result (OnFault (first_of name.now (rows_of (found_of found.now)) ≡ None)) }
+{
+    match value(found, name) {
+        Some(value) => Ok(value),
+        None => Err(LineFault::Fault(format!(in alloc; "error: {name} is missing\n")?)),
+    }
+}
+
 /// The word that a command needs.
 pub(crate) fn word(alloc: Global, found: &ArgMatches<'_>, name: &str) -> Result<String, LineFault>
     ensures ok { IfOk result (IsWord name.now (rows_of (found_of found.now))) }
     ensures err { IfErr result (OnFault (first_of name.now (rows_of (found_of found.now)) ≡ None)) }
 {
-    match value(found, name) {
-        Some(word) => Ok(String::from_str(alloc, word)?),
-        None => Err(LineFault::Fault(format!(in alloc; "error: {name} is missing\n")?)),
-    }
+    let word = needed(alloc, found, name)?;
+    Ok(String::from_str(alloc, word)?)
 }
 
 /// The name of a file, the value of an option that may be left out. It isn't empty and doesn't begin with `-`.
@@ -76,9 +85,7 @@ pub(crate) fn number_word(
     ensures ok { IfOk result (IsNumberWord (first_of name.now (rows_of (found_of found.now)))) }
     ensures err { IfErr result (OnFault ((n : ℕ) → ¬ (IsNumberWord (first_of name.now (rows_of (found_of found.now))) n))) }
 {
-    let Some(text) = value(found, name) else {
-        return Err(LineFault::Fault(format!(in alloc; "error: {name} is missing\n")?));
-    };
+    let text = needed(alloc, found, name)?;
     match decimal(text.as_bytes()) {
         Some(number) => Ok(number),
         None => Err(LineFault::Fault(format!(in alloc;
@@ -134,9 +141,7 @@ pub(crate) fn image_word(
     ensures proper { IfOk result IsProper }
     ensures err { IfErr result (OnFault ((image : AnImageName) → ¬ (IsImageWord (first_of name.now (rows_of (found_of found.now))) image))) }
 {
-    let Some(text) = value(found, name) else {
-        return Err(LineFault::Fault(format!(in alloc; "error: {name} is missing\n")?));
-    };
+    let text = needed(alloc, found, name)?;
     match ImageName::read(alloc, text)? {
         Some(image) => Ok(image),
         None => Err(LineFault::Fault(format!(in alloc;
