@@ -9,12 +9,16 @@ use bus::{FinishFault, RunFault};
 use crash_image::ImageFault;
 use debugger::{DebugFault, Place};
 use image_check::{Cause, CheckFault, OpFault};
+use image_judge::JudgeFault;
+use interleaving::InterleaveFault;
 use isa_table::FieldFault;
+use judge_marks::MarkFault;
 use line_memory::{MediumFault, MemFault};
 use machine::RunStop;
 use nova_log::VolumeFault;
 use plan::{PlanCode, PlanFault};
 use program::LoadFault;
+use program_judge::JudgingFault;
 use schedule::ScheduleFault;
 use shared_memory::StepFault;
 use store_trace::TraceFault;
@@ -246,4 +250,45 @@ fn volumes_and_verdicts(rt: HostRuntime) {
         differing(alloc, &CAUSES),
     ];
     assert_eq!(rt; found, [None; 6]);
+}
+
+static OPERATIONS: [(MarkFault, &str); 5] = [
+    (MarkFault::BegunTwice, "O2"),
+    (MarkFault::NotPending, "O3"),
+    (MarkFault::Overlaps, "O5"),
+    (MarkFault::NoOperation, "O6"),
+    (MarkFault::Memory, "C3"),
+];
+
+static JUDGES: [(JudgeFault, &str); 3] = [
+    (JudgeFault::Marks(MarkFault::Overlaps), "O5"),
+    (JudgeFault::NoSuchMoment, "C1"),
+    (JudgeFault::Memory, "C3"),
+];
+
+static JUDGEMENTS: [(JudgingFault, &str); 4] = [
+    (
+        JudgingFault::Step(StepFault::NoSuchLine),
+        "the run was refused",
+    ),
+    (JudgingFault::Marks(MarkFault::NoOperation), "O6"),
+    (JudgingFault::NoSuchMoment, "no such moment"),
+    (JudgingFault::Memory, "out of memory"),
+];
+
+static DRAWS: [(InterleaveFault, &str); 2] = [
+    (InterleaveFault::TraceFull, "G4"),
+    (InterleaveFault::Memory, "G5"),
+];
+
+#[test]
+fn judgements_and_draws(rt: HostRuntime) {
+    let alloc = rt.alloc();
+    let found = [
+        differing(alloc, &OPERATIONS),
+        differing(alloc, &JUDGES),
+        differing(alloc, &JUDGEMENTS),
+        differing(alloc, &DRAWS),
+    ];
+    assert_eq!(rt; found, [None; 4]);
 }

@@ -51,7 +51,7 @@ const COUNT: Request = Request::Amo {
     operand: 1,
 };
 
-static SHIFTS: [Shift; 4] = [
+static SHIFTS: [Shift; 5] = [
     // a line past the end
     Shift {
         words: &FIRST_RUN,
@@ -59,6 +59,16 @@ static SHIFTS: [Shift; 4] = [
         budget: 500_000_000,
         turns: &[(Turn::Evict(512), Err(StepFault::NoSuchLine))],
         history: &[],
+        events: 0,
+        fifth: &[0],
+    },
+    // evictions of lines that no hart has stored to
+    Shift {
+        words: &FIRST_RUN,
+        harts: 1,
+        budget: 500_000_000,
+        turns: &[(Turn::Evict(3), GOES_ON), (Turn::Evict(511), GOES_ON)],
+        history: &[Done::Evicted(3), Done::Evicted(511)],
         events: 0,
         fifth: &[0],
     },
