@@ -1,6 +1,7 @@
 //! The files on disk.
 
-ghost use Rattle.std.specs.Prelude.{◌≡◌};
+ghost use Rattle.command_line.specs.declared.files.FileFault.TheVariants.{Failed};
+ghost use Rattle.std.specs.Prelude.{◌≡◌, ◌<◌, ◌≤◌, IfErr, IfOk, length};
 ghost use Rattle.std_io.specs.IoError.{error_kind};
 ghost use Rattle.host.specs.Faults.{fault_of_kind};
 
@@ -28,8 +29,7 @@ impl<'a, R: fs::Files + AllocGlobal> Disk<'a, R> {
 impl<R: fs::Files + AllocGlobal> Files for Disk<'_, R> {
     fn read(&mut self, name: &str) -> Result<Vec<u8>, FileFault> {
         match read_start(self.rt, name, MOST_BYTES + 1) {
-            Ok(bytes) if bytes.len() as u64 > MOST_BYTES => Err(FileFault::Failed),
-            Ok(bytes) => Ok(bytes),
+            Ok(bytes) => within_limit(bytes),
             Err(error) => Err(fault_of(error)),
         }
     }
@@ -44,6 +44,19 @@ fn read_start<R: fs::Files + AllocGlobal>(rt: &R, name: &str, count: u64) -> io:
     let mut bytes = Vec::new(rt.alloc());
     File::open(rt, name)?.take(count).read_to_end(&mut bytes)?;
     Ok(bytes)
+}
+
+/// The bytes of a file, where they are no more than a file may have.
+fn within_limit(bytes: Vec<u8>) -> Result<Vec<u8>, FileFault>
+    ensures same { IfOk result (λ taken. taken.items ≡ bytes.items) }
+    ensures ok { IfOk result (λ taken. length bytes.items ≤ 67108864) }
+    ensures err { IfErr result (λ fault. (fault ≡ Failed) × 67108864 < length bytes.items) }
+{
+    if bytes.len() as u64 > MOST_BYTES {
+        Err(FileFault::Failed)
+    } else {
+        Ok(bytes)
+    }
 }
 
 /// Why a file wasn't read or written, by the error that the system answered.
