@@ -63,6 +63,7 @@ fn run_judgement<T: Threads + Sync + Clock, E: Write>(
 }
 
 /// The verdict by the events of the run.
+#[tactic(auto, using(judge_marks::proofs::Begun::sound_begin))]
 fn trace_judgement<T: Threads + Sync + Clock, E: Write>(
     rt: &T,
     alloc: Global,

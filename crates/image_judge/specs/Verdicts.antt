@@ -9,7 +9,7 @@ use Rattle.image_judge.specs.Views.{JudgeView}
 use Rattle.image_judge.specs.declared.cause.Cause.{Cause}
 use Rattle.image_judge.specs.declared.fault.JudgeFault.{JudgeFault}
 use Rattle.image_judge.specs.declared.fault.JudgeFault.TheVariants as faults
-use Rattle.judge_marks.specs.MarkFaults.{AreSound, IsFault}
+use Rattle.judge_marks.specs.MarkFaults.{AreSound, HasSoundBegin, IsFault}
 use Rattle.judge_marks.specs.Windows.{IsWindow}
 use Rattle.judge_marks.specs.declared.fault.MarkFault.TheVariants as marks
 use Rattle.judge_marks.specs.declared.moments.Window.{Window}
@@ -39,9 +39,9 @@ abbrev pub IsVerdict : JudgeView → ℕ → ℕ → Verdict Cause → Type 0
 IsVerdict view first end verdict = IsVerdictBetween (IsJudged view) view.events (judged_from view.events first end) end verdict
 
 -- Why there is no verdict on the moments from this one on: a wrong mark or that there is none, then that the moment isn't one of the run.
--- A growth may be refused at any time.
+-- A growth is refused behind marks that are right, one of which begins an operation.
 abbrev pub IsRefusal : Bool → List Event → ℕ → JudgeFault → Type 0
 IsRefusal overlapping events first (faults.Marks fault) = IsFault overlapping events fault × (fault ≢ marks.Memory)
 IsRefusal overlapping events first faults.NoSuchMoment =
     AreSound overlapping events (length events) × (begun events ≢ []) × (length events < first)
-IsRefusal overlapping events first faults.Memory = Unit {0}
+IsRefusal overlapping events first faults.Memory = HasSoundBegin overlapping events

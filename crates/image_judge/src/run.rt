@@ -69,7 +69,8 @@ impl<'a> MarkedRun<'a> {
     /// Operations may overlap where `overlapping` says so. The medium has every line that the trace names.
     ///
     /// # Errors
-    /// A wrong mark of an operation, or that there is none. Memory where a growth is refused.
+    /// A wrong mark of an operation, or that there is none. Memory where a growth is refused, behind a Begin that is right.
+    #[tactic(auto, using(judge_marks::proofs::Begun::sound_begin))]
     pub fn new(
         alloc: Global,
         medium: &'a Medium,

@@ -1,5 +1,5 @@
 -- When the marks of operations make no sense in a run that is judged without a plan. An event is judged by those before it.
-use Rattle.std.specs.Prelude.{◌≡◌, ℕ, ◌<◌, Bool, false, List, [], length, Some, slice_get, take}
+use Rattle.std.specs.Prelude.{◌≡◌, ℕ, ◌+◌, ◌<◌, Bool, false, List, [], length, Some, slice_get, take}
 use Rattle.std.specs.List.{Contains}
 use Rattle.image_check.specs.Marks.{begun, pending}
 use Rattle.image_check.specs.OrderFaults.{IsBegunTwice, IsNotPending}
@@ -52,6 +52,14 @@ pub record IsFirstFault (overlapping : Bool) (events : List Event) (fault : Mark
   pub place : slice_get events number ≡ Some event
   pub here : IsLowestFault overlapping (take number events) event fault
   pub earlier : AreSound overlapping events number
+
+-- behind events that have no fault stands a Begin that has none: its operation is taken in there
+pub record HasSoundBegin (overlapping : Bool) (events : List Event) : Type 0 where
+  pub at : ℕ
+  pub hart : ℕ
+  pub op : ℕ
+  pub begins : slice_get events at ≡ Some (Begin hart op)
+  pub sound : AreSound overlapping events (at + 1)
 
 -- O6: no event is at fault, and none begins an operation
 abbrev pub HasNoOperation : Bool → List Event → Type 0

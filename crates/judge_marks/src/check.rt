@@ -1,8 +1,8 @@
 //! The marks of a trace, looked at in turn.
 
-ghost use Rattle.judge_marks.specs.MarkFaults.{AreSound, IsFault};
+ghost use Rattle.judge_marks.specs.MarkFaults.{AreSound, HasSoundBegin, IsFault};
 ghost use Rattle.image_check.specs.Marks.{begun};
-ghost use Rattle.std.specs.Prelude.{◌≢◌, [], length, IfErr, OnOk};
+ghost use Rattle.std.specs.Prelude.{◌≢◌, [], length, IfErr, IsErrOf, OnOk};
 
 use crate::MarkFault;
 use crate::operations::Operations;
@@ -18,6 +18,7 @@ pub fn check_marks(alloc: Global, trace: &Trace, overlapping: bool) -> Result<()
     ensures sound { OnOk result (AreSound overlapping trace.now.events (length trace.now.events)) }
     ensures begins { OnOk result (begun trace.now.events ≢ []) }
     ensures err { IfErr result (IsFault overlapping trace.now.events) }
+    ensures memory { IsErrOf result MarkFault.Memory → HasSoundBegin overlapping trace.now.events }
 {
     let events = trace.events();
     let mut operations = Operations::none(alloc);

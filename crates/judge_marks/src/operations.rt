@@ -5,7 +5,7 @@ ghost use Rattle.image_check.specs.OrderFaults.{IsBegunTwice, IsNotPending};
 ghost use Rattle.judge_marks.specs.MarkFaults.{HasFault, IsLowestFault};
 ghost use Rattle.judge_marks.specs.Operations.{AreMarked};
 ghost use Rattle.judge_marks.specs.declared.fault.MarkFault.{MarkFault as AFault};
-ghost use Rattle.std.specs.Prelude.{◌≡◌, ◌↔◌, ℕ, Bool, List, [], ◌∷◌, ◌++◌, Contains, IfErr, IsTrue, OnOk};
+ghost use Rattle.std.specs.Prelude.{◌≡◌, ◌↔◌, ℕ, Bool, List, [], ◌∷◌, ◌++◌, Contains, IfErr, IsTrue, OnErr, OnOk};
 ghost use Rattle.store_trace.specs.declared.event.Event.{Event as AnEvent};
 
 use crate::MarkFault;
@@ -77,7 +77,8 @@ impl Operations {
 
     /// Takes in the event that comes next, which is no fault.
     pub(crate) fn note(&mut self, event: Event) -> Result<(), AllocError>
-        ensures { (before : List AnEvent) → AreMarked before self.old → ¬ IsBegunTwice before event → ¬ IsNotPending before event → OnOk result (AreMarked (before ++ event ∷ []) self.new) }
+        ensures marked { (before : List AnEvent) → AreMarked before self.old → ¬ IsBegunTwice before event → ¬ IsNotPending before event → OnOk result (AreMarked (before ++ event ∷ []) self.new) }
+        ensures grows { OnErr result ((hart op : ℕ) × (event ≡ Event.Begin hart op)) }
     {
         match event {
             Event::Begin { hart, op } => self.begin(hart, op),

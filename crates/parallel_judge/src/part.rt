@@ -117,6 +117,7 @@ impl<'a> JudgePart<'a> {
 ///
 /// # Errors
 /// As of `JudgePart::new`.
+#[tactic(auto, using(judge_marks::proofs::Begun::sound_begin))]
 pub fn judge_part<G: Gate, R: Threads + Sync>(
     rt: &R,
     alloc: Global,
