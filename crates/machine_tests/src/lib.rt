@@ -9,4 +9,4 @@ mod debugging;
 #[cfg(test)]
 mod machines;
 #[cfg(test)]
-mod recovery;
+mod routines;

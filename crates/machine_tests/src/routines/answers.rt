@@ -2,7 +2,7 @@
 
 ghost use Rattle.std.specs.Prelude.{◌≡◌};
 
-use crate::recovery::samples::{Expected, READ, comes_to, image_of, routine_of};
+use crate::routines::samples::{Expected, READ, comes_to, image_of, routine_of};
 use hart::Trap;
 use recovery::{Answer, Cause, Routine};
 use std::alloc::Global;

@@ -4,7 +4,7 @@ ghost use Rattle.std.specs.Prelude.{◌≡◌, length, IfSome};
 ghost use Rattle.held_lines.specs.Held.{IsOver};
 ghost use Rattle.held_memory.specs.Memory.{IsAtStart};
 
-use crate::recovery::samples::image_of;
+use crate::routines::samples::image_of;
 use assemble::assemble;
 use held_memory::{HeldMemory, Place};
 use line_memory::{Medium, MemFault};

@@ -2,7 +2,7 @@
 
 ghost use Rattle.std.specs.Prelude.{◌≡◌, length};
 
-use crate::recovery::samples::{Expected, READ, comes_to, image_of, routine_of};
+use crate::routines::samples::{Expected, READ, comes_to, image_of, routine_of};
 use line_memory::Medium;
 use recovery::{Cause, Routine};
 use std::alloc::{AllocError, Global};
