@@ -99,6 +99,7 @@ piece_later asks judged low high lines before more queue piece tree grown p =
       count = p.count;
       least_size = p.least_size;
       asked_size = p.asked_size;
+      only = p.only;
       runs = record {
         answers = answers_later asks low lines before more piece.first p.done tree p.runs.answers;
         asked = p.runs.asked;

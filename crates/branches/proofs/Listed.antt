@@ -97,6 +97,14 @@ other_has l x lines ne t = elim (cases_Bool (has l lines)) [
       absurd (true≢false (sym t ∙ has_join l lines (x ∷ []) ∙ ap (λ (b : Bool). b || has l (x ∷ [])) f ∙ (rw g refl)))
 ]
 
+-- with a line at the list's end, and its flag, each line of the list is flagged still
+pub listed_flag : (flags : List Bool) (lines : List ℕ) (line : ℕ) → line < length flags → ((l : ℕ) → has l lines ≡ true → is_flagged l flags ≡ true) →
+    (l : ℕ) → has l (lines ++ line ∷ []) ≡ true → is_flagged l (set flags line true) ≡ true
+listed_flag flags lines line less h l t = elim (cases_eq line l) [
+  | inl e ↦ subst (λ (m : ℕ). is_flagged m (set flags line true) ≡ true) e (get_or-set_same flags line true false less)
+  | inr ne ↦ get_or-set_other flags line l true false (λ e. ne (sym e)) ∙ h l (other_has l line lines ne t)
+]
+
 -- a line of the list's end, without its flag
 pub flag_dropped : (flags : List Bool) (lines old : List ℕ) (line : ℕ) → old ≡ lines ++ line ∷ [] → AreInList flags old → AreInList (set flags line false) lines
 flag_dropped flags lines old line e h =

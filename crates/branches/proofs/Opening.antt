@@ -1,14 +1,14 @@
 -- An opening so far: the entries before a place are worked, the others are open.
-use Rattle.std.proofs.Common.{◌≡◌, ◌⊎◌, inl, inr, ℕ, zero, suc, ◌+◌, ◌-◌, ◌≤◌, ◌<◌, ◌||◌, if◌then◌else◌, Bool, true, false, eqb, ltb, cond, List, [], ◌∷◌, ◌++◌, Option, Some, None, IsSome, length, map, take, drop, get_or, refl, sym, ap, subst, ◌∙◌, arith, append_assoc, true≢false}
+use Rattle.std.proofs.Common.{◌≡◌, ◌⊎◌, inl, inr, ℕ, zero, suc, ◌+◌, ◌-◌, ◌≤◌, ◌<◌, ◌||◌, if◌then◌else◌, Bool, true, false, eqb, ltb, cond, List, [], ◌∷◌, ◌++◌, Option, Some, None, IsSome, length, map, take, drop, get_or, replicate, refl, sym, ap, subst, ◌∙◌, arith, append_assoc, true≢false}
 use Rattle.std.proofs.lemmas.List.{append-nil, map-append, get_or_append_left, get_or-append-add, drop_more, drop-append-le, length-append}
 use Rattle.std.proofs.lemmas.Bool.{cases_Bool}
 use Rattle.std.specs.List.{AllByRecursion}
-use Rattle.branches.specs.Branches.{Agree, IsWithin, IsAdaptive, IsShared, AreOver, ComesBefore, IsLeastBad}
+use Rattle.branches.specs.Branches.{Agree, IsAsked, IsWithin, IsAdaptive, IsShared, AreOver, ComesBefore, IsLeastBad}
 use Rattle.branches.specs.Least.{IsLess}
 use Rattle.branches.specs.Numbers.{has, is_flagged, number_over, AreAbove}
 use Rattle.branches.specs.Queue.{entry, entry_at, with_number, siblings, branching, cut_at, IsTree, AreRaised}
 use Rattle.branches.specs.declared.queue.Entry.{Entry}
-use Rattle.branches.specs.Openings.{AreFlagged, AreNodes, Covers, IsAt, IsBest, IsFinished, IsPast, IsRun, Node, Split, cuts_of}
+use Rattle.branches.specs.Openings.{AreDecided, AreFlagged, AreNodes, Covers, IsAt, IsBest, IsFinished, IsPast, IsRun, Node, SomeDecides, Split, cuts_of}
 use Rattle.branches.specs.Pieces.{AreAnswers, AreCuts, AreRuns, all_branching}
 use Rattle.branches.proofs.Answering.{answers_join, answers_later, branching_join, branching_later}
 use Rattle.branches.proofs.Counting.{not_over}
@@ -240,6 +240,48 @@ asked_join flags theirs new done vs mine others h t =
     (all_map (λ v. AreFlagged flags v.decided) (λ v. AreFlagged new v.decided) done (λ v f. flagged_more flags new v.decided mine f) h)
     (all_map (λ v. AreFlagged theirs v.decided) (λ v. AreFlagged new v.decided) vs (λ v f. flagged_more theirs new v.decided others f) t)
 
+decides_left : (line : ℕ) (vs ws : List Node) → SomeDecides line vs → SomeDecides line (vs ++ ws)
+decides_left line [] ws d = absurd d
+decides_left line (v ∷ vs) ws (inl d) = inl d
+decides_left line (v ∷ vs) ws (inr d) = inr (decides_left line vs ws d)
+
+decides_right : (line : ℕ) (vs ws : List Node) → SomeDecides line ws → SomeDecides line (vs ++ ws)
+decides_right line [] ws d = d
+decides_right line (v ∷ vs) ws d = inr (decides_right line vs ws d)
+
+-- the lines that are flagged now were flagged, or further nodes decide them
+pub decided_more : (flags flags' : List Bool) (done vs : List Node) → ((l : ℕ) → is_flagged l flags' ≡ true → (is_flagged l flags ≡ true) ⊎ SomeDecides l vs) →
+    AreDecided flags done → AreDecided flags' (done ++ vs)
+decided_more flags flags' done vs from h l t = elim (from l t) [
+  | inl old ↦ decides_left l done vs (h l old)
+  | inr new ↦ decides_right l done vs new
+]
+
+-- where some lines are flagged beside those that were
+pub flagged_from : (old new : List Bool) (ls : List ℕ) → ((l : ℕ) → is_flagged l new ≡ (is_flagged l old || has l ls)) → (l : ℕ) → is_flagged l new ≡ true →
+    (is_flagged l old ≡ true) ⊎ (has l ls ≡ true)
+flagged_from old new ls h l t = elim (cases_Bool (is_flagged l old)) [
+  | inl was ↦ inl was
+  | inr other ↦ inr (sym (h l ∙ ap (λ (b : Bool). b || has l ls) other) ∙ t)
+]
+
+-- those are the lines that this node decides
+pub flagged_one : (old new : List Bool) (v : Node) → ((l : ℕ) → is_flagged l new ≡ (is_flagged l old || has l v.decided)) → (l : ℕ) → is_flagged l new ≡ true →
+    (is_flagged l old ≡ true) ⊎ SomeDecides l (v ∷ [])
+flagged_one old new v h l t = elim (flagged_from old new v.decided h l t) [ inl was ↦ inl was | inr here ↦ inr (inl here) ]
+
+not_flagged : (lines l : ℕ) → is_flagged l (replicate lines false) ≡ false
+not_flagged zero l = refl
+not_flagged (suc lines) zero = refl
+not_flagged (suc lines) (suc l) = not_flagged lines l
+
+pub fresh_decided : (lines : ℕ) (flags : List Bool) → flags ≡ replicate lines false → AreDecided flags []
+fresh_decided lines flags e l t = true≢false (sym t ∙ ap (λ (fs : List Bool). is_flagged l fs) e ∙ not_flagged lines l)
+
+-- no line is flagged
+pub none_decided : (flags : List Bool) → ((l : ℕ) → is_flagged l flags ≡ false) → AreDecided flags []
+none_decided flags none l t = true≢false (sym t ∙ none l)
+
 below_drop : (n : ℕ) (ls : List ℕ) (i : ℕ) → AllByRecursion (λ l. l < n) ls → AllByRecursion (λ l. l < n) (drop i ls)
 below_drop n [] zero h = tt
 below_drop n [] (suc i) h = tt
@@ -349,8 +391,9 @@ pub at_many : {Cause : Type 0} (asks : (ℕ → ℕ) → List ℕ → Type 0) (j
     (queue more : List Entry) (numbers kept new : List ℕ) (found least result : Option Cause) (flags theirs flags' : List Bool) (vs : List Node) → IsAdaptive asks →
     AreRuns asks judged low high lines at queue numbers found theirs more vs → IsLess low numbers found kept least new result →
     ((l : ℕ) → is_flagged l flags ≡ true → is_flagged l flags' ≡ true) → ((l : ℕ) → is_flagged l theirs ≡ true → is_flagged l flags' ≡ true) →
+    ((l : ℕ) → is_flagged l flags' ≡ true → (is_flagged l flags ≡ true) ⊎ SomeDecides l vs) →
     IsAt asks judged low high lines at queue kept least flags → IsAt asks judged low high lines (at + length vs) (queue ++ more) new result flags'
-at_many asks judged low high lines at queue more numbers kept new found least result flags theirs flags' vs adaptive runs less mine others o =
+at_many asks judged low high lines at queue more numbers kept new found least result flags theirs flags' vs adaptive runs less mine others from o =
     let next = nodes_many asks low high lines at queue o.done o.left vs adaptive runs.answers o.opening.nodes in
     record {
       done = o.done ++ vs;
@@ -358,6 +401,7 @@ at_many asks judged low high lines at queue more numbers kept new found least re
       opening = record {
         nodes = subst (λ (es : List Entry). AreNodes asks low high lines (at + length vs) (queue ++ es) (o.done ++ vs) next.0) (sym runs.branches) next.1;
         asked = asked_join flags theirs flags' o.done vs mine others o.opening.asked runs.asked;
+        only = decided_more flags flags' o.done vs from o.opening.only;
         best = best_join judged low high numbers kept new found least result o.done vs less o.opening.best runs.best;
       };
     }
@@ -389,8 +433,9 @@ runs_join asks judged low high lines first queue before more numbers kept new fo
 }
 
 pub at_first : {Cause : Type 0} (asks : (ℕ → ℕ) → List ℕ → Type 0) (judged : (ℕ → ℕ) → Option Cause → Type 0) (low high : ℕ → ℕ) (lines : ℕ)
-    (queue : List Entry) (numbers : List ℕ) (flags : List Bool) → ((l : ℕ) → low l ≤ high l) → queue ≡ entry 0 0 0 0 ∷ [] → IsAt asks judged low high lines 0 queue numbers None flags
-at_first asks judged low high lines queue numbers flags ordered e = rw e (record {
+    (queue : List Entry) (numbers : List ℕ) (flags : List Bool) → ((l : ℕ) → low l ≤ high l) → queue ≡ entry 0 0 0 0 ∷ [] →
+    ((l : ℕ) → is_flagged l flags ≡ false) → IsAt asks judged low high lines 0 queue numbers None flags
+at_first asks judged low high lines queue numbers flags ordered e none = rw e (record {
   done = [];
   left = node low [] ∷ [];
   opening = record {
@@ -404,6 +449,7 @@ at_first asks judged low high lines queue numbers flags ordered e = rw e (record
       counts = refl;
     };
     asked = tt;
+    only = none_decided flags none;
     best = tt;
   };
 })
@@ -500,3 +546,15 @@ pub at_asked : {Cause : Type 0} (asks : (ℕ → ℕ) → List ℕ → Type 0) (
     IsAt asks judged low high lines at queue numbers least flags → (k : ℕ → ℕ) → IsWithin low high k → (ls : List ℕ) → asks k ls → AreFlagged flags ls
 at_asked asks judged low high lines at queue numbers least flags adaptive le o k w ls h =
     covered_asked asks low high k ls flags o.done adaptive o.opening.nodes.split.finished o.opening.asked h (at_end asks judged low high lines at queue numbers least flags le o k w)
+
+decided_asked : (asks : (ℕ → ℕ) → List ℕ → Type 0) (low high : ℕ → ℕ) (line : ℕ) (vs : List Node) →
+    AllByRecursion (IsFinished asks low high) vs → SomeDecides line vs → IsAsked asks low high line
+decided_asked asks low high line [] f d = absurd d
+decided_asked asks low high line (v ∷ vs) f (inl here) = record { cut = v.numbers; lines = v.decided; within = f.0.within; asked = f.0.asked; among = here }
+decided_asked asks low high line (v ∷ vs) f (inr d) = decided_asked asks low high line vs f.1 d
+
+pub at_only : {Cause : Type 0} (asks : (ℕ → ℕ) → List ℕ → Type 0) (judged : (ℕ → ℕ) → Option Cause → Type 0) (low high : ℕ → ℕ) (lines at : ℕ)
+    (queue : List Entry) (numbers : List ℕ) (least : Option Cause) (flags : List Bool) → IsAt asks judged low high lines at queue numbers least flags →
+    (l : ℕ) → is_flagged l flags ≡ true → IsAsked asks low high l
+at_only asks judged low high lines at queue numbers least flags o l t =
+    decided_asked asks low high l o.done o.opening.nodes.split.finished (o.opening.only l t)

@@ -2,8 +2,9 @@
 -- A cut is a number for each line, from the line's lowest number to its highest. `asks c lines` says that recovery asks these
 -- lines of the image of the cut c, in this order; a line may stand in the list more than once.
 -- This project's own: crash images (Vinter, USENIX ATC 2022) are told apart only by what recovery looks at.
-use Rattle.std.specs.Prelude.{◌≡◌, ℕ, ◌+◌, ◌≤◌, ◌<◌, Option, Some, None, List, length, take}
+use Rattle.std.specs.Prelude.{◌≡◌, ℕ, ◌+◌, ◌≤◌, ◌<◌, true, Option, Some, None, List, length, take}
 use Rattle.std.specs.List.{AllByRecursion, AllPairs}
+use Rattle.branches.specs.Numbers.{has}
 
 -- two cuts give these lines the same numbers
 abbrev pub Agree : (ℕ → ℕ) → (ℕ → ℕ) → List ℕ → Type 0
@@ -22,6 +23,14 @@ IsAdaptive asks = (c k : ℕ → ℕ) (ls ms : List ℕ) (count : ℕ) → asks 
 -- of a cut that agrees with another one on all that is asked of that one the same is asked
 abbrev pub IsShared : ((ℕ → ℕ) → List ℕ → Type 0) → Type 0
 IsShared asks = (c k : ℕ → ℕ) (lines : List ℕ) → asks c lines → Agree k c lines → asks k lines
+
+-- recovery asks the line of the image of some cut
+pub record IsAsked (asks : (ℕ → ℕ) → List ℕ → Type 0) (low high : ℕ → ℕ) (line : ℕ) : Type 0 where
+  pub cut : ℕ → ℕ
+  pub lines : List ℕ
+  pub within : IsWithin low high cut
+  pub asked : asks cut lines
+  pub among : has line lines ≡ true
 
 -- recovery asks the same lines of the images of two cuts, and finds the same numbers of stores in them
 pub record ShareBranch (asks : (ℕ → ℕ) → List ℕ → Type 0) (c k : ℕ → ℕ) : Type 0 where

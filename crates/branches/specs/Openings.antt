@@ -73,6 +73,15 @@ IsBest judged low high numbers (Some cause) done =
 abbrev pub AreFlagged : List Bool → List ℕ → Type 0
 AreFlagged flags ls = AllByRecursion (λ l. is_flagged l flags ≡ true) ls
 
+-- a line is one that some of these nodes decide
+abbrev pub SomeDecides : ℕ → List Node → Type 0
+SomeDecides line [] = ⊥
+SomeDecides line (v ∷ vs) = (has line v.decided ≡ true) ⊎ SomeDecides line vs
+
+-- each flagged line is such a one
+abbrev pub AreDecided : List Bool → List Node → Type 0
+AreDecided flags vs = (line : ℕ) → is_flagged line flags ≡ true → SomeDecides line vs
+
 -- The nodes of the queue's entries: those of the entries before the place are finished, and the others are left.
 pub record AreNodes (asks : (ℕ → ℕ) → List ℕ → Type 0) (low high : ℕ → ℕ) (lines at : ℕ) (queue : List Entry) (done left : List Node) : Type 0 where
   pub split : Split asks low high done left
@@ -88,6 +97,7 @@ pub record IsOpening {Cause : Type 0} (asks : (ℕ → ℕ) → List ℕ → Typ
     (queue : List Entry) (numbers : List ℕ) (least : Option Cause) (flags : List Bool) (done left : List Node) : Type 0 where
   pub nodes : AreNodes asks low high lines at queue done left
   pub asked : AllByRecursion (λ v. AreFlagged flags v.decided) done
+  pub only : AreDecided flags done
   pub best : IsBest judged low high numbers least done
 
 -- what one run of recovery came to

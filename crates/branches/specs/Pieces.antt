@@ -2,7 +2,7 @@
 use Rattle.std.specs.Prelude.{◌≡◌, ℕ, ◌+◌, ◌<◌, Bool, Option, List, [], ◌∷◌, ◌++◌, length, take, drop}
 use Rattle.std.specs.List.{AllByRecursion}
 use Rattle.branches.specs.Branches.{IsWithin}
-use Rattle.branches.specs.Openings.{AreFlagged, IsBest, Node}
+use Rattle.branches.specs.Openings.{AreDecided, AreFlagged, IsBest, Node}
 use Rattle.branches.specs.Queue.{AreRaised, IsTree, branching, cut_at, entry_at}
 use Rattle.branches.specs.declared.pieces.Piece.{Piece}
 use Rattle.branches.specs.declared.queue.Entry.{Entry}
@@ -46,4 +46,5 @@ pub record IsPiece {Cause : Type 0} (asks : (ℕ → ℕ) → List ℕ → Type 
   pub count : length done ≡ piece.count
   pub least_size : length piece.findings.least ≡ lines
   pub asked_size : length piece.findings.asked ≡ lines
+  pub only : AreDecided piece.findings.asked done
   pub runs : AreRuns asks judged low high lines piece.first queue piece.findings.least piece.cause piece.findings.asked piece.findings.found.items done

@@ -15,14 +15,15 @@ pub struct LineSet {
 }
 
 impl Model for LineSet {
-    ghost use Rattle.std.specs.Prelude.{Bool, List};
-    ghost use Rattle.branches.specs.Numbers.{AreInList};
+    ghost use Rattle.std.specs.Prelude.{◌≡◌, ℕ, true, Bool, List};
+    ghost use Rattle.branches.specs.Numbers.{has, is_flagged, AreInList};
 
     ghost Value = { List Bool };
 
     ghost view = { λ s. s.flags.items };
 
-    ghost invariant = { λ s. AreInList s.flags.items s.lines.items };
+    ghost invariant = { λ s. AreInList s.flags.items s.lines.items
+        × ((l : ℕ) → has l s.lines.items ≡ true → is_flagged l s.flags.items ≡ true) };
 }
 
 impl LineSet {
@@ -47,13 +48,14 @@ impl LineSet {
     /// The lines that are in the set.
     pub fn lines(&self) -> &[u32]
         ensures all { (l : ℕ) → is_flagged l self.now ≡ true → has l result.now ≡ true }
+        ensures only { (l : ℕ) → has l result.now ≡ true → is_flagged l self.now ≡ true }
         ensures below { AllByRecursion (λ l. l < length self.now) result.now }
     {
         &self.lines
     }
 
     /// Puts a line into the set. True where it wasn't in it.
-    #[tactic(auto, using(crate::proofs::Listed::flag_set, crate::proofs::Listed::flag_kept, crate::proofs::Listed::flag_listed))]
+    #[tactic(auto, using(crate::proofs::Listed::flag_set, crate::proofs::Listed::flag_kept, crate::proofs::Listed::flag_listed, crate::proofs::Listed::listed_flag))]
     #[inline(always)]
     pub fn insert(&mut self, line: u32) -> Result<bool, AllocError>
         requires { line < length self.old }

@@ -2,7 +2,7 @@
 
 ghost use Rattle.std.specs.Prelude.{◌≡◌, ℕ, ◌≤◌, List, None, true, false, length, replicate, IfOk};
 ghost use Rattle.std.specs.List.{AllByRecursion};
-ghost use Rattle.branches.specs.Branches.{AreOver, IsLeastBad, IsWithin};
+ghost use Rattle.branches.specs.Branches.{AreOver, IsAsked, IsLeastBad, IsWithin};
 ghost use Rattle.branches.specs.Numbers.{is_flagged, number_over};
 ghost use Rattle.branches.specs.Opened.{IfBad, IfOver, IfPass, IfFew};
 
@@ -81,6 +81,7 @@ impl Opener {
             × (length numbers ≡ R.lines recovery.now))) }
         ensures asked { IfOk result (λ opened. IfFew opened ((k : ℕ → ℕ) → IsWithin (R.low recovery.now) (R.high recovery.now) k →
             (ls : List ℕ) → R.asks recovery.now k ls → AllByRecursion (λ l. is_flagged l self.new ≡ true) ls)) }
+        ensures only { IfOk result (λ opened. (l : ℕ) → is_flagged l self.new ≡ true → IsAsked (R.asks recovery.now) (R.low recovery.now) (R.high recovery.now) l) }
         ensures size { length self.new ≡ length self.old }
     {
         let least = self
@@ -110,6 +111,7 @@ impl Opener {
             × (length numbers ≡ R.lines recovery.now))) }
         ensures asked { IfOk result (λ opened. IfFew opened ((k : ℕ → ℕ) → IsWithin (R.low recovery.now) (R.high recovery.now) k →
             (ls : List ℕ) → R.asks recovery.now k ls → AllByRecursion (λ l. is_flagged l self.new ≡ true) ls)) }
+        ensures only { IfOk result (λ opened. (l : ℕ) → is_flagged l self.new ≡ true → IsAsked (R.asks recovery.now) (R.low recovery.now) (R.high recovery.now) l) }
         ensures size { length self.new ≡ length self.old }
     {
         let least = self

@@ -2,7 +2,7 @@
 
 ghost use Rattle.std.specs.Prelude.{◌≡◌, ◌↔◌, ℕ, ◌+◌, ◌<◌, ◌≤◌, ◌∷◌, ◌++◌, [], List, Option, Some, None, true, false, length, replicate, All, IfOk, IsSome, IsTrue, OnOk};
 ghost use Rattle.std.specs.List.{AllByRecursion};
-ghost use Rattle.branches.specs.Branches.{AreOver, ComesBefore, IsLeastBad, IsWithin};
+ghost use Rattle.branches.specs.Branches.{AreOver, ComesBefore, IsAsked, IsLeastBad, IsWithin};
 ghost use Rattle.branches.specs.Numbers.{is_flagged, number_over, AreAbove};
 ghost use Rattle.branches.specs.Opened.{IfBad, IfFew, IfOver, IfPass};
 ghost use Rattle.branches.specs.Pieces.{IsPiece};
@@ -45,6 +45,7 @@ impl Progress {
         ensures opened { OnOk result (self.new.opened ≡ 0) }
         ensures least { self.new.findings.least ≡ self.old.findings.least }
         ensures asked { length self.new.findings.asked ≡ length self.old.findings.asked }
+        ensures none { (l : ℕ) → is_flagged l self.new.findings.asked ≡ false }
     {
         self.findings.asked.clear();
         self.findings.found.clear();
@@ -279,6 +280,7 @@ impl Progress {
             × (length numbers ≡ R.lines recovery.now))) }
         ensures asked { IfOk result (λ opened. IfFew opened ((k : ℕ → ℕ) → IsWithin (R.low recovery.now) (R.high recovery.now) k →
             (ls : List ℕ) → R.asks recovery.now k ls → AllByRecursion (λ l. is_flagged l self.now.findings.asked ≡ true) ls)) }
+        ensures only { (l : ℕ) → is_flagged l self.now.findings.asked ≡ true → IsAsked (R.asks recovery.now) (R.low recovery.now) (R.high recovery.now) l }
     {
         if self.is_over(limit) {
             return Ok(Opened::Over);

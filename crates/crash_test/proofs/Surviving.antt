@@ -14,6 +14,7 @@ use Rattle.machine.proofs.Determined.{runs_once}
 use Rattle.machine.proofs.Evicting.{alike_itself, runs_alike, trace_alike}
 use Rattle.machine.proofs.RunParts.{run_grows, run_parted}
 use Rattle.machine.specs.Evicting.{hart_steps}
+use Rattle.machine.specs.Represents.{MachineView, Represents}
 use Rattle.machine.specs.Run.{Config, RunsTo}
 use Rattle.plan.specs.declared.operation.Operation.{Operation}
 use Rattle.schedule.specs.Steps.{all_steps}
@@ -26,53 +27,59 @@ use Rattle.crash_test.specs.Checking.{AlwaysPasses, Recovers, SurvivesPowerCuts}
 use Rattle.crash_test.specs.Runs.{HasTrace, Setup, start_of}
 
 -- the events of a run's first hart steps are its first events
-pub record IsFront (s : Setup) (schedule : List Item) (front : List Event) : Type 0 where
-  pub whole : Config
-  pub more : List Event
-  pub runs : RunsTo (start_of s) (all_steps schedule) whole
-  pub trace : trace_in whole.common ≡ front ++ more
-
 events_in_front : (s : Setup) (schedule : List Item) (end whole : Config) (steps rest : List Step)
     → RunsTo (start_of s) (all_steps schedule) whole → RunsTo (start_of s) steps end
-    → hart_steps (all_steps schedule) ≡ hart_steps steps ++ hart_steps rest → IsFront s schedule (trace_in end.common)
+    → hart_steps (all_steps schedule) ≡ hart_steps steps ++ hart_steps rest
+    → (more : List Event) × (trace_in whole.common ≡ trace_in end.common ++ more)
 events_in_front s schedule end whole steps rest runs first split =
     let same : hart_steps (all_steps schedule) ≡ hart_steps (steps ++ rest) = split ∙ sym (hart_steps_append steps rest) in
     let other = runs_alike (start_of s) (start_of s) whole (all_steps schedule) (steps ++ rest) (alike_itself (start_of s)) same runs in
     let parts = run_parted (start_of s) other.0 steps rest other.1 in
     let one : parts.0 ≡ end = runs_once (start_of s) steps parts.0 end parts.1 first in
     let grown = run_grows parts.0 other.0 rest parts.2 in
-    record {
-      whole = whole;
-      more = grown.0;
-      runs = runs;
-      trace = trace_alike whole other.0 other.2 ∙ grown.1 ∙ ap (λ (c : Config). trace_in c.common ++ grown.0) one;
-    }
+    (grown.0, trace_alike whole other.0 other.2 ∙ grown.1 ∙ ap (λ (c : Config). trace_in c.common ++ grown.0) one)
 
 taken_front : (front more : List Event) → take (length front) (front ++ more) ≡ front
 taken_front [] more = refl
 taken_front (event ∷ front) more = ap (λ (events : List Event). event ∷ events) (taken_front front more)
 
+-- these lines are the image of a cut of the moment of a trace right after these events of it
+pub record IsLeftAfter (start : List (List ℕ)) (trace events : List Event) (left : List (List ℕ)) : Type 0 where
+  pub within : length events ≤ length trace
+  pub front : take (length events) trace ≡ events
+  pub image : IsCutImage start (history events) left
+
+-- so it is with what a power cut leaves of a machine that has made the first hart steps of a run
+pub left_after : (s : Setup) (schedule : List Item) (whole : Config) (machine : MachineView) (end : Config) (steps rest : List Step)
+    → RunsTo (start_of s) (all_steps schedule) whole → RunsTo (start_of s) steps end
+    → hart_steps (all_steps schedule) ≡ hart_steps steps ++ hart_steps rest → Represents machine end
+    → IsLeftAfter s.medium (trace_in whole.common) (trace_in end.common) machine.shared.cache.lines
+left_after s schedule whole machine end steps rest runs first split stands =
+    let front = events_in_front s schedule end whole steps rest runs first split in
+    let size : length (trace_in whole.common) ≡ length (trace_in end.common) + length front.0 =
+    ap (λ (trace : List Event). length trace) front.1 ∙ length-append (trace_in end.common) front.0 in
+    let left : IsCutImage end.common.start (history (trace_in end.common)) machine.shared.cache.lines = leaves_a_cut machine end stands in
+    let start : end.common.start ≡ s.medium = run_start (start_of s) end steps first in
+    record {
+      within = omega arith;
+      front = ap (λ (trace : List Event). take (length (trace_in end.common)) trace) front.1 ∙ taken_front (trace_in end.common) front.0;
+      image = rw start at left;
+    }
+
 -- each cut of these events was judged
-front_passes : (plan : List Operation) (s : Setup) (schedule : List Item) (events : List Event) (left : List (List ℕ))
-    → AlwaysPasses plan s schedule → IsFront s schedule events → IsCutImage s.medium (history events) left
+left_recovers : (plan : List Operation) (s : Setup) (schedule : List Item) (whole : Config) (events : List Event) (left : List (List ℕ))
+    → AlwaysPasses plan s schedule → RunsTo (start_of s) (all_steps schedule) whole → IsLeftAfter s.medium (trace_in whole.common) events left
     → Recovers plan s.medium events left
-front_passes plan s schedule events left passes front is =
-    let taken : take (length events) (trace_in front.whole.common) ≡ events =
-    ap (λ (trace : List Event). take (length events) trace) front.trace ∙ taken_front events front.more in
-    let size : length (trace_in front.whole.common) ≡ length events + length front.more =
-    ap (λ (trace : List Event). length trace) front.trace ∙ length-append events front.more in
-    let within : length events ≤ length (trace_in front.whole.common) = omega arith in
-    let judged : Passes plan s.medium (take (length events) (trace_in front.whole.common)) is.cut =
-    passes front.whole (length events) is.cut front.runs within (rw taken is.bounds) in
-    let passed : Passes plan s.medium events is.cut = rw taken at judged in
-    record { volume = passed.volume; recovers = rw is.bytes passed.recovers; legal = passed.legal }
+left_recovers plan s schedule whole events left passes runs after =
+    let judged : Passes plan s.medium (take (length events) (trace_in whole.common)) after.image.cut =
+    passes whole (length events) after.image.cut runs after.within (rw after.front after.image.bounds) in
+    let passed : Passes plan s.medium events after.image.cut = rw after.front at judged in
+    record { volume = passed.volume; recovers = rw after.image.bytes passed.recovers; legal = passed.legal }
 
 pub survives : (plan : List Operation) (s : Setup) (schedule : List Item) (trace : List Event) (verdict : Verdict Cause)
     → HasTrace s schedule trace → IsVerdict plan s.medium trace verdict
     → (moments : ℕ) (images : Option ℕ) → verdict ≡ Pass moments images → SurvivesPowerCuts plan s schedule
 survives plan s schedule trace verdict is judged moments images passed machine end steps rest first split stands =
     let passes = always_passes plan s schedule trace verdict is judged moments images passed in
-    let front = events_in_front s schedule end is.end steps rest is.run first split in
-    let left : IsCutImage end.common.start (history (trace_in end.common)) machine.shared.cache.lines = leaves_a_cut machine end stands in
-    let start : end.common.start ≡ s.medium = run_start (start_of s) end steps first in
-    front_passes plan s schedule (trace_in end.common) machine.shared.cache.lines passes front (rw start at left)
+    let after = left_after s schedule is.end machine end steps rest is.run first split stands in
+    left_recovers plan s schedule is.end (trace_in end.common) machine.shared.cache.lines passes is.run after

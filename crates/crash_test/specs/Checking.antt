@@ -45,18 +45,22 @@ AlwaysPasses plan s schedule = (end : Config) (moment : ℕ) (cut : List (ℕ ×
     → moment ≤ length (trace_in end.common) → IsCut (at_moment (trace_in end.common) moment) cut
     → Passes plan s.medium (take moment (trace_in end.common)) cut
 
+-- Whatever machine, with a cache of whatever size, has made the first hart steps of the run, with evictions wherever they came: so it is
+-- with its events and with what a power cut leaves of it.
+abbrev pub HoldsAfterPowerCuts : Setup → List Item → (List Event → List (List ℕ) → Type 0) → Type 0
+HoldsAfterPowerCuts s schedule is_so = (machine : MachineView) (end : Config) (steps rest : List Step)
+    → RunsTo (start_of s) steps end → hart_steps (all_steps schedule) ≡ hart_steps steps ++ hart_steps rest → Represents machine end
+    → is_so (trace_in end.common) machine.shared.cache.lines
+
 -- a medium recovers to a volume that is legal after these events
 pub record Recovers (plan : List Operation) (start : List (List ℕ)) (events : List Event) (left : List (List ℕ)) : Type 0 where
   pub volume : List (List Entry)
   pub recovers : volume_of left ≡ Ok volume
   pub legal : IsLegal plan (volume_of start) events volume
 
--- Whatever machine, with a cache of whatever size, has made the first hart steps of the run, with evictions wherever they came:
--- what a power cut leaves of it recovers to a legal volume.
+-- what a power cut leaves of such a machine recovers to a legal volume
 abbrev pub SurvivesPowerCuts : List Operation → Setup → List Item → Type 0
-SurvivesPowerCuts plan s schedule = (machine : MachineView) (end : Config) (steps rest : List Step)
-    → RunsTo (start_of s) steps end → hart_steps (all_steps schedule) ≡ hart_steps steps ++ hart_steps rest → Represents machine end
-    → Recovers plan s.medium (trace_in end.common) machine.shared.cache.lines
+SurvivesPowerCuts plan s schedule = HoldsAfterPowerCuts s schedule (Recovers plan s.medium)
 
 -- the fault is that of the run's first wrong mark
 pub record HasWrongMark (plan : List Operation) (s : Setup) (schedule : List Item) (fault : OpFault) : Type 0 where

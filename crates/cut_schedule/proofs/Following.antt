@@ -142,7 +142,7 @@ split_in_time recorded k i made sum (Evict other ∷ before) after line is e =
     split_in_time recorded k i made sum before after line is e.1
 
 -- numbers of hart steps by a moment
-steps_next : (numbers : List ℕ) (i : ℕ) → steps_by numbers (i + 1) ≡ slice_index_or numbers i 0
+pub steps_next : (numbers : List ℕ) (i : ℕ) → steps_by numbers (i + 1) ≡ slice_index_or numbers i 0
 steps_next numbers i = let e : i + 1 ≡ suc i = omega arith in ap (λ (n : ℕ). steps_by numbers n) e
 
 -- event i, which its number says is made by that hart step
@@ -151,7 +151,7 @@ made_by : (c : Config) (recorded : RecordedView) (i : ℕ) → Records c recorde
 made_by c recorded i r there = r.numbers i (slice_index_or recorded.steps i 0) (slice_get-get_or recorded.steps i 0 there)
 
 -- the numbers by a moment are at most those by a later one
-steps_rise : (c : Config) (recorded : RecordedView) (i j : ℕ) → Records c recorded → length recorded.steps ≡ length recorded.trace
+pub steps_rise : (c : Config) (recorded : RecordedView) (i j : ℕ) → Records c recorded → length recorded.steps ≡ length recorded.trace
     → i ≤ j → j ≤ length recorded.trace → steps_by recorded.steps i ≤ steps_by recorded.steps j
 steps_rise c recorded zero j r each less there = omega arith
 steps_rise c recorded (suc i) zero r each less there = absurd (omega arith)
@@ -221,7 +221,7 @@ pub record IsAt (recorded : RecordedView) (k : ℕ → ℕ) (last i : ℕ) (left
   pub lines : length due ≡ length recorded.start
 
 -- one event further
-further_steps : (recorded : RecordedView) (made many now : ℕ) (steps : List Step) → now ≡ made + many
+pub further_steps : (recorded : RecordedView) (made many now : ℕ) (steps : List Step) → now ≡ made + many
     → hart_steps steps ≡ take made (recorded_steps recorded)
     → hart_steps (steps ++ take many (drop made (recorded_steps recorded))) ≡ take now (recorded_steps recorded)
 further_steps recorded made many now steps sum same =
@@ -231,7 +231,7 @@ further_steps recorded made many now steps sum same =
     ∙ sym (take_then made many (recorded_steps recorded))
     ∙ ap (λ (n : ℕ). take n (recorded_steps recorded)) (sym sum)
 
-with_eviction : (steps : List Step) (o : Option ℕ) → hart_steps (steps ++ eviction_of o) ≡ hart_steps steps
+pub with_eviction : (steps : List Step) (o : Option ℕ) → hart_steps (steps ++ eviction_of o) ≡ hart_steps steps
 with_eviction steps o =
     hart_steps_append steps (eviction_of o) ∙ ap (λ (l : List Step). hart_steps steps ++ l) (no_hart_steps o)
     ∙ append-nil (hart_steps steps)
@@ -254,7 +254,7 @@ further_in_time recorded k i made many number event steps o due there made_is in
     (longer recorded k (i + 1) 0 (length (hart_steps steps)) steps between (omega arith) (later recorded k i 0 steps e) alone)
     (eviction_in_time recorded k i number event o due there made_is)
 
-further_from : (c : Config) (recorded : RecordedView) (k : ℕ → ℕ) (last i made now : ℕ) (event : Event) (steps : List Step) (o : Option ℕ)
+pub further_from : (c : Config) (recorded : RecordedView) (k : ℕ → ℕ) (last i made now : ℕ) (event : Event) (steps : List Step) (o : Option ℕ)
     → Records c recorded → length recorded.steps ≡ length recorded.trace → i < length recorded.trace
     → slice_index_or recorded.steps i 0 ≤ last → get_or recorded.trace i event ≡ event
     → line_due k (at_moment recorded.trace i) event ≡ o

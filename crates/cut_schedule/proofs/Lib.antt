@@ -4,3 +4,4 @@ pub mod Leaving
 pub mod Lists
 pub mod RunFrom
 pub mod Counting
+pub mod Existing

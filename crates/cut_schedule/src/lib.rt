@@ -2,6 +2,8 @@
 #![tactic(auto)]
 
 pub use explaining::explain;
+pub use laws::every_cut_has_a_schedule;
 
 mod explaining;
+mod laws;
 mod recorded_steps;

@@ -1,8 +1,8 @@
 -- The verdict on the run of a program by a schedule, by a recovery routine.
-use Rattle.std.specs.Prelude.{◌≢◌, ℕ, ◌<◌, ◌≤◌, Bool, List, [], Option, None, length}
+use Rattle.std.specs.Prelude.{◌≡◌, ◌≢◌, ℕ, ◌<◌, ◌≤◌, Bool, List, [], Option, None, Ok, length}
 use Rattle.crash_model.specs.Cut.{IsCut, number_in}
 use Rattle.image_check.specs.Marks.{begun}
-use Rattle.image_judge.specs.RightAnswers.{IsFoundOf, is_among}
+use Rattle.image_judge.specs.RightAnswers.{IsFoundOf, IsRightOf, is_among}
 use Rattle.image_judge.specs.Verdicts.{IsVerdict, first_judged}
 use Rattle.image_judge.specs.Views.{JudgeView}
 use Rattle.image_judge.specs.declared.cause.Cause.{Cause}
@@ -14,18 +14,21 @@ use Rattle.judge_marks.specs.declared.fault.MarkFault.{MarkFault}
 use Rattle.judge_marks.specs.declared.fault.MarkFault.TheVariants as marks
 use Rattle.judge_marks.specs.declared.moments.Window.{Window}
 use Rattle.shared_memory.specs.Replies.{trace_in}
-use Rattle.machine.specs.Run.{Config, RunsTo}
+use Rattle.machine.specs.Run.{Config, RunsTo, started}
 use Rattle.moment_verdict.specs.declared.verdict.Verdict.{Verdict}
 use Rattle.program.specs.Sections.{Sections}
 use Rattle.parallel_moments.specs.Rows.{end_of}
 use Rattle.program_judge.specs.declared.judging.JudgingFault.{JudgingFault}
 use Rattle.program_judge.specs.declared.judging.JudgingFault.TheVariants.{Step as StepRefused, Marks as WrongMarks, NoSuchMoment, Memory}
+use Rattle.recovery_run.specs.Answers.{answer}
+use Rattle.recovery_run.specs.Recovery.{RunsFor}
 use Rattle.schedule.specs.Steps.{all_steps}
 use Rattle.schedule.specs.declared.items.Item.{Item}
 use Rattle.shared_memory.specs.declared.fault.StepFault.{StepFault}
 use Rattle.shared_memory.specs.declared.fault.StepFault.TheVariants as refused
 use Rattle.store_trace.specs.History.{at_moment}
 use Rattle.store_trace.specs.declared.event.Event.{Event}
+use Rattle.crash_test.specs.Checking.{HoldsAfterPowerCuts}
 use Rattle.crash_test.specs.Runs.{HasTrace, IsRefused, Setup, fault_of_run, start_of}
 
 -- the routine, for so many steps at most, over these events of a run from the setup's medium
@@ -51,6 +54,24 @@ abbrev pub AlwaysRecovers : Setup → List Item → Sections → ℕ → Type 0
 AlwaysRecovers s schedule recovery steps = (end : Config) (moment : ℕ) (cut : List (ℕ × ℕ)) → RunsTo (start_of s) (all_steps schedule) end
     → first_judged (trace_in end.common) ≤ moment → moment ≤ length (trace_in end.common) → IsCut (at_moment (trace_in end.common) moment) cut
     → IsRightAt (view_of s recovery steps (trace_in end.common)) moment (number_in cut)
+
+-- the routine, run on this medium, ends well, and its answer is a right one of the moment
+pub record AnswersRightly (view : JudgeView) (moment : ℕ) (left : List (List ℕ)) : Type 0 where
+  pub window : Window
+  pub is_window : IsWindow view.events moment window
+  pub end : Config
+  pub full : Bool
+  pub runs : RunsFor (started view.routine left 1) view.steps end full
+  pub bytes : List ℕ
+  pub answers : Ok bytes ≡ answer end full
+  pub right : IsRightOf view (is_among window moment) bytes
+
+-- Whatever machine, with a cache of whatever size, has made the first hart steps of the run and with them its first Begin, with evictions
+-- wherever they came: on what a power cut leaves of it the routine answers rightly.
+abbrev pub SurvivesPowerCuts : Setup → List Item → Sections → ℕ → Type 0
+SurvivesPowerCuts s schedule recovery steps = (whole : Config) → RunsTo (start_of s) (all_steps schedule) whole
+    → HoldsAfterPowerCuts s schedule (λ events left. first_judged (trace_in whole.common) ≤ length events
+    → AnswersRightly (view_of s recovery steps (trace_in whole.common)) (length events) left)
 
 -- the run's first wrong mark has this fault, or no operation begins in it
 pub record HasWrongMarks (s : Setup) (schedule : List Item) (overlapping : Bool) (fault : MarkFault) : Type 0 where

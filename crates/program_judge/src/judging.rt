@@ -1,6 +1,6 @@
 //! The verdict on a run of a program by a recovery routine.
 
-ghost use Rattle.program_judge.specs.Judging.{AlwaysRecovers, HasNoJudgement, HasJudgement};
+ghost use Rattle.program_judge.specs.Judging.{AlwaysRecovers, HasNoJudgement, HasJudgement, SurvivesPowerCuts};
 ghost use Rattle.std.specs.Prelude.{◌≡◌, ◌<◌, ◌≤◌, ℕ, IfErr, IfOk, IfSome, Ok, None, Option};
 ghost use Rattle.crash_test.specs.Runs.{with_room};
 
@@ -97,9 +97,12 @@ pub fn judge_program<T: Threads + Sync>(
     requires workers { (0 < workers) × (workers ≤ 8) }
     ensures ok { IfOk result (HasJudgement (with_room program medium.now harts) schedule.now judgement.entry.recovery.now judgement.entry.steps judgement.entry.overlapping first last) }
 
-    // Pass of the whole: on every image of every judged moment the routine has an answer, and a right one.
+    // Pass of the whole: on every image of every judged moment the routine has an answer, and a right one; and so it has on what a power
+    // cut leaves of any machine, with a cache of any size, that has made the first hart steps of the run with evictions anywhere.
     ensures pass { (moments : ℕ) (images : Option ℕ) → result ≡ Ok (Verdict.Pass moments images) → first ≡ 0 → last ≡ None →
         AlwaysRecovers (with_room program medium.now harts) schedule.now judgement.entry.recovery.now judgement.entry.steps }
+    ensures survives { (moments : ℕ) (images : Option ℕ) → result ≡ Ok (Verdict.Pass moments images) → first ≡ 0 → last ≡ None →
+        SurvivesPowerCuts (with_room program medium.now harts) schedule.now judgement.entry.recovery.now judgement.entry.steps }
     ensures err { IfErr result (HasNoJudgement (with_room program medium.now harts) schedule.now judgement.entry.overlapping first) }
 {
     let trace = trace_of(alloc, program, medium, harts, schedule)?;

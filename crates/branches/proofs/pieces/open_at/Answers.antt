@@ -6,7 +6,7 @@ use Rattle.branches.specs.Pieces.{AreRuns}
 use Rattle.branches.specs.Queue.{cut_at}
 use Rattle.branches.specs.declared.queue.Entry.{Entry}
 use Rattle.branches.proofs.Nodes.{node}
-use Rattle.branches.proofs.Opening.{best_above, count_last, flagged_now, flagged_still, runs_join, runs_one}
+use Rattle.branches.proofs.Opening.{best_above, count_last, decided_more, flagged_now, flagged_one, flagged_still, runs_join, runs_one}
 use Rattle.branches.proofs.pieces.open_at.Goals as goal
 
 pub returns-clause-piece : goal.returns-clause-piece
@@ -37,6 +37,7 @@ returns-clause-piece g c =
       count = count_last old.done v ∙ ap (λ (n : ℕ). n + 1) old.count;
       least_size = c.add.ensures.least_size ∙ old.least_size;
       asked_size = c.add.ensures.asked_size ∙ old.asked_size;
+      only = decided_more p.findings.asked new.asked old.done (v ∷ []) (flagged_one p.findings.asked new.asked v flags) old.only;
       runs = subst (λ (es : List Entry). AreRuns (r.asks s) (r.judged s) (r.low s) (r.high s) (r.lines s) p.first queue new.least c.in_ok-piece.field-0 new.asked es (old.done ++ v ∷ [])) (sym {A = List Entry} items) all;
     }
 

@@ -4,7 +4,7 @@ use Rattle.std.specs.Prelude.{IsTrue}
 use Rattle.branches.specs.Branches.{IsLeastBad}
 use Rattle.branches.specs.Numbers.{number_over}
 use Rattle.branches.specs.Openings.{IsAt}
-use Rattle.branches.proofs.Opening.{at_asked, at_bad, at_few, at_over, at_pass}
+use Rattle.branches.proofs.Opening.{at_asked, at_bad, at_few, at_only, at_over, at_pass}
 use Rattle.branches.proofs.progress.Progress.finish.Goals as goal
 
 -- there are not over so many
@@ -74,3 +74,31 @@ returns-in-None-clause-asked g c =
     let p = c.args.self.now in
     at_asked (r.asks s) (r.judged s) (r.low s) (r.high s) (r.lines s) p.opened p.findings.found.items p.findings.least c.args.least p.findings.asked
     (g.met.R.Recovery.adaptive s) (c.requires.whole (few_of c.is_over.ensures c.if-is_over.false)) c.requires.at
+
+pub returns-then-is_over-clause-only : goal.returns-then-is_over-clause-only
+returns-then-is_over-clause-only g c =
+    let r = g.R.Recovery in
+    let s = c.args.recovery.now in
+    let p = c.args.self.now in
+    at_only (r.asks s) (r.judged s) (r.low s) (r.high s) (r.lines s) p.opened p.findings.found.items p.findings.least c.args.least p.findings.asked c.requires.at
+
+pub returns-in_err-to_vec-in-Some-clause-only : goal.returns-in_err-to_vec-in-Some-clause-only
+returns-in_err-to_vec-in-Some-clause-only g c =
+    let r = g.R.Recovery in
+    let s = c.args.recovery.now in
+    let p = c.args.self.now in
+    at_only (r.asks s) (r.judged s) (r.low s) (r.high s) (r.lines s) p.opened p.findings.found.items p.findings.least c.args.least p.findings.asked c.requires.at
+
+pub returns-in_ok-to_vec-in-Some-clause-only : goal.returns-in_ok-to_vec-in-Some-clause-only
+returns-in_ok-to_vec-in-Some-clause-only g c =
+    let r = g.R.Recovery in
+    let s = c.args.recovery.now in
+    let p = c.args.self.now in
+    at_only (r.asks s) (r.judged s) (r.low s) (r.high s) (r.lines s) p.opened p.findings.found.items p.findings.least c.args.least p.findings.asked c.requires.at
+
+pub returns-in-None-clause-only : goal.returns-in-None-clause-only
+returns-in-None-clause-only g c =
+    let r = g.R.Recovery in
+    let s = c.args.recovery.now in
+    let p = c.args.self.now in
+    at_only (r.asks s) (r.judged s) (r.low s) (r.high s) (r.lines s) p.opened p.findings.found.items p.findings.least c.args.least p.findings.asked c.requires.at

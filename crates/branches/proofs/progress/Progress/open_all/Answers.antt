@@ -9,7 +9,7 @@ loop-alloc-init g c =
     let s = c.args.recovery.now in
     let p = c.begin.new.self in
     let e = c.in_ok-begin.ensures in
-    let first = at_first (r.asks s) (r.judged s) (r.low s) (r.high s) (r.lines s) p.findings.found.items p.findings.least p.findings.asked (g.met.R.Recovery.ordered s) e.queue in (
+    let first = at_first (r.asks s) (r.judged s) (r.low s) (r.high s) (r.lines s) p.findings.found.items p.findings.least p.findings.asked (g.met.R.Recovery.ordered s) e.queue c.begin.ensures.none in (
       subst (λ (n : ℕ). IsAt (r.asks s) (r.judged s) (r.low s) (r.high s) (r.lines s) n p.findings.found.items p.findings.least None p.findings.asked) (sym e.opened) first,
       c.begin.ensures.asked,
       ap length c.begin.ensures.least,

@@ -10,7 +10,7 @@ loop-alloc-init g c =
     let laws = g.met.R.Recovery g.world.𝓛 g.world.𝓜 g.world.𝓡 ((λ s x. x), (λ x. x), (λ x. x), λ x. x) in
     let p = c.begin.new.self in
     let e = c.in_ok-begin.ensures in
-    let first = at_first (r.asks s) (r.judged s) (r.low s) (r.high s) (r.lines s) p.findings.found.items p.findings.least p.findings.asked (laws.ordered s) e.queue in (
+    let first = at_first (r.asks s) (r.judged s) (r.low s) (r.high s) (r.lines s) p.findings.found.items p.findings.least p.findings.asked (laws.ordered s) e.queue c.begin.ensures.none in (
       subst (λ (n : ℕ). IsAt (r.asks s) (r.judged s) (r.low s) (r.high s) (r.lines s) n p.findings.found.items p.findings.least None p.findings.asked) (sym e.opened) first,
       c.begin.ensures.asked,
       ap length c.begin.ensures.least,

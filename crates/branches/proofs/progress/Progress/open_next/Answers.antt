@@ -3,7 +3,7 @@ use Rattle.std.specs.List.{AllByRecursion}
 use Rattle.branches.specs.Numbers.{has, is_flagged}
 use Rattle.branches.specs.Openings.{IsAt, IsRun}
 use Rattle.branches.specs.declared.queue.Entry.{Entry}
-use Rattle.branches.proofs.Opening.{at_many, at_within, best_above, flagged_now, flagged_still, runs_one}
+use Rattle.branches.proofs.Opening.{at_many, at_within, best_above, flagged_now, flagged_one, flagged_still, runs_one}
 use Rattle.branches.proofs.Nodes.{node}
 use Rattle.branches.specs.Queue.{cut_at}
 use Rattle.branches.proofs.progress.Progress.open_next.Goals as goal
@@ -50,6 +50,7 @@ returns-clause-at g c =
     (best_above (r.judged s) (r.low s) (r.high s) p.findings.least c.args.least c.requires.at.done c.requires.at.opening.best) in
     let next = at_many (r.asks s) (r.judged s) (r.low s) (r.high s) (r.lines s) p.opened queue one.found.items one.numbers p.findings.least new.least
     c.in_ok-judged.judged c.args.least c.in_ok-kept.kept p.findings.asked new.asked new.asked (node (cut_at (r.low s) queue p.opened) one.asked.items ∷ [])
-    (g.met.R.Recovery.adaptive s) runs less (flagged_still p.findings.asked new.asked one.asked.items flags) (λ l t. t) c.requires.at in
+    (g.met.R.Recovery.adaptive s) runs less (flagged_still p.findings.asked new.asked one.asked.items flags) (λ l t. t)
+    (flagged_one p.findings.asked new.asked (node (cut_at (r.low s) queue p.opened) one.asked.items) flags) c.requires.at in
     let items : new.found.items ≡ queue ++ one.found.items = subst (λ (es : List Entry). new.found.items ≡ queue ++ es) c.deref-3.ensures.value c.in_ok-kept.ensures.found in
     subst (λ (q : List Entry). IsAt (r.asks s) (r.judged s) (r.low s) (r.high s) (r.lines s) (p.opened + 1) q new.least c.in_ok-kept.kept new.asked) (sym {A = List Entry} items) next

@@ -4,7 +4,7 @@ use Rattle.branches.specs.Openings.{IsAt}
 use Rattle.branches.specs.Pieces.{AreRuns}
 use Rattle.branches.specs.declared.queue.Entry.{Entry}
 use Rattle.branches.proofs.Answering.{answers_end}
-use Rattle.branches.proofs.Opening.{at_many, at_most, best_above, flagged_now, flagged_still}
+use Rattle.branches.proofs.Opening.{at_many, at_most, best_above, flagged_from, flagged_now, flagged_still}
 use Rattle.branches.proofs.progress.Progress.take_piece.Goals as goal
 
 pub returns-clause-at : goal.returns-clause-at
@@ -25,7 +25,8 @@ returns-clause-at g c =
     let lines = c.lines.result.now in
     let next = at_many (r.asks s) (r.judged s) (r.low s) (r.high s) (r.lines s) p.opened queue piece.findings.found.items piece.findings.least p.findings.least new.least
     piece.cause c.args.least c.in_ok-kept.kept p.findings.asked piece.findings.asked new.asked theirs.done (g.met.R.Recovery.adaptive s) runs less
-    (flagged_still p.findings.asked new.asked lines flags) (λ l t. flagged_now p.findings.asked new.asked lines flags l (c.lines.ensures.all l t)) c.requires.at in
+    (flagged_still p.findings.asked new.asked lines flags) (λ l t. flagged_now p.findings.asked new.asked lines flags l (c.lines.ensures.all l t))
+    (λ l t. elim (flagged_from p.findings.asked new.asked lines flags l t) [ inl was ↦ inl was | inr here ↦ inr (theirs.only l (c.lines.ensures.only l here)) ]) c.requires.at in
     let items : new.found.items ≡ queue ++ piece.findings.found.items = subst (λ (es : List Entry). new.found.items ≡ queue ++ es) c.deref.ensures.value c.in_ok-kept.ensures.found in
     subst (λ (n : ℕ). IsAt (r.asks s) (r.judged s) (r.low s) (r.high s) (r.lines s) (p.opened + n) new.found.items new.least c.in_ok-kept.kept new.asked) theirs.count
     (subst (λ (q : List Entry). IsAt (r.asks s) (r.judged s) (r.low s) (r.high s) (r.lines s) (p.opened + length theirs.done) q new.least c.in_ok-kept.kept new.asked)
