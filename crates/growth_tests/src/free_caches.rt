@@ -4,7 +4,7 @@ ghost use Rattle.index_list.specs.Lists.{has, list_of};
 ghost use Rattle.lru_cache.specs.Cache.{IsOver};
 ghost use Rattle.std.specs.Prelude.{◌≡◌, ◌<◌, ◌≤◌, true, false, length};
 
-use crate::ending::{Refused, ended, ready};
+use crate::ending::{Refused, ended};
 use crate::samples::zeros;
 use clean_fence::PmCache;
 use index_list::Arena;
@@ -72,9 +72,10 @@ static LIST_CALLS: [ListCall; 6] = [
 ];
 
 fn listed(alloc: Global) -> Result<bool, Refused> {
-    let mut lists = FourNodes {
-        arena: ready(Arena::new(alloc, 4))?,
+    let Ok(arena) = Arena::new(alloc, 4) else {
+        return Err(Refused::SetUp);
     };
+    let mut lists = FourNodes { arena };
     for call in &LIST_CALLS {
         if !lists.make(*call) {
             return Ok(false);
@@ -122,8 +123,10 @@ impl Layers {
         if medium.lines() != 512 {
             return Err(Refused::SetUp);
         }
-        let cache = ready(Cache::new(alloc, capacity, medium.lines()))?;
-        Ok(Layers { cache, medium })
+        match Cache::new(alloc, capacity, medium.lines()) {
+            Ok(cache) => Ok(Layers { cache, medium }),
+            Err(_) => Err(Refused::SetUp),
+        }
     }
 
     /// Makes a call, and tells whether it finds what it is to find. One that may not be made now is not made.
@@ -226,8 +229,10 @@ impl Persistent {
         if medium.lines() != 512 {
             return Err(Refused::SetUp);
         }
-        let pm = ready(PmCache::new(alloc, medium, capacity, 8))?;
-        Ok(Persistent { pm })
+        match PmCache::new(alloc, medium, capacity, 8) {
+            Ok(pm) => Ok(Persistent { pm }),
+            Err(_) => Err(Refused::SetUp),
+        }
     }
 
     /// Makes a call, and tells whether it finds what it is to find. One of another line or hart is not made.

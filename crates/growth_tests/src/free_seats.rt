@@ -76,20 +76,20 @@ fn claim_bad(desk: &CheckDesk, seat: &mut DeskSeat) -> Option<u32>
     Some(moment)
 }
 
-/// Whether two of eight seats get two moments in turn, of which the second is told to be bad.
+/// Whether two seats get two moments in turn, of which the second is told to be bad.
 fn gives_moments(desk: CheckDesk, mut seats: Vec<DeskSeat>) -> bool
-    requires workers { desk.workers ≡ 8 }
-    requires seats { seats.items ≡ replicate 8 (fresh_desk_seat desk.name) }
+    requires workers { desk.workers ≡ 2 }
+    requires seats { seats.items ≡ replicate 2 (fresh_desk_seat desk.name) }
 {
     let first = desk.claim(&mut seats[0]);
     let unseen = seats[0].seen();
-    let second = claim_bad(&desk, &mut seats[7]);
+    let second = claim_bad(&desk, &mut seats[1]);
     let result = desk.close(seats);
     first == Some(0) && unseen == None && second == Some(1) && result == RESULT
 }
 
 fn given(alloc: Global) -> Result<bool, Refused> {
-    match CheckDesk::new(alloc, 5, 8) {
+    match CheckDesk::new(alloc, 5, 2) {
         Ok((desk, seats)) => Ok(gives_moments(desk, seats)),
         Err(_) => Err(Refused::SetUp),
     }
