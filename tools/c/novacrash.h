@@ -57,7 +57,7 @@ static inline void nc_exit(unsigned long code)
 }
 
 /* A recovery routine ends here, with these bytes of data memory as its answer. */
-static inline void nc_answer(const void *bytes, unsigned long length)
+__attribute__((noreturn)) static inline void nc_answer(const void *bytes, unsigned long length)
 {
     register unsigned long a0 __asm__("a0") = 0;
     register const void *a1 __asm__("a1") = bytes;
