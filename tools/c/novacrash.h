@@ -56,4 +56,15 @@ static inline void nc_exit(unsigned long code)
     __builtin_unreachable();
 }
 
+/* A recovery routine ends here, with these bytes of data memory as its answer. */
+__attribute__((noreturn)) static inline void nc_answer(const void *bytes, unsigned long length)
+{
+    register unsigned long a0 __asm__("a0") = 0;
+    register const void *a1 __asm__("a1") = bytes;
+    register unsigned long a2 __asm__("a2") = length;
+    register unsigned long a7 __asm__("a7") = 93;
+    __asm__ volatile("ecall" : : "r"(a0), "r"(a1), "r"(a2), "r"(a7) : "memory");
+    __builtin_unreachable();
+}
+
 #endif
