@@ -1,5 +1,5 @@
 -- What clap's errors and values say of a line.
-use Rattle.std.proofs.Common.{◌≡◌, ◌∙◌, List, [], ◌∷◌, Option, Some, None, refl, subst, sym, true, inl, inr, option_map}
+use Rattle.std.proofs.Common.{◌≡◌, ◌∙◌, List, [], ◌∷◌, Option, Some, None, refl, subst, sym, true, inl, inr, option_map, codes}
 use Rattle.std.specs.Prelude.{◌≢◌, ◌⊎◌, Box, MatchOption, Result, Ok, Err, IfOk, IfErr}
 use Rattle.std.specs.Borrow.{Bor}
 use Rattle.std.specs.Box.{box_value}
@@ -17,8 +17,8 @@ use Rattle.clap.specs.declared.parser.matches.ArgMatches.TheViews.{out-SubComman
 use Rattle.clap.proofs.WalkLemmas.{first_value-rows}
 use Rattle.code_table.specs.Codes.{IsMeaningOf}
 use Rattle.code_table.specs.declared.table.Meaning.{Meaning}
-use Rattle.arguments.specs.Grammar.{IsGrammar, novacrash, making, running, telling, judging, showing, assemble_shape, make_volume_shape, upgrade_shape, run_shape, replay_shape, debug_shape, trace_shape, unpersisted_shape, waste_shape, images_shape, explain_shape, check_shape, judge_shape, picture_shape, interleave_shape, show_shape, listing_shape, code_shape}
-use Rattle.arguments.specs.Line.{IsAsked, IsCommand, IsFault, IsKindOf, IsOf, OnFault, Refuses}
+use Rattle.arguments.specs.Grammar.{IsGrammar, novacrash, making, running, telling, judging, showing, assemble_shape, make_volume_shape, upgrade_shape, run_shape, replay_shape, debug_shape, trace_shape, unpersisted_shape, waste_shape, images_shape, explain_shape, check_shape, judge_shape, picture_shape, interleave_shape, show_shape, listing_shape, code_shape, help_shape}
+use Rattle.arguments.specs.Line.{IsAsked, IsCommand, IsFault, IsHelp, IsHelpLine, IsKindOf, IsNoCommand, IsOf, OnFault, Refuses}
 use Rattle.arguments.specs.Values.{IsCodeWord}
 use Rattle.arguments.specs.declared.asked.Command.{Command}
 use Rattle.arguments.specs.declared.asked.LineFault.{LineFault}
@@ -45,18 +45,19 @@ refused_by_kind : (words : List Text) (kind : ErrorKind) (fault : LineFault)
     → (kind ≡ kinds.OutOfMemory) ⊎ IsAmong kind (fault_of novacrash words) → IsKindOf kind fault → Refuses words fault
 refused_by_kind words kind (Help text) (inl memory) is = absurd cc
 refused_by_kind words kind (Help text) (inr among) is =
-    let P : ErrorKind → Type 0 = λ k. IsAmong k (fault_of novacrash words) in subst P is among
+    let P : ErrorKind → Type 0 = λ k. IsAmong k (fault_of novacrash words) in inl (subst P is among)
 refused_by_kind words kind (Fault text) (inl memory) is = absurd (is.1 memory)
 refused_by_kind words kind (Fault text) (inr among) is =
-    (others kind (fault_of novacrash words) among is.0, λ command line. some kind (fault_of novacrash words) among line.grammatical)
+    let faulty : fault_of novacrash words ≢ [] = some kind (fault_of novacrash words) among in
+    (others kind (fault_of novacrash words) among is.0, λ help. faulty help.grammatical, λ command line. faulty line.grammatical)
 refused_by_kind words kind Memory among is = tt
 
 simple_and_free : is_simple_and_free novacrash ≡ true
-unfolding novacrash making running telling judging showing assemble_shape make_volume_shape upgrade_shape run_shape replay_shape debug_shape trace_shape unpersisted_shape waste_shape images_shape explain_shape check_shape judge_shape picture_shape interleave_shape show_shape listing_shape code_shape
+unfolding novacrash making running telling judging showing assemble_shape make_volume_shape upgrade_shape run_shape replay_shape debug_shape trace_shape unpersisted_shape waste_shape images_shape explain_shape check_shape judge_shape picture_shape interleave_shape show_shape listing_shape code_shape help_shape
 simple_and_free = refl
 
 simple : is_simple novacrash ≡ true
-unfolding novacrash making running telling judging showing assemble_shape make_volume_shape upgrade_shape run_shape replay_shape debug_shape trace_shape unpersisted_shape waste_shape images_shape explain_shape check_shape judge_shape picture_shape interleave_shape show_shape listing_shape code_shape
+unfolding novacrash making running telling judging showing assemble_shape make_volume_shape upgrade_shape run_shape replay_shape debug_shape trace_shape unpersisted_shape waste_shape images_shape explain_shape check_shape judge_shape picture_shape interleave_shape show_shape listing_shape code_shape help_shape
 simple = refl
 
 -- an error of the grammar's parse is refused by the fault for its kind
@@ -105,15 +106,25 @@ is_command words name rows (Ok command) grammatical used is =
     record { grammatical = grammatical; asked = subst P (sym used) is }
 is_command words name rows (Err fault) grammatical used is = tt
 
--- a line without a fault asks for no command, where its subcommand asks for none
+-- a subcommand with another name than `help` gives no command where none is asked for
+pub other_than_help : (name : Text) (rows : List Row) (result : Result Command LineFault) → name ≢ codes "help"
+    → IfErr result (OnFault ((command : Command) → ¬ (IsOf name rows command))) → IfErr result (IsNoCommand name rows)
+other_than_help name rows (Ok command) other none = tt
+other_than_help name rows (Err (Help text)) other none = absurd none
+other_than_help name rows (Err (Fault text)) other none = (other, none)
+other_than_help name rows (Err Memory) other none = tt
+
+-- a line without a fault asks for no command, where its subcommand gives none
 pub asks_none : (words : List Text) (name : Text) (rows : List Row) (result : Result Command LineFault) → fault_of novacrash words ≡ []
-    → subcommand_of novacrash words ≡ Some (name, rows) → IfErr result (OnFault ((command : Command) → ¬ (IsOf name rows command)))
-    → IfErr result (Refuses words)
+    → subcommand_of novacrash words ≡ Some (name, rows) → IfErr result (IsNoCommand name rows) → IfErr result (Refuses words)
 asks_none words name rows (Ok command) grammatical used none = tt
-asks_none words name rows (Err (Help text)) grammatical used none = absurd none
+asks_none words name rows (Err (Help text)) grammatical used is =
+    let P : Option (Text × List Row) → Type 0 = λ sub. IsHelp sub in
+    inr (record { grammatical = grammatical; asked = subst P (sym used) is })
 asks_none words name rows (Err (Fault text)) grammatical used none =
     let P : (c : Command) → Option (Text × List Row) → Type 0 = λ c sub. IsAsked sub c in
-    (λ e. absurd cc, λ command line. none command (subst (P command) used line.asked))
+    let Q : Option (Text × List Row) → Type 0 = λ sub. IsHelp sub in
+    (λ e. absurd cc, λ help. none.0 (subst Q used help.asked), λ command line. none.1 command (subst (P command) used line.asked))
 asks_none words name rows (Err Memory) grammatical used none = tt
 
 -- nor where it has no subcommand
@@ -122,7 +133,8 @@ pub has_none : (words : List Text) (fault : LineFault) → fault_of novacrash wo
 has_none words (Help text) grammatical used is = absurd is
 has_none words (Fault text) grammatical used is =
     let P : (c : Command) → Option (Text × List Row) → Type 0 = λ c sub. IsAsked sub c in
-    (λ e. absurd cc, λ command line. absurd (subst (P command) used line.asked))
+    let Q : Option (Text × List Row) → Type 0 = λ sub. IsHelp sub in
+    (λ e. absurd cc, λ help. absurd (subst Q used help.asked), λ command line. absurd (subst (P command) used line.asked))
 has_none words Memory grammatical used is = absurd is
 
 -- a word that is none of the codes has no meaning

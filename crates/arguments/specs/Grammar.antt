@@ -160,11 +160,15 @@ listing_shape = record (new_shape (codes "listing")) { rules = needed_word (code
 unfoldable pub code_shape : Shape
 code_shape = record (new_shape (codes "code")) { rules = optional_word (codes "CODE") ∷ help_option ∷ [] }
 
+-- `help`
+unfoldable pub help_shape : Shape
+help_shape = record (new_shape (codes "help")) { rules = help_option ∷ [] }
+
 -- a command with no subcommand
 abbrev pub leaf : Shape → App
 leaf shape = record { top = shape; subs = [] }
 
--- the line before it has a subcommand: no `help` subcommand, no `-h`, and a subcommand has to be given
+-- the line before it has a subcommand: no `help` subcommand of clap's, no `-h`, and a subcommand has to be given
 abbrev pub bare : Shape
 bare = record (new_shape (codes "novacrash")) {
   rules = help_option ∷ [];
@@ -197,7 +201,7 @@ unfoldable pub judging : List Shape
 judging = check_shape ∷ judge_shape ∷ []
 
 unfoldable pub showing : List Shape
-showing = picture_shape ∷ interleave_shape ∷ show_shape ∷ listing_shape ∷ code_shape ∷ []
+showing = picture_shape ∷ interleave_shape ∷ show_shape ∷ listing_shape ∷ code_shape ∷ help_shape ∷ []
 
 -- the whole line
 unfoldable pub novacrash : App

@@ -1,5 +1,5 @@
 -- Which command a line asks for, by what clap's specification says of its words.
-use Rattle.std.specs.Prelude.{string_bytes, ◌≡◌, ◌≢◌, ◌≤◌, ◌<◌, ◌^◌, ℕ, Bool, List, [], ◌∷◌, Option, Some, None, IfSome, codes, ⊤}
+use Rattle.std.specs.Prelude.{string_bytes, ◌≡◌, ◌≢◌, ◌≤◌, ◌<◌, ◌^◌, ◌⊎◌, ℕ, Bool, List, [], ◌∷◌, Option, Some, None, IfSome, codes, ⊤}
 use Rattle.clap.specs.Words.{Row, Text, fault_of, first_of, subcommand_of}
 use Rattle.clap.specs.Kinds.{IsAmong}
 use Rattle.clap.specs.declared.error.ErrorKind.{ErrorKind}
@@ -243,21 +243,37 @@ IsWithinLimits (Show command) = IfSome command.line (λ line. line < 2 ^ 32)
 IsWithinLimits (Listing command) = ⊤
 IsWithinLimits (Code command) = ⊤
 
--- help comes where the grammar answers with help, and a fault where the line asks for no command
--- and not for help alone
+-- why a subcommand gives no command: it is `help`, or none is asked for by these values
+abbrev pub IsNoCommand : Text → List Row → LineFault → Type 0
+IsNoCommand name rows (Help text) = name ≡ codes "help"
+IsNoCommand name rows (Fault text) = (name ≢ codes "help") × ((command : Command) → ¬ (IsOf name rows command))
+IsNoCommand name rows Memory = ⊤
+
+-- the subcommand of a line is `help`
+abbrev pub IsHelp : Option (Text × List Row) → Type 0
+IsHelp None = ⊥
+IsHelp (Some (name, rows)) = name ≡ codes "help"
+
+-- the line has no fault in its grammar, and is `help`
+pub record IsHelpLine (words : List Text) : Type 0 where
+  pub grammatical : fault_of novacrash words ≡ []
+  pub asked : IsHelp (subcommand_of novacrash words)
+
+-- help comes where the grammar answers with help, or the line is `help`; and a fault where the line asks for no command,
+-- isn't `help`, and doesn't ask for help alone by its grammar
 abbrev pub Refuses : List Text → LineFault → Type 0
-Refuses words (Help text) = IsAmong kinds.DisplayHelp (fault_of novacrash words)
-Refuses words (Fault text) = (fault_of novacrash words ≢ kinds.DisplayHelp ∷ [])
+Refuses words (Help text) = IsAmong kinds.DisplayHelp (fault_of novacrash words) ⊎ IsHelpLine words
+Refuses words (Fault text) = (fault_of novacrash words ≢ kinds.DisplayHelp ∷ []) × (¬ IsHelpLine words)
     × ((command : Command) → ¬ IsCommand words command)
 Refuses words Memory = ⊤
 
--- what holds of a fault that isn't want of memory
+-- what holds of a fault that isn't for memory
 abbrev pub OnFault : Type 0 → LineFault → Type 0
 OnFault P (Help text) = ⊥
 OnFault P (Fault text) = P
 OnFault P Memory = ⊤
 
--- a fault of the line, and neither help nor want of memory
+-- a fault of the line, and neither help nor for memory
 abbrev pub IsFault : LineFault → Type 0
 IsFault (Help text) = ⊥
 IsFault (Fault text) = ⊤

@@ -4,7 +4,11 @@ ghost use Rattle.std.specs.Prelude.{◌≡◌, ◌++◌, [], IfOk, List, false, 
 ghost use Rattle.clap.specs.Words.{Shape, rule_of};
 ghost use Rattle.arguments.specs.Grammar.{IsGrammar, help_option, judging, leaf, line, making, novacrash, rule, running, shape, telling};
 
+mod overview;
+
 use clap::{Arg, ArgAction};
+use overview::Group;
+pub(crate) use overview::overview;
 use std::alloc::{AllocError, Global};
 
 /// A word or an option of a subcommand.
@@ -42,6 +46,7 @@ pub(crate) enum Argument {
 /// A subcommand.
 pub(crate) struct Subcommand {
     name: &'static str,
+    group: Group,
     about: &'static str,
     arguments: &'static [Argument],
     ending: &'static str,
@@ -59,7 +64,7 @@ macro_rules! ending {
             "\n\n",
             $more,
             "Statuses: 0 done or pass, 1 fail, 2 refused input or command line, 3 too many images,\n",
-            "4 want of memory, 5 a file or a standard stream that failed.\n",
+            "4 out of memory, 5 a file or a standard stream that failed.\n",
             "Formats and codes: docs/FORMATS.md; `novacrash code CODE` says what a code means."
         )
     };
@@ -257,21 +262,24 @@ const PROGRESS: Argument = Argument::Flag {
 static MAKING: [Subcommand; 3] = [
     Subcommand {
         name: "asm",
+        group: Group::Make,
         about: "Assemble a source and write its object",
         arguments: &[SOURCE, OBJECT],
         ending: ending!("asm append.s append.o"),
     },
     Subcommand {
         name: "mkfs",
+        group: Group::Make,
         about: "Write a fresh log volume for the operations of a plan",
         arguments: &[PLAN, LINES, NEW_MEDIUM],
         ending: ending!("mkfs append.plan 512 fresh.medium"),
     },
     Subcommand {
         name: "upgrade",
+        group: Group::Make,
         about: "Move the logs of a volume to a new volume of the second layout",
         arguments: &[OLD_MEDIUM, PAGES, LINES, UPGRADED_MEDIUM],
-        ending: ending!("upgrade old.medium 1 512 new.medium"),
+        ending: ending!("upgrade append.medium 1 512 new.medium"),
     },
 ];
 
@@ -279,22 +287,25 @@ static MAKING: [Subcommand; 3] = [
 static RUNNING: [Subcommand; 3] = [
     Subcommand {
         name: "run",
+        group: Group::Look,
         about: "Run a program",
         arguments: &[PROGRAM, MEDIUM, HARTS, CAPACITY, STEPS, RECORD, OUT],
-        ending: ending!("run append.s --medium fresh.medium --record whole.schedule"),
+        ending: ending!("run append.s --medium append.medium --record whole.schedule"),
     },
     Subcommand {
         name: "replay",
+        group: Group::Look,
         about: "Run a program by a schedule",
         arguments: &[PROGRAM, SCHEDULE, MEDIUM, HARTS, CAPACITY, OUT],
-        ending: ending!("replay append.s append.schedule --medium fresh.medium --out left.medium"),
+        ending: ending!("replay append.s append.schedule --medium append.medium --out left.medium"),
     },
     Subcommand {
         name: "debug",
+        group: Group::Look,
         about: "Debug a program by commands on standard input",
         arguments: &[PROGRAM, MEDIUM, HARTS, CAPACITY],
         ending: ending!(
-            "debug append.s --medium fresh.medium",
+            "debug append.s --medium append.medium",
             "Commands of the session: break A, watch A, clear A, step H, go [ITEMS], regs H, peek A N, quit.\n\n"
         ),
     },
@@ -304,36 +315,41 @@ static RUNNING: [Subcommand; 3] = [
 static TELLING: [Subcommand; 5] = [
     Subcommand {
         name: "trace",
+        group: Group::Look,
         about: "Print the events of a run by a schedule, each with its step, pc and source line",
         arguments: &[PROGRAM, SCHEDULE, MEDIUM, HARTS, WHOLE, JSON],
-        ending: ending!("trace append.s append.schedule --medium fresh.medium --whole"),
+        ending: ending!("trace append.s append.schedule --medium append.medium --whole"),
     },
     Subcommand {
         name: "unpersisted",
+        group: Group::Look,
         about: "Print the stores of a run that weren't durable when their operation ended",
         arguments: &[PROGRAM, SCHEDULE, MEDIUM, HARTS, WHOLE, JSON],
-        ending: ending!("unpersisted append.s append.schedule --medium fresh.medium --whole"),
+        ending: ending!("unpersisted append.s append.schedule --medium append.medium --whole"),
     },
     Subcommand {
         name: "waste",
+        group: Group::Look,
         about: "Print the cleans and fences that a run makes in vain",
         arguments: &[PROGRAM, SCHEDULE, MEDIUM, HARTS, WHOLE, JSON],
         ending: ending!(
-            "waste append.s append.schedule --medium fresh.medium --whole",
+            "waste append.s append.schedule --medium append.medium --whole",
             "This speaks of the run by this schedule alone: only an instruction with `always` can be deleted, where each run has it.\n\n"
         ),
     },
     Subcommand {
         name: "images",
+        group: Group::Look,
         about: "Count the crash images of a moment of a run by a schedule",
         arguments: &[PROGRAM, SCHEDULE, MOMENT, MEDIUM, HARTS, WHOLE, JSON],
-        ending: ending!("images append.s append.schedule 5 --medium fresh.medium --whole"),
+        ending: ending!("images append.s append.schedule 5 --medium append.medium --whole"),
     },
     Subcommand {
         name: "explain",
+        group: Group::Look,
         about: "Print a schedule that leaves a crash image of a moment of a run",
         arguments: &[PROGRAM, SCHEDULE, MOMENT, IMAGE, MEDIUM, HARTS, WHOLE],
-        ending: ending!("explain append.s append.schedule 5 2 --medium fresh.medium --whole"),
+        ending: ending!("explain append.s append.schedule 5 2 --medium append.medium --whole"),
     },
 ];
 
@@ -341,16 +357,18 @@ static TELLING: [Subcommand; 5] = [
 static JUDGING: [Subcommand; 2] = [
     Subcommand {
         name: "check",
+        group: Group::Judge,
         about: "Judge every crash image of a run by a schedule",
         arguments: &[
             PLAN, PROGRAM, SCHEDULE, MEDIUM, HARTS, WORKERS, MOMENTS, WHOLE, WHY, JSON, PROGRESS,
         ],
         ending: ending!(
-            "check append.plan append.s append.schedule --medium fresh.medium --whole --why"
+            "check append.plan append.s append.schedule --medium append.medium --whole --why"
         ),
     },
     Subcommand {
         name: "judge",
+        group: Group::Judge,
         about: "Judge every crash image of a run by a recovery routine of one's own",
         arguments: &[
             PROGRAM,
@@ -372,9 +390,10 @@ static JUDGING: [Subcommand; 2] = [
 ];
 
 /// The subcommands that draw a run, that show files, and that tell of what the program prints, behind the others.
-static SHOWING: [Subcommand; 5] = [
+static SHOWING: [Subcommand; 6] = [
     Subcommand {
         name: "picture",
+        group: Group::Look,
         about: "Draw a run up to a moment: its stores, cleans and fences, and what a power cut may lose",
         arguments: &[
             PROGRAM,
@@ -386,32 +405,43 @@ static SHOWING: [Subcommand; 5] = [
             HARTS,
         ],
         ending: ending!(
-            "picture append.s append.schedule 6 append.svg --image 4 --medium fresh.medium"
+            "picture append.s append.schedule 5 append.svg --image 2 --medium append.medium"
         ),
     },
     Subcommand {
         name: "interleave",
+        group: Group::Make,
         about: "Print a schedule of a whole run, drawn from a seed",
         arguments: &[PROGRAM, SEED, MEDIUM, HARTS, ALL_STEPS, EVICTIONS],
-        ending: ending!("interleave append2.s --seed 1 --harts 2 --medium fresh.medium"),
+        ending: ending!("interleave append2.s --seed 1 --harts 2 --medium append.medium"),
     },
     Subcommand {
         name: "show",
+        group: Group::Look,
         about: "Print the volume that recovery finds on a medium, or the bytes of one of its lines",
         arguments: &[SHOWN_MEDIUM, LINE],
-        ending: ending!("show left.medium"),
+        ending: ending!("show append.medium"),
     },
     Subcommand {
         name: "listing",
+        group: Group::Look,
         about: "Print the words of a program, each with its instruction and its source line",
         arguments: &[PROGRAM],
         ending: ending!("listing append.s"),
     },
     Subcommand {
         name: "code",
+        group: Group::Look,
         about: "Say what a code means that the program prints, and what to do",
         arguments: &[CODE],
         ending: ending!("code A3"),
+    },
+    Subcommand {
+        name: "help",
+        group: Group::Unlisted,
+        about: "List the commands",
+        arguments: &[],
+        ending: ending!("help"),
     },
 ];
 
@@ -472,7 +502,6 @@ fn bare<'a>(alloc: Global) -> Result<clap::Command<'a>, AllocError>
     ensures { IfOk result (IsGrammar (line [])) }
 {
     clap::Command::new(alloc, "novacrash")
-        .about("A crash tester for persistent-memory routines")
         .disable_help_flag(true)
         .disable_help_subcommand(true)
         .subcommand_required(true)
@@ -503,11 +532,17 @@ fn with_judging<'a>(alloc: Global) -> Result<clap::Command<'a>, AllocError>
     with_all(alloc, with_telling(alloc)?, &JUDGING)
 }
 
-/// The line of the program.
-pub(crate) fn grammar<'a>(alloc: Global) -> Result<clap::Command<'a>, AllocError>
+fn with_showing<'a>(alloc: Global) -> Result<clap::Command<'a>, AllocError>
     ensures { IfOk result (IsGrammar novacrash) }
 {
     with_all(alloc, with_judging(alloc)?, &SHOWING)
+}
+
+/// The line of the program, with the text that `--help` prints where it stands alone.
+pub(crate) fn grammar<'a>(alloc: Global, help: &'a str) -> Result<clap::Command<'a>, AllocError>
+    ensures { IfOk result (IsGrammar novacrash) }
+{
+    Ok(with_showing(alloc)?.override_help(help))
 }
 
 /// The line with these subcommands behind those that it has.

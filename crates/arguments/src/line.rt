@@ -3,7 +3,7 @@
 ghost use Rattle.std.specs.Prelude.{◌≡◌, IfOk, IfErr, MatchOption, [], None, Some, map, string_bytes};
 ghost use Rattle.clap.specs.Words.{fault_of, found_of, kind_of, rows_of, subcommand_of, subcommand_rows_of};
 ghost use Rattle.arguments.specs.Grammar.{novacrash};
-ghost use Rattle.arguments.specs.Line.{IsCommand, IsFault, IsKindOf, IsOf, IsWithinLimits, JudgesNone, MakesNone, OnFault, Refuses, RunsNone, TellsNone};
+ghost use Rattle.arguments.specs.Line.{IsCommand, IsFault, IsKindOf, IsNoCommand, IsOf, IsWithinLimits, JudgesNone, MakesNone, OnFault, Refuses, RunsNone, TellsNone};
 ghost use Rattle.arguments.specs.declared.asked.Command.{Command as ACommand};
 
 use crate::asked::{Command, LineFault};
@@ -11,7 +11,7 @@ use crate::commands::{
     assemble, check, code, debug, explain, images, interleave, judge, listing, make_volume,
     picture, replay, run, show, trace, unpersisted, upgrade, waste,
 };
-use crate::grammar::grammar;
+use crate::grammar::{grammar, overview};
 use clap::ArgMatches;
 use clap::error::ErrorKind;
 use std::alloc::{AllocError, Global};
@@ -31,15 +31,19 @@ fn refusal(alloc: Global, error: &clap::Error) -> Result<LineFault, AllocError>
     }
 }
 
-/// clap's matches for a line.
-fn matches<'a>(alloc: Global, words: &'a [String]) -> Result<ArgMatches<'a>, LineFault>
+/// clap's matches for a line, with the text that `--help` prints where it stands alone.
+fn matches<'a>(
+    alloc: Global,
+    words: &'a [String],
+    help: &'a str,
+) -> Result<ArgMatches<'a>, LineFault>
     ensures grammatical { IfOk result (λ found.
         fault_of novacrash (map string_bytes words.now) ≡ []) }
     ensures subcommand { IfOk result (λ found. subcommand_rows_of found
         ≡ subcommand_of novacrash (map string_bytes words.now)) }
     ensures err { IfErr result (Refuses (map string_bytes words.now)) }
 {
-    match grammar(alloc)?.try_get_matches_from(words) {
+    match grammar(alloc, help)?.try_get_matches_from(words) {
         Ok(found) => Ok(found),
         Err(error) => Err(refusal(alloc, &error)?),
     }
@@ -60,6 +64,19 @@ fn subcommand<'a, 'm>(found: &'m ArgMatches<'a>) -> Option<(&'a str, &'m ArgMatc
         (λ p. subcommand_rows_of found.now ≡ Some (p.0.now, rows_of (found_of p.1.now))) }
 {
     found.subcommand()
+}
+
+/// The command of a subcommand, or the list of all of them.
+#[tactic(auto, using(crate::proofs::Lines::other_than_help))]
+fn asked_or_help(alloc: Global, name: &str, found: &ArgMatches<'_>) -> Result<Command, LineFault>
+    ensures ok { IfOk result (IsOf name.now (rows_of (found_of found.now))) }
+    ensures within { IfOk result IsWithinLimits }
+    ensures err { IfErr result (IsNoCommand name.now (rows_of (found_of found.now))) }
+{
+    match name {
+        "help" => Err(LineFault::Help(overview(alloc)?)),
+        _ => asked(alloc, name, found),
+    }
 }
 
 /// The command of a subcommand, by the values found for its words and options.
@@ -153,7 +170,7 @@ fn asked_to_show(alloc: Global, name: &str, found: &ArgMatches<'_>) -> Result<Co
 /// The command that a line asks for. `words` begins with the program's name.
 ///
 /// # Errors
-/// Help where the line asks for it, Memory where memory is refused, and else Fault where the line
+/// Help where the line asks for it, by `--help` or as `help` alone, Memory where memory is refused, and else Fault where the line
 /// isn't one of these, with FILE any word that isn't empty and doesn't begin with `-`, PAGES, LINES, LINE and MOMENT
 /// below 2^32 and each N within the limits that `Command` has for it, in decimal digits all, IMAGE a
 /// text that `ImageName::read` takes as a name, A-B two such numbers of which the second isn't the lesser, or the first alone, with or
@@ -183,9 +200,10 @@ pub fn command(alloc: Global, words: &[String]) -> Result<Command, LineFault>
     ensures within { IfOk result IsWithinLimits }
     ensures err { IfErr result (Refuses (map string_bytes words.now)) }
 {
-    let found = matches(alloc, words)?;
+    let help = overview(alloc)?;
+    let found = matches(alloc, words, &help)?;
     match subcommand(&found) {
-        Some((name, found)) => asked(alloc, name, found),
+        Some((name, found)) => asked_or_help(alloc, name, found),
         None => Err(unknown(alloc)?),
     }
 }

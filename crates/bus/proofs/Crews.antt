@@ -1,6 +1,6 @@
 -- One thread more.
 use Rattle.std.proofs.Common.{◌≡◌, ◌⊎◌, ℕ, ◌+◌, Bool, true, false, List, [], ◌∷◌, ◌++◌, All, Option, Some, None, Result, Ok, Err, IfOk, IfSome, length, map, refl, sym, ap, ◌∙◌, subst, inl, inr, arith, length-append, append-nil}
-use Rattle.std.specs.Prelude.{MatchOption, ◌||◌, nat_le, if◌then◌else◌}
+use Rattle.std.specs.Prelude.{MatchBool, ◌||◌, nat_le, option_map, if◌then◌else◌}
 use Rattle.std.specs.List.{Contains, list_any}
 use Rattle.std.proofs.lemmas.List.{map-append, length-map}
 use Rattle.std.proofs.lemmas.List.Elements.{All-push, Contains-append_left, Contains-append_right}
@@ -8,9 +8,9 @@ use Rattle.std.proofs.lemmas.List.Folds.{list_any-append}
 use Rattle.std.proofs.lemmas.Grind.{flat_map-append}
 use Rattle.atomic_table.specs.Seated.{TableId}
 use Rattle.shared_memory.specs.declared.fault.StepFault.{StepFault}
-use Rattle.shared_memory.specs.declared.fault.StepFault.TheVariants.{Memory}
 use Rattle.stop_word.specs.Stops.{HasSeen, Sitting, all_found, fresh}
 use Rattle.bus.specs.declared.crew.Refusal.{Refusal}
+use Rattle.bus.proofs.Comparing.{is_so, not_so}
 use Rattle.bus.specs.Crews.{AreDone, AreJoined, HaveEnded, AreRefusals, BeganView, HasKept, IsCrew, IsIdle, badge_of, lower_of, noted}
 use Rattle.bus.specs.Driving.{HasEnded, IsDriven, badge}
 use Rattle.bus.specs.Seats.{SeatView}
@@ -42,57 +42,40 @@ pub noted_none : (lowest : Option Refusal) (hart : ℕ) (refused : Option StepFa
 noted_none lowest hart None none = (none, refl)
 noted_none lowest hart (Some fault) none = absurd (lower_some lowest hart fault none)
 
--- what is for want of memory is a refusal of a step
-for_memory : (P : Type 0) (refused : Option StepFault) → MatchOption refused P (λ f. f ≡ Memory) → (fault : StepFault) → refused ≡ Some fault → IsStepRefusal fault
-for_memory P None kept fault is = absurd (cc)
-for_memory P (Some other) kept fault is = let same : other ≡ fault = cc in inr (inr (sym same ∙ kept))
-
-kept_cause : (old : List BeganView) (child : Option BeganView) (refused : Option StepFault) (new : List BeganView) → HasKept old child refused new
-    → (fault : StepFault) → refused ≡ Some fault → IsStepRefusal fault
-kept_cause old None refused new kept fault is = let same : fault ≡ Memory = cc in inr (inr same)
-kept_cause old (Some child) refused new kept fault is = for_memory (new ≡ old ++ child ∷ []) refused kept fault is
-
-kept_at : (old : List BeganView) (child : Option BeganView) (refused : Option StepFault) (new : List BeganView) → HasKept old child refused new → refused ≡ None
+kept_at : (old : List BeganView) (child : Option BeganView) (kept : Bool) (new : List BeganView) → HasKept old child kept new → kept ≡ true
     → (c : BeganView) × (child ≡ Some c) × (new ≡ old ++ c ∷ [])
-kept_at old None refused new kept none = absurd (cc)
-kept_at old (Some child) None new kept none = (child, refl, kept)
-kept_at old (Some child) (Some fault) new kept none = absurd (cc)
+kept_at old None kept new of is = absurd (cc)
+kept_at old (Some child) kept new of is = (child, refl, of is)
 
-crew_raises : (mine after : Sitting) (lowest : Option Refusal) (hart : ℕ) (refused : Option StepFault) → (refused ≡ None → after ≡ mine)
-    → ((fault : StepFault) → refused ≡ Some fault → after.raised ≡ true) → ((r : Refusal) → lowest ≡ Some r → mine.raised ≡ true)
-    → (r : Refusal) → noted lowest hart refused ≡ Some r → after.raised ≡ true
-crew_raises mine after lowest hart None same raised before r some = ap (λ (s : Sitting). s.raised) (same refl) ∙ before r some
-crew_raises mine after lowest hart (Some fault) same raised before r some = raised fault refl
+still_raised : (mine after : Sitting) (whole kept : Bool) → (kept ≡ true → after ≡ mine) → (kept ≡ false → after.raised ≡ true)
+    → (whole ≡ false → mine.raised ≡ true) → (whole ≡ false) ⊎ (kept ≡ false) → after.raised ≡ true
+still_raised mine after whole true same raised before (inl was) = ap (λ (s : Sitting). s.raised) (same refl) ∙ before was
+still_raised mine after whole true same raised before (inr other) = absurd (cc)
+still_raised mine after whole false same raised before which = raised refl
 
-pub crew_more : (table : TableId) (given : List SeatView) (begun new : List BeganView) (mine after : Sitting) (lowest next : Option Refusal) (hart : ℕ)
-    (child : Option BeganView) (refused : Option StepFault) (seat : SeatView)
-    → HasKept begun child refused new → after.table ≡ mine.table → (refused ≡ None → after ≡ mine)
-    → ((fault : StepFault) → refused ≡ Some fault → after.raised ≡ true) → next ≡ noted lowest hart refused
-    → IsCrew table given begun mine lowest
+pub crew_more : (table : TableId) (given : List SeatView) (begun new : List BeganView) (mine after : Sitting) (whole next : Bool)
+    (child : Option BeganView) (kept : Bool) (seat : SeatView)
+    → HasKept begun child kept new → after.table ≡ mine.table → (kept ≡ true → after ≡ mine)
+    → (kept ≡ false → after.raised ≡ true) → MatchBool next ((whole ≡ true) × (kept ≡ true)) ((whole ≡ false) ⊎ (kept ≡ false))
+    → IsCrew table given begun mine whole
     → ((c : BeganView) → child ≡ Some c → (badge_of c ≡ badge seat) × (c.place.table ≡ table))
     → IsCrew table (given ++ seat ∷ []) new after next
-crew_more table given begun new mine after lowest next hart child refused seat kept place same raised is crew its =
-    let both : next ≡ None → (lowest ≡ None) × (refused ≡ None) = λ none. noted_none lowest hart refused (sym is ∙ none) in
+crew_more table given begun new mine after whole next child kept seat of place same raised is crew its =
+    let both : next ≡ true → (whole ≡ true) × (kept ≡ true) = λ held. is_so next ((whole ≡ true) × (kept ≡ true)) ((whole ≡ false) ⊎ (kept ≡ false)) held is in
     record {
-      cause = subst AreRefusals (sym is) (noted_cause lowest hart refused crew.cause (kept_cause begun child refused new kept));
       word = place ∙ crew.word;
-      words = λ none.
-          let k = kept_at begun child refused new kept (both none).1 in
+      words = λ held.
+          let k = kept_at begun child kept new of (both held).1 in
           subst (All (λ (b : BeganView). b.place.table ≡ table)) (sym k.2)
-          (All-push (λ (b : BeganView). b.place.table ≡ table) begun k.0 (crew.words (both none).0) (its k.0 k.1).1);
-      same = λ none.
-          let k = kept_at begun child refused new kept (both none).1 in
+          (All-push (λ (b : BeganView). b.place.table ≡ table) begun k.0 (crew.words (both held).0) (its k.0 k.1).1);
+      same = λ held.
+          let k = kept_at begun child kept new of (both held).1 in
           ap (map badge_of) k.2 ∙ (map-append badge_of begun (k.0 ∷ [])
-          ∙ (ap (λ (l : List (ℕ × ℕ)). l ++ badge_of k.0 ∷ []) (crew.same (both none).0)
+          ∙ (ap (λ (l : List (ℕ × ℕ)). l ++ badge_of k.0 ∷ []) (crew.same (both held).0)
           ∙ (ap (λ (b : ℕ × ℕ). map badge given ++ b ∷ []) (its k.0 k.1).0 ∙ sym (map-append badge given (seat ∷ [])))));
-      quiet = λ none. ap (λ (s : Sitting). s.raised) (same (both none).1) ∙ crew.quiet (both none).0;
-      raises = λ r some. crew_raises mine after lowest hart refused same raised crew.raises r (sym is ∙ some);
+      quiet = λ held. ap (λ (s : Sitting). s.raised) (same (both held).1) ∙ crew.quiet (both held).0;
+      raises = λ lost. still_raised mine after whole kept same raised crew.raises (not_so next ((whole ≡ true) × (kept ≡ true)) ((whole ≡ false) ⊎ (kept ≡ false)) lost is);
     }
-
-added : {A : Type 0} (old new : List A) (x : A) (refused : Option StepFault) → MatchOption refused (new ≡ old ++ x ∷ []) (λ f. f ≡ Memory) → refused ≡ None
-    → new ≡ old ++ x ∷ []
-added old new x None kept none = kept
-added old new x (Some fault) kept none = absurd (cc)
 
 -- where all have ended and one more has, or a word was seen raised
 ends_more : (seats : List SeatView) (stops : List Sitting) (seat : SeatView) (stop : Sitting) → stop.raised ≡ false
@@ -116,62 +99,75 @@ ends_more seats stops seat stop quiet before last =
 or_none : (a b : Bool) → a ≡ false → b ≡ false → (a || (b || false)) ≡ false
 or_none a b first second = rw (first, second) refl
 
-pub joined_more : (table : TableId) (begun : List BeganView) (first : Option Refusal) (b : BeganView) (seats more : List SeatView) (stops others : List Sitting)
-    (lowest second third next : Option Refusal) (hart : ℕ) (seat : SeatView) (stop : Sitting) (refused one two : Option StepFault)
-    → second ≡ noted lowest hart refused → MatchOption one (more ≡ seats ++ seat ∷ []) (λ f. f ≡ Memory) → third ≡ noted second hart one
-    → MatchOption two (others ≡ stops ++ stop ∷ []) (λ f. f ≡ Memory) → next ≡ noted third hart two
-    → AreJoined table begun first seats stops lowest → IsDriven (badge_of b) b.place seat stop refused
-    → (first ≡ None → b.place.table ≡ table)
-    → AreJoined table (begun ++ b ∷ []) first more others next
-joined_more table begun first b seats more stops others lowest second third next hart seat stop refused one two is_second kept_one is_third kept_two is_next joined driven place =
-    let at_third : next ≡ None → (third ≡ None) × (two ≡ None) = λ none. noted_none third hart two (sym is_next ∙ none) in
-    let at_second : next ≡ None → (second ≡ None) × (one ≡ None) = λ none. noted_none second hart one (sym is_third ∙ (at_third none).0) in
-    let at_lowest : next ≡ None → (lowest ≡ None) × (refused ≡ None) = λ none. noted_none lowest hart refused (sym is_second ∙ (at_second none).0) in
-    let seats_are : next ≡ None → more ≡ seats ++ seat ∷ [] = λ none. added seats more seat one kept_one (at_second none).1 in
-    let stops_are : next ≡ None → others ≡ stops ++ stop ∷ [] = λ none. added stops others stop two kept_two (at_third none).1 in
+pub joined_more : (table : TableId) (begun : List BeganView) (first : Bool) (b : BeganView) (seats more : List SeatView) (stops others : List Sitting)
+    (lowest next : Option Refusal) (whole still one two both : Bool) (hart : ℕ) (seat : SeatView) (stop : Sitting) (refused : Option StepFault)
+    → next ≡ noted lowest hart refused → (one ≡ true → more ≡ seats ++ seat ∷ []) → (two ≡ true → others ≡ stops ++ stop ∷ [])
+    → MatchBool both ((one ≡ true) × (two ≡ true)) ((one ≡ false) ⊎ (two ≡ false))
+    → MatchBool still ((whole ≡ true) × (both ≡ true)) ((whole ≡ false) ⊎ (both ≡ false))
+    → AreJoined table begun first seats stops lowest whole → IsDriven (badge_of b) b.place seat stop refused
+    → (first ≡ true → b.place.table ≡ table)
+    → AreJoined table (begun ++ b ∷ []) first more others next still
+joined_more table begun first b seats more stops others lowest next whole still one two both hart seat stop refused is_next kept_one kept_two of_both of_still joined driven place =
+    let at_whole : still ≡ true → (whole ≡ true) × (both ≡ true) = λ held. is_so still ((whole ≡ true) × (both ≡ true)) ((whole ≡ false) ⊎ (both ≡ false)) held of_still in
+    let at_both : still ≡ true → (one ≡ true) × (two ≡ true) = λ held. is_so both ((one ≡ true) × (two ≡ true)) ((one ≡ false) ⊎ (two ≡ false)) (at_whole held).1 of_both in
+    let at_lowest : next ≡ None → (lowest ≡ None) × (refused ≡ None) = λ none. noted_none lowest hart refused (sym is_next ∙ none) in
+    let seats_are : still ≡ true → more ≡ seats ++ seat ∷ [] = λ held. kept_one (at_both held).0 in
+    let stops_are : still ≡ true → others ≡ stops ++ stop ∷ [] = λ held. kept_two (at_both held).1 in
     record {
-      cause = subst AreRefusals (sym is_next) (noted_cause third hart two
-          (subst AreRefusals (sym is_third) (noted_cause second hart one
-          (subst AreRefusals (sym is_second) (noted_cause lowest hart refused joined.cause driven.cause)) (for_memory (more ≡ seats ++ seat ∷ []) one kept_one))) (for_memory (others ≡ stops ++ stop ∷ []) two kept_two));
-      before = λ none. joined.before (at_lowest none).0;
-      words = λ none. subst (All (λ (s : Sitting). s.table ≡ table)) (sym (stops_are none))
-          (All-push (λ (s : Sitting). s.table ≡ table) stops stop (joined.words (at_lowest none).0) (driven.word ∙ place (joined.before (at_lowest none).0)));
-      same = λ none. ap (map badge) (seats_are none) ∙ (map-append badge seats (seat ∷ [])
-          ∙ (ap (λ (l : List (ℕ × ℕ)). l ++ badge seat ∷ []) (joined.same (at_lowest none).0)
+      cause = subst AreRefusals (sym is_next) (noted_cause lowest hart refused joined.cause driven.cause);
+      before = λ held. joined.before (at_whole held).0;
+      words = λ held. subst (All (λ (s : Sitting). s.table ≡ table)) (sym (stops_are held))
+          (All-push (λ (s : Sitting). s.table ≡ table) stops stop (joined.words (at_whole held).0) (driven.word ∙ place (joined.before (at_whole held).0)));
+      same = λ held. ap (map badge) (seats_are held) ∙ (map-append badge seats (seat ∷ [])
+          ∙ (ap (λ (l : List (ℕ × ℕ)). l ++ badge seat ∷ []) (joined.same (at_whole held).0)
           ∙ (ap (λ (k : ℕ × ℕ). map badge_of begun ++ k ∷ []) driven.same ∙ sym (map-append badge_of begun (b ∷ [])))));
-      count = λ none.
-          let a : length others ≡ length stops + 1 = ap length (stops_are none) ∙ length-append stops (stop ∷ []) in
-          let e : length more ≡ length seats + 1 = ap length (seats_are none) ∙ length-append seats (seat ∷ []) in
-          let k : length stops ≡ length seats = joined.count (at_lowest none).0 in omega arith;
-      quiet = λ none. ap (list_any (λ (s : Sitting). s.raised)) (stops_are none) ∙ (list_any-append (λ (s : Sitting). s.raised) stops (stop ∷ [])
-          ∙ or_none (list_any (λ (s : Sitting). s.raised) stops) stop.raised (joined.quiet (at_lowest none).0) (driven.quiet (at_lowest none).1));
-      ends = λ none.
-          subst (λ (l : List SeatView). All HasEnded l ⊎ Contains (all_found others) true) (sym (seats_are none))
-          (subst (λ (l : List Sitting). All HasEnded (seats ++ seat ∷ []) ⊎ Contains (all_found l) true) (sym (stops_are none))
-          (ends_more seats stops seat stop (driven.quiet (at_lowest none).1) (joined.ends (at_lowest none).0) (driven.ended (at_lowest none).1)));
+      count = λ held.
+          let a : length others ≡ length stops + 1 = ap length (stops_are held) ∙ length-append stops (stop ∷ []) in
+          let e : length more ≡ length seats + 1 = ap length (seats_are held) ∙ length-append seats (seat ∷ []) in
+          let k : length stops ≡ length seats = joined.count (at_whole held).0 in omega arith;
+      quiet = λ held none. ap (list_any (λ (s : Sitting). s.raised)) (stops_are held) ∙ (list_any-append (λ (s : Sitting). s.raised) stops (stop ∷ [])
+          ∙ or_none (list_any (λ (s : Sitting). s.raised) stops) stop.raised (joined.quiet (at_whole held).0 (at_lowest none).0) (driven.quiet (at_lowest none).1));
+      ends = λ held none.
+          subst (λ (l : List SeatView). All HasEnded l ⊎ Contains (all_found others) true) (sym (seats_are held))
+          (subst (λ (l : List Sitting). All HasEnded (seats ++ seat ∷ []) ⊎ Contains (all_found l) true) (sym (stops_are held))
+          (ends_more seats stops seat stop (driven.quiet (at_lowest none).1) (joined.ends (at_whole held).0 (at_lowest none).0) (driven.ended (at_lowest none).1)));
     }
 
--- seats of threads none of which was refused, where no word was seen raised
-pub settled : (table : TableId) (given loose seats : List SeatView) (stops : List Sitting) (mine : Sitting) (lowest : Option Refusal) → lowest ≡ None
+-- where no fault was noted, there was no refusal
+unrefused : (lowest : Option Refusal) → option_map (λ (r : Refusal). r.fault) lowest ≡ None → lowest ≡ None
+unrefused None none = refl
+unrefused (Some r) none = absurd (cc)
+
+cause_of : (lowest : Option Refusal) (fault : StepFault) → AreRefusals lowest → option_map (λ (r : Refusal). r.fault) lowest ≡ Some fault
+    → IsStepRefusal fault
+cause_of None fault cause is = absurd (cc)
+cause_of (Some r) fault cause is = let same : r.fault ≡ fault = cc in subst IsStepRefusal same cause
+
+-- seats of threads of a whole crew: where no step was refused, no word was seen raised
+pub settled : (table : TableId) (given loose seats : List SeatView) (stops : List Sitting) (mine : Sitting) (lowest : Option Refusal) (whole : Bool)
+    (refused : Option StepFault) → whole ≡ true
     → (list_any (λ (s : Sitting). s.raised) stops ≡ false → mine.raised ≡ false → Contains (all_found stops) true → ⊥)
-    → map badge seats ≡ map badge loose → (All HasEnded loose → All HasEnded seats)
-    → HaveEnded table given loose stops mine lowest → AreDone given seats
-settled table given loose seats stops mine lowest none unseen same kept e =
-    let first = e.joined.before none in
+    → map badge seats ≡ map badge loose → (All HasEnded loose → All HasEnded seats) → refused ≡ option_map (λ (r : Refusal). r.fault) lowest
+    → HaveEnded table given loose stops mine lowest whole → AreDone given seats refused
+settled table given loose seats stops mine lowest whole refused held unseen same kept is e =
+    let first = e.joined.before held in
     record {
-      same = same ∙ (e.joined.same none ∙ e.crew.same first);
-      ended = elim (e.joined.ends none) [
-        | inl all ↦ kept all
-        | inr seen ↦ absurd (unseen (e.joined.quiet none) (e.crew.quiet first) seen)
-      ];
+      same = same ∙ (e.joined.same held ∙ e.crew.same first);
+      cause = λ fault some. cause_of lowest fault e.joined.cause (sym is ∙ some);
+      ended = λ none.
+          let calm = unrefused lowest (sym is ∙ none) in
+          elim (e.joined.ends held calm) [
+            | inl all ↦ kept all
+            | inr seen ↦ absurd (unseen (e.joined.quiet held calm) (e.crew.quiet first) seen)
+          ];
     }
 
-pub length_of : (table : TableId) (given loose : List SeatView) (stops : List Sitting) (mine : Sitting) (lowest : Option Refusal) → lowest ≡ None
-    → HaveEnded table given loose stops mine lowest → length stops ≡ length given
-length_of table given loose stops mine lowest none e =
-    let first = e.joined.before none in
-    let same : map badge loose ≡ map badge given = e.joined.same none ∙ e.crew.same first in
-    e.joined.count none ∙ (sym (length-map loose badge) ∙ (ap length same ∙ length-map given badge))
+pub length_of : (table : TableId) (given loose : List SeatView) (stops : List Sitting) (mine : Sitting) (lowest : Option Refusal) (whole : Bool) → whole ≡ true
+    → HaveEnded table given loose stops mine lowest whole → length stops ≡ length given
+length_of table given loose stops mine lowest whole held e =
+    let first = e.joined.before held in
+    let same : map badge loose ≡ map badge given = e.joined.same held ∙ e.crew.same first in
+    e.joined.count held ∙ (sym (length-map loose badge) ∙ (ap length same ∙ length-map given badge))
 
 -- of a thread that began with this seat and a place at this word
 pub promised : (hart budget : ℕ) (place : Sitting) (seat : SeatView) (table : TableId) (loose : SeatView) (stop : Sitting) (refused : Option StepFault)
@@ -203,48 +199,52 @@ none_left_of [] none = refl
 none_left_of (x ∷ xs) none = absurd (omega arith)
 
 -- a crew that is idle is one of no seats
-pub idle_crew : (table : TableId) (begun : List BeganView) (seats : List SeatView) (stops : List Sitting) (mine : Sitting) (lowest : Option Refusal)
-    → IsIdle table begun seats stops mine lowest → IsCrew table [] begun mine lowest
-idle_crew table begun seats stops mine lowest idle = record {
-  cause = subst AreRefusals (sym idle.unrefused) tt;
+pub idle_crew : (table : TableId) (begun : List BeganView) (seats : List SeatView) (stops : List Sitting) (mine : Sitting) (lowest : Option Refusal) (whole : Bool)
+    → IsIdle table begun seats stops mine lowest whole → IsCrew table [] begun mine whole
+idle_crew table begun seats stops mine lowest whole idle = record {
   word = ap (λ (s : Sitting). s.table) idle.place;
-  words = λ none. subst (All (λ (b : BeganView). b.place.table ≡ table)) (sym idle.none) (λ k d less. absurd (omega arith));
-  same = λ none. ap (map badge_of) idle.none;
-  quiet = λ none. ap (λ (s : Sitting). s.raised) idle.place;
-  raises = λ r some. let no : None ≡ Some r = sym idle.unrefused ∙ some in absurd (cc);
+  words = λ held. subst (All (λ (b : BeganView). b.place.table ≡ table)) (sym idle.none) (λ k d less. absurd (omega arith));
+  same = λ held. ap (map badge_of) idle.none;
+  quiet = λ held. ap (λ (s : Sitting). s.raised) idle.place;
+  raises = λ lost. let is : true ≡ false = sym idle.is_whole ∙ lost in absurd (cc);
 }
 
 -- before the first thread is joined
-pub none_joined : (table : TableId) (first : Option Refusal) (seats : List SeatView) (stops : List Sitting) → AreRefusals first → seats ≡ [] → stops ≡ []
-    → AreJoined table [] first seats stops first
-none_joined table first seats stops cause no_seats no_stops =
-    subst (λ (l : List SeatView). AreJoined table [] first l stops first) (sym no_seats)
-    (subst (λ (l : List Sitting). AreJoined table [] first [] l first) (sym no_stops) (record {
+pub none_joined : (table : TableId) (first : Bool) (lowest : Option Refusal) (seats : List SeatView) (stops : List Sitting) → AreRefusals lowest → seats ≡ [] → stops ≡ []
+    → AreJoined table [] first seats stops lowest first
+none_joined table first lowest seats stops cause no_seats no_stops =
+    subst (λ (l : List SeatView). AreJoined table [] first l stops lowest first) (sym no_seats)
+    (subst (λ (l : List Sitting). AreJoined table [] first [] l lowest first) (sym no_stops) (record {
       cause = cause;
-      before = λ none. none;
-      words = λ none. λ k d less. absurd (omega arith);
-      same = λ none. refl;
-      count = λ none. refl;
-      quiet = λ none. refl;
-      ends = λ none. inl (λ k d less. absurd (omega arith));
+      before = λ held. held;
+      words = λ held. λ k d less. absurd (omega arith);
+      same = λ held. refl;
+      count = λ held. refl;
+      quiet = λ held none. refl;
+      ends = λ held none. inl (λ k d less. absurd (omega arith));
     }))
+
+-- none of an idle crew was refused a step
+pub idle_cause : (table : TableId) (begun : List BeganView) (seats : List SeatView) (stops : List Sitting) (mine : Sitting) (lowest later : Option Refusal) (whole : Bool)
+    → IsIdle table begun seats stops mine lowest whole → later ≡ lowest → AreRefusals later
+idle_cause table begun seats stops mine lowest later whole idle is = subst AreRefusals (sym (is ∙ idle.unrefused)) tt
 
 pub at_some : (P : BeganView → Type 0) (r : Option BeganView) → IfSome r P → (c : BeganView) → r ≡ Some c → P c
 at_some P None kept c is = absurd (cc)
 at_some P (Some x) kept c is = let same : x ≡ c = cc in subst P same kept
 
-pub have_ended : (table : TableId) (given : List SeatView) (begun : List BeganView) (mine after : Sitting) (first lowest : Option Refusal)
+pub have_ended : (table : TableId) (given : List SeatView) (begun : List BeganView) (mine after : Sitting) (first : Bool) (lowest : Option Refusal) (whole : Bool)
     (seats : List SeatView) (stops : List Sitting) → IsCrew table given begun mine first → after ≡ mine
-    → AreJoined table begun first seats stops lowest → HaveEnded table given seats stops after lowest
-have_ended table given begun mine after first lowest seats stops crew is joined = record {
+    → AreJoined table begun first seats stops lowest whole → HaveEnded table given seats stops after lowest whole
+have_ended table given begun mine after first lowest whole seats stops crew is joined = record {
   begun = begun;
   first = first;
   crew = subst (λ (m : Sitting). IsCrew table given begun m first) (sym is) crew;
   joined = joined;
 }
 
-pub done_so : {X : Type 0} (f : X → List SeatView) (r : Result X StepFault) (table : TableId) (given loose : List SeatView) (stops : List Sitting) (mine : Sitting)
-    (lowest : Option Refusal) → IfOk r (λ (x : X). (all : List SeatView) → HaveEnded table all loose stops mine lowest → AreDone all (f x))
-    → HaveEnded table given loose stops mine lowest → IfOk r (λ (x : X). AreDone given (f x))
-done_so f (Ok x) table given loose stops mine lowest each ended = each given ended
-done_so f (Err fault) table given loose stops mine lowest each ended = tt
+pub done_so : {X E : Type 0} (f : X → List SeatView) (g : X → Option StepFault) (r : Result X E) (table : TableId) (given loose : List SeatView) (stops : List Sitting) (mine : Sitting)
+    (lowest : Option Refusal) (whole : Bool) → IfOk r (λ (x : X). (all : List SeatView) → HaveEnded table all loose stops mine lowest whole → AreDone all (f x) (g x))
+    → HaveEnded table given loose stops mine lowest whole → IfOk r (λ (x : X). AreDone given (f x) (g x))
+done_so f g (Ok x) table given loose stops mine lowest whole each ended = each given ended
+done_so f g (Err fault) table given loose stops mine lowest whole each ended = tt

@@ -45,6 +45,40 @@ none_of n seats h whole none = λ at seat got.
     let inside = slice_get_within seats at seat got in
     none at seat (omega (arith, inside, whole)) got
 
+-- each of the first n seats is that of one of so many harts
+abbrev pub AreLow : ℕ → List SeatView → ℕ → Type 0
+AreLow n seats harts = (at : ℕ) (seat : SeatView) → at < n → slice_get seats at ≡ Some seat → seat.hart < harts
+
+pub low_zero : (seats : List SeatView) (harts : ℕ) → AreLow 0 seats harts
+low_zero seats harts = λ at seat less got. absurd (omega (arith, less))
+
+pub low_more : (n : ℕ) (seats : List SeatView) (harts : ℕ) (seat : SeatView) → n < length seats → seat ≡ slice_index_or seats n seat → seat.hart < harts
+    → AreLow n seats harts → AreLow (n + 1) seats harts
+low_more n seats harts seat inside is low before = λ at s less got. elim (cases_eq at n) [
+  | inl here ↦
+      let there : slice_get seats n ≡ Some seat = slice_get_read seats (length seats) n seat refl inside is in
+      let same : Some seat ≡ Some s = sym there ∙ ap (λ (i : ℕ). slice_get seats i) (sym here) ∙ got in
+      let one : seat ≡ s = cc in
+      subst (λ (x : SeatView). x.hart < harts) one low
+  | inr apart ↦ before at s (omega (arith, less, apart)) got
+]
+
+pub none_large : (n : ℕ) (seats : List SeatView) (harts : ℕ) → length seats ≤ n → AreLow n seats harts → HasTooLarge harts seats → ⊥
+none_large n seats harts whole low large =
+    let inside = slice_get_within seats large.at large.seat large.there in
+    let below = low large.at large.seat (omega (arith, inside, whole)) large.there in
+    let past = large.large in
+    omega (arith, below, past)
+
+pub too_large : (seats : List SeatView) (harts at : ℕ) (seat : SeatView) → at < length seats → seat ≡ slice_index_or seats at seat → harts ≤ seat.hart
+    → HasTooLarge harts seats
+too_large seats harts at seat inside is large = record {
+  at = at;
+  seat = seat;
+  there = slice_get_read seats (length seats) at seat refl inside is;
+  large = large;
+}
+
 -- how many seats are hart h's
 number : ℕ → SeatView → ℕ
 number h seat = if eqb seat.hart h then 1 else 0

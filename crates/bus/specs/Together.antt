@@ -1,11 +1,15 @@
 -- What harts that run together have done.
-use Rattle.std.specs.Prelude.{◌≡◌, ◌⊎◌, ◌≤◌, ℕ, List, [], ◌∷◌, Some, eqb, if◌then◌else◌, suc, IsPermutation, length, map, slice_get}
+use Rattle.std.specs.Prelude.{◌≡◌, ◌⊎◌, ◌<◌, ◌≤◌, ℕ, Bool, true, List, [], ◌∷◌, Some, eqb, if◌then◌else◌, suc, IsPermutation, length, map, slice_get}
 use Rattle.hart.specs.declared.state.HartState.{HartState}
 use Rattle.hart.specs.declared.state.Status.TheVariants.{Running}
 use Rattle.machine.specs.Left.{IsLeftBy}
-use Rattle.machine.specs.Run.{started}
+use Rattle.machine.specs.Represents.{IsRunning}
+use Rattle.machine.specs.Run.{Config, RunsTo, started}
 use Rattle.recording.specs.Recorded.{RecordedView, Records}
 use Rattle.schedule.specs.Steps.{all_steps}
+use Rattle.shared_memory.specs.Replies.{trace_in}
+use Rattle.shared_memory.specs.declared.fault.StepFault.{StepFault}
+use Rattle.shared_memory.specs.declared.fault.StepFault.TheVariants as step_faults
 use Rattle.schedule.specs.declared.items.Step.{Step}
 use Rattle.schedule.specs.declared.items.Step.TheVariants.{Hart, Evict}
 use Rattle.bus.specs.declared.finish_fault.FinishFault.{FinishFault}
@@ -14,7 +18,7 @@ use Rattle.bus.specs.declared.together.RunFault.{RunFault}
 use Rattle.bus.specs.declared.together.RunFault.TheVariants as run_faults
 use Rattle.bus.specs.Ending.{HasTooLarge, HasTwice, LacksSeat}
 use Rattle.bus.specs.Seats.{SeatView}
-use Rattle.bus.specs.Stepping.{BusView, IsStepRefusal}
+use Rattle.bus.specs.Stepping.{BusView}
 
 -- how many of the steps are hart h's
 unfoldable pub count_of : ℕ → List Step → ℕ
@@ -71,7 +75,50 @@ RefusesFinish harts seats SeatNumber = HasTwice seats ⊎ HasTooLarge harts seat
 RefusesFinish harts seats Foreign = Unit {0}
 RefusesFinish harts seats Memory = Unit {0}
 
--- why harts haven't run together to their end: a step was refused, or their seats aren't gathered
-abbrev pub RefusesRun : ℕ → List SeatView → RunFault → Type 0
-RefusesRun harts seats (run_faults.Step fault) = IsStepRefusal fault
-RefusesRun harts seats (run_faults.Finish fault) = RefusesFinish harts seats fault
+-- the seat's hart runs, and has made fewer steps than it may
+pub record IsLeft (seat : SeatView) : Type 0 where
+  pub running : seat.state.status ≡ Running
+  pub left : seat.made < seat.budget
+
+-- a seat is such
+pub record HasLeft (seats : List SeatView) : Type 0 where
+  pub at : ℕ
+  pub seat : SeatView
+  pub there : slice_get seats at ≡ Some seat
+  pub is_left : IsLeft seat
+
+-- a hart runs at the end of the steps, fewer of which are its own than the seat of its number may make
+pub record GoesOn (seats : List SeatView) (steps : List Step) (end : Config) : Type 0 where
+  pub at : ℕ
+  pub seat : SeatView
+  pub there : slice_get seats at ≡ Some seat
+  pub running : IsRunning (slice_get end.harts seat.hart)
+  pub left : count_of seat.hart steps < seat.budget
+
+-- the harts of the bus make a run from its start that has as many events as a trace may have, in which each makes no more steps
+-- than its seat may; and one of them would go on
+pub record FillsTrace (bus : BusView) (seats : List SeatView) : Type 0 where
+  pub steps : List Step
+  pub end : Config
+  pub run : RunsTo (started bus.program bus.start bus.harts) steps end
+  pub full : length (trace_in end.common) ≡ 65536
+  pub within : (h : ℕ) → h < bus.harts → IsWithinBudget seats steps h
+  pub goes_on : GoesOn seats steps end
+
+-- a full trace is reported where both hold, and else a core that isn't this bus's
+abbrev pub IsFullOr : Bool → Bool → RunFault → Type 0
+IsFullOr left full fault = ((left ≡ true) × (full ≡ true) × (fault ≡ run_faults.Step step_faults.TraceFull)) ⊎ (fault ≡ run_faults.Finish Foreign)
+
+-- why harts are stopped before their end: a seat is that of no hart of the bus; or they fill the trace; or a growth or a thread is
+-- refused, which it may always be
+abbrev pub StopsHarts : BusView → List SeatView → StepFault → Type 0
+StopsHarts bus seats step_faults.NoSuchHart = HasTooLarge bus.harts seats
+StopsHarts bus seats step_faults.TraceFull = FillsTrace bus seats
+StopsHarts bus seats step_faults.Memory = Unit {0}
+StopsHarts bus seats step_faults.NoSuchLine = ⊥
+StopsHarts bus seats step_faults.OutOfLimits = ⊥
+
+-- why harts haven't run together to their end: they are stopped, or their seats aren't gathered
+abbrev pub RefusesRun : BusView → List SeatView → RunFault → Type 0
+RefusesRun bus seats (run_faults.Step fault) = StopsHarts bus seats fault
+RefusesRun bus seats (run_faults.Finish fault) = RefusesFinish bus.harts seats fault

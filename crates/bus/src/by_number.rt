@@ -1,7 +1,7 @@
 //! Seats in the order of their harts' numbers.
 
-ghost use Rattle.std.specs.Prelude.{IfErr, IfNone, IfSome, OnOk};
-ghost use Rattle.bus.specs.Ending.{HasNoSeat};
+ghost use Rattle.std.specs.Prelude.{IfErr, IfNone, IfSome, MatchBool, OnOk};
+ghost use Rattle.bus.specs.Ending.{HasNoSeat, HasTooLarge};
 ghost use Rattle.bus.specs.Numbering.{ArePlaced, IsSeatOf, RefusesNumbers};
 
 use crate::finish_fault::FinishFault;
@@ -19,6 +19,19 @@ fn find_seat(seats: &[Seat<'_>], hart: u32) -> Option<usize>
         }
     }
     None
+}
+
+/// Whether a seat is that of no hart of so many.
+#[tactic(auto, using(crate::proofs::Numbering::low_zero, crate::proofs::Numbering::low_more, crate::proofs::Numbering::none_large, crate::proofs::Numbering::too_large))]
+pub(crate) fn has_too_large(seats: &[Seat<'_>], harts: u32) -> bool
+    ensures { MatchBool result (HasTooLarge harts seats.now) (HasTooLarge harts seats.now → ⊥) }
+{
+    for at in 0..seats.len() {
+        if seats[at].hart() >= harts {
+            return true;
+        }
+    }
+    false
 }
 
 /// Puts each seat at the place of its number, which is to be that of one of so many harts, each of which has one seat.

@@ -1,11 +1,10 @@
 //! The threads of a run: how they are started, and what they come to.
 
-ghost use Rattle.std.specs.Prelude.{◌≡◌, ◌∷◌, ◌++◌, [], All, List, Option, Some, None, IfOk, IfSome, MatchOption, true};
+ghost use Rattle.std.specs.Prelude.{◌≡◌, ◌⊎◌, ◌∷◌, ◌++◌, [], All, Bool, List, MatchBool, None, IfOk, IfSome, true, false};
 ghost use Rattle.atomic_table.specs.Seated.{TableId};
 ghost use Rattle.bus.specs.Crews.{AreJoined, AreRefusals, BeganView, HasKept, IsCrew, badge_of, lower_of, noted};
 ghost use Rattle.bus.specs.Driving.{IsDriven, badge};
 ghost use Rattle.bus.specs.Seats.{SeatView};
-ghost use Rattle.bus.specs.declared.crew.Refusal.{Refusal};
 ghost use Rattle.stop_word.specs.Stops.{fresh};
 
 use crate::driving::{Began, Driven, Job, SeatJob, Through};
@@ -130,49 +129,55 @@ fn note_any(lowest: &mut Option<Refusal>, hart: u32, refused: Option<StepFault>)
     }
 }
 
-/// Keeps a seat; what refuses it is want of memory.
-fn keep_seat(seats: &mut Vec<LooseSeat>, seat: LooseSeat) -> Option<StepFault>
-    ensures { MatchOption result (seats.new.items ≡ seats.old.items ++ seat ∷ []) (λ fault. fault ≡ StepFault.Memory) }
+/// Keeps a seat. False where there is no room.
+fn keep_seat(seats: &mut Vec<LooseSeat>, seat: LooseSeat) -> bool
+    ensures { result ≡ true → seats.new.items ≡ seats.old.items ++ seat ∷ [] }
 {
     match seats.push(seat) {
-        Ok(()) => None,
-        Err(_) => Some(StepFault::Memory),
+        Ok(()) => true,
+        Err(_) => false,
     }
 }
 
-/// Keeps a place at the stop word; what refuses it is want of memory.
-fn keep_stop(stops: &mut Vec<StopSeat>, stop: StopSeat) -> Option<StepFault>
-    ensures { MatchOption result (stops.new.items ≡ stops.old.items ++ stop ∷ []) (λ fault. fault ≡ StepFault.Memory) }
+/// Keeps a place at the stop word. False where there is no room.
+fn keep_stop(stops: &mut Vec<StopSeat>, stop: StopSeat) -> bool
+    ensures { result ≡ true → stops.new.items ≡ stops.old.items ++ stop ∷ [] }
 {
     match stops.push(stop) {
-        Ok(()) => None,
-        Err(_) => Some(StepFault::Memory),
+        Ok(()) => true,
+        Err(_) => false,
     }
 }
 
-/// Keeps a thread that was started; what refuses it, or that it wasn't, is want of memory.
-fn keep_child(children: &mut Vec<Child>, child: Option<Child>) -> Option<StepFault>
+/// Keeps a thread that was started. False where it wasn't, or there is no room.
+fn keep_child(children: &mut Vec<Child>, child: Option<Child>) -> bool
     ensures { HasKept children.old.items child result children.new.items }
 {
     match child {
         Some(child) => match children.push(child) {
-            Ok(()) => None,
-            Err(_) => Some(StepFault::Memory),
+            Ok(()) => true,
+            Err(_) => false,
         },
-        None => Some(StepFault::Memory),
+        None => false,
     }
 }
 
-/// Raises the stop word where a hart was refused.
-fn raise_for(word: &StopWord, stop: &mut StopSeat, refused: Option<StepFault>)
+/// Raises the stop word unless a thread was kept.
+fn raise_unless(word: &StopWord, stop: &mut StopSeat, is_kept: bool)
     requires { stop.old.table ≡ word.now.table }
     ensures table { stop.new.table ≡ stop.old.table }
-    ensures quiet { refused ≡ None → stop.new ≡ stop.old }
-    ensures raised { (fault : StepFault) → refused ≡ Some fault → stop.new.raised ≡ true }
+    ensures quiet { is_kept ≡ true → stop.new ≡ stop.old }
+    ensures raised { is_kept ≡ false → stop.new.raised ≡ true }
 {
-    if refused.is_some() {
+    if !is_kept {
         word.raise(stop);
     }
+}
+
+fn are_both(one: bool, other: bool) -> bool
+    ensures { MatchBool result ((one ≡ true) × (other ≡ true)) ((one ≡ false) ⊎ (other ≡ false)) }
+{
+    one && other
 }
 
 /// The threads of a run. Its lists have room for all of them before the first is started.
@@ -189,15 +194,17 @@ pub(crate) struct Ran {
     pub(crate) stops: Vec<StopSeat>,
     /// The place at the stop word of the thread that starts the others.
     pub(crate) mine: StopSeat,
-    /// The refusal of the lowest hart that was refused.
+    /// The refusal of the lowest hart that was refused a step.
     pub(crate) lowest: Option<Refusal>,
+    /// Whether every thread was started, and kept with its seat and its place.
+    pub(crate) is_whole: bool,
 }
 
 impl Crew {
     /// Room for the threads of so many seats.
     pub(crate) fn new(alloc: Global, count: usize, mine: StopSeat) -> Result<Crew, AllocError>
         ensures { IfOk result (λ crew. (crew.children.items ≡ []) × (crew.ran.seats.items ≡ []) × (crew.ran.stops.items ≡ [])
-            × (crew.ran.mine ≡ mine) × (crew.ran.lowest ≡ None)) }
+            × (crew.ran.mine ≡ mine) × (crew.ran.lowest ≡ None) × (crew.ran.is_whole ≡ true)) }
     {
         let children = Vec::with_capacity(alloc, count)?;
         let seats = Vec::with_capacity(alloc, count)?;
@@ -209,6 +216,7 @@ impl Crew {
                 stops,
                 mine,
                 lowest: None,
+                is_whole: true,
             },
         })
     }
@@ -225,32 +233,33 @@ impl Crew {
         stops: Vec<StopSeat>,
     )
         requires stops { All (λ s. s ≡ fresh word.now.table) stops.items }
-        requires crew { IsCrew word.now.table [] self.old.children.items self.old.ran.mine self.old.ran.lowest }
-        ensures crew { IsCrew word.now.table seats.entry.items self.new.children.items self.new.ran.mine self.new.ran.lowest }
+        requires crew { IsCrew word.now.table [] self.old.children.items self.old.ran.mine self.old.ran.is_whole }
+        ensures crew { IsCrew word.now.table seats.entry.items self.new.children.items self.new.ran.mine self.new.ran.is_whole }
         ensures seats { self.new.ran.seats.items ≡ self.old.ran.seats.items }
         ensures stops { self.new.ran.stops.items ≡ self.old.ran.stops.items }
+        ensures lowest { self.new.ran.lowest ≡ self.old.ran.lowest }
     {
         let mut stops = stops;
         for seat in seats {
-            let hart = seat.hart();
             let child = start_next(scope, rt, bus, gate, word, seat, &mut stops);
-            self.add(word, hart, child);
+            self.add(word, child);
         }
     }
 
-    /// Takes in the thread of a hart; None is one that couldn't be started.
-    fn add(&mut self, word: &StopWord, hart: u32, child: Option<Child>)
+    /// Takes in the thread of a seat; None is one that couldn't be started.
+    fn add(&mut self, word: &StopWord, child: Option<Child>)
         requires { self.old.ran.mine.table ≡ word.now.table }
         ensures crew { (given : List SeatView) (seat : SeatView)
-            → IsCrew word.now.table given self.old.children.items self.old.ran.mine self.old.ran.lowest
+            → IsCrew word.now.table given self.old.children.items self.old.ran.mine self.old.ran.is_whole
             → ((c : BeganView) → child ≡ Some c → (badge_of c ≡ badge seat) × (c.place.table ≡ word.now.table))
-            → IsCrew word.now.table (given ++ seat ∷ []) self.new.children.items self.new.ran.mine self.new.ran.lowest }
+            → IsCrew word.now.table (given ++ seat ∷ []) self.new.children.items self.new.ran.mine self.new.ran.is_whole }
         ensures seats { self.new.ran.seats.items ≡ self.old.ran.seats.items }
         ensures stops { self.new.ran.stops.items ≡ self.old.ran.stops.items }
+        ensures lowest { self.new.ran.lowest ≡ self.old.ran.lowest }
     {
-        let refused = keep_child(&mut self.children, child);
-        raise_for(word, &mut self.ran.mine, refused);
-        note_any(&mut self.ran.lowest, hart, refused);
+        let is_kept = keep_child(&mut self.children, child);
+        raise_unless(word, &mut self.ran.mine, is_kept);
+        self.ran.is_whole = are_both(self.ran.is_whole, is_kept);
     }
 
     /// Joins every thread.
@@ -258,8 +267,8 @@ impl Crew {
         requires seats { self.ran.seats.items ≡ [] }
         requires stops { self.ran.stops.items ≡ [] }
         requires cause { AreRefusals self.ran.lowest }
-        ensures joined { (table : TableId) → (self.ran.lowest ≡ None → All (λ b. b.place.table ≡ table) self.children.items)
-            → AreJoined table self.children.items self.ran.lowest result.seats.items result.stops.items result.lowest }
+        ensures joined { (table : TableId) → (self.ran.is_whole ≡ true → All (λ b. b.place.table ≡ table) self.children.items)
+            → AreJoined table self.children.items self.ran.is_whole result.seats.items result.stops.items result.lowest result.is_whole }
         ensures mine { result.mine ≡ self.ran.mine }
     {
         let Crew { children, ran } = self;
@@ -276,11 +285,11 @@ impl Ran {
     /// Takes in what a thread came to.
     #[tactic(auto, using(crate::proofs::Crews::joined_more))]
     fn add(&mut self, driven: Driven)
-        ensures joined { (table : TableId) (begun : List BeganView) (first : Option Refusal) (b : BeganView)
-            → AreJoined table begun first self.old.seats.items self.old.stops.items self.old.lowest
+        ensures joined { (table : TableId) (begun : List BeganView) (first : Bool) (b : BeganView)
+            → AreJoined table begun first self.old.seats.items self.old.stops.items self.old.lowest self.old.is_whole
             → IsDriven (badge_of b) b.place driven.seat driven.stop driven.refused
-            → (first ≡ None → b.place.table ≡ table)
-            → AreJoined table (begun ++ b ∷ []) first self.new.seats.items self.new.stops.items self.new.lowest }
+            → (first ≡ true → b.place.table ≡ table)
+            → AreJoined table (begun ++ b ∷ []) first self.new.seats.items self.new.stops.items self.new.lowest self.new.is_whole }
         ensures mine { self.new.mine ≡ self.old.mine }
     {
         let Driven {
@@ -288,11 +297,9 @@ impl Ran {
             stop,
             refused,
         } = driven;
-        let hart = seat.hart();
-        note_any(&mut self.lowest, hart, refused);
-        let unkept = keep_seat(&mut self.seats, seat);
-        note_any(&mut self.lowest, hart, unkept);
-        let unkept = keep_stop(&mut self.stops, stop);
-        note_any(&mut self.lowest, hart, unkept);
+        note_any(&mut self.lowest, seat.hart(), refused);
+        let is_kept = keep_seat(&mut self.seats, seat);
+        let is_placed = keep_stop(&mut self.stops, stop);
+        self.is_whole = are_both(self.is_whole, are_both(is_kept, is_placed));
     }
 }

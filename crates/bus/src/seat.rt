@@ -1,12 +1,13 @@
 //! A seat: one hart with its copy of the text, and the list of what it asked.
 
-ghost use Rattle.std.specs.Prelude.{◌≡◌, ◌≤◌, IfNone, IfSome, false, length, reverse};
+ghost use Rattle.std.specs.Prelude.{◌≡◌, ◌≤◌, IfNone, IfSome, false, length, reverse, true};
 ghost use Rattle.line_memory.specs.declared.TheConstants.{TEXT_SIZE};
 ghost use Rattle.bus.specs.Agreeing.{Agrees};
 ghost use Rattle.bus.specs.Leading.{IsLed};
 ghost use Rattle.bus.specs.Replays.{CoreView};
 ghost use Rattle.bus.specs.Seating.{AsksNext, IsLocalStep};
 ghost use Rattle.bus.specs.Seats.{AreCounted};
+ghost use Rattle.bus.specs.Together.{IsLeft};
 
 use crate::exchange::Exchange;
 use crate::hart_step::go_alone;
@@ -86,6 +87,16 @@ impl<'p> Seat<'p> {
         ensures count { AreCounted self.now.made self.now.budget self.now.since self.now.exchanges }
     {
         self.made
+    }
+
+    /// Whether its hart runs and has steps left.
+    pub(crate) fn is_left(&self) -> bool
+        ensures { result ≡ true → IsLeft self.now }
+    {
+        match self.state.status {
+            Status::Running => self.made < self.budget,
+            Status::Exited(_) | Status::Trapped(_) => false,
+        }
     }
 
     /// The state of its hart.

@@ -7,9 +7,9 @@ use Rattle.listing_text.specs.Begun.{line_in as listed_line}
 use Rattle.listing_text.specs.Listing.{IsListing}
 use Rattle.program.specs.Sections.{Sections}
 use Rattle.program.specs.declared.TheConstants.{TEXT_LIMIT}
-use Rattle.program_losses.specs.declared.failing.ExplainedImage.{ExplainedImage}
+use Rattle.crash_test.specs.declared.losses.ExplainedImage.{ExplainedImage}
 use Rattle.program.specs.Loading.{zero_filled}
-use Rattle.program_trace.specs.Lines.{line_of}
+use Rattle.crash_test.specs.Lines.{line_of}
 use Rattle.run_text.specs.Causes.{unfinished_text}
 use Rattle.run_text.specs.Places.{line_in}
 use Rattle.run_trace.specs.declared.traced_event.TracedEvent.{TracedEvent}
@@ -37,9 +37,10 @@ pub waste_of_source : (json : Bool) (file : List ℕ) (lines : Option (List ℕ)
     → IsTold json (line_in lines) all text → IsTold json (line_of file) all text
 waste_of_source json file lines all text same is = subst (λ (f : ℕ → Option ℕ). IsTold json f all text) (fun_ext same) is
 
-pub why_of_source : (json : Bool) (file : List ℕ) (lines : Option (List ℕ)) (explained : ExplainedImage) → ((pc : ℕ) → line_in lines pc ≡ line_of file pc)
-    → told_losses json (line_in lines) explained ≡ told_losses json (line_of file) explained
-why_of_source json file lines explained same = ap (λ (f : ℕ → Option ℕ). told_losses json f explained) (fun_ext same)
+pub why_of_source : (json : Bool) (file : List ℕ) (lines : Option (List ℕ)) (traced : List TracedEvent) (explained : ExplainedImage)
+    → ((pc : ℕ) → line_in lines pc ≡ line_of file pc)
+    → told_losses json (line_in lines) traced explained ≡ told_losses json (line_of file) traced explained
+why_of_source json file lines traced explained same = ap (λ (f : ℕ → Option ℕ). told_losses json f traced explained) (fun_ext same)
 
 -- an object's file is that of the program which it is loaded as
 pub program_of_object : (file : List ℕ) (object : Sections) → IsObjectOf (begins_as_object file) file object

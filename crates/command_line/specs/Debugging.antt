@@ -11,7 +11,8 @@ use Rattle.shared_memory.specs.Limits.{RefusesStart}
 use Rattle.session.specs.StreamFailures.{one_more}
 use Rattle.session.specs.Running.{SomeRun}
 use Rattle.session.specs.Sessions.{BreaksOff, Session}
-use Rattle.crash_test.specs.Runs.{IsAtStart, Setup}
+use Rattle.crash_test.specs.Runs.{IsAtStart}
+use Rattle.recording.specs.declared.setup.Setup.{Setup}
 use Rattle.command_line.specs.Failures.{failure_of_session, failure_of_step}
 use Rattle.command_line.specs.Reading.{ReadsMedium, ReadsProgram}
 use Rattle.command_line.specs.Running.{machine_of}

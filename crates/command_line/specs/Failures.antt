@@ -4,8 +4,14 @@ use Rattle.std.specs.Prelude.{ℕ, List, ◌++◌, codes, decimal, string_bytes}
 use Rattle.asm_line.specs.declared.fault.AsmCode.{AsmCode}
 use Rattle.asm_line.specs.declared.fault.AsmCode.TheVariants as asm
 use Rattle.assemble.specs.declared.fault.AsmFault.{AsmFault}
+use Rattle.crash_image.specs.declared.ImageFault.{ImageFault}
+use Rattle.crash_image.specs.declared.ImageFault.TheVariants as images
 use Rattle.debugger.specs.declared.fault.DebugFault.{DebugFault}
 use Rattle.debugger.specs.declared.fault.DebugFault.TheVariants as sessions
+use Rattle.image_check.specs.declared.fault.CheckFault.{CheckFault}
+use Rattle.image_check.specs.declared.fault.CheckFault.TheVariants as checks
+use Rattle.image_judge.specs.declared.fault.JudgeFault.{JudgeFault}
+use Rattle.image_judge.specs.declared.fault.JudgeFault.TheVariants as judges
 use Rattle.interleaving.specs.declared.fault.InterleaveFault.{InterleaveFault}
 use Rattle.interleaving.specs.declared.fault.InterleaveFault.TheVariants as drawing
 use Rattle.line_memory.specs.declared.MediumFault.{MediumFault}
@@ -15,18 +21,10 @@ use Rattle.nova_log.specs.declared.fault.VolumeFault.TheVariants as volumes
 use Rattle.plan.specs.declared.fault.PlanCode.{PlanCode}
 use Rattle.plan.specs.declared.fault.PlanCode.TheVariants as plans
 use Rattle.plan.specs.declared.fault.PlanFault.{PlanFault}
-use Rattle.program_judge.specs.declared.judging.JudgingFault.{JudgingFault}
-use Rattle.program_judge.specs.declared.judging.JudgingFault.TheVariants as judgements
 use Rattle.schedule.specs.declared.fault.ScheduleFault.{ScheduleFault}
 use Rattle.schedule.specs.declared.fault.ScheduleFault.TheVariants as schedules
 use Rattle.shared_memory.specs.declared.fault.StepFault.{StepFault}
 use Rattle.shared_memory.specs.declared.fault.StepFault.TheVariants as steps
-use Rattle.crash_test.specs.declared.checking.VerdictFault.{VerdictFault}
-use Rattle.crash_test.specs.declared.checking.VerdictFault.TheVariants as verdicts
-use Rattle.crash_test.specs.declared.explaining.ExplainFault.{ExplainFault}
-use Rattle.crash_test.specs.declared.explaining.ExplainFault.TheVariants as explanations
-use Rattle.crash_test.specs.declared.images.CountFault.{CountFault}
-use Rattle.crash_test.specs.declared.images.CountFault.TheVariants as counts
 use Rattle.crash_test.specs.declared.loading.ProgramFault.{ProgramFault}
 use Rattle.crash_test.specs.declared.loading.ProgramFault.TheVariants as programs
 use Rattle.crash_test.specs.declared.runs.TogetherFault.{TogetherFault}
@@ -137,32 +135,23 @@ abbrev pub failure_of_together : TogetherFault → Failure
 failure_of_together (together.Step fault) = failure_of_step fault
 failure_of_together together.Foreign = Refused Foreign
 
--- for images that weren't counted
-abbrev pub failure_of_count : CountFault → Failure
-failure_of_count (counts.Step fault) = Refused (Step fault)
-failure_of_count counts.NoSuchMoment = Refused Moment
-failure_of_count counts.Memory = Memory
+-- for a moment or an image that isn't there
+abbrev pub failure_of_image : ImageFault → Failure
+failure_of_image images.NoSuchMoment = Refused Moment
+failure_of_image images.NotACut = Refused Image
+failure_of_image images.Memory = Memory
 
--- for an image that wasn't explained
-abbrev pub failure_of_explanation : ExplainFault → Failure
-failure_of_explanation (explanations.Step fault) = Refused (Step fault)
-failure_of_explanation explanations.NoSuchMoment = Refused Moment
-failure_of_explanation explanations.NoSuchImage = Refused Image
-failure_of_explanation explanations.Memory = Memory
+-- for a run without a verdict by a plan
+abbrev pub failure_of_check : CheckFault → Failure
+failure_of_check (checks.Operation fault) = Refused (Operation fault)
+failure_of_check checks.NoSuchMoment = Refused Moment
+failure_of_check checks.Memory = Memory
 
--- for a run without a verdict
-abbrev pub failure_of_verdict : VerdictFault → Failure
-failure_of_verdict (verdicts.Step fault) = Refused (Step fault)
-failure_of_verdict (verdicts.Operation fault) = Refused (Operation fault)
-failure_of_verdict verdicts.NoSuchMoment = Refused Moment
-failure_of_verdict verdicts.Memory = Memory
-
--- for a run that wasn't judged by a recovery routine
-abbrev pub failure_of_judging : JudgingFault → Failure
-failure_of_judging (judgements.Step fault) = Refused (Step fault)
-failure_of_judging (judgements.Marks fault) = Refused (Marks fault)
-failure_of_judging judgements.NoSuchMoment = Refused Moment
-failure_of_judging judgements.Memory = Memory
+-- for one without a verdict by a recovery routine
+abbrev pub failure_of_judge : JudgeFault → Failure
+failure_of_judge (judges.Marks fault) = Refused (Marks fault)
+failure_of_judge judges.NoSuchMoment = Refused Moment
+failure_of_judge judges.Memory = Memory
 
 -- for a session that ended by a fault: want of memory, or a standard stream that failed
 abbrev pub failure_of_session : DebugFault → Failure

@@ -1,20 +1,19 @@
 -- What `images` comes to.
 use Rattle.std.specs.Prelude.{ℕ, Bool, true, false, List, [], Option, Some, None, Result, MatchResult, ◌++◌, codes, decimal}
 use Rattle.arguments.specs.declared.asked.ImagesCommand.{ImagesCommand}
-use Rattle.schedule.specs.declared.items.Item.{Item}
-use Rattle.crash_test.specs.Images.{CountsImages, FailsToCount}
-use Rattle.crash_test.specs.Runs.{Setup}
-use Rattle.command_line.specs.Failures.{failure_of_count}
+use Rattle.crash_test.specs.Images.{CountsImages, LacksMoment}
+use Rattle.recording.specs.Runs.{RunView}
+use Rattle.command_line.specs.Failures.{failure_of_image}
 use Rattle.command_line.specs.Demanding.{MeetsWhole}
-use Rattle.command_line.specs.Reading.{ReadsRun, setup_of}
+use Rattle.command_line.specs.MakingRuns.{OpensRun}
 use Rattle.command_line.specs.Reports.{line_end}
 use Rattle.command_line.specs.Steps.{First, Prints, Reads, Step, Still, Tells}
 use Rattle.command_line.specs.declared.answer.Answer.{Answer}
 use Rattle.command_line.specs.declared.failure.Failure.{Failure}
 
 -- the images of a moment, or why they aren't counted
-pub record Counts (s : Setup) (schedule : List Item) (moment : ℕ) (outcome : Result (Option ℕ) Failure) : Type 0 where
-  pub counts : MatchResult outcome (CountsImages s schedule moment) (Tells (FailsToCount s schedule moment) failure_of_count)
+pub record Counts (run : RunView) (moment : ℕ) (outcome : Result (Option ℕ) Failure) : Type 0 where
+  pub counts : MatchResult outcome (CountsImages run.events moment) (Tells (LacksMoment run.events moment) failure_of_image)
 
 -- `N`, and `over 65536` where there are more
 abbrev pub count_text : Option ℕ → List ℕ
@@ -41,7 +40,7 @@ told_count false moment count = images_line moment count
 
 abbrev pub CountsFile : {F : Type 0} → Reads F → ImagesCommand → Step F Answer
 CountsFile reads command =
-    First (ReadsRun reads command.run) (λ run.
-    First (Still (MeetsWhole command.run run [])) (λ _.
-    First (Still (Counts (setup_of command.run run) run.schedule command.moment)) (λ count.
+    First (OpensRun reads command.run) (λ made.
+    First (Still (MeetsWhole command.run.whole made [])) (λ _.
+    First (Still (Counts made.run command.moment)) (λ count.
     Still (Prints (told_count command.json command.moment count) 0))))

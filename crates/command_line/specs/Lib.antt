@@ -15,6 +15,7 @@ pub mod Outcomes
 pub mod Picturing
 pub mod Progress
 pub mod Reading
+pub mod MakingRuns
 pub mod Reports
 pub mod Running
 pub mod Showing

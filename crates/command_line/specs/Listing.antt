@@ -4,7 +4,7 @@ use Rattle.arguments.specs.declared.asked.ListingCommand.{ListingCommand}
 use Rattle.asm_lex.specs.Lines.{lines_of}
 use Rattle.listing_text.specs.Listing.{IsListing}
 use Rattle.program.specs.Sections.{Sections}
-use Rattle.program_trace.specs.Lines.{line_of}
+use Rattle.crash_test.specs.Lines.{line_of}
 use Rattle.crash_test.specs.Programs.{IsLoadFault, IsObjectOf, begins_as_object}
 use Rattle.command_line.specs.Failures.{failure_of_program}
 use Rattle.command_line.specs.Steps.{First, Reads, ReadsFile, Step, Still, Tells}

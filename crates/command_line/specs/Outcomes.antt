@@ -152,7 +152,8 @@ pub record Ends {F R W E : Type 0} (reads : Reads F) (writes : Writes F)
   pub comes : ComesTo reads writes words files files' outcome
   pub delivers : Delivers remaining contents said streams streams' errors errors' outcome ended
 
--- a status with which the program may end so; standard error stays as it was but for a failure, and for what `--progress` tells
+-- a status with which the program may end so; standard error stays as it was but for a failure, for what `--progress` tells, and for the line of
+-- `judge` that no moment is judged
 pub record EndsWith {F R W E : Type 0} (reads : Reads F) (writes : Writes F)
     (remaining : R → Option (List ℕ)) (contents : W → Option (List ℕ)) (said : E → Option (List ℕ)) (words : List (List ℕ)) (files files' : F)
     (streams streams' : R × W) (errors errors' : E) (status : ℕ) : Type 0 where

@@ -1,26 +1,30 @@
 -- What `unpersisted` comes to.
-use Rattle.std.specs.Prelude.{◌==◌, ℕ, Bool, true, false, List, [], Option, Result, MatchResult, if◌then◌else◌}
+use Rattle.std.specs.Prelude.{◌≡◌, ◌==◌, ℕ, Bool, true, false, List, [], Option, Result, MatchResult, length, if◌then◌else◌}
 use Rattle.arguments.specs.declared.asked.ReportCommand.{ReportCommand}
 use Rattle.durability.specs.declared.ends.Unpersisted.{Unpersisted}
 use Rattle.loss_text.specs.Events.{event_text}
 use Rattle.loss_text.specs.Json.{event_object, unpersisted_json}
 use Rattle.loss_text.specs.Unpersisted.{count_of, unpersisted_text}
-use Rattle.program_losses.specs.Unpersisted.{IsUnpersistedRun}
-use Rattle.program_losses.specs.declared.unpersisted.UnpersistedRun.{UnpersistedRun}
-use Rattle.program_trace.specs.Lines.{line_of}
+use Rattle.crash_test.specs.Lines.{line_of}
+use Rattle.durability.specs.Unpersisted.{AreEndLosses, AreFirstLosses, IsUnpersistedOutside}
+use Rattle.recording.specs.Runs.{RunView}
+use Rattle.store_trace.specs.declared.event.Event.{Event}
+use Rattle.command_line.specs.declared.failure.Failure.TheVariants.{Memory}
 use Rattle.run_trace.specs.declared.traced_event.TracedEvent.{TracedEvent}
-use Rattle.schedule.specs.declared.items.Item.{Item}
-use Rattle.crash_test.specs.Runs.{FailsToRun, Setup}
 use Rattle.command_line.specs.Demanding.{MeetsWhole}
-use Rattle.command_line.specs.Failures.{failure_of_step}
-use Rattle.command_line.specs.Reading.{ReadsRun, setup_of}
-use Rattle.command_line.specs.Steps.{First, Prints, Reads, Step, Still, Tells}
+use Rattle.command_line.specs.MakingRuns.{OpensRun}
+use Rattle.command_line.specs.Steps.{First, Prints, Reads, Step, Still}
 use Rattle.command_line.specs.declared.answer.Answer.{Answer}
 use Rattle.command_line.specs.declared.failure.Failure.{Failure}
 
--- the stores of the run that weren't durable in time, or why there is no run
-pub record Told (s : Setup) (schedule : List Item) (outcome : Result UnpersistedRun Failure) : Type 0 where
-  pub tells : MatchResult outcome (IsUnpersistedRun s schedule) (Tells (FailsToRun s schedule) failure_of_step)
+-- of these events what each End leaves, and what is left at the last moment of the stores outside operations
+pub record AreUnpersisted (events : List Event) (found : Unpersisted) : Type 0 where
+  pub ends : AreEndLosses events found.ends.items
+  pub outside : AreFirstLosses events (length events) (IsUnpersistedOutside events) found.outside.items
+
+-- the stores of the run that weren't durable in time; memory for them may be refused
+pub record Finds (run : RunView) (outcome : Result Unpersisted Failure) : Type 0 where
+  pub finds : MatchResult outcome (AreUnpersisted run.events) (λ failure. failure ≡ Memory)
 
 -- 0 where there are none, else 1
 abbrev pub status_of : Unpersisted → ℕ
@@ -33,7 +37,7 @@ told_stores false lines traced told = unpersisted_text (event_text lines traced)
 
 abbrev pub UnpersistedFile : {F : Type 0} → Reads F → ReportCommand → Step F Answer
 UnpersistedFile reads command =
-    First (ReadsRun reads command.run) (λ run.
-    First (Still (MeetsWhole command.run run [])) (λ _.
-    First (Still (Told (setup_of command.run run) run.schedule)) (λ found.
-    Still (Prints (told_stores command.json (line_of run.file.items) found.traced.items found.told) (status_of found.told)))))
+    First (OpensRun reads command.run) (λ made.
+    First (Still (MeetsWhole command.run.whole made [])) (λ _.
+    First (Still (Finds made.run)) (λ found.
+    Still (Prints (told_stores command.json (line_of made.file.items) made.run.traced found) (status_of found)))))

@@ -16,7 +16,8 @@ use Rattle.schedule.specs.declared.fault.ScheduleFault.{ScheduleFault}
 use Rattle.schedule.specs.declared.fault.ScheduleFault.TheVariants as schedules
 use Rattle.schedule.specs.declared.items.Item.{Item}
 use Rattle.crash_test.specs.Programs.{IsLoadFault, IsProgramOf}
-use Rattle.crash_test.specs.Runs.{Setup, with_room}
+use Rattle.recording.specs.Runs.{with_room}
+use Rattle.recording.specs.declared.setup.Setup.{Setup}
 use Rattle.command_line.specs.Failures.{failure_of_medium, failure_of_plan, failure_of_program, failure_of_recovery, failure_of_schedule}
 use Rattle.command_line.specs.Steps.{First, Reads, ReadsFile, Step, Still, Tells}
 use Rattle.command_line.specs.declared.failure.Failure.{Failure}

@@ -8,7 +8,9 @@ use Rattle.machine.specs.Represents.{MachineView}
 use Rattle.program.specs.Sections.{Sections}
 use Rattle.schedule.specs.declared.items.Item.{Item}
 use Rattle.recording.specs.Recorded.{RecordedView}
-use Rattle.crash_test.specs.Runs.{FailsToRun, FailsTogether, HasRun, HasRunTogether, IsLeftOf, IsRunOf, Setup, setup}
+use Rattle.crash_test.specs.Runs.{FailsToRun, FailsTogether, HasRun, HasRunTogether, IsRunOf}
+use Rattle.recording.specs.Runs.{IsLeftOf, setup}
+use Rattle.recording.specs.declared.setup.Setup.{Setup}
 use Rattle.command_line.specs.Failures.{failure_of_step, failure_of_together}
 use Rattle.command_line.specs.Reading.{ReadsMedium, ReadsProgram, ReadsSchedule}
 use Rattle.command_line.specs.Reports.{run_report}

@@ -1,26 +1,31 @@
 -- What `waste` comes to.
-use Rattle.std.specs.Prelude.{◌≡◌, ℕ, Bool, true, false, List, [], Option, Result, MatchResult}
+use Rattle.std.specs.Prelude.{◌≡◌, ◌↔◌, ℕ, Bool, true, false, List, [], Option, Result, MatchResult, length}
 use Rattle.std.specs.List.{zip}
 use Rattle.arguments.specs.declared.asked.ReportCommand.{ReportCommand}
 use Rattle.needless_text.specs.Uses.{Judged}
 use Rattle.needless_text.specs.Json.{IsWasteJson}
 use Rattle.needless_text.specs.Waste.{IsWasteText}
-use Rattle.program_losses.specs.Vain.{IsNeedlessRun}
-use Rattle.program_losses.specs.declared.vain.NeedlessRun.{NeedlessRun}
-use Rattle.program_trace.specs.Lines.{line_of}
-use Rattle.schedule.specs.declared.items.Item.{Item}
-use Rattle.crash_test.specs.Runs.{FailsToRun, Setup}
+use Rattle.crash_test.specs.Lines.{line_of}
+use Rattle.needless.specs.Found.{AreNeedless, with_reasons}
+use Rattle.needless.specs.declared.reason.Needless.{Needless}
+use Rattle.needless.specs.declared.reason.Reason.{Reason}
+use Rattle.recording.specs.Runs.{RunView}
+use Rattle.store_trace.specs.declared.event.Event.{Event}
 use Rattle.command_line.specs.Demanding.{MeetsWhole}
-use Rattle.command_line.specs.Failures.{failure_of_step}
-use Rattle.command_line.specs.Reading.{ReadsRun, setup_of}
-use Rattle.command_line.specs.Steps.{First, Reads, Step, Still, Tells}
+use Rattle.command_line.specs.MakingRuns.{OpensRun}
+use Rattle.command_line.specs.Steps.{First, Reads, Step, Still}
 use Rattle.command_line.specs.declared.answer.Answer.{Answer}
 use Rattle.command_line.specs.declared.failure.Failure.{Failure}
 use Rattle.command_line.specs.declared.failure.Failure.TheVariants.{Memory}
 
--- the needless events of the run, or why there is no run
-pub record FindsNeedless (s : Setup) (schedule : List Item) (outcome : Result NeedlessRun Failure) : Type 0 where
-  pub tells : MatchResult outcome (IsNeedlessRun s schedule) (Tells (FailsToRun s schedule) failure_of_step)
+-- for each of these events the reason for which it is needless, where it is
+pub record AreReasons (events : List Event) (reasons : List (Option Reason)) : Type 0 where
+  pub size : length reasons ≡ length events
+  pub needless : (found : List Needless) → AreNeedless events found ↔ (found ≡ with_reasons 1 reasons)
+
+-- those of the run's events; memory for them may be refused
+pub record FindsNeedless (run : RunView) (outcome : Result (List (Option Reason)) Failure) : Type 0 where
+  pub finds : MatchResult outcome (AreReasons run.events) (λ failure. failure ≡ Memory)
 
 -- what is told of events with their reasons, as text or as JSON, by the line of the source at each pc
 abbrev pub IsTold : Bool → (ℕ → Option ℕ) → List Judged → List ℕ → Type 0
@@ -33,7 +38,7 @@ pub record PrintsWaste (json : Bool) (lines : ℕ → Option ℕ) (all : List Ju
 
 abbrev pub WasteFile : {F : Type 0} → Reads F → ReportCommand → Step F Answer
 WasteFile reads command =
-    First (ReadsRun reads command.run) (λ run.
-    First (Still (MeetsWhole command.run run [])) (λ _.
-    First (Still (FindsNeedless (setup_of command.run run) run.schedule)) (λ found.
-    Still (PrintsWaste command.json (line_of run.file.items) (zip found.traced.items found.reasons.items)))))
+    First (OpensRun reads command.run) (λ made.
+    First (Still (MeetsWhole command.run.whole made [])) (λ _.
+    First (Still (FindsNeedless made.run)) (λ reasons.
+    Still (PrintsWaste command.json (line_of made.file.items) (zip made.run.traced reasons)))))

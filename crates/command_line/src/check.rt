@@ -1,6 +1,5 @@
 //! The command that checks a run.
 
-ghost use Rattle.std.specs.Prelude.{◌≡◌, ◌^◌, ◌<◌, IfOk, IfSome};
 ghost use Rattle.arguments.specs.Line.{IsWithin};
 ghost use Rattle.arguments.specs.Spans.{IsUpward};
 ghost use Rattle.command_line.specs.Checking.{IsOpen, JudgesCheck, JudgesOpen, OpensCheck, Watches, cause_text};
@@ -8,28 +7,30 @@ ghost use Rattle.command_line.specs.Reasons.{Explains, ExplainsOne};
 ghost use Rattle.command_line.specs.Verdicts.{failing};
 ghost use Rattle.image_causes.specs.Told.{IsAsked};
 ghost use Rattle.schedule.specs.Grammar.{hart_steps};
-ghost use Rattle.command_line.specs.Reading.{setup_of};
+ghost use Rattle.std.specs.Prelude.{◌≡◌, ◌^◌, ◌<◌, IfOk, IfSome};
 
 use crate::answer::Answer;
 use crate::codes::volume_code;
 use crate::failure::Failure;
 use crate::files::Files;
+use crate::made_run::open_run;
 use crate::opened::OpenCheck;
-use crate::reading::{RunFiles, read_plan, read_run};
-use crate::verdicts::{ToldCause, failing, verdict_answer};
+use crate::reading::read_plan;
+use crate::verdicts::{ToldCause, bounds, failing, verdict_answer};
 use crate::watched_check::watched_verdict;
 use crate::whole::demand_whole;
-use arguments::{CheckCommand, Moments};
-use crash_test::{check_moments, check_program};
+use arguments::CheckCommand;
+use crash_test::{ExplainedImage, check_program, explain_losses};
+use image_causes::LogReader;
 use image_check::{Cause, Verdict};
 use image_name::ImageName;
-use program_losses::{ExplainedImage, explain_losses};
+use recording::Run;
 use std::alloc::{AllocError, Global};
 use std::io::Write;
 use std::thread::Threads;
 use std::time::Clock;
 
-/// `check`: reads the files of a plan, a program, a schedule and a medium, and with `--whole` demands that the run is whole.
+/// `check`: reads the files of a plan, a program, a schedule and a medium, makes the run, and with `--whole` demands that it is whole.
 pub(crate) fn open_check<F: Files>(
     alloc: Global,
     command: CheckCommand,
@@ -41,9 +42,13 @@ pub(crate) fn open_check<F: Files>(
     ensures ready { IfOk result IsOpen }
 {
     let plan = read_plan(alloc, command.plan.as_str(), files)?;
-    let run = read_run(alloc, &command.run, files)?;
-    demand_whole(alloc, &command.run, &run, plan.operations())?;
-    Ok(OpenCheck { command, plan, run })
+    let made = open_run(alloc, &command.run, files)?;
+    demand_whole(alloc, command.run.whole, &made, plan.operations())?;
+    Ok(OpenCheck {
+        command,
+        plan,
+        made,
+    })
 }
 
 /// Gives the verdict on a run, with `--why` also what a failing image lacks and keeps. With `--progress` standard error is told how far the
@@ -57,10 +62,10 @@ pub(crate) fn judge_check<T: Threads + Sync + Clock, E: Write>(
     requires { IsOpen check.now }
     ensures { JudgesCheck E.contents check.now errors.old result errors.new }
 {
-    let OpenCheck { command, run, .. } = check;
+    let OpenCheck { command, made, .. } = check;
     let verdict = verdict(rt, alloc, check, errors)?;
-    let why = why(alloc, command, run, &verdict)?;
-    verdict_answer(alloc, &run.file, &verdict, &why, command.json)
+    let why = why(alloc, command.why, &made.run, &verdict)?;
+    verdict_answer(alloc, made, &verdict, &why, command.json)
 }
 
 /// The verdict, told on the way or not.
@@ -88,56 +93,41 @@ fn quiet_verdict<T: Threads + Sync>(
     requires { IsOpen check.now }
     ensures { JudgesOpen check.now result }
 {
-    let OpenCheck { command, plan, run } = check;
-    let harts = command.run.machine.harts;
-    let workers = command.workers;
-    let program = run.program.copy(alloc)?;
-    let medium = run.medium.copy(alloc)?;
-    let schedule = &run.schedule;
-    match command.moments {
-        Some(Moments { first, last }) => Ok(check_moments(
-            rt, alloc, plan, program, medium, harts, schedule, first, last, workers,
-        )?),
-        None => Ok(check_program(rt, alloc, plan, program, medium, harts, schedule, workers)?),
-    }
+    let OpenCheck {
+        command,
+        plan,
+        made,
+    } = check;
+    let (first, last) = bounds(command.moments);
+    Ok(check_program(rt, alloc, plan, &made.run, first, last, command.workers)?)
 }
 
 /// `--why`: of a failing image what it lacks and keeps, and how it comes about.
 fn why(
     alloc: Global,
-    command: &CheckCommand,
-    run: &RunFiles,
+    asked: bool,
+    run: &Run,
     verdict: &Verdict<Cause>,
 ) -> Result<Option<ExplainedImage>, Failure>
-    requires { hart_steps run.now.schedule < 2 ^ 32 }
-    ensures told { Explains IsAsked (setup_of command.now.run run.now) run.now.schedule (failing command.now.why verdict.now) result }
+    ensures told { Explains IsAsked run.now (failing asked verdict.now) result }
     ensures few { IfOk result (λ why. IfSome why (λ explained. hart_steps explained.schedule < 2 ^ 32)) }
 {
-    match failing(command.why, verdict) {
-        Some((moment, image)) => Ok(Some(explained(alloc, command, run, moment, image)?)),
+    match failing(asked, verdict) {
+        Some((moment, image)) => Ok(Some(explained(alloc, run, moment, image)?)),
         None => Ok(None),
     }
 }
 
 fn explained(
     alloc: Global,
-    command: &CheckCommand,
-    run: &RunFiles,
+    run: &Run,
     moment: u32,
     image: &ImageName,
 ) -> Result<ExplainedImage, Failure>
-    requires { hart_steps run.now.schedule < 2 ^ 32 }
-    ensures told { ExplainsOne IsAsked (setup_of command.now.run run.now) run.now.schedule moment image.now result }
+    ensures told { ExplainsOne IsAsked run.now moment image.now result }
     ensures few { IfOk result (λ explained. hart_steps explained.schedule < 2 ^ 32) }
 {
-    let harts = command.run.machine.harts;
-    let RunFiles {
-        program,
-        schedule,
-        medium,
-        ..
-    } = run;
-    Ok(explain_losses(alloc, program, medium, harts, schedule, moment, image)?)
+    Ok(explain_losses(alloc, run, moment, image, &LogReader)?)
 }
 
 impl ToldCause for Cause {

@@ -5,16 +5,16 @@ ghost use Rattle.schedule.specs.Grammar.{hart_steps};
 ghost use Rattle.command_line.specs.Explaining.{Explained, ExplainsFile};
 ghost use Rattle.command_line.specs.Steps.{Prints};
 ghost use Rattle.command_line.specs.Writing.{schedule_line};
-ghost use Rattle.command_line.specs.Reading.{setup_of};
 
 use crate::answer::Answer;
 use crate::failure::Failure;
 use crate::files::Files;
-use crate::reading::{RunFiles, read_run};
+use crate::made_run::open_run;
 use crate::whole::demand_whole;
 use crate::writing::schedule_line;
 use arguments::ExplainCommand;
 use crash_test::explain_image;
+use recording::Run;
 use schedule::Schedule;
 use std::alloc::Global;
 
@@ -27,33 +27,17 @@ pub(crate) fn explain_file<F: Files>(
 ) -> Result<Answer, Failure>
     ensures { ExplainsFile F.read_gives command.now files.old result files.new }
 {
-    let run = read_run(alloc, &command.run, files)?;
-    demand_whole(alloc, &command.run, &run, &[])?;
-    let explanation = explanation(alloc, run, command)?;
+    let made = open_run(alloc, &command.run, files)?;
+    demand_whole(alloc, command.run.whole, &made, &[])?;
+    let explanation = explanation(alloc, &made.run, command)?;
     schedule_answer(alloc, &explanation)
 }
 
-fn explanation(alloc: Global, run: RunFiles, command: &ExplainCommand) -> Result<Schedule, Failure>
-    requires { hart_steps run.schedule < 2 ^ 32 }
-    ensures explained { Explained (setup_of command.now.run run) run.schedule command.now.moment command.now.image result }
+fn explanation(alloc: Global, run: &Run, command: &ExplainCommand) -> Result<Schedule, Failure>
+    ensures explained { Explained run.now command.now.moment command.now.image result }
     ensures few { IfOk result (λ explanation. hart_steps explanation < 2 ^ 32) }
 {
-    let RunFiles {
-        program,
-        schedule,
-        medium,
-        ..
-    } = run;
-    let harts = command.run.machine.harts;
-    Ok(explain_image(
-        alloc,
-        program,
-        medium,
-        harts,
-        &schedule,
-        command.moment,
-        &command.image,
-    )?)
+    Ok(explain_image(alloc, run, command.moment, &command.image)?)
 }
 
 /// The line of a schedule.

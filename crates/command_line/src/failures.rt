@@ -3,14 +3,16 @@
 use crate::failure::{Failure, Refusal};
 use crate::files::FileFault;
 use assemble::{AsmCode, AsmFault};
-use crash_test::{CountFault, ExplainFault, ProgramFault, TogetherFault, VerdictFault};
+use crash_image::ImageFault;
+use crash_test::{ProgramFault, TogetherFault};
 use debugger::DebugFault;
+use image_check::CheckFault;
+use image_judge::JudgeFault;
 use interleaving::InterleaveFault;
 use line_memory::MediumFault;
 use machine::StepFault;
 use nova_log::VolumeFault;
 use plan::{PlanCode, PlanFault};
-use program_judge::JudgingFault;
 use schedule::ScheduleFault;
 use std::alloc::AllocError;
 
@@ -156,65 +158,47 @@ impl From<TogetherFault> for Failure {
     }
 }
 
-impl From<CountFault> for Failure {
+impl From<ImageFault> for Failure {
     ghost use Rattle.std.specs.Prelude.{◌≡◌};
-    ghost use Rattle.command_line.specs.Failures.{failure_of_count};
+    ghost use Rattle.command_line.specs.Failures.{failure_of_image};
 
-    ghost from_gives = { λ fault failure. failure ≡ failure_of_count fault };
+    ghost from_gives = { λ fault failure. failure ≡ failure_of_image fault };
 
-    fn from(fault: CountFault) -> Failure {
+    fn from(fault: ImageFault) -> Failure {
         match fault {
-            CountFault::Step(fault) => Failure::Refused(Refusal::Step(fault)),
-            CountFault::NoSuchMoment => Failure::Refused(Refusal::Moment),
-            CountFault::Memory => Failure::Memory,
+            ImageFault::NoSuchMoment => Failure::Refused(Refusal::Moment),
+            ImageFault::NotACut => Failure::Refused(Refusal::Image),
+            ImageFault::Memory => Failure::Memory,
         }
     }
 }
 
-impl From<ExplainFault> for Failure {
+impl From<CheckFault> for Failure {
     ghost use Rattle.std.specs.Prelude.{◌≡◌};
-    ghost use Rattle.command_line.specs.Failures.{failure_of_explanation};
+    ghost use Rattle.command_line.specs.Failures.{failure_of_check};
 
-    ghost from_gives = { λ fault failure. failure ≡ failure_of_explanation fault };
+    ghost from_gives = { λ fault failure. failure ≡ failure_of_check fault };
 
-    fn from(fault: ExplainFault) -> Failure {
+    fn from(fault: CheckFault) -> Failure {
         match fault {
-            ExplainFault::Step(fault) => Failure::Refused(Refusal::Step(fault)),
-            ExplainFault::NoSuchMoment => Failure::Refused(Refusal::Moment),
-            ExplainFault::NoSuchImage => Failure::Refused(Refusal::Image),
-            ExplainFault::Memory => Failure::Memory,
+            CheckFault::Operation(fault) => Failure::Refused(Refusal::Operation(fault)),
+            CheckFault::NoSuchMoment => Failure::Refused(Refusal::Moment),
+            CheckFault::Memory => Failure::Memory,
         }
     }
 }
 
-impl From<JudgingFault> for Failure {
+impl From<JudgeFault> for Failure {
     ghost use Rattle.std.specs.Prelude.{◌≡◌};
-    ghost use Rattle.command_line.specs.Failures.{failure_of_judging};
+    ghost use Rattle.command_line.specs.Failures.{failure_of_judge};
 
-    ghost from_gives = { λ fault failure. failure ≡ failure_of_judging fault };
+    ghost from_gives = { λ fault failure. failure ≡ failure_of_judge fault };
 
-    fn from(fault: JudgingFault) -> Failure {
+    fn from(fault: JudgeFault) -> Failure {
         match fault {
-            JudgingFault::Step(fault) => Failure::Refused(Refusal::Step(fault)),
-            JudgingFault::Marks(fault) => Failure::Refused(Refusal::Marks(fault)),
-            JudgingFault::NoSuchMoment => Failure::Refused(Refusal::Moment),
-            JudgingFault::Memory => Failure::Memory,
-        }
-    }
-}
-
-impl From<VerdictFault> for Failure {
-    ghost use Rattle.std.specs.Prelude.{◌≡◌};
-    ghost use Rattle.command_line.specs.Failures.{failure_of_verdict};
-
-    ghost from_gives = { λ fault failure. failure ≡ failure_of_verdict fault };
-
-    fn from(fault: VerdictFault) -> Failure {
-        match fault {
-            VerdictFault::Step(fault) => Failure::Refused(Refusal::Step(fault)),
-            VerdictFault::Operation(fault) => Failure::Refused(Refusal::Operation(fault)),
-            VerdictFault::NoSuchMoment => Failure::Refused(Refusal::Moment),
-            VerdictFault::Memory => Failure::Memory,
+            JudgeFault::Marks(fault) => Failure::Refused(Refusal::Marks(fault)),
+            JudgeFault::NoSuchMoment => Failure::Refused(Refusal::Moment),
+            JudgeFault::Memory => Failure::Memory,
         }
     }
 }

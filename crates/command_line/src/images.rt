@@ -2,18 +2,15 @@
 
 ghost use Rattle.command_line.specs.Imaging.{Counts, CountsFile, images_json, images_line, told_count};
 ghost use Rattle.std.specs.Prelude.{◌≡◌, IfOk, string_bytes};
-ghost use Rattle.crash_test.specs.Runs.{with_room};
 
 use crate::answer::Answer;
 use crate::failure::Failure;
 use crate::files::Files;
-use crate::reading::read_run;
+use crate::made_run::open_run;
 use crate::whole::demand_whole;
 use arguments::ImagesCommand;
 use crash_test::count_images;
-use line_memory::Medium;
-use program::Program;
-use schedule::Schedule;
+use recording::Run;
 use std::alloc::{AllocError, Global};
 
 /// `images`: reads the files of a program, a schedule and a medium, and counts the images that a power cut may leave at a
@@ -25,26 +22,18 @@ pub(crate) fn count_file<F: Files>(
 ) -> Result<Answer, Failure>
     ensures { CountsFile F.read_gives command.now files.old result files.new }
 {
-    let run = read_run(alloc, &command.run, files)?;
-    demand_whole(alloc, &command.run, &run, &[])?;
-    let harts = command.run.machine.harts;
+    let made = open_run(alloc, &command.run, files)?;
+    demand_whole(alloc, command.run.whole, &made, &[])?;
     let moment = command.moment;
-    let count = count(alloc, run.program, run.medium, harts, &run.schedule, moment)?;
+    let count = count(alloc, &made.run, moment)?;
     let text = told_count(alloc, moment, count, command.json)?;
     Ok(Answer::of(text, 0))
 }
 
-fn count(
-    alloc: Global,
-    program: Program,
-    medium: Medium,
-    harts: u32,
-    schedule: &Schedule,
-    moment: u32,
-) -> Result<Option<u32>, Failure>
-    ensures { Counts (with_room program medium harts) schedule.now moment result }
+fn count(alloc: Global, run: &Run, moment: u32) -> Result<Option<u32>, Failure>
+    ensures { Counts run.now moment result }
 {
-    Ok(count_images(alloc, program, medium, harts, schedule, moment)?)
+    Ok(count_images(alloc, run, moment)?)
 }
 
 /// The images of a moment, as text or as JSON.

@@ -3,7 +3,8 @@
 ghost use Rattle.command_line.specs.Drawing.{DrawsSchedule, InterleavesFile};
 ghost use Rattle.schedule.specs.Grammar.{hart_steps};
 ghost use Rattle.std.specs.Prelude.{◌^◌, ◌<◌, IfOk};
-ghost use Rattle.crash_test.specs.Runs.{IsAtStart, Setup};
+ghost use Rattle.crash_test.specs.Runs.{IsAtStart};
+ghost use Rattle.recording.specs.declared.setup.Setup.{Setup};
 
 use crate::answer::Answer;
 use crate::debug::start;

@@ -2,33 +2,39 @@
 
 ghost use Rattle.arguments.specs.Line.{IsWithin};
 ghost use Rattle.arguments.specs.Spans.{IsUpward};
-ghost use Rattle.command_line.specs.Judging.{ExplainsFailing, IsOpen, JudgesOpen, JudgesRun, OpensJudge, Watches, cause_text, missing_text, setup_of_judge};
+ghost use Rattle.command_line.specs.Judging.{ExplainsFailing, IsOpen, JudgesOpen, JudgesRun, Notes, OpensJudge, Watches, cause_text, missing_text, note_of};
 ghost use Rattle.command_line.specs.Reasons.{ExplainsOne};
-ghost use Rattle.judged_losses.specs.Loading.{IsLoaded};
+ghost use Rattle.crash_test.specs.Loading.{IsLoaded};
 ghost use Rattle.schedule.specs.Grammar.{hart_steps};
-ghost use Rattle.std.specs.Prelude.{◌≡◌, ◌^◌, ◌<◌, IfOk, IfSome, string_bytes};
+ghost use Rattle.std.specs.Prelude.{◌≡◌, ◌^◌, ◌<◌, IfOk, IfSome, OnOk, string_bytes};
+ghost use Rattle.std.specs.Io.KnownBytes.{Appends};
 
 use crate::answer::Answer;
 use crate::failure::Failure;
 use crate::files::Files;
+use crate::made_run::make_run;
 use crate::opened::OpenJudge;
-use crate::reading::{RunFiles, read_recovery, read_run};
+use crate::reading::{read_recovery, read_run};
+use crate::streams::print;
 use crate::verdicts::{ToldCause, bounds, failing, verdict_answer};
 use crate::watched_judge::watched_judgement;
 use crate::whole::demand_whole;
 use arguments::JudgeCommand;
+use crash_test::{ExplainedImage, Judgement, RoutineReader, explain_losses, judge_program};
 use image_judge::{Cause, Verdict};
 use image_name::ImageName;
-use judged_losses::explain_judged;
-use program_judge::{Judgement, judge_program};
-use program_losses::ExplainedImage;
 use recovery_run::Cause as RunCause;
+use session::Failed;
 use std::alloc::{AllocError, Global};
 use std::io::Write;
 use std::thread::Threads;
 use std::time::Clock;
 
-/// `judge`: reads the files of a program, a schedule, a medium and a recovery routine, and with `--whole` demands that the run is whole.
+/// What is said of a verdict on no moment.
+const NONE_JUDGED: &[u8] = b"no moment is judged: all lie before the first Begin\n";
+
+/// `judge`: reads the files of a program, a schedule, a medium and a recovery routine, makes the run, and with `--whole` demands that it is
+/// whole.
 pub(crate) fn open_judge<F: Files>(
     alloc: Global,
     command: JudgeCommand,
@@ -39,17 +45,19 @@ pub(crate) fn open_judge<F: Files>(
     ensures opens { OpensJudge F.read_gives command files.old result files.new }
     ensures ready { IfOk result IsOpen }
 {
-    let run = read_run(alloc, &command.run, files)?;
+    let read = read_run(alloc, &command.run, files)?;
     let recovery = read_recovery(alloc, command.recovery.as_str(), files)?;
-    demand_whole(alloc, &command.run, &run, &[])?;
+    let made = make_run(alloc, &command.run, read)?;
+    demand_whole(alloc, command.run.whole, &made, &[])?;
     Ok(OpenJudge {
         command,
-        run,
+        made,
         recovery,
     })
 }
 
-/// Gives the verdict on a run by a recovery routine. With `--progress` standard error is told how far it has come.
+/// Gives the verdict on a run by a recovery routine. With `--progress` standard error gets how far it has come, and where no moment is judged
+/// a line that says so.
 pub(crate) fn judge_run<T: Threads + Sync + Clock, E: Write>(
     rt: &T,
     alloc: Global,
@@ -61,7 +69,9 @@ pub(crate) fn judge_run<T: Threads + Sync + Clock, E: Write>(
 {
     let verdict = verdict(rt, alloc, judge, errors)?;
     let why = why(alloc, judge, &verdict)?;
-    verdict_answer(alloc, &judge.run.file, &verdict, &why, judge.command.json)
+    let answer = verdict_answer(alloc, &judge.made, &verdict, &why, judge.command.json)?;
+    let _ = note_none(&verdict, errors);
+    Ok(answer)
 }
 
 /// The verdict, told on the way or not.
@@ -91,7 +101,7 @@ fn quiet_verdict<T: Threads + Sync>(
 {
     let OpenJudge {
         command,
-        run,
+        made,
         recovery,
     } = judge;
     let judgement = Judgement {
@@ -100,20 +110,27 @@ fn quiet_verdict<T: Threads + Sync>(
         overlapping: command.overlapping,
     };
     let (first, last) = bounds(command.moments);
-    let harts = command.run.machine.harts;
-    let program = run.program.copy(alloc)?;
     Ok(judge_program(
         rt,
         alloc,
-        program,
-        &run.medium,
-        harts,
-        &run.schedule,
+        &made.run,
         judgement,
         first,
         last,
         command.workers,
     )?)
+}
+
+/// Says on standard error that no moment is judged, where the verdict is on none. Where standard error fails, it may have got a front of that.
+#[tactic(auto, using(crate::proofs::Written::front_all, crate::proofs::Written::part_none))]
+fn note_none<C, E: Write>(verdict: &Verdict<C>, errors: &mut E) -> Result<(), Failed>
+    ensures ok { OnOk result (Appends (E.contents errors.old) (E.contents errors.new) (note_of verdict.now)) }
+    ensures front { Notes E.contents verdict.now errors.old errors.new }
+{
+    match verdict {
+        Verdict::Pass { moments: 0, .. } => print(NONE_JUDGED, errors),
+        _ => Ok(()),
+    }
 }
 
 /// `--why`: of a failing image what it lacks and keeps, and how it comes about.
@@ -122,7 +139,6 @@ fn why(
     judge: &OpenJudge,
     verdict: &Verdict<Cause>,
 ) -> Result<Option<ExplainedImage>, Failure>
-    requires { hart_steps judge.now.run.schedule < 2 ^ 32 }
     ensures told { ExplainsFailing judge.now verdict.now result }
     ensures few { IfOk result (λ why. IfSome why (λ explained. hart_steps explained.schedule < 2 ^ 32)) }
 {
@@ -138,26 +154,14 @@ fn explained(
     moment: u32,
     image: &ImageName,
 ) -> Result<ExplainedImage, Failure>
-    requires { hart_steps judge.now.run.schedule < 2 ^ 32 }
-    ensures told { ExplainsOne (IsLoaded judge.now.recovery judge.now.command.steps) (setup_of_judge judge.now) judge.now.run.schedule moment image.now result }
+    ensures told { ExplainsOne (IsLoaded judge.now.recovery judge.now.command.steps) judge.now.made.run moment image.now result }
     ensures few { IfOk result (λ explained. hart_steps explained.schedule < 2 ^ 32) }
 {
-    let OpenJudge {
-        command,
-        run,
-        recovery,
-    } = judge;
-    let harts = command.run.machine.harts;
-    let steps = command.steps;
-    let RunFiles {
-        program,
-        schedule,
-        medium,
-        ..
-    } = run;
-    Ok(explain_judged(
-        alloc, program, medium, harts, schedule, moment, image, recovery, steps,
-    )?)
+    let reader = RoutineReader {
+        program: &judge.recovery,
+        steps: judge.command.steps,
+    };
+    Ok(explain_losses(alloc, &judge.made.run, moment, image, &reader)?)
 }
 
 impl ToldCause for Cause {

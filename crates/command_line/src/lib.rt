@@ -17,6 +17,7 @@ mod images;
 mod interleave;
 mod judge;
 mod listing;
+mod made_run;
 mod mkfs;
 mod opened;
 mod picture;

@@ -8,10 +8,9 @@ use crate::failure::Failure;
 use crate::files::Files;
 use crate::reading::read_file;
 use arguments::ListingCommand;
-use crash_test::load_object;
+use crash_test::{load_object, source_lines};
 use listing_text::listing_text;
 use program::Object;
-use program_trace::source_lines;
 use std::alloc::Global;
 
 /// `listing`: reads the file of a program, and prints the words of its object's text, each with its instruction, and of a source

@@ -1,6 +1,6 @@
 //! The commands that run a program: on harts that run together, and by a schedule.
 
-ghost use Rattle.std.specs.Prelude.{◌≡◌, ◌<◌, ◌≤◌, ◌^◌, ◌∷◌, ◌++◌, [], IfOk, length, option_map, string_bytes, unwrap_or};
+ghost use Rattle.std.specs.Prelude.{◌≡◌, ◌<◌, ◌≤◌, ◌^◌, IfOk, length, option_map, string_bytes, unwrap_or};
 ghost use Rattle.schedule.specs.Grammar.{hart_steps};
 ghost use Rattle.command_line.specs.Reports.{run_report};
 ghost use Rattle.command_line.specs.Running.{FinishesMachine, Finishes, RecordsRun, ReplaysFile, RunsBySchedule, RunsFile, RunsTogether, machine_of};

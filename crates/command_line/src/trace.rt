@@ -1,24 +1,21 @@
 //! The command that prints the events of a run.
 
-ghost use Rattle.command_line.specs.Reading.{setup_of};
 ghost use Rattle.command_line.specs.Steps.{Prints};
-ghost use Rattle.command_line.specs.Tracing.{Traced, TracesFile, told_events};
-ghost use Rattle.program_trace.specs.Lines.{line_of};
+ghost use Rattle.command_line.specs.Tracing.{TracesFile, told_events};
+ghost use Rattle.crash_test.specs.Lines.{line_of};
 ghost use Rattle.run_text.specs.Places.{line_in};
-ghost use Rattle.schedule.specs.Grammar.{hart_steps};
-ghost use Rattle.std.specs.Prelude.{◌≡◌, ◌^◌, ◌<◌, IfOk, string_bytes};
-ghost use Rattle.std.specs.Result.{result_map_both};
+ghost use Rattle.std.specs.Prelude.{◌≡◌, ◌<◌, IfOk, string_bytes};
 ghost use Rattle.crash_test.specs.Programs.{IsProgramOf};
 ghost use Rattle.program.specs.Sections.{Sections};
 
 use crate::answer::Answer;
 use crate::failure::Failure;
 use crate::files::Files;
-use crate::reading::{RunFiles, read_run};
+use crate::made_run::open_run;
 use crate::whole::demand_whole;
-use arguments::{ReportCommand, ScheduledRun};
+use arguments::ReportCommand;
 use assemble::LineNumbers;
-use program_trace::{source_lines, trace_program};
+use crash_test::source_lines;
 use run_text::{trace_json, trace_text};
 use run_trace::TracedEvent;
 use std::alloc::{AllocError, Global};
@@ -32,25 +29,9 @@ pub(crate) fn trace_file<F: Files>(
 ) -> Result<Answer, Failure>
     ensures { TracesFile F.read_gives command.now files.old result files.new }
 {
-    let run = read_run(alloc, &command.run, files)?;
-    demand_whole(alloc, &command.run, &run, &[])?;
-    let traced = traced(alloc, &command.run, &run)?;
-    trace_answer(alloc, &run.file, &traced, command.json)
-}
-
-fn traced(
-    alloc: Global,
-    command: &ScheduledRun,
-    run: &RunFiles,
-) -> Result<Vec<TracedEvent>, Failure>
-    requires { hart_steps run.now.schedule < 2 ^ 32 }
-    ensures { Traced (setup_of command.now run.now) run.now.schedule (result_map_both (λ traced. traced.items) (λ failure. failure) result) }
-{
-    let harts = command.machine.harts;
-    let program = run.program.copy(alloc)?;
-    let medium = run.medium.copy(alloc)?;
-    let events = trace_program(alloc, program, medium, harts, &run.schedule)?;
-    Ok(events.traced)
+    let made = open_run(alloc, &command.run, files)?;
+    demand_whole(alloc, command.run.whole, &made, &[])?;
+    trace_answer(alloc, &made.file, made.run.traced(), command.json)
 }
 
 #[tactic(auto, using(crate::proofs::SourceLines::traced_of_source))]

@@ -1,26 +1,24 @@
 //! The command that tells which stores weren't durable in time.
 
-ghost use Rattle.command_line.specs.Persisting.{Told, UnpersistedFile, status_of, told_stores};
-ghost use Rattle.command_line.specs.Reading.{setup_of};
+ghost use Rattle.command_line.specs.Persisting.{Finds, UnpersistedFile, status_of, told_stores};
 ghost use Rattle.command_line.specs.Steps.{Prints};
-ghost use Rattle.program.specs.Sections.{Sections};
-ghost use Rattle.program_trace.specs.Lines.{line_of};
+ghost use Rattle.crash_test.specs.Lines.{line_of};
 ghost use Rattle.run_text.specs.Places.{line_in};
-ghost use Rattle.schedule.specs.Grammar.{hart_steps};
-ghost use Rattle.std.specs.Prelude.{◌≡◌, ◌^◌, ◌<◌, IfOk, string_bytes};
+ghost use Rattle.std.specs.Prelude.{◌≡◌, ◌<◌, IfOk, string_bytes};
 ghost use Rattle.crash_test.specs.Programs.{IsProgramOf};
 
 use crate::answer::Answer;
 use crate::failure::Failure;
 use crate::files::Files;
-use crate::reading::{RunFiles, read_run};
+use crate::made_run::{MadeRun, open_run};
 use crate::whole::demand_whole;
-use arguments::{ReportCommand, ScheduledRun};
+use arguments::ReportCommand;
 use assemble::LineNumbers;
-use durability::Unpersisted;
+use crash_test::source_lines;
+use durability::{Unpersisted, tell_unpersisted};
 use loss_text::{unpersisted_json, unpersisted_text};
-use program_losses::{UnpersistedRun, unpersisted_program};
-use program_trace::source_lines;
+use recording::Run;
+use run_trace::TracedEvent;
 use std::alloc::{AllocError, Global};
 
 /// `unpersisted`: reads the files of a program, a schedule and a medium, and prints the stores of the run that weren't durable when
@@ -32,51 +30,49 @@ pub(crate) fn unpersisted_file<F: Files>(
 ) -> Result<Answer, Failure>
     ensures { UnpersistedFile F.read_gives command.now files.old result files.new }
 {
-    let run = read_run(alloc, &command.run, files)?;
-    demand_whole(alloc, &command.run, &run, &[])?;
-    let told = told(alloc, &command.run, &run)?;
-    told_answer(alloc, &run.file, &told, command.json)
+    let made = open_run(alloc, &command.run, files)?;
+    demand_whole(alloc, command.run.whole, &made, &[])?;
+    let found = found(alloc, &made.run)?;
+    told_answer(alloc, &made, &found, command.json)
 }
 
-fn told(alloc: Global, command: &ScheduledRun, run: &RunFiles) -> Result<UnpersistedRun, Failure>
-    requires { hart_steps run.now.schedule < 2 ^ 32 }
-    ensures { Told (setup_of command.now run.now) run.now.schedule result }
+/// The stores of a run that weren't durable in time.
+fn found(alloc: Global, run: &Run) -> Result<Unpersisted, Failure>
+    ensures { Finds run.now result }
 {
-    let harts = command.machine.harts;
-    let program = run.program.copy(alloc)?;
-    let medium = run.medium.copy(alloc)?;
-    Ok(unpersisted_program(alloc, program, medium, harts, &run.schedule)?)
+    let lines = run.start().lines();
+    Ok(tell_unpersisted(alloc, run.trace(), lines)?)
 }
 
 #[tactic(auto, using(crate::proofs::SourceLines::unpersisted_of_source))]
 fn told_answer(
     alloc: Global,
-    file: &[u8],
-    run: &UnpersistedRun,
+    made: &MadeRun,
+    found: &Unpersisted,
     json: bool,
 ) -> Result<Answer, Failure>
-    requires { (program : Sections) × IsProgramOf file.now program }
-    ensures { Prints (told_stores json (line_of file.now) run.now.traced.items run.now.told) (status_of run.now.told) result }
+    requires { IsProgramOf made.now.file.items made.now.run.setup.program }
+    ensures { Prints (told_stores json (line_of made.now.file.items) made.now.run.traced found.now) (status_of found.now) result }
 {
-    let lines = source_lines(alloc, file)?;
-    let text = told_stores(alloc, run, &lines, json)?;
-    let status = status_of(&run.told);
-    Ok(Answer::of(text, status))
+    let lines = source_lines(alloc, &made.file)?;
+    let text = told_stores(alloc, made.run.traced(), found, &lines, json)?;
+    Ok(Answer::of(text, status_of(found)))
 }
 
 /// The stores that weren't durable in time, as text or as JSON.
 fn told_stores(
     alloc: Global,
-    run: &UnpersistedRun,
+    traced: &[TracedEvent],
+    found: &Unpersisted,
     lines: &Option<LineNumbers>,
     json: bool,
 ) -> Result<String, AllocError>
-    ensures { IfOk result (λ text. string_bytes text ≡ told_stores json (line_in lines.now) run.now.traced.items run.now.told) }
+    ensures { IfOk result (λ text. string_bytes text ≡ told_stores json (line_in lines.now) traced.now found.now) }
 {
     if json {
-        unpersisted_json(alloc, &run.told, &run.traced, lines)
+        unpersisted_json(alloc, found, traced, lines)
     } else {
-        unpersisted_text(alloc, &run.told, &run.traced, lines)
+        unpersisted_text(alloc, found, traced, lines)
     }
 }
 

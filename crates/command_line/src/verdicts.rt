@@ -5,17 +5,17 @@ ghost use Rattle.arguments.specs.Spans.{IsUpward};
 ghost use Rattle.command_line.specs.Reasons.{told_why};
 ghost use Rattle.command_line.specs.Steps.{Prints};
 ghost use Rattle.command_line.specs.Verdicts.{fail_json, fail_line, failing, first_of, last_of, pass_json, pass_line, told_fail, told_pass, told_too_many, told_verdict, too_many_json, too_many_line, verdict_status};
-ghost use Rattle.program.specs.Sections.{Sections};
 ghost use Rattle.schedule.specs.Grammar.{hart_steps};
 ghost use Rattle.crash_test.specs.Programs.{IsProgramOf};
 
 use crate::answer::Answer;
 use crate::failure::Failure;
+use crate::made_run::MadeRun;
 use crate::reasons::told_why;
 use arguments::Moments;
+use crash_test::ExplainedImage;
 use image_name::ImageName;
 use moment_verdict::Verdict;
-use program_losses::ExplainedImage;
 use std::alloc::{AllocError, Global};
 
 /// Why an image is bad.
@@ -32,17 +32,17 @@ pub(crate) trait ToldCause: Copy {
 /// What a command prints of a verdict, and of an image that is explained, and its status.
 pub(crate) fn verdict_answer<C: ToldCause>(
     alloc: Global,
-    file: &[u8],
+    made: &MadeRun,
     verdict: &Verdict<C>,
     why: &Option<ExplainedImage>,
     json: bool,
 ) -> Result<Answer, Failure>
-    requires program { (program : Sections) × IsProgramOf file.now program }
+    requires program { IsProgramOf made.now.file.items made.now.run.setup.program }
     requires few { IfSome why.now (λ explained. hart_steps explained.schedule < 2 ^ 32) }
-    ensures { Prints (told_verdict C.told json verdict.now ++ told_why json file.now why.now) (verdict_status verdict.now) result }
+    ensures { Prints (told_verdict C.told json verdict.now ++ told_why json made.now why.now) (verdict_status verdict.now) result }
 {
     let mut text = told_verdict(alloc, verdict, json)?;
-    let lines = told_why(alloc, file, why, json)?;
+    let lines = told_why(alloc, made, why, json)?;
     text.push_str(lines.as_str())?;
     Ok(Answer::of(text, verdict_status(verdict)))
 }

@@ -1,20 +1,15 @@
 //! The verdict of a check that tells on standard error how far it has come.
 
-ghost use Rattle.command_line.specs.Checking.{IsOpen, TellsProgress, Watches, setup_of_check};
-ghost use Rattle.command_line.specs.Progress.{Progresses, passes_of};
+ghost use Rattle.command_line.specs.Checking.{IsOpen, TellsProgress, Watches};
 ghost use Rattle.command_line.specs.Verdicts.{first_of, last_of};
-ghost use Rattle.crash_image.specs.View.{HasLines};
-ghost use Rattle.image_check.specs.OrderFaults.{AreSound};
-ghost use Rattle.image_check.specs.Verdicts.{IsRefusal, IsVerdictBetween, judged_at};
-ghost use Rattle.parallel_moments.specs.Rows.{end_of};
-ghost use Rattle.std.specs.Prelude.{◌≡◌, IfErr, IfOk, length, true};
-ghost use Rattle.crash_test.specs.Checking.{HasNoVerdict, HasVerdictOn};
+ghost use Rattle.crash_test.specs.Checking.{HasVerdict};
+ghost use Rattle.image_check.specs.Verdicts.{IsRefusal, judged_at};
+ghost use Rattle.std.specs.Prelude.{◌≡◌, IfErr, IfOk, true};
 
 use crate::failure::Failure;
 use crate::opened::OpenCheck;
 use crate::progress::{Row, row_verdict};
 use crate::verdicts::bounds;
-use crash_test::{VerdictFault, trace_of};
 use gate::Open;
 use image_check::{Cause, CheckFault, Verdict};
 use parallel_check::Part;
@@ -22,7 +17,6 @@ use std::alloc::{AllocError, Global};
 use std::io::Write;
 use std::thread::Threads;
 use std::time::Clock;
-use store_trace::Trace;
 
 /// The verdict on what a check asks for, which tells on the way how many of the moments pass.
 pub(crate) fn watched_verdict<T: Threads + Sync + Clock, E: Write>(
@@ -35,52 +29,23 @@ pub(crate) fn watched_verdict<T: Threads + Sync + Clock, E: Write>(
     requires asked { check.now.command.progress ≡ true }
     ensures { Watches E.contents check.now errors.old result errors.new }
 {
-    Ok(run_verdict(rt, alloc, check, errors)?)
+    Ok(part_verdict(rt, alloc, check, errors)?)
 }
 
-fn run_verdict<T: Threads + Sync + Clock, E: Write>(
+fn part_verdict<T: Threads + Sync + Clock, E: Write>(
     rt: &T,
     alloc: Global,
     check: &OpenCheck,
-    errors: &mut E,
-) -> Result<Verdict<Cause>, VerdictFault>
-    requires { IsOpen check.now }
-    ensures ok { IfOk result (HasVerdictOn check.now.plan.operations (setup_of_check check.now) check.now.run.schedule
-        (first_of check.now.command.moments) (last_of check.now.command.moments)) }
-    ensures err { IfErr result (HasNoVerdict check.now.plan.operations (setup_of_check check.now) check.now.run.schedule (first_of check.now.command.moments)) }
-    ensures told { TellsProgress check.now.plan.operations (setup_of_check check.now) check.now.run.schedule
-        (first_of check.now.command.moments) (last_of check.now.command.moments) (E.contents errors.old) (E.contents errors.new) }
-{
-    let OpenCheck { command, run, .. } = check;
-    let Ok(program) = run.program.copy(alloc) else {
-        return Err(VerdictFault::Memory);
-    };
-    let harts = command.run.machine.harts;
-    let trace = trace_of(alloc, program, &run.medium, harts, &run.schedule)?;
-    let verdict = trace_verdict(rt, alloc, check, &trace, errors)?;
-    Ok(verdict)
-}
-
-/// The verdict by the events of the run.
-fn trace_verdict<T: Threads + Sync + Clock, E: Write>(
-    rt: &T,
-    alloc: Global,
-    check: &OpenCheck,
-    trace: &Trace,
     errors: &mut E,
 ) -> Result<Verdict<Cause>, CheckFault>
-    requires open { IsOpen check.now }
-    requires lines { HasLines check.now.run.medium trace.now.events }
-    ensures ok { IfOk result (IsVerdictBetween check.now.plan.operations check.now.run.medium trace.now.events
-        (first_of check.now.command.moments) (end_of trace.now.events (last_of check.now.command.moments))) }
-    ensures sound { IfOk result (λ verdict. AreSound check.now.plan.operations trace.now.events (length trace.now.events)) }
-    ensures err { IfErr result (IsRefusal check.now.plan.operations trace.now.events (first_of check.now.command.moments)) }
-    ensures told { Progresses (passes_of (judged_at check.now.plan.operations check.now.run.medium trace.now.events)) trace.now.events
-        (first_of check.now.command.moments) (end_of trace.now.events (last_of check.now.command.moments))
-        (E.contents errors.old) (E.contents errors.new) }
+    requires { IsOpen check.now }
+    ensures ok { IfOk result (HasVerdict check.now.plan.operations check.now.made.run (first_of check.now.command.moments) (last_of check.now.command.moments)) }
+    ensures err { IfErr result (IsRefusal check.now.plan.operations check.now.made.run.events (first_of check.now.command.moments)) }
+    ensures told { TellsProgress check.now.plan.operations check.now.made.run check.now.command.moments (E.contents errors.old) (E.contents errors.new) }
 {
+    let run = &check.made.run;
     let (first, last) = bounds(check.command.moments);
-    let part = Part::new(alloc, &check.plan, &check.run.medium, trace, first, last)?;
+    let part = Part::new(alloc, &check.plan, run.start(), run.trace(), first, last)?;
     let verdict = row_verdict(rt, alloc, &part, check.command.workers, errors)?;
     Ok(verdict)
 }

@@ -1,60 +1,47 @@
 //! Runs that were to be whole.
 
 ghost use Rattle.command_line.specs.Demanding.{IsToldBy, IsWholeOrTold, MeetsWhole};
+ghost use Rattle.crash_test.specs.Lines.{line_of};
+ghost use Rattle.crash_test.specs.Programs.{IsProgramOf};
 ghost use Rattle.program.specs.Sections.{Sections};
-ghost use Rattle.program_trace.specs.Lines.{line_of};
 ghost use Rattle.run_text.specs.Causes.{unfinished_text};
 ghost use Rattle.std.specs.Prelude.{◌≡◌, IfOk, string_bytes};
-ghost use Rattle.crash_test.specs.Programs.{IsProgramOf};
-ghost use Rattle.crash_test.specs.Runs.{with_room};
 ghost use Rattle.whole_run.specs.Causes.{numbers_of};
 
 use crate::failure::Failure;
-use crate::reading::RunFiles;
-use arguments::ScheduledRun;
+use crate::made_run::MadeRun;
+use crash_test::source_lines;
 use plan::Operation;
-use program_trace::{source_lines, unfinished_program};
 use run_text::unfinished_text;
 use std::alloc::{AllocError, Global};
-use whole_run::Unfinished;
+use whole_run::{Unfinished, find_unfinished};
 
 /// `--whole`: refuses a run that isn't whole, where the line has the option.
 pub(crate) fn demand_whole(
     alloc: Global,
-    command: &ScheduledRun,
-    run: &RunFiles,
+    whole: bool,
+    made: &MadeRun,
     planned: &[Operation],
 ) -> Result<(), Failure>
-    requires { IsProgramOf run.now.file.items run.now.program }
-    ensures { MeetsWhole command.now run.now (numbers_of planned.now) result }
+    requires { IsProgramOf made.now.file.items made.now.run.setup.program }
+    ensures { MeetsWhole whole made.now (numbers_of planned.now) result }
 {
-    if command.whole {
-        refuse_unfinished(alloc, command.machine.harts, run, planned)
+    if whole {
+        refuse_unfinished(alloc, made, planned)
     } else {
         Ok(())
     }
 }
 
-fn refuse_unfinished(
-    alloc: Global,
-    harts: u32,
-    run: &RunFiles,
-    planned: &[Operation],
-) -> Result<(), Failure>
-    requires { IsProgramOf run.now.file.items run.now.program }
-    ensures { IsWholeOrTold run.now (with_room run.now.program run.now.medium harts) (numbers_of planned.now) result }
+fn refuse_unfinished(alloc: Global, made: &MadeRun, planned: &[Operation]) -> Result<(), Failure>
+    requires { IsProgramOf made.now.file.items made.now.run.setup.program }
+    ensures { IsWholeOrTold made.now (numbers_of planned.now) result }
 {
-    let RunFiles {
-        program,
-        schedule,
-        medium,
-        ..
-    } = run;
-    let causes = unfinished_program(alloc, program, medium, harts, schedule, planned)?;
+    let causes = find_unfinished(alloc, &made.run, planned)?;
     if causes.is_empty() {
         Ok(())
     } else {
-        Err(told(alloc, &run.file, &causes))
+        Err(told(alloc, &made.file, &causes))
     }
 }
 

@@ -1,20 +1,22 @@
 -- What one hart of a setup has made alone.
-use Rattle.std.proofs.Common.{◌≡◌, ℕ, ◌<◌, ◌≤◌, List, [], ◌∷◌, Some, length, replicate, slice_get, refl, ap, subst, ◌∙◌, inl, inr, arith}
-use Rattle.std.proofs.lemmas.List.{append-nil, length-replicate}
+use Rattle.std.proofs.Common.{◌≡◌, ℕ, ◌<◌, ◌≤◌, List, [], ◌∷◌, Some, length, replicate, slice_get, refl, sym, ap, subst, ◌∙◌, inl, inr, arith}
+use Rattle.std.proofs.lemmas.List.{append-nil, length-replicate, take-replicate}
+use Rattle.std.proofs.lemmas.List.FromFn.{length-map-range_with_len}
 use Rattle.std.proofs.lemmas.Option.{slice_get_within}
 use Rattle.bus.proofs.Following.{count_own}
 use Rattle.bus.specs.Limits.{AreWithin}
-use Rattle.bus.specs.Stepping.{IsStepRefusal}
 use Rattle.bus.specs.Together.{count_of}
 use Rattle.hart.specs.declared.state.HartState.{HartState}
 use Rattle.machine.specs.Left.{IsLeftBy}
-use Rattle.machine.specs.Refusals.{Refuses, RefusesNext}
-use Rattle.machine.specs.Represents.{IsRunning, MachineView}
+use Rattle.hart.specs.Effect.{start}
+use Rattle.machine.specs.Refusals.{Refuses}
+use Rattle.machine.specs.Run.{RunsTo}
+use Rattle.machine.specs.Represents.{IsRunning}
 use Rattle.machine.specs.declared.fault.RunStop.{RunStop}
-use Rattle.recording.specs.Recorded.{FailsToRecord, HasGoneOn, RecordedView, Records, StopsRecording}
+use Rattle.recording.specs.Recorded.{FailsToRecord, HasGoneOn, IsRefused, RecordedView, Records, StopsRecording}
 use Rattle.schedule.proofs.Places.{step_here}
 use Rattle.schedule.specs.Grammar.{hart_steps}
-use Rattle.schedule.specs.Places.{steps_of_item}
+use Rattle.schedule.specs.Places.{steps_before}
 use Rattle.schedule.specs.Steps.{all_steps}
 use Rattle.schedule.specs.declared.items.Item.{Item}
 use Rattle.schedule.specs.declared.items.Item.TheVariants.{Steps}
@@ -23,7 +25,9 @@ use Rattle.schedule.specs.declared.items.Step.TheVariants.{Hart}
 use Rattle.shared_memory.specs.declared.fault.StepFault.{StepFault}
 use Rattle.shared_memory.specs.declared.fault.StepFault.TheVariants.{NoSuchHart, NoSuchLine, TraceFull, Memory, OutOfLimits}
 use Rattle.crash_test.proofs.Together.{hart_count_of}
-use Rattle.crash_test.specs.Runs.{FailsTogether, HasRunTogether, HaveMadeAll, HaveMadeAtMost, IsLeftOf, Setup, start_of}
+use Rattle.crash_test.specs.Runs.{FailsTogether, FillsTrace, HasRunTogether, HaveMadeAll, HaveMadeAtMost, StopsHarts}
+use Rattle.recording.specs.Runs.{IsLeftOf, start_of}
+use Rattle.recording.specs.declared.setup.Setup.{Setup}
 use Rattle.crash_test.specs.declared.runs.TogetherFault.TheVariants as together
 
 -- all steps of the schedule are the hart's
@@ -78,32 +82,65 @@ pub few_alone : (s : Setup) (steps : ℕ) (recorded : RecordedView) → steps �
     → hart_steps recorded.items ≤ 500000000
 few_alone s steps recorded few went = let most = went.most_made in rw went.items (omega arith)
 
--- why a step of the hart is refused
-refuses_hart : (machine : MachineView) (h : ℕ) (fault : StepFault) → Refuses machine (Hart h) fault → IsStepRefusal fault
-refuses_hart machine h NoSuchHart refused = inl refl
-refuses_hart machine h NoSuchLine refused = absurd refused
-refuses_hart machine h TraceFull refused = inr (inl refl)
-refuses_hart machine h OutOfLimits refused = absurd refused
-refuses_hart machine h Memory refused = inr (inr refl)
+-- the steps before one of the hart's
+own_before : (most k : ℕ) → k < most → steps_before (Steps 0 most ∷ []) 0 k ≡ replicate k (Hart 0)
+own_before most k inside = take-replicate k most (Hart 0) (omega arith)
 
-refuses_next : (machine : MachineView) (most : ℕ) (stop : RunStop) → stop.place.item < length (Steps 0 most ∷ [])
-    → stop.place.steps < length (steps_of_item (slice_get (Steps 0 most ∷ []) stop.place.item))
-    → RefusesNext machine (slice_get (steps_of_item (slice_get (Steps 0 most ∷ []) stop.place.item)) stop.place.steps) stop.fault
-    → IsStepRefusal stop.fault
-refuses_next machine most stop item steps refused =
+-- what stands where a step of the hart is refused
+module _ (s : Setup) (most : ℕ) (stop : RunStop) (one : s.harts ≡ 1) (refused : IsRefused (start_of s) (length s.medium) (Steps 0 most ∷ []) stop)
+    (first : stop.place.item ≡ 0) (inside : stop.place.steps < most) where
+  fills : Refuses refused.new (Hart 0) TraceFull → FillsTrace s most
+  fills full =
+      let reached = refused.stops.runs.represents (start_of s) refused.represents in
+      let its = count_own 0 stop.place.steps in
+      let before : steps_before (Steps 0 most ∷ []) stop.place.item stop.place.steps ≡ replicate stop.place.steps (Hart 0) =
+      rw first (own_before most stop.place.steps inside) in
+      record {
+        made = replicate stop.place.steps (Hart 0);
+        end = reached.0;
+        run = subst (λ (l : List Step). RunsTo (start_of s) l reached.0) before reached.1;
+        full = ap length (sym reached.2.shared.trace) ∙ full.1;
+        most = λ h below.
+            let only : h ≡ 0 = omega (arith, below, one) in
+            rw only (omega (arith, its, inside));
+        hart = 0;
+        running = subst (λ (l : List HartState). IsRunning (slice_get l 0)) reached.2.harts full.0.running;
+        left = omega (arith, its, inside);
+      }
+
+  -- the hart is there
+  there_is : Refuses refused.new (Hart 0) NoSuchHart → ⊥
+  there_is lacks =
+      let count : length refused.old.harts ≡ s.harts =
+      ap (λ (l : List HartState). length l) refused.represents.harts ∙ length-map-range_with_len start 0 s.harts in
+      let same = refused.stops.runs.harts in
+      omega (arith, count, same, one, lacks)
+
+  stops_hart : (fault : StepFault) → Refuses refused.new (Hart 0) fault → StopsHarts s most fault
+  stops_hart NoSuchHart lacks = there_is lacks
+  stops_hart NoSuchLine lacks = absurd lacks
+  stops_hart TraceFull full = fills full
+  stops_hart OutOfLimits lacks = absurd lacks
+  stops_hart Memory lacks = tt
+
+stops_next : (s : Setup) (most : ℕ) (stop : RunStop) → s.harts ≡ 1 → IsRefused (start_of s) (length s.medium) (Steps 0 most ∷ []) stop
+    → StopsHarts s most stop.fault
+stops_next s most stop one refused =
+    let item = refused.stops.item in
     let first : stop.place.item ≡ 0 = omega arith in
-    let fits : stop.place.steps < length (replicate most (Hart 0)) = rw first at steps in
-    let here = step_here (Steps 0 most ∷ []) 0 (Hart 0) most refl stop.place.steps (rw length-replicate at fits) in
-    refuses_hart machine 0 stop.fault (rw (first, here) at refused)
+    let fits : stop.place.steps < length (replicate most (Hart 0)) = rw first at refused.stops.steps in
+    let inside : stop.place.steps < most = rw length-replicate at fits in
+    let here = step_here (Steps 0 most ∷ []) 0 (Hart 0) most refl stop.place.steps inside in
+    stops_hart s most stop one refused first inside stop.fault (rw (first, here) at refused.stops.refused)
 
-stops_so : (s : Setup) (most : ℕ) (stop : RunStop) → StopsRecording (start_of s) (length s.medium) (Steps 0 most ∷ []) stop
-    → IsStepRefusal stop.fault
-stops_so s most stop stops = elim stops.reason [
-  | inl memory ↦ inr (inr memory)
-  | inr refused ↦ refuses_next refused.new most stop refused.stops.item refused.stops.steps refused.stops.refused
+stops_so : (s : Setup) (most : ℕ) (stop : RunStop) → s.harts ≡ 1 → StopsRecording (start_of s) (length s.medium) (Steps 0 most ∷ []) stop
+    → StopsHarts s most stop.fault
+stops_so s most stop one stops = elim stops.reason [
+  | inl memory ↦ subst (StopsHarts s most) (sym memory) tt
+  | inr refused ↦ stops_next s most stop one refused
 ]
 
-pub fails_alone : (s : Setup) (steps : ℕ) (stop : RunStop) → AreWithin s.harts s.capacity steps
+pub fails_alone : (s : Setup) (steps : ℕ) (stop : RunStop) → AreWithin s.harts s.capacity steps → s.harts ≡ 1
     → FailsToRecord (start_of s) s.harts s.capacity (length s.medium) (Steps 0 steps ∷ []) stop → FailsTogether s steps (together.Step stop.fault)
-fails_alone s steps stop within (inl outside) = inl (inl outside.0)
-fails_alone s steps stop within (inr stops) = inr (within, stops_so s steps stop stops.1)
+fails_alone s steps stop within one (inl outside) = inl (inl outside.0)
+fails_alone s steps stop within one (inr stops) = inr (within, stops_so s steps stop one stops.1)

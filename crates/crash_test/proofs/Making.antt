@@ -10,7 +10,9 @@ use Rattle.recording.proofs.Numbering.{all_among}
 use Rattle.schedule.specs.Steps.{all_steps}
 use Rattle.schedule.specs.declared.items.Item.{Item}
 use Rattle.schedule.specs.declared.items.Step.{Step}
-use Rattle.crash_test.specs.Runs.{AreThere, FailsToRun, HasMade, HasRun, IsAtStart, IsLeftOf, Setup, start_of}
+use Rattle.crash_test.specs.Runs.{FailsToRun, HasMade, HasRun, IsAtStart}
+use Rattle.recording.specs.Runs.{AreThere, IsLeftOf, start_of}
+use Rattle.recording.specs.declared.setup.Setup.{Setup}
 
 -- a machine at the start has as many harts as its setup says
 harts_of : (s : Setup) (machine : MachineView) → Represents machine (start_of s) → length machine.harts ≡ s.harts

@@ -4,7 +4,9 @@ use Rattle.recording.specs.Recorded.{FailsToRecord, IsRefused as StopsMachine, S
 use Rattle.machine.specs.declared.fault.RunStop.{RunStop}
 use Rattle.schedule.specs.declared.items.Item.{Item}
 use Rattle.crash_test.proofs.Making.{are_there}
-use Rattle.crash_test.specs.Runs.{FailsToRun, IsWithin, RefusesStep, Setup, start_of}
+use Rattle.crash_test.specs.Runs.{FailsToRun, RefusesStep}
+use Rattle.recording.specs.Runs.{IsWithin, start_of}
+use Rattle.recording.specs.declared.setup.Setup.{Setup}
 
 refuses_step : (s : Setup) (schedule : List Item) (stop : RunStop) → IsWithin s
     → StopsMachine (start_of s) (length s.medium) schedule stop → RefusesStep s schedule stop.fault

@@ -1,14 +1,11 @@
 -- What a pass says of the machine: it represents a cut of the run's events, whatever its cache did.
-use Rattle.std.proofs.Common.{◌≡◌, ℕ, ◌+◌, ◌≤◌, List, [], ◌∷◌, ◌++◌, Option, length, take, refl, sym, ap, ◌∙◌, arith}
+use Rattle.std.proofs.Common.{◌≡◌, ℕ, ◌+◌, ◌≤◌, List, [], ◌∷◌, ◌++◌, length, take, refl, sym, ap, ◌∙◌, arith}
 use Rattle.std.proofs.lemmas.List.{length-append}
 use Rattle.crash_model.specs.Cut.{IsCutImage}
 use Rattle.cut_schedule.proofs.HartRuns.{run_start}
 use Rattle.cut_schedule.proofs.Leaving.{leaves_a_cut}
 use Rattle.cut_schedule.proofs.Lists.{hart_steps_append}
-use Rattle.image_check.specs.Verdicts.{IsVerdict, Passes}
-use Rattle.image_check.specs.declared.cause.Cause.{Cause}
-use Rattle.moment_verdict.specs.declared.verdict.Verdict.{Verdict}
-use Rattle.moment_verdict.specs.declared.verdict.Verdict.TheVariants.{Pass}
+use Rattle.image_check.specs.Verdicts.{Passes}
 use Rattle.shared_memory.specs.Replies.{trace_in}
 use Rattle.machine.proofs.Determined.{runs_once}
 use Rattle.machine.proofs.Evicting.{alike_itself, runs_alike, trace_alike}
@@ -22,9 +19,11 @@ use Rattle.schedule.specs.declared.items.Item.{Item}
 use Rattle.schedule.specs.declared.items.Step.{Step}
 use Rattle.store_trace.specs.History.{history}
 use Rattle.store_trace.specs.declared.event.Event.{Event}
-use Rattle.crash_test.proofs.Judging.{always_passes}
+use Rattle.crash_test.proofs.Running.{has_trace}
+use Rattle.recording.specs.Runs.{IsRun, RunView}
 use Rattle.crash_test.specs.Checking.{AlwaysPasses, Recovers, SurvivesPowerCuts}
-use Rattle.crash_test.specs.Runs.{HasTrace, Setup, start_of}
+use Rattle.recording.specs.Runs.{start_of}
+use Rattle.recording.specs.declared.setup.Setup.{Setup}
 
 -- the events of a run's first hart steps are its first events
 events_in_front : (s : Setup) (schedule : List Item) (end whole : Config) (steps rest : List Step)
@@ -76,10 +75,9 @@ left_recovers plan s schedule whole events left passes runs after =
     let passed : Passes plan s.medium events after.image.cut = rw after.front at judged in
     record { volume = passed.volume; recovers = rw after.image.bytes passed.recovers; legal = passed.legal }
 
-pub survives : (plan : List Operation) (s : Setup) (schedule : List Item) (trace : List Event) (verdict : Verdict Cause)
-    → HasTrace s schedule trace → IsVerdict plan s.medium trace verdict
-    → (moments : ℕ) (images : Option ℕ) → verdict ≡ Pass moments images → SurvivesPowerCuts plan s schedule
-survives plan s schedule trace verdict is judged moments images passed machine end steps rest first split stands =
-    let passes = always_passes plan s schedule trace verdict is judged moments images passed in
-    let after = left_after s schedule is.end machine end steps rest is.run first split stands in
-    left_recovers plan s schedule is.end (trace_in end.common) machine.shared.cache.lines passes is.run after
+pub survives : (plan : List Operation) (run : RunView) → AlwaysPasses plan run.setup run.schedule → IsRun run
+    → SurvivesPowerCuts plan run.setup run.schedule
+survives plan run passes is machine end steps rest first split stands =
+    let whole = has_trace run is in
+    let after = left_after run.setup run.schedule whole.end machine end steps rest whole.run first split stands in
+    left_recovers plan run.setup run.schedule whole.end (trace_in end.common) machine.shared.cache.lines passes whole.run after

@@ -9,7 +9,7 @@ use Rattle.bus.specs.Limits.{AreWithin}
 use Rattle.bus.specs.Seats.{SeatView}
 use Rattle.bus.specs.Starting.{AreAtStart, seat_at_start}
 use Rattle.bus.specs.Stepping.{BusView}
-use Rattle.bus.specs.Together.{HaveRun, RefusesFinish, RefusesRun}
+use Rattle.bus.specs.Together.{FillsTrace as FillsBus, HaveRun, RefusesFinish, RefusesRun, StopsHarts as StopsSeats}
 use Rattle.bus.specs.declared.finish_fault.FinishFault.{FinishFault}
 use Rattle.bus.specs.declared.finish_fault.FinishFault.TheVariants as finish
 use Rattle.bus.specs.declared.together.RunFault.TheVariants as run_faults
@@ -28,7 +28,11 @@ use Rattle.recording.specs.Recorded.{RecordedView, Records}
 use Rattle.schedule.specs.Steps.{all_steps}
 use Rattle.schedule.specs.declared.items.Step.{Step}
 use Rattle.schedule.specs.declared.items.Step.TheVariants.{Hart, Evict}
-use Rattle.crash_test.specs.Runs.{AreThere, FailsTogether, HasRun, HasRunTogether, HaveMadeAll, HaveMadeAtMost, IsLeftOf, IsRunOf, IsUnfinished, Setup, start_of, unfinished_of}
+use Rattle.shared_memory.specs.declared.fault.StepFault.{StepFault}
+use Rattle.shared_memory.specs.declared.fault.StepFault.TheVariants as step_faults
+use Rattle.crash_test.specs.Runs.{FailsTogether, FillsTrace, HasRun, HasRunTogether, HaveMadeAll, HaveMadeAtMost, IsRunOf, IsUnfinished, StopsHarts, unfinished_of}
+use Rattle.recording.specs.Runs.{AreThere, IsLeftOf, start_of}
+use Rattle.recording.specs.declared.setup.Setup.{Setup}
 use Rattle.crash_test.specs.declared.runs.TogetherFault.{TogetherFault}
 
 -- a run has as many harts at its end as at its start
@@ -119,9 +123,43 @@ refused_finish s steps seats finish.SeatNumber start refused =
 refused_finish s steps seats finish.Foreign start refused = tt
 refused_finish s steps seats finish.Memory start refused = tt
 
+-- seats of harts that fill the trace
+fills : (s : Setup) (steps : ℕ) (seats : List SeatView) → AreAtStart s.program s.medium s.harts steps seats → FillsBus (bus_of s) seats
+    → FillsTrace s steps
+fills s steps seats start f = record {
+  made = f.steps;
+  end = f.end;
+  run = f.run;
+  full = f.full;
+  most = λ h below.
+      let most = f.within h below in
+      let within = most.within in
+      let budget = (seat_of s steps seats start most.at most.seat most.there).1 in
+      omega arith;
+  hart = f.goes_on.seat.hart;
+  running = f.goes_on.running;
+  left =
+      let left = f.goes_on.left in
+      let budget = (seat_of s steps seats start f.goes_on.at f.goes_on.seat f.goes_on.there).1 in
+      omega arith;
+}
+
+stops_so : (s : Setup) (steps : ℕ) (seats : List SeatView) (fault : StepFault) → AreAtStart s.program s.medium s.harts steps seats
+    → StopsSeats (bus_of s) seats fault → StopsHarts s steps fault
+stops_so s steps seats step_faults.NoSuchHart start refused = none_large s steps seats start refused
+stops_so s steps seats step_faults.NoSuchLine start refused = absurd refused
+stops_so s steps seats step_faults.TraceFull start refused = fills s steps seats start refused
+stops_so s steps seats step_faults.OutOfLimits start refused = absurd refused
+stops_so s steps seats step_faults.Memory start refused = tt
+
+-- why harts of the setup's bus are stopped
+pub stops_together : (s : Setup) (steps : ℕ) (bus : BusView) (seats : List SeatView) (fault : StepFault) → bus ≡ bus_of s
+    → AreAtStart s.program s.medium s.harts steps seats → RefusesRun bus seats (run_faults.Step fault) → StopsHarts s steps fault
+stops_together s steps bus seats fault is start refused = stops_so s steps seats fault start (rw is at refused)
+
 -- each hart has its seat, and no other has its number
 pub is_unfinished : (s : Setup) (steps : ℕ) (bus : BusView) (seats : List SeatView) (fault : FinishFault) → bus ≡ bus_of s
-    → AreAtStart s.program s.medium s.harts steps seats → RefusesRun bus.harts seats (run_faults.Finish fault) → IsUnfinished fault
+    → AreAtStart s.program s.medium s.harts steps seats → RefusesRun bus seats (run_faults.Finish fault) → IsUnfinished fault
 is_unfinished s steps bus seats fault is start refused = refused_finish s steps seats fault start (rw is at refused)
 
 finish_told : (s : Setup) (steps : ℕ) (fault : FinishFault) → AreWithin s.harts s.capacity steps → IsUnfinished fault
@@ -129,7 +167,7 @@ finish_told : (s : Setup) (steps : ℕ) (fault : FinishFault) → AreWithin s.ha
 finish_told s steps finish.SeatMissing within of = absurd of
 finish_told s steps finish.SeatNumber within of = absurd of
 finish_told s steps finish.Foreign within of = within
-finish_told s steps finish.Memory within of = inr (within, inr (inr refl))
+finish_told s steps finish.Memory within of = inr (within, tt)
 
 pub fails_finish : (s : Setup) (steps : ℕ) (fault : FinishFault) (told : TogetherFault) → AreWithin s.harts s.capacity steps
     → IsUnfinished fault → told ≡ unfinished_of fault → FailsTogether s steps told

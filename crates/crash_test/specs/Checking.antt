@@ -1,13 +1,10 @@
 -- The verdict on the run of a program by a schedule.
-use Rattle.std.specs.Prelude.{◌≡◌, ◌≢◌, ℕ, ◌<◌, ◌≤◌, ◌++◌, List, Option, None, Ok, length, take}
+use Rattle.std.specs.Prelude.{◌≡◌, ℕ, ◌≤◌, ◌++◌, List, Option, Ok, length, take}
 use Rattle.crash_model.specs.Cut.{IsCut}
 use Rattle.image_check.specs.Legal.{IsLegal}
-use Rattle.image_check.specs.OrderFaults.{AreSound, IsFirstFault}
+use Rattle.image_check.specs.OrderFaults.{AreSound}
 use Rattle.image_check.specs.Verdicts.{IsVerdictBetween, Passes}
 use Rattle.image_check.specs.declared.cause.Cause.{Cause}
-use Rattle.image_check.specs.declared.fault.CheckFault.{CheckFault}
-use Rattle.image_check.specs.declared.fault.CheckFault.TheVariants as checked
-use Rattle.image_check.specs.declared.fault.OpFault.{OpFault}
 use Rattle.shared_memory.specs.Replies.{trace_in}
 use Rattle.machine.specs.Evicting.{hart_steps}
 use Rattle.machine.specs.Run.{Config, RunsTo}
@@ -19,25 +16,17 @@ use Rattle.plan.specs.declared.operation.Operation.{Operation}
 use Rattle.schedule.specs.Steps.{all_steps}
 use Rattle.schedule.specs.declared.items.Item.{Item}
 use Rattle.schedule.specs.declared.items.Step.{Step}
-use Rattle.shared_memory.specs.declared.fault.StepFault.{StepFault}
-use Rattle.shared_memory.specs.declared.fault.StepFault.TheVariants as refused
 use Rattle.store_trace.specs.History.{at_moment}
 use Rattle.store_trace.specs.declared.event.Event.{Event}
-use Rattle.crash_test.specs.Runs.{HasTrace, IsRefused, Setup, fault_of_run, start_of}
-use Rattle.crash_test.specs.declared.checking.VerdictFault.{VerdictFault}
-use Rattle.crash_test.specs.declared.checking.VerdictFault.TheVariants.{Step as StepRefused, Operation as WrongMark, NoSuchMoment, Memory}
+use Rattle.recording.specs.Runs.{start_of}
+use Rattle.recording.specs.declared.setup.Setup.{Setup}
+use Rattle.recording.specs.Runs.{RunView}
 use Rattle.volume.specs.declared.entry.Entry.{Entry}
 
 -- the verdict on the moments of the run from `first` to `last`, or to its last one; the run's marks are right
-pub record HasVerdictOn (plan : List Operation) (s : Setup) (schedule : List Item) (first : ℕ) (last : Option ℕ) (verdict : Verdict Cause) : Type 0 where
-  pub trace : List Event
-  pub has_trace : HasTrace s schedule trace
-  pub sound : AreSound plan trace (length trace)
-  pub verdict_is : IsVerdictBetween plan s.medium trace first (end_of trace last) verdict
-
--- the verdict on all moments
-abbrev pub HasVerdict : List Operation → Setup → List Item → Verdict Cause → Type 0
-HasVerdict plan s schedule verdict = HasVerdictOn plan s schedule 0 None verdict
+pub record HasVerdict (plan : List Operation) (run : RunView) (first : ℕ) (last : Option ℕ) (verdict : Verdict Cause) : Type 0 where
+  pub sound : AreSound plan run.events (length run.events)
+  pub verdict_is : IsVerdictBetween plan run.setup.medium run.events first (end_of run.events last) verdict
 
 -- whatever a power cut leaves at whatever moment of the run recovers to a legal volume
 abbrev pub AlwaysPasses : List Operation → Setup → List Item → Type 0
@@ -61,33 +50,3 @@ pub record Recovers (plan : List Operation) (start : List (List ℕ)) (events : 
 -- what a power cut leaves of such a machine recovers to a legal volume
 abbrev pub SurvivesPowerCuts : List Operation → Setup → List Item → Type 0
 SurvivesPowerCuts plan s schedule = HoldsAfterPowerCuts s schedule (Recovers plan s.medium)
-
--- the fault is that of the run's first wrong mark
-pub record HasWrongMark (plan : List Operation) (s : Setup) (schedule : List Item) (fault : OpFault) : Type 0 where
-  pub trace : List Event
-  pub has_trace : HasTrace s schedule trace
-  pub first : IsFirstFault plan trace fault
-
--- the fault of a run on which there was to be a verdict
-abbrev pub verdict_fault : StepFault → VerdictFault
-verdict_fault fault = fault_of_run StepRefused Memory fault
-
--- that of a check of its trace
-abbrev pub fault_of_check : CheckFault → VerdictFault
-fault_of_check (checked.Operation fault) = WrongMark fault
-fault_of_check checked.NoSuchMoment = NoSuchMoment
-fault_of_check checked.Memory = Memory
-
--- the run, whose marks are right, has fewer events than that
-pub record LacksMoment (plan : List Operation) (s : Setup) (schedule : List Item) (moment : ℕ) : Type 0 where
-  pub trace : List Event
-  pub has_trace : HasTrace s schedule trace
-  pub sound : AreSound plan trace (length trace)
-  pub past : length trace < moment
-
--- what a fault says of the run, of its marks and of the first moment that is asked for
-abbrev pub HasNoVerdict : List Operation → Setup → List Item → ℕ → VerdictFault → Type 0
-HasNoVerdict plan s schedule first (StepRefused fault) = (fault ≢ refused.Memory) × IsRefused s schedule fault
-HasNoVerdict plan s schedule first (WrongMark fault) = HasWrongMark plan s schedule fault
-HasNoVerdict plan s schedule first NoSuchMoment = LacksMoment plan s schedule first
-HasNoVerdict plan s schedule first Memory = Unit {0}

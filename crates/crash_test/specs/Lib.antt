@@ -1,6 +1,10 @@
 pub mod Programs
 pub mod Places
+pub mod Lines
 pub mod Runs
 pub mod Images
 pub mod Explaining
+pub mod Loading
+pub mod Losses
 pub mod Checking
+pub mod Judging

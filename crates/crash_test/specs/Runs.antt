@@ -1,51 +1,27 @@
 -- Runs of a program by a schedule, over a medium that is given.
-use Rattle.std.specs.Prelude.{◌≡◌, ◌⊎◌, ℕ, ◌≤◌, List, Some, All, length, slice_get}
+use Rattle.std.specs.Prelude.{◌≡◌, ◌⊎◌, ℕ, ◌<◌, ◌≤◌, List, Some, length, slice_get}
 use Rattle.bus.specs.Limits.{AreWithin, RefusesStart}
-use Rattle.bus.specs.Stepping.{IsStepRefusal}
 use Rattle.bus.specs.Together.{count_of}
 use Rattle.bus.specs.declared.finish_fault.FinishFault.{FinishFault}
 use Rattle.bus.specs.declared.finish_fault.FinishFault.TheVariants as finish
 use Rattle.hart.specs.declared.state.HartState.{HartState}
 use Rattle.hart.specs.declared.state.Status.TheVariants.{Running}
-use Rattle.shared_memory.specs.Replies.{trace_in}
-use Rattle.machine.specs.Left.{IsLeftBy}
 use Rattle.machine.specs.Refusals.{RefusesNext}
-use Rattle.machine.specs.Run.{Config, RunsTo, started}
-use Rattle.machine.specs.Represents.{MachineView, Represents}
-use Rattle.program.specs.Sections.{Sections}
-use Rattle.recording.specs.Recorded.{IsAmong, RecordedView, Records}
+use Rattle.machine.specs.Run.{Config, RunsTo}
+use Rattle.machine.specs.Represents.{IsRunning, MachineView, Represents}
+use Rattle.recording.specs.Recorded.{RecordedView, Records}
+use Rattle.recording.specs.Runs.{AreThere, IsRun, IsWithin, RunView, start_of}
+use Rattle.recording.specs.declared.setup.Setup.{Setup}
 use Rattle.schedule.specs.Places.{steps_before, steps_of_item}
 use Rattle.schedule.specs.Steps.{all_steps}
 use Rattle.schedule.specs.declared.items.Item.{Item}
 use Rattle.schedule.specs.declared.items.Step.{Step}
-use Rattle.shared_memory.specs.Limits.{AreOutsideLimits, AreWithinLimits}
+use Rattle.shared_memory.specs.Limits.{AreOutsideLimits}
+use Rattle.shared_memory.specs.Replies.{trace_in}
 use Rattle.shared_memory.specs.declared.fault.StepFault.{StepFault}
 use Rattle.shared_memory.specs.declared.fault.StepFault.TheVariants.{NoSuchHart, NoSuchLine, TraceFull, Memory, OutOfLimits}
-use Rattle.store_trace.specs.declared.event.Event.{Event}
 use Rattle.crash_test.specs.declared.runs.TogetherFault.{TogetherFault}
 use Rattle.crash_test.specs.declared.runs.TogetherFault.TheVariants as together
-
--- what a run starts from: the program, the lines of the medium, the number of harts, and the lines of the cache
-pub record Setup : Type 0 where
-  pub program : Sections
-  pub medium : List (List ℕ)
-  pub harts : ℕ
-  pub capacity : ℕ
-
-abbrev pub setup : Sections → List (List ℕ) → ℕ → ℕ → Setup
-setup program medium harts capacity = record { program = program; medium = medium; harts = harts; capacity = capacity }
-
--- with a cache of as many lines as the medium has
-abbrev pub with_room : Sections → List (List ℕ) → ℕ → Setup
-with_room program medium harts = setup program medium harts (length medium)
-
--- where its Run begins
-abbrev pub start_of : Setup → Config
-start_of s = started s.program s.medium s.harts
-
--- one to eight harts, and 1 to 16,384 lines of cache
-abbrev pub IsWithin : Setup → Type 0
-IsWithin s = AreWithinLimits s.harts s.capacity
 
 -- no machine is made: the number of harts is outside its limits, or else that of the cache's lines
 abbrev pub IsOutside : Setup → StepFault → Type 0
@@ -57,10 +33,6 @@ pub record IsAtStart (s : Setup) (machine : MachineView) : Type 0 where
   pub represents : Represents machine (start_of s)
   pub lines : machine.shared.cache.lines ≡ s.medium
   pub capacity : machine.shared.cache.cache.capacity ≡ s.capacity
-
--- the hart, or the line, of each step is there
-abbrev pub AreThere : Setup → List Step → Type 0
-AreThere s steps = All (IsAmong s.harts (length s.medium)) steps
 
 -- a machine that represents what these steps, each of which is there, make of the start: 65,536 events at most
 pub record HasMade (s : Setup) (steps : List Step) (machine : MachineView) : Type 0 where
@@ -77,19 +49,11 @@ pub record HasRun (s : Setup) (schedule : List Item) (machine : MachineView) : T
   pub has_made : HasMade s (all_steps schedule) machine
   pub capacity : machine.shared.cache.cache.capacity ≡ s.capacity
 
--- these lines are what a power cut leaves after the schedule: the medium behind the one cache, of the setup's capacity, that all
--- requests and evictions of the run leave
-abbrev pub IsLeftOf : Setup → List Item → List (List ℕ) → Type 0
-IsLeftOf s schedule lines = IsLeftBy (start_of s) (all_steps schedule) s.capacity lines
-
--- the events of the run by a schedule, each step of which is there: 65,536 at most
-pub record HasTrace (s : Setup) (schedule : List Item) (trace : List Event) : Type 0 where
-  pub within : IsWithin s
-  pub there : AreThere s (all_steps schedule)
-  pub end : Config
-  pub run : RunsTo (start_of s) (all_steps schedule) end
-  pub trace_is : trace ≡ trace_in end.common
-  pub few : length trace ≤ 65536
+-- the run by a schedule of this setup
+pub record IsRunBy (s : Setup) (schedule : List Item) (run : RunView) : Type 0 where
+  pub setup_is : run.setup ≡ s
+  pub schedule_is : run.schedule ≡ schedule
+  pub is_run : IsRun run
 
 -- a machine that has made the steps before one of the schedule's refuses that step, for this reason
 pub record RefusesStep (s : Setup) (schedule : List Item) (fault : StepFault) : Type 0 where
@@ -102,14 +66,6 @@ pub record RefusesStep (s : Setup) (schedule : List Item) (fault : StepFault) : 
 -- why there is no run by the schedule: no machine is made, or one refuses a step
 abbrev pub IsRefused : Setup → List Item → StepFault → Type 0
 IsRefused s schedule fault = IsOutside s fault ⊎ RefusesStep s schedule fault
-
--- the fault of a call that makes a run: that of the run, but for want of memory
-abbrev pub fault_of_run : {F : Type 0} → (StepFault → F) → F → StepFault → F
-fault_of_run step memory NoSuchHart = step NoSuchHart
-fault_of_run step memory NoSuchLine = step NoSuchLine
-fault_of_run step memory TraceFull = step TraceFull
-fault_of_run step memory Memory = memory
-fault_of_run step memory OutOfLimits = step OutOfLimits
 
 -- what a fault says of the run: memory was refused, or there is no such run
 abbrev pub FailsToRun : Setup → List Item → StepFault → Type 0
@@ -147,11 +103,31 @@ pub record IsRunOf (s : Setup) (recorded : RecordedView) : Type 0 where
   pub replayed : (other : MachineView) → HasRun s recorded.items other
       → (other.harts ≡ recorded.harts) × (other.shared.trace ≡ recorded.trace)
 
+-- the harts make a run of the setup that has as many events as a trace may have, in which none makes more steps than so many;
+-- and one of them would go on
+pub record FillsTrace (s : Setup) (steps : ℕ) : Type 0 where
+  pub made : List Step
+  pub end : Config
+  pub run : RunsTo (start_of s) made end
+  pub full : length (trace_in end.common) ≡ 65536
+  pub most : (h : ℕ) → h < s.harts → count_of h made ≤ steps
+  pub hart : ℕ
+  pub running : IsRunning (slice_get end.harts hart)
+  pub left : count_of hart made < steps
+
+-- why harts are stopped before their end: they fill the trace; or a growth or a thread is refused, which it may always be
+abbrev pub StopsHarts : Setup → ℕ → StepFault → Type 0
+StopsHarts s steps NoSuchHart = ⊥
+StopsHarts s steps NoSuchLine = ⊥
+StopsHarts s steps TraceFull = FillsTrace s steps
+StopsHarts s steps Memory = Unit {0}
+StopsHarts s steps OutOfLimits = ⊥
+
 -- why harts haven't run together: a number is outside its limits, or a growth was refused at the start; or all numbers are within
--- their limits, and a step, a growth or a thread was refused, or what they made doesn't agree
+-- their limits, and the harts are stopped, or what they made doesn't agree
 abbrev pub FailsTogether : Setup → ℕ → TogetherFault → Type 0
 FailsTogether s steps (together.Step fault) =
-    RefusesStart s.harts s.capacity steps fault ⊎ (AreWithin s.harts s.capacity steps × IsStepRefusal fault)
+    RefusesStart s.harts s.capacity steps fault ⊎ (AreWithin s.harts s.capacity steps × StopsHarts s steps fault)
 FailsTogether s steps together.Foreign = AreWithin s.harts s.capacity steps
 
 -- what is told of seats that aren't gathered, none of which lacks or has another hart's number

@@ -1,16 +1,25 @@
-//! The calls that the program makes, over values: programs are loaded, run, explained and checked, and volumes made.
+//! The calls that the program makes, over values: programs are loaded, run, explained and judged, and volumes made. A run by a schedule
+//! is made once, and each question is asked of it.
 #![tactic(auto)]
 
-pub use checking::{VerdictFault, check_moments, check_program};
-pub use explaining::{ExplainFault, explain_image};
-pub use images::{CountFault, count_images};
+pub use checking::check_program;
+pub use explaining::explain_image;
+pub use images::count_images;
+pub use judging::{Judgement, judge_program};
+pub use lines::source_lines;
 pub use loading::{ProgramFault, load_object, load_program};
-pub use runs::{TogetherFault, replay, run_program, start_program, trace_of};
+pub use losses::{ExplainedImage, explain_losses};
+pub use reading::RoutineReader;
+pub use runs::{TogetherFault, record_run, replay, run_program, start_program};
 pub use volumes::{default_medium, make_volume};
 
 mod checking;
 mod explaining;
 mod images;
+mod judging;
+mod lines;
 mod loading;
+mod losses;
+mod reading;
 mod runs;
 mod volumes;

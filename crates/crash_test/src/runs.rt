@@ -1,24 +1,23 @@
 //! Runs of a program: on harts that run together, and by a schedule.
 
 ghost use Rattle.bus.specs.Limits.{AreWithin};
-ghost use Rattle.crash_image.specs.View.{HasLines};
 ghost use Rattle.machine.specs.Represents.{RepresentsExactly};
 ghost use Rattle.recording.specs.Recorded.{HasGoneOn};
 ghost use Rattle.schedule.specs.Grammar.{hart_steps};
 ghost use Rattle.shared_memory.specs.Limits.{RefusesStart};
 ghost use Rattle.std.specs.Prelude.{◌≡◌, ◌≢◌, ◌^◌, ◌<◌, IfErr, IfOk};
-ghost use Rattle.crash_test.specs.Runs.{FailsToRun, FailsTogether, HasRun, HasRunTogether, HasTrace, IsAtStart, IsLeftOf, IsRunOf, IsUnfinished, setup, start_of, unfinished_of, with_room};
+ghost use Rattle.crash_test.specs.Runs.{FailsToRun, FailsTogether, HasRun, HasRunTogether, IsAtStart, IsRunBy, IsRunOf, IsUnfinished, unfinished_of};
+ghost use Rattle.recording.specs.Runs.{IsLeftOf, setup, start_of};
 
 use bus::{Bus, FinishFault, RunFault, check_start, run_harts};
 use gate::Open;
 use line_memory::Medium;
 use machine::{Machine, Schedule, StepFault};
 use program::Program;
-use recording::{Recorded, record_alone};
+use recording::{Recorded, Run, Setup, record_alone};
 use std::alloc::Global;
 use std::sync::Wait;
 use std::thread::Threads;
-use store_trace::Trace;
 use thiserror::Error;
 
 /// Why harts haven't run a program together.
@@ -211,25 +210,18 @@ pub fn start_program(
     }
 }
 
-/// The events of a run by a schedule, over a copy of the medium behind a cache of as many lines.
-pub fn trace_of(
-    alloc: Global,
-    program: Program,
-    medium: &Medium,
-    harts: u32,
-    schedule: &Schedule,
-) -> Result<Trace, StepFault>
-    ensures ok { IfOk result (λ trace. HasTrace (with_room program medium.now harts) schedule.now trace.events) }
-    ensures named { IfOk result (λ trace. HasLines medium.now trace.events) }
-    ensures err { IfErr result (FailsToRun (with_room program medium.now harts) schedule.now) }
+/// The run of a setup's program by a schedule, as a value.
+///
+/// # Errors
+/// NoSuchHart where there aren't one to eight harts, and else OutOfLimits where the cache's capacity is outside its limits; else why the
+/// first step that is refused is so. Memory where a growth is refused.
+pub fn record_run(alloc: Global, setup: Setup, schedule: &Schedule) -> Result<Run, StepFault>
+    requires { hart_steps schedule.now < 2 ^ 32 }
+    ensures ok { IfOk result (IsRunBy setup schedule.now) }
+    ensures err { IfErr result (FailsToRun setup schedule.now) }
 {
-    let Ok(copy) = medium.copy(alloc) else {
-        return Err(StepFault::Memory);
-    };
-    let machine = match replay(alloc, program, copy, harts, medium.lines(), schedule) {
-        Ok(machine) => machine,
-        Err(fault) => return Err(fault),
-    };
-    let (_left, trace) = machine.power_cut();
-    Ok(trace)
+    match Run::record(alloc, setup, schedule) {
+        Ok(run) => Ok(run),
+        Err(stop) => Err(stop.fault),
+    }
 }

@@ -1,5 +1,14 @@
 -- How a line of the program ends on a system.
-use Rattle.std.specs.Prelude.{◌≡◌, ◌++◌, ℕ, List, Option, Result, Ok, Err, codes, string_bytes, ⊤}
+use Rattle.std.specs.Prelude.{◌≡◌, ◌++◌, ℕ, List, Option, Result, Ok, Err, String, codes, string_bytes, ⊤}
+use Rattle.std.specs.Iterator.{Drains}
+use Rattle.std.specs.Vec.Iter.{into_iter_steps}
+use Rattle.std.specs.declared.alloc.Global.{Global}
+use Rattle.std_alloc.specs.declared.vec.into_iter.IntoIter.{IntoIter}
+use Rattle.std_alloc.specs.declared.vec.Vec.{Vec}
+use Rattle.std_io.specs.IoError.{error_kind}
+use Rattle.std_io.specs.declared.io.error.Error.{Error}
+use Rattle.std_io.specs.declared.io.kind.ErrorKind.{ErrorKind}
+use Rattle.std_io.specs.declared.io.kind.ErrorKind.TheVariants.{OutOfMemory}
 use Rattle.command_line.specs.Failures.{failure_status, failure_text}
 use Rattle.command_line.specs.Outcomes.{EndsWith}
 use Rattle.command_line.specs.Reports.{line_end}
@@ -15,6 +24,18 @@ IsLost Memory = ⊤
 IsLost (Refused refusal) = ⊥
 IsLost (Unfinished text) = ⊥
 IsLost File = ⊥
+
+-- why the system lends no words, by its error
+abbrev pub IsLostBy : ErrorKind → Failure → Type 0
+IsLostBy OutOfMemory failure = failure ≡ Memory
+IsLostBy kind failure = IsLost failure
+
+-- what becomes of the words that the system lends: all of them are taken, in their order, or memory is refused; and why there are none
+abbrev pub AreLent : Result (IntoIter (String Global) Global) Error → Result (Vec (String Global) Global) Failure → Type 0
+AreLent (Ok lent) (Ok words) = Drains into_iter_steps lent words.items
+AreLent (Ok lent) (Err failure) = failure ≡ Memory
+AreLent (Err error) (Ok words) = ⊥
+AreLent (Err error) (Err failure) = IsLostBy (error_kind error) failure
 
 -- a line whose words were lost: nothing of it is carried out, and at most the failure's lines are told
 pub record IsLeft {F S E : Type 0} (said : E → Option (List ℕ)) (failure : Failure) (before after : F × S) (errors errors' : E) (status : ℕ) : Type 0 where

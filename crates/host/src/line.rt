@@ -3,16 +3,17 @@
 ghost use Rattle.std.specs.Prelude.{IfErr, map, string_bytes};
 ghost use Rattle.std.specs.Process.{exit_status};
 ghost use Rattle.std.specs.Result.{result_map_both};
-ghost use Rattle.host.specs.Lines.{EndsBy, IsLost};
+ghost use Rattle.host.specs.Lines.{AreLent, EndsBy, IsLost};
 
 use command_line::{Failure, Files, execute, report_failure};
-use std::env;
-use std::env::Env;
+use std::alloc::Global;
+use std::env::{Args, Env};
 use std::io::{ErrorKind, Read, Write};
 use std::process::ExitCode;
 use std::sync::Wait;
 use std::thread::Threads;
 use std::time::Clock;
+use std::{env, io};
 
 /// The words of the command line, which begin with the program's name.
 ///
@@ -21,11 +22,18 @@ use std::time::Clock;
 pub fn words<T: Env + AllocGlobal>(rt: &T) -> Result<Vec<String>, Failure>
     ensures { IfErr result IsLost }
 {
-    match env::args(rt) {
-        Ok(words) => Ok(words.collect(rt.alloc())?),
+    lent_words(rt.alloc(), env::args(rt))
+}
+
+/// The words that the system lends, all of them in their order, or why it lends none.
+fn lent_words(alloc: Global, lent: io::Result<Args>) -> Result<Vec<String>, Failure>
+    ensures { AreLent lent result }
+{
+    match lent {
+        Ok(words) => Ok(words.collect(alloc)?),
         Err(error) if error.kind() == ErrorKind::OutOfMemory => Err(Failure::Memory),
         Err(_) => Err(Failure::Line(String::from_str(
-            rt.alloc(),
+            alloc,
             "error: a word of the command line isn't UTF-8\n",
         )?)),
     }

@@ -1,3 +1,4 @@
 pub mod OneHart
 pub mod Leaving
 pub mod Numbering
+pub mod Kept

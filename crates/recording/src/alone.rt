@@ -84,7 +84,7 @@ fn finish_alone(
         count: made,
     };
     match schedule.push(steps) {
-        Ok(()) => finish(alloc, run, start, capacity, &schedule),
+        Ok(()) => Ok(finish(alloc, run, start, capacity, &schedule)?.0),
         Err(_) => Err(StepFault::Memory),
     }
 }

@@ -12,17 +12,17 @@ use schedule::Schedule;
 use shared_memory::StepFault;
 use std::alloc::Global;
 
-/// What there is to know of a run from `start` by `schedule`.
+/// What there is to know of a run from `start` by `schedule`, and its events.
 pub(crate) fn finish(
     alloc: Global,
     run: TracedMachine,
     start: Medium,
     capacity: u32,
     schedule: &Schedule,
-) -> Result<Recorded, StepFault>
+) -> Result<(Recorded, Vec<TracedEvent>), StepFault>
     requires lines { length run.machine.shared.cache.lines ≡ length start }
     requires each { length run.traced.items ≡ length run.machine.shared.trace }
-    ensures ok { IfOk result (λ recorded. recorded ≡ record {
+    ensures ok { IfOk result (λ kept. kept.0 ≡ record {
       start = start;
       capacity = capacity;
       items = schedule.now;
@@ -31,6 +31,7 @@ pub(crate) fn finish(
       left = run.machine.shared.cache.lines;
       steps = map (λ (event : AnEvent). event.step) run.traced.items;
     }) }
+    ensures traced { IfOk result (λ kept. kept.1.items ≡ run.traced.items) }
     ensures err { IfErr result (λ fault. fault ≡ StepFault.Memory) }
 {
     let TracedMachine { machine, traced } = run;
@@ -38,7 +39,8 @@ pub(crate) fn finish(
     let harts = states_of(alloc, &machine)?;
     let schedule = schedule.copy(alloc).map_err(|_| StepFault::Memory)?;
     let (left, trace) = machine.power_cut();
-    Ok(Recorded::of(start, capacity, schedule, trace, harts, left, numbers))
+    let recorded = Recorded::of(start, capacity, schedule, trace, harts, left, numbers);
+    Ok((recorded, traced))
 }
 
 /// For each event the number of its hart step.

@@ -5,7 +5,11 @@ mod alone;
 mod finishing;
 mod recorded;
 mod recording;
+mod run;
+mod setup;
 
 pub use alone::record_alone;
 pub use recorded::Recorded;
 pub use recording::record;
+pub use run::Run;
+pub use setup::Setup;

@@ -4,17 +4,18 @@ ghost use Rattle.machine.specs.Left.{IsLeftBy};
 ghost use Rattle.machine.specs.Run.{started};
 ghost use Rattle.machine.specs.Represents.{Represents, RepresentsExactly};
 ghost use Rattle.recording.specs.Recorded.{FailsToRecord, IsAtStep, Records};
+ghost use Rattle.recording.specs.Runs.{IsWithin, start_of};
 ghost use Rattle.schedule.specs.Grammar.{hart_steps as count_of_hart_steps};
 ghost use Rattle.schedule.specs.Steps.{all_steps};
 ghost use Rattle.shared_memory.specs.Limits.{AreWithinLimits, RefusesStart};
 ghost use Rattle.std.specs.Prelude.{◌≡◌, ◌^◌, ◌<◌, IfErr, IfOk, OnOk, length};
 
-use crate::finishing::finish;
 use crate::recorded::Recorded;
+use crate::run::Run;
+use crate::setup::Setup;
 use line_memory::Medium;
 use machine::{Machine, RunStop};
 use program::Program;
-use run_trace::trace_run;
 use schedule::{Place, Schedule};
 use shared_memory::{StepFault, check_limits};
 use std::alloc::Global;
@@ -45,17 +46,15 @@ pub fn record(
     ensures err { IfErr result (FailsToRecord (started program medium harts) harts capacity (length medium) schedule.now) }
     ensures place { IfErr result (IsAtStep schedule.now) }
 {
-    let machine = match prepare(alloc, program, &medium, harts, capacity) {
-        Ok(machine) => machine,
-        Err(fault) => return Err(before_all(fault)),
+    let setup = Setup {
+        program,
+        medium,
+        harts,
+        capacity,
     };
-    let traced = match trace_run(alloc, machine, schedule) {
-        Ok(traced) => traced,
-        Err(stop) => return Err(stop),
-    };
-    match finish(alloc, traced, medium, capacity, schedule) {
-        Ok(recorded) => Ok(recorded),
-        Err(fault) => Err(before_all(fault)),
+    match Run::record(alloc, setup, schedule) {
+        Ok(run) => Ok(run.into_recorded()),
+        Err(stop) => Err(stop),
     }
 }
 
@@ -66,6 +65,22 @@ pub(crate) fn before_all(fault: StepFault) -> RunStop
     RunStop {
         place: Place::start(),
         fault,
+    }
+}
+
+/// A machine of a setup within its limits, over copies of its program and its medium.
+pub(crate) fn machine_of(alloc: Global, setup: &Setup) -> Result<Machine, StepFault>
+    ensures ok { IfOk result (λ machine. Represents machine (start_of setup.now)) }
+    ensures exact { IfOk result (λ machine. RepresentsExactly machine (start_of setup.now)) }
+    ensures lines { IfOk result (λ machine. machine.shared.cache.lines ≡ setup.now.medium) }
+    ensures capacity { IfOk result (λ machine. machine.shared.cache.cache.capacity ≡ setup.now.capacity) }
+    ensures within { OnOk result (IsWithin setup.now) }
+    ensures refused { IfErr result (RefusesStart setup.now.harts setup.now.capacity) }
+{
+    check_limits(setup.harts, setup.capacity)?;
+    match setup.program.copy(alloc) {
+        Ok(program) => machine_over(alloc, program, &setup.medium, setup.harts, setup.capacity),
+        Err(_) => Err(StepFault::Memory),
     }
 }
 

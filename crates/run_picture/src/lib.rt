@@ -4,7 +4,9 @@
 mod drawing;
 mod marks;
 mod picture;
+mod picturing;
 mod rows;
 mod titles;
 
 pub use picture::{ImageLine, PicturedEvent, picture_text};
+pub use picturing::picture_run;

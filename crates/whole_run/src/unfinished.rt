@@ -1,14 +1,14 @@
 //! What keeps a run from being whole.
 
-ghost use Rattle.std.specs.Prelude.{◌≡◌, ◌↔◌, [], ◌++◌, IfOk, map};
+ghost use Rattle.std.specs.Prelude.{◌≡◌, ◌≤◌, ◌↔◌, [], ◌++◌, IfOk, length, map};
 ghost use Rattle.whole_run.specs.Causes.{AreCauses, cause_among, cause_of, hart_causes, is_success, numbers_of};
 ghost use Rattle.whole_run.specs.Whole.{IsWhole};
 
 use crate::marks::begun;
 use crate::operations::unended;
-use hart::Status;
-use machine::Machine;
+use hart::{HartState, Status};
 use plan::Operation;
+use recording::Run;
 use std::alloc::{AllocError, Global};
 use store_trace::Event;
 
@@ -23,35 +23,37 @@ pub enum Unfinished {
     NeverBegan { op: u64 },
 }
 
-/// What keeps the run that a machine has made from being whole: first its harts by their numbers, then the operations, of
-/// those that are planned and those that have begun, by their numbers. There is none exactly where each hart has exited with
-/// 0, each planned operation has begun, and each operation that has begun has ended.
+/// What keeps a run from being whole: first its harts by their numbers, then the operations, of those that are planned and those that have
+/// begun, by their numbers. There is none exactly where each hart has exited with 0, each planned operation has begun, and each operation
+/// that has begun has ended.
 pub fn find_unfinished(
     alloc: Global,
-    machine: &Machine,
+    run: &Run,
     planned: &[Operation],
 ) -> Result<Vec<Unfinished>, AllocError>
-    ensures ok { IfOk result (λ causes. AreCauses (numbers_of planned.now) machine.now.harts machine.now.shared.trace causes.items) }
-    ensures whole { IfOk result (λ causes. (causes.items ≡ []) ↔ IsWhole (numbers_of planned.now) machine.now.harts machine.now.shared.trace) }
+    ensures ok { IfOk result (λ causes. AreCauses (numbers_of planned.now) run.now.harts run.now.events causes.items) }
+    ensures whole { IfOk result (λ causes. (causes.items ≡ []) ↔ IsWhole (numbers_of planned.now) run.now.harts run.now.events) }
 {
+    let events = run.trace().events();
     let mut causes = Vec::new(alloc);
-    note_harts(&mut causes, machine)?;
-    let numbers = unended(alloc, planned, machine.events())?;
-    note_operations(alloc, &mut causes, &numbers, machine.events())?;
+    note_harts(&mut causes, run.harts())?;
+    let numbers = unended(alloc, planned, events)?;
+    note_operations(alloc, &mut causes, &numbers, events)?;
     Ok(causes)
 }
 
 /// Adds the harts that haven't exited with 0.
 #[tactic(auto, using(crate::proofs::Loops::harts_all))]
-fn note_harts(causes: &mut Vec<Unfinished>, machine: &Machine) -> Result<(), AllocError>
-    requires { causes.old.items ≡ [] }
-    ensures { IfOk result (λ _. causes.new.items ≡ hart_causes machine.now.harts) }
+fn note_harts(causes: &mut Vec<Unfinished>, harts: &[HartState]) -> Result<(), AllocError>
+    requires none { causes.old.items ≡ [] }
+    requires few { length harts.now ≤ 8 }
+    ensures { IfOk result (λ _. causes.new.items ≡ hart_causes harts.now) }
 {
-    for hart in 0..machine.harts() {
-        let state = *machine.hart(hart);
+    for hart in 0..harts.len() {
+        let state = harts[hart];
         if !is_success(state.status) {
             causes.push(Unfinished::Hart {
-                hart,
+                hart: hart as u32,
                 status: state.status,
                 pc: state.pc,
             })?;

@@ -49,7 +49,7 @@ static OPERATIONS: [Row; 11] = [
     ("D3", "a point beside sixty-four others", "Clear one first."),
     (
         "D4",
-        "want of memory in a session",
+        "out of memory in a session",
         "Give the program more memory. The session has ended.",
     ),
     (

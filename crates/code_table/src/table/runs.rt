@@ -28,7 +28,7 @@ static RUNS: [Row; 10] = [
     ),
     (
         "G5",
-        "want of memory for an event",
+        "out of memory for an event",
         "Give the program more memory. A session goes on after it.",
     ),
     (

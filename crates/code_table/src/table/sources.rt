@@ -53,7 +53,7 @@ static SOURCES: [Row; 16] = [
     ),
     (
         "A10",
-        "want of memory while a source was assembled",
+        "out of memory while a source was assembled",
         "Give the program more memory.",
     ),
     (
@@ -83,7 +83,7 @@ static SOURCES: [Row; 16] = [
     ),
     (
         "P6",
-        "want of memory while an object was read",
+        "out of memory while an object was read",
         "Give the program more memory.",
     ),
 ];

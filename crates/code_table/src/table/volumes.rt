@@ -53,7 +53,7 @@ static VOLUMES: [Row; 16] = [
     ),
     (
         "N10",
-        "want of memory while a volume was read or made",
+        "out of memory while a volume was read or made",
         "Give the program more memory.",
     ),
     (
@@ -83,7 +83,7 @@ static VOLUMES: [Row; 16] = [
     ),
     (
         "L5",
-        "want of memory while a plan was read",
+        "out of memory while a plan was read",
         "Give the program more memory.",
     ),
 ];

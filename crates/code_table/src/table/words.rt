@@ -33,7 +33,7 @@ static WORDS: [Row; 7] = [
     ),
     (
         "memory",
-        "want of memory",
+        "out of memory",
         "Give the program more memory, or check a shorter run. The status is 4.",
     ),
     (

@@ -1,28 +1,39 @@
 //! Images that are counted and explained. More of them stand in the transcripts of `transcripts`.
 
 use crate::calls::starts::{
-    END, ENTRY, FENCE, FIRST_RUN, ONE_APPEND, STRAYS, Start, TAIL, TWO_IMAGES, is_written_so,
-    loaded, start_of,
+    END, ENTRY, FENCE, FIRST_RUN, ONE_APPEND, STRAYS, TAIL, TWO_IMAGES, is_written_so, run_of,
 };
-use crash_test::{CountFault, ExplainFault, count_images, explain_image};
+use crash_image::ImageFault;
+use crash_test::{count_images, explain_image};
 use image_name::ImageName;
-use machine::{Schedule, StepFault};
+use machine::Schedule;
 use std::alloc::Global;
 
-static COUNTS: [(&str, u32, Result<Option<u32>, CountFault>); 3] = [
+/// What isn't there.
+#[derive(Clone, Copy, PartialEq, Eq)]
+enum Lacking {
+    Moment,
+    Image,
+    Memory,
+}
+
+fn missing(fault: ImageFault) -> Lacking {
+    match fault {
+        ImageFault::NoSuchMoment => Lacking::Moment,
+        ImageFault::NotACut => Lacking::Image,
+        ImageFault::Memory => Lacking::Memory,
+    }
+}
+
+static COUNTS: [(&str, u32, Result<Option<u32>, Lacking>); 2] = [
     ("h0*8", 2, Ok(Some(2))),
-    ("h0*8", 4, Err(CountFault::NoSuchMoment)),
-    ("h1", 0, Err(CountFault::Step(StepFault::NoSuchHart))),
+    ("h0*8", 4, Err(Lacking::Moment)),
 ];
 
 /// How many images a moment of the first program has.
-fn counted(alloc: Global, schedule: &str, moment: u32) -> Option<Result<Option<u32>, CountFault>> {
-    let Start {
-        program,
-        medium,
-        schedule,
-    } = start_of(alloc, None, &[FIRST_RUN], schedule)?;
-    Some(count_images(alloc, program, medium, 1, &schedule, moment))
+fn counted(alloc: Global, schedule: &str, moment: u32) -> Option<Result<Option<u32>, Lacking>> {
+    let run = run_of(alloc, None, &[FIRST_RUN], schedule)?.ok()?;
+    Some(count_images(alloc, &run, moment).map_err(missing))
 }
 
 #[test]
@@ -42,10 +53,10 @@ struct Explanation {
     schedule: &'static str,
     moment: u32,
     image: &'static str,
-    explained: Result<&'static str, ExplainFault>,
+    explained: Result<&'static str, Lacking>,
 }
 
-static EXPLANATIONS: [Explanation; 6] = [
+static EXPLANATIONS: [Explanation; 5] = [
     // all stores
     Explanation {
         plan: None,
@@ -79,7 +90,7 @@ static EXPLANATIONS: [Explanation; 6] = [
         schedule: "h0*9",
         moment: 5,
         image: "2",
-        explained: Err(ExplainFault::NoSuchImage),
+        explained: Err(Lacking::Image),
     },
     Explanation {
         plan: None,
@@ -87,23 +98,11 @@ static EXPLANATIONS: [Explanation; 6] = [
         schedule: "h0*9",
         moment: 6,
         image: "0",
-        explained: Err(ExplainFault::NoSuchMoment),
-    },
-    Explanation {
-        plan: None,
-        pieces: &[TWO_IMAGES],
-        schedule: "h0 h1",
-        moment: 0,
-        image: "0",
-        explained: Err(ExplainFault::Step(StepFault::NoSuchHart)),
+        explained: Err(Lacking::Moment),
     },
 ];
 
-fn is_so(
-    alloc: Global,
-    found: &Result<Schedule, ExplainFault>,
-    wanted: Result<&str, ExplainFault>,
-) -> bool {
+fn is_so(alloc: Global, found: &Result<Schedule, Lacking>, wanted: Result<&str, Lacking>) -> bool {
     match (found, wanted) {
         (Ok(schedule), Ok(text)) => is_written_so(alloc, schedule, text),
         (Err(fault), Err(wanted)) => *fault == wanted,
@@ -111,11 +110,10 @@ fn is_so(
     }
 }
 
-fn explained(alloc: Global, of: &Explanation) -> Option<Result<Schedule, ExplainFault>> {
-    let schedule = Schedule::read(alloc, of.schedule.as_bytes()).ok()?;
-    let (program, medium) = loaded(alloc, of.plan, of.pieces)?;
+fn explained(alloc: Global, of: &Explanation) -> Option<Result<Schedule, Lacking>> {
+    let run = run_of(alloc, of.plan, of.pieces, of.schedule)?.ok()?;
     let image = ImageName::read(alloc, of.image).ok()??;
-    Some(explain_image(alloc, program, medium, 1, &schedule, of.moment, &image))
+    Some(explain_image(alloc, &run, of.moment, &image).map_err(missing))
 }
 
 fn is_explained_so(alloc: Global, of: &Explanation) -> bool {

@@ -18,7 +18,6 @@ use machine::RunStop;
 use nova_log::VolumeFault;
 use plan::{PlanCode, PlanFault};
 use program::LoadFault;
-use program_judge::JudgingFault;
 use schedule::ScheduleFault;
 use shared_memory::StepFault;
 use store_trace::TraceFault;
@@ -266,16 +265,6 @@ static JUDGES: [(JudgeFault, &str); 3] = [
     (JudgeFault::Memory, "C3"),
 ];
 
-static JUDGEMENTS: [(JudgingFault, &str); 4] = [
-    (
-        JudgingFault::Step(StepFault::NoSuchLine),
-        "the run was refused",
-    ),
-    (JudgingFault::Marks(MarkFault::NoOperation), "O6"),
-    (JudgingFault::NoSuchMoment, "no such moment"),
-    (JudgingFault::Memory, "out of memory"),
-];
-
 static DRAWS: [(InterleaveFault, &str); 2] = [
     (InterleaveFault::TraceFull, "G4"),
     (InterleaveFault::Memory, "G5"),
@@ -287,8 +276,7 @@ fn judgements_and_draws(rt: HostRuntime) {
     let found = [
         differing(alloc, &OPERATIONS),
         differing(alloc, &JUDGES),
-        differing(alloc, &JUDGEMENTS),
         differing(alloc, &DRAWS),
     ];
-    assert_eq!(rt; found, [None; 4]);
+    assert_eq!(rt; found, [None; 3]);
 }

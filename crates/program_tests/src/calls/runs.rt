@@ -1,10 +1,10 @@
 //! Runs of harts that run together, and runs by a schedule.
 
-use crate::calls::starts::{FIRST_RUN, Start, is_written_so, loaded, start_of};
+use crate::calls::starts::{FIRST_RUN, Start, is_written_so, loaded, run_of, start_of};
 use crash_test::{TogetherFault, replay, run_program, start_program};
 use hart::Status;
 use machine::{Machine, Schedule, StepFault};
-use recording::Recorded;
+use recording::{Recorded, Run};
 use std::alloc::Global;
 use std::sync::Wait;
 use std::thread::Threads;
@@ -269,4 +269,47 @@ fn started(alloc: Global) -> Option<Seen> {
 #[test]
 fn a_program_is_started(rt: HostRuntime) {
     assert!(rt; started(rt.alloc()) == Some(BEFORE_THE_FIRST));
+}
+
+/// What is seen of a run as a value, by its schedule, or why there is none.
+static RUNS: [(&str, Result<Seen, StepFault>); 4] = [
+    ("h0*8", Ok(ENDED)),
+    // what the cache holds is lost
+    (
+        "h0*3",
+        Ok(Seen {
+            stored: 0,
+            ..AFTER_THE_STORE
+        }),
+    ),
+    ("h0*3 e512", Err(StepFault::NoSuchLine)),
+    ("h0 h1", Err(StepFault::NoSuchHart)),
+];
+
+/// What is seen of a run, the byte of what a power cut at its end leaves.
+fn seen_of_run(run: &Run) -> Option<Seen> {
+    let hart = run.harts().first()?;
+    if run.left().lines() == 0 {
+        return None;
+    }
+    Some(Seen {
+        status: hart.status,
+        pc: hart.pc,
+        events: run.traced().len(),
+        stored: run.left().read_line(0)[0],
+    })
+}
+
+fn recorded(alloc: Global, schedule: &str) -> Option<Result<Seen, StepFault>> {
+    match run_of(alloc, None, &[FIRST_RUN], schedule)? {
+        Ok(run) => seen_of_run(&run).map(Ok),
+        Err(fault) => Some(Err(fault)),
+    }
+}
+
+#[test]
+fn runs_are_recorded_so(rt: HostRuntime) {
+    let differing = RUNS.iter().position(|(schedule, wanted)| recorded(rt.alloc(), schedule)
+        != Some(*wanted));
+    assert_eq!(rt; differing, None);
 }

@@ -1,10 +1,11 @@
 //! Short sources, and what the calls take of them.
 
-use crash_test::{default_medium, load_program, make_volume};
+use crash_test::{default_medium, load_program, make_volume, record_run};
 use line_memory::Medium;
-use machine::Schedule;
+use machine::{Schedule, StepFault};
 use plan::Plan;
 use program::Program;
+use recording::{Run, Setup};
 use std::alloc::Global;
 
 pub(crate) const FIRST_RUN: &str =
@@ -66,6 +67,18 @@ pub(crate) fn start_of(
         }),
         Err(_) => None,
     }
+}
+
+/// The run of a source of one hart by a schedule, or why it is refused. None where there is no such source or schedule.
+pub(crate) fn run_of(
+    alloc: Global,
+    plan: Option<&str>,
+    pieces: &[&str],
+    schedule: &str,
+) -> Option<Result<Run, StepFault>> {
+    let schedule = Schedule::read(alloc, schedule.as_bytes()).ok()?;
+    let (program, medium) = loaded(alloc, plan, pieces)?;
+    Some(record_run(alloc, Setup::with_room(program, medium, 1), &schedule))
 }
 
 pub(crate) fn loaded(

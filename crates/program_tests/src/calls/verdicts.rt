@@ -2,13 +2,10 @@
 
 ghost use Rattle.std.specs.Prelude.{◌<◌, ◌≤◌, IfSome};
 
-use crate::calls::starts::{
-    END, ENTRY, FENCE, NO_TAIL, ONE_APPEND, STRAYS, Start, TAIL, UNKNOWN, start_of,
-};
-use crash_test::{VerdictFault, check_moments, check_program};
-use image_check::{Cause, OpFault, Verdict};
+use crate::calls::starts::{END, ENTRY, FENCE, NO_TAIL, ONE_APPEND, STRAYS, TAIL, UNKNOWN, run_of};
+use crash_test::check_program;
+use image_check::{Cause, CheckFault, OpFault, Verdict};
 use image_name::ImageName;
-use machine::StepFault;
 use nova_log::VolumeFault;
 use plan::Plan;
 use std::alloc::Global;
@@ -32,10 +29,10 @@ enum Wanted {
 struct Checked {
     pieces: &'static [&'static str],
     schedule: &'static str,
-    verdict: Result<Wanted, VerdictFault>,
+    verdict: Result<Wanted, CheckFault>,
 }
 
-static CHECKED: [Checked; 5] = [
+static CHECKED: [Checked; 4] = [
     Checked {
         pieces: &[ENTRY, FENCE, TAIL, FENCE, END],
         schedule: "h0*22",
@@ -67,13 +64,7 @@ static CHECKED: [Checked; 5] = [
     Checked {
         pieces: &[UNKNOWN],
         schedule: "h0*3",
-        verdict: Err(VerdictFault::Operation(OpFault::Unknown)),
-    },
-    // a line past the end
-    Checked {
-        pieces: &[FENCE],
-        schedule: "h0 e512",
-        verdict: Err(VerdictFault::Step(StepFault::NoSuchLine)),
+        verdict: Err(CheckFault::Operation(OpFault::Unknown)),
     },
 ];
 
@@ -82,17 +73,13 @@ fn verdict_of<R: Threads + Sync + AllocGlobal>(
     rt: &R,
     checked: &Checked,
     workers: u32,
-) -> Option<Result<Verdict<Cause>, VerdictFault>>
+) -> Option<Result<Verdict<Cause>, CheckFault>>
     requires { (0 < workers) × (workers ≤ 8) }
 {
     let alloc = rt.alloc();
     let plan = Plan::read(alloc, ONE_APPEND.as_bytes()).ok()?;
-    let Start {
-        program,
-        medium,
-        schedule,
-    } = start_of(alloc, Some(ONE_APPEND), checked.pieces, checked.schedule)?;
-    Some(check_program(rt, alloc, &plan, program, medium, 1, &schedule, workers))
+    let run = run_of(alloc, Some(ONE_APPEND), checked.pieces, checked.schedule)?.ok()?;
+    Some(check_program(rt, alloc, &plan, &run, 0, None, workers))
 }
 
 fn is_named_so(alloc: Global, image: &ImageName, text: &str) -> bool {
@@ -156,7 +143,7 @@ struct Part {
     schedule: &'static str,
     first: u32,
     last: Option<u32>,
-    verdict: Result<Wanted, VerdictFault>,
+    verdict: Result<Wanted, CheckFault>,
 }
 
 const APPEND: &[&str] = &[ENTRY, FENCE, TAIL, FENCE, END];
@@ -180,7 +167,7 @@ static PARTS: [Part; 4] = [
         schedule: "h0*22",
         first: 11,
         last: Some(99),
-        verdict: Err(VerdictFault::NoSuchMoment),
+        verdict: Err(CheckFault::NoSuchMoment),
     },
     Part {
         pieces: NO_FIRST_FENCE,
@@ -199,7 +186,7 @@ static PARTS: [Part; 4] = [
         schedule: "h0*3",
         first: 99,
         last: None,
-        verdict: Err(VerdictFault::Operation(OpFault::Unknown)),
+        verdict: Err(CheckFault::Operation(OpFault::Unknown)),
     },
 ];
 
@@ -207,20 +194,14 @@ fn verdict_on_part<R: Threads + Sync + AllocGlobal>(
     rt: &R,
     part: &Part,
     workers: u32,
-) -> Option<Result<Verdict<Cause>, VerdictFault>>
+) -> Option<Result<Verdict<Cause>, CheckFault>>
     requires { (0 < workers) × (workers ≤ 8) }
 {
     let alloc = rt.alloc();
     let plan = Plan::read(alloc, ONE_APPEND.as_bytes()).ok()?;
-    let Start {
-        program,
-        medium,
-        schedule,
-    } = start_of(alloc, Some(ONE_APPEND), part.pieces, part.schedule)?;
+    let run = run_of(alloc, Some(ONE_APPEND), part.pieces, part.schedule)?.ok()?;
     let last = part.last.filter(|last| part.first <= *last);
-    Some(check_moments(
-        rt, alloc, &plan, program, medium, 1, &schedule, part.first, last, workers,
-    ))
+    Some(check_program(rt, alloc, &plan, &run, part.first, last, workers))
 }
 
 fn is_judged_so<R: Threads + Sync + AllocGlobal>(rt: &R, part: &Part, workers: u32) -> bool

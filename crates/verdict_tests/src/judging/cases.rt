@@ -3,12 +3,12 @@
 ghost use Rattle.std.specs.Prelude.{◌<◌, ◌≤◌, IfSome};
 
 use crate::judging::sources::{READ, REPLACED};
-use crash_test::{default_medium, load_program};
-use image_judge::{Cause, ImageName, Verdict};
+use crash_test::{Judgement, default_medium, judge_program, load_program, record_run};
+use image_judge::{Cause, ImageName, JudgeFault, Verdict};
 use line_memory::Medium;
 use machine::Schedule;
 use program::Program;
-use program_judge::{Judgement, JudgingFault, judge_program};
+use recording::Setup;
 use std::alloc::Global;
 use std::thread::Threads;
 
@@ -38,7 +38,7 @@ pub(crate) struct Case {
     pub(crate) overlapping: bool,
     pub(crate) first: u32,
     pub(crate) last: Option<u32>,
-    pub(crate) verdict: Result<Wanted, JudgingFault>,
+    pub(crate) verdict: Result<Wanted, JudgeFault>,
 }
 
 /// All moments of the record that is replaced.
@@ -71,7 +71,7 @@ pub(crate) fn verdict_of<R: Threads + Sync + AllocGlobal>(
     rt: &R,
     case: &Case,
     workers: u32,
-) -> Option<Result<Verdict<Cause>, JudgingFault>>
+) -> Option<Result<Verdict<Cause>, JudgeFault>>
     requires { (0 < workers) × (workers ≤ 8) }
 {
     let recovery = program_of(rt.alloc(), case.recovery)?;
@@ -83,20 +83,20 @@ fn verdict_by<R: Threads + Sync + AllocGlobal>(
     case: &Case,
     recovery: &Program,
     workers: u32,
-) -> Option<Result<Verdict<Cause>, JudgingFault>>
+) -> Option<Result<Verdict<Cause>, JudgeFault>>
     requires { (0 < workers) × (workers ≤ 8) }
 {
     let medium = default_medium(rt.alloc()).ok()?;
-    verdict_over(rt, case, recovery, &medium, workers)
+    verdict_over(rt, case, recovery, medium, workers)
 }
 
 fn verdict_over<R: Threads + Sync + AllocGlobal>(
     rt: &R,
     case: &Case,
     recovery: &Program,
-    medium: &Medium,
+    medium: Medium,
     workers: u32,
-) -> Option<Result<Verdict<Cause>, JudgingFault>>
+) -> Option<Result<Verdict<Cause>, JudgeFault>>
     requires { (0 < workers) × (workers ≤ 8) }
 {
     let alloc = rt.alloc();
@@ -107,10 +107,10 @@ fn verdict_over<R: Threads + Sync + AllocGlobal>(
         steps: case.steps,
         overlapping: case.overlapping,
     };
+    let setup = Setup::with_room(program, medium, case.harts);
+    let run = record_run(alloc, setup, &schedule).ok()?;
     let last = case.last.filter(|last| case.first <= *last);
-    Some(judge_program(
-        rt, alloc, program, medium, case.harts, &schedule, judgement, case.first, last, workers,
-    ))
+    Some(judge_program(rt, alloc, &run, judgement, case.first, last, workers))
 }
 
 fn is_named_so(alloc: Global, image: &ImageName, text: &str) -> bool {

@@ -2,10 +2,8 @@
 
 use crate::judging::cases::{CASE, Case, Wanted, differing_for_any};
 use crate::judging::sources::{BEGIN, RECORD_UNFENCED, SILENT};
-use image_judge::Cause;
+use image_judge::{Cause, JudgeFault};
 use judge_marks::MarkFault;
-use machine::StepFault;
-use program_judge::JudgingFault;
 
 /// Operation 1 begins on hart 0, operation 2 on hart 1.
 const TWO_HARTS: Case = Case {
@@ -20,7 +18,7 @@ const TWO_HARTS: Case = Case {
     ..CASE
 };
 
-static CASES: [Case; 7] = [
+static CASES: [Case; 6] = [
     CASE,
     // moments past the last one
     Case {
@@ -46,11 +44,11 @@ static CASES: [Case; 7] = [
     },
     Case {
         first: 99,
-        verdict: Err(JudgingFault::NoSuchMoment),
+        verdict: Err(JudgeFault::NoSuchMoment),
         ..CASE
     },
     Case {
-        verdict: Err(JudgingFault::Marks(MarkFault::Overlaps)),
+        verdict: Err(JudgeFault::Marks(MarkFault::Overlaps)),
         ..TWO_HARTS
     },
     Case {
@@ -60,11 +58,6 @@ static CASES: [Case; 7] = [
             images: Some(2),
         }),
         ..TWO_HARTS
-    },
-    Case {
-        schedule: "h0*27 e512",
-        verdict: Err(JudgingFault::Step(StepFault::NoSuchLine)),
-        ..CASE
     },
 ];
 

@@ -11,7 +11,7 @@ returns g c = record {
     found = Ok c.in_ok-why.why;
     between = c.verdict.new.errors;
     first = record { value = rw c.in_ok-why.was at c.why.ensures.told; untouched = refl };
-    after = record { value = rw c.deref.ensures.value at c.verdict_answer.ensures; untouched = refl };
+    after = record { value = c.verdict_answer.ensures; untouched = refl };
   };
 }
 

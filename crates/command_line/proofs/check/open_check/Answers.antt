@@ -8,12 +8,12 @@ returns-clause-opens g c = record {
   between = c.read_plan.new.files;
   first = rw (c.in_ok-plan.was, c.as_str.ensures.value) at c.read_plan.ensures;
   after = record {
-    found = Ok c.in_ok-run.run';
-    between = c.read_run.new.files;
-    first = rw c.in_ok-run.was at c.read_run.ensures.reads;
+    found = Ok c.in_ok-made.made;
+    between = c.open_run.new.files;
+    first = rw c.in_ok-made.was at c.open_run.ensures.opens;
     after = record {
       found = Ok tt;
-      between = c.read_run.new.files;
+      between = c.open_run.new.files;
       first = record { value = rw (c.in_ok-demand_whole.was, c.operations.ensures.value) at c.demand_whole.ensures; untouched = refl };
       after = record { value = record { opens = (refl, refl, refl) }; untouched = refl };
     };
@@ -26,14 +26,14 @@ returns-in_err-demand_whole-clause-opens g c = record {
   between = c.read_plan.new.files;
   first = rw (c.in_ok-plan.was, c.as_str.ensures.value) at c.read_plan.ensures;
   after = record {
-    found = Ok c.in_ok-run.run';
-    between = c.read_run.new.files;
-    first = rw c.in_ok-run.was at c.read_run.ensures.reads;
+    found = Ok c.in_ok-made.made;
+    between = c.open_run.new.files;
+    first = rw c.in_ok-made.was at c.open_run.ensures.opens;
     after = record {
       found = Err c.in_err-demand_whole.field-0.0;
-      between = c.read_run.new.files;
+      between = c.open_run.new.files;
       first = record { value = rw (c.in_err-demand_whole.was, c.operations.ensures.value) at c.demand_whole.ensures; untouched = refl };
-      after = (search rules, refl);
+      after = (search (rules, c.from_residual-in_err-demand_whole.ensures), refl);
     };
   };
 }

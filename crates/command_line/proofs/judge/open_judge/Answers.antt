@@ -4,49 +4,77 @@ use Rattle.command_line.proofs.judge.open_judge.Goals as goal
 
 pub returns-clause-opens : goal.returns-clause-opens
 returns-clause-opens g c = record {
-  found = Ok c.in_ok-run.run';
+  found = Ok c.in_ok-read.read;
   between = c.read_run.new.files;
-  first = rw c.in_ok-run.was at c.read_run.ensures.reads;
+  first = rw c.in_ok-read.was at c.read_run.ensures.reads;
   after = record {
     found = Ok c.in_ok-recovery.recovery;
     between = c.read_recovery.new.files;
     first = rw (c.in_ok-recovery.was, c.as_str.ensures.value) at c.read_recovery.ensures;
     after = record {
-      found = Ok tt;
+      found = Ok c.in_ok-made.made;
       between = c.read_recovery.new.files;
-      first = record { value = rw c.in_ok-demand_whole.was at c.demand_whole.ensures; untouched = refl };
-      after = record { value = record { opens = (refl, refl, refl) }; untouched = refl };
+      first = record { value = rw c.in_ok-made.was at c.make_run.ensures.makes; untouched = refl };
+      after = record {
+        found = Ok tt;
+        between = c.read_recovery.new.files;
+        first = record { value = rw c.in_ok-demand_whole.was at c.demand_whole.ensures; untouched = refl };
+        after = record { value = record { opens = (refl, refl, refl) }; untouched = refl };
+      };
     };
   };
 }
 
 pub returns-in_err-demand_whole-clause-opens : goal.returns-in_err-demand_whole-clause-opens
 returns-in_err-demand_whole-clause-opens g c = record {
-  found = Ok c.in_ok-run.run';
+  found = Ok c.in_ok-read.read;
   between = c.read_run.new.files;
-  first = rw c.in_ok-run.was at c.read_run.ensures.reads;
+  first = rw c.in_ok-read.was at c.read_run.ensures.reads;
   after = record {
     found = Ok c.in_ok-recovery.recovery;
     between = c.read_recovery.new.files;
     first = rw (c.in_ok-recovery.was, c.as_str.ensures.value) at c.read_recovery.ensures;
     after = record {
-      found = Err c.in_err-demand_whole.field-0.0;
+      found = Ok c.in_ok-made.made;
       between = c.read_recovery.new.files;
-      first = record { value = rw c.in_err-demand_whole.was at c.demand_whole.ensures; untouched = refl };
-      after = (search rules, refl);
+      first = record { value = rw c.in_ok-made.was at c.make_run.ensures.makes; untouched = refl };
+      after = record {
+        found = Err c.in_err-demand_whole.field-0.0;
+        between = c.read_recovery.new.files;
+        first = record { value = rw c.in_err-demand_whole.was at c.demand_whole.ensures; untouched = refl };
+        after = (search (rules, c.from_residual-in_err-demand_whole.ensures), refl);
+      };
+    };
+  };
+}
+
+pub returns-in_err-made-clause-opens : goal.returns-in_err-made-clause-opens
+returns-in_err-made-clause-opens g c = record {
+  found = Ok c.in_ok-read.read;
+  between = c.read_run.new.files;
+  first = rw c.in_ok-read.was at c.read_run.ensures.reads;
+  after = record {
+    found = Ok c.in_ok-recovery.recovery;
+    between = c.read_recovery.new.files;
+    first = rw (c.in_ok-recovery.was, c.as_str.ensures.value) at c.read_recovery.ensures;
+    after = record {
+      found = Err c.in_err-made.field-0.0;
+      between = c.read_recovery.new.files;
+      first = record { value = rw c.in_err-made.was at c.make_run.ensures.makes; untouched = refl };
+      after = (search (rules, c.from_residual-in_err-made.ensures), refl);
     };
   };
 }
 
 pub returns-in_err-recovery-clause-opens : goal.returns-in_err-recovery-clause-opens
 returns-in_err-recovery-clause-opens g c = record {
-  found = Ok c.in_ok-run.run';
+  found = Ok c.in_ok-read.read;
   between = c.read_run.new.files;
-  first = rw c.in_ok-run.was at c.read_run.ensures.reads;
+  first = rw c.in_ok-read.was at c.read_run.ensures.reads;
   after = record {
     found = Err c.in_err-recovery.field-0.0;
     between = c.read_recovery.new.files;
     first = rw (c.in_err-recovery.was, c.as_str.ensures.value) at c.read_recovery.ensures;
-    after = (search rules, refl);
+    after = (search (rules, c.from_residual-in_err-recovery.ensures), refl);
   };
 }

@@ -7,7 +7,9 @@ pub returns : goal.returns
 returns c =
     record {
       answer = (
-        rw c.of.ensures.text (waste_of_source c.args.json c.args.file.now c.in_ok-lines.lines (zip c.args.run.now.traced.items c.args.run.now.reasons.items) _ c.in_ok-lines.ensures c.in_ok-text.ensures),
+        rw c.of.ensures.text (waste_of_source c.args.json c.args.made.now.file.items c.in_ok-lines.lines
+            (zip c.args.made.now.run.traced c.args.reasons.now) _ (rw c.deref.ensures.value at c.in_ok-lines.ensures)
+            (rw c.traced.ensures.value at c.in_ok-text.ensures)),
         c.of.ensures.status,
       );
     }

@@ -1,7 +1,7 @@
 -- What the harts of a setup make that run together, or why they don't.
 use Rattle.std.proofs.Common.{inr, rules}
-use Rattle.crash_test.specs.Runs.{setup}
-use Rattle.crash_test.proofs.Together.{fails_finish, has_run_together, is_run_of, is_unfinished, left_together, some_seats}
+use Rattle.recording.specs.Runs.{setup}
+use Rattle.crash_test.proofs.Together.{fails_finish, has_run_together, is_run_of, is_unfinished, left_together, some_seats, stops_together}
 use Rattle.crash_test.proofs.runs.run_together.Goals as goal
 
 pub run_harts-requires : goal.run_harts-requires
@@ -24,7 +24,11 @@ returns-in-Ok-run_harts-clause-left g c =
     left_together (setup c.args.program c.args.medium c.args.harts c.args.capacity) _ _ _ c.in-Ok.ensures.bus c.in-Ok-run_harts.ensures.ok
 
 pub returns-in-Err-Step-clause-err : goal.returns-in-Err-Step-clause-err
-returns-in-Err-Step-clause-err g c = inr (c.in-Ok.ensures.within, rw c.in-Err-Step.field-0-is at c.in-Err-Step.ensures.err)
+returns-in-Err-Step-clause-err g c = inr (
+  c.in-Ok.ensures.within,
+  stops_together (setup c.args.program c.args.medium c.args.harts c.args.capacity) c.args.steps _ _ c.in-Err-Step.fault
+      c.in-Ok.ensures.bus c.in-Ok.ensures.seats (rw c.in-Err-Step.field-0-is at c.in-Err-Step.ensures.err),
+)
 
 pub unfinished-requires : goal.unfinished-requires
 unfinished-requires g c =

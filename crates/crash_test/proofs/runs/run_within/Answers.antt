@@ -1,6 +1,6 @@
 -- What the one hart of a setup makes, or why it doesn't.
 use Rattle.std.proofs.Common.{arith, refl}
-use Rattle.crash_test.specs.Runs.{setup}
+use Rattle.recording.specs.Runs.{setup}
 use Rattle.crash_test.proofs.Alone.{fails_alone, few_alone, has_run_alone, left_alone}
 use Rattle.crash_test.proofs.Together.{is_run_of}
 use Rattle.crash_test.proofs.runs.run_within.Goals as goal
@@ -30,4 +30,4 @@ returns-in-Ok-clause-few c =
 
 pub returns-in-Err-clause-err : goal.returns-in-Err-clause-err
 returns-in-Err-clause-err c =
-    fails_alone (setup c.args.program c.args.medium 1 c.args.capacity) c.args.steps c.in-Err.stop c.requires.within c.in-Err.ensures.err
+    fails_alone (setup c.args.program c.args.medium 1 c.args.capacity) c.args.steps c.in-Err.stop c.requires.within refl c.in-Err.ensures.err

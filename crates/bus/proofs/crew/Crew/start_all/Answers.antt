@@ -14,4 +14,5 @@ loop-seat-preserved g c =
           (at_some (λ (b : BeganView). (badge_of b ≡ badge c.in-Some.seat) × (b.place.table ≡ c.args.word.now.table)) c.start_next-child.result c.start_next-child.ensures.child),
       c.add.ensures.seats ∙ i.3,
       c.add.ensures.stops ∙ i.4,
+      c.add.ensures.lowest ∙ i.5,
     )

@@ -1,0 +1,35 @@
+-- Each step in its turn.
+use Rattle.std.proofs.Common.{Ok, Err, refl, rules}
+use Rattle.std.specs.Prelude.{string_bytes}
+use Rattle.command_line.proofs.picture.picture_file.Goals as goal
+
+pub returns-in_err-picture : goal.returns-in_err-picture
+returns-in_err-picture g c = record {
+  found = Ok c.in_ok-made.made;
+  between = c.open_run.new.files;
+  first = rw c.in_ok-made.was at c.open_run.ensures.opens;
+  after = record {
+    found = Err c.in_err-picture.field-0.0;
+    between = c.open_run.new.files;
+    first = record { value = rw c.in_err-picture.was at c.picture.ensures; untouched = refl };
+    after = (search (rules, c.from_residual-in_err-picture.ensures), refl);
+  };
+}
+
+pub returns-in_err-write_file : goal.returns-in_err-write_file
+returns-in_err-write_file g c = record {
+  found = Ok c.in_ok-made.made;
+  between = c.open_run.new.files;
+  first = rw c.in_ok-made.was at c.open_run.ensures.opens;
+  after = record {
+    found = Ok (string_bytes c.in_ok-picture.picture);
+    between = c.open_run.new.files;
+    first = record { value = rw c.in_ok-picture.was at c.picture.ensures; untouched = refl };
+    after = record {
+      found = Err c.in_err-write_file.field-0.0;
+      between = c.write_file.new.files;
+      first = rw (c.in_err-write_file.was, c.as_str.ensures.value, c.as_bytes.ensures.value) at c.write_file.ensures;
+      after = (search (rules, c.from_residual-in_err-write_file.ensures), refl);
+    };
+  };
+}

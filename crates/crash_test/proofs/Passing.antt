@@ -1,0 +1,34 @@
+-- What a pass says of the run.
+use Rattle.std.proofs.Common.{◌≡◌, ℕ, ◌+◌, List, Option, None, length, ap, ◌∙◌, arith}
+use Rattle.image_check.specs.Verdicts.{IsVerdictBetween, PassBetween}
+use Rattle.parallel_moments.specs.Rows.{end_of}
+use Rattle.image_check.specs.declared.cause.Cause.{Cause}
+use Rattle.moment_verdict.specs.declared.verdict.Verdict.{Verdict}
+use Rattle.moment_verdict.specs.declared.verdict.Verdict.TheVariants.{Pass}
+use Rattle.shared_memory.specs.Replies.{trace_in}
+use Rattle.machine.proofs.Determined.{runs_once}
+use Rattle.machine.specs.Run.{Config}
+use Rattle.plan.specs.declared.operation.Operation.{Operation}
+use Rattle.schedule.specs.Steps.{all_steps}
+use Rattle.schedule.specs.declared.items.Item.{Item}
+use Rattle.store_trace.specs.declared.event.Event.{Event}
+use Rattle.crash_test.specs.Checking.{AlwaysPasses}
+use Rattle.recording.specs.Runs.{start_of}
+use Rattle.recording.specs.declared.setup.Setup.{Setup}
+use Rattle.crash_test.proofs.Running.{HasTrace}
+
+-- the run comes to one end, so its trace is the one that was judged
+all_moments : (plan : List Operation) (s : Setup) (schedule : List Item) (trace : List Event) → HasTrace s schedule trace
+    → PassBetween plan s.medium trace 0 (length trace + 1) → AlwaysPasses plan s schedule
+all_moments plan s schedule trace is passes end moment cut runs within is_cut =
+    let one_end : is.end ≡ end = runs_once (start_of s) (all_steps schedule) is.end end is.run runs in
+    let same : trace ≡ trace_in end.common = is.trace_is ∙ ap (λ (c : Config). trace_in c.common) one_end in
+    let all : PassBetween plan s.medium (trace_in end.common) 0 (length (trace_in end.common) + 1) = rw same at passes in
+    (all moment (omega arith) (omega arith)).1 cut is_cut
+
+pub always_passes : (plan : List Operation) (s : Setup) (schedule : List Item) (first : ℕ) (last : Option ℕ) (trace : List Event)
+    (verdict : Verdict Cause) → HasTrace s schedule trace → IsVerdictBetween plan s.medium trace first (end_of trace last) verdict
+    → (moments : ℕ) (images : Option ℕ) → verdict ≡ Pass moments images → first ≡ 0 → last ≡ None → AlwaysPasses plan s schedule
+always_passes plan s schedule first last trace verdict is judged moments images passed zero all =
+    let pass : IsVerdictBetween plan s.medium trace 0 (length trace + 1) (Pass moments images) = rw (passed, zero, all) at judged in
+    all_moments plan s schedule trace is pass.2

@@ -1,0 +1,79 @@
+-- What a pass says of the run.
+use Rattle.std.proofs.Common.{◌≡◌, ℕ, ◌+◌, ◌≤◌, List, Option, None, length, sym, ap, ◌∙◌, arith}
+use Rattle.std.specs.Prelude.{max, min}
+use Rattle.crash_model.specs.Cut.{number_in}
+use Rattle.crash_model.specs.Image.{image}
+use Rattle.image_judge.specs.Verdicts.{IsJudged, IsVerdict, first_judged, judged_from}
+use Rattle.image_judge.specs.Views.{JudgeView}
+use Rattle.image_judge.specs.declared.cause.Cause.{Cause}
+use Rattle.shared_memory.specs.Replies.{trace_in}
+use Rattle.machine.proofs.Determined.{runs_once}
+use Rattle.machine.specs.Run.{Config, RunsTo}
+use Rattle.moment_verdict.specs.Verdicts.{PassBetween}
+use Rattle.moment_verdict.specs.declared.verdict.Verdict.{Verdict}
+use Rattle.moment_verdict.specs.declared.verdict.Verdict.TheVariants.{Pass}
+use Rattle.program.specs.Sections.{Sections}
+use Rattle.parallel_moments.specs.Rows.{end_of}
+use Rattle.schedule.specs.Steps.{all_steps}
+use Rattle.schedule.specs.declared.items.Item.{Item}
+use Rattle.store_trace.specs.History.{at_moment, history}
+use Rattle.store_trace.specs.declared.event.Event.{Event}
+use Rattle.crash_test.proofs.Surviving.{IsLeftAfter, left_after}
+use Rattle.recording.specs.Runs.{start_of}
+use Rattle.recording.specs.declared.setup.Setup.{Setup}
+use Rattle.crash_test.proofs.Running.{HasTrace}
+use Rattle.crash_test.specs.Judging.{AlwaysRecovers, AnswersRightly, IsRightAt, AnswersAfterPowerCuts, view_of}
+
+from_there : (fj end m : ℕ) → fj ≤ m → min (max 0 fj) end ≤ m
+from_there fj end m h = omega (arith, h)
+
+-- the run comes to one end, so its trace is the one that was judged
+all_moments : (s : Setup) (schedule : List Item) (recovery : Sections) (steps : ℕ) (trace : List Event) → HasTrace s schedule trace
+    → PassBetween (IsJudged (view_of s recovery steps trace)) (judged_from trace 0 (length trace + 1)) (length trace + 1) → AlwaysRecovers s schedule recovery steps
+all_moments s schedule recovery steps trace is passes end moment cut runs from within is_cut =
+    let one_end : is.end ≡ end = runs_once (start_of s) (all_steps schedule) is.end end is.run runs in
+    let same : trace ≡ trace_in end.common = is.trace_is ∙ ap (λ (c : Config). trace_in c.common) one_end in
+    let all : PassBetween (IsJudged (view_of s recovery steps (trace_in end.common))) (judged_from (trace_in end.common) 0 (length (trace_in end.common) + 1))
+    (length (trace_in end.common) + 1) = rw same at passes in
+    let here = all moment (from_there (first_judged (trace_in end.common)) (length (trace_in end.common) + 1) moment from) (omega arith) in record {
+      window = here.window;
+      is_window = here.is_window;
+      right = here.judged.1 cut is_cut;
+    }
+
+pub always_recovers : (s : Setup) (schedule : List Item) (recovery : Sections) (steps first : ℕ) (last : Option ℕ) (trace : List Event) (verdict : Verdict Cause)
+    → HasTrace s schedule trace → IsVerdict (view_of s recovery steps trace) first (end_of trace last) verdict
+    → (moments : ℕ) (images : Option ℕ) → verdict ≡ Pass moments images → first ≡ 0 → last ≡ None → AlwaysRecovers s schedule recovery steps
+always_recovers s schedule recovery steps first last trace verdict is judged moments images passed zero all =
+    let whole : IsVerdict (view_of s recovery steps trace) 0 (length trace + 1) (Pass moments images) = rw (passed, zero, all) at judged in
+    all_moments s schedule recovery steps trace is whole.2
+
+-- the image of a cut on which the routine is right
+answers_rightly : (view : JudgeView) (moment : ℕ) (cut : List (ℕ × ℕ)) (left : List (List ℕ))
+    → left ≡ image view.start (number_in cut) (at_moment view.events moment) → IsRightAt view moment (number_in cut) → AnswersRightly view moment left
+answers_rightly view moment cut left same right =
+    let shows = right.right.1 in record {
+      window = right.window;
+      is_window = right.is_window;
+      end = shows.end;
+      full = shows.full;
+      runs = rw same shows.runs;
+      bytes = right.right.0;
+      answers = shows.comes;
+      right = right.right.2;
+    }
+
+left_answers : (s : Setup) (schedule : List Item) (recovery : Sections) (steps : ℕ) (whole : Config) (events : List Event) (left : List (List ℕ))
+    → AlwaysRecovers s schedule recovery steps → RunsTo (start_of s) (all_steps schedule) whole → first_judged (trace_in whole.common) ≤ length events
+    → IsLeftAfter s.medium (trace_in whole.common) events left → AnswersRightly (view_of s recovery steps (trace_in whole.common)) (length events) left
+left_answers s schedule recovery steps whole events left recovers runs from after =
+    let right : IsRightAt (view_of s recovery steps (trace_in whole.common)) (length events) (number_in after.image.cut) =
+    recovers whole (length events) after.image.cut runs from after.within (rw after.front after.image.bounds) in
+    answers_rightly (view_of s recovery steps (trace_in whole.common)) (length events) after.image.cut left
+    (after.image.bytes ∙ ap (λ (front : List Event). image s.medium (number_in after.image.cut) (history front)) (sym after.front)) right
+
+pub answers_after : (s : Setup) (schedule : List Item) (recovery : Sections) (steps : ℕ) → AlwaysRecovers s schedule recovery steps
+    → AnswersAfterPowerCuts s schedule recovery steps
+answers_after s schedule recovery steps recovers whole runs machine end made rest first split stands from =
+    left_answers s schedule recovery steps whole (trace_in end.common) machine.shared.cache.lines recovers runs from
+    (left_after s schedule whole machine end made rest runs first split stands)

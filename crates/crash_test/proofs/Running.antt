@@ -1,0 +1,23 @@
+-- A run as a value is the machine's one run.
+use Rattle.std.proofs.Common.{◌≡◌, List}
+use Rattle.machine.specs.Run.{Config, RunsTo}
+use Rattle.recording.specs.Runs.{IsRun, RunView, start_of}
+use Rattle.recording.specs.declared.setup.Setup.{Setup}
+use Rattle.run_trace.proofs.Traces.{is_run}
+use Rattle.schedule.specs.Steps.{all_steps}
+use Rattle.schedule.specs.declared.items.Item.{Item}
+use Rattle.shared_memory.specs.Replies.{trace_in}
+use Rattle.store_trace.specs.declared.event.Event.{Event}
+
+-- the events of the run by a schedule
+pub record HasTrace (s : Setup) (schedule : List Item) (trace : List Event) : Type 0 where
+  pub end : Config
+  pub run : RunsTo (start_of s) (all_steps schedule) end
+  pub trace_is : trace ≡ trace_in end.common
+
+pub has_trace : (run : RunView) → IsRun run → HasTrace run.setup run.schedule run.events
+has_trace run is = record {
+  end = is.end;
+  run = is_run 0 (start_of run.setup) is.end (all_steps run.schedule) run.traced is.traced;
+  trace_is = is.events;
+}

@@ -1,0 +1,15 @@
+use Rattle.std.proofs.Common.{refl}
+use Rattle.moment_verdict.specs.declared.verdict.Verdict.TheVariants.{Pass}
+use Rattle.crash_test.proofs.Recovering.{always_recovers, answers_after}
+use Rattle.crash_test.proofs.Running.{has_trace}
+use Rattle.crash_test.proofs.judging.judge_program.Goals as goal
+
+pub returns-clause-pass : goal.returns-clause-pass
+returns-clause-pass g c = λ moments images passed zero all.
+    always_recovers _ _ _ _ _ _ _ (Pass moments images) (has_trace c.args.run.now c.trace.ensures.run) (rw (passed, c.trace.ensures.value, c.start.ensures.value) at c.judge_part.ensures.ok)
+    moments images refl zero all
+
+pub returns-clause-survives : goal.returns-clause-survives
+returns-clause-survives g c = λ moments images passed zero all.
+    answers_after c.args.run.now.setup c.args.run.now.schedule c.args.judgement.recovery.now c.args.judgement.steps
+    (returns-clause-pass g c moments images passed zero all)

@@ -1,0 +1,66 @@
+-- The verdict on the run of a program by a schedule, by a recovery routine.
+use Rattle.std.specs.Prelude.{◌≡◌, ◌≢◌, ℕ, ◌≤◌, Bool, List, [], Option, None, Ok, length}
+use Rattle.crash_model.specs.Cut.{IsCut, number_in}
+use Rattle.image_check.specs.Marks.{begun}
+use Rattle.image_judge.specs.RightAnswers.{IsFoundOf, IsRightOf, is_among}
+use Rattle.image_judge.specs.Verdicts.{IsVerdict, first_judged}
+use Rattle.image_judge.specs.Views.{JudgeView}
+use Rattle.image_judge.specs.declared.cause.Cause.{Cause}
+use Rattle.judge_marks.specs.MarkFaults.{AreSound}
+use Rattle.judge_marks.specs.Windows.{IsWindow}
+use Rattle.judge_marks.specs.declared.moments.Window.{Window}
+use Rattle.shared_memory.specs.Replies.{trace_in}
+use Rattle.machine.specs.Run.{Config, RunsTo, started}
+use Rattle.moment_verdict.specs.declared.verdict.Verdict.{Verdict}
+use Rattle.program.specs.Sections.{Sections}
+use Rattle.parallel_moments.specs.Rows.{end_of}
+use Rattle.recovery_run.specs.Answers.{answer}
+use Rattle.recovery_run.specs.Recovery.{RunsFor}
+use Rattle.schedule.specs.Steps.{all_steps}
+use Rattle.schedule.specs.declared.items.Item.{Item}
+use Rattle.store_trace.specs.History.{at_moment}
+use Rattle.store_trace.specs.declared.event.Event.{Event}
+use Rattle.crash_test.specs.Checking.{HoldsAfterPowerCuts}
+use Rattle.recording.specs.Runs.{start_of}
+use Rattle.recording.specs.declared.setup.Setup.{Setup}
+use Rattle.recording.specs.Runs.{RunView}
+
+-- the routine, for so many steps at most, over these events of a run from the setup's medium
+abbrev pub view_of : Setup → Sections → ℕ → List Event → JudgeView
+view_of s recovery steps events = record { routine = recovery; steps = steps; start = s.medium; events = events }
+
+-- the verdict on those of the moments of the run from `first` to `last`, or to its last one, that are judged; the run's marks are right
+pub record HasJudgement (run : RunView) (recovery : Sections) (steps : ℕ) (overlapping : Bool) (first : ℕ) (last : Option ℕ)
+    (verdict : Verdict Cause) : Type 0 where
+  pub sound : AreSound overlapping run.events (length run.events)
+  pub begins : begun run.events ≢ []
+  pub verdict_is : IsVerdict (view_of run.setup recovery steps run.events) first (end_of run.events last) verdict
+
+-- whatever a power cut leaves at a moment of the run from its first Begin on: the routine has an answer, and a right one
+pub record IsRightAt (view : JudgeView) (moment : ℕ) (cut : ℕ → ℕ) : Type 0 where
+  pub window : Window
+  pub is_window : IsWindow view.events moment window
+  pub right : IsFoundOf view (is_among window moment) moment cut None
+
+abbrev pub AlwaysRecovers : Setup → List Item → Sections → ℕ → Type 0
+AlwaysRecovers s schedule recovery steps = (end : Config) (moment : ℕ) (cut : List (ℕ × ℕ)) → RunsTo (start_of s) (all_steps schedule) end
+    → first_judged (trace_in end.common) ≤ moment → moment ≤ length (trace_in end.common) → IsCut (at_moment (trace_in end.common) moment) cut
+    → IsRightAt (view_of s recovery steps (trace_in end.common)) moment (number_in cut)
+
+-- the routine, run on this medium, ends well, and its answer is a right one of the moment
+pub record AnswersRightly (view : JudgeView) (moment : ℕ) (left : List (List ℕ)) : Type 0 where
+  pub window : Window
+  pub is_window : IsWindow view.events moment window
+  pub end : Config
+  pub full : Bool
+  pub runs : RunsFor (started view.routine left 1) view.steps end full
+  pub bytes : List ℕ
+  pub answers : Ok bytes ≡ answer end full
+  pub right : IsRightOf view (is_among window moment) bytes
+
+-- Whatever machine, with a cache of whatever size, has made the first hart steps of the run and with them its first Begin, with evictions
+-- wherever they came: on what a power cut leaves of it the routine answers rightly.
+abbrev pub AnswersAfterPowerCuts : Setup → List Item → Sections → ℕ → Type 0
+AnswersAfterPowerCuts s schedule recovery steps = (whole : Config) → RunsTo (start_of s) (all_steps schedule) whole
+    → HoldsAfterPowerCuts s schedule (λ events left. first_judged (trace_in whole.common) ≤ length events
+    → AnswersRightly (view_of s recovery steps (trace_in whole.common)) (length events) left)

@@ -1,0 +1,43 @@
+//! Why a crash image of a run fails.
+
+ghost use Rattle.crash_test.specs.Losses.{IsExplainedBy};
+ghost use Rattle.image_causes.specs.Told.{LacksImage};
+ghost use Rattle.schedule.specs.Grammar.{hart_steps};
+ghost use Rattle.std.specs.Prelude.{◌^◌, ◌<◌, ◌≤◌, IfErr, IfOk};
+
+use crate::explaining::explain_image;
+use crash_image::{ImageFault, ImageName};
+use image_causes::{Reader, ToldImage, tell_image_by};
+use recording::Run;
+use schedule::Schedule;
+use std::alloc::Global;
+
+/// A crash image of a run: what it lacks and keeps of the lines that a recovery reads of it, told by the numbers of the run's events, and a
+/// schedule that leaves it.
+#[derive(Drop)]
+pub struct ExplainedImage {
+    pub told: ToldImage,
+    pub schedule: Schedule,
+}
+
+/// What the crash image of this name, of a moment of a run, lacks and keeps of the lines that a recovery reads of it, and a schedule that
+/// leaves the image, as `explain_image` gives it.
+///
+/// # Errors
+/// As those of `explain_image`.
+pub fn explain_losses<R: Reader>(
+    alloc: Global,
+    run: &Run,
+    moment: u32,
+    image: &ImageName,
+    reader: &R,
+) -> Result<ExplainedImage, ImageFault>
+    ensures ok { IfOk result (IsExplainedBy (R.reads reader.now) run.now moment image.now) }
+    ensures few { IfOk result (λ explained. hart_steps explained.schedule ≤ hart_steps run.now.schedule) }
+    ensures counted { IfOk result (λ explained. hart_steps explained.schedule < 2 ^ 32) }
+    ensures err { IfErr result (LacksImage run.now.events moment image.now) }
+{
+    let told = tell_image_by(alloc, run.start(), run.trace(), moment, image, reader)?;
+    let schedule = explain_image(alloc, run, moment, image)?;
+    Ok(ExplainedImage { told, schedule })
+}

@@ -1,3 +1,0 @@
-pub mod Failing
-pub mod Unpersisted
-pub mod Vain

@@ -1,0 +1,94 @@
+"""What the program says of its commands: the groups of `novacrash help`, and the help of each command."""
+
+import re
+import subprocess
+from dataclasses import dataclass, field
+
+
+@dataclass
+class Word:
+    """A word or an option of a command, as its help has it: `<FILE>`, `[CODE]`, `--steps <N>` or `--why`."""
+
+    form: str
+    about: str
+
+    @property
+    def name(self):
+        """The name of an option, with its dashes."""
+        return self.form.split()[0]
+
+    @property
+    def value(self):
+        """The name of an option's value, empty where it takes none."""
+        return self.form.partition(" ")[2].strip("<>")
+
+    @property
+    def is_file(self):
+        """Whether the word or the value is the name of a file."""
+        return "file" in self.about.lower()
+
+
+@dataclass
+class Command:
+    """A command with what its help says: what it is for, its usage, its words and options, an example, and remarks."""
+
+    name: str
+    about: str
+    usage: str = ""
+    words: list = field(default_factory=list)
+    options: list = field(default_factory=list)
+    example: str = ""
+    remarks: list = field(default_factory=list)
+
+
+@dataclass
+class Help:
+    """All help of the program: what it is, its groups of commands by their headings, and what the help of each command ends with."""
+
+    about: str
+    groups: dict
+    ending: list
+
+    def commands(self):
+        return [command for group in self.groups.values() for command in group]
+
+
+def printed(program, *words):
+    """What the program prints for these words, as paragraphs of lines."""
+    text = subprocess.run([program, *words], check=True, capture_output=True, text=True).stdout
+    return [paragraph.splitlines() for paragraph in text.strip().split("\n\n")]
+
+
+def rows(lines):
+    """The rows of a list with a heading: what stands before two blanks, and what behind them."""
+    return [Word(*re.fullmatch(r"(\S.*?)  +(\S.*)", line.strip()).groups()) for line in lines[1:]]
+
+
+def command_of(program, name):
+    """A command by its help, and the paragraph with which that ends."""
+    (about, *_), (usage, *_), *rest, ending = printed(program, name, "--help")
+    command = Command(name, about, usage.removeprefix("Usage: "))
+    for lines in rest:
+        if lines[0] == "Arguments:":
+            command.words = rows(lines)
+        elif lines[0] == "Options:":
+            command.options = rows(lines)
+        elif lines[0].startswith("Example: "):
+            command.example = lines[0].removeprefix("Example: ")
+        else:
+            command.remarks += lines
+    return command, ending
+
+
+def help_of(program):
+    """All help of the program."""
+    (about, *_), _, *rest = printed(program, "help")
+    groups, endings = {}, []
+    for lines in rest:
+        if len(lines) > 1 and lines[0].endswith(":") and lines[0] != "Options:":
+            found = [command_of(program, row.form) for row in rows(lines)]
+            groups[lines[0].rstrip(":")] = [command for command, _ in found]
+            endings += [ending for _, ending in found]
+    if any(ending != endings[0] for ending in endings):
+        raise ValueError("the help of two commands ends otherwise")
+    return Help(about, groups, endings[0])
