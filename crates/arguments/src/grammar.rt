@@ -358,7 +358,7 @@ static JUDGING: [Subcommand; 2] = [
     Subcommand {
         name: "check",
         group: Group::Judge,
-        about: "Judge every crash image of a run by a schedule",
+        about: "Judge every crash image of a run by a plan of operations",
         arguments: &[
             PLAN, PROGRAM, SCHEDULE, MEDIUM, HARTS, WORKERS, MOMENTS, WHOLE, WHY, JSON, PROGRESS,
         ],

@@ -61,37 +61,9 @@ impl Opener {
         self.progress.findings.asked.contains(line)
     }
 
-    /// Opens the branches, up to `limit` and one more. The opener can be used again after an error too.
-    pub fn open<R: Recovery>(
-        &mut self,
-        alloc: Global,
-        recovery: &R,
-        workspace: &mut R::Workspace,
-        limit: u32,
-    ) -> Result<Opened<R::Cause>, AllocError>
-        requires size { length self.old ≡ R.lines recovery.now }
-        requires some { 1 ≤ limit }
-        requires fits { R.fits recovery.now workspace.old }
-        ensures fits { R.fits recovery.now workspace.new }
-        ensures over { IfOk result (λ opened. IfOver opened (AreOver (R.asks recovery.now) (R.low recovery.now) (R.high recovery.now) limit)) }
-        ensures few { IfOk result (λ opened. IfFew opened (¬ AreOver (R.asks recovery.now) (R.low recovery.now) (R.high recovery.now) limit)) }
-        ensures pass { IfOk result (λ opened. IfPass opened ((k : ℕ → ℕ) → IsWithin (R.low recovery.now) (R.high recovery.now) k → R.judged recovery.now k None)) }
-        ensures bad { IfOk result (λ opened. IfBad opened (λ numbers cause.
-            IsLeastBad (R.low recovery.now) (R.high recovery.now) (R.judged recovery.now) (number_over (R.low recovery.now) numbers) cause
-            × (length numbers ≡ R.lines recovery.now))) }
-        ensures asked { IfOk result (λ opened. IfFew opened ((k : ℕ → ℕ) → IsWithin (R.low recovery.now) (R.high recovery.now) k →
-            (ls : List ℕ) → R.asks recovery.now k ls → AllByRecursion (λ l. is_flagged l self.new ≡ true) ls)) }
-        ensures only { IfOk result (λ opened. (l : ℕ) → is_flagged l self.new ≡ true → IsAsked (R.asks recovery.now) (R.low recovery.now) (R.high recovery.now) l) }
-        ensures size { length self.new ≡ length self.old }
-    {
-        let least = self
-            .progress
-            .open_all(alloc, recovery, workspace, &mut self.run, limit)?;
-        self.progress.finish(alloc, recovery, limit, least)
-    }
-
-    /// Opens the branches as `open` does, many at once in threads of their own where these can be started.
-    pub fn open_shared<R: Recovery + Sync, T: Threads + Sync>(
+    /// Opens the branches, up to `limit` and one more, many at once in threads of their own where these can be started. The opener can be
+    /// used again after an error too.
+    pub fn open<R: Recovery + Sync, T: Threads + Sync>(
         &mut self,
         rt: &T,
         alloc: Global,
@@ -116,7 +88,7 @@ impl Opener {
     {
         let least = self
             .progress
-            .open_all_shared(rt, alloc, recovery, workspace, &mut self.run, limit)?;
+            .open_all(rt, alloc, recovery, workspace, &mut self.run, limit)?;
         self.progress.finish(alloc, recovery, limit, least)
     }
 }

@@ -69,37 +69,9 @@ impl Progress {
         self.findings.found.len() > limit as usize
     }
 
-    /// Opens the branches, up to `limit` and one more. Answers the cause of the least bad cut.
-    pub fn open_all<R: Recovery>(
-        &mut self,
-        alloc: Global,
-        recovery: &R,
-        workspace: &mut R::Workspace,
-        run: &mut Run,
-        limit: u32,
-    ) -> Result<Option<R::Cause>, AllocError>
-        requires size { length self.old.findings.asked ≡ R.lines recovery.now }
-        requires least_size { length self.old.findings.least ≡ R.lines recovery.now }
-        requires run_size { length run.old.numbers ≡ R.lines recovery.now }
-        requires fits { R.fits recovery.now workspace.old }
-        ensures at { IfOk result (λ least. IsAt (R.asks recovery.now) (R.judged recovery.now) (R.low recovery.now) (R.high recovery.now) (R.lines recovery.now)
-            self.new.opened self.new.findings.found.items self.new.findings.least least self.new.findings.asked) }
-        ensures whole { OnOk result (length self.new.findings.found.items ≤ limit → length self.new.findings.found.items ≤ self.new.opened) }
-        ensures size { length self.new.findings.asked ≡ length self.old.findings.asked }
-        ensures least_size { length self.new.findings.least ≡ length self.old.findings.least }
-        ensures run_size { length run.new.numbers ≡ length run.old.numbers }
-        ensures fits { R.fits recovery.now workspace.new }
-    {
-        self.begin()?;
-        let mut least = None;
-        while self.is_open(limit) {
-            least = self.open_next(alloc, recovery, workspace, run, least)?;
-        }
-        Ok(least)
-    }
-
-    /// Opens the branches as `open_all` does, many at once in threads of their own where these can be started.
-    pub fn open_all_shared<R: Recovery + Sync, T: Threads + Sync>(
+    /// Opens the branches, up to `limit` and one more, many at once in threads of their own where these can be started. Answers the cause of
+    /// the least bad cut.
+    pub fn open_all<R: Recovery + Sync, T: Threads + Sync>(
         &mut self,
         rt: &T,
         alloc: Global,

@@ -1,5 +1,5 @@
 -- What is told on the way to a verdict, row of moments by row of moments.
-use Rattle.std.proofs.Common.{◌≡◌, inl, inr, ℕ, ◌+◌, ◌-◌, ◌<◌, ◌≤◌, ◌++◌, List, [], Option, Result, Ok, Err, Bool, true, refl, arith}
+use Rattle.std.proofs.Common.{◌≡◌, inl, inr, ℕ, ◌+◌, ◌-◌, ◌<◌, ◌≤◌, ◌++◌, List, [], Option, Result, Ok, Err, Bool, true, refl, subst, arith}
 use Rattle.std.specs.Prelude.{OnOk}
 use Rattle.std.specs.Result.{is_ok}
 use Rattle.std.specs.Io.KnownBytes.{Appends}
@@ -128,3 +128,11 @@ told_nothing passed events first end old = record {
   is_progress = IsProgress.starts;
   writes = front_nothing old [];
 }
+
+-- what was told of some moments of a run, by other names
+pub told_as : {View : Type 0} (passed : View → ℕ → Type 0) (events : View → List Event) (run same : View) (first from end until : ℕ) (old new : Option (List ℕ)) →
+    run ≡ same → first ≡ from → end ≡ until → Progresses (passed run) (events run) first end old new → Progresses (passed same) (events same) from until old new
+told_as {View} passed events run same first from end until old new e begins ends told =
+    subst (λ (v : View). Progresses (passed v) (events v) from until old new) e
+    (subst (λ (n : ℕ). Progresses (passed run) (events run) from n old new) ends
+    (subst (λ (n : ℕ). Progresses (passed run) (events run) n end old new) begins told))

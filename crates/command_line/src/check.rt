@@ -2,12 +2,14 @@
 
 ghost use Rattle.arguments.specs.Line.{IsWithin};
 ghost use Rattle.arguments.specs.Spans.{IsUpward};
-ghost use Rattle.command_line.specs.Checking.{IsOpen, JudgesCheck, JudgesOpen, OpensCheck, Watches, cause_text};
+ghost use Rattle.command_line.specs.Checking.{IsOpen, JudgesCheck, JudgesOpen, OpensCheck, TellsProgress, Watches, cause_text};
 ghost use Rattle.command_line.specs.Reasons.{Explains, ExplainsOne};
-ghost use Rattle.command_line.specs.Verdicts.{failing};
+ghost use Rattle.command_line.specs.Verdicts.{failing, first_of, last_of};
+ghost use Rattle.crash_test.specs.Checking.{HasVerdict};
 ghost use Rattle.image_causes.specs.Told.{IsAsked};
+ghost use Rattle.image_check.specs.Verdicts.{IsRefusal};
 ghost use Rattle.schedule.specs.Grammar.{hart_steps};
-ghost use Rattle.std.specs.Prelude.{◌≡◌, ◌^◌, ◌<◌, IfOk, IfSome};
+ghost use Rattle.std.specs.Prelude.{◌≡◌, ◌^◌, ◌<◌, IfErr, IfOk, IfSome};
 
 use crate::answer::Answer;
 use crate::codes::volume_code;
@@ -15,14 +17,14 @@ use crate::failure::Failure;
 use crate::files::Files;
 use crate::made_run::open_run;
 use crate::opened::OpenCheck;
+use crate::progress::part_verdict;
 use crate::reading::read_plan;
 use crate::verdicts::{ToldCause, bounds, failing, verdict_answer};
-use crate::watched_check::watched_verdict;
 use crate::whole::demand_whole;
 use arguments::CheckCommand;
 use crash_test::{ExplainedImage, check_program, explain_losses};
 use image_causes::LogReader;
-use image_check::{Cause, Verdict};
+use image_check::{Cause, CheckFault, Verdict, checked_part};
 use image_name::ImageName;
 use recording::Run;
 use std::alloc::{AllocError, Global};
@@ -79,7 +81,7 @@ fn verdict<T: Threads + Sync + Clock, E: Write>(
     ensures { Watches E.contents check.now errors.old result errors.new }
 {
     if check.command.progress {
-        watched_verdict(rt, alloc, check, errors)
+        Ok(watched_verdict(rt, alloc, check, errors)?)
     } else {
         quiet_verdict(rt, alloc, check)
     }
@@ -100,6 +102,25 @@ fn quiet_verdict<T: Threads + Sync>(
     } = check;
     let (first, last) = bounds(command.moments);
     Ok(check_program(rt, alloc, plan, &made.run, first, last, command.workers)?)
+}
+
+/// The verdict where standard error gets on the way how many of the moments pass.
+fn watched_verdict<T: Threads + Sync + Clock, E: Write>(
+    rt: &T,
+    alloc: Global,
+    check: &OpenCheck,
+    errors: &mut E,
+) -> Result<Verdict<Cause>, CheckFault>
+    requires { IsOpen check.now }
+    ensures ok { IfOk result (HasVerdict check.now.plan.operations check.now.made.run (first_of check.now.command.moments) (last_of check.now.command.moments)) }
+    ensures err { IfErr result (IsRefusal check.now.plan.operations check.now.made.run.events (first_of check.now.command.moments)) }
+    ensures told { TellsProgress check.now.plan.operations check.now.made.run check.now.command.moments (E.contents errors.old) (E.contents errors.new) }
+{
+    let run = &check.made.run;
+    let (first, last) = bounds(check.command.moments);
+    let part = checked_part(alloc, &check.plan, run.start(), run.trace(), first, last)?;
+    let verdict = part_verdict(rt, alloc, &part, check.command.workers, errors)?;
+    Ok(verdict)
 }
 
 /// `--why`: of a failing image what it lacks and keeps, and how it comes about.

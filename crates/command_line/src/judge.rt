@@ -2,11 +2,13 @@
 
 ghost use Rattle.arguments.specs.Line.{IsWithin};
 ghost use Rattle.arguments.specs.Spans.{IsUpward};
-ghost use Rattle.command_line.specs.Judging.{ExplainsFailing, IsOpen, JudgesOpen, JudgesRun, Notes, OpensJudge, Watches, cause_text, missing_text, note_of};
+ghost use Rattle.command_line.specs.Judging.{ExplainsFailing, IsOpen, IsVerdictOf, JudgesOpen, JudgesRun, Notes, OpensJudge, TellsProgress, Watches, cause_text, missing_text, note_of};
 ghost use Rattle.command_line.specs.Reasons.{ExplainsOne};
+ghost use Rattle.command_line.specs.Verdicts.{first_of};
 ghost use Rattle.crash_test.specs.Loading.{IsLoaded};
+ghost use Rattle.image_judge.specs.Verdicts.{IsRefusal};
 ghost use Rattle.schedule.specs.Grammar.{hart_steps};
-ghost use Rattle.std.specs.Prelude.{◌≡◌, ◌^◌, ◌<◌, IfOk, IfSome, OnOk, string_bytes};
+ghost use Rattle.std.specs.Prelude.{◌≡◌, ◌^◌, ◌<◌, IfErr, IfOk, IfSome, OnOk, string_bytes};
 ghost use Rattle.std.specs.Io.KnownBytes.{Appends};
 
 use crate::answer::Answer;
@@ -14,14 +16,14 @@ use crate::failure::Failure;
 use crate::files::Files;
 use crate::made_run::make_run;
 use crate::opened::OpenJudge;
+use crate::progress::part_verdict;
 use crate::reading::{read_recovery, read_run};
 use crate::streams::print;
 use crate::verdicts::{ToldCause, bounds, failing, verdict_answer};
-use crate::watched_judge::watched_judgement;
 use crate::whole::demand_whole;
 use arguments::JudgeCommand;
 use crash_test::{ExplainedImage, Judgement, RoutineReader, explain_losses, judge_program};
-use image_judge::{Cause, Verdict};
+use image_judge::{Cause, JudgeFault, Verdict, judged_part};
 use image_name::ImageName;
 use recovery_run::Cause as RunCause;
 use session::Failed;
@@ -85,7 +87,7 @@ fn verdict<T: Threads + Sync + Clock, E: Write>(
     ensures { Watches E.contents judge.now errors.old result errors.new }
 {
     if judge.command.progress {
-        watched_judgement(rt, alloc, judge, errors)
+        Ok(watched_verdict(rt, alloc, judge, errors)?)
     } else {
         quiet_verdict(rt, alloc, judge)
     }
@@ -99,26 +101,49 @@ fn quiet_verdict<T: Threads + Sync>(
     requires { IsOpen judge.now }
     ensures { JudgesOpen judge.now result }
 {
-    let OpenJudge {
-        command,
-        made,
-        recovery,
-    } = judge;
-    let judgement = Judgement {
-        recovery,
-        steps: command.steps,
-        overlapping: command.overlapping,
-    };
-    let (first, last) = bounds(command.moments);
-    Ok(judge_program(
-        rt,
+    let (first, last) = bounds(judge.command.moments);
+    let (run, judgement, workers) = (&judge.made.run, judgement(judge), judge.command.workers);
+    Ok(judge_program(rt, alloc, run, judgement, first, last, workers)?)
+}
+
+/// The verdict where standard error gets on the way how many of the moments pass.
+#[tactic(auto, using(judge_marks::proofs::Begun::sound_begin))]
+fn watched_verdict<T: Threads + Sync + Clock, E: Write>(
+    rt: &T,
+    alloc: Global,
+    judge: &OpenJudge,
+    errors: &mut E,
+) -> Result<Verdict<Cause>, JudgeFault>
+    requires { IsOpen judge.now }
+    ensures ok { IfOk result (IsVerdictOf judge.now) }
+    ensures err { IfErr result (IsRefusal judge.now.command.overlapping judge.now.made.run.events (first_of judge.now.command.moments)) }
+    ensures told { TellsProgress judge.now (E.contents errors.old) (E.contents errors.new) }
+{
+    let run = &judge.made.run;
+    let (first, last) = bounds(judge.command.moments);
+    let part = judged_part(
         alloc,
-        &made.run,
-        judgement,
+        run.start(),
+        run.trace(),
+        judgement(judge),
         first,
         last,
-        command.workers,
-    )?)
+    )?;
+    let verdict = part_verdict(rt, alloc, &part, judge.command.workers, errors)?;
+    Ok(verdict)
+}
+
+/// How the command says that the run is judged.
+fn judgement(judge: &OpenJudge) -> Judgement<'_>
+    ensures recovery { result.recovery.now ≡ judge.now.recovery }
+    ensures steps { result.steps ≡ judge.now.command.steps }
+    ensures overlapping { result.overlapping ≡ judge.now.command.overlapping }
+{
+    Judgement {
+        recovery: &judge.recovery,
+        steps: judge.command.steps,
+        overlapping: judge.command.overlapping,
+    }
 }
 
 /// Says on standard error that no moment is judged, where the verdict is on none. Where standard error fails, it may have got a front of that.

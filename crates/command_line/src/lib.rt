@@ -34,8 +34,6 @@ mod unpersisted;
 mod upgrade;
 mod verdicts;
 mod waste;
-mod watched_check;
-mod watched_judge;
 mod whole;
 mod writing;
 

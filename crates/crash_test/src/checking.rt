@@ -5,8 +5,7 @@ ghost use Rattle.crash_test.specs.Checking.{AlwaysPasses, HasVerdict, SurvivesPo
 ghost use Rattle.image_check.specs.Verdicts.{IsRefusal};
 
 use gate::Open;
-use image_check::{Cause, CheckFault, Verdict};
-use parallel_check::check_part;
+use image_check::{Cause, CheckFault, Verdict, checked_part};
 use plan::Plan;
 use recording::Run;
 use std::alloc::Global;
@@ -40,6 +39,6 @@ pub fn check_program<T: Threads + Sync>(
         SurvivesPowerCuts plan.now.operations run.now.setup run.now.schedule }
     ensures err { IfErr result (IsRefusal plan.now.operations run.now.events first) }
 {
-    let (medium, trace) = (run.start(), run.trace());
-    check_part(rt, alloc, plan, medium, trace, first, last, workers, &Open)
+    let part = checked_part(alloc, plan, run.start(), run.trace(), first, last)?;
+    Ok(part.judge(rt, alloc, workers, &Open)?)
 }

@@ -5,23 +5,10 @@ ghost use Rattle.image_judge.specs.Verdicts.{IsRefusal};
 ghost use Rattle.std.specs.Prelude.{◌≡◌, ◌<◌, ◌≤◌, ℕ, IfErr, IfOk, IfSome, Ok, None, Option};
 
 use gate::Open;
-use image_judge::{Cause, JudgeFault, Verdict};
-use parallel_judge::judge_part;
-use program::Program;
+use image_judge::{Cause, JudgeFault, Judgement, Verdict, judged_part};
 use recording::Run;
 use std::alloc::Global;
 use std::thread::Threads;
-
-/// How a run is judged.
-#[derive(Clone, Copy)]
-pub struct Judgement<'a> {
-    /// The recovery routine.
-    pub recovery: &'a Program,
-    /// How many steps it makes at most on an image.
-    pub steps: u32,
-    /// Whether operations may overlap.
-    pub overlapping: bool,
-}
 
 /// The verdict on the moments of a run from `first` to `last`, or to its last one where none is given: whether each state that a power
 /// cut may leave from the first Begin on shows, to the recovery routine, the structure as before or after the operation under way. A
@@ -31,6 +18,7 @@ pub struct Judgement<'a> {
 /// # Errors
 /// Marks for the first wrong mark of the run, or where there is none; NoSuchMoment where the marks are right and `first` is past the moments
 /// of the run. Memory where a growth is refused.
+#[tactic(auto, using(judge_marks::proofs::Begun::sound_begin))]
 pub fn judge_program<T: Threads + Sync>(
     rt: &T,
     alloc: Global,
@@ -52,17 +40,6 @@ pub fn judge_program<T: Threads + Sync>(
         AnswersAfterPowerCuts run.now.setup run.now.schedule judgement.entry.recovery.now judgement.entry.steps }
     ensures err { IfErr result (IsRefusal judgement.entry.overlapping run.now.events first) }
 {
-    judge_part(
-        rt,
-        alloc,
-        run.start(),
-        run.trace(),
-        judgement.recovery,
-        judgement.steps,
-        judgement.overlapping,
-        first,
-        last,
-        workers,
-        &Open,
-    )
+    let part = judged_part(alloc, run.start(), run.trace(), judgement, first, last)?;
+    Ok(part.judge(rt, alloc, workers, &Open)?)
 }

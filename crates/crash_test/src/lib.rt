@@ -4,8 +4,9 @@
 
 pub use checking::check_program;
 pub use explaining::explain_image;
+pub use image_judge::Judgement;
 pub use images::count_images;
-pub use judging::{Judgement, judge_program};
+pub use judging::judge_program;
 pub use lines::source_lines;
 pub use loading::{ProgramFault, load_object, load_program};
 pub use losses::{ExplainedImage, explain_losses};

@@ -4,10 +4,9 @@ use crate::ending::{Refused, ended, ready, refusal, repeated};
 use crate::samples::{append_trace, new_volume};
 use crash_image::has_lines;
 use gate::Open;
-use image_check::{Cause, CheckFault, Verdict, check_run};
+use image_check::{Cause, CheckFault, Verdict, check_parallel, check_run};
 use line_memory::Medium;
 use nova_log::{VolumeFault, recover};
-use parallel_check::check_parallel;
 use plan::Plan;
 use std::alloc::Global;
 use std::thread::Threads;
@@ -42,28 +41,28 @@ fn is_pass(verdict: &Verdict<Cause>) -> bool {
     }
 }
 
-fn passes(alloc: Global, run: &Run) -> Result<bool, Refused> {
+fn passes<R: Threads + Sync>(rt: &R, alloc: Global, run: &Run) -> Result<bool, Refused> {
     if !has_lines(&run.medium, &run.trace) {
         return Ok(false);
     }
-    match check_run(alloc, &run.plan, &run.medium, &run.trace) {
+    match check_run(rt, alloc, &run.plan, &run.medium, &run.trace) {
         Ok(verdict) => Ok(is_pass(&verdict)),
         Err(fault) => refusal(matches!(fault, CheckFault::Memory)),
     }
 }
 
 /// Checks the run, and again where that was refused.
-fn checked(alloc: Global) -> Result<bool, Refused> {
+fn checked<R: Threads + Sync>(rt: &R, alloc: Global) -> Result<bool, Refused> {
     let run = run_of(alloc)?;
-    match passes(alloc, &run) {
-        Err(Refused::Call) => repeated(passes(alloc, &run)),
+    match passes(rt, alloc, &run) {
+        Err(Refused::Call) => repeated(passes(rt, alloc, &run)),
         answer => answer,
     }
 }
 
 #[test]
 fn check_a_run(rt: HostRuntime) -> Result<(), Refused> {
-    ended(&rt, checked(rt.alloc()))
+    ended(&rt, checked(&rt, rt.alloc()))
 }
 
 fn passes_by_two<R: Threads + Sync>(rt: &R, alloc: Global, run: &Run) -> Result<bool, Refused> {

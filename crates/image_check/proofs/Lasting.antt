@@ -1,5 +1,5 @@
 -- From a moment to the next, event by event: a pass and the flags that are kept.
-use Rattle.std.proofs.Common.{◌≡◌, ℕ, ◌+◌, ◌-◌, ◌<◌, ◌≤◌, ◌==◌, ◌&&◌, not, Bool, true, false, cond, inl, inr, List, [], ◌∷◌, ◌++◌, length, get_or, take, refl, sym, ap, subst, ◌∙◌, arith, None, append-nil, eqb-true, eq-eqb}
+use Rattle.std.proofs.Common.{◌≡◌, ℕ, ◌+◌, ◌<◌, ◌==◌, ◌&&◌, not, Bool, true, false, cond, inl, inr, List, [], ◌∷◌, ◌++◌, length, get_or, take, refl, sym, ap, subst, ◌∙◌, arith, None, append-nil, eqb-true, eq-eqb}
 use Rattle.std.specs.Prelude.{Result, filter}
 use Rattle.std.specs.List.{Contains, flat_map}
 use Rattle.std.proofs.lemmas.Bool.{cases_Bool}
@@ -122,15 +122,3 @@ kept_next plan start events i d flags l s k f pass =
     (legal_event plan (volume_of start) before event flags v (sound_first plan events i (omega arith) s) twice k h) in
     pass_kept start (history before) (history after) flags (asks_at start (history before)) (asks_at start (history after)) (found_at plan start before)
     (found_at plan start after) (like_next start events i d flags l (unseen flags event k)) (by_lines plan start before after legal) f pass
-
--- the same of a moment and the one before it
-pub kept_at : (plan : List Operation) (start : List (List ℕ)) (events : List Event) (moment : ℕ) (d : Event) (flags : List Bool) → 0 < moment →
-    moment ≤ length events → AreSound plan events (length events) → KeepsPass flags (get_or events (moment - 1) d) →
-    AreFlagged start (at_moment events (moment - 1)) flags → IsMomentVerdict plan start (take (moment - 1) events) moments.Pass →
-    AreFlagged start (at_moment events moment) flags × IsMomentVerdict plan start (take moment events) moments.Pass
-kept_at plan start events moment d flags some there s k f pass =
-    let same : (moment - 1) + 1 ≡ moment = omega arith in
-    let r = kept_next plan start events (moment - 1) d flags (omega arith) s k f pass in (
-      subst (λ (m : ℕ). AreFlagged start (at_moment events m) flags) same r.0,
-      subst (λ (m : ℕ). IsMomentVerdict plan start (take m events) moments.Pass) same r.1,
-    )

@@ -1,6 +1,5 @@
 pub mod Apart
 pub mod Beginning
-pub mod EveryImage
 pub mod Faulting
 pub mod Growing
 pub mod Judging
@@ -18,4 +17,3 @@ pub mod Refusing
 pub mod Sharing
 pub mod Single
 pub mod Standing
-pub mod Weighing

@@ -1,7 +1,6 @@
--- From the moments to the run.
-use Rattle.std.proofs.Common.{◌≡◌, ℕ, ◌+◌, ◌≤◌, inl, inr, List, Option, length, take, subst, arith}
+-- What a verdict says of a run.
+use Rattle.std.proofs.Common.{◌≡◌, ℕ, ◌≤◌, List, Option, length, take, subst, arith}
 use Rattle.std.specs.Prelude.{Ok}
-use Rattle.std.proofs.lemmas.Bool.{cases_lt}
 use Rattle.crash_model.specs.Cut.{IsCut, number_in}
 use Rattle.crash_model.specs.Image.{image}
 use Rattle.nova_log.specs.Volumes.{volume_of}
@@ -11,18 +10,11 @@ use Rattle.store_trace.specs.declared.event.Event.{Event}
 use Rattle.volume.specs.declared.entry.Entry.{Entry}
 use Rattle.image_check.specs.Legal.{IsLegal}
 use Rattle.image_check.specs.Images.{Passes}
-use Rattle.image_check.specs.Verdicts.{IsMomentVerdict, IsVerdict, PassBetween}
-use Rattle.moment_verdict.specs.declared.verdict.MomentVerdict.TheVariants as moments
+use Rattle.image_check.specs.declared.cause.Cause.{Cause}
+use Rattle.image_check.specs.RunViews.{RunView}
+use Rattle.image_check.specs.Verdicts.{IsVerdict, IsVerdictBetween}
+use Rattle.moment_verdict.specs.declared.verdict.Verdict.{Verdict}
 use Rattle.moment_verdict.specs.declared.verdict.Verdict.TheVariants as runs
-
-pub pass_more : (plan : List Operation) (start : List (List ℕ)) (events : List Event) (moment : ℕ) → PassBetween plan start events 0 moment →
-    IsMomentVerdict plan start (take moment events) moments.Pass → PassBetween plan start events 0 (moment + 1)
-pass_more plan start events moment passed here m f h = elim (cases_lt m moment) [
-  | inl earlier ↦ passed m f earlier
-  | inr late ↦
-      let e : moment ≡ m = omega arith in
-      subst (λ (k : ℕ). IsMomentVerdict plan start (take k events) moments.Pass) e here
-]
 
 -- what a pass says of every cut of every moment
 pub all_pass : (plan : List Operation) (start : List (List ℕ)) (events : List Event) (number : ℕ) (images : Option ℕ) →
@@ -33,3 +25,11 @@ pub all_pass : (plan : List Operation) (start : List (List ℕ)) (events : List 
 all_pass plan start events number images v moment cut h c =
     let passed : Passes plan start (take moment events) cut = (v.2 moment (omega arith) (omega arith)).1 cut c in
     (passed.volume, passed.recovers, passed.legal)
+
+-- the verdict on some moments of a run, by other names
+pub part_of : (run same : RunView) (first from end until : ℕ) (verdict : Verdict Cause) → run ≡ same → first ≡ from → end ≡ until →
+    IsVerdictBetween run.plan run.start run.events first end verdict → IsVerdictBetween same.plan same.start same.events from until verdict
+part_of run same first from end until verdict e begins ends is =
+    subst (λ (r : RunView). IsVerdictBetween r.plan r.start r.events from until verdict) e
+    (subst (λ (n : ℕ). IsVerdictBetween run.plan run.start run.events from n verdict) ends
+    (subst (λ (n : ℕ). IsVerdictBetween run.plan run.start run.events n end verdict) begins is))

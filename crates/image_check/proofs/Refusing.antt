@@ -1,8 +1,8 @@
 -- Why a check is refused.
-use Rattle.std.proofs.Common.{ℕ, ◌<◌, List, length}
+use Rattle.std.proofs.Common.{ℕ, List}
 use Rattle.plan.specs.declared.operation.Operation.{Operation}
 use Rattle.store_trace.specs.declared.event.Event.{Event}
-use Rattle.image_check.specs.OrderFaults.{AreSound, IsFirstFault}
+use Rattle.image_check.specs.OrderFaults.{IsFirstFault}
 use Rattle.image_check.specs.Verdicts.{IsRefusal}
 use Rattle.image_check.specs.declared.fault.OpFault.{OpFault}
 use Rattle.image_check.specs.declared.fault.CheckFault.TheVariants as refused
@@ -10,7 +10,3 @@ use Rattle.image_check.specs.declared.fault.CheckFault.TheVariants as refused
 pub refused_operation : (plan : List Operation) (events : List Event) (moment : ℕ) (fault : OpFault) → IsFirstFault plan events fault →
     IsRefusal plan events moment (refused.Operation fault)
 refused_operation plan events moment fault h = h
-
-pub refused_moment : (plan : List Operation) (events : List Event) (moment : ℕ) → AreSound plan events (length events) → length events < moment →
-    IsRefusal plan events moment refused.NoSuchMoment
-refused_moment plan events moment s h = (s, h)

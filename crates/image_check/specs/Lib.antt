@@ -1,6 +1,5 @@
 pub mod Alike
 pub mod Branching
-pub mod EveryImage
 pub mod Growth
 pub mod Images
 pub mod Keeping

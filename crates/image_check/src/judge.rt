@@ -1,25 +1,21 @@
-//! What the verdicts are made of: the starting volume, the cuts of a moment, and the volumes that are legal there.
+//! What the verdicts are made of: the starting volume, and the volumes that are legal at a moment.
 
-ghost use Rattle.crash_image.specs.View.{HasLines};
 ghost use Rattle.image_check.specs.Growth.{AreApart, AreOutcomes};
 ghost use Rattle.image_check.specs.Images.{IsVolumeJudged};
 ghost use Rattle.image_check.specs.OrderFaults.{AreSound};
 ghost use Rattle.nova_log.specs.Volumes.{volume_of};
-ghost use Rattle.store_trace.specs.History.{at_moment};
-ghost use Rattle.store_trace.specs.TraceView.{IsEvent};
 ghost use Rattle.store_trace.specs.declared.event.Event.{Event as AnEvent};
 ghost use Rattle.volume.specs.declared.entry.Entry.{Entry as AnEntry};
-ghost use Rattle.std.specs.Prelude.{◌≡◌, ℕ, ◌+◌, ◌≤◌, List, All, Option, length, take, IfErr, IfOk, OnOk};
+ghost use Rattle.std.specs.Prelude.{◌≡◌, ℕ, ◌+◌, List, Option, length, take, IfErr, IfOk, OnOk};
 ghost use Rattle.std.specs.Result.{result_ok};
 
 use crate::legal::Outcomes;
 use crate::{Cause, CheckFault};
-use crash_image::Cuts;
 use line_memory::Medium;
 use nova_log::{VolumeFault, recover};
 use plan::Plan;
 use std::alloc::{AllocError, Global};
-use store_trace::{Event, Trace};
+use store_trace::Trace;
 use volume::Volume;
 
 /// The volume of the starting medium, if it has one.
@@ -31,34 +27,6 @@ pub fn starting_volume(alloc: Global, medium: &Medium) -> Result<Option<Volume>,
         Ok(volume) => Ok(Some(volume)),
         Err(VolumeFault::Memory) => Err(CheckFault::Memory),
         Err(_fault) => Ok(None),
-    }
-}
-
-/// The first `moment` events.
-pub fn first_events(trace: &Trace, moment: u32) -> &[Event]
-    requires { moment ≤ length trace.now.events }
-    ensures events { result.now ≡ take moment trace.now.events }
-    ensures each { All IsEvent trace.now.events }
-{
-    &trace.events()[..moment as usize]
-}
-
-/// The cuts of a moment that is there.
-pub fn cuts_at<'a>(
-    alloc: Global,
-    medium: &'a Medium,
-    trace: &'a Trace,
-    moment: u32,
-) -> Result<Cuts<'a>, CheckFault>
-    requires lines { HasLines medium.now trace.now.events }
-    requires there { moment ≤ length trace.now.events }
-    ensures ok { IfOk result (λ cuts. (cuts.start ≡ medium.now)
-        × (cuts.steps ≡ at_moment trace.now.events moment)) }
-    ensures err { IfErr result (λ fault. fault ≡ CheckFault.Memory) }
-{
-    match Cuts::at(alloc, medium, trace, moment) {
-        Ok(cuts) => Ok(cuts),
-        Err(_refused) => Err(CheckFault::Memory),
     }
 }
 

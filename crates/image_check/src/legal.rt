@@ -39,24 +39,6 @@ impl Outcomes {
         }
     }
 
-    /// What the volumes after these events may be, which fit the plan.
-    pub fn after(
-        alloc: Global,
-        plan: &Plan,
-        start: Option<Volume>,
-        events: &[Event],
-    ) -> Result<Outcomes, AllocError>
-        requires { AreSound plan.now.operations events.now (length events.now) }
-        ensures { IfOk result (λ outcomes.
-            AreOutcomes plan.now.operations start events.now outcomes.settled outcomes.under_way.items) }
-    {
-        let mut outcomes = Outcomes::new(alloc, start);
-        for event in events {
-            outcomes.note(plan, *event)?;
-        }
-        Ok(outcomes)
-    }
-
     /// Takes in the event after those so far. An operation that begins in it hasn't ended.
     pub fn note(&mut self, plan: &Plan, event: Event) -> Result<(), AllocError>
         ensures { OnOk result ((start : Option (List (List AnEntry))) (before : List AnEvent) →

@@ -1,6 +1,5 @@
 //! Judging the moments of a run one by one, by one judge or by several that share the run.
 
-ghost use Rattle.crash_image.specs.Totals.{IsImageSum};
 ghost use Rattle.crash_image.specs.View.{HasLines};
 ghost use Rattle.image_check.specs.Growth.{AreOutcomes};
 ghost use Rattle.image_check.specs.Keeping.{KeepsPass};
@@ -11,27 +10,33 @@ ghost use Rattle.moment_verdict.specs.Verdicts.{IfPassed};
 ghost use Rattle.nova_log.specs.Volumes.{volume_of};
 ghost use Rattle.store_trace.specs.History.{at_moment};
 ghost use Rattle.store_trace.specs.declared.event.Event.{Event as AnEvent};
-ghost use Rattle.std.specs.Prelude.{◌≡◌, ◌+◌, ◌^◌, ◌<◌, ◌≤◌, length, slice_index_or, take, IfErr, IfOk, IfSome, IsTrue, OnOk};
+ghost use Rattle.std.specs.Prelude.{◌≡◌, ◌↔◌, ◌+◌, ◌^◌, ◌<◌, ◌≤◌, length, slice_index_or, take, IfErr, IfOk, IfSome, IsTrue, OnOk};
 ghost use Rattle.std.specs.Result.{result_ok};
 
 use crate::judge::{note_next, starting_volume};
 use crate::legal::Outcomes;
 use crate::moment_images::MomentImages;
 use crate::order::check_trace;
-use crate::run::spoils_nothing;
 use crate::{Cause, CheckFault};
 use branches::Opener;
 use crash_image::images_between;
 use line_memory::Medium;
-use moment_verdict::{MomentVerdict, open_moment_shared};
+use moment_verdict::{MomentVerdict, is_unseen, open_moment};
 use nova_log::KeptVolume;
+use parallel_moments::Moments;
 use plan::Plan;
 use std::alloc::{AllocError, Global};
 use std::marker::Model;
 use std::thread::Threads;
-use store_trace::Trace;
+use store_trace::{Event, Trace};
 use trace_index::TraceIndex;
 use volume::Volume;
+
+/// The most moments that are worth one worker alone: a further one takes some time to start.
+const MOMENTS_OF_ONE: u32 = 8;
+
+/// A further worker is worth so many moments.
+const MOMENTS_OF_MORE: u32 = 128;
 
 /// A run whose marks are right, with what its moments are judged by. Judges of moments share it.
 ///
@@ -116,13 +121,63 @@ impl<'a> SoundRun<'a> {
     {
         self.moments
     }
+}
 
-    /// How many images the moments from `first` on that are below `end` have together. None where one of them has over 65,536.
-    pub fn images(&self, alloc: Global, first: u32, end: u32) -> Result<Option<u64>, AllocError>
-        requires { end ≤ length self.now.events + 1 }
-        ensures { IfOk result (λ images. IsImageSum self.now.events first end images) }
-    {
+/// What a worker keeps from one moment to the next. A moment costs least after an earlier one that passes: what lies between them, and
+/// one run of recovery for each branch only where one of the events between changes what recovery asked there.
+#[derive(Drop)]
+pub struct MomentJudge {
+    pub(crate) opener: Opener,
+    /// None after an error, and at first.
+    pub(crate) standing: Option<Standing>,
+}
+
+impl Moments for SoundRun<'_> {
+    ghost use Rattle.image_check.specs.Standing.{StandsIn};
+    ghost use Rattle.image_check.specs.Verdicts.{judged_at};
+
+    type Cause = Cause;
+
+    type Judge = MomentJudge;
+
+    ghost events = { λ s. s.events };
+
+    ghost judged = { λ s moment verdict. judged_at s.plan s.start s.events moment verdict };
+
+    ghost keeps = { λ s judge. StandsIn s judge };
+
+    fn judge(&self, alloc: Global) -> Result<MomentJudge, AllocError> {
+        Ok(MomentJudge {
+            opener: Opener::new(alloc, self.lines)?,
+            standing: None,
+        })
+    }
+
+    fn judge_moment<T: Threads + Sync>(
+        &self,
+        rt: &T,
+        alloc: Global,
+        judge: &mut MomentJudge,
+        moment: u32,
+    ) -> Result<MomentVerdict<Cause>, AllocError> {
+        let last = judge.standing.take();
+        let mut standing = stand_before(alloc, self, &judge.opener, last, moment)?;
+        standing.advance(self, &judge.opener, moment)?;
+        let verdict = standing.judge(rt, alloc, self, &mut judge.opener)?;
+        judge.standing = Some(standing);
+        Ok(verdict)
+    }
+
+    fn images(&self, alloc: Global, first: u32, end: u32) -> Result<Option<u64>, AllocError> {
         images_between(alloc, self.trace, first, end)
+    }
+
+    fn workers(&self, moments: u32) -> u32 {
+        if moments <= MOMENTS_OF_ONE {
+            1
+        } else {
+            2 + moments / MOMENTS_OF_MORE
+        }
     }
 }
 
@@ -139,7 +194,7 @@ pub struct Standing {
 impl Standing {
     /// At the beginning of the run, of which nothing is known.
     fn first(alloc: Global, run: &SoundRun, opener: &Opener) -> Result<Standing, AllocError>
-        ensures standing { IfOk result (λ standing. IsStanding run.now opener.now standing) }
+        ensures standing { IfOk result (IsStanding run.now opener.now) }
         ensures moment { IfOk result (λ standing. standing.moment ≡ 0) }
     {
         let before = copy_of(alloc, &run.before)?;
@@ -231,7 +286,7 @@ fn open_at<T: Threads + Sync>(
     let images = MomentImages::new(&run.index, run.plan, outcomes, moment);
     let (medium, trace) = (run.medium, run.trace);
     let mut kept = KeptVolume::new(alloc);
-    let verdict = open_moment_shared(rt, alloc, medium, trace, moment, &images, &mut kept, opener)?;
+    let verdict = open_moment(rt, alloc, medium, trace, moment, &images, &mut kept, opener)?;
     Ok(verdict)
 }
 
@@ -251,8 +306,8 @@ fn stand_before(
     last: Option<Standing>,
     moment: u32,
 ) -> Result<Standing, AllocError>
-    requires { IfSome last (λ standing. IsStanding run.now opener.now standing) }
-    ensures standing { IfOk result (λ standing. IsStanding run.now opener.now standing) }
+    requires { IfSome last (IsStanding run.now opener.now) }
+    ensures standing { IfOk result (IsStanding run.now opener.now) }
     ensures before { IfOk result (λ standing. standing.moment ≤ moment) }
 {
     if let Some(standing) = last {
@@ -263,64 +318,12 @@ fn stand_before(
     Standing::first(alloc, run, opener)
 }
 
-/// A judge of the moments of a run. A moment costs least after an earlier one that passes: what lies between them, and one
-/// run of recovery for each branch only where one of the events between changes what recovery asked there.
-///
-/// A contract sees the run.
-#[derive(Drop)]
-pub struct MomentJudge<'a, 'b> {
-    run: &'a SoundRun<'b>,
-    opener: Opener,
-    /// None after an error.
-    standing: Option<Standing>,
-}
-
-impl<'a, 'b> Model for MomentJudge<'a, 'b> {
-    ghost use Rattle.image_check.specs.RunViews.{RunView};
-
-    ghost Value = { RunView };
-
-    ghost use Rattle.image_check.specs.Standing.{IsStanding};
-    ghost use Rattle.std.specs.Prelude.{◌≡◌, length, IfSome};
-
-    ghost view = { λ j. j.run.now };
-
-    ghost invariant = { λ j. (length j.opener ≡ length j.run.now.start)
-        × IfSome j.standing (λ standing. IsStanding j.run.now j.opener standing) };
-}
-
-impl<'a, 'b> MomentJudge<'a, 'b> {
-    /// A judge that has seen no moment yet.
-    pub fn new(alloc: Global, run: &'a SoundRun<'b>) -> Result<MomentJudge<'a, 'b>, AllocError>
-        ensures { IfOk result (λ judge. judge ≡ run.now) }
-    {
-        Ok(MomentJudge {
-            run,
-            opener: Opener::new(alloc, run.lines)?,
-            standing: None,
-        })
-    }
-
-    /// The verdict on the state after the first `moment` events: on all its images, as `check_moment` gives it.
-    ///
-    /// Where the moment has many branches they are opened in threads of their own, if these can be started.
-    pub fn judge<T: Threads + Sync>(
-        &mut self,
-        rt: &T,
-        alloc: Global,
-        moment: u32,
-    ) -> Result<MomentVerdict<Cause>, AllocError>
-        requires { moment ≤ length self.old.events }
-        ensures ok { IfOk result (λ verdict.
-            IsMomentVerdict self.old.plan self.old.start (take moment self.old.events) verdict) }
-        ensures same { self.new ≡ self.old }
-    {
-        let run = self.run;
-        let last = self.standing.take();
-        let mut standing = stand_before(alloc, run, &self.opener, last, moment)?;
-        standing.advance(run, &self.opener, moment)?;
-        let verdict = standing.judge(rt, alloc, run, &mut self.opener)?;
-        self.standing = Some(standing);
-        Ok(verdict)
+/// Whether the event changes nothing that recovery looked at, and forbids no volume.
+fn spoils_nothing(event: Event, opener: &Opener) -> bool
+    ensures { IsTrue result ↔ KeepsPass opener.now event }
+{
+    match event {
+        Event::End { .. } => false,
+        _ => is_unseen(event, opener),
     }
 }

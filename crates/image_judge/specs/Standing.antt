@@ -1,7 +1,9 @@
 -- What a judge of moments knows of the moment that it judged last.
-use Rattle.std.specs.Prelude.{◌≤◌, ℕ, Bool, List, length}
+use Rattle.std.specs.Prelude.{◌≡◌, ◌≤◌, ℕ, Bool, List, IfSome, length}
+use Rattle.image_judge.specs.Gathered.{AreKept}
 use Rattle.image_judge.specs.RightAnswers.{IsFoundOf, LoadsOf, is_among}
 use Rattle.image_judge.specs.Views.{JudgeView}
+use Rattle.image_judge.specs.declared.judge.MomentJudge.{MomentJudge}
 use Rattle.judge_marks.specs.Windows.{IsWindow}
 use Rattle.judge_marks.specs.declared.moments.Window.{Window}
 use Rattle.moment_verdict.specs.Verdicts.{AreFlagged, IsMomentVerdict}
@@ -14,3 +16,11 @@ pub record IsPassed (view : JudgeView) (flags : List Bool) (window : Window) (m 
   pub is_window : IsWindow view.events m window
   pub flagged : AreFlagged (LoadsOf view m) (at_moment view.events m) flags
   pub passes : IsMomentVerdict (LoadsOf view m) (IsFoundOf view (is_among window m) m) (at_moment view.events m) moments.Pass
+
+-- what a worker keeps is right, and of the run's routine and medium
+pub record StandsIn (view : JudgeView) (judge : MomentJudge) : Type 0 where
+  pub size : length judge.opener ≡ length view.start
+  pub program : judge.routine.program ≡ view.routine
+  pub lines : judge.routine.lines ≡ length view.start
+  pub kept : AreKept view judge.answers.window judge.answers.right
+  pub passed : IfSome judge.passed (λ m. IsPassed view judge.opener judge.answers.window m)

@@ -12,90 +12,83 @@ use crate::passing::still_passes;
 use crate::run::MarkedRun;
 use crate::window::WindowAnswers;
 use branches::Opener;
+use crash_image::images_between;
 use judge_marks::windows_lie_in_the_run;
-use moment_verdict::{MomentVerdict, open_moment_shared};
+use moment_verdict::{MomentVerdict, open_moment};
+use parallel_moments::Moments;
 use recovery::Routine;
 use std::alloc::{AllocError, Global};
-use std::marker::Model;
 use std::thread::Threads;
 
-/// A judge of the moments of a run: it runs the routine once for each branch of a moment, and once on each full image that gives a right
-/// answer. While the same operation is pending the right answers are made once, and a moment right after one that passes is opened only
-/// where the event between them changes what the routine loads.
-///
-/// A contract sees the run.
+/// What a worker keeps from one moment to the next: the routine runs once for each branch of a moment, and once on each full image that
+/// gives a right answer. While the same operation is pending the right answers are made once, and a moment right after one that passes is
+/// opened only where the event between them changes what the routine loads.
 #[derive(Drop)]
-pub struct MomentJudge<'a, 'b> {
-    run: &'a MarkedRun<'b>,
-    opener: Opener,
-    routine: Routine,
-    answers: WindowAnswers,
-    /// The moment that was judged last, if it passes: the opener then has the lines that the routine loads there. None after an error.
-    passed: Option<u32>,
+pub struct MomentJudge {
+    pub(crate) opener: Opener,
+    pub(crate) routine: Routine,
+    pub(crate) answers: WindowAnswers,
+    /// The moment that was judged last, if it passes: the opener then has the lines that the routine loads there.
+    pub(crate) passed: Option<u32>,
 }
 
-impl<'a, 'b> Model for MomentJudge<'a, 'b> {
-    ghost use Rattle.image_judge.specs.Gathered.{AreKept};
-    ghost use Rattle.image_judge.specs.Standing.{IsPassed};
-    ghost use Rattle.image_judge.specs.Views.{JudgeView};
-    ghost use Rattle.std.specs.Prelude.{◌≡◌, length, IfSome};
+impl Moments for MarkedRun<'_> {
+    ghost use Rattle.image_judge.specs.Standing.{StandsIn};
+    ghost use Rattle.image_judge.specs.Verdicts.{IsJudged};
 
-    ghost Value = { JudgeView };
+    type Cause = Cause;
 
-    ghost view = { λ j. j.run.now };
+    type Judge = MomentJudge;
 
-    ghost invariant = { λ j. (length j.opener ≡ length j.run.now.start)
-        × (j.routine.program ≡ j.run.now.routine)
-        × (j.routine.lines ≡ length j.run.now.start)
-        × AreKept j.run.now j.answers.window j.answers.right
-        × IfSome j.passed (λ m. IsPassed j.run.now j.opener j.answers.window m) };
-}
+    ghost events = { λ s. s.events };
 
-impl<'a, 'b> MomentJudge<'a, 'b> {
-    /// A judge that has seen no moment yet.
-    pub fn new(alloc: Global, run: &'a MarkedRun<'b>) -> Result<MomentJudge<'a, 'b>, AllocError>
-        ensures { IfOk result (λ judge. judge ≡ run.now) }
-    {
+    ghost judged = { λ s moment verdict. IsJudged s moment verdict };
+
+    ghost keeps = { λ s judge. StandsIn s judge };
+
+    fn judge(&self, alloc: Global) -> Result<MomentJudge, AllocError> {
         Ok(MomentJudge {
-            run,
-            opener: Opener::new(alloc, run.lines)?,
-            routine: run.routine(alloc)?,
+            opener: Opener::new(alloc, self.lines)?,
+            routine: self.routine(alloc)?,
             answers: WindowAnswers::none(alloc),
             passed: None,
         })
     }
 
-    /// The verdict on the state after the first `moment` events: on all its images. Where the moment has many branches they are opened in
-    /// threads of their own, if these can be started.
-    pub fn judge<T: Threads + Sync>(
-        &mut self,
+    fn judge_moment<T: Threads + Sync>(
+        &self,
         rt: &T,
         alloc: Global,
+        judge: &mut MomentJudge,
         moment: u32,
-    ) -> Result<MomentVerdict<Cause>, AllocError>
-        requires { moment ≤ length self.old.events }
-        ensures ok { IfOk result (IsJudged self.old moment) }
-        ensures same { self.new ≡ self.old }
-    {
-        let run = self.run;
-        let passed = self.passed.take();
-        if still_passes(run, passed, self.answers.window, &self.opener, moment) {
-            self.passed = Some(moment);
+    ) -> Result<MomentVerdict<Cause>, AllocError> {
+        let passed = judge.passed.take();
+        if still_passes(self, passed, judge.answers.window, &judge.opener, moment) {
+            judge.passed = Some(moment);
             return Ok(MomentVerdict::Pass);
         }
         let verdict = open_at(
             rt,
             alloc,
-            run,
+            self,
             moment,
-            &mut self.routine,
-            &mut self.answers,
-            &mut self.opener,
+            &mut judge.routine,
+            &mut judge.answers,
+            &mut judge.opener,
         )?;
         if verdict.is_pass() {
-            self.passed = Some(moment);
+            judge.passed = Some(moment);
         }
         Ok(verdict)
+    }
+
+    fn images(&self, alloc: Global, first: u32, end: u32) -> Result<Option<u64>, AllocError> {
+        images_between(alloc, self.trace, first, end)
+    }
+
+    /// As many as there are: to run the routine takes longer than to start a worker.
+    fn workers(&self, _moments: u32) -> u32 {
+        u32::MAX
     }
 }
 
@@ -126,6 +119,6 @@ fn open_at<T: Threads + Sync>(
     let window = run.window(moment);
     answers.renew(alloc, run, routine, window, moment)?;
     let images = MomentImages::new(run, moment, window, &answers.right);
-    let verdict = open_moment_shared(rt, alloc, medium, trace, moment, &images, routine, opener)?;
+    let verdict = open_moment(rt, alloc, medium, trace, moment, &images, routine, opener)?;
     Ok(verdict)
 }

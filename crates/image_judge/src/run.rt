@@ -1,6 +1,5 @@
 //! A run whose moments are judged by a recovery routine.
 
-ghost use Rattle.crash_image.specs.Totals.{IsImageSum};
 ghost use Rattle.crash_image.specs.View.{HasLines};
 ghost use Rattle.image_check.specs.Marks.{begun, begun_by};
 ghost use Rattle.image_judge.specs.Verdicts.{IsRefusal, first_judged, judged_from};
@@ -9,7 +8,6 @@ ghost use Rattle.judge_marks.specs.Windows.{IsWindow};
 ghost use Rattle.std.specs.Prelude.{◌≡◌, ◌≢◌, ◌+◌, ◌≤◌, [], length, is_some, IfErr, IfOk};
 
 use crate::JudgeFault;
-use crash_image::images_between;
 use judge_marks::{MarkFault, Window, Windows, check_marks};
 use line_memory::Medium;
 use program::Program;
@@ -137,14 +135,6 @@ impl<'a> MarkedRun<'a> {
         ensures { result ≡ judged_from self.now.events first end }
     {
         first.max(self.begin).min(end)
-    }
-
-    /// How many images the moments from `first` on that are below `end` have together. None where one of them has over 65,536.
-    pub fn images(&self, alloc: Global, first: u32, end: u32) -> Result<Option<u64>, AllocError>
-        requires { end ≤ length self.now.events + 1 }
-        ensures { IfOk result (λ images. IsImageSum self.now.events first end images) }
-    {
-        images_between(alloc, self.trace, first, end)
     }
 
     /// A routine of its own for a judge of the run's moments.

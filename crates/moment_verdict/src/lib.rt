@@ -6,7 +6,7 @@
 
 pub use image_name::ImageName;
 pub use laws::{Judging, verdicts_join};
-pub use opening::{open_moment, open_moment_shared};
+pub use opening::open_moment;
 pub use unseen::is_unseen;
 pub use verdict::{MomentVerdict, Verdict};
 

@@ -23,36 +23,9 @@ use store_trace::Trace;
 const MAX_BRANCHES: u32 = 65_536;
 
 /// The verdict on the state after the first `moment` events of the trace, which started from the medium: its images are those that the
-/// recovery has for cuts, and they are judged by one run of it for each branch. The medium has every line that the trace names. Where
-/// the moment passes, the opener has each line that recovery asks.
-pub fn open_moment<R: Recovery>(
-    alloc: Global,
-    medium: &Medium,
-    trace: &Trace,
-    moment: u32,
-    recovery: &R,
-    workspace: &mut R::Workspace,
-    opener: &mut Opener,
-) -> Result<MomentVerdict<R::Cause>, AllocError>
-    requires lines { HasLines medium.now trace.now.events }
-    requires there { moment ≤ length trace.now.events }
-    requires count { R.lines recovery.now ≡ length medium.now }
-    requires size { length opener.old ≡ length medium.now }
-    requires low { R.low recovery.now ≡ (λ l. floor l (at_moment trace.now.events moment)) }
-    requires high { R.high recovery.now ≡ (λ l. stores l (at_moment trace.now.events moment)) }
-    requires alike { (k c : ℕ → ℕ) (found : Option R.Cause) → ((l : ℕ) → k l ≡ c l) → R.judged recovery.now c found → R.judged recovery.now k found }
-    requires fits { R.fits recovery.now workspace.old }
-    ensures ok { IfOk result (IsMomentVerdict (R.asks recovery.now) (R.judged recovery.now) (at_moment trace.now.events moment)) }
-    ensures asked { IfOk result (λ verdict. IfPassed verdict (AreFlagged (R.asks recovery.now) (at_moment trace.now.events moment) opener.new)) }
-    ensures size { length opener.new ≡ length opener.old }
-    ensures fits { R.fits recovery.now workspace.new }
-{
-    let opened = opener.open(alloc, recovery, workspace, MAX_BRANCHES)?;
-    verdict_of(alloc, medium, trace, moment, recovery, opener, opened)
-}
-
-/// The verdict on a moment as `open_moment` gives it, whose branches are opened in threads of their own where there are many.
-pub fn open_moment_shared<R: Recovery + Sync, T: Threads + Sync>(
+/// recovery has for cuts, and they are judged by one run of it for each branch, in threads of their own where there are many. The medium
+/// has every line that the trace names. Where the moment passes, the opener has each line that recovery asks.
+pub fn open_moment<R: Recovery + Sync, T: Threads + Sync>(
     rt: &T,
     alloc: Global,
     medium: &Medium,
@@ -75,7 +48,7 @@ pub fn open_moment_shared<R: Recovery + Sync, T: Threads + Sync>(
     ensures size { length opener.new ≡ length opener.old }
     ensures fits { R.fits recovery.now workspace.new }
 {
-    let opened = opener.open_shared(rt, alloc, recovery, workspace, MAX_BRANCHES)?;
+    let opened = opener.open(rt, alloc, recovery, workspace, MAX_BRANCHES)?;
     verdict_of(alloc, medium, trace, moment, recovery, opener, opened)
 }
 

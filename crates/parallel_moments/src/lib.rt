@@ -5,10 +5,10 @@
 #![tactic(auto)]
 
 pub use moments::Moments;
+pub use part::Part;
 pub use rows::end_at;
-pub use sweep::judge_between;
 
 mod moments;
+mod part;
 mod rows;
 mod stretches;
-mod sweep;

@@ -1,4 +1,4 @@
-//! Tests of `check_desk` and `parallel_check`: desks and sweeps, small runs, and their verdicts by several workers. The crate has
+//! Tests of `check_desk` and `image_check::check_parallel`: desks and sweeps, small runs, and their verdicts by several workers. The crate has
 //! tests alone.
 
 mod desks;

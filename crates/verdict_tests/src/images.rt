@@ -8,6 +8,7 @@ mod image_names;
 mod images;
 mod indexes;
 mod models;
+mod plain_check;
 mod second_layout;
 mod traces;
 mod verdicts;

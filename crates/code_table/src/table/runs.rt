@@ -44,7 +44,7 @@ static RUNS: [Row; 10] = [
     (
         "M3",
         "a medium's file of a wrong length",
-        "A medium has 512 to 16,384 whole cache lines of 64 bytes; `novacrash mkfs` writes one.",
+        "A medium has 512 to 16,384 whole cache lines of 64 bytes; `truncate -s 32768 FILE` makes one of zeros, `novacrash mkfs` one with a volume.",
     ),
     (
         "C1",

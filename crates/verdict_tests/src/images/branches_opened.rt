@@ -6,6 +6,7 @@ ghost use Rattle.std.specs.Prelude.{◌≡◌, ◌≤◌, length};
 use branches::{Opened, Opener, Recovery};
 use std::alloc::{AllocError, Global};
 use std::test::Fail;
+use std::thread::Threads;
 
 /// Asks line 0, and lines 1 and 2 only where line 0 has so many stores as the key. Then the image is bad where line 1 has at least
 /// so many stores, and that number is the cause. Each line stands after none of its stores, or more.
@@ -159,7 +160,8 @@ static OPENINGS: [(Small, u32, Outcome, [bool; 4]); 6] = [
 ];
 
 /// What the branches of the recovery come to.
-fn outcome_of(
+fn outcome_of<R: Threads + Sync>(
+    rt: &R,
     alloc: Global,
     opener: &mut Opener,
     recovery: &Small,
@@ -169,7 +171,7 @@ fn outcome_of(
     requires some { 1 ≤ limit }
     ensures { length opener.new ≡ 3 }
 {
-    match opener.open(alloc, recovery, &mut (), limit)? {
+    match opener.open(rt, alloc, recovery, &mut (), limit)? {
         Opened::Over => Ok(Outcome::Over),
         Opened::Pass => Ok(Outcome::Pass),
         Opened::Bad { numbers, cause } => Ok(Outcome::Bad(three(&numbers), cause)),
@@ -185,10 +187,10 @@ fn three(numbers: &[u32]) -> [u32; 3] {
 }
 
 /// The place of the first opening that doesn't come to what it should.
-fn first_wrong(alloc: Global) -> Result<Option<usize>, AllocError> {
+fn first_wrong<R: Threads + Sync>(rt: &R, alloc: Global) -> Result<Option<usize>, AllocError> {
     let mut opener = Opener::new(alloc, 3)?;
     for (place, (recovery, limit, outcome, asked)) in OPENINGS.iter().enumerate() {
-        if *limit == 0 || outcome_of(alloc, &mut opener, recovery, *limit)? != *outcome {
+        if *limit == 0 || outcome_of(rt, alloc, &mut opener, recovery, *limit)? != *outcome {
             return Ok(Some(place));
         }
         let were_asked = [
@@ -206,6 +208,6 @@ fn first_wrong(alloc: Global) -> Result<Option<usize>, AllocError> {
 
 #[test]
 fn openings_in_turn(rt: HostRuntime) -> Result<(), Fail> {
-    assert_eq!(rt; first_wrong(rt.alloc())?, None);
+    assert_eq!(rt; first_wrong(&rt, rt.alloc())?, None);
     Ok(())
 }

@@ -13,6 +13,7 @@ use plan::Plan;
 use std::alloc::Global;
 use std::process::Abort;
 use std::test::Fail;
+use std::thread::Threads;
 use store_trace::Trace;
 
 /// What is to be found of a run from a new volume.
@@ -127,7 +128,7 @@ static RUNS: [(&[u8], Parts, Claim); 4] = [
 
 /// Whether a claim holds of the run with these events, from a new volume of the plan's own counts on 512 lines.
 fn holds(
-    rt: &(impl AllocGlobal + Abort),
+    rt: &(impl AllocGlobal + Abort + Threads + Sync),
     text: &[u8],
     events: Parts,
     claim: Claim,
@@ -135,14 +136,21 @@ fn holds(
     let plan = Plan::read(rt.alloc(), text)?;
     let medium = fresh(rt.alloc(), &plan)?;
     let trace = trace_of(rt, events)?;
-    Ok(holds_of(rt.alloc(), &plan, &medium, &trace, claim))
+    Ok(holds_of(rt, rt.alloc(), &plan, &medium, &trace, claim))
 }
 
-fn holds_of(alloc: Global, plan: &Plan, medium: &Medium, trace: &Trace, claim: Claim) -> bool {
+fn holds_of<R: Threads + Sync>(
+    rt: &R,
+    alloc: Global,
+    plan: &Plan,
+    medium: &Medium,
+    trace: &Trace,
+    claim: Claim,
+) -> bool {
     if !has_lines(medium, trace) {
         return false;
     }
-    is_so(judge(alloc, plan, medium, trace), claim)
+    is_so(judge(rt, alloc, plan, medium, trace), claim)
 }
 
 fn fresh(alloc: Global, plan: &Plan) -> Result<Medium, VolumeFault> {
@@ -157,7 +165,8 @@ fn fresh(alloc: Global, plan: &Plan) -> Result<Medium, VolumeFault> {
 }
 
 /// The verdict on a run, asked for again where memory was refused.
-fn judge(
+fn judge<R: Threads + Sync>(
+    rt: &R,
     alloc: Global,
     plan: &Plan,
     medium: &Medium,
@@ -165,8 +174,8 @@ fn judge(
 ) -> Result<Verdict<Cause>, CheckFault>
     requires { HasLines medium.now trace.now.events }
 {
-    match check_run(alloc, plan, medium, trace) {
-        Err(CheckFault::Memory) => check_run(alloc, plan, medium, trace),
+    match check_run(rt, alloc, plan, medium, trace) {
+        Err(CheckFault::Memory) => check_run(rt, alloc, plan, medium, trace),
         verdict => verdict,
     }
 }
@@ -211,7 +220,7 @@ fn is_number(image: &ImageName, number: u32) -> bool {
 }
 
 /// The place of the first run of which the claim doesn't hold.
-fn first_wrong(rt: &(impl AllocGlobal + Abort)) -> Result<Option<usize>, Fail> {
+fn first_wrong(rt: &(impl AllocGlobal + Abort + Threads + Sync)) -> Result<Option<usize>, Fail> {
     for (place, (text, events, claim)) in RUNS.iter().enumerate() {
         if !holds(rt, *text, *events, *claim)? {
             return Ok(Some(place));

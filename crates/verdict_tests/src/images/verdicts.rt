@@ -6,10 +6,11 @@
 ghost use Rattle.crash_image.specs.View.{HasLines};
 
 use crate::images::events::{Made, Parts, trace_of};
+use crate::images::plain_check::{MomentByImages, RunByImages, check_run_by_images};
 use crash_image::{Cuts, has_lines};
 use image_check::{
-    Cause, CheckFault, ImageName, MomentByImages, MomentVerdict, OpFault, RunByImages, Verdict,
-    check_moment, check_moment_by_images, check_run, check_run_by_images, check_trace,
+    Cause, CheckFault, ImageName, MomentVerdict, OpFault, Verdict, check_moment, check_run,
+    check_trace,
 };
 use line_memory::Medium;
 use nova_log::{Layout, VolumeFault, mkfs};
@@ -17,6 +18,7 @@ use plan::Plan;
 use std::alloc::{AllocError, Global};
 use std::process::Abort;
 use std::test::Fail;
+use std::thread::Threads;
 use store_trace::Trace;
 
 /// What is to be found of a run.
@@ -24,10 +26,10 @@ use store_trace::Trace;
 enum Claim {
     /// Its verdict, which the plain check gives too.
     Verdict(RunByImages),
-    /// It passes with so many moments, and the plain check finds too many images at this one.
+    /// It passes with so many moments, and this one has too many images to be counted.
     PassOver(u64, u32),
-    /// It fails at this moment, whose least bad image is named by these lines, and the plain check finds too many images at
-    /// this moment.
+    /// It fails at this moment, whose least bad image is named by these lines, for this cause; the moment given last has too many images to
+    /// be counted.
     FailOver(u32, &'static [(u32, u32)], Cause, u32),
     /// The number of images of a moment, None where they aren't counted, and the moment's verdict.
     Moment(u32, Option<u32>, Result<MomentByImages, CheckFault>),
@@ -47,7 +49,10 @@ struct Family {
 
 impl Family {
     /// The place of the first run of which the claim doesn't hold.
-    fn first_wrong(&self, rt: &(impl AllocGlobal + Abort)) -> Result<Option<usize>, Fail> {
+    fn first_wrong(
+        &self,
+        rt: &(impl AllocGlobal + Abort + Threads + Sync),
+    ) -> Result<Option<usize>, Fail> {
         for (place, (events, claim)) in self.runs.iter().enumerate() {
             if !self.holds(rt, events, *claim)? {
                 return Ok(Some(place));
@@ -58,14 +63,14 @@ impl Family {
 
     fn holds(
         &self,
-        rt: &(impl AllocGlobal + Abort),
+        rt: &(impl AllocGlobal + Abort + Threads + Sync),
         events: Parts,
         claim: Claim,
     ) -> Result<bool, Fail> {
         let plan = Plan::read(rt.alloc(), self.plan)?;
         let medium = start_of(rt.alloc(), self.inodes)?;
         let trace = trace_of(rt, events)?;
-        Ok(holds_of(rt.alloc(), &plan, &medium, &trace, claim))
+        Ok(holds_of(rt, rt.alloc(), &plan, &medium, &trace, claim))
     }
 }
 
@@ -86,28 +91,37 @@ fn lines_for(pages: u32) -> u32 {
     }
 }
 
-fn holds_of(alloc: Global, plan: &Plan, medium: &Medium, trace: &Trace, claim: Claim) -> bool {
+fn holds_of<R: Threads + Sync>(
+    rt: &R,
+    alloc: Global,
+    plan: &Plan,
+    medium: &Medium,
+    trace: &Trace,
+    claim: Claim,
+) -> bool {
     if !has_lines(medium, trace) {
         return false;
     }
     match claim {
-        Claim::Verdict(verdict) => are_both(alloc, plan, medium, trace, Ok(verdict)),
+        Claim::Verdict(verdict) => are_both(rt, alloc, plan, medium, trace, Ok(verdict)),
         Claim::PassOver(moments, over) => {
-            passes_over(alloc, plan, medium, trace, moments)
-                && is_over(alloc, plan, medium, trace, over)
+            passes_over(rt, alloc, plan, medium, trace, moments)
+                && count_of(alloc, medium, trace, over).is_none()
         }
         Claim::FailOver(moment, lines, cause, over) => {
-            fails_over(alloc, plan, medium, trace, moment, lines, cause)
-                && is_over(alloc, plan, medium, trace, over)
+            fails_over(rt, alloc, plan, medium, trace, moment, lines, cause)
+                && count_of(alloc, medium, trace, over).is_none()
         }
         Claim::Moment(moment, count, verdict) => {
             count_of(alloc, medium, trace, moment) == count
-                && plain_moment(check_moment(alloc, plan, medium, trace, moment)) == Some(verdict)
+                && plain_moment(check_moment(rt, alloc, plan, medium, trace, moment))
+                    == Some(verdict)
         }
         Claim::RightMarks => check_trace(plan, trace) == Ok(()),
         Claim::WrongMarks(fault) => {
             check_trace(plan, trace) == Err(fault)
                 && are_both(
+                    rt,
                     alloc,
                     plan,
                     medium,
@@ -119,7 +133,8 @@ fn holds_of(alloc: Global, plan: &Plan, medium: &Medium, trace: &Trace, claim: C
 }
 
 /// Whether this is what the check by branches says, and the plain one.
-fn are_both(
+fn are_both<R: Threads + Sync>(
+    rt: &R,
     alloc: Global,
     plan: &Plan,
     medium: &Medium,
@@ -128,7 +143,7 @@ fn are_both(
 ) -> bool
     requires { HasLines medium.now trace.now.events }
 {
-    plain_verdict(judge(alloc, plan, medium, trace)) == Some(expected)
+    plain_verdict(judge(rt, alloc, plan, medium, trace)) == Some(expected)
         && is_plain(alloc, plan, medium, trace, expected)
 }
 
@@ -143,13 +158,6 @@ fn is_plain(
     requires { HasLines medium.now trace.now.events }
 {
     check_run_by_images(alloc, plan, medium, trace) == expected
-}
-
-/// Whether the plain check finds too many images at the moment.
-fn is_over(alloc: Global, plan: &Plan, medium: &Medium, trace: &Trace, moment: u32) -> bool
-    requires { HasLines medium.now trace.now.events }
-{
-    check_moment_by_images(alloc, plan, medium, trace, moment) == Ok(MomentByImages::TooMany)
 }
 
 /// A verdict as the plain check tells it. None where it has a moment with over 65,536 images.
@@ -197,10 +205,17 @@ fn plain_moment(
 }
 
 /// Whether the run passes with so many moments, of which one has over 65,536 images.
-fn passes_over(alloc: Global, plan: &Plan, medium: &Medium, trace: &Trace, expected: u64) -> bool
+fn passes_over<R: Threads + Sync>(
+    rt: &R,
+    alloc: Global,
+    plan: &Plan,
+    medium: &Medium,
+    trace: &Trace,
+    expected: u64,
+) -> bool
     requires { HasLines medium.now trace.now.events }
 {
-    match judge(alloc, plan, medium, trace) {
+    match judge(rt, alloc, plan, medium, trace) {
         Ok(
             Verdict::Pass {
                 moments,
@@ -212,7 +227,8 @@ fn passes_over(alloc: Global, plan: &Plan, medium: &Medium, trace: &Trace, expec
 }
 
 /// Whether the run fails at this moment, by an image that these lines name, for this cause.
-fn fails_over(
+fn fails_over<R: Threads + Sync>(
+    rt: &R,
     alloc: Global,
     plan: &Plan,
     medium: &Medium,
@@ -223,7 +239,7 @@ fn fails_over(
 ) -> bool
     requires { HasLines medium.now trace.now.events }
 {
-    match judge(alloc, plan, medium, trace) {
+    match judge(rt, alloc, plan, medium, trace) {
         Ok(verdict) => is_failure(&verdict, expected, lines, code),
         Err(_) => false,
     }
@@ -250,7 +266,8 @@ fn is_named(image: &ImageName, lines: &[(u32, u32)]) -> bool {
 }
 
 /// The verdict on a run, asked for again where memory was refused.
-fn judge(
+fn judge<R: Threads + Sync>(
+    rt: &R,
     alloc: Global,
     plan: &Plan,
     medium: &Medium,
@@ -258,8 +275,8 @@ fn judge(
 ) -> Result<Verdict<Cause>, CheckFault>
     requires { HasLines medium.now trace.now.events }
 {
-    match check_run(alloc, plan, medium, trace) {
-        Err(CheckFault::Memory) => check_run(alloc, plan, medium, trace),
+    match check_run(rt, alloc, plan, medium, trace) {
+        Err(CheckFault::Memory) => check_run(rt, alloc, plan, medium, trace),
         verdict => verdict,
     }
 }
@@ -646,7 +663,7 @@ const MARKS: &[(Parts, Claim)] = &[
 
 /// The first family of which a claim doesn't hold, by its name, and the place of the claim.
 fn first_wrong(
-    rt: &(impl AllocGlobal + Abort),
+    rt: &(impl AllocGlobal + Abort + Threads + Sync),
     families: &[Family],
 ) -> Result<Option<(&'static str, usize)>, Fail> {
     for family in families {

@@ -19,8 +19,8 @@ new-images-requires-clause-apart g c =
     images_apart run.plan.now.operations run.index.events run.trace.now.events c.args.moment c.run.invariant.4
     (subst (λ (v : RunView). c.args.moment ≤ length v.events) (sym c.run.view_is) c.requires.there) c.run.invariant.1
 
-pub open_moment_shared-requires-clause-alike : goal.open_moment_shared-requires-clause-alike
-open_moment_shared-requires-clause-alike g c κs within = λ k other found same f.
+pub open_moment-requires-clause-alike : goal.open_moment-requires-clause-alike
+open_moment-requires-clause-alike g c κs within = λ k other found same f.
     let images = c.new-images.result in
     found_alike images.plan.now.operations images.index.now.start (take images.moment images.index.now.events) (at_moment images.index.now.events images.moment) k
     other found same f
@@ -35,7 +35,7 @@ returns-clause-ok g c =
     c.args.moment images.moment c.in_ok-verdict.verdict made.plan (made.start ∙ c.run.invariant.3) (made.events ∙ c.run.invariant.4) made.moment
     c.in_ok-verdict.ensures.ok)
 
-pub open_moment_shared-requires-clause-fits : goal.open_moment_shared-requires-clause-fits
-open_moment_shared-requires-clause-fits g c κs within = λ k inside.
+pub open_moment-requires-clause-fits : goal.open_moment-requires-clause-fits
+open_moment-requires-clause-fits g c κs within = λ k inside.
     let images = c.new-images.result in
     c.new-kept.ensures (image images.index.now.start k (at_moment images.index.now.events images.moment))

@@ -40,13 +40,13 @@ new-images-requires-clause-whole g c =
     subst (λ (view : JudgeView). AreMedia view.start view.events c.args.moment) c.run.view_is
     (images_whole i.medium.now i.trace.now.events c.args.moment c.run.invariant.4 c.run.invariant.5)
 
-pub open_moment_shared-requires-clause-alike : goal.open_moment_shared-requires-clause-alike
-open_moment_shared-requires-clause-alike g c κs within = λ k other found same f.
+pub open_moment-requires-clause-alike : goal.open_moment-requires-clause-alike
+open_moment-requires-clause-alike g c κs within = λ k other found same f.
     let s = c.new-images.result in
     found_alike s.run.now (is_among s.window s.moment) s.moment k other found same f
 
-pub open_moment_shared-requires-clause-fits : goal.open_moment_shared-requires-clause-fits
-open_moment_shared-requires-clause-fits g c κs within =
+pub open_moment-requires-clause-fits : goal.open_moment-requires-clause-fits
+open_moment-requires-clause-fits g c κs within =
     let e = c.new-images.ensures in
     let window = c.window-window.result in
     let view = c.args.run.now in
@@ -78,7 +78,7 @@ returns-clause-passed g c =
     let m = c.args.moment in
     let s = c.new-images.result in
     let verdict = c.in_ok-verdict.verdict in
-    let flags = c.open_moment_shared.new.opener in
+    let flags = c.open_moment.new.opener in
     let events : i.trace.now.events ≡ view.events = ap (λ (v : JudgeView). v.events) c.run.view_is in
     let ours = named view s.run.now m s.moment window s.window (at_moment i.trace.now.events m) verdict e.run e.moment e.window c.in_ok-verdict.ensures.ok in
     let asked = subst (λ (n : ℕ). IfPassed verdict (AreFlagged (LoadsOf view n) (at_moment i.trace.now.events m) flags)) e.moment

@@ -3,4 +3,4 @@ use Rattle.std.proofs.Common.{◌≡◌, length}
 use Rattle.verdict_tests.proofs.images.branches_opened.first_wrong.Given as goal
 
 abbrev pub invariant-loop-place : goal.invariant-loop-place
-invariant-loop-place l = length l.opener ≡ 3
+invariant-loop-place g l = length l.opener ≡ 3
