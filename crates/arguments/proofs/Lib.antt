@@ -1,3 +1,4 @@
 mod Lines
 mod Spans
 pub mod Tables
+pub mod Rows

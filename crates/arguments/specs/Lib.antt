@@ -3,3 +3,4 @@ pub mod Line
 pub mod Spans
 pub mod Started
 pub mod Values
+pub mod Codes

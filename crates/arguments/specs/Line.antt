@@ -4,7 +4,7 @@ use Rattle.clap.specs.Words.{Row, Text, fault_of, first_of, subcommand_of}
 use Rattle.clap.specs.Kinds.{IsAmong}
 use Rattle.clap.specs.declared.error.ErrorKind.{ErrorKind}
 use Rattle.clap.specs.declared.error.ErrorKind.TheVariants as kinds
-use Rattle.image_name.specs.Texts.{IsProper}
+use Rattle.text.specs.Texts.{IsProper}
 use Rattle.arguments.specs.Grammar.{novacrash}
 use Rattle.arguments.specs.Spans.{IsOptionalMoments, IsUpward}
 use Rattle.arguments.specs.Values.{IsCapacity, IsCodeWord, IsEvictions, IsHarts, IsImageWord, IsNumberWord, IsOptional, IsOptionalImage, IsOptionalNumber, IsRecoverySteps, IsSeed, IsSteps, IsWord, IsWorkers, is_set}

@@ -4,10 +4,10 @@ use Rattle.std.specs.declared.alloc.Global.{Global}
 use Rattle.std.specs.Str.{bytes_eq}
 use Rattle.std.specs.Str.Parse.{IsNumeral, digits_value}
 use Rattle.clap.specs.Words.{Row, Text, first_of}
-use Rattle.image_name.specs.Grammar.{IsImageName}
-use Rattle.image_name.specs.declared.name.ImageName.{ImageName}
-use Rattle.code_table.specs.Codes.{IsMeaningOf}
-use Rattle.code_table.specs.declared.table.Meaning.{Meaning}
+use Rattle.text.specs.Grammar.{IsImageName}
+use Rattle.text.specs.declared.image_name.name.ImageName.{ImageName}
+use Rattle.arguments.specs.Codes.{IsMeaningOf}
+use Rattle.arguments.specs.declared.codes.table.Meaning.{Meaning}
 
 -- the word that has to be given
 abbrev pub IsWord : Text → List Row → String Global → Type 0

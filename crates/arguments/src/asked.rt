@@ -1,8 +1,8 @@
 //! What a command line asks for, and what comes instead where it asks for no command.
 
-use code_table::Meaning;
-use image_name::ImageName;
+use crate::codes::Meaning;
 use std::alloc::AllocError;
+use text::ImageName;
 use thiserror::Error;
 
 /// The command of a line.

@@ -8,7 +8,7 @@ ghost use Rattle.arguments.specs.Line.{IsCachedMachine, IsJudgedRun, IsMachineWi
 ghost use Rattle.arguments.specs.Spans.{IsUpward};
 ghost use Rattle.arguments.specs.Started.{IsStarted};
 ghost use Rattle.arguments.specs.Values.{IsWord};
-ghost use Rattle.image_name.specs.Texts.{IsProper};
+ghost use Rattle.text.specs.Texts.{IsProper};
 ghost use Rattle.arguments.specs.declared.asked.AssembleCommand.{AssembleCommand as AAssembleCommand};
 ghost use Rattle.arguments.specs.declared.asked.MakeVolumeCommand.{MakeVolumeCommand as AMakeVolumeCommand};
 ghost use Rattle.arguments.specs.declared.asked.UpgradeCommand.{UpgradeCommand as AnUpgradeCommand};

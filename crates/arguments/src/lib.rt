@@ -2,6 +2,7 @@
 #![tactic(auto)]
 
 mod asked;
+mod codes;
 mod commands;
 mod grammar;
 mod line;
@@ -15,4 +16,5 @@ pub use asked::{
     MakeVolumeCommand, Moments, PictureCommand, ReplayCommand, ReportCommand, RunCommand,
     ScheduledRun, ShowCommand, UpgradeCommand,
 };
+pub use codes::{Meaning, all_have_meanings, list, meaning_of};
 pub use line::command;

@@ -5,16 +5,15 @@ ghost use Rattle.std.specs.declared.alloc.Global.{Global as AGlobal};
 ghost use Rattle.clap.specs.Words.{first_of, found_of, rows_of};
 ghost use Rattle.arguments.specs.Line.{OnFault};
 ghost use Rattle.arguments.specs.Values.{IsCodeWord, IsImageWord, IsNumber, IsNumberWord, IsOptional, IsOptionalImage, IsOptionalNumber, IsSeed, IsWord, is_set};
-ghost use Rattle.code_table.specs.declared.table.Meaning.{Meaning as AMeaning};
-ghost use Rattle.image_name.specs.Texts.{IsProper};
-ghost use Rattle.image_name.specs.declared.name.ImageName.{ImageName as AnImageName};
+ghost use Rattle.arguments.specs.declared.codes.table.Meaning.{Meaning as AMeaning};
+ghost use Rattle.text.specs.Texts.{IsProper};
+ghost use Rattle.text.specs.declared.image_name.name.ImageName.{ImageName as AnImageName};
 
 use crate::asked::LineFault;
+use crate::codes::{Meaning, meaning_of};
 use clap::ArgMatches;
-use code_table::{Meaning, meaning_of};
-use image_name::ImageName;
 use std::alloc::Global;
-use text::{decimal, decimal_within, wide_decimal};
+use text::{ImageName, decimal, decimal_within, wide_decimal};
 
 /// The value of an option or a word, where the line has it.
 #[tactic(auto, using(crate::proofs::Lines::value_found))]

@@ -6,3 +6,4 @@ pub mod KindLists
 pub mod Lexing
 pub mod Spelling
 pub mod TokenFacts
+pub mod RegisterLemmas

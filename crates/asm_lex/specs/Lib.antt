@@ -3,3 +3,6 @@ pub mod Pieces
 pub mod Kinds
 pub mod Tokens
 pub mod Scan
+pub mod Mnemonics
+pub mod Registers
+pub mod Widths

@@ -5,16 +5,21 @@
 //! hexadecimal digits in either case. Spaces, tabs and comments, from `#` on, stand between tokens.
 #![tactic(auto)]
 
+mod asm_names;
+mod kinds;
+mod lines;
+mod scan;
+
 ghost use Rattle.asm_lex.specs.Kinds.{are_tokens, kind_of, lexeme_of};
 ghost use Rattle.asm_lex.specs.Pieces.{pieces};
 ghost use Rattle.asm_lex.specs.Tokens.{AreTokensOf, IsFaultOf};
 ghost use Rattle.asm_lex.specs.declared.LexFault.TheVariants.{BadToken, Memory};
 ghost use Rattle.std.specs.Prelude.{◌≡◌, Some, false, true, map, IfErr, IfOk, OnOk};
 
-mod kinds;
-mod lines;
-mod scan;
-
+pub use asm_names::{
+    ALL_ACCESSES, AtomicForm, ExchangedBranchOp, Mnemonic, NumberWidth, Section, UnaryOp,
+    ZeroBranchOp, mnemonic_of, register_of, return_register, set_of, zero_register,
+};
 use kinds::kind_of;
 pub use lines::next_line;
 use scan::next_piece;

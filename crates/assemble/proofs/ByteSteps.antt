@@ -9,10 +9,10 @@ use Rattle.isa_table.specs.declared.instruction.Instr.TheVariants as instrs
 use Rattle.isa_table.specs.declared.instruction.UpperOp.TheVariants.{Auipc}
 use Rattle.isa_table.specs.declared.instruction.ImmediateOp.TheVariants.{Addi}
 use Rattle.isa_table.specs.declared.register.Reg.{Reg}
-use Rattle.asm_names.specs.declared.kinds.NumberWidth.{NumberWidth}
-use Rattle.asm_names.specs.declared.kinds.NumberWidth.TheVariants.{Byte, Half, Word, Doubleword}
-use Rattle.asm_line.specs.Meanings.{Meaning, nothing, instruction, pair, branch, jump, address, section, numbers, zeros, align, width_bytes}
-use Rattle.asm_line.specs.Numbers.{upper_half, lower_half}
+use Rattle.asm_lex.specs.declared.asm_names.kinds.NumberWidth.{NumberWidth}
+use Rattle.asm_lex.specs.declared.asm_names.kinds.NumberWidth.TheVariants.{Byte, Half, Word, Doubleword}
+use Rattle.assemble.specs.Meanings.{Meaning, nothing, instruction, pair, branch, jump, address, section, numbers, zeros, align, width_bytes}
+use Rattle.assemble.specs.Numbers.{upper_half, lower_half}
 use Rattle.assemble.specs.Appending.{Appends}
 use Rattle.assemble.specs.Faults.{code_of_label}
 use Rattle.assemble.specs.Places.{padding, size_at}

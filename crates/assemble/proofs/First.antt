@@ -4,9 +4,9 @@ use Rattle.std.specs.Prelude.{Some, None, reverse}
 use mathlib.Core.List.{reverse_aux}
 use Rattle.std.proofs.lemmas.List.{reverse-reverse, reverse-append}
 use Rattle.asm_lex.specs.Lines.{lines_of, cut_at_feeds, without_returns}
-use Rattle.asm_line.specs.declared.fault.AsmCode.{AsmCode}
-use Rattle.asm_line.specs.declared.fault.AsmCode.TheVariants.{TooLarge}
-use Rattle.asm_line.specs.Lines.{line_of}
+use Rattle.assemble.specs.declared.asm_line.fault.AsmCode.{AsmCode}
+use Rattle.assemble.specs.declared.asm_line.fault.AsmCode.TheVariants.{TooLarge}
+use Rattle.assemble.specs.Lines.{line_of}
 use Rattle.assemble.specs.declared.TheConstants.{SOURCE_LIMIT}
 use Rattle.assemble.specs.Faults.{Codes, NoneHas, IsFirst, code_of_said, code_of_length, early_code}
 use Rattle.assemble.specs.Assembly.{lines_back}

@@ -2,8 +2,8 @@
 use Rattle.std.proofs.Common.{◌≡◌, ℕ, ◌+◌, ◌<◌, ◌≤◌, List, [], ◌∷◌, length, refl, sym, ap, subst, ◌∙◌}
 use Rattle.std.specs.Prelude.{Some, None}
 use Rattle.asm_lex.specs.Lines.{lines_of}
-use Rattle.asm_line.specs.declared.fault.AsmCode.{AsmCode}
-use Rattle.asm_line.specs.Lines.{line_of}
+use Rattle.assemble.specs.declared.asm_line.fault.AsmCode.{AsmCode}
+use Rattle.assemble.specs.Lines.{line_of}
 use Rattle.assemble.specs.declared.TheConstants.{SOURCE_LIMIT}
 use Rattle.assemble.specs.declared.labels.Labels.{Labels}
 use Rattle.assemble.specs.declared.position.Position.{Position}

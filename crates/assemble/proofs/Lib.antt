@@ -7,3 +7,12 @@ pub mod OneAnswer
 pub mod OneObject
 pub mod Standing
 pub mod Numbers
+pub mod NumberLists
+pub mod LineWords
+pub mod WholeNumbers
+pub mod Tokens
+pub mod Operands
+pub mod Names
+pub mod Shapes
+pub mod Plain
+pub mod Assembled

@@ -5,10 +5,10 @@ use Rattle.std.proofs.lemmas.List.{reverse-reverse, reverse-append}
 use Rattle.asm_lex.specs.Lines.{lines_of}
 use Rattle.program.specs.Sections.{Sections}
 use Rattle.program.specs.declared.TheConstants.{TEXT_LIMIT, DATA_LIMIT}
-use Rattle.asm_line.specs.declared.fault.AsmCode.{AsmCode}
-use Rattle.asm_names.specs.declared.kinds.Section.{Section}
-use Rattle.asm_names.specs.declared.kinds.Section.TheVariants.{Text, Data}
-use Rattle.asm_line.specs.Meanings.{LineMeaning}
+use Rattle.assemble.specs.declared.asm_line.fault.AsmCode.{AsmCode}
+use Rattle.asm_lex.specs.declared.asm_names.kinds.Section.{Section}
+use Rattle.asm_lex.specs.declared.asm_names.kinds.Section.TheVariants.{Text, Data}
+use Rattle.assemble.specs.Meanings.{LineMeaning}
 use Rattle.assemble.specs.declared.TheConstants.{SOURCE_LIMIT}
 use Rattle.assemble.specs.declared.fault.AsmFault.{AsmFault}
 use Rattle.assemble.specs.Places.{base_of, limit_of, size_at, section_after, size_of, place_after, value_in}

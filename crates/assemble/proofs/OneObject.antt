@@ -7,8 +7,8 @@ use Rattle.isa_table.specs.declared.instruction.UpperOp.TheVariants.{Auipc}
 use Rattle.isa_table.specs.declared.instruction.ImmediateOp.TheVariants.{Addi}
 use Rattle.isa_table.specs.Table.{IsCanonical}
 use Rattle.program.specs.Sections.{Sections}
-use Rattle.asm_line.specs.Meanings.{Meaning, LineMeaning, nothing, instruction, pair, branch, jump, address, section, numbers, zeros, align}
-use Rattle.asm_line.specs.Numbers.{upper_half, lower_half}
+use Rattle.assemble.specs.Meanings.{Meaning, LineMeaning, nothing, instruction, pair, branch, jump, address, section, numbers, zeros, align}
+use Rattle.assemble.specs.Numbers.{upper_half, lower_half}
 use Rattle.assemble.specs.Places.{section_after, place_after}
 use Rattle.assemble.specs.SourceLines.{Values, HasWord, HaveWords, HasBytes}
 use Rattle.assemble.specs.Assembly.{added, Adds, AreBytesOf, Assembles, lines_back, values_of}

@@ -6,13 +6,13 @@ use Rattle.std.specs.Option.{option_or}
 use Rattle.asm_lex.specs.Lines.{lines_of}
 use Rattle.program.specs.Sections.{Sections, AreWithinLimits}
 use Rattle.program.specs.declared.TheConstants.{TEXT_LIMIT, DATA_LIMIT}
-use Rattle.asm_line.specs.declared.fault.AsmCode.{AsmCode}
-use Rattle.asm_line.specs.declared.fault.AsmCode.TheVariants.{LabelTwice, WrongSection, TooLarge}
-use Rattle.asm_names.specs.declared.kinds.NumberWidth.TheVariants.{Byte, Half, Word, Doubleword}
-use Rattle.asm_names.specs.declared.kinds.Section.{Section}
-use Rattle.asm_names.specs.declared.kinds.Section.TheVariants.{Text, Data}
-use Rattle.asm_line.specs.Lines.{line_of}
-use Rattle.asm_line.specs.Meanings.{Meaning, LineMeaning, nothing, instruction, pair, branch, jump, address, section, numbers, zeros, align}
+use Rattle.assemble.specs.declared.asm_line.fault.AsmCode.{AsmCode}
+use Rattle.assemble.specs.declared.asm_line.fault.AsmCode.TheVariants.{LabelTwice, WrongSection, TooLarge}
+use Rattle.asm_lex.specs.declared.asm_names.kinds.NumberWidth.TheVariants.{Byte, Half, Word, Doubleword}
+use Rattle.asm_lex.specs.declared.asm_names.kinds.Section.{Section}
+use Rattle.asm_lex.specs.declared.asm_names.kinds.Section.TheVariants.{Text, Data}
+use Rattle.assemble.specs.Lines.{line_of}
+use Rattle.assemble.specs.Meanings.{Meaning, LineMeaning, nothing, instruction, pair, branch, jump, address, section, numbers, zeros, align}
 use Rattle.assemble.specs.declared.emission.Emission.{Emission}
 use Rattle.assemble.specs.Places.{said, label_of, meaning_in, base_of, limit_of, size_at, share, defines, section_from, section_after, size_of, place_after, value_in}
 use Rattle.assemble.specs.SourceLines.{Values, HasBytes, stands_in}

@@ -1,10 +1,10 @@
 -- The bytes of each line stand in the object at the line's place, and a section has as many bytes as its lines take.
 use Rattle.std.proofs.Common.{◌≡◌, ℕ, ◌+◌, List, [], ◌∷◌, ◌++◌, length, refl, sym, ap, ◌∙◌, append-nil, append_assoc, arith}
 use Rattle.std.proofs.lemmas.List.{length-append}
-use Rattle.asm_names.specs.declared.kinds.Section.{Section}
-use Rattle.asm_names.specs.declared.kinds.Section.TheVariants.{Text, Data}
+use Rattle.asm_lex.specs.declared.asm_names.kinds.Section.{Section}
+use Rattle.asm_lex.specs.declared.asm_names.kinds.Section.TheVariants.{Text, Data}
 use Rattle.program.specs.Sections.{Sections}
-use Rattle.asm_line.specs.Meanings.{LineMeaning}
+use Rattle.assemble.specs.Meanings.{LineMeaning}
 use Rattle.assemble.specs.Assembly.{Adds, AreBytesOf, added, bytes_in}
 use Rattle.assemble.specs.Places.{base_of, meaning_in, place_after, section_after, share, size_at, size_of}
 use Rattle.assemble.specs.SourceLines.{Values}

@@ -2,8 +2,8 @@
 use Rattle.std.specs.Prelude.{◌≡◌, ℕ, ◌+◌, ◌≤◌, List, length}
 use Rattle.program.specs.Sections.{Sections}
 use Rattle.program.specs.declared.TheConstants.{TEXT_LIMIT, DATA_LIMIT}
-use Rattle.asm_names.specs.declared.kinds.Section.TheVariants.{Text, Data}
-use Rattle.asm_line.specs.Meanings.{Meaning}
+use Rattle.asm_lex.specs.declared.asm_names.kinds.Section.TheVariants.{Text, Data}
+use Rattle.assemble.specs.Meanings.{Meaning}
 use Rattle.assemble.specs.declared.emission.Emission.{Emission}
 use Rattle.assemble.specs.Places.{base_of, size_of, section_from, section_after}
 use Rattle.assemble.specs.SourceLines.{Values, HasBytes}

@@ -9,3 +9,10 @@ pub mod Passes
 pub mod Appending
 pub mod Emission
 pub mod LineNumbers
+pub mod AsmLineFaults
+pub mod Meanings
+pub mod Lexemes
+pub mod Numbers
+pub mod Grammar
+pub mod Lines
+pub mod Steps

@@ -2,8 +2,8 @@
 -- The lines before a line are listed with the last one first.
 use Rattle.std.specs.Prelude.{◌≡◌, ℕ, ◌+◌, ◌-◌, ◌&&◌, nat_le, nat_lt, Bool, true, false, List, [], ◌∷◌, ◌++◌, length, Option, Some, None, if◌then◌else◌}
 use Rattle.std.specs.List.{position_or_len}
-use Rattle.asm_names.specs.declared.kinds.Section.{Section}
-use Rattle.asm_names.specs.declared.kinds.Section.TheVariants.{Text, Data}
+use Rattle.asm_lex.specs.declared.asm_names.kinds.Section.{Section}
+use Rattle.asm_lex.specs.declared.asm_names.kinds.Section.TheVariants.{Text, Data}
 use Rattle.assemble.specs.declared.labels.Labels.{Labels}
 use Rattle.assemble.specs.declared.position.Position.{Position}
 use Rattle.assemble.specs.Places.{base_of, meaning_in, place_after, section_after, size_at, size_of}

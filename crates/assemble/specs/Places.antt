@@ -3,11 +3,11 @@
 use Rattle.std.specs.Prelude.{ℕ, ◌+◌, ◌-◌, ◌*◌, ◌%◌, Bool, false, List, [], ◌∷◌, length, Option, Some, None, Result, Ok, Err, if◌then◌else◌}
 use Rattle.std.specs.Str.{bytes_eq}
 use Rattle.program.specs.declared.TheConstants.{TEXT_LIMIT, DATA_LIMIT}
-use Rattle.asm_line.specs.declared.fault.AsmCode.{AsmCode}
-use Rattle.asm_names.specs.declared.kinds.Section.{Section}
-use Rattle.asm_names.specs.declared.kinds.Section.TheVariants.{Text, Data}
-use Rattle.asm_line.specs.Lines.{line_of}
-use Rattle.asm_line.specs.Meanings.{Meaning, LineMeaning, nothing, instruction, pair, branch, jump, address, section, numbers, zeros, align, width_bytes}
+use Rattle.assemble.specs.declared.asm_line.fault.AsmCode.{AsmCode}
+use Rattle.asm_lex.specs.declared.asm_names.kinds.Section.{Section}
+use Rattle.asm_lex.specs.declared.asm_names.kinds.Section.TheVariants.{Text, Data}
+use Rattle.assemble.specs.Lines.{line_of}
+use Rattle.assemble.specs.Meanings.{Meaning, LineMeaning, nothing, instruction, pair, branch, jump, address, section, numbers, zeros, align, width_bytes}
 
 -- what a line says: a line at fault says nothing
 abbrev pub said : Result LineMeaning AsmCode → LineMeaning

@@ -1,11 +1,11 @@
 -- The running position, from one line to the next.
 use Rattle.std.specs.Prelude.{◌≡◌, ℕ, ◌+◌, ◌≤◌, nat_lt, List, Result, Ok, Err, if◌then◌else◌}
 use Rattle.program.specs.declared.TheConstants.{TEXT_LIMIT, DATA_LIMIT}
-use Rattle.asm_line.specs.declared.fault.AsmCode.{AsmCode}
-use Rattle.asm_line.specs.declared.fault.AsmCode.TheVariants.{WrongSection, TooLarge}
-use Rattle.asm_names.specs.declared.kinds.Section.{Section}
-use Rattle.asm_names.specs.declared.kinds.Section.TheVariants.{Text, Data}
-use Rattle.asm_line.specs.Meanings.{Meaning}
+use Rattle.assemble.specs.declared.asm_line.fault.AsmCode.{AsmCode}
+use Rattle.assemble.specs.declared.asm_line.fault.AsmCode.TheVariants.{WrongSection, TooLarge}
+use Rattle.asm_lex.specs.declared.asm_names.kinds.Section.{Section}
+use Rattle.asm_lex.specs.declared.asm_names.kinds.Section.TheVariants.{Text, Data}
+use Rattle.assemble.specs.Meanings.{Meaning}
 use Rattle.assemble.specs.declared.position.Position.{Position}
 use Rattle.assemble.specs.Places.{base_of, limit_of, share, size_at, size_of, section_from, section_after}
 use Rattle.assemble.specs.SourceLines.{stands_in}

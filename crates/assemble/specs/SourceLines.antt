@@ -10,15 +10,15 @@ use Rattle.isa_table.specs.declared.instruction.ImmediateOp.TheVariants.{Addi}
 use Rattle.isa_table.specs.declared.register.Reg.{Reg}
 use Rattle.isa_table.specs.Ranges.{IsChecked}
 use Rattle.isa_table.specs.Table.{IsCanonical}
-use Rattle.asm_line.specs.declared.fault.AsmCode.{AsmCode}
-use Rattle.asm_line.specs.declared.fault.AsmCode.TheVariants.{UnknownLabel}
-use Rattle.asm_names.specs.declared.kinds.NumberWidth.{NumberWidth}
-use Rattle.asm_names.specs.declared.kinds.NumberWidth.TheVariants.{Word}
-use Rattle.asm_names.specs.declared.kinds.Section.{Section}
-use Rattle.asm_names.specs.declared.kinds.Section.TheVariants.{Text, Data}
-use Rattle.asm_line.specs.Lines.{line_of}
-use Rattle.asm_line.specs.Meanings.{Meaning, LineMeaning, nothing, instruction, pair, branch, jump, address, section, numbers, zeros, align, width_bytes}
-use Rattle.asm_line.specs.Numbers.{branch_reach, jump_reach, reached, upper_half, lower_half}
+use Rattle.assemble.specs.declared.asm_line.fault.AsmCode.{AsmCode}
+use Rattle.assemble.specs.declared.asm_line.fault.AsmCode.TheVariants.{UnknownLabel}
+use Rattle.asm_lex.specs.declared.asm_names.kinds.NumberWidth.{NumberWidth}
+use Rattle.asm_lex.specs.declared.asm_names.kinds.NumberWidth.TheVariants.{Word}
+use Rattle.asm_lex.specs.declared.asm_names.kinds.Section.{Section}
+use Rattle.asm_lex.specs.declared.asm_names.kinds.Section.TheVariants.{Text, Data}
+use Rattle.assemble.specs.Lines.{line_of}
+use Rattle.assemble.specs.Meanings.{Meaning, LineMeaning, nothing, instruction, pair, branch, jump, address, section, numbers, zeros, align, width_bytes}
+use Rattle.assemble.specs.Numbers.{branch_reach, jump_reach, reached, upper_half, lower_half}
 use Rattle.assemble.specs.Places.{padding}
 
 -- the values of labels: None of one that no line defines

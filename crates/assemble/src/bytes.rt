@@ -1,7 +1,7 @@
 //! The bytes of a statement.
 
-ghost use Rattle.asm_line.specs.Meanings.{meaning_of, IsInRange};
-ghost use Rattle.asm_line.specs.Numbers.{branch_reach, jump_reach, reached};
+ghost use Rattle.assemble.specs.Meanings.{meaning_of, IsInRange};
+ghost use Rattle.assemble.specs.Numbers.{branch_reach, jump_reach, reached};
 ghost use Rattle.assemble.specs.Appending.{Appends, AreNear};
 ghost use Rattle.assemble.specs.Faults.{code_of_label};
 ghost use Rattle.assemble.specs.Labels.{place_at};
@@ -12,9 +12,9 @@ ghost use Rattle.std.specs.List.{flat_map};
 ghost use Rattle.std.specs.Result.{result_err};
 ghost use Rattle.std.specs.Prelude.{◌≡◌, ◌≢◌, ◌≤◌, ◌^◌, ◌++◌, ℤ, Ok, Some, IfErr, OnOk, replicate};
 
+use crate::asm_line::{AsmCode, NumberWidth, Statement, halves};
 use crate::labels::Labels;
 use crate::position::padding_to;
-use asm_line::{AsmCode, NumberWidth, Statement, halves};
 use isa_table::{BranchOp, ImmediateOp, Instr, Reg, UpperOp, encode};
 
 /// Adds the bytes of a statement at this place.

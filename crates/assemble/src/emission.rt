@@ -10,12 +10,12 @@ ghost use Rattle.program.specs.Sections.{AreWithinLimits};
 ghost use Rattle.std.specs.Prelude.{◌≡◌, ◌≢◌, ◌≤◌, ℕ, List, length, IfErr, IfOk};
 
 use crate::SOURCE_LIMIT;
+use crate::asm_line::{AsmCode, Section, Statement, read_line};
 use crate::bytes::append;
 use crate::fault::AsmFault;
 use crate::labels::Labels;
 use crate::position::base;
 use asm_lex::next_line;
-use asm_line::{AsmCode, Section, Statement, read_line};
 use std::alloc::Global;
 
 /// The bytes of both sections so far, and the section of the next line.
@@ -27,8 +27,8 @@ pub(crate) struct Emission {
 }
 
 impl Emission {
-    ghost use Rattle.asm_line.specs.Meanings.{meaning_of, IsInRange};
-    ghost use Rattle.asm_names.specs.declared.kinds.Section.TheVariants.{Text};
+    ghost use Rattle.assemble.specs.Meanings.{meaning_of, IsInRange};
+    ghost use Rattle.asm_lex.specs.declared.asm_names.kinds.Section.TheVariants.{Text};
     ghost use Rattle.assemble.specs.Emission.{Emits, HasRoom, IsEmitted};
     ghost use Rattle.assemble.specs.Faults.{code_of_label};
     ghost use Rattle.assemble.specs.Places.{base_of};

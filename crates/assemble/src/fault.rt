@@ -1,6 +1,6 @@
 //! Why a source is refused.
 
-use asm_line::AsmCode;
+use crate::asm_line::AsmCode;
 use thiserror::Error;
 
 /// A line that is at fault, by its number from 1, and what is wrong with it.

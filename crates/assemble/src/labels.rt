@@ -3,7 +3,7 @@
 ghost use Rattle.std.specs.Prelude.{◌≡◌, ◌≢◌, ◌≤◌, ◌^◌, ℕ, List, None, Some, IsSome, true, false, IfErr, OnOk, if◌then◌else◌};
 ghost use Rattle.std.specs.Str.{bytes_eq};
 
-use asm_line::AsmCode;
+use crate::asm_line::AsmCode;
 use std::alloc::Global;
 use std::collections::HashMap;
 

@@ -9,7 +9,17 @@
 //! (CMO) 1.0.
 #![tactic(auto)]
 
-ghost use Rattle.asm_names.specs.declared.kinds.Section.{Section};
+mod asm_line;
+mod bytes;
+mod emission;
+mod fault;
+mod labels;
+mod numbering;
+mod placing;
+mod position;
+mod round_trip;
+
+ghost use Rattle.asm_lex.specs.declared.asm_names.kinds.Section.{Section};
 ghost use Rattle.assemble.specs.Assembly.{Assembles, IsFirstFault, bytes_in, lines_back, values_of};
 ghost use Rattle.assemble.specs.Faults.{early_code};
 ghost use Rattle.assemble.specs.declared.TheConstants.{SOURCE_LIMIT};
@@ -18,16 +28,8 @@ ghost use Rattle.assemble.specs.Standing.{LineStands};
 ghost use Rattle.program.specs.Sections.{Sections};
 ghost use Rattle.std.specs.Prelude.{◌≡◌, ◌≢◌, ◌<◌, ℕ, List, [], ◌∷◌, ◌++◌, Some, length, IfOk, IfErr};
 
-mod bytes;
-mod emission;
-mod fault;
-mod labels;
-mod numbering;
-mod placing;
-mod position;
-
 use asm_lex::next_line;
-pub use asm_line::AsmCode;
+pub use asm_line::{AsmCode, Line, NumberWidth, Section, Statement, halves, read_line};
 use emission::sections_of;
 pub use fault::AsmFault;
 use labels::Labels;
@@ -35,6 +37,7 @@ pub use numbering::{LineNumbers, line_numbers};
 use placing::{labels_of, place_line};
 use position::Position;
 use program::Object;
+pub use round_trip::{shown_assembles, shown_reads_back};
 use std::alloc::Global;
 
 /// The most bytes that a source has.

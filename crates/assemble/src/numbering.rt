@@ -7,13 +7,13 @@ ghost use Rattle.assemble.specs.LineNumbers.{line_number, number_at, text_ends};
 ghost use Rattle.assemble.specs.declared.TheConstants.{SOURCE_LIMIT};
 ghost use Rattle.std.specs.Prelude.{◌≡◌, ◌≢◌, ◌≤◌, ◌++◌, ◌∷◌, [], ℕ, length, IfErr, IfOk};
 
+use crate::asm_line::AsmCode;
 use crate::fault::AsmFault;
 use crate::labels::Labels;
 use crate::placing::place_line;
 use crate::position::{Position, TEXT_BASE};
 use crate::{SOURCE_LIMIT, too_long};
 use asm_lex::next_line;
-use asm_line::AsmCode;
 use std::alloc::Global;
 use std::marker::Model;
 

@@ -1,7 +1,7 @@
 //! The first pass over a source: the places of its labels.
 
 ghost use Rattle.asm_lex.specs.Lines.{lines_of};
-ghost use Rattle.asm_line.specs.Lines.{line_of};
+ghost use Rattle.assemble.specs.Lines.{line_of};
 ghost use Rattle.assemble.specs.Assembly.{lines_back};
 ghost use Rattle.assemble.specs.Faults.{IsFirst, NoneHas, code_of_said, early_code};
 ghost use Rattle.assemble.specs.Labels.{place_at};
@@ -12,11 +12,11 @@ ghost use Rattle.assemble.specs.declared.TheConstants.{SOURCE_LIMIT};
 ghost use Rattle.std.specs.Prelude.{◌≡◌, ◌≢◌, ◌≤◌, ℕ, List, ◌∷◌, None, Some, length, IfErr, IfOk, OnOk};
 
 use crate::SOURCE_LIMIT;
+use crate::asm_line::{AsmCode, read_line};
 use crate::fault::AsmFault;
 use crate::labels::Labels;
 use crate::position::Position;
 use asm_lex::next_line;
-use asm_line::{AsmCode, read_line};
 use std::alloc::Global;
 
 /// The labels of a source, or the first line with a fault that needs no label's place.

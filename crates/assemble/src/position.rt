@@ -1,11 +1,11 @@
 //! Where lines stand.
 
 ghost use Rattle.std.specs.Prelude.{◌≡◌, ◌+◌, ◌≤◌, ◌<◌, ◌^◌, min};
-ghost use Rattle.asm_line.specs.Meanings.{meaning_of, IsInRange};
+ghost use Rattle.assemble.specs.Meanings.{meaning_of, IsInRange};
 ghost use Rattle.assemble.specs.Places.{base_of, limit_of, padding, size_at};
 ghost use Rattle.assemble.specs.SourceLines.{stands_in as may_stand};
 
-use asm_line::{AsmCode, NumberWidth, Section, Statement};
+use crate::asm_line::{AsmCode, NumberWidth, Section, Statement};
 use program::{DATA_LIMIT, TEXT_LIMIT};
 
 /// The place of the first byte of text.

@@ -6,10 +6,10 @@ use Rattle.hart.specs.declared.need.Request.{Request}
 use Rattle.hart.specs.declared.need.Reply.{Reply}
 use Rattle.line_memory.specs.Memory.{Memory}
 use Rattle.machine.specs.Represents.{text_bytes}
-use Rattle.shared_memory.specs.declared.history.Entry.{Entry}
-use Rattle.shared_memory.specs.declared.history.Entry.TheVariants.{Asked}
-use Rattle.shared_memory.specs.Histories.{fetched_text, is_renewing, replayed, text_of}
-use Rattle.shared_memory.specs.Replies.{starting_memory}
+use Rattle.machine.specs.declared.shared_memory.history.Entry.{Entry}
+use Rattle.machine.specs.declared.shared_memory.history.Entry.TheVariants.{Asked}
+use Rattle.machine.specs.Histories.{fetched_text, is_renewing, replayed, text_of}
+use Rattle.machine.specs.Replies.{starting_memory}
 use Rattle.hart.specs.Effect.{answered}
 use Rattle.bus.specs.declared.exchange.Exchange.{Exchange}
 use Rattle.bus.specs.declared.outcome.Outcome.{Outcome}

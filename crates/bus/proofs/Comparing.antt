@@ -13,15 +13,15 @@ use Rattle.line_memory.specs.Regions.{padded}
 use Rattle.line_memory.specs.declared.TheConstants.{DATA_SIZE, TEXT_SIZE}
 use Rattle.machine.proofs.Copying.{text_there}
 use Rattle.machine.specs.Represents.{text_bytes}
-use Rattle.schedule.specs.Steps.{all_steps}
-use Rattle.schedule.specs.declared.items.Item.{Item}
-use Rattle.schedule.specs.declared.items.Step.{Step}
-use Rattle.schedule.specs.declared.items.Step.TheVariants.{Hart, Evict}
-use Rattle.shared_memory.specs.Histories.{fetched_text, is_renewing, text_of}
-use Rattle.shared_memory.specs.Replies.{events_of, starting_memory}
+use Rattle.machine.specs.Steps.{all_steps}
+use Rattle.machine.specs.declared.schedule.items.Item.{Item}
+use Rattle.machine.specs.declared.schedule.items.Step.{Step}
+use Rattle.machine.specs.declared.schedule.items.Step.TheVariants.{Hart, Evict}
+use Rattle.machine.specs.Histories.{fetched_text, is_renewing, text_of}
+use Rattle.machine.specs.Replies.{events_of, starting_memory}
 use Rattle.store_trace.specs.declared.event.Event.{Event}
-use Rattle.shared_memory.specs.declared.history.Entry.{Entry}
-use Rattle.shared_memory.specs.declared.history.Entry.TheVariants.{Asked, Evicted}
+use Rattle.machine.specs.declared.shared_memory.history.Entry.{Entry}
+use Rattle.machine.specs.declared.shared_memory.history.Entry.TheVariants.{Asked, Evicted}
 use Rattle.bus.specs.declared.exchange.Exchange.{Exchange}
 use Rattle.bus.specs.declared.finish_fault.FinishFault.{FinishFault}
 use Rattle.bus.specs.Agreeing.{Agrees, Exchanges, IsPart, LastIs}

@@ -7,8 +7,8 @@ use Rattle.std.proofs.lemmas.List.Elements.{All-push, Contains-append_left, Cont
 use Rattle.std.proofs.lemmas.List.Folds.{list_any-append}
 use Rattle.std.proofs.lemmas.Grind.{flat_map-append}
 use Rattle.atomic_table.specs.Seated.{TableId}
-use Rattle.shared_memory.specs.declared.fault.StepFault.{StepFault}
-use Rattle.stop_word.specs.Stops.{HasSeen, Sitting, all_found, fresh}
+use Rattle.machine.specs.declared.shared_memory.fault.StepFault.{StepFault}
+use Rattle.workers.specs.Stops.{HasSeen, Sitting, all_found, fresh}
 use Rattle.bus.specs.declared.crew.Refusal.{Refusal}
 use Rattle.bus.proofs.Comparing.{is_so, not_so}
 use Rattle.bus.specs.Crews.{AreDone, AreJoined, HaveEnded, AreRefusals, BeganView, HasKept, IsCrew, IsIdle, badge_of, lower_of, noted}

@@ -9,7 +9,7 @@ use Rattle.hart.specs.declared.need.Request.{Request}
 use Rattle.hart.specs.declared.need.Request.TheVariants as requests
 use Rattle.hart.specs.declared.need.Reply.TheVariants.{Value, Done, Fault}
 use Rattle.line_memory.specs.declared.TheConstants.{PERSISTENT_BASE}
-use Rattle.shared_memory.specs.Replies.{events_of, if_persistent}
+use Rattle.machine.specs.Replies.{events_of, if_persistent}
 use Rattle.store_trace.specs.declared.event.Event.{Event}
 
 -- one event, or none

@@ -12,14 +12,14 @@ use Rattle.machine.specs.Evicting.{hart_steps as only_hart_steps}
 use Rattle.machine.specs.Run.{Config, RunsTo, StepsTo, after_request, started, with_hart}
 use Rattle.machine.proofs.RunParts.{grows, run_joined}
 use Rattle.machine.proofs.Stepping.{hart_steps}
-use Rattle.recording.specs.Recorded.{AreNumbers, IsMadeBy}
-use Rattle.recording.proofs.Numbering.{numbers_kept, numbers_pushed}
-use Rattle.schedule.specs.declared.items.Step.{Step}
-use Rattle.schedule.specs.declared.items.Step.TheVariants.{Hart, Evict}
-use Rattle.shared_memory.specs.declared.history.Entry.{Entry}
-use Rattle.shared_memory.specs.declared.history.Entry.TheVariants.{Asked, Evicted}
-use Rattle.shared_memory.specs.Histories.{fetched_text}
-use Rattle.shared_memory.specs.Replies.{SharedState, events_of, reply_after, shared_after, trace_in}
+use Rattle.machine.specs.Recorded.{AreNumbers, IsMadeBy}
+use Rattle.machine.proofs.Numbering.{numbers_kept, numbers_pushed}
+use Rattle.machine.specs.declared.schedule.items.Step.{Step}
+use Rattle.machine.specs.declared.schedule.items.Step.TheVariants.{Hart, Evict}
+use Rattle.machine.specs.declared.shared_memory.history.Entry.{Entry}
+use Rattle.machine.specs.declared.shared_memory.history.Entry.TheVariants.{Asked, Evicted}
+use Rattle.machine.specs.Histories.{fetched_text}
+use Rattle.machine.specs.Replies.{SharedState, events_of, reply_after, shared_after, trace_in}
 use Rattle.store_trace.specs.declared.event.Event.{Event}
 use Rattle.bus.specs.declared.exchange.Exchange.{Exchange}
 use Rattle.bus.specs.Agreeing.{Exchanges}

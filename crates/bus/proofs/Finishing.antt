@@ -5,10 +5,10 @@ use Rattle.hart.specs.declared.state.HartState.{HartState}
 use Rattle.line_memory.specs.Memory.{Memory}
 use Rattle.machine.specs.Run.{Config, RunsTo, started, with_hart}
 use Rattle.machine.proofs.RunParts.{run_joined}
-use Rattle.schedule.specs.declared.items.Step.TheVariants.{Hart}
-use Rattle.shared_memory.specs.declared.history.Entry.{Entry}
-use Rattle.shared_memory.specs.Histories.{fetched_text}
-use Rattle.shared_memory.specs.Replies.{SharedState, starting_memory, trace_in}
+use Rattle.machine.specs.declared.schedule.items.Step.TheVariants.{Hart}
+use Rattle.machine.specs.declared.shared_memory.history.Entry.{Entry}
+use Rattle.machine.specs.Histories.{fetched_text}
+use Rattle.machine.specs.Replies.{SharedState, starting_memory, trace_in}
 use Rattle.bus.specs.declared.exchange.Exchange.{Exchange}
 use Rattle.bus.specs.Agreeing.{Agrees, IsPart}
 use Rattle.bus.specs.Alone.{GoesAlone}
@@ -17,7 +17,7 @@ use Rattle.bus.specs.Gathered.{AreParts, gathered}
 use Rattle.bus.specs.Replays.{AreBelow, CoreView, IsReplay, common_of, replay}
 use Rattle.bus.specs.Seats.{SeatView}
 use Rattle.bus.specs.Listed.{numbered}
-use Rattle.recording.proofs.Numbering.{numbers_kept}
+use Rattle.machine.proofs.Numbering.{numbers_kept}
 use Rattle.bus.proofs.EventNumbers.{AreNumbered, events_numbered}
 use Rattle.bus.proofs.Gathering.{alone_runs, gathered_runs}
 use Rattle.bus.proofs.Replaying.{initial_is}

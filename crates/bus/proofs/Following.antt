@@ -16,12 +16,12 @@ use Rattle.line_memory.specs.Memory.{Memory}
 use Rattle.machine.proofs.Determined.{needs_once}
 use Rattle.machine.specs.Run.{fetched}
 use Rattle.machine.specs.Represents.{text_bytes}
-use Rattle.schedule.specs.declared.items.Step.{Step}
-use Rattle.schedule.specs.declared.items.Step.TheVariants.{Hart, Evict}
-use Rattle.shared_memory.specs.Histories.{fetched_text, is_renewing, replayed, text_of}
-use Rattle.shared_memory.specs.Replies.{starting_memory}
-use Rattle.shared_memory.specs.declared.history.Entry.{Entry}
-use Rattle.shared_memory.specs.declared.history.Entry.TheVariants.{Asked, Evicted}
+use Rattle.machine.specs.declared.schedule.items.Step.{Step}
+use Rattle.machine.specs.declared.schedule.items.Step.TheVariants.{Hart, Evict}
+use Rattle.machine.specs.Histories.{fetched_text, is_renewing, replayed, text_of}
+use Rattle.machine.specs.Replies.{starting_memory}
+use Rattle.machine.specs.declared.shared_memory.history.Entry.{Entry}
+use Rattle.machine.specs.declared.shared_memory.history.Entry.TheVariants.{Asked, Evicted}
 use Rattle.bus.specs.declared.exchange.Exchange.{Exchange}
 use Rattle.bus.specs.declared.follower.Follower.{Follower}
 use Rattle.bus.specs.Agreeing.{Exchanges, IsPart}

@@ -23,10 +23,10 @@ use Rattle.line_memory.proofs.Accesses.{region_byte}
 use Rattle.machine.proofs.Determined.{needs_once}
 use Rattle.machine.specs.Run.{fetched}
 use Rattle.machine.specs.Represents.{text_bytes}
-use Rattle.shared_memory.specs.Histories.{fetched_text}
-use Rattle.shared_memory.specs.Replies.{reply_after, starting_memory}
-use Rattle.shared_memory.specs.declared.history.Entry.{Entry}
-use Rattle.shared_memory.specs.declared.history.Entry.TheVariants.{Asked, Evicted}
+use Rattle.machine.specs.Histories.{fetched_text}
+use Rattle.machine.specs.Replies.{reply_after, starting_memory}
+use Rattle.machine.specs.declared.shared_memory.history.Entry.{Entry}
+use Rattle.machine.specs.declared.shared_memory.history.Entry.TheVariants.{Asked, Evicted}
 use Rattle.bus.specs.declared.exchange.Exchange.{Exchange}
 use Rattle.bus.specs.declared.finish_fault.FinishFault.{FinishFault}
 use Rattle.bus.specs.declared.finish_fault.FinishFault.TheVariants.{SeatMissing, SeatNumber, Foreign, Memory as NoMemory}

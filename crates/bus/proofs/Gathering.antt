@@ -12,12 +12,12 @@ use Rattle.hart.specs.declared.need.Need.TheVariants.{Local, Ask, Stop}
 use Rattle.hart.specs.declared.need.Request.{Request}
 use Rattle.hart.specs.declared.need.Reply.{Reply}
 use Rattle.line_memory.specs.Memory.{Memory}
-use Rattle.schedule.specs.declared.items.Step.{Step}
-use Rattle.schedule.specs.declared.items.Step.TheVariants.{Hart, Evict}
-use Rattle.shared_memory.specs.declared.history.Entry.{Entry}
-use Rattle.shared_memory.specs.declared.history.Entry.TheVariants.{Asked, Evicted}
-use Rattle.shared_memory.specs.Histories.{fetched_text}
-use Rattle.shared_memory.specs.Replies.{SharedState, reply_after, shared_after}
+use Rattle.machine.specs.declared.schedule.items.Step.{Step}
+use Rattle.machine.specs.declared.schedule.items.Step.TheVariants.{Hart, Evict}
+use Rattle.machine.specs.declared.shared_memory.history.Entry.{Entry}
+use Rattle.machine.specs.declared.shared_memory.history.Entry.TheVariants.{Asked, Evicted}
+use Rattle.machine.specs.Histories.{fetched_text}
+use Rattle.machine.specs.Replies.{SharedState, reply_after, shared_after}
 use Rattle.machine.specs.Run.{Config, Meets, RunsTo, StepsTo, after_request, fetched_by, started, with_hart}
 use Rattle.machine.proofs.RunParts.{run_joined}
 use Rattle.machine.proofs.Stepping.{hart_steps}

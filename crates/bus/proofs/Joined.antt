@@ -7,8 +7,8 @@ use Rattle.std.proofs.lemmas.List.Sorted.{IsPermutation-sym, Contains-permutatio
 use Rattle.hart.specs.declared.state.HartState.{HartState}
 use Rattle.hart.specs.declared.state.Status.TheVariants.{Running}
 use Rattle.machine.specs.Represents.{IsRunning}
-use Rattle.recording.specs.Recorded.{RecordedView}
-use Rattle.schedule.specs.Steps.{all_steps}
+use Rattle.machine.specs.Recorded.{RecordedView}
+use Rattle.machine.specs.Steps.{all_steps}
 use Rattle.bus.specs.declared.finish_fault.FinishFault.{FinishFault}
 use Rattle.bus.specs.declared.finish_fault.FinishFault.TheVariants.{SeatMissing, SeatNumber, Foreign, Memory}
 use Rattle.bus.specs.Crews.{AreDone}
@@ -17,7 +17,7 @@ use Rattle.bus.specs.Seats.{SeatView}
 use Rattle.bus.specs.Stepping.{BusView}
 use Rattle.bus.specs.Together.{FillsTrace, HasLeft, HaveRun, IsAtBudget, IsFinished, IsFullOr, IsLeft, IsWithinBudget, RefusesFinish, RefusesRun, count_of}
 use Rattle.bus.specs.declared.together.RunFault.{RunFault}
-use Rattle.shared_memory.specs.declared.fault.StepFault.{StepFault}
+use Rattle.machine.specs.declared.shared_memory.fault.StepFault.{StepFault}
 
 -- what stands at one place of two lists whose images are the same
 twin : {A B : Type 0} (f : A → B) (xs ys : List A) (i : ℕ) (x : A) → map f xs ≡ map f ys → slice_get xs i ≡ Some x

@@ -8,7 +8,7 @@ use Rattle.hart.specs.declared.state.HartState.{HartState}
 use Rattle.isa_table.specs.declared.instruction.Instr.{Instr}
 use Rattle.machine.specs.Run.{fetched}
 use Rattle.machine.specs.Represents.{text_bytes}
-use Rattle.shared_memory.specs.Histories.{is_renewing}
+use Rattle.machine.specs.Histories.{is_renewing}
 use Rattle.bus.specs.declared.exchange.Exchange.{Exchange}
 use Rattle.bus.specs.Agreeing.{Exchanges}
 use Rattle.bus.specs.Alone.{Asks, StepsAlone}

@@ -4,20 +4,20 @@ use Rattle.std.proofs.lemmas.List.Elements.{All-append, All-replicate}
 use Rattle.line_memory.specs.Memory.{Memory}
 use Rattle.machine.specs.Run.{Config, RunsTo, started}
 use Rattle.machine.specs.Represents.{MachineView, Represents, text_bytes}
-use Rattle.recording.specs.Recorded.{AreNumbers, IsAmong, RecordedView, Records}
-use Rattle.recording.proofs.Leaving.{left_at}
+use Rattle.machine.specs.Recorded.{AreNumbers, IsAmong, RecordedView, Records}
+use Rattle.machine.proofs.RecordingLeaving.{left_at}
 use Rattle.machine.specs.Left.{IsLeftBy}
 use Rattle.machine.proofs.Leaving.{left_at_end}
-use Rattle.shared_memory.specs.SharedView.{IsExact}
-use Rattle.schedule.specs.Grammar.{hart_steps}
-use Rattle.schedule.specs.Steps.{all_steps}
-use Rattle.schedule.specs.declared.items.Item.{Item}
-use Rattle.schedule.specs.declared.items.Step.{Step}
-use Rattle.schedule.specs.declared.items.Step.TheVariants.{Hart, Evict}
-use Rattle.shared_memory.specs.declared.history.Entry.{Entry}
-use Rattle.shared_memory.specs.declared.history.Entry.TheVariants.{Asked, Evicted}
-use Rattle.shared_memory.specs.Histories.{fetched_text}
-use Rattle.shared_memory.specs.Replies.{starting_memory}
+use Rattle.machine.specs.SharedView.{IsExact}
+use Rattle.machine.specs.Grammar.{hart_steps}
+use Rattle.machine.specs.Steps.{all_steps}
+use Rattle.machine.specs.declared.schedule.items.Item.{Item}
+use Rattle.machine.specs.declared.schedule.items.Step.{Step}
+use Rattle.machine.specs.declared.schedule.items.Step.TheVariants.{Hart, Evict}
+use Rattle.machine.specs.declared.shared_memory.history.Entry.{Entry}
+use Rattle.machine.specs.declared.shared_memory.history.Entry.TheVariants.{Asked, Evicted}
+use Rattle.machine.specs.Histories.{fetched_text}
+use Rattle.machine.specs.Replies.{starting_memory}
 use Rattle.store_trace.specs.declared.event.Event.{Event}
 use Rattle.bus.specs.declared.exchange.Exchange.{Exchange}
 use Rattle.bus.specs.declared.finish_fault.FinishFault.{FinishFault}

@@ -2,10 +2,10 @@
 use Rattle.std.proofs.Common.{◌≡◌, ◌⊎◌, ◌<◌, ◌≤◌, ℕ, length, inl, inr, refl}
 use Rattle.hart.specs.declared.need.Request.{Request}
 use Rattle.machine.specs.Represents.{text_bytes}
-use Rattle.shared_memory.specs.Limits.{AreOutsideLimits}
-use Rattle.shared_memory.specs.Refusals.{RefusesRequest}
-use Rattle.shared_memory.specs.declared.fault.StepFault.{StepFault}
-use Rattle.shared_memory.specs.declared.fault.StepFault.TheVariants.{NoSuchHart, NoSuchLine, TraceFull, Memory, OutOfLimits}
+use Rattle.machine.specs.Limits.{AreOutsideLimits}
+use Rattle.machine.specs.SharedMemoryRefusals.{RefusesRequest}
+use Rattle.machine.specs.declared.shared_memory.fault.StepFault.{StepFault}
+use Rattle.machine.specs.declared.shared_memory.fault.StepFault.TheVariants.{NoSuchHart, NoSuchLine, TraceFull, Memory, OutOfLimits}
 use Rattle.bus.specs.Alone.{Asks}
 use Rattle.bus.specs.Limits.{AreWithin, RefusesStart}
 use Rattle.bus.specs.Refusals.{RefusesLine, RefusesSeat, RefusesTelling}

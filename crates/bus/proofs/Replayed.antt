@@ -12,17 +12,17 @@ use Rattle.line_memory.specs.Lines.{line_bytes}
 use Rattle.line_memory.specs.Memory.{Memory}
 use Rattle.machine.proofs.Copying.{text_there}
 use Rattle.machine.specs.Represents.{text_bytes}
-use Rattle.schedule.specs.Grammar.{hart_steps, steps_in as steps_in_item}
-use Rattle.schedule.specs.Steps.{all_steps}
-use Rattle.schedule.specs.declared.items.Item.{Item}
-use Rattle.schedule.specs.declared.items.Item.TheVariants as items_of
-use Rattle.schedule.specs.declared.items.Step.{Step}
-use Rattle.schedule.specs.declared.items.Step.TheVariants.{Hart}
-use Rattle.shared_memory.specs.Histories.{fetched_text, text_of}
-use Rattle.shared_memory.specs.Replies.{starting_memory}
-use Rattle.shared_memory.specs.SharedView.{lines_shown}
-use Rattle.shared_memory.specs.declared.history.Entry.{Entry}
-use Rattle.shared_memory.specs.declared.history.Entry.TheVariants.{Asked, Evicted}
+use Rattle.machine.specs.Grammar.{hart_steps, steps_in as steps_in_item}
+use Rattle.machine.specs.Steps.{all_steps}
+use Rattle.machine.specs.declared.schedule.items.Item.{Item}
+use Rattle.machine.specs.declared.schedule.items.Item.TheVariants as items_of
+use Rattle.machine.specs.declared.schedule.items.Step.{Step}
+use Rattle.machine.specs.declared.schedule.items.Step.TheVariants.{Hart}
+use Rattle.machine.specs.Histories.{fetched_text, text_of}
+use Rattle.machine.specs.Replies.{starting_memory}
+use Rattle.machine.specs.SharedView.{lines_shown}
+use Rattle.machine.specs.declared.shared_memory.history.Entry.{Entry}
+use Rattle.machine.specs.declared.shared_memory.history.Entry.TheVariants.{Asked, Evicted}
 use Rattle.bus.specs.declared.exchange.Exchange.{Exchange}
 use Rattle.bus.specs.declared.follower.Follower.{Follower}
 use Rattle.bus.specs.Agreeing.{Agrees, IsPart}

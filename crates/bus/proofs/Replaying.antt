@@ -8,12 +8,12 @@ use Rattle.line_memory.specs.Lines.{line_bytes}
 use Rattle.line_memory.specs.Memory.{Memory}
 use Rattle.machine.specs.Represents.{text_bytes}
 use Rattle.machine.proofs.Copying.{text_there}
-use Rattle.shared_memory.specs.declared.history.Entry.{Entry}
-use Rattle.shared_memory.specs.declared.history.Entry.TheVariants.{Asked, Evicted}
-use Rattle.shared_memory.specs.Histories.{replayed, text_of}
-use Rattle.shared_memory.specs.Replies.{SharedState, memory_in, reply_after, starting_memory}
-use Rattle.shared_memory.specs.SharedView.{Evicts, IsExact, Serves, SharedView, lines_shown}
-use Rattle.shared_memory.proofs.Shown.{evicted_exact, evicted_shows, reply_stands, served_exact, served_shows}
+use Rattle.machine.specs.declared.shared_memory.history.Entry.{Entry}
+use Rattle.machine.specs.declared.shared_memory.history.Entry.TheVariants.{Asked, Evicted}
+use Rattle.machine.specs.Histories.{replayed, text_of}
+use Rattle.machine.specs.Replies.{SharedState, memory_in, reply_after, starting_memory}
+use Rattle.machine.specs.SharedView.{Evicts, IsExact, Serves, SharedView, lines_shown}
+use Rattle.machine.proofs.Shown.{evicted_exact, evicted_shows, reply_stands, served_exact, served_shows}
 use Rattle.bus.specs.Replays.{AreBelow, CoreView, IsReplay, LinesBelow, replay}
 use Rattle.bus.specs.Serving.{EvictsLine, Tells}
 

@@ -4,8 +4,8 @@ use Rattle.std.proofs.lemmas.List.Elements.{Contains-push, Contains-push_cases}
 use Rattle.std.specs.List.{Contains}
 use Rattle.hart.specs.declared.state.Status.{Status}
 use Rattle.hart.specs.declared.state.Status.TheVariants as statuses
-use Rattle.shared_memory.specs.declared.fault.StepFault.{StepFault}
-use Rattle.stop_word.specs.Stops.{HasSeen, Sitting}
+use Rattle.machine.specs.declared.shared_memory.fault.StepFault.{StepFault}
+use Rattle.workers.specs.Stops.{HasSeen, Sitting}
 use Rattle.bus.specs.declared.driving.Round.TheVariants as rounds
 use Rattle.bus.specs.declared.outcome.Outcome.{Outcome}
 use Rattle.bus.specs.Driving.{HasEnded, IsAtEnd, IsDriven, IsRound, badge, is_last, round_of, round_after}

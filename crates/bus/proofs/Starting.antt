@@ -7,14 +7,14 @@ use Rattle.line_memory.specs.Lines.{line_bytes}
 use Rattle.line_memory.specs.Memory.{Memory}
 use Rattle.machine.specs.Represents.{text_bytes}
 use Rattle.machine.proofs.Copying.{text_there}
-use Rattle.shared_memory.specs.Histories.{text_of}
-use Rattle.shared_memory.specs.Replies.{shared_at_start, starting_memory}
-use Rattle.shared_memory.specs.SharedView.{IsExact, RepresentsShared, SharedView, lines_shown}
+use Rattle.machine.specs.Histories.{text_of}
+use Rattle.machine.specs.Replies.{shared_at_start, starting_memory}
+use Rattle.machine.specs.SharedView.{IsExact, RepresentsShared, SharedView, lines_shown}
 use Rattle.bus.specs.Agreeing.{Agrees}
 use Rattle.bus.specs.Begun.{AreNew, IsNew}
 use Rattle.bus.specs.Finished.{AllAgree}
 use Rattle.bus.specs.Following.{IsFreshOf}
-use Rattle.shared_memory.specs.declared.history.Entry.{Entry}
+use Rattle.machine.specs.declared.shared_memory.history.Entry.{Entry}
 use Rattle.store_trace.specs.declared.event.Event.{Event}
 use Rattle.store_trace.specs.TraceView.{NamesLine}
 use Rattle.bus.specs.Replays.{AreBelow, CoreView, IsReplay, LinesBelow, replay}

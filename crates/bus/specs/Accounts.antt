@@ -1,7 +1,7 @@
 -- The account of what the seats of a core have made.
 use Rattle.std.specs.Prelude.{◌≡◌, ℕ, List, map}
 use Rattle.hart.specs.declared.state.HartState.{HartState}
-use Rattle.schedule.specs.declared.items.Item.{Item}
+use Rattle.machine.specs.declared.schedule.items.Item.{Item}
 use Rattle.bus.specs.Finished.{AllAgree}
 use Rattle.bus.specs.Listed.{IsAccountOf}
 use Rattle.bus.specs.Replays.{CoreView}

@@ -1,8 +1,8 @@
 -- A core that has done nothing yet, and its seats.
 use Rattle.std.specs.Prelude.{◌≡◌, ℕ, List, []}
 use Rattle.program.specs.Sections.{Sections}
-use Rattle.shared_memory.specs.Replies.{shared_at_start}
-use Rattle.shared_memory.specs.SharedView.{RepresentsShared}
+use Rattle.machine.specs.Replies.{shared_at_start}
+use Rattle.machine.specs.SharedView.{RepresentsShared}
 use Rattle.bus.specs.Finished.{AllAgree}
 use Rattle.bus.specs.Replays.{CoreView}
 use Rattle.bus.specs.Seats.{SeatView}

@@ -2,8 +2,8 @@
 use Rattle.std.specs.Prelude.{◌≡◌, ◌⊎◌, ◌++◌, ◌∷◌, [], ℕ, Bool, true, false, nat_le, if◌then◌else◌, List, All, Option, Some, None, length, map}
 use Rattle.std.specs.List.{Contains, list_any}
 use Rattle.atomic_table.specs.Seated.{TableId}
-use Rattle.shared_memory.specs.declared.fault.StepFault.{StepFault}
-use Rattle.stop_word.specs.Stops.{Sitting, all_found, fresh}
+use Rattle.machine.specs.declared.shared_memory.fault.StepFault.{StepFault}
+use Rattle.workers.specs.Stops.{Sitting, all_found, fresh}
 use Rattle.bus.specs.declared.crew.Refusal.{Refusal}
 use Rattle.bus.specs.Driving.{HasEnded, badge}
 use Rattle.bus.specs.Seats.{SeatView}

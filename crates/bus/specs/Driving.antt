@@ -1,8 +1,8 @@
 -- What the thread of a seat comes to.
 use Rattle.std.specs.Prelude.{◌≡◌, ◌≢◌, ◌⊎◌, ◌≤◌, ℕ, Bool, true, false, Option, Some, None}
 use Rattle.hart.specs.declared.state.Status.TheVariants.{Running}
-use Rattle.shared_memory.specs.declared.fault.StepFault.{StepFault}
-use Rattle.stop_word.specs.Stops.{HasSeen, Sitting}
+use Rattle.machine.specs.declared.shared_memory.fault.StepFault.{StepFault}
+use Rattle.workers.specs.Stops.{HasSeen, Sitting}
 use Rattle.bus.specs.declared.outcome.Outcome.{Outcome}
 use Rattle.bus.specs.declared.outcome.Outcome.TheVariants.{Done, Exited, Trapped, Stopped, Spent}
 use Rattle.bus.specs.declared.driving.Round.{Round}

@@ -3,8 +3,8 @@ use Rattle.std.specs.Prelude.{◌≡◌, ◌≢◌, ◌⊎◌, ◌<◌, ◌≤�
 use Rattle.std.specs.Prelude.{IsPermutation}
 use Rattle.machine.specs.Left.{IsLeftBy}
 use Rattle.machine.specs.Run.{started}
-use Rattle.recording.specs.Recorded.{RecordedView, Records}
-use Rattle.schedule.specs.Steps.{all_steps}
+use Rattle.machine.specs.Recorded.{RecordedView, Records}
+use Rattle.machine.specs.Steps.{all_steps}
 use Rattle.bus.specs.declared.finish_fault.FinishFault.{FinishFault}
 use Rattle.bus.specs.declared.finish_fault.FinishFault.TheVariants.{SeatMissing, SeatNumber, Foreign, Memory}
 use Rattle.bus.specs.Agreeing.{Agrees}

@@ -1,7 +1,7 @@
 -- What all seats of a core make together.
 use Rattle.std.specs.Prelude.{◌≡◌, ◌+◌, ◌++◌, ℕ, List, [], ◌∷◌, Some, length, map, replicate, slice_get}
-use Rattle.schedule.specs.declared.items.Step.{Step}
-use Rattle.schedule.specs.declared.items.Step.TheVariants.{Hart}
+use Rattle.machine.specs.declared.schedule.items.Step.{Step}
+use Rattle.machine.specs.declared.schedule.items.Step.TheVariants.{Hart}
 use Rattle.bus.specs.Agreeing.{Agrees}
 use Rattle.bus.specs.Gathered.{gathered}
 use Rattle.bus.specs.Replays.{CoreView}

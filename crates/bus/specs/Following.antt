@@ -8,16 +8,16 @@ use Rattle.line_memory.specs.Memory.{Memory}
 use Rattle.machine.specs.Left.{IsLeftBy}
 use Rattle.machine.specs.Run.{started}
 use Rattle.machine.specs.Represents.{text_bytes}
-use Rattle.recording.specs.Recorded.{RecordedView, Records}
-use Rattle.schedule.specs.Grammar.{hart_steps}
-use Rattle.schedule.specs.Steps.{all_steps}
-use Rattle.schedule.specs.declared.items.Item.{Item}
-use Rattle.schedule.specs.declared.items.Step.{Step}
-use Rattle.schedule.specs.declared.items.Step.TheVariants.{Hart, Evict}
-use Rattle.shared_memory.specs.Histories.{fetched_text, is_renewing, replayed, text_of}
-use Rattle.shared_memory.specs.Replies.{reply_after, starting_memory}
-use Rattle.shared_memory.specs.declared.history.Entry.{Entry}
-use Rattle.shared_memory.specs.declared.history.Entry.TheVariants.{Asked}
+use Rattle.machine.specs.Recorded.{RecordedView, Records}
+use Rattle.machine.specs.Grammar.{hart_steps}
+use Rattle.machine.specs.Steps.{all_steps}
+use Rattle.machine.specs.declared.schedule.items.Item.{Item}
+use Rattle.machine.specs.declared.schedule.items.Step.{Step}
+use Rattle.machine.specs.declared.schedule.items.Step.TheVariants.{Hart, Evict}
+use Rattle.machine.specs.Histories.{fetched_text, is_renewing, replayed, text_of}
+use Rattle.machine.specs.Replies.{reply_after, starting_memory}
+use Rattle.machine.specs.declared.shared_memory.history.Entry.{Entry}
+use Rattle.machine.specs.declared.shared_memory.history.Entry.TheVariants.{Asked}
 use Rattle.bus.specs.declared.exchange.Exchange.{Exchange}
 use Rattle.bus.specs.declared.finish_fault.FinishFault.{FinishFault}
 use Rattle.bus.specs.declared.finish_fault.FinishFault.TheVariants.{SeatMissing, SeatNumber, Foreign, Memory as NoMemory}

@@ -4,7 +4,7 @@ use Rattle.hart.specs.Effect.{start}
 use Rattle.hart.specs.declared.state.HartState.{HartState}
 use Rattle.line_memory.specs.Memory.{Memory}
 use Rattle.machine.specs.Represents.{text_bytes}
-use Rattle.shared_memory.specs.Histories.{is_renewing}
+use Rattle.machine.specs.Histories.{is_renewing}
 use Rattle.bus.specs.declared.exchange.Exchange.{Exchange}
 use Rattle.bus.specs.Agreeing.{Exchanges}
 use Rattle.bus.specs.Alone.{GoesAlone}

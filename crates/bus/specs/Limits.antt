@@ -1,9 +1,9 @@
 -- How many harts share a core, how many lines its cache has room for, and how many steps a seat may make; and why a start is
 -- refused.
 use Rattle.std.specs.Prelude.{◌≡◌, ◌⊎◌, ◌<◌, ◌≤◌, ℕ}
-use Rattle.shared_memory.specs.Limits.{AreOutsideLimits, AreWithinLimits}
-use Rattle.shared_memory.specs.declared.fault.StepFault.{StepFault}
-use Rattle.shared_memory.specs.declared.fault.StepFault.TheVariants.{Memory, OutOfLimits}
+use Rattle.machine.specs.Limits.{AreOutsideLimits, AreWithinLimits}
+use Rattle.machine.specs.declared.shared_memory.fault.StepFault.{StepFault}
+use Rattle.machine.specs.declared.shared_memory.fault.StepFault.TheVariants.{Memory, OutOfLimits}
 
 -- harts and lines of the cache within their limits, and a budget of 1 to 500,000,000 steps
 abbrev pub AreWithin : ℕ → ℕ → ℕ → Type 0

@@ -2,10 +2,10 @@
 use Rattle.std.specs.Prelude.{◌≡◌, ◌<◌, ◌≤◌, ℕ, length}
 use Rattle.hart.specs.declared.need.Request.{Request}
 use Rattle.machine.specs.Represents.{text_bytes}
-use Rattle.shared_memory.specs.Replies.{events_of}
-use Rattle.shared_memory.specs.SharedView.{reply_to}
-use Rattle.shared_memory.specs.declared.fault.StepFault.{StepFault}
-use Rattle.shared_memory.specs.declared.fault.StepFault.TheVariants.{NoSuchHart, NoSuchLine, TraceFull, Memory, OutOfLimits}
+use Rattle.machine.specs.Replies.{events_of}
+use Rattle.machine.specs.SharedView.{reply_to}
+use Rattle.machine.specs.declared.shared_memory.fault.StepFault.{StepFault}
+use Rattle.machine.specs.declared.shared_memory.fault.StepFault.TheVariants.{NoSuchHart, NoSuchLine, TraceFull, Memory, OutOfLimits}
 use Rattle.bus.specs.Alone.{Asks}
 use Rattle.bus.specs.Replays.{CoreView}
 use Rattle.bus.specs.Seats.{SeatView}

@@ -1,10 +1,10 @@
 -- What harts share after a history, the newest entry first, each of its requests being answered anew.
 use Rattle.std.specs.Prelude.{◌≡◌, ◌<◌, ℕ, List, [], ◌∷◌}
 use Rattle.program.specs.Sections.{Sections}
-use Rattle.shared_memory.specs.declared.history.Entry.{Entry}
-use Rattle.shared_memory.specs.declared.history.Entry.TheVariants.{Asked, Evicted}
-use Rattle.shared_memory.specs.Replies.{SharedState, shared_after, shared_at_start}
-use Rattle.shared_memory.specs.SharedView.{RepresentsShared, SharedView}
+use Rattle.machine.specs.declared.shared_memory.history.Entry.{Entry}
+use Rattle.machine.specs.declared.shared_memory.history.Entry.TheVariants.{Asked, Evicted}
+use Rattle.machine.specs.Replies.{SharedState, shared_after, shared_at_start}
+use Rattle.machine.specs.SharedView.{RepresentsShared, SharedView}
 
 -- an eviction does nothing but join the history
 abbrev pub with_eviction : SharedState → ℕ → SharedState

@@ -7,10 +7,10 @@ use Rattle.hart.specs.declared.need.Reply.{Reply}
 use Rattle.isa_table.specs.declared.instruction.Instr.{Instr}
 use Rattle.machine.specs.Run.{fetched}
 use Rattle.machine.specs.Represents.{text_bytes}
-use Rattle.shared_memory.specs.Histories.{is_renewing, replayed, text_of}
-use Rattle.shared_memory.specs.Replies.{reply_after, starting_memory}
-use Rattle.shared_memory.specs.SharedView.{Evicts, Serves}
-use Rattle.shared_memory.specs.declared.history.Entry.TheVariants.{Asked, Evicted}
+use Rattle.machine.specs.Histories.{is_renewing, replayed, text_of}
+use Rattle.machine.specs.Replies.{reply_after, starting_memory}
+use Rattle.machine.specs.SharedView.{Evicts, Serves}
+use Rattle.machine.specs.declared.shared_memory.history.Entry.TheVariants.{Asked, Evicted}
 use Rattle.bus.specs.declared.outcome.Outcome.{Outcome}
 use Rattle.bus.specs.Alone.{Asks}
 use Rattle.bus.specs.Replays.{CoreView, common_of}

@@ -4,8 +4,8 @@ use Rattle.std.specs.List.{range_with_len}
 use Rattle.hart.specs.Effect.{start}
 use Rattle.machine.specs.Represents.{text_bytes}
 use Rattle.program.specs.Sections.{Sections}
-use Rattle.shared_memory.specs.Histories.{text_of}
-use Rattle.shared_memory.specs.Replies.{starting_memory}
+use Rattle.machine.specs.Histories.{text_of}
+use Rattle.machine.specs.Replies.{starting_memory}
 use Rattle.bus.specs.Seats.{SeatView}
 
 -- the seat of hart h, whose program's text is loaded as this copy: it has made no step

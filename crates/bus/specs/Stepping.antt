@@ -4,8 +4,8 @@ use Rattle.hart.specs.declared.need.Request.{Request}
 use Rattle.hart.specs.declared.need.Reply.{Reply}
 use Rattle.isa_table.specs.declared.instruction.Instr.{Instr}
 use Rattle.program.specs.Sections.{Sections}
-use Rattle.shared_memory.specs.declared.fault.StepFault.{StepFault}
-use Rattle.shared_memory.specs.declared.fault.StepFault.TheVariants.{NoSuchHart, TraceFull, Memory}
+use Rattle.machine.specs.declared.shared_memory.fault.StepFault.{StepFault}
+use Rattle.machine.specs.declared.shared_memory.fault.StepFault.TheVariants.{NoSuchHart, TraceFull, Memory}
 use Rattle.bus.specs.declared.outcome.Outcome.{Outcome}
 use Rattle.bus.specs.Seating.{IsLocalStep}
 use Rattle.bus.specs.Seats.{SeatView, outcome_of}

@@ -5,13 +5,13 @@ use Rattle.hart.specs.declared.state.Status.TheVariants.{Running}
 use Rattle.machine.specs.Left.{IsLeftBy}
 use Rattle.machine.specs.Represents.{IsRunning}
 use Rattle.machine.specs.Run.{Config, RunsTo, started}
-use Rattle.recording.specs.Recorded.{RecordedView, Records}
-use Rattle.schedule.specs.Steps.{all_steps}
-use Rattle.shared_memory.specs.Replies.{trace_in}
-use Rattle.shared_memory.specs.declared.fault.StepFault.{StepFault}
-use Rattle.shared_memory.specs.declared.fault.StepFault.TheVariants as step_faults
-use Rattle.schedule.specs.declared.items.Step.{Step}
-use Rattle.schedule.specs.declared.items.Step.TheVariants.{Hart, Evict}
+use Rattle.machine.specs.Recorded.{RecordedView, Records}
+use Rattle.machine.specs.Steps.{all_steps}
+use Rattle.machine.specs.Replies.{trace_in}
+use Rattle.machine.specs.declared.shared_memory.fault.StepFault.{StepFault}
+use Rattle.machine.specs.declared.shared_memory.fault.StepFault.TheVariants as step_faults
+use Rattle.machine.specs.declared.schedule.items.Step.{Step}
+use Rattle.machine.specs.declared.schedule.items.Step.TheVariants.{Hart, Evict}
 use Rattle.bus.specs.declared.finish_fault.FinishFault.{FinishFault}
 use Rattle.bus.specs.declared.finish_fault.FinishFault.TheVariants.{SeatMissing, SeatNumber, Foreign, Memory}
 use Rattle.bus.specs.declared.together.RunFault.{RunFault}

@@ -5,20 +5,19 @@ ghost use Rattle.atomic_table.specs.Seated.{TableId};
 ghost use Rattle.bus.specs.Crews.{AreJoined, AreRefusals, BeganView, HasKept, IsCrew, badge_of, lower_of, noted};
 ghost use Rattle.bus.specs.Driving.{IsDriven, badge};
 ghost use Rattle.bus.specs.Seats.{SeatView};
-ghost use Rattle.stop_word.specs.Stops.{fresh};
+ghost use Rattle.workers.specs.Stops.{fresh};
 
 use crate::driving::{Began, Driven, Job, SeatJob, Through};
 use crate::lock::Bus;
 use crate::loose_seat::LooseSeat;
 use crate::seat::Seat;
-use gate::Gate;
-use shared_memory::StepFault;
+use machine::StepFault;
 use std::alloc::{AllocError, Global};
 use std::marker::Model;
 use std::snapshot::Snapshot;
 use std::sync::Wait;
 use std::thread::{PromisedHandle, Scope, Threads};
-use stop_word::{StopSeat, StopWord};
+use workers::{Gate, StopSeat, StopWord};
 
 /// A refusal of a step of a hart.
 #[derive(Clone, Copy, Drop)]

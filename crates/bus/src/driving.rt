@@ -9,12 +9,11 @@ use crate::lock::Bus;
 use crate::loose_seat::LooseSeat;
 use crate::outcome::Outcome;
 use crate::seat::Seat;
-use gate::Gate;
-use shared_memory::StepFault;
+use machine::StepFault;
 use std::snapshot::Snapshot;
 use std::sync::Wait;
 use std::thread::Promise;
-use stop_word::{StopSeat, StopWord};
+use workers::{Gate, StopSeat, StopWord};
 
 /// What a round of a thread comes to.
 #[derive(Clone, Copy, Drop)]
@@ -239,7 +238,7 @@ pub(crate) struct SeatJob<'a, 'p, T: Turns, R: Wait> {
 
 impl<'a, 'p, T: Turns, R: Wait> Job for SeatJob<'a, 'p, T, R> {
     ghost use Rattle.std.specs.Prelude.{◌≡◌};
-    ghost use Rattle.stop_word.specs.Stops.{fresh};
+    ghost use Rattle.workers.specs.Stops.{fresh};
 
     ghost begins = { λ d. record { hart = d.seat.hart; budget = d.seat.budget; place = d.stop } };
 

@@ -1,7 +1,7 @@
 //! The end of a run of several harts: what their seats have made is gathered to one run.
 
 ghost use Rattle.std.specs.Prelude.{◌≡◌, ◌^◌, ◌<◌, ◌++◌, ◌∷◌, [], Err, IfErr, IfOk, List, OnOk, ℕ, Some, length, map, slice_get};
-ghost use Rattle.schedule.specs.Grammar.{hart_steps};
+ghost use Rattle.machine.specs.Grammar.{hart_steps};
 ghost use Rattle.bus.specs.Accounts.{IsAccounted};
 ghost use Rattle.bus.specs.Agreeing.{Agrees};
 ghost use Rattle.bus.specs.Ending.{IsGathered, RefusesGathering};
@@ -18,9 +18,8 @@ use crate::same_start::is_core_of;
 use crate::seat::Seat;
 use hart::HartState;
 use line_memory::Medium;
+use machine::{Recorded, Schedule};
 use program::Program;
-use recording::Recorded;
-use schedule::Schedule;
 use std::alloc::Global;
 
 /// The schedule of what seats have made with a number for each event, and the states of their harts.

@@ -1,7 +1,7 @@
 //! Which requests make an event.
 
 ghost use Rattle.std.specs.Prelude.{◌≡◌, ℕ, [], MatchBool, length};
-ghost use Rattle.shared_memory.specs.Replies.{events_of};
+ghost use Rattle.machine.specs.Replies.{events_of};
 
 use hart::{Reply, Request};
 use line_memory::PERSISTENT_BASE;

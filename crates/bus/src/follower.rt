@@ -6,9 +6,9 @@ ghost use Rattle.hart.specs.Requests.{IsRequest};
 ghost use Rattle.hart.specs.declared.state.HartState.{HartState};
 ghost use Rattle.machine.specs.Run.{fetched};
 ghost use Rattle.machine.specs.Represents.{text_bytes};
-ghost use Rattle.shared_memory.specs.Histories.{replayed, text_of};
-ghost use Rattle.shared_memory.specs.Replies.{reply_after, starting_memory};
-ghost use Rattle.shared_memory.specs.declared.history.Entry.{Entry};
+ghost use Rattle.machine.specs.Histories.{replayed, text_of};
+ghost use Rattle.machine.specs.Replies.{reply_after, starting_memory};
+ghost use Rattle.machine.specs.declared.shared_memory.history.Entry.{Entry};
 ghost use Rattle.bus.specs.Alone.{Asks, GoesAlone, IsAsking, StepsAlone};
 ghost use Rattle.bus.specs.Following.{ArePaired, CannotFollow, CannotMake, GoesNot, IfForeign, IsFollowed, IsNotNext, MakesAgain};
 ghost use Rattle.bus.specs.Replays.{AreBelow, common_of};
@@ -21,8 +21,7 @@ use crate::sameness::{is_same_reply, is_same_request};
 use crate::seat::Seat;
 use hart::{HartState, Reply, Request, Status, resume};
 use isa_table::Instr;
-use machine::TextCopy;
-use shared_memory::Entry;
+use machine::{Entry, TextCopy};
 
 /// A hart that is run once more beside its seat.
 #[derive(Drop)]

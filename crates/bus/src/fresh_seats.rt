@@ -7,9 +7,8 @@ ghost use Rattle.bus.specs.Starting.{seat_at_start};
 
 use crate::seat::Seat;
 use hart::HartState;
-use machine::TextCopy;
+use machine::{StepFault, TextCopy};
 use program::Program;
-use shared_memory::StepFault;
 use std::alloc::Global;
 
 /// A seat for each of so many harts, by its number.

@@ -7,7 +7,7 @@ ghost use Rattle.hart.specs.declared.need.Request.{Request};
 ghost use Rattle.line_memory.specs.declared.TheConstants.{TEXT_SIZE};
 ghost use Rattle.machine.specs.Run.{fetched};
 ghost use Rattle.machine.specs.Represents.{text_bytes};
-ghost use Rattle.shared_memory.specs.Histories.{is_renewing};
+ghost use Rattle.machine.specs.Histories.{is_renewing};
 ghost use Rattle.bus.specs.Alone.{Asks, IsAsking, StepsAlone};
 
 use hart::{Advance, HartState, Request, Status, advance};

@@ -34,7 +34,7 @@ pub use laws::agreeing_seats_run;
 pub use limits::check_start;
 pub use lock::Bus;
 pub use locked::{Core, serve, serve_evict};
+pub use machine::{Entry, StepFault};
 pub use outcome::Outcome;
 pub use seat::Seat;
-pub use shared_memory::{Entry, StepFault};
 pub use together::{RunFault, run_harts};

@@ -3,7 +3,7 @@
 ghost use Rattle.std.specs.Prelude.{◌≡◌, ◌⊎◌, IfErr, OnOk};
 ghost use Rattle.bus.specs.Limits.{AreWithin, RefusesStart};
 
-use shared_memory::{MAX_HARTS, StepFault, check_limits};
+use machine::{MAX_HARTS, StepFault, check_limits};
 
 /// How many harts there are at most, as the length of an array.
 pub(crate) const MOST_HARTS: usize = MAX_HARTS as usize;

@@ -3,9 +3,9 @@
 
 ghost use Rattle.std.specs.Prelude.{◌≡◌, ◌≤◌, ◌++◌, ◌∷◌, [], IfErr, IfOk, List, MatchBool, OnOk, Some, ℕ, length, replicate, reverse, slice_get, true};
 ghost use Rattle.line_memory.specs.declared.TheConstants.{TEXT_SIZE};
-ghost use Rattle.schedule.specs.Steps.{all_steps};
-ghost use Rattle.schedule.specs.declared.items.Step.{Step};
-ghost use Rattle.shared_memory.specs.declared.history.Entry.{Entry as AnEntry};
+ghost use Rattle.machine.specs.Steps.{all_steps};
+ghost use Rattle.machine.specs.declared.schedule.items.Step.{Step};
+ghost use Rattle.machine.specs.declared.shared_memory.history.Entry.{Entry as AnEntry};
 ghost use Rattle.bus.specs.Agreeing.{Agrees};
 ghost use Rattle.bus.specs.Finished.{AllAgree};
 ghost use Rattle.bus.specs.Following.{IfForeign, IsNotNext};
@@ -22,8 +22,7 @@ use crate::runs::Runs;
 use crate::sameness::are_same_bytes;
 use crate::seat::Seat;
 use hart::{Reply, Request};
-use schedule::Schedule;
-use shared_memory::Entry;
+use machine::{Entry, Schedule};
 use std::alloc::Global;
 
 /// Compares the next of a seat's exchanges with a request and its reply, and takes its steps.

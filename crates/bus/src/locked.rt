@@ -4,9 +4,9 @@ ghost use Rattle.std.specs.Prelude.{◌≡◌, ◌≢◌, ◌<◌, ◌≤◌, []
 ghost use Rattle.hart.specs.Requests.{IsRequest};
 ghost use Rattle.line_memory.specs.declared.TheConstants.{TEXT_SIZE};
 ghost use Rattle.machine.specs.Represents.{text_bytes};
-ghost use Rattle.shared_memory.specs.Histories.{replayed, text_of};
-ghost use Rattle.shared_memory.specs.Replies.{starting_memory};
-ghost use Rattle.shared_memory.specs.SharedView.{IsExact};
+ghost use Rattle.machine.specs.Histories.{replayed, text_of};
+ghost use Rattle.machine.specs.Replies.{starting_memory};
+ghost use Rattle.machine.specs.SharedView.{IsExact};
 ghost use Rattle.bus.specs.Agreeing.{Agrees};
 ghost use Rattle.bus.specs.Finished.{AllAgree};
 ghost use Rattle.bus.specs.Limits.{AreWithin, RefusesStart};
@@ -28,8 +28,8 @@ use crate::room::{add_entry, add_exchange, make_room};
 use crate::seat::Seat;
 use hart::{Reply, Request, resume};
 use line_memory::Medium;
+use machine::{Entry, Shared, StepFault};
 use program::Program;
-use shared_memory::{Entry, Shared, StepFault};
 use std::alloc::Global;
 use std::marker::Model;
 use store_trace::{Event, Trace};
@@ -48,7 +48,7 @@ pub struct Core<'p> {
 
 impl<'p> Model for Core<'p> {
     ghost use Rattle.bus.specs.Replays.{AreBelow, CoreView, IsReplay, LinesBelow, replay};
-    ghost use Rattle.shared_memory.specs.SharedView.{IsExact};
+    ghost use Rattle.machine.specs.SharedView.{IsExact};
     ghost use Rattle.std.specs.Prelude.{◌≡◌, ◌≤◌, All, length, reverse};
     ghost use Rattle.store_trace.specs.TraceView.{NamesLine};
 

@@ -15,8 +15,7 @@ use crate::locked::Core;
 use crate::sameness::{are_same_bytes, is_same_state};
 use crate::seat::Seat;
 use hart::HartState;
-use machine::TextCopy;
-use shared_memory::Entry;
+use machine::{Entry, TextCopy};
 use std::alloc::Global;
 
 /// A core at the start of another one.

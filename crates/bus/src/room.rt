@@ -3,7 +3,7 @@
 ghost use Rattle.std.specs.Prelude.{◌≡◌, ◌+◌, ◌≤◌, ◌∷◌, ◌++◌, [], IfErr, OnOk, vec_capacity, vec_len};
 
 use crate::exchange::Exchange;
-use shared_memory::{Entry, StepFault};
+use machine::{Entry, StepFault};
 
 /// Makes room for one more.
 pub(crate) fn make_room<T>(list: &mut Vec<T>) -> Result<(), StepFault>

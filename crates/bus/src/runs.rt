@@ -1,16 +1,16 @@
 //! The schedule of what seats have made, and the numbers of its events.
 
 ghost use Rattle.std.specs.Prelude.{◌≡◌, ◌+◌, ◌++◌, [], IfErr, OnOk, map, replicate};
-ghost use Rattle.schedule.specs.Steps.{all_steps};
-ghost use Rattle.schedule.specs.declared.items.Step.{Step};
-ghost use Rattle.shared_memory.specs.Replies.{events_of};
+ghost use Rattle.machine.specs.Steps.{all_steps};
+ghost use Rattle.machine.specs.declared.schedule.items.Step.{Step};
+ghost use Rattle.machine.specs.Replies.{events_of};
 ghost use Rattle.store_trace.specs.declared.event.Event.{Event};
 ghost use Rattle.bus.specs.Listed.{EvictsAlso, in_word};
 
 use crate::events::makes_event;
 use crate::finish_fault::FinishFault;
 use hart::{Reply, Request};
-use schedule::{Item, Schedule};
+use machine::{Item, Schedule};
 use std::alloc::Global;
 
 /// A schedule that grows, and the numbers of its events.

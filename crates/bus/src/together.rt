@@ -7,10 +7,10 @@ ghost use Rattle.bus.specs.Driving.{HasEnded, badge};
 ghost use Rattle.bus.specs.Ending.{HasTooLarge};
 ghost use Rattle.bus.specs.Seats.{SeatView};
 ghost use Rattle.bus.specs.Stepping.{BusView, IsStepRefusal};
-ghost use Rattle.stop_word.specs.Stops.{all_found, fresh};
+ghost use Rattle.workers.specs.Stops.{all_found, fresh};
 ghost use Rattle.bus.specs.declared.crew.Refusal.{Refusal};
 ghost use Rattle.bus.specs.Together.{HasLeft, HaveRun, IsFinished, IsFullOr, RefusesFinish, RefusesRun};
-ghost use Rattle.schedule.specs.Grammar.{hart_steps};
+ghost use Rattle.machine.specs.Grammar.{hart_steps};
 
 use crate::by_number::has_too_large;
 use crate::crew::{Crew, Ran, Refusal};
@@ -19,15 +19,13 @@ use crate::limits::MOST_HARTS;
 use crate::lock::Bus;
 use crate::loose_seat::LooseSeat;
 use crate::seat::Seat;
-use gate::Gate;
-use recording::Recorded;
-use shared_memory::StepFault;
+use machine::{Recorded, StepFault};
 use std::alloc::{AllocError, Global};
 use std::sync::Wait;
 use std::thread;
 use std::thread::Threads;
-use stop_word::{StopSeat, StopWord};
 use thiserror::Error;
+use workers::{Gate, StopSeat, StopWord};
 
 /// Why harts haven't run together to their end.
 #[derive(Clone, Copy, Debug, PartialEq, Eq, Error)]

@@ -11,8 +11,8 @@ use Rattle.lru_cache.proofs.Counts.{no_victim}
 use Rattle.lru_cache.proofs.Places.{at_cleared}
 use Rattle.word_bits.specs.Bytes.{stored}
 use Rattle.line_memory.specs.Lines.{line_at}
-use Rattle.crash_model.specs.declared.step.PersistenceStep.{PersistenceStep}
-use Rattle.crash_model.specs.declared.step.PersistenceStep.TheVariants.{Store, Clean, Evict}
+use Rattle.store_trace.specs.declared.crash_model.step.PersistenceStep.{PersistenceStep}
+use Rattle.store_trace.specs.declared.crash_model.step.PersistenceStep.TheVariants.{Store, Clean, Evict}
 use Rattle.clean_fence.proofs.Views.{with_parts, evict_stands, kept_stands, load_stands, marked_stands, store_stands}
 use Rattle.clean_fence.specs.Represents.{AreAmong, CacheSteps, Represents}
 use Rattle.clean_fence.specs.Rules.{PmView, HasRoom, SameSizes, memory_of, victim, after_completion}

@@ -9,8 +9,8 @@ use Rattle.index_list.proofs.Members.{length-without}
 use Rattle.lru_cache.specs.Cache.{IsCache, is_leaving}
 use Rattle.lru_cache.specs.Order.{marked_in}
 use Rattle.lru_cache.proofs.Places.{at_map_without}
-use Rattle.crash_model.specs.declared.step.PersistenceStep.{PersistenceStep}
-use Rattle.crash_model.specs.declared.step.PersistenceStep.TheVariants.{Fence}
+use Rattle.store_trace.specs.declared.crash_model.step.PersistenceStep.{PersistenceStep}
+use Rattle.store_trace.specs.declared.crash_model.step.PersistenceStep.TheVariants.{Fence}
 use Rattle.clean_fence.specs.Rules.{PmView, HasRoom, SameSizes, memory_of, after_completion, after_completions, after_fence}
 use Rattle.clean_fence.specs.Represents.{CacheSteps, Represents}
 use Rattle.clean_fence.proofs.Holding.{Told, Fencing, told_written, fencing_begins, fencing_goes, fencing_ends}

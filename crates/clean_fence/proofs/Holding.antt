@@ -11,8 +11,8 @@ use Rattle.word_bits.specs.Bytes.{stored}
 use Rattle.line_memory.specs.Lines.{line_at}
 use Rattle.lru_cache.specs.Order.{list_with}
 use Rattle.lru_cache.proofs.Places.{at_put, at_map_without, has-list_with}
-use Rattle.crash_model.specs.declared.step.PersistenceStep.{PersistenceStep}
-use Rattle.crash_model.specs.declared.step.PersistenceStep.TheVariants.{Store, Clean, Fence, Evict}
+use Rattle.store_trace.specs.declared.crash_model.step.PersistenceStep.{PersistenceStep}
+use Rattle.store_trace.specs.declared.crash_model.step.PersistenceStep.TheVariants.{Store, Clean, Fence, Evict}
 use Rattle.clean_fence.specs.Represents.{LineView, RepresentsLine}
 use Rattle.clean_fence.proofs.Pieces.{Same, Written, StoredTo, CleanedBy, stored_stands, other_store, cleaned_stands, other_clean, evicted_stands, other_evict, fenced_stands, other_fence, same_stands}
 

@@ -2,12 +2,12 @@
 use Rattle.std.proofs.Common.{◌+◌, ◌≡◌, ℕ, true, false, eqb, ◌||◌, ◌&&◌, List, ◌∷◌, arith, ◌∙◌}
 use Rattle.std.proofs.lemmas.Bool.Decides.{nat_tests}
 use Rattle.word_bits.specs.Bytes.{stored}
-use Rattle.crash_model.specs.Stores.{stores}
-use Rattle.crash_model.proofs.Bounds.{written_back_le_stores}
-use Rattle.crash_model.proofs.Images.{line_after_same}
-use Rattle.crash_model.proofs.Pendings.{pends_clean, pends_fence, pends_evict}
-use Rattle.crash_model.specs.declared.step.PersistenceStep.{PersistenceStep}
-use Rattle.crash_model.specs.declared.step.PersistenceStep.TheVariants.{Store, Clean, Fence, Evict}
+use Rattle.store_trace.specs.Stores.{stores}
+use Rattle.store_trace.proofs.Bounds.{written_back_le_stores}
+use Rattle.store_trace.proofs.Images.{line_after_same}
+use Rattle.store_trace.proofs.Pendings.{pends_clean, pends_fence, pends_evict}
+use Rattle.store_trace.specs.declared.crash_model.step.PersistenceStep.{PersistenceStep}
+use Rattle.store_trace.specs.declared.crash_model.step.PersistenceStep.TheVariants.{Store, Clean, Fence, Evict}
 use Rattle.clean_fence.specs.Represents.{LineView, RepresentsLine}
 
 -- a line as it was

@@ -8,15 +8,15 @@ use Rattle.line_memory.specs.Lines.{line_at}
 use Rattle.lru_cache.specs.Cache.{CacheView, IsCache, shown, is_dirty, after_eviction, after_forced, after_change, written_by_forced, after_load as after_line_load, written_back as line_written_back}
 use Rattle.lru_cache.specs.Order.{LineOrders, list_with, order_after_mark}
 use Rattle.lru_cache.proofs.Shows.{length_shown, shown_empty}
-use Rattle.crash_model.specs.Cut.{IsCutImage}
-use Rattle.crash_model.specs.Image.{image, memory_after}
-use Rattle.crash_model.specs.Stores.{stores}
-use Rattle.crash_model.specs.WrittenBack.{write_back_state, written_back}
-use Rattle.crash_model.proofs.Images.{image_from_lines, image_memory, image_same}
-use Rattle.crash_model.proofs.Leaving.{written_back_image}
-use Rattle.crash_model.proofs.Pendings.{back_count}
-use Rattle.crash_model.specs.declared.step.PersistenceStep.{PersistenceStep}
-use Rattle.crash_model.specs.declared.step.PersistenceStep.TheVariants.{Store, Clean, Evict}
+use Rattle.store_trace.specs.Cut.{IsCutImage}
+use Rattle.store_trace.specs.Image.{image, memory_after}
+use Rattle.store_trace.specs.Stores.{stores}
+use Rattle.store_trace.specs.WrittenBack.{write_back_state, written_back}
+use Rattle.store_trace.proofs.Images.{image_from_lines, image_memory, image_same}
+use Rattle.store_trace.proofs.Leaving.{written_back_image}
+use Rattle.store_trace.proofs.Pendings.{back_count}
+use Rattle.store_trace.specs.declared.crash_model.step.PersistenceStep.{PersistenceStep}
+use Rattle.store_trace.specs.declared.crash_model.step.PersistenceStep.TheVariants.{Store, Clean, Evict}
 use Rattle.clean_fence.specs.Rules.{PmView, memory_of, victim, started}
 use Rattle.clean_fence.specs.Represents.{RepresentsLine, Represents}
 use Rattle.clean_fence.proofs.Holding.{Told, IsTold, Holds, told_written, told_stored, told_marked, holds_evict, holds_store, holds_clean, holds_idle_clean}

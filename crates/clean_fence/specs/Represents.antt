@@ -4,11 +4,11 @@ use Rattle.std.specs.Prelude.{◌≡◌, ℕ, ◌<◌, Bool, true, List, [], ◌
 use Rattle.index_list.specs.Lists.{has}
 use Rattle.line_memory.specs.Lines.{line_at}
 use Rattle.lru_cache.specs.Cache as lru
-use Rattle.crash_model.specs.Image.{line_after}
-use Rattle.crash_model.specs.Stores.{stores}
-use Rattle.crash_model.specs.WrittenBack.{written_back, is_dirty, is_pending}
-use Rattle.crash_model.specs.declared.step.PersistenceStep.{PersistenceStep}
-use Rattle.crash_model.specs.declared.step.PersistenceStep.TheVariants.{Evict}
+use Rattle.store_trace.specs.Image.{line_after}
+use Rattle.store_trace.specs.Stores.{stores}
+use Rattle.store_trace.specs.WrittenBack.{written_back, is_dirty, is_pending}
+use Rattle.store_trace.specs.declared.crash_model.step.PersistenceStep.{PersistenceStep}
+use Rattle.store_trace.specs.declared.crash_model.step.PersistenceStep.TheVariants.{Evict}
 use Rattle.clean_fence.specs.Rules.{PmView, HasRoom, SameSizes, memory_of}
 
 -- what there is of one line: its bytes in the medium and as loads find them, whether it is dirty, and for which harts it pends

@@ -12,11 +12,11 @@ ghost use Rattle.line_memory.specs.Lines.{AreLines, line_at, line_bytes};
 ghost use Rattle.line_memory.specs.Memory.{IsWidth, loaded_from, stored_to};
 ghost use Rattle.lru_cache.specs.Cache.{IsCache, is_dirty, is_resident};
 ghost use Rattle.lru_cache.specs.Order.{marked_in};
-ghost use Rattle.crash_model.specs.Cut.{IsCutImage};
-ghost use Rattle.crash_model.specs.Image.{image, memory_after};
-ghost use Rattle.crash_model.specs.WrittenBack.{write_back_state};
-ghost use Rattle.crash_model.specs.declared.step.PersistenceStep.{PersistenceStep};
-ghost use Rattle.crash_model.specs.declared.step.PersistenceStep.TheVariants as step;
+ghost use Rattle.store_trace.specs.Cut.{IsCutImage};
+ghost use Rattle.store_trace.specs.Image.{image, memory_after};
+ghost use Rattle.store_trace.specs.WrittenBack.{write_back_state};
+ghost use Rattle.store_trace.specs.declared.crash_model.step.PersistenceStep.{PersistenceStep};
+ghost use Rattle.store_trace.specs.declared.crash_model.step.PersistenceStep.TheVariants as step;
 ghost use Rattle.clean_fence.specs.Rules.{PmView, after_clean, after_completion, after_evict, after_fence, after_flush, after_load, after_store, memory_of, started, victim};
 ghost use Rattle.clean_fence.specs.Represents.{CacheSteps, Represents, RepresentsUnforced};
 

@@ -7,8 +7,8 @@ use Rattle.debugger.specs.declared.fault.DebugFault.{DebugFault}
 use Rattle.debugger.specs.declared.fault.DebugFault.TheVariants as faults
 use Rattle.debugger.specs.declared.points.Point.{Point}
 use Rattle.machine.specs.Represents.{MachineView}
-use Rattle.session.specs.StreamFailures.{EndsBy}
-use Rattle.session.specs.Sessions.{Fails, Session}
+use Rattle.debugger.specs.StreamFailures.{EndsBy}
+use Rattle.debugger.specs.Sessions.{Fails, Session}
 use Rattle.command_line.specs.Debugging.{FailsBy, IsBrokenOff, debugger_of}
 use Rattle.command_line.specs.Failures.{failure_of_session}
 use Rattle.command_line.specs.declared.failure.Failure.{Failure}

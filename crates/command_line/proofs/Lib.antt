@@ -2,6 +2,5 @@ mod Held
 mod Kept
 mod Loops
 pub mod Written
-mod SourceLines
-mod OnTheWay
-mod JudgedRows
+mod ObjectPrograms
+pub mod OnTheWay

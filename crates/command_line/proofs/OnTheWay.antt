@@ -1,138 +1,121 @@
--- What is told on the way to a verdict, row of moments by row of moments.
-use Rattle.std.proofs.Common.{◌≡◌, inl, inr, ℕ, ◌+◌, ◌-◌, ◌<◌, ◌≤◌, ◌++◌, List, [], Option, Result, Ok, Err, Bool, true, refl, subst, arith}
-use Rattle.std.specs.Prelude.{OnOk}
-use Rattle.std.specs.Result.{is_ok}
+-- What a reporter writes on the way to a verdict, line by line.
+use Rattle.std.proofs.Common.{◌≡◌, ◌∙◌, inl, inr, ℕ, ◌+◌, ◌-◌, ◌<◌, ◌≤◌, ◌++◌, List, [], Option, Bool, true, false, refl, sym, subst}
 use Rattle.std.specs.Io.KnownBytes.{Appends}
-use Rattle.std.proofs.lemmas.Bool.{cases_lt}
 use Rattle.std.proofs.lemmas.List.{append-nil}
-use Rattle.crash_image.specs.Totals.{IsImageSum}
-use Rattle.session.specs.StreamFailures.{AppendsFront}
-use Rattle.session.specs.declared.input.Failed.{Failed}
+use Rattle.debugger.specs.StreamFailures.{AppendsFront}
 use Rattle.store_trace.specs.declared.event.Event.{Event}
-use Rattle.command_line.specs.Progress.{AllPass, IsLineOf, IsProgress, Progresses, WritesLine}
+use Rattle.verdict.specs.Progress.{HasHeard, IsTold}
+use Rattle.verdict.specs.Verdicts.{IsVerdictBetween}
+use Rattle.verdict.specs.declared.moment_verdict.verdict.MomentVerdict.{MomentVerdict}
+use Rattle.verdict.specs.declared.moment_verdict.verdict.Verdict.TheVariants.{Pass}
+use Rattle.command_line.specs.Progress.{IsToldIf, Progresses, WritesIf, WritesLine, gets_line, progress_line}
 use Rattle.command_line.proofs.Written.{front_more, front_nothing, joined, part_none}
 
--- the moments below `next` pass, and this was told of them, all of it where standard error has not failed
-pub record IsAt (passed : ℕ → Type 0) (events : List Event) (first end next : ℕ) (is_heard : Bool) (old new : Option (List ℕ)) : Type 0 where
-  pub from : first ≤ next
-  pub within : next ≤ end
-  pub all : AllPass passed first next
-  pub moment : ℕ
+-- the text that moments were told in, all of it where every line got through; nothing where no line is wanted
+pub record IsWritten {Cause E : Type 0} (said : E → Option (List ℕ)) (judged : ℕ → MomentVerdict Cause → Type 0) (events : List Event)
+    (first end passed : ℕ) (wanted : Bool) (errors : E) (wanted' : Bool) (errors' : E) : Type 0 where
   pub text : List ℕ
-  pub behind : first + moment ≤ next
-  pub is_progress : IsProgress passed events first end moment text
-  pub front : AppendsFront old new text
-  pub whole : is_heard ≡ true → Appends old new text
+  pub is_told : HasHeard gets_line judged events first end [] passed text
+  pub front : wanted ≡ true → AppendsFront (said errors) (said errors') text
+  pub whole : wanted ≡ true → wanted' ≡ true → Appends (said errors) (said errors') text
+  pub closed : wanted ≡ false → (wanted' ≡ false) × (errors' ≡ errors)
 
-pub at_first : (passed : ℕ → Type 0) (events : List Event) (first end : ℕ) (old : Option (List ℕ)) → first ≤ end →
-    IsAt passed events first end first true old old
-at_first passed events first end old order = record {
-  from = omega arith;
-  within = order;
-  all = λ m f l. absurd (omega (arith, f, l));
-  moment = 0;
+written_nothing : {Cause E : Type 0} (said : E → Option (List ℕ)) (judged : ℕ → MomentVerdict Cause → Type 0) (events : List Event)
+    (first end : ℕ) (wanted : Bool) (errors : E) → IsWritten said judged events first end 0 wanted errors wanted errors
+written_nothing said judged events first end wanted errors = record {
   text = [];
-  behind = omega arith;
-  is_progress = IsProgress.starts;
-  front = front_nothing old [];
-  whole = λ heard. part_none old [];
+  is_told = HasHeard.nothing;
+  front = λ w. front_nothing (said errors) [];
+  whole = λ w w'. part_none (said errors) [];
+  closed = λ w. (w, refl);
 }
 
--- two rows of moments that pass
-pub passes_join : (passed : ℕ → Type 0) (first middle end : ℕ) → AllPass passed first middle → AllPass passed middle end → AllPass passed first end
-passes_join passed first middle end before after m f l = elim (cases_lt m middle) [
-  | inl earlier ↦ before m f earlier
-  | inr late ↦ after m late l
+written_more : {Cause E : Type 0} (said : E → Option (List ℕ)) (judged : ℕ → MomentVerdict Cause → Type 0) (events : List Event)
+    (first end passed further : ℕ) (images : Option ℕ) (wanted : Bool) (errors : E) (between : Bool) (errors' : E) (wanted'' : Bool) (errors'' : E) →
+    IsWritten said judged events first end passed wanted errors between errors' → passed < further → first + further ≤ end →
+    IsVerdictBetween judged events first (first + further) (Pass further images) →
+    WritesIf said (progress_line further (end - first) images) between errors' wanted'' errors'' →
+    IsWritten said judged events first end further wanted errors wanted'' errors''
+written_more said judged events first end passed further images wanted errors false errors' wanted'' errors'' is later there row none = record {
+  text = is.text;
+  is_told = HasHeard.more passed further images is.text is.text is.is_told later there row (inl refl);
+  front = λ w. rw none.1 (is.front w);
+  whole = λ w w'. absurd cc;
+  closed = λ w. (none.0, none.1 ∙ (is.closed w).1);
+}
+written_more said judged events first end passed further images wanted errors true errors' wanted'' errors'' is later there row line = elim line.is_line [
+  | inl none ↦ record {
+    text = is.text;
+    is_told = HasHeard.more passed further images is.text is.text is.is_told later there row (inl refl);
+    front = λ w. rw append-nil at (rw none at (front_more (said errors) (said errors') (said errors'') is.text line.written (is.whole w refl) line.front));
+    whole = λ w w'. rw append-nil at (rw none at (joined (said errors) (said errors') (said errors'') is.text line.written (is.whole w refl) (line.whole w')));
+    closed = λ w. let shut : true ≡ false = (is.closed w).0 in absurd cc;
+  }
+  | inr all ↦ record {
+    text = is.text ++ progress_line further (end - first) images;
+    is_told = HasHeard.more passed further images is.text (is.text ++ progress_line further (end - first) images) is.is_told later there row (inr refl);
+    front = λ w. rw all at (front_more (said errors) (said errors') (said errors'') is.text line.written (is.whole w refl) line.front);
+    whole = λ w w'. rw all at (joined (said errors) (said errors') (said errors'') is.text line.written (is.whole w refl) (line.whole w'));
+    closed = λ w. let shut : true ≡ false = (is.closed w).0 in absurd cc;
+  }
 ]
 
--- further moments that pass, of which nothing is told
-pub quiet_window : (passed : ℕ → Type 0) (events : List Event) (first end next further : ℕ) (is_heard : Bool) (old new : Option (List ℕ)) →
-    IsAt passed events first end next is_heard old new → next < further → further ≤ end → AllPass passed first further →
-    IsAt passed events first end further is_heard old new
-quiet_window passed events first end next further is_heard old new at more there all = record {
-  from = omega (arith, at.from, more);
-  within = there;
-  all = all;
-  moment = at.moment;
-  text = at.text;
-  behind = omega (arith, at.behind, more);
-  is_progress = at.is_progress;
-  front = at.front;
-  whole = at.whole;
+-- no line is due
+pub writes_none : {E : Type 0} (said : E → Option (List ℕ)) (line : List ℕ) (wanted : Bool) (errors : E) → WritesIf said line wanted errors wanted errors
+writes_none said line true errors = record {
+  written = [];
+  is_line = inl refl;
+  whole = λ w. part_none (said errors) [];
+  front = front_nothing (said errors) [];
 }
+writes_none said line false errors = (refl, refl)
 
--- all of a line is written where nothing failed
-written_whole : (old new : Option (List ℕ)) (line : List ℕ) (outcome : Result (Unit {0}) Failed) → OnOk outcome (Appends old new line) →
-    is_ok outcome ≡ true → Appends old new line
-written_whole old new line (Ok done) whole heard = whole
-written_whole old new line (Err failed) whole heard = absurd cc
+-- what becomes of a reporter, whose stream has a name, when it hears of moments that pass
+abbrev pub Reports : {Reporter E : Type 0} → (Reporter → ℕ) → (Reporter → Bool) → (Reporter → E) → (E → Option (List ℕ)) →
+    Reporter → ℕ → ℕ → Option ℕ → Reporter → Type 0
+Reports name wanted errors said before moment moments images after = (name after ≡ name before)
+    × WritesIf said (progress_line moment moments images) (wanted before) (errors before) (wanted after) (errors after)
 
--- the line of a front of the moments goes on what was told of an earlier one
-line_goes_on : (passed : ℕ → Type 0) (events : List Event) (first end moment further : ℕ) (text line : List ℕ) →
-    IsProgress passed events first end moment text → first + moment < further → further ≤ end → AllPass passed first further →
-    IsLineOf events first further end line → IsProgress passed events first end (further - first) (text ++ line)
-line_goes_on passed events first end moment further text line before later there all is =
-    let same : first + (further - first) ≡ further = omega (arith, later) in
-    let sum : IsImageSum events first (first + (further - first)) is.images = rw same is.sum in
-    let reached : AllPass passed first (first + (further - first)) = rw same all in
-    rw is.line_is (IsProgress.goes_on moment (further - first) is.images text before (omega (arith, later)) (omega (arith, there, same)) reached sum)
+written : {Reporter E Cause : Type 0} (name : Reporter → ℕ) (wanted : Reporter → Bool) (errors : Reporter → E) (said : E → Option (List ℕ))
+    (judged : ℕ → MomentVerdict Cause → Type 0) (events : List Event) (first end : ℕ) (reporter : Reporter) (passed : ℕ) (reporter' : Reporter) →
+    HasHeard (Reports name wanted errors said) judged events first end reporter passed reporter' →
+    IsWritten said judged events first end passed (wanted reporter) (errors reporter) (wanted reporter') (errors reporter')
+written name wanted errors said judged events first end reporter _ _ HasHeard.nothing =
+    written_nothing said judged events first end (wanted reporter) (errors reporter)
+written name wanted errors said judged events first end reporter _ _ (HasHeard.more passed further images before after heard later there row line) =
+    written_more said judged events first end passed further images (wanted reporter) (errors reporter) (wanted before) (errors before) (wanted after) (errors after)
+    (written name wanted errors said judged events first end reporter passed before heard) later there row line.1
 
--- further moments that pass, of which a line, or nothing, was written
-pub told_window : (passed : ℕ → Type 0) (events : List Event) (first end next further : ℕ)
-    (old between new : Option (List ℕ)) (outcome : Result (Unit {0}) Failed) →
-    IsAt passed events first end next true old between → next < further → further ≤ end →
-    AllPass passed first further → WritesLine events first further end between new outcome →
-    IsAt passed events first end further (is_ok outcome) old new
-told_window passed events first end next further old between new outcome at more there all written =
-    let before : Appends old between at.text = at.whole refl in
-    let from : first ≤ further = omega (arith, at.from, more) in
-    elim written.is_line [
-      | inl none ↦ record {
-        from = from;
-        within = there;
-        all = all;
-        moment = at.moment;
-        text = at.text;
-        behind = omega (arith, at.behind, more);
-        is_progress = at.is_progress;
-        front = rw append-nil at (rw none at (front_more old between new at.text written.line before written.front));
-        whole = λ heard. rw append-nil at (rw none at (joined old between new at.text written.line before (written_whole between new written.line outcome written.writes heard)));
-      }
-      | inr line ↦ record {
-        from = from;
-        within = there;
-        all = all;
-        moment = further - first;
-        text = at.text ++ written.line;
-        behind = omega (arith, from);
-        is_progress = line_goes_on passed events first end at.moment further at.text written.line at.is_progress (omega (arith, at.behind, more)) there all line;
-        front = front_more old between new at.text written.line before written.front;
-        whole = λ heard. joined old between new at.text written.line before (written_whole between new written.line outcome written.writes heard);
-      }
-    ]
+same_name : {Reporter E Cause : Type 0} (name : Reporter → ℕ) (wanted : Reporter → Bool) (errors : Reporter → E) (said : E → Option (List ℕ))
+    (judged : ℕ → MomentVerdict Cause → Type 0) (events : List Event) (first end : ℕ) (reporter : Reporter) (passed : ℕ) (reporter' : Reporter) →
+    HasHeard (Reports name wanted errors said) judged events first end reporter passed reporter' → name reporter' ≡ name reporter
+same_name name wanted errors said judged events first end reporter _ _ HasHeard.nothing = refl
+same_name name wanted errors said judged events first end reporter _ _ (HasHeard.more passed further images before after heard later there row line) =
+    line.0 ∙ same_name name wanted errors said judged events first end reporter passed before heard
 
-pub told_so_far : (passed : ℕ → Type 0) (events : List Event) (first end next : ℕ) (is_heard : Bool)
-    (old new : Option (List ℕ)) → IsAt passed events first end next is_heard old new → Progresses passed events first end old new
-told_so_far passed events first end next is_heard old new at = record {
-  moment = at.moment;
-  text = at.text;
-  is_progress = at.is_progress;
-  writes = at.front;
+pub same_stream : {Reporter E Cause : Type 0} (name : Reporter → ℕ) (wanted : Reporter → Bool) (errors : Reporter → E) (said : E → Option (List ℕ))
+    (judged : ℕ → MomentVerdict Cause → Type 0) (events : List Event) (first end : ℕ) (reporter reporter' : Reporter) →
+    IsTold (Reports name wanted errors said) judged events first end reporter reporter' → name reporter' ≡ name reporter
+same_stream name wanted errors said judged events first end reporter reporter' told =
+    same_name name wanted errors said judged events first end reporter told.passed reporter' told.heard
+
+-- nothing is told where no line is wanted
+told_if : {Cause E : Type 0} (said : E → Option (List ℕ)) (judged : ℕ → MomentVerdict Cause → Type 0) (events : List Event)
+    (first end passed : ℕ) (wanted : Bool) (errors : E) (wanted' : Bool) (errors' : E) →
+    IsWritten said judged events first end passed wanted errors wanted' errors' →
+    IsToldIf wanted (Progresses (IsTold gets_line judged events first end []) (said errors) (said errors')) errors errors'
+told_if said judged events first end passed true errors wanted' errors' is = record {
+  text = is.text;
+  is_told = record { passed = passed; heard = is.is_told };
+  writes = is.front refl;
 }
+told_if said judged events first end passed false errors wanted' errors' is = (is.closed refl).1
 
--- nothing was told
-pub told_nothing : (passed : ℕ → Type 0) (events : List Event) (first end : ℕ) (old : Option (List ℕ)) → Progresses passed events first end old old
-told_nothing passed events first end old = record {
-  moment = 0;
-  text = [];
-  is_progress = IsProgress.starts;
-  writes = front_nothing old [];
-}
-
--- what was told of some moments of a run, by other names
-pub told_as : {View : Type 0} (passed : View → ℕ → Type 0) (events : View → List Event) (run same : View) (first from end until : ℕ) (old new : Option (List ℕ)) →
-    run ≡ same → first ≡ from → end ≡ until → Progresses (passed run) (events run) first end old new → Progresses (passed same) (events same) from until old new
-told_as {View} passed events run same first from end until old new e begins ends told =
-    subst (λ (v : View). Progresses (passed v) (events v) from until old new) e
-    (subst (λ (n : ℕ). Progresses (passed run) (events run) from n old new) ends
-    (subst (λ (n : ℕ). Progresses (passed run) (events run) n end old new) begins told))
+pub told_lines : {Reporter E Cause : Type 0} (name : Reporter → ℕ) (wanted : Reporter → Bool) (errors : Reporter → E) (said : E → Option (List ℕ))
+    (judged : ℕ → MomentVerdict Cause → Type 0) (events : List Event) (first end : ℕ) (reporter reporter' : Reporter) →
+    IsTold (Reports name wanted errors said) judged events first end reporter reporter' →
+    IsToldIf (wanted reporter) (Progresses (IsTold gets_line judged events first end []) (said (errors reporter)) (said (errors reporter')))
+    (errors reporter) (errors reporter')
+told_lines name wanted errors said judged events first end reporter reporter' told =
+    told_if said judged events first end told.passed (wanted reporter) (errors reporter) (wanted reporter') (errors reporter')
+    (written name wanted errors said judged events first end reporter told.passed reporter' told.heard)

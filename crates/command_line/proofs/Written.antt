@@ -4,8 +4,8 @@ use Rattle.std.proofs.Math.Seq.{take-add, take-length}
 use Rattle.std.proofs.lemmas.List.{append_assoc, append-nil, take-append-drop}
 use Rattle.std.specs.Prelude.{OnErr, OnOk}
 use Rattle.std.specs.Io.KnownBytes.{Appends, Keeps}
-use Rattle.session.specs.StreamFailures.{AppendsFront}
-use Rattle.session.specs.declared.input.Failed.{Failed}
+use Rattle.debugger.specs.StreamFailures.{AppendsFront}
+use Rattle.debugger.specs.declared.sessions.input.Failed.{Failed}
 
 pub part_none : (stream : Option (List ℕ)) (text : List ℕ) → Appends stream stream (take 0 text)
 part_none None text = tt

@@ -1,27 +1,23 @@
 -- What `check` comes to.
-use Rattle.std.specs.Prelude.{◌≡◌, IfSome, ℕ, List, Option, Result, MatchResult, ◌++◌, codes, string_bytes}
+use Rattle.std.specs.Prelude.{◌≡◌, IfSome, ℕ, List, [], Option, Result, MatchResult, ◌++◌, codes, string_bytes}
 use Rattle.arguments.specs.Line.{IsWithin}
 use Rattle.arguments.specs.Spans.{IsUpward}
 use Rattle.arguments.specs.declared.asked.CheckCommand.{CheckCommand}
-use Rattle.arguments.specs.declared.asked.Moments.{Moments}
-use Rattle.image_check.specs.Verdicts.{IsRefusal, judged_at}
-use Rattle.image_causes.specs.Told.{IsAsked}
+use Rattle.image_check.specs.Verdicts.{IsRefusal}
+use Rattle.crash_test.specs.Told.{IsAsked}
 use Rattle.image_check.specs.declared.cause.Cause.{Cause}
 use Rattle.image_check.specs.declared.cause.Cause.TheVariants as causes
-use Rattle.moment_verdict.specs.declared.verdict.Verdict.{Verdict}
-use Rattle.parallel_moments.specs.Rows.{end_of}
+use Rattle.verdict.specs.declared.moment_verdict.verdict.Verdict.{Verdict}
 use Rattle.plan.specs.Plans.{PlanView}
-use Rattle.plan.specs.declared.operation.Operation.{Operation}
-use Rattle.crash_test.specs.Checking.{HasVerdict}
+use Rattle.crash_test.specs.Checking.{HasVerdict, IsToldOf}
 use Rattle.crash_test.specs.Programs.{IsProgramOf}
-use Rattle.recording.specs.Runs.{RunView}
-use Rattle.whole_run.specs.Causes.{numbers_of}
+use Rattle.unfinished.specs.Causes.{numbers_of}
 use Rattle.command_line.specs.Codes.{volume_code}
 use Rattle.command_line.specs.Failures.{failure_of_check}
 use Rattle.command_line.specs.Demanding.{MeetsWhole}
 use Rattle.command_line.specs.MakingRuns.{OpensRun}
 use Rattle.command_line.specs.Reading.{ReadsPlan}
-use Rattle.command_line.specs.Progress.{IsToldIf, Progresses, passes_of}
+use Rattle.command_line.specs.Progress.{IsToldIf, Progresses, gets_line}
 use Rattle.command_line.specs.Reasons.{Explains, told_why}
 use Rattle.command_line.specs.Steps.{First, Prints, Reads, Step, Still, Tells}
 use Rattle.command_line.specs.Verdicts.{failing, first_of, last_of, told_verdict, verdict_status}
@@ -58,16 +54,15 @@ pub record JudgesOpen (check : OpenCheck) (outcome : Result (Verdict Cause) Fail
   pub judges : MatchResult outcome (HasVerdict check.plan.operations check.made.run (first_of check.command.moments) (last_of check.command.moments))
       (Tells (IsRefusal check.plan.operations check.made.run.events (first_of check.command.moments)) failure_of_check)
 
--- how far the check of these moments had come was told
-abbrev pub TellsProgress : List Operation → RunView → Option Moments → Option (List ℕ) → Option (List ℕ) → Type 0
-TellsProgress plan run moments old new =
-    Progresses (passes_of (judged_at plan run.setup.medium run.events)) run.events (first_of moments) (end_of run.events (last_of moments)) old new
+-- how far the check had come was told
+abbrev pub TellsProgress : OpenCheck → Option (List ℕ) → Option (List ℕ) → Type 0
+TellsProgress check =
+    Progresses (IsToldOf gets_line check.plan.operations check.made.run (first_of check.command.moments) (last_of check.command.moments) [])
 
 -- the verdict, and what standard error was told on the way
 pub record Watches {E : Type 0} (said : E → Option (List ℕ)) (check : OpenCheck) (errors : E) (outcome : Result (Verdict Cause) Failure) (errors' : E) : Type 0 where
   pub judges : JudgesOpen check outcome
-  pub told : IsToldIf check.command.progress
-      (TellsProgress check.plan.operations check.made.run check.command.moments (said errors) (said errors')) errors errors'
+  pub told : IsToldIf check.command.progress (TellsProgress check (said errors) (said errors')) errors errors'
 
 -- what a check comes to whose run was made
 abbrev pub JudgesCheck : {E : Type 0} → (E → Option (List ℕ)) → OpenCheck → Step E Answer

@@ -1,11 +1,11 @@
 -- The names that faults are known by.
 use Rattle.std.specs.Prelude.{ℕ, List, codes}
-use Rattle.asm_line.specs.declared.fault.AsmCode.{AsmCode}
-use Rattle.asm_line.specs.declared.fault.AsmCode.TheVariants as asm
+use Rattle.assemble.specs.declared.asm_line.fault.AsmCode.{AsmCode}
+use Rattle.assemble.specs.declared.asm_line.fault.AsmCode.TheVariants as asm
 use Rattle.image_check.specs.declared.fault.OpFault.{OpFault}
 use Rattle.image_check.specs.declared.fault.OpFault.TheVariants as marks
-use Rattle.judge_marks.specs.declared.fault.MarkFault.{MarkFault}
-use Rattle.judge_marks.specs.declared.fault.MarkFault.TheVariants as judged
+use Rattle.routine_judge.specs.declared.history.fault.MarkFault.{MarkFault}
+use Rattle.routine_judge.specs.declared.history.fault.MarkFault.TheVariants as judged
 use Rattle.nova_log.specs.declared.fault.VolumeFault.{VolumeFault}
 use Rattle.nova_log.specs.declared.fault.VolumeFault.TheVariants as volumes
 use Rattle.program.specs.declared.fault.LoadFault.{LoadFault}

@@ -1,7 +1,7 @@
 -- What `code` prints.
 use Rattle.std.specs.Prelude.{ℕ, List, Option, Some, None}
-use Rattle.code_table.specs.Codes.{list_text, meaning_text}
-use Rattle.code_table.specs.declared.table.Meaning.{Meaning}
+use Rattle.arguments.specs.Codes.{list_text, meaning_text}
+use Rattle.arguments.specs.declared.codes.table.Meaning.{Meaning}
 
 -- what one code means, or the list of all
 abbrev pub code_text : Option Meaning → List ℕ

@@ -7,12 +7,12 @@ use Rattle.debugger.specs.declared.fault.DebugFault.{DebugFault}
 use Rattle.debugger.specs.declared.fault.DebugFault.TheVariants.{InputOutput, Memory}
 use Rattle.debugger.specs.Points.{DebuggerView}
 use Rattle.machine.specs.Represents.{MachineView}
-use Rattle.shared_memory.specs.Limits.{RefusesStart}
-use Rattle.session.specs.StreamFailures.{one_more}
-use Rattle.session.specs.Running.{SomeRun}
-use Rattle.session.specs.Sessions.{BreaksOff, Session}
+use Rattle.machine.specs.Limits.{RefusesStart}
+use Rattle.debugger.specs.StreamFailures.{one_more}
+use Rattle.debugger.specs.Running.{SomeRun}
+use Rattle.debugger.specs.Sessions.{BreaksOff, Session}
 use Rattle.crash_test.specs.Runs.{IsAtStart}
-use Rattle.recording.specs.declared.setup.Setup.{Setup}
+use Rattle.machine.specs.declared.recording.setup.Setup.{Setup}
 use Rattle.command_line.specs.Failures.{failure_of_session, failure_of_step}
 use Rattle.command_line.specs.Reading.{ReadsMedium, ReadsProgram}
 use Rattle.command_line.specs.Running.{machine_of}

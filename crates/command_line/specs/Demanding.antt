@@ -1,11 +1,11 @@
 -- `--whole`: what comes of a run that was to be whole.
 use Rattle.std.specs.Prelude.{◌≡◌, ◌≢◌, ◌⊎◌, ⊤, ℕ, Bool, true, false, List, [], Result, MatchResult, string_bytes}
 use Rattle.crash_test.specs.Lines.{line_of}
-use Rattle.recording.specs.Runs.{RunView}
-use Rattle.run_text.specs.Causes.{unfinished_text}
-use Rattle.whole_run.specs.Causes.{AreCauses}
-use Rattle.whole_run.specs.Whole.{IsWhole}
-use Rattle.whole_run.specs.declared.unfinished.Unfinished.{Unfinished as Cause}
+use Rattle.machine.specs.RecordingRuns.{RunView}
+use Rattle.report.specs.Causes.{unfinished_text}
+use Rattle.unfinished.specs.Causes.{AreCauses}
+use Rattle.unfinished.specs.Whole.{IsWhole}
+use Rattle.unfinished.specs.declared.unfinished.Unfinished.{Unfinished as Cause}
 use Rattle.command_line.specs.Writing.{IsDone}
 use Rattle.command_line.specs.declared.failure.Failure.{Failure}
 use Rattle.command_line.specs.declared.failure.Failure.TheVariants.{Unfinished, Line, Refused, Memory, File}

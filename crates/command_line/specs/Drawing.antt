@@ -1,11 +1,11 @@
 -- What `interleave` comes to.
 use Rattle.std.specs.Prelude.{List, Result, MatchResult, option_map, string_bytes}
 use Rattle.arguments.specs.declared.asked.InterleaveCommand.{InterleaveCommand}
-use Rattle.interleaving.specs.Drawing.{IsDrawn, StopsDrawing}
-use Rattle.interleaving.specs.Interleaves.{IsWhole}
+use Rattle.random_schedule.specs.Drawing.{IsDrawn, StopsDrawing}
+use Rattle.random_schedule.specs.Interleaves.{IsWhole}
 use Rattle.machine.specs.Run.{Config}
 use Rattle.machine.specs.Represents.{MachineView, Represents}
-use Rattle.schedule.specs.declared.items.Item.{Item}
+use Rattle.machine.specs.declared.schedule.items.Item.{Item}
 use Rattle.command_line.specs.Debugging.{Starts}
 use Rattle.command_line.specs.Failures.{failure_of_drawing}
 use Rattle.command_line.specs.Reading.{ReadsMedium, ReadsProgram}

@@ -1,11 +1,11 @@
 -- What `explain` comes to.
 use Rattle.std.specs.Prelude.{ℕ, List, [], Result, MatchResult}
 use Rattle.arguments.specs.declared.asked.ExplainCommand.{ExplainCommand}
-use Rattle.image_name.specs.declared.name.ImageName.{ImageName}
-use Rattle.schedule.specs.declared.items.Item.{Item}
+use Rattle.text.specs.declared.image_name.name.ImageName.{ImageName}
+use Rattle.machine.specs.declared.schedule.items.Item.{Item}
 use Rattle.crash_test.specs.Explaining.{ExplainsImage}
-use Rattle.image_causes.specs.Told.{LacksImage}
-use Rattle.recording.specs.Runs.{RunView}
+use Rattle.crash_test.specs.Told.{LacksImage}
+use Rattle.machine.specs.RecordingRuns.{RunView}
 use Rattle.command_line.specs.Failures.{failure_of_image}
 use Rattle.command_line.specs.Demanding.{MeetsWhole}
 use Rattle.command_line.specs.MakingRuns.{OpensRun}

@@ -1,8 +1,8 @@
 -- What standard error gets of a command that fails, the status that the program then ends with, and which failure a fault
 -- of the layers below comes to.
-use Rattle.std.specs.Prelude.{ℕ, List, ◌++◌, codes, decimal, string_bytes}
-use Rattle.asm_line.specs.declared.fault.AsmCode.{AsmCode}
-use Rattle.asm_line.specs.declared.fault.AsmCode.TheVariants as asm
+use Rattle.std.specs.Prelude.{ℕ, List, [], ◌++◌, codes, decimal, string_bytes}
+use Rattle.assemble.specs.declared.asm_line.fault.AsmCode.{AsmCode}
+use Rattle.assemble.specs.declared.asm_line.fault.AsmCode.TheVariants as asm
 use Rattle.assemble.specs.declared.fault.AsmFault.{AsmFault}
 use Rattle.crash_image.specs.declared.ImageFault.{ImageFault}
 use Rattle.crash_image.specs.declared.ImageFault.TheVariants as images
@@ -10,10 +10,10 @@ use Rattle.debugger.specs.declared.fault.DebugFault.{DebugFault}
 use Rattle.debugger.specs.declared.fault.DebugFault.TheVariants as sessions
 use Rattle.image_check.specs.declared.fault.CheckFault.{CheckFault}
 use Rattle.image_check.specs.declared.fault.CheckFault.TheVariants as checks
-use Rattle.image_judge.specs.declared.fault.JudgeFault.{JudgeFault}
-use Rattle.image_judge.specs.declared.fault.JudgeFault.TheVariants as judges
-use Rattle.interleaving.specs.declared.fault.InterleaveFault.{InterleaveFault}
-use Rattle.interleaving.specs.declared.fault.InterleaveFault.TheVariants as drawing
+use Rattle.routine_judge.specs.declared.fault.JudgeFault.{JudgeFault}
+use Rattle.routine_judge.specs.declared.fault.JudgeFault.TheVariants as judges
+use Rattle.random_schedule.specs.declared.fault.InterleaveFault.{InterleaveFault}
+use Rattle.random_schedule.specs.declared.fault.InterleaveFault.TheVariants as drawing
 use Rattle.line_memory.specs.declared.MediumFault.{MediumFault}
 use Rattle.line_memory.specs.declared.MediumFault.TheVariants as media
 use Rattle.nova_log.specs.declared.fault.VolumeFault.{VolumeFault}
@@ -21,16 +21,16 @@ use Rattle.nova_log.specs.declared.fault.VolumeFault.TheVariants as volumes
 use Rattle.plan.specs.declared.fault.PlanCode.{PlanCode}
 use Rattle.plan.specs.declared.fault.PlanCode.TheVariants as plans
 use Rattle.plan.specs.declared.fault.PlanFault.{PlanFault}
-use Rattle.schedule.specs.declared.fault.ScheduleFault.{ScheduleFault}
-use Rattle.schedule.specs.declared.fault.ScheduleFault.TheVariants as schedules
-use Rattle.shared_memory.specs.declared.fault.StepFault.{StepFault}
-use Rattle.shared_memory.specs.declared.fault.StepFault.TheVariants as steps
+use Rattle.machine.specs.declared.schedule.fault.ScheduleFault.{ScheduleFault}
+use Rattle.machine.specs.declared.schedule.fault.ScheduleFault.TheVariants as schedules
+use Rattle.machine.specs.declared.shared_memory.fault.StepFault.{StepFault}
+use Rattle.machine.specs.declared.shared_memory.fault.StepFault.TheVariants as steps
 use Rattle.crash_test.specs.declared.loading.ProgramFault.{ProgramFault}
 use Rattle.crash_test.specs.declared.loading.ProgramFault.TheVariants as programs
 use Rattle.crash_test.specs.declared.runs.TogetherFault.{TogetherFault}
 use Rattle.crash_test.specs.declared.runs.TogetherFault.TheVariants as together
 use Rattle.command_line.specs.Codes.{assembly_code, load_code, mark_code, operation_code, plan_code, volume_code}
-use Rattle.session.specs.Answers.{step_code}
+use Rattle.debugger.specs.Codes.{step_code}
 use Rattle.command_line.specs.Reports.{line_end}
 use Rattle.command_line.specs.declared.failure.Failure.{Failure}
 use Rattle.command_line.specs.declared.failure.Failure.TheVariants.{Line, Refused, Unfinished, Memory, File}
@@ -39,23 +39,34 @@ use Rattle.command_line.specs.declared.failure.Refusal.TheVariants.{Assembly, Ob
 use Rattle.command_line.specs.declared.files.FileFault.{FileFault}
 use Rattle.command_line.specs.declared.files.FileFault.TheVariants as files
 
--- `refused CODE`, ` line N` of a fault that has a line, and ` recovery` of one of a recovery routine
+-- the code of what was refused
+abbrev pub refusal_code : Refusal → List ℕ
+refusal_code (Assembly fault) = assembly_code fault.code
+refusal_code (Object fault) = load_code fault
+refusal_code (Plan fault) = plan_code fault.code
+refusal_code ScheduleText = codes "G3"
+refusal_code Medium = codes "M3"
+refusal_code (Volume fault) = volume_code fault
+refusal_code (Step fault) = step_code fault
+refusal_code Foreign = codes "B3"
+refusal_code Moment = codes "C1"
+refusal_code Image = codes "C2"
+refusal_code (Operation fault) = operation_code fault
+refusal_code (Marks fault) = mark_code fault
+refusal_code (RecoverySource fault) = assembly_code fault.code
+refusal_code (RecoveryObject fault) = load_code fault
+
+-- ` line N`, of a fault that has a line, and ` recovery`, of one of a recovery routine
+abbrev pub refusal_place : Refusal → List ℕ
+refusal_place (Assembly fault) = codes " line " ++ decimal fault.line
+refusal_place (Plan fault) = codes " line " ++ decimal fault.line
+refusal_place (RecoverySource fault) = codes " line " ++ (decimal fault.line ++ codes " recovery")
+refusal_place (RecoveryObject fault) = codes " recovery"
+refusal_place refusal = []
+
+-- `refused CODE`, and where the fault is
 abbrev pub refusal_text : Refusal → List ℕ
-refusal_text (Assembly fault) = codes "refused " ++ (assembly_code fault.code ++ (codes " line " ++ decimal fault.line))
-refusal_text (Object fault) = codes "refused " ++ load_code fault
-refusal_text (Plan fault) = codes "refused " ++ (plan_code fault.code ++ (codes " line " ++ decimal fault.line))
-refusal_text ScheduleText = codes "refused G3"
-refusal_text Medium = codes "refused M3"
-refusal_text (Volume fault) = codes "refused " ++ volume_code fault
-refusal_text (Step fault) = codes "refused " ++ step_code fault
-refusal_text Foreign = codes "refused B3"
-refusal_text Moment = codes "refused C1"
-refusal_text Image = codes "refused C2"
-refusal_text (Operation fault) = codes "refused " ++ operation_code fault
-refusal_text (Marks fault) = codes "refused " ++ mark_code fault
-refusal_text (RecoverySource fault) =
-    codes "refused " ++ (assembly_code fault.code ++ (codes " line " ++ (decimal fault.line ++ codes " recovery")))
-refusal_text (RecoveryObject fault) = codes "refused " ++ (load_code fault ++ codes " recovery")
+refusal_text refusal = codes "refused " ++ (refusal_code refusal ++ refusal_place refusal)
 
 -- the lines of a failure; those of a fault of the command line, and of a run that isn't whole, are given
 abbrev pub failure_text : Failure → List ℕ

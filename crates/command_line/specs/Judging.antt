@@ -4,25 +4,23 @@ use Rattle.arguments.specs.Line.{IsWithin}
 use Rattle.arguments.specs.Spans.{IsUpward}
 use Rattle.arguments.specs.declared.asked.JudgeCommand.{JudgeCommand}
 use Rattle.hart.specs.HartLines.{trap_number}
-use Rattle.crash_test.specs.Judging.{HasJudgement, view_of}
+use Rattle.crash_test.specs.Judging.{HasJudgement, IsToldOf}
 use Rattle.crash_test.specs.Loading.{IsLoaded}
 use Rattle.crash_test.specs.declared.losses.ExplainedImage.{ExplainedImage}
-use Rattle.image_judge.specs.Verdicts.{IsJudged, IsRefusal, judged_from}
-use Rattle.image_judge.specs.Views.{JudgeView}
-use Rattle.image_judge.specs.declared.cause.Cause.{Cause}
-use Rattle.image_judge.specs.declared.cause.Cause.TheVariants as causes
-use Rattle.moment_verdict.specs.declared.verdict.Verdict.{Verdict}
-use Rattle.moment_verdict.specs.declared.verdict.Verdict.TheVariants as verdicts
+use Rattle.routine_judge.specs.Verdicts.{IsRefusal}
+use Rattle.routine_judge.specs.declared.cause.Cause.{Cause}
+use Rattle.routine_judge.specs.declared.cause.Cause.TheVariants as causes
+use Rattle.verdict.specs.declared.moment_verdict.verdict.Verdict.{Verdict}
+use Rattle.verdict.specs.declared.moment_verdict.verdict.Verdict.TheVariants as verdicts
 use Rattle.program.specs.Sections.{Sections}
-use Rattle.parallel_moments.specs.Rows.{end_of}
-use Rattle.recovery_run.specs.declared.Cause.{Cause as RunCause}
-use Rattle.recovery_run.specs.declared.Cause.TheVariants as runs
-use Rattle.session.specs.StreamFailures.{AppendsFront}
+use Rattle.recovery.specs.declared.recovery_run.Cause.{Cause as RunCause}
+use Rattle.recovery.specs.declared.recovery_run.Cause.TheVariants as runs
+use Rattle.debugger.specs.StreamFailures.{AppendsFront}
 use Rattle.crash_test.specs.Programs.{IsProgramOf}
 use Rattle.command_line.specs.Demanding.{MeetsWhole}
 use Rattle.command_line.specs.Failures.{failure_of_judge}
 use Rattle.command_line.specs.MakingRuns.{MakesRun}
-use Rattle.command_line.specs.Progress.{IsToldIf, Progresses, passes_of}
+use Rattle.command_line.specs.Progress.{IsToldIf, Progresses, gets_line}
 use Rattle.command_line.specs.Reading.{ReadsRecovery, ReadsRun, setup_of}
 use Rattle.command_line.specs.Reasons.{Explains, told_why}
 use Rattle.command_line.specs.Reports.{line_end}
@@ -81,15 +79,10 @@ pub record JudgesOpen (judge : OpenJudge) (outcome : Result (Verdict Cause) Fail
   pub judges : MatchResult outcome (IsVerdictOf judge)
       (Tells (IsRefusal judge.command.overlapping judge.made.run.events (first_of judge.command.moments)) failure_of_judge)
 
--- the run and the routine that are asked for
-abbrev pub view_of_judge : OpenJudge → JudgeView
-view_of_judge judge = view_of judge.made.run.setup judge.recovery judge.command.steps judge.made.run.events
-
 -- how far the judging of the moments that are asked for had come was told
 abbrev pub TellsProgress : OpenJudge → Option (List ℕ) → Option (List ℕ) → Type 0
-TellsProgress judge old new = Progresses (passes_of (IsJudged (view_of_judge judge))) judge.made.run.events
-    (judged_from judge.made.run.events (first_of judge.command.moments) (end_of judge.made.run.events (last_of judge.command.moments)))
-    (end_of judge.made.run.events (last_of judge.command.moments)) old new
+TellsProgress judge = Progresses (IsToldOf gets_line judge.made.run judge.recovery judge.command.steps
+    (first_of judge.command.moments) (last_of judge.command.moments) [])
 
 -- the verdict, and what standard error was told on the way
 pub record Watches {E : Type 0} (said : E → Option (List ℕ)) (judge : OpenJudge) (errors : E) (outcome : Result (Verdict Cause) Failure) (errors' : E) : Type 0 where

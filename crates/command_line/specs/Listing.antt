@@ -2,7 +2,7 @@
 use Rattle.std.specs.Prelude.{◌≡◌, ℕ, List, Result, MatchResult, string_bytes}
 use Rattle.arguments.specs.declared.asked.ListingCommand.{ListingCommand}
 use Rattle.asm_lex.specs.Lines.{lines_of}
-use Rattle.listing_text.specs.Listing.{IsListing}
+use Rattle.report.specs.Listing.{IsListing}
 use Rattle.program.specs.Sections.{Sections}
 use Rattle.crash_test.specs.Lines.{line_of}
 use Rattle.crash_test.specs.Programs.{IsLoadFault, IsObjectOf, begins_as_object}

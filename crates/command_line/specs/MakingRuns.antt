@@ -2,7 +2,7 @@
 use Rattle.std.specs.Prelude.{◌≡◌, Result, MatchResult}
 use Rattle.arguments.specs.declared.asked.ScheduledRun.{ScheduledRun}
 use Rattle.crash_test.specs.Runs.{FailsToRun, IsRunBy}
-use Rattle.recording.specs.declared.setup.Setup.{Setup}
+use Rattle.machine.specs.declared.recording.setup.Setup.{Setup}
 use Rattle.command_line.specs.Failures.{failure_of_step}
 use Rattle.command_line.specs.Reading.{ReadsRun, setup_of}
 use Rattle.command_line.specs.Steps.{First, Reads, Step, Still, Tells}

@@ -7,7 +7,7 @@ use Rattle.arguments.specs.declared.asked.Command.{Command}
 use Rattle.arguments.specs.declared.asked.Command.TheVariants.{Assemble, Check, Code, Debug, Explain, Images, Interleave, Judge, Listing, MakeVolume, Picture, Replay, Run, Show, Trace, Unpersisted, Upgrade, Waste}
 use Rattle.arguments.specs.declared.asked.LineFault.{LineFault}
 use Rattle.arguments.specs.declared.asked.LineFault.TheVariants as line_faults
-use Rattle.session.specs.StreamFailures.{AppendsFront}
+use Rattle.debugger.specs.StreamFailures.{AppendsFront}
 use Rattle.command_line.specs.Assembling.{AssemblesFile}
 use Rattle.command_line.specs.Checking.{IsOpen, JudgesCheck, OpensCheck}
 use Rattle.command_line.specs.Coding.{code_text}

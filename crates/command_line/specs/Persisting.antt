@@ -2,15 +2,15 @@
 use Rattle.std.specs.Prelude.{◌≡◌, ◌==◌, ℕ, Bool, true, false, List, [], Option, Result, MatchResult, length, if◌then◌else◌}
 use Rattle.arguments.specs.declared.asked.ReportCommand.{ReportCommand}
 use Rattle.durability.specs.declared.ends.Unpersisted.{Unpersisted}
-use Rattle.loss_text.specs.Events.{event_text}
-use Rattle.loss_text.specs.Json.{event_object, unpersisted_json}
-use Rattle.loss_text.specs.Unpersisted.{count_of, unpersisted_text}
+use Rattle.report.specs.LossesEvents.{event_text}
+use Rattle.report.specs.LossesJson.{event_object, unpersisted_json}
+use Rattle.report.specs.Unpersisted.{count_of, unpersisted_text}
 use Rattle.crash_test.specs.Lines.{line_of}
 use Rattle.durability.specs.Unpersisted.{AreEndLosses, AreFirstLosses, IsUnpersistedOutside}
-use Rattle.recording.specs.Runs.{RunView}
+use Rattle.machine.specs.RecordingRuns.{RunView}
 use Rattle.store_trace.specs.declared.event.Event.{Event}
 use Rattle.command_line.specs.declared.failure.Failure.TheVariants.{Memory}
-use Rattle.run_trace.specs.declared.traced_event.TracedEvent.{TracedEvent}
+use Rattle.machine.specs.declared.run_trace.traced_event.TracedEvent.{TracedEvent}
 use Rattle.command_line.specs.Demanding.{MeetsWhole}
 use Rattle.command_line.specs.MakingRuns.{OpensRun}
 use Rattle.command_line.specs.Steps.{First, Prints, Reads, Step, Still}

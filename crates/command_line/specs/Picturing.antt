@@ -1,8 +1,8 @@
 -- What `picture` comes to.
 use Rattle.std.specs.Prelude.{ℕ, List, [], Option, Result, MatchResult, string_bytes}
 use Rattle.arguments.specs.declared.asked.PictureCommand.{PictureCommand}
-use Rattle.image_name.specs.declared.name.ImageName.{ImageName}
-use Rattle.recording.specs.Runs.{RunView}
+use Rattle.text.specs.declared.image_name.name.ImageName.{ImageName}
+use Rattle.machine.specs.RecordingRuns.{RunView}
 use Rattle.run_picture.specs.Picturing.{HasImageAt, LacksPicture}
 use Rattle.command_line.specs.Failures.{failure_of_image}
 use Rattle.command_line.specs.MakingRuns.{OpensRun}

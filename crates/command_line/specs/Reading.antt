@@ -11,13 +11,13 @@ use Rattle.plan.specs.Plans.{PlanView}
 use Rattle.plan.specs.declared.fault.PlanCode.{PlanCode}
 use Rattle.plan.specs.declared.fault.PlanCode.TheVariants as plans
 use Rattle.plan.specs.declared.fault.PlanFault.{PlanFault}
-use Rattle.schedule.specs.Grammar.{IsSchedule}
-use Rattle.schedule.specs.declared.fault.ScheduleFault.{ScheduleFault}
-use Rattle.schedule.specs.declared.fault.ScheduleFault.TheVariants as schedules
-use Rattle.schedule.specs.declared.items.Item.{Item}
+use Rattle.machine.specs.Grammar.{IsSchedule}
+use Rattle.machine.specs.declared.schedule.fault.ScheduleFault.{ScheduleFault}
+use Rattle.machine.specs.declared.schedule.fault.ScheduleFault.TheVariants as schedules
+use Rattle.machine.specs.declared.schedule.items.Item.{Item}
 use Rattle.crash_test.specs.Programs.{IsLoadFault, IsProgramOf}
-use Rattle.recording.specs.Runs.{with_room}
-use Rattle.recording.specs.declared.setup.Setup.{Setup}
+use Rattle.machine.specs.RecordingRuns.{with_room}
+use Rattle.machine.specs.declared.recording.setup.Setup.{Setup}
 use Rattle.command_line.specs.Failures.{failure_of_medium, failure_of_plan, failure_of_program, failure_of_recovery, failure_of_schedule}
 use Rattle.command_line.specs.Steps.{First, Reads, ReadsFile, Step, Still, Tells}
 use Rattle.command_line.specs.declared.failure.Failure.{Failure}

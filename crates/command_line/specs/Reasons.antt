@@ -4,13 +4,13 @@ use Rattle.crash_image.specs.declared.ImageFault.{ImageFault}
 use Rattle.crash_test.specs.Lines.{line_of}
 use Rattle.crash_test.specs.Losses.{IsExplainedBy}
 use Rattle.crash_test.specs.declared.losses.ExplainedImage.{ExplainedImage}
-use Rattle.image_causes.specs.Told.{LacksImage}
-use Rattle.image_name.specs.declared.name.ImageName.{ImageName}
-use Rattle.loss_text.specs.Events.{event_text}
-use Rattle.loss_text.specs.Json.{event_object, why_json}
-use Rattle.loss_text.specs.Why.{why_text}
-use Rattle.recording.specs.Runs.{RunView}
-use Rattle.run_trace.specs.declared.traced_event.TracedEvent.{TracedEvent}
+use Rattle.crash_test.specs.Told.{LacksImage}
+use Rattle.text.specs.declared.image_name.name.ImageName.{ImageName}
+use Rattle.report.specs.LossesEvents.{event_text}
+use Rattle.report.specs.LossesJson.{event_object, why_json}
+use Rattle.report.specs.Why.{why_text}
+use Rattle.machine.specs.RecordingRuns.{RunView}
+use Rattle.machine.specs.declared.run_trace.traced_event.TracedEvent.{TracedEvent}
 use Rattle.command_line.specs.Failures.{failure_of_image}
 use Rattle.command_line.specs.Steps.{Tells}
 use Rattle.command_line.specs.declared.failure.Failure.{Failure}

@@ -6,11 +6,11 @@ use Rattle.arguments.specs.declared.asked.RunCommand.{RunCommand}
 use Rattle.hart.specs.declared.state.HartState.{HartState}
 use Rattle.machine.specs.Represents.{MachineView}
 use Rattle.program.specs.Sections.{Sections}
-use Rattle.schedule.specs.declared.items.Item.{Item}
-use Rattle.recording.specs.Recorded.{RecordedView}
+use Rattle.machine.specs.declared.schedule.items.Item.{Item}
+use Rattle.machine.specs.Recorded.{RecordedView}
 use Rattle.crash_test.specs.Runs.{FailsToRun, FailsTogether, HasRun, HasRunTogether, IsRunOf}
-use Rattle.recording.specs.Runs.{IsLeftOf, setup}
-use Rattle.recording.specs.declared.setup.Setup.{Setup}
+use Rattle.machine.specs.RecordingRuns.{IsLeftOf, setup}
+use Rattle.machine.specs.declared.recording.setup.Setup.{Setup}
 use Rattle.command_line.specs.Failures.{failure_of_step, failure_of_together}
 use Rattle.command_line.specs.Reading.{ReadsMedium, ReadsProgram, ReadsSchedule}
 use Rattle.command_line.specs.Reports.{run_report}

@@ -2,12 +2,12 @@
 use Rattle.std.specs.Prelude.{◌≡◌, ◌⊎◌, ◌<◌, ◌≤◌, ℕ, List, length, Option, Some, None, Result, Err, MatchResult, string_bytes}
 use Rattle.arguments.specs.declared.asked.ShowCommand.{ShowCommand}
 use Rattle.line_memory.specs.Lines.{line_at}
-use Rattle.medium_text.specs.Rows.{line_text}
-use Rattle.medium_text.specs.Volumes.{IsVolumeText}
+use Rattle.report.specs.Rows.{line_text}
+use Rattle.report.specs.Volumes.{IsVolumeText}
 use Rattle.nova_log.specs.Volumes.{volume_of}
 use Rattle.nova_log.specs.declared.fault.VolumeFault.{VolumeFault}
 use Rattle.nova_log.specs.declared.fault.VolumeFault.TheVariants as volumes
-use Rattle.shared_memory.specs.declared.fault.StepFault.TheVariants.{NoSuchLine}
+use Rattle.machine.specs.declared.shared_memory.fault.StepFault.TheVariants.{NoSuchLine}
 use Rattle.command_line.specs.Failures.{failure_of_volume}
 use Rattle.command_line.specs.Reading.{ReadsMedium}
 use Rattle.command_line.specs.Steps.{First, Prints, Reads, Step, Still, Tells}

@@ -2,9 +2,9 @@
 use Rattle.std.specs.Prelude.{ℕ, Bool, true, false, List, [], Option}
 use Rattle.arguments.specs.declared.asked.ReportCommand.{ReportCommand}
 use Rattle.crash_test.specs.Lines.{line_of}
-use Rattle.run_text.specs.Events.{trace_text}
-use Rattle.run_text.specs.Json.{trace_json}
-use Rattle.run_trace.specs.declared.traced_event.TracedEvent.{TracedEvent}
+use Rattle.report.specs.Events.{trace_text}
+use Rattle.report.specs.Json.{trace_json}
+use Rattle.machine.specs.declared.run_trace.traced_event.TracedEvent.{TracedEvent}
 use Rattle.command_line.specs.Demanding.{MeetsWhole}
 use Rattle.command_line.specs.MakingRuns.{OpensRun}
 use Rattle.command_line.specs.Steps.{First, Prints, Reads, Step, Still}

@@ -1,7 +1,7 @@
 -- What `upgrade` comes to.
 use Rattle.std.specs.Prelude.{◌≡◌, ◌⊎◌, ℕ, List, Some, Result, Ok, Err, MatchResult, string_bytes}
 use Rattle.arguments.specs.declared.asked.UpgradeCommand.{UpgradeCommand}
-use Rattle.log_upgrade.specs.Upgraded.{upgraded}
+use Rattle.nova_log.specs.Upgraded.{upgraded}
 use Rattle.nova_log.specs.declared.fault.VolumeFault.{VolumeFault}
 use Rattle.nova_log.specs.declared.fault.VolumeFault.TheVariants as volumes
 use Rattle.command_line.specs.Failures.{failure_of_volume}

@@ -1,10 +1,10 @@
 -- What is told of a verdict on the moments of a run, whatever judges an image.
 use Rattle.std.specs.Prelude.{ℕ, Bool, true, false, List, Option, Some, None, ◌++◌, codes, decimal}
 use Rattle.arguments.specs.declared.asked.Moments.{Moments}
-use Rattle.image_name.specs.Texts.{image_text}
-use Rattle.image_name.specs.declared.name.ImageName.{ImageName}
-use Rattle.moment_verdict.specs.declared.verdict.Verdict.{Verdict}
-use Rattle.moment_verdict.specs.declared.verdict.Verdict.TheVariants as verdicts
+use Rattle.text.specs.Texts.{image_text}
+use Rattle.text.specs.declared.image_name.name.ImageName.{ImageName}
+use Rattle.verdict.specs.declared.moment_verdict.verdict.Verdict.{Verdict}
+use Rattle.verdict.specs.declared.moment_verdict.verdict.Verdict.TheVariants as verdicts
 use Rattle.command_line.specs.Progress.{total_text}
 use Rattle.command_line.specs.Reports.{line_end}
 

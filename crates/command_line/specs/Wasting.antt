@@ -2,14 +2,14 @@
 use Rattle.std.specs.Prelude.{◌≡◌, ◌↔◌, ℕ, Bool, true, false, List, [], Option, Result, MatchResult, length}
 use Rattle.std.specs.List.{zip}
 use Rattle.arguments.specs.declared.asked.ReportCommand.{ReportCommand}
-use Rattle.needless_text.specs.Uses.{Judged}
-use Rattle.needless_text.specs.Json.{IsWasteJson}
-use Rattle.needless_text.specs.Waste.{IsWasteText}
+use Rattle.report.specs.Uses.{Judged}
+use Rattle.report.specs.RedundantJson.{IsWasteJson}
+use Rattle.report.specs.Waste.{IsWasteText}
 use Rattle.crash_test.specs.Lines.{line_of}
-use Rattle.needless.specs.Found.{AreNeedless, with_reasons}
-use Rattle.needless.specs.declared.reason.Needless.{Needless}
-use Rattle.needless.specs.declared.reason.Reason.{Reason}
-use Rattle.recording.specs.Runs.{RunView}
+use Rattle.durability.specs.Found.{AreNeedless, with_reasons}
+use Rattle.durability.specs.declared.redundant.reason.Needless.{Needless}
+use Rattle.durability.specs.declared.redundant.reason.Reason.{Reason}
+use Rattle.machine.specs.RecordingRuns.{RunView}
 use Rattle.store_trace.specs.declared.event.Event.{Event}
 use Rattle.command_line.specs.Demanding.{MeetsWhole}
 use Rattle.command_line.specs.MakingRuns.{OpensRun}

@@ -1,8 +1,8 @@
 -- What a command writes.
 use Rattle.std.specs.Prelude.{◌≡◌, ◌++◌, ℕ, List, Option, Some, None, Result, Ok, MatchResult}
 use Rattle.std.specs.List.{concat}
-use Rattle.schedule.specs.Joined.{joined, text_of}
-use Rattle.schedule.specs.declared.items.Item.{Item}
+use Rattle.machine.specs.Joined.{joined, text_of}
+use Rattle.machine.specs.declared.schedule.items.Item.{Item}
 use Rattle.command_line.specs.Reports.{line_end}
 use Rattle.command_line.specs.Steps.{First, Step, Still, Writes, WritesFile}
 use Rattle.command_line.specs.declared.failure.Failure.{Failure}

@@ -3,13 +3,12 @@
 ghost use Rattle.arguments.specs.Line.{IsWithin};
 ghost use Rattle.arguments.specs.Spans.{IsUpward};
 ghost use Rattle.command_line.specs.Checking.{IsOpen, JudgesCheck, JudgesOpen, OpensCheck, TellsProgress, Watches, cause_text};
+ghost use Rattle.command_line.specs.Progress.{IsToldIf};
 ghost use Rattle.command_line.specs.Reasons.{Explains, ExplainsOne};
-ghost use Rattle.command_line.specs.Verdicts.{failing, first_of, last_of};
-ghost use Rattle.crash_test.specs.Checking.{HasVerdict};
-ghost use Rattle.image_causes.specs.Told.{IsAsked};
-ghost use Rattle.image_check.specs.Verdicts.{IsRefusal};
-ghost use Rattle.schedule.specs.Grammar.{hart_steps};
-ghost use Rattle.std.specs.Prelude.{◌≡◌, ◌^◌, ◌<◌, IfErr, IfOk, IfSome};
+ghost use Rattle.command_line.specs.Verdicts.{failing};
+ghost use Rattle.crash_test.specs.Told.{IsAsked};
+ghost use Rattle.machine.specs.Grammar.{hart_steps};
+ghost use Rattle.std.specs.Prelude.{◌≡◌, ◌^◌, ◌<◌, IfOk, IfSome};
 
 use crate::answer::Answer;
 use crate::codes::volume_code;
@@ -17,20 +16,19 @@ use crate::failure::Failure;
 use crate::files::Files;
 use crate::made_run::open_run;
 use crate::opened::OpenCheck;
-use crate::progress::part_verdict;
+use crate::progress::Reporter;
 use crate::reading::read_plan;
-use crate::verdicts::{ToldCause, bounds, failing, verdict_answer};
+use crate::verdicts::{ToldCause, failing, verdict_answer, work};
 use crate::whole::demand_whole;
 use arguments::CheckCommand;
-use crash_test::{ExplainedImage, check_program, explain_losses};
-use image_causes::LogReader;
-use image_check::{Cause, CheckFault, Verdict, checked_part};
-use image_name::ImageName;
-use recording::Run;
+use crash_test::{ExplainedImage, LogReader, check_program, explain_losses};
+use image_check::{Cause, Verdict};
+use machine::Run;
 use std::alloc::{AllocError, Global};
 use std::io::Write;
 use std::thread::Threads;
 use std::time::Clock;
+use text::ImageName;
 
 /// `check`: reads the files of a plan, a program, a schedule and a medium, makes the run, and with `--whole` demands that it is whole.
 pub(crate) fn open_check<F: Files>(
@@ -70,7 +68,7 @@ pub(crate) fn judge_check<T: Threads + Sync + Clock, E: Write>(
     verdict_answer(alloc, made, &verdict, &why, command.json)
 }
 
-/// The verdict, told on the way or not.
+/// The verdict; with `--progress` standard error gets on the way how many of the moments pass.
 fn verdict<T: Threads + Sync + Clock, E: Write>(
     rt: &T,
     alloc: Global,
@@ -80,47 +78,31 @@ fn verdict<T: Threads + Sync + Clock, E: Write>(
     requires { IsOpen check.now }
     ensures { Watches E.contents check.now errors.old result errors.new }
 {
-    if check.command.progress {
-        Ok(watched_verdict(rt, alloc, check, errors)?)
-    } else {
-        quiet_verdict(rt, alloc, check)
-    }
+    let command = &check.command;
+    let mut reporter = Reporter::new(alloc, rt, errors, command.progress, command.workers);
+    told_verdict(rt, alloc, check, &mut reporter)
 }
 
-fn quiet_verdict<T: Threads + Sync>(
+/// The verdict, of which the reporter is told.
+fn told_verdict<T: Threads + Sync + Clock, E: Write>(
     rt: &T,
     alloc: Global,
     check: &OpenCheck,
+    reporter: &mut Reporter<T, E>,
 ) -> Result<Verdict<Cause>, Failure>
     requires { IsOpen check.now }
-    ensures { JudgesOpen check.now result }
+    ensures same { reporter.new.errors.ghost_name ≡ reporter.old.errors.ghost_name }
+    ensures judges { JudgesOpen check.now result }
+    ensures told { IsToldIf reporter.old.is_wanted (TellsProgress check.now (E.contents reporter.old.errors.now) (E.contents reporter.new.errors.now))
+        reporter.old.errors.now reporter.new.errors.now }
 {
     let OpenCheck {
         command,
         plan,
         made,
     } = check;
-    let (first, last) = bounds(command.moments);
-    Ok(check_program(rt, alloc, plan, &made.run, first, last, command.workers)?)
-}
-
-/// The verdict where standard error gets on the way how many of the moments pass.
-fn watched_verdict<T: Threads + Sync + Clock, E: Write>(
-    rt: &T,
-    alloc: Global,
-    check: &OpenCheck,
-    errors: &mut E,
-) -> Result<Verdict<Cause>, CheckFault>
-    requires { IsOpen check.now }
-    ensures ok { IfOk result (HasVerdict check.now.plan.operations check.now.made.run (first_of check.now.command.moments) (last_of check.now.command.moments)) }
-    ensures err { IfErr result (IsRefusal check.now.plan.operations check.now.made.run.events (first_of check.now.command.moments)) }
-    ensures told { TellsProgress check.now.plan.operations check.now.made.run check.now.command.moments (E.contents errors.old) (E.contents errors.new) }
-{
-    let run = &check.made.run;
-    let (first, last) = bounds(check.command.moments);
-    let part = checked_part(alloc, &check.plan, run.start(), run.trace(), first, last)?;
-    let verdict = part_verdict(rt, alloc, &part, check.command.workers, errors)?;
-    Ok(verdict)
+    let work = work(command.moments, command.workers);
+    Ok(check_program(rt, alloc, plan, &made.run, work, reporter)?)
 }
 
 /// `--why`: of a failing image what it lacks and keeps, and how it comes about.

@@ -5,8 +5,7 @@ ghost use Rattle.command_line.specs.Steps.{Prints};
 
 use crate::answer::Answer;
 use crate::failure::Failure;
-use arguments::CodeCommand;
-use code_table::list;
+use arguments::{CodeCommand, list};
 use std::alloc::Global;
 
 /// `code`: what one code means, or the list of all.

@@ -5,10 +5,10 @@ ghost use Rattle.command_line.specs.Codes.{assembly_code, load_code, mark_code, 
 
 use assemble::AsmCode;
 use image_check::OpFault;
-use judge_marks::MarkFault;
 use nova_log::VolumeFault;
 use plan::PlanCode;
 use program::LoadFault;
+use routine_judge::MarkFault;
 
 /// Of a line of a source.
 pub(crate) fn assembly_code(code: AsmCode) -> &'static str

@@ -13,11 +13,10 @@ use crate::run::capacity;
 use crate::streams::{StandardInput, StandardOutput};
 use arguments::{DebugCommand, MachineOptions};
 use crash_test::start_program;
-use debugger::{DebugFault, Debugger};
+use debugger::{DebugFault, Debugger, session};
 use line_memory::Medium;
 use machine::Machine;
 use program::Program;
-use session::session;
 use std::alloc::Global;
 use std::io::{Read, Write};
 

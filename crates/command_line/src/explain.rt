@@ -1,7 +1,7 @@
 //! The command that explains a crash image.
 
 ghost use Rattle.std.specs.Prelude.{◌<◌, ◌^◌, IfOk};
-ghost use Rattle.schedule.specs.Grammar.{hart_steps};
+ghost use Rattle.machine.specs.Grammar.{hart_steps};
 ghost use Rattle.command_line.specs.Explaining.{Explained, ExplainsFile};
 ghost use Rattle.command_line.specs.Steps.{Prints};
 ghost use Rattle.command_line.specs.Writing.{schedule_line};
@@ -14,8 +14,7 @@ use crate::whole::demand_whole;
 use crate::writing::schedule_line;
 use arguments::ExplainCommand;
 use crash_test::explain_image;
-use recording::Run;
-use schedule::Schedule;
+use machine::{Run, Schedule};
 use std::alloc::Global;
 
 /// `explain`: reads the files of a program, a schedule and a medium, and gives the schedule that leaves one image of a moment

@@ -1,16 +1,14 @@
 //! Why a command gives no answer: what is printed of it, and its status.
 
-ghost use Rattle.std.specs.Prelude.{◌≡◌};
-
 use crate::codes::{assembly_code, load_code, mark_code, operation_code, plan_code, volume_code};
 use assemble::AsmFault;
+use debugger::step_code;
 use image_check::OpFault;
-use judge_marks::MarkFault;
 use machine::StepFault;
 use nova_log::VolumeFault;
 use plan::PlanFault;
 use program::LoadFault;
-use session::step_code;
+use routine_judge::MarkFault;
 use std::fmt;
 
 /// Input that is refused, by the fault that was found in it.
@@ -46,6 +44,32 @@ pub enum Refusal {
     RecoveryObject(LoadFault),
 }
 
+impl Refusal {
+    ghost use Rattle.std.specs.Prelude.{◌≡◌};
+    ghost use Rattle.command_line.specs.Failures.{refusal_code};
+
+    /// The code of the fault.
+    fn code(&self) -> &'static str
+        ensures { result.now ≡ refusal_code self.now }
+    {
+        match *self {
+            Refusal::Assembly(fault) | Refusal::RecoverySource(fault) => assembly_code(fault.code),
+            Refusal::Object(fault) | Refusal::RecoveryObject(fault) => load_code(fault),
+            Refusal::Plan(fault) => plan_code(fault.code),
+            Refusal::ScheduleText => "G3",
+            Refusal::Medium => "M3",
+            Refusal::Volume(fault) => volume_code(fault),
+            Refusal::Step(fault) => step_code(fault),
+            Refusal::Foreign => "B3",
+            Refusal::Moment => "C1",
+            Refusal::Image => "C2",
+            Refusal::Operation(fault) => operation_code(fault),
+            Refusal::Marks(fault) => mark_code(fault),
+        }
+    }
+}
+
+/// `refused CODE`, ` line N` where a line is at fault, and ` recovery` where it is a recovery routine's.
 impl fmt::Display for Refusal {
     ghost use Rattle.std.specs.Prelude.{Some};
     ghost use Rattle.command_line.specs.Failures.{refusal_text};
@@ -53,37 +77,13 @@ impl fmt::Display for Refusal {
     ghost output = { λ refusal. Some (refusal_text refusal) };
 
     fn fmt<W: fmt::Write>(&self, f: &mut fmt::Formatter<W>) -> fmt::Result {
-        match *self {
-            Refusal::Assembly(fault) => {
-                write!(
-                    f,
-                    "refused {} line {}",
-                    assembly_code(fault.code),
-                    fault.line
-                )
-            }
-            Refusal::Object(fault) => write!(f, "refused {}", load_code(fault)),
-            Refusal::Plan(fault) => {
-                write!(f, "refused {} line {}", plan_code(fault.code), fault.line)
-            }
-            Refusal::ScheduleText => write!(f, "refused G3"),
-            Refusal::Medium => write!(f, "refused M3"),
-            Refusal::Volume(fault) => write!(f, "refused {}", volume_code(fault)),
-            Refusal::Step(fault) => write!(f, "refused {}", step_code(fault)),
-            Refusal::Foreign => write!(f, "refused B3"),
-            Refusal::Moment => write!(f, "refused C1"),
-            Refusal::Image => write!(f, "refused C2"),
-            Refusal::Operation(fault) => write!(f, "refused {}", operation_code(fault)),
-            Refusal::Marks(fault) => write!(f, "refused {}", mark_code(fault)),
-            Refusal::RecoverySource(fault) => {
-                write!(
-                    f,
-                    "refused {} line {} recovery",
-                    assembly_code(fault.code),
-                    fault.line
-                )
-            }
-            Refusal::RecoveryObject(fault) => { write!(f, "refused {} recovery", load_code(fault)) }
+        write!(f, "refused {}", self.code())?;
+        match self {
+            Refusal::Assembly(fault) => write!(f, " line {}", fault.line),
+            Refusal::Plan(fault) => write!(f, " line {}", fault.line),
+            Refusal::RecoverySource(fault) => write!(f, " line {} recovery", fault.line),
+            Refusal::RecoveryObject(_) => write!(f, " recovery"),
+            _ => Ok(()),
         }
     }
 }

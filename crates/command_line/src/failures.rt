@@ -1,5 +1,9 @@
 //! The failures that faults of the layers below come to.
 
+ghost use Rattle.std.specs.Prelude.{◌≡◌};
+ghost use Rattle.command_line.specs.Failures.{failure_of_assembly, failure_of_check, failure_of_drawing, failure_of_file, failure_of_image, failure_of_judge, failure_of_medium, failure_of_plan, failure_of_program, failure_of_schedule, failure_of_session, failure_of_step, failure_of_together, failure_of_volume};
+ghost use Rattle.command_line.specs.declared.failure.Failure.TheVariants.{Memory};
+
 use crate::failure::{Failure, Refusal};
 use crate::files::FileFault;
 use assemble::{AsmCode, AsmFault};
@@ -7,19 +11,15 @@ use crash_image::ImageFault;
 use crash_test::{ProgramFault, TogetherFault};
 use debugger::DebugFault;
 use image_check::CheckFault;
-use image_judge::JudgeFault;
-use interleaving::InterleaveFault;
 use line_memory::MediumFault;
-use machine::StepFault;
+use machine::{ScheduleFault, StepFault};
 use nova_log::VolumeFault;
 use plan::{PlanCode, PlanFault};
-use schedule::ScheduleFault;
+use random_schedule::InterleaveFault;
+use routine_judge::JudgeFault;
 use std::alloc::AllocError;
 
 impl From<FileFault> for Failure {
-    ghost use Rattle.std.specs.Prelude.{◌≡◌};
-    ghost use Rattle.command_line.specs.Failures.{failure_of_file};
-
     ghost from_gives = { λ fault failure. failure ≡ failure_of_file fault };
 
     fn from(fault: FileFault) -> Failure {
@@ -31,9 +31,6 @@ impl From<FileFault> for Failure {
 }
 
 impl From<AsmFault> for Failure {
-    ghost use Rattle.std.specs.Prelude.{◌≡◌};
-    ghost use Rattle.command_line.specs.Failures.{failure_of_assembly};
-
     ghost from_gives = { λ fault failure. failure ≡ failure_of_assembly fault };
 
     fn from(fault: AsmFault) -> Failure {
@@ -45,9 +42,6 @@ impl From<AsmFault> for Failure {
 }
 
 impl From<ProgramFault> for Failure {
-    ghost use Rattle.std.specs.Prelude.{◌≡◌};
-    ghost use Rattle.command_line.specs.Failures.{failure_of_program};
-
     ghost from_gives = { λ fault failure. failure ≡ failure_of_program fault };
 
     fn from(fault: ProgramFault) -> Failure {
@@ -60,9 +54,6 @@ impl From<ProgramFault> for Failure {
 }
 
 impl From<PlanFault> for Failure {
-    ghost use Rattle.std.specs.Prelude.{◌≡◌};
-    ghost use Rattle.command_line.specs.Failures.{failure_of_plan};
-
     ghost from_gives = { λ fault failure. failure ≡ failure_of_plan fault };
 
     fn from(fault: PlanFault) -> Failure {
@@ -74,9 +65,6 @@ impl From<PlanFault> for Failure {
 }
 
 impl From<ScheduleFault> for Failure {
-    ghost use Rattle.std.specs.Prelude.{◌≡◌};
-    ghost use Rattle.command_line.specs.Failures.{failure_of_schedule};
-
     ghost from_gives = { λ fault failure. failure ≡ failure_of_schedule fault };
 
     fn from(fault: ScheduleFault) -> Failure {
@@ -88,9 +76,6 @@ impl From<ScheduleFault> for Failure {
 }
 
 impl From<MediumFault> for Failure {
-    ghost use Rattle.std.specs.Prelude.{◌≡◌};
-    ghost use Rattle.command_line.specs.Failures.{failure_of_medium};
-
     ghost from_gives = { λ fault failure. failure ≡ failure_of_medium fault };
 
     fn from(fault: MediumFault) -> Failure {
@@ -102,9 +87,6 @@ impl From<MediumFault> for Failure {
 }
 
 impl From<VolumeFault> for Failure {
-    ghost use Rattle.std.specs.Prelude.{◌≡◌};
-    ghost use Rattle.command_line.specs.Failures.{failure_of_volume};
-
     ghost from_gives = { λ fault failure. failure ≡ failure_of_volume fault };
 
     fn from(fault: VolumeFault) -> Failure {
@@ -116,9 +98,6 @@ impl From<VolumeFault> for Failure {
 }
 
 impl From<StepFault> for Failure {
-    ghost use Rattle.std.specs.Prelude.{◌≡◌};
-    ghost use Rattle.command_line.specs.Failures.{failure_of_step};
-
     ghost from_gives = { λ fault failure. failure ≡ failure_of_step fault };
 
     fn from(fault: StepFault) -> Failure {
@@ -130,9 +109,6 @@ impl From<StepFault> for Failure {
 }
 
 impl From<InterleaveFault> for Failure {
-    ghost use Rattle.std.specs.Prelude.{◌≡◌};
-    ghost use Rattle.command_line.specs.Failures.{failure_of_drawing};
-
     ghost from_gives = { λ fault failure. failure ≡ failure_of_drawing fault };
 
     fn from(fault: InterleaveFault) -> Failure {
@@ -144,24 +120,17 @@ impl From<InterleaveFault> for Failure {
 }
 
 impl From<TogetherFault> for Failure {
-    ghost use Rattle.std.specs.Prelude.{◌≡◌};
-    ghost use Rattle.command_line.specs.Failures.{failure_of_together};
-
     ghost from_gives = { λ fault failure. failure ≡ failure_of_together fault };
 
     fn from(fault: TogetherFault) -> Failure {
         match fault {
-            TogetherFault::Step(StepFault::Memory) => Failure::Memory,
-            TogetherFault::Step(fault) => Failure::Refused(Refusal::Step(fault)),
+            TogetherFault::Step(fault) => Failure::from(fault),
             TogetherFault::Foreign => Failure::Refused(Refusal::Foreign),
         }
     }
 }
 
 impl From<ImageFault> for Failure {
-    ghost use Rattle.std.specs.Prelude.{◌≡◌};
-    ghost use Rattle.command_line.specs.Failures.{failure_of_image};
-
     ghost from_gives = { λ fault failure. failure ≡ failure_of_image fault };
 
     fn from(fault: ImageFault) -> Failure {
@@ -174,9 +143,6 @@ impl From<ImageFault> for Failure {
 }
 
 impl From<CheckFault> for Failure {
-    ghost use Rattle.std.specs.Prelude.{◌≡◌};
-    ghost use Rattle.command_line.specs.Failures.{failure_of_check};
-
     ghost from_gives = { λ fault failure. failure ≡ failure_of_check fault };
 
     fn from(fault: CheckFault) -> Failure {
@@ -189,9 +155,6 @@ impl From<CheckFault> for Failure {
 }
 
 impl From<JudgeFault> for Failure {
-    ghost use Rattle.std.specs.Prelude.{◌≡◌};
-    ghost use Rattle.command_line.specs.Failures.{failure_of_judge};
-
     ghost from_gives = { λ fault failure. failure ≡ failure_of_judge fault };
 
     fn from(fault: JudgeFault) -> Failure {
@@ -204,9 +167,6 @@ impl From<JudgeFault> for Failure {
 }
 
 impl From<DebugFault> for Failure {
-    ghost use Rattle.std.specs.Prelude.{◌≡◌};
-    ghost use Rattle.command_line.specs.Failures.{failure_of_session};
-
     ghost from_gives = { λ fault failure. failure ≡ failure_of_session fault };
 
     fn from(fault: DebugFault) -> Failure {
@@ -218,9 +178,6 @@ impl From<DebugFault> for Failure {
 }
 
 impl From<AllocError> for Failure {
-    ghost use Rattle.std.specs.Prelude.{◌≡◌};
-    ghost use Rattle.command_line.specs.declared.failure.Failure.TheVariants.{Memory};
-
     ghost from_gives = { λ _ failure. failure ≡ Memory };
 
     fn from(_refused: AllocError) -> Failure {

@@ -10,7 +10,7 @@ use crate::made_run::open_run;
 use crate::whole::demand_whole;
 use arguments::ImagesCommand;
 use crash_test::count_images;
-use recording::Run;
+use machine::Run;
 use std::alloc::{AllocError, Global};
 
 /// `images`: reads the files of a program, a schedule and a medium, and counts the images that a power cut may leave at a

@@ -1,10 +1,10 @@
 //! The command that draws the schedule of a whole run.
 
 ghost use Rattle.command_line.specs.Drawing.{DrawsSchedule, InterleavesFile};
-ghost use Rattle.schedule.specs.Grammar.{hart_steps};
+ghost use Rattle.machine.specs.Grammar.{hart_steps};
 ghost use Rattle.std.specs.Prelude.{◌^◌, ◌<◌, IfOk};
 ghost use Rattle.crash_test.specs.Runs.{IsAtStart};
-ghost use Rattle.recording.specs.declared.setup.Setup.{Setup};
+ghost use Rattle.machine.specs.declared.recording.setup.Setup.{Setup};
 
 use crate::answer::Answer;
 use crate::debug::start;
@@ -13,9 +13,8 @@ use crate::failure::Failure;
 use crate::files::Files;
 use crate::reading::{read_medium, read_program};
 use arguments::InterleaveCommand;
-use interleaving::interleave;
-use machine::Machine;
-use schedule::Schedule;
+use machine::{Machine, Schedule};
+use random_schedule::interleave;
 use std::alloc::Global;
 
 /// `interleave`: reads the files of a program and of a medium, and prints the schedule of a whole run that is drawn from a seed.

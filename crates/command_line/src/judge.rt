@@ -2,13 +2,12 @@
 
 ghost use Rattle.arguments.specs.Line.{IsWithin};
 ghost use Rattle.arguments.specs.Spans.{IsUpward};
-ghost use Rattle.command_line.specs.Judging.{ExplainsFailing, IsOpen, IsVerdictOf, JudgesOpen, JudgesRun, Notes, OpensJudge, TellsProgress, Watches, cause_text, missing_text, note_of};
+ghost use Rattle.command_line.specs.Judging.{ExplainsFailing, IsOpen, JudgesOpen, JudgesRun, Notes, OpensJudge, TellsProgress, Watches, cause_text, missing_text, note_of};
+ghost use Rattle.command_line.specs.Progress.{IsToldIf};
 ghost use Rattle.command_line.specs.Reasons.{ExplainsOne};
-ghost use Rattle.command_line.specs.Verdicts.{first_of};
 ghost use Rattle.crash_test.specs.Loading.{IsLoaded};
-ghost use Rattle.image_judge.specs.Verdicts.{IsRefusal};
-ghost use Rattle.schedule.specs.Grammar.{hart_steps};
-ghost use Rattle.std.specs.Prelude.{◌≡◌, ◌^◌, ◌<◌, IfErr, IfOk, IfSome, OnOk, string_bytes};
+ghost use Rattle.machine.specs.Grammar.{hart_steps};
+ghost use Rattle.std.specs.Prelude.{◌≡◌, ◌^◌, ◌<◌, IfOk, IfSome, OnOk, string_bytes};
 ghost use Rattle.std.specs.Io.KnownBytes.{Appends};
 
 use crate::answer::Answer;
@@ -16,21 +15,21 @@ use crate::failure::Failure;
 use crate::files::Files;
 use crate::made_run::make_run;
 use crate::opened::OpenJudge;
-use crate::progress::part_verdict;
+use crate::progress::Reporter;
 use crate::reading::{read_recovery, read_run};
 use crate::streams::print;
-use crate::verdicts::{ToldCause, bounds, failing, verdict_answer};
+use crate::verdicts::{ToldCause, failing, verdict_answer, work};
 use crate::whole::demand_whole;
 use arguments::JudgeCommand;
 use crash_test::{ExplainedImage, Judgement, RoutineReader, explain_losses, judge_program};
-use image_judge::{Cause, JudgeFault, Verdict, judged_part};
-use image_name::ImageName;
-use recovery_run::Cause as RunCause;
-use session::Failed;
+use debugger::Failed;
+use recovery::Cause as RunCause;
+use routine_judge::{Cause, Verdict};
 use std::alloc::{AllocError, Global};
 use std::io::Write;
 use std::thread::Threads;
 use std::time::Clock;
+use text::ImageName;
 
 /// What is said of a verdict on no moment.
 const NONE_JUDGED: &[u8] = b"no moment is judged: all lie before the first Begin\n";
@@ -76,7 +75,7 @@ pub(crate) fn judge_run<T: Threads + Sync + Clock, E: Write>(
     Ok(answer)
 }
 
-/// The verdict, told on the way or not.
+/// The verdict; with `--progress` standard error gets on the way how many of the moments pass.
 fn verdict<T: Threads + Sync + Clock, E: Write>(
     rt: &T,
     alloc: Global,
@@ -86,51 +85,27 @@ fn verdict<T: Threads + Sync + Clock, E: Write>(
     requires { IsOpen judge.now }
     ensures { Watches E.contents judge.now errors.old result errors.new }
 {
-    if judge.command.progress {
-        Ok(watched_verdict(rt, alloc, judge, errors)?)
-    } else {
-        quiet_verdict(rt, alloc, judge)
-    }
+    let command = &judge.command;
+    let mut reporter = Reporter::new(alloc, rt, errors, command.progress, command.workers);
+    told_verdict(rt, alloc, judge, &mut reporter)
 }
 
-fn quiet_verdict<T: Threads + Sync>(
+/// The verdict, of which the reporter is told.
+fn told_verdict<T: Threads + Sync + Clock, E: Write>(
     rt: &T,
     alloc: Global,
     judge: &OpenJudge,
+    reporter: &mut Reporter<T, E>,
 ) -> Result<Verdict<Cause>, Failure>
     requires { IsOpen judge.now }
-    ensures { JudgesOpen judge.now result }
+    ensures same { reporter.new.errors.ghost_name ≡ reporter.old.errors.ghost_name }
+    ensures judges { JudgesOpen judge.now result }
+    ensures told { IsToldIf reporter.old.is_wanted (TellsProgress judge.now (E.contents reporter.old.errors.now) (E.contents reporter.new.errors.now))
+        reporter.old.errors.now reporter.new.errors.now }
 {
-    let (first, last) = bounds(judge.command.moments);
-    let (run, judgement, workers) = (&judge.made.run, judgement(judge), judge.command.workers);
-    Ok(judge_program(rt, alloc, run, judgement, first, last, workers)?)
-}
-
-/// The verdict where standard error gets on the way how many of the moments pass.
-#[tactic(auto, using(judge_marks::proofs::Begun::sound_begin))]
-fn watched_verdict<T: Threads + Sync + Clock, E: Write>(
-    rt: &T,
-    alloc: Global,
-    judge: &OpenJudge,
-    errors: &mut E,
-) -> Result<Verdict<Cause>, JudgeFault>
-    requires { IsOpen judge.now }
-    ensures ok { IfOk result (IsVerdictOf judge.now) }
-    ensures err { IfErr result (IsRefusal judge.now.command.overlapping judge.now.made.run.events (first_of judge.now.command.moments)) }
-    ensures told { TellsProgress judge.now (E.contents errors.old) (E.contents errors.new) }
-{
-    let run = &judge.made.run;
-    let (first, last) = bounds(judge.command.moments);
-    let part = judged_part(
-        alloc,
-        run.start(),
-        run.trace(),
-        judgement(judge),
-        first,
-        last,
-    )?;
-    let verdict = part_verdict(rt, alloc, &part, judge.command.workers, errors)?;
-    Ok(verdict)
+    let OpenJudge { command, made, .. } = judge;
+    let work = work(command.moments, command.workers);
+    Ok(judge_program(rt, alloc, &made.run, judgement(judge), work, reporter)?)
 }
 
 /// How the command says that the run is judged.

@@ -8,9 +8,9 @@ use crate::failure::Failure;
 use crate::files::Files;
 use crate::reading::read_file;
 use arguments::ListingCommand;
-use crash_test::{load_object, source_lines};
-use listing_text::listing_text;
+use crash_test::{load_object, places_of};
 use program::Object;
+use report::listing_text;
 use std::alloc::Global;
 
 /// `listing`: reads the file of a program, and prints the words of its object's text, each with its instruction, and of a source
@@ -33,12 +33,11 @@ fn object_in(alloc: Global, file: &[u8]) -> Result<Object, Failure>
     Ok(load_object(alloc, file)?)
 }
 
-#[tactic(auto, using(crate::proofs::SourceLines::listed_of_source))]
 fn listed(alloc: Global, file: &[u8], object: &Object) -> Result<Answer, Failure>
     requires { IsObjectOf (begins_as_object file.now) file.now object.now }
     ensures { PrintsListing file.now object.now.text result }
 {
-    let numbers = source_lines(alloc, file)?;
-    let text = listing_text(alloc, object.text_bytes(), file, &numbers)?;
+    let places = places_of(alloc, file)?;
+    let text = listing_text(alloc, object.text_bytes(), file, &places)?;
     Ok(Answer { text, status: 0 })
 }

@@ -3,7 +3,7 @@
 ghost use Rattle.command_line.specs.MakingRuns.{MakesRun, OpensRun};
 ghost use Rattle.command_line.specs.Reading.{setup_of};
 ghost use Rattle.crash_test.specs.Programs.{IsProgramOf};
-ghost use Rattle.schedule.specs.Grammar.{hart_steps};
+ghost use Rattle.machine.specs.Grammar.{hart_steps};
 ghost use Rattle.std.specs.Prelude.{◌^◌, ◌<◌, IfOk};
 
 use crate::failure::Failure;
@@ -11,7 +11,7 @@ use crate::files::Files;
 use crate::reading::{RunFiles, read_run};
 use arguments::ScheduledRun;
 use crash_test::record_run;
-use recording::{Run, Setup};
+use machine::{Run, Setup};
 use std::alloc::Global;
 
 /// A run that was made of a command's files. Whatever is asked of it is asked of this one run.

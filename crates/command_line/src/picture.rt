@@ -12,7 +12,7 @@ use crate::files::Files;
 use crate::made_run::{MadeRun, open_run};
 use crate::writing::write_file;
 use arguments::PictureCommand;
-use crash_test::source_lines;
+use crash_test::places_of;
 use run_picture::picture_run;
 use std::alloc::Global;
 
@@ -34,8 +34,8 @@ fn picture(alloc: Global, command: &PictureCommand, made: &MadeRun) -> Result<St
     requires { IsProgramOf made.now.file.items made.now.run.setup.program }
     ensures { DrawsPicture made.now.run command.now.moment command.now.image (result_map_both string_bytes (λ failure. failure) result) }
 {
-    let lines = source_lines(alloc, &made.file)?;
-    Ok(picture_run(alloc, &made.run, &lines, command.moment, &command.image)?)
+    let places = places_of(alloc, &made.file)?;
+    Ok(picture_run(alloc, &made.run, &places, command.moment, &command.image)?)
 }
 
 /// Nothing is printed of a file that was written.

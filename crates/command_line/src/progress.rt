@@ -1,88 +1,87 @@
-//! Moments of a run that are judged in turn, while standard error gets how far the verdict has come.
+//! Standard error, which gets on the way how far a verdict has come.
 
-ghost use Rattle.command_line.specs.Progress.{IsLineOf, Progresses, WritesLine, passes_of, progress_line};
-ghost use Rattle.moment_verdict.specs.Verdicts.{IsVerdictBetween};
-ghost use Rattle.std.specs.Prelude.{◌≡◌, ◌<◌, ◌≤◌, IfOk, string_bytes};
+ghost use Rattle.command_line.specs.Progress.{WritesLine, progress_line};
+ghost use Rattle.std.specs.Prelude.{◌≡◌, ◌<◌, IfOk, string_bytes};
+ghost use Rattle.std.specs.Result.{is_ok};
 
 use crate::streams::print;
-use gate::Open;
-use moment_verdict::Verdict;
-use parallel_moments::{Moments, Part};
-use session::Failed;
+use crash_test::Progress;
+use debugger::Failed;
 use std::alloc::{AllocError, Global};
 use std::io::Write;
-use std::thread::Threads;
 use std::time::{Clock, Duration, Instant};
 
-/// The verdict on the moments of a part, which are judged in turn, so many as the pace says at once.
-pub(crate) fn part_verdict<M: Moments + Drop + Sync, T: Threads + Sync + Clock, E: Write>(
-    rt: &T,
+/// Standard error, which gets a line now and then where lines are wanted.
+#[derive(Drop)]
+pub(crate) struct Reporter<'a, C, E> {
     alloc: Global,
-    part: &Part<M>,
-    workers: u32,
-    errors: &mut E,
-) -> Result<Verdict<M::Cause>, AllocError>
-where
-    M::Cause: Send,
-    M::Judge: Send,
-    requires { (0 < workers) × (workers ≤ 8) }
-    ensures ok { IfOk result (IsVerdictBetween (M.judged part.now.run) (M.events part.now.run) part.now.first part.now.end) }
-    ensures told { Progresses (passes_of (M.judged part.now.run)) (M.events part.now.run) part.now.first part.now.end
-        (E.contents errors.old) (E.contents errors.new) }
-{
-    let mut pace = Pace::new(rt, workers);
-    let mut is_heard = true;
-    let mut next = part.first();
-    while next < part.end() {
-        let end = part.end().min(next.saturating_add(pace.stride));
-        match part.judge_between(rt, alloc, next, end, workers, &Open)? {
-            Verdict::Pass { .. } => next = end,
-            verdict => return Ok(verdict),
-        }
-        if is_heard && pace.is_due(rt) {
-            is_heard = tell_progress(alloc, part, next, errors).is_ok();
-        }
-    }
-    Ok(Verdict::Pass {
-        moments: u64::from(part.end() - part.first()),
-        images: part.images(alloc, part.end())?,
-    })
+    clock: &'a C,
+    pub(crate) errors: &'a mut E,
+    /// Lines are asked for, and none has failed.
+    pub(crate) is_wanted: bool,
+    pace: Pace,
 }
 
-/// Tells that the moments that are below `next` pass. Where memory is refused nothing is told.
-fn tell_progress<M: Moments + Drop, E: Write>(
+impl<'a, C: Clock, E: Write> Reporter<'a, C, E> {
+    /// With so many workers, each of whom judges a moment at least before the clock is looked at.
+    pub(crate) fn new(
+        alloc: Global,
+        clock: &'a C,
+        errors: &'a mut E,
+        is_wanted: bool,
+        workers: u32,
+    ) -> Reporter<'a, C, E>
+        requires { 0 < workers }
+        ensures same { result.errors.ghost_name ≡ errors.entry.ghost_name }
+        ensures errors { result.errors.now ≡ errors.old }
+        ensures wanted { result.is_wanted ≡ is_wanted }
+    {
+        Reporter {
+            alloc,
+            clock,
+            errors,
+            is_wanted,
+            pace: Pace::new(clock, workers),
+        }
+    }
+}
+
+impl<C: Clock, E: Write> Progress for Reporter<'_, C, E> {
+    ghost use Rattle.command_line.specs.Progress.{WritesIf, progress_line};
+    ghost use Rattle.std.specs.Prelude.{◌≡◌};
+
+    ghost hears = { λ before moment moments images after. (after.errors.ghost_name ≡ before.errors.ghost_name)
+        × WritesIf E.contents (progress_line moment moments images) before.is_wanted before.errors.now after.is_wanted after.errors.now };
+
+    fn stride(&self) -> u32 {
+        if self.is_wanted {
+            self.pace.stride
+        } else {
+            u32::MAX
+        }
+    }
+
+    fn hear(&mut self, moment: u32, moments: u32, images: Option<u64>) {
+        if self.is_wanted && self.pace.is_due(self.clock) {
+            self.is_wanted = tell(self.alloc, moment, moments, images, self.errors).is_ok();
+        }
+    }
+}
+
+/// Writes the line of so many moments. Where memory is refused nothing is written.
+fn tell<E: Write>(
     alloc: Global,
-    part: &Part<M>,
-    next: u32,
+    moment: u32,
+    moments: u32,
+    images: Option<u64>,
     errors: &mut E,
 ) -> Result<(), Failed>
-    requires first { part.now.first ≤ next }
-    requires there { next ≤ part.now.end }
-    ensures { WritesLine (M.events part.now.run) part.now.first next part.now.end (E.contents errors.old) (E.contents errors.new) result }
+    ensures { WritesLine (progress_line moment moments images) (E.contents errors.old) (E.contents errors.new) (is_ok result) }
 {
-    match line_of(alloc, part, next) {
+    match progress_line(alloc, moment, moments, images) {
         Ok(line) => print(line.as_bytes(), errors),
         Err(_) => Ok(()),
     }
-}
-
-/// The line that tells so.
-fn line_of<M: Moments + Drop>(
-    alloc: Global,
-    part: &Part<M>,
-    next: u32,
-) -> Result<String, AllocError>
-    requires first { part.now.first ≤ next }
-    requires there { next ≤ part.now.end }
-    ensures { IfOk result (λ line. IsLineOf (M.events part.now.run) part.now.first next part.now.end (string_bytes line)) }
-{
-    let images = part.images(alloc, next)?;
-    progress_line(
-        alloc,
-        next - part.first(),
-        part.end() - part.first(),
-        images,
-    )
 }
 
 /// `moment M of N, images I`, or `images over` where a moment has over 65,536.

@@ -2,7 +2,7 @@
 
 ghost use Rattle.std.specs.Prelude.{◌≡◌, ◌<◌, ◌^◌, IfOk, option_map, string_bytes};
 ghost use Rattle.std.specs.Result.{result_map_both};
-ghost use Rattle.schedule.specs.Grammar.{hart_steps};
+ghost use Rattle.machine.specs.Grammar.{hart_steps};
 ghost use Rattle.command_line.specs.Reading.{IsDefaultMedium, ReadsMedium, ReadsPlan, ReadsProgram, ReadsRecovery, ReadsRun, ReadsSchedule};
 ghost use Rattle.command_line.specs.Reading.{SaysMedium, SaysPlan, SaysProgram, SaysRecovery, SaysSchedule};
 ghost use Rattle.command_line.specs.Failures.{failure_of_recovery};
@@ -14,9 +14,9 @@ use crate::files::Files;
 use arguments::ScheduledRun;
 use crash_test::{ProgramFault, default_medium, load_program};
 use line_memory::Medium;
+use machine::Schedule;
 use plan::Plan;
 use program::Program;
-use schedule::Schedule;
 use std::alloc::Global;
 
 /// A run by a schedule, as its files give it.

@@ -1,7 +1,7 @@
 //! The commands that run a program: on harts that run together, and by a schedule.
 
 ghost use Rattle.std.specs.Prelude.{◌≡◌, ◌<◌, ◌≤◌, ◌^◌, IfOk, length, option_map, string_bytes, unwrap_or};
-ghost use Rattle.schedule.specs.Grammar.{hart_steps};
+ghost use Rattle.machine.specs.Grammar.{hart_steps};
 ghost use Rattle.command_line.specs.Reports.{run_report};
 ghost use Rattle.command_line.specs.Running.{FinishesMachine, Finishes, RecordsRun, ReplaysFile, RunsBySchedule, RunsFile, RunsTogether, machine_of};
 ghost use Rattle.command_line.specs.Steps.{Prints};
@@ -16,10 +16,8 @@ use arguments::{MachineOptions, ReplayCommand, RunCommand};
 use crash_test::{replay, run_program};
 use hart::HartState;
 use line_memory::Medium;
-use machine::Machine;
+use machine::{Machine, Recorded, Schedule};
 use program::Program;
-use recording::Recorded;
-use schedule::Schedule;
 use std::alloc::{AllocError, Global};
 use std::sync::Wait;
 use std::thread::Threads;

@@ -9,7 +9,7 @@ use crate::reading::read_named_medium;
 use arguments::ShowCommand;
 use line_memory::Medium;
 use machine::StepFault;
-use medium_text::{line_text, volume_text};
+use report::{line_text, volume_text};
 use std::alloc::Global;
 
 /// `show`: reads the file of a medium, and prints the volume that recovery finds on it, or the bytes of one of its lines.

@@ -1,10 +1,10 @@
 //! The standard streams as a session reads and writes them.
 
 ghost use Rattle.std.specs.Prelude.{◌≤◌, IfOk, OnErr, OnOk, length};
-ghost use Rattle.session.specs.StreamFailures.{AppendsFront};
+ghost use Rattle.debugger.specs.StreamFailures.{AppendsFront};
 ghost use Rattle.std.specs.Io.KnownBytes.{Appends, ReadConsumes};
 
-use session::{Failed, Sink, Source};
+use debugger::{Failed, Sink, Source};
 use std::io::{ErrorKind, Read, Write};
 
 /// Standard input, and how many of its reads have failed.

@@ -4,12 +4,12 @@ ghost use Rattle.std.specs.Prelude.{◌≡◌, ◌++◌, IfSome, OnOk};
 ghost use Rattle.std.specs.Io.KnownBytes.{Appends};
 ghost use Rattle.command_line.specs.Failures.{failure_text, refusal_text};
 ghost use Rattle.command_line.specs.Reports.{line_end};
-ghost use Rattle.session.specs.StreamFailures.{AppendsFront};
+ghost use Rattle.debugger.specs.StreamFailures.{AppendsFront};
 
 use crate::failure::{Failure, Refusal};
 use crate::streams::print;
 use arrayvec::ArrayString;
-use session::Failed;
+use debugger::Failed;
 use std::fmt::Write;
 use std::io;
 

@@ -3,7 +3,7 @@
 ghost use Rattle.command_line.specs.Steps.{Prints};
 ghost use Rattle.command_line.specs.Tracing.{TracesFile, told_events};
 ghost use Rattle.crash_test.specs.Lines.{line_of};
-ghost use Rattle.run_text.specs.Places.{line_in};
+ghost use Rattle.report.specs.Places.{line_in};
 ghost use Rattle.std.specs.Prelude.{◌≡◌, ◌<◌, IfOk, string_bytes};
 ghost use Rattle.crash_test.specs.Programs.{IsProgramOf};
 ghost use Rattle.program.specs.Sections.{Sections};
@@ -14,10 +14,9 @@ use crate::files::Files;
 use crate::made_run::open_run;
 use crate::whole::demand_whole;
 use arguments::ReportCommand;
-use assemble::LineNumbers;
-use crash_test::source_lines;
-use run_text::{trace_json, trace_text};
-use run_trace::TracedEvent;
+use crash_test::places_of;
+use machine::TracedEvent;
+use report::{Places, trace_json, trace_text};
 use std::alloc::{AllocError, Global};
 
 /// `trace`: reads the files of a program, a schedule and a medium, and prints the events of the run, each with its hart step,
@@ -34,7 +33,6 @@ pub(crate) fn trace_file<F: Files>(
     trace_answer(alloc, &made.file, made.run.traced(), command.json)
 }
 
-#[tactic(auto, using(crate::proofs::SourceLines::traced_of_source))]
 fn trace_answer(
     alloc: Global,
     file: &[u8],
@@ -44,8 +42,8 @@ fn trace_answer(
     requires { (program : Sections) × IsProgramOf file.now program }
     ensures { Prints (told_events json (line_of file.now) traced.now) 0 result }
 {
-    let lines = source_lines(alloc, file)?;
-    let text = told_events(alloc, traced, &lines, json)?;
+    let places = places_of(alloc, file)?;
+    let text = told_events(alloc, traced, &places, json)?;
     Ok(Answer::of(text, 0))
 }
 
@@ -53,14 +51,14 @@ fn trace_answer(
 fn told_events(
     alloc: Global,
     traced: &[TracedEvent],
-    lines: &Option<LineNumbers>,
+    places: &Places,
     json: bool,
 ) -> Result<String, AllocError>
-    ensures { IfOk result (λ text. string_bytes text ≡ told_events json (line_in lines.now) traced.now) }
+    ensures { IfOk result (λ text. string_bytes text ≡ told_events json (line_in places.now) traced.now) }
 {
     if json {
-        trace_json(alloc, traced, lines)
+        trace_json(alloc, traced, places)
     } else {
-        trace_text(alloc, traced, lines)
+        trace_text(alloc, traced, places)
     }
 }

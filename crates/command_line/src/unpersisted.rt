@@ -3,7 +3,7 @@
 ghost use Rattle.command_line.specs.Persisting.{Finds, UnpersistedFile, status_of, told_stores};
 ghost use Rattle.command_line.specs.Steps.{Prints};
 ghost use Rattle.crash_test.specs.Lines.{line_of};
-ghost use Rattle.run_text.specs.Places.{line_in};
+ghost use Rattle.report.specs.Places.{line_in};
 ghost use Rattle.std.specs.Prelude.{◌≡◌, ◌<◌, IfOk, string_bytes};
 ghost use Rattle.crash_test.specs.Programs.{IsProgramOf};
 
@@ -13,12 +13,10 @@ use crate::files::Files;
 use crate::made_run::{MadeRun, open_run};
 use crate::whole::demand_whole;
 use arguments::ReportCommand;
-use assemble::LineNumbers;
-use crash_test::source_lines;
+use crash_test::places_of;
 use durability::{Unpersisted, tell_unpersisted};
-use loss_text::{unpersisted_json, unpersisted_text};
-use recording::Run;
-use run_trace::TracedEvent;
+use machine::{Run, TracedEvent};
+use report::{Places, unpersisted_json, unpersisted_text};
 use std::alloc::{AllocError, Global};
 
 /// `unpersisted`: reads the files of a program, a schedule and a medium, and prints the stores of the run that weren't durable when
@@ -44,7 +42,6 @@ fn found(alloc: Global, run: &Run) -> Result<Unpersisted, Failure>
     Ok(tell_unpersisted(alloc, run.trace(), lines)?)
 }
 
-#[tactic(auto, using(crate::proofs::SourceLines::unpersisted_of_source))]
 fn told_answer(
     alloc: Global,
     made: &MadeRun,
@@ -54,8 +51,8 @@ fn told_answer(
     requires { IsProgramOf made.now.file.items made.now.run.setup.program }
     ensures { Prints (told_stores json (line_of made.now.file.items) made.now.run.traced found.now) (status_of found.now) result }
 {
-    let lines = source_lines(alloc, &made.file)?;
-    let text = told_stores(alloc, made.run.traced(), found, &lines, json)?;
+    let places = places_of(alloc, &made.file)?;
+    let text = told_stores(alloc, made.run.traced(), found, &places, json)?;
     Ok(Answer::of(text, status_of(found)))
 }
 
@@ -64,15 +61,15 @@ fn told_stores(
     alloc: Global,
     traced: &[TracedEvent],
     found: &Unpersisted,
-    lines: &Option<LineNumbers>,
+    places: &Places,
     json: bool,
 ) -> Result<String, AllocError>
-    ensures { IfOk result (λ text. string_bytes text ≡ told_stores json (line_in lines.now) traced.now found.now) }
+    ensures { IfOk result (λ text. string_bytes text ≡ told_stores json (line_in places.now) traced.now found.now) }
 {
     if json {
-        unpersisted_json(alloc, found, traced, lines)
+        unpersisted_json(alloc, found, traced, places)
     } else {
-        unpersisted_text(alloc, found, traced, lines)
+        unpersisted_text(alloc, found, traced, places)
     }
 }
 

@@ -10,7 +10,7 @@ use crate::reading::read_named_medium;
 use crate::writing::write_medium;
 use arguments::UpgradeCommand;
 use line_memory::Medium;
-use log_upgrade::upgrade;
+use nova_log::upgrade;
 use std::alloc::Global;
 
 /// `upgrade`: reads the file of a medium, and writes the file of a medium whose volume, of the second layout, has the same logs.

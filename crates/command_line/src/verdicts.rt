@@ -1,11 +1,12 @@
 //! What is told of a verdict on the moments of a run, whatever judges an image.
 
 ghost use Rattle.std.specs.Prelude.{◌≡◌, ◌++◌, ◌^◌, ◌<◌, ◌≤◌, IfOk, IfSome, MatchOption, None, Some, string_bytes};
+ghost use Rattle.arguments.specs.Line.{IsWithin};
 ghost use Rattle.arguments.specs.Spans.{IsUpward};
 ghost use Rattle.command_line.specs.Reasons.{told_why};
 ghost use Rattle.command_line.specs.Steps.{Prints};
 ghost use Rattle.command_line.specs.Verdicts.{fail_json, fail_line, failing, first_of, last_of, pass_json, pass_line, told_fail, told_pass, told_too_many, told_verdict, too_many_json, too_many_line, verdict_status};
-ghost use Rattle.schedule.specs.Grammar.{hart_steps};
+ghost use Rattle.machine.specs.Grammar.{hart_steps};
 ghost use Rattle.crash_test.specs.Programs.{IsProgramOf};
 
 use crate::answer::Answer;
@@ -13,10 +14,10 @@ use crate::failure::Failure;
 use crate::made_run::MadeRun;
 use crate::reasons::told_why;
 use arguments::Moments;
-use crash_test::ExplainedImage;
-use image_name::ImageName;
-use moment_verdict::Verdict;
+use crash_test::{ExplainedImage, Work};
 use std::alloc::{AllocError, Global};
+use text::ImageName;
+use verdict::Verdict;
 
 /// Why an image is bad.
 pub(crate) trait ToldCause: Copy {
@@ -89,8 +90,23 @@ pub(crate) fn failing<C>(why: bool, verdict: &Verdict<C>) -> Option<(u32, &Image
     }
 }
 
+/// What is judged of a run, and by how many workers.
+pub(crate) fn work(moments: Option<Moments>, workers: u32) -> Work
+    requires moments { IfSome moments IsUpward }
+    requires workers { IsWithin 1 8 workers }
+    ensures first { result.first ≡ first_of moments }
+    ensures last { result.last ≡ last_of moments }
+{
+    let (first, last) = bounds(moments);
+    Work {
+        first,
+        last,
+        workers,
+    }
+}
+
 /// The first and the last of the moments asked for.
-pub(crate) fn bounds(moments: Option<Moments>) -> (u32, Option<u32>)
+fn bounds(moments: Option<Moments>) -> (u32, Option<u32>)
     requires { IfSome moments IsUpward }
     ensures first { result.0 ≡ first_of moments }
     ensures last { result.1 ≡ last_of moments }

@@ -2,7 +2,7 @@
 
 ghost use Rattle.command_line.specs.Wasting.{FindsNeedless, IsTold, PrintsWaste, WasteFile};
 ghost use Rattle.crash_test.specs.Lines.{line_of};
-ghost use Rattle.run_text.specs.Places.{line_in};
+ghost use Rattle.report.specs.Places.{line_in};
 ghost use Rattle.std.specs.List.{zip};
 ghost use Rattle.std.specs.Result.{result_map_both};
 ghost use Rattle.std.specs.Prelude.{◌≡◌, ◌<◌, IfOk, length, string_bytes};
@@ -14,12 +14,10 @@ use crate::files::Files;
 use crate::made_run::{MadeRun, open_run};
 use crate::whole::demand_whole;
 use arguments::ReportCommand;
-use assemble::LineNumbers;
-use crash_test::source_lines;
-use needless::{Reason, needless_events};
-use needless_text::{waste_json, waste_text};
-use recording::Run;
-use run_trace::TracedEvent;
+use crash_test::places_of;
+use durability::{Reason, needless_events};
+use machine::{Run, TracedEvent};
+use report::{Places, waste_json, waste_text};
 use std::alloc::{AllocError, Global};
 
 /// `waste`: reads the files of a program, a schedule and a medium, and prints the cleans and fences that the run makes in vain, each
@@ -59,8 +57,8 @@ fn found_answer(
     requires size { length reasons.now ≡ length made.now.run.traced }
     ensures { PrintsWaste json (line_of made.now.file.items) (zip made.now.run.traced reasons.now) result }
 {
-    let lines = source_lines(alloc, &made.file)?;
-    let text = told(alloc, made.run.traced(), reasons, &lines, json)?;
+    let places = places_of(alloc, &made.file)?;
+    let text = told(alloc, made.run.traced(), reasons, &places, json)?;
     Ok(Answer::of(text, 0))
 }
 
@@ -69,15 +67,15 @@ fn told(
     alloc: Global,
     traced: &[TracedEvent],
     reasons: &[Option<Reason>],
-    lines: &Option<LineNumbers>,
+    places: &Places,
     json: bool,
 ) -> Result<String, AllocError>
     requires { length reasons.now ≡ length traced.now }
-    ensures { IfOk result (λ text. IsTold json (line_in lines.now) (zip traced.now reasons.now) (string_bytes text)) }
+    ensures { IfOk result (λ text. IsTold json (line_in places.now) (zip traced.now reasons.now) (string_bytes text)) }
 {
     if json {
-        waste_json(alloc, traced, reasons, lines)
+        waste_json(alloc, traced, reasons, places)
     } else {
-        waste_text(alloc, traced, reasons, lines)
+        waste_text(alloc, traced, reasons, places)
     }
 }

@@ -4,17 +4,17 @@ ghost use Rattle.command_line.specs.Demanding.{IsToldBy, IsWholeOrTold, MeetsWho
 ghost use Rattle.crash_test.specs.Lines.{line_of};
 ghost use Rattle.crash_test.specs.Programs.{IsProgramOf};
 ghost use Rattle.program.specs.Sections.{Sections};
-ghost use Rattle.run_text.specs.Causes.{unfinished_text};
+ghost use Rattle.report.specs.Causes.{unfinished_text};
 ghost use Rattle.std.specs.Prelude.{◌≡◌, IfOk, string_bytes};
-ghost use Rattle.whole_run.specs.Causes.{numbers_of};
+ghost use Rattle.unfinished.specs.Causes.{numbers_of};
 
 use crate::failure::Failure;
 use crate::made_run::MadeRun;
-use crash_test::source_lines;
+use crash_test::places_of;
 use plan::Operation;
-use run_text::unfinished_text;
+use report::unfinished_text;
 use std::alloc::{AllocError, Global};
-use whole_run::{Unfinished, find_unfinished};
+use unfinished::{Unfinished, find_unfinished};
 
 /// `--whole`: refuses a run that isn't whole, where the line has the option.
 pub(crate) fn demand_whole(
@@ -56,11 +56,10 @@ fn told(alloc: Global, file: &[u8], causes: &[Unfinished]) -> Failure
     }
 }
 
-#[tactic(auto, using(crate::proofs::SourceLines::unfinished_of_source))]
 fn causes_text(alloc: Global, file: &[u8], causes: &[Unfinished]) -> Result<String, AllocError>
     requires { (program : Sections) × IsProgramOf file.now program }
     ensures { IfOk result (λ text. string_bytes text ≡ unfinished_text (line_of file.now) causes.now) }
 {
-    let lines = source_lines(alloc, file)?;
-    unfinished_text(alloc, causes, &lines)
+    let places = places_of(alloc, file)?;
+    unfinished_text(alloc, causes, &places)
 }

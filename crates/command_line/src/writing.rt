@@ -2,14 +2,14 @@
 
 ghost use Rattle.std.specs.Prelude.{◌≡◌, ◌≤◌, ◌<◌, ◌^◌, IfErr, IfOk, option_map, string_bytes};
 ghost use Rattle.std.specs.Result.{result_map_both};
-ghost use Rattle.schedule.specs.Grammar.{OnText, hart_steps};
+ghost use Rattle.machine.specs.Grammar.{OnText, hart_steps};
 ghost use Rattle.command_line.specs.Steps.{WritesFile};
 ghost use Rattle.command_line.specs.Writing.{GivesBytes, GivesLine, Leaves, Records, WritesMedium, WritesSchedule, schedule_line};
 
 use crate::failure::Failure;
 use crate::files::Files;
 use line_memory::Medium;
-use schedule::{Schedule, ScheduleFault};
+use machine::{Schedule, ScheduleFault};
 use std::alloc::Global;
 
 /// Writes the bytes of a file.

@@ -5,9 +5,9 @@ use Rattle.std.proofs.Math.Nat.{mul-pos, le-mul_of_pos_right}
 use Rattle.std.proofs.Math.Seq.{drop-cons}
 use Rattle.std.proofs.lemmas.List.{drop_all}
 use Rattle.std.proofs.lemmas.List.Elements.{All-map}
-use Rattle.crash_model.proofs.Bounds.{floor_le_stores}
-use Rattle.crash_model.specs.Cut.{count_of, cut_count, stored_lines}
-use Rattle.crash_model.specs.declared.step.PersistenceStep.{PersistenceStep}
+use Rattle.store_trace.proofs.Bounds.{floor_le_stores}
+use Rattle.store_trace.specs.Cut.{count_of, cut_count, stored_lines}
+use Rattle.store_trace.specs.declared.crash_model.step.PersistenceStep.{PersistenceStep}
 use Rattle.crash_image.specs.Bounds.{IsOrdered, bounds_at, stored_bounds, numbers_of, product_of}
 use Rattle.crash_image.specs.declared.bounds.LineBounds.{LineBounds}
 

@@ -2,12 +2,12 @@
 use Rattle.std.proofs.Common.{◌≡◌, ℕ, ◌<◌, ◌≤◌, ◌==◌, nat_lt, true, List, [], ◌∷◌, inl, inr, refl, ap, ◌∙◌, sym, subst, arith}
 use Rattle.std.specs.Prelude.{All, Contains, map, if◌then◌else◌, slice_index, slice_index_or}
 use Rattle.std.proofs.lemmas.Bool.Decides.{nat_tests}
-use Rattle.crash_model.proofs.Bounds.{floor_le_stores}
-use Rattle.crash_model.proofs.Lines.{cut_from_within}
-use Rattle.crash_model.proofs.Radix.{radix_number, radix_number_place}
-use Rattle.crash_model.specs.Cut.{IsCut, IsWithin, cut_count, cuts, numbered, stored_lines}
-use Rattle.crash_model.specs.Floor.{floor}
-use Rattle.crash_model.specs.declared.step.PersistenceStep.{PersistenceStep}
+use Rattle.store_trace.proofs.Bounds.{floor_le_stores}
+use Rattle.store_trace.proofs.Lines.{cut_from_within}
+use Rattle.store_trace.proofs.Radix.{radix_number, radix_number_place}
+use Rattle.store_trace.specs.Cut.{IsCut, IsWithin, cut_count, cuts, numbered, stored_lines}
+use Rattle.store_trace.specs.Floor.{floor}
+use Rattle.store_trace.specs.declared.crash_model.step.PersistenceStep.{PersistenceStep}
 use Rattle.crash_image.proofs.Counting.{product_lines, product_stored}
 use Rattle.crash_image.specs.Bounds.{bounds_at, product_of, stored_bounds}
 use Rattle.crash_image.specs.Named.{HasLinesOf, IsTable, cut_over, named_cut, number_from, number_or, number_over, raised, raised_from, renumbered}

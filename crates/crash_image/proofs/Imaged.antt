@@ -5,10 +5,10 @@ use Rattle.std.proofs.lemmas.Bool.{cases_Bool}
 use Rattle.std.proofs.lemmas.Bool.Decides.{nat_tests}
 use Rattle.std.proofs.lemmas.Grind.{common_steps}
 use Rattle.std.proofs.Math.Seq.{drop-cons}
-use Rattle.crash_model.proofs.Images.{image_from_lines}
-use Rattle.crash_model.specs.Cut.{number_in}
-use Rattle.crash_model.specs.Image.{image}
-use Rattle.crash_model.specs.declared.step.PersistenceStep.{PersistenceStep}
+use Rattle.store_trace.proofs.Images.{image_from_lines}
+use Rattle.store_trace.specs.Cut.{number_in}
+use Rattle.store_trace.specs.Image.{image}
+use Rattle.store_trace.specs.declared.crash_model.step.PersistenceStep.{PersistenceStep}
 use Rattle.store_trace.specs.TraceView.{IsWidth}
 use Rattle.crash_image.specs.ImageScan.{IsImaged}
 

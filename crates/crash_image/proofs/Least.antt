@@ -4,15 +4,15 @@ use Rattle.std.specs.Prelude.{if◌then◌else◌, ◌⊎◌, All, map, unwrap_o
 use Rattle.std.proofs.lemmas.Bool.{cases_Bool, cases_lt}
 use Rattle.std.proofs.lemmas.Bool.Decides.{nat_tests}
 use Rattle.std.proofs.lemmas.Grind.{common_steps}
-use Rattle.crash_model.proofs.Bounds.{floor_le_stores}
-use Rattle.crash_model.proofs.Images.{image_line, image_from_lines, length_image}
-use Rattle.crash_model.proofs.Lines.{Upwards, upwards_stored_lines, cut_from_within, number_in_within, within_from_cut}
-use Rattle.crash_model.specs.Cut.{IsBefore, IsCut, IsWithin, IsCutImage, number_in, numbered, stored_lines}
-use Rattle.crash_model.specs.Floor.{floor}
-use Rattle.crash_model.specs.Image.{image, line_after}
-use Rattle.crash_model.specs.Stores.{stores}
-use Rattle.crash_model.specs.declared.step.PersistenceStep.{PersistenceStep}
-use Rattle.crash_model.specs.declared.step.PersistenceStep.TheVariants as step
+use Rattle.store_trace.proofs.Bounds.{floor_le_stores}
+use Rattle.store_trace.proofs.Images.{image_line, image_from_lines, length_image}
+use Rattle.store_trace.proofs.Lines.{Upwards, upwards_stored_lines, cut_from_within, number_in_within, within_from_cut}
+use Rattle.store_trace.specs.Cut.{IsBefore, IsCut, IsWithin, IsCutImage, number_in, numbered, stored_lines}
+use Rattle.store_trace.specs.Floor.{floor}
+use Rattle.store_trace.specs.Image.{image, line_after}
+use Rattle.store_trace.specs.Stores.{stores}
+use Rattle.store_trace.specs.declared.crash_model.step.PersistenceStep.{PersistenceStep}
+use Rattle.store_trace.specs.declared.crash_model.step.PersistenceStep.TheVariants as step
 use Rattle.line_memory.specs.Lines.{line_at}
 use Rattle.crash_image.proofs.Stored.{stored_among, stored_lines_among, AreBelow, below_history, cut_below}
 use Rattle.crash_image.specs.View.{CutsView, NamesLine}

@@ -13,3 +13,9 @@ pub mod Stored
 pub mod Tallying
 pub mod Telling
 pub mod Totaling
+pub mod Indexed
+pub mod Places
+pub mod Queries
+pub mod Raising
+pub mod Steps
+pub mod Waiting

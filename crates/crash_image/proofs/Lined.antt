@@ -7,13 +7,13 @@ use Rattle.std.proofs.lemmas.Bool.{cases_Bool}
 use Rattle.std.proofs.lemmas.Bool.Decides.{nat_tests}
 use Rattle.std.proofs.lemmas.Grind.{common_steps, flat_map-append}
 use Rattle.std.proofs.lemmas.List.{reverse-append, get_or-map, get_or_default}
-use Rattle.crash_model.proofs.Images.{image_line, length_image}
-use Rattle.crash_model.proofs.Lines.{stored_lines_increasing}
-use Rattle.crash_model.specs.Cut.{IsCut, number_in}
-use Rattle.crash_model.specs.Image.{image, line_after}
-use Rattle.crash_model.specs.Stores.{IsInLine, stores}
-use Rattle.crash_model.specs.declared.step.PersistenceStep.{PersistenceStep}
-use Rattle.crash_model.specs.declared.step.PersistenceStep.TheVariants as step
+use Rattle.store_trace.proofs.Images.{image_line, length_image}
+use Rattle.store_trace.proofs.Lines.{stored_lines_increasing}
+use Rattle.store_trace.specs.Cut.{IsCut, number_in}
+use Rattle.store_trace.specs.Image.{image, line_after}
+use Rattle.store_trace.specs.Stores.{IsInLine, stores}
+use Rattle.store_trace.specs.declared.crash_model.step.PersistenceStep.{PersistenceStep}
+use Rattle.store_trace.specs.declared.crash_model.step.PersistenceStep.TheVariants as step
 use Rattle.line_memory.proofs.Maps.{length-stored}
 use Rattle.line_memory.specs.Lines.{IsMedium, line_at}
 use Rattle.store_trace.proofs.InLines.{all_in_lines}

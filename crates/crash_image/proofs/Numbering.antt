@@ -7,10 +7,10 @@ use Rattle.std.proofs.Math.Seq.{drop-cons}
 use Rattle.std.proofs.lemmas.Grind.{common_steps}
 use Rattle.std.proofs.lemmas.Nat.{div-mul-add, mod-mul-add}
 use Rattle.std.proofs.lemmas.List.{reverse-append, get_or-map, length-map, same_lists}
-use Rattle.crash_model.proofs.Radix.{radix_cut, cuts_at, cut_of_number}
-use Rattle.crash_model.specs.Cut.{IsCut, count_of, cut_count, cuts, stored_lines}
-use Rattle.crash_model.specs.Floor.{floor}
-use Rattle.crash_model.specs.declared.step.PersistenceStep.{PersistenceStep}
+use Rattle.store_trace.proofs.Radix.{radix_cut, cuts_at, cut_of_number}
+use Rattle.store_trace.specs.Cut.{IsCut, count_of, cut_count, cuts, stored_lines}
+use Rattle.store_trace.specs.Floor.{floor}
+use Rattle.store_trace.specs.declared.crash_model.step.PersistenceStep.{PersistenceStep}
 use Rattle.crash_image.proofs.Counting.{product_lines, zero_lt_product}
 use Rattle.crash_image.specs.Bounds.{Allows, Fits, bounds_at, stored_bounds, numbers_of, product_of, cut_from}
 use Rattle.crash_image.specs.declared.bounds.LineBounds.{LineBounds}

@@ -4,11 +4,11 @@ use Rattle.std.specs.Prelude.{if◌then◌else◌, ◌↔◌, slice_set, IsTrue}
 use Rattle.std.proofs.lemmas.Bool.{cases_Bool}
 use Rattle.std.proofs.lemmas.Bool.Decides.{nat_tests}
 use Rattle.std.proofs.lemmas.Grind.{common_steps}
-use Rattle.crash_model.proofs.Images.{line_after_store}
-use Rattle.crash_model.specs.Image.{line_after}
-use Rattle.crash_model.specs.Stores.{stores}
-use Rattle.crash_model.specs.declared.step.PersistenceStep.{PersistenceStep}
-use Rattle.crash_model.specs.declared.step.PersistenceStep.TheVariants as step
+use Rattle.store_trace.proofs.Images.{line_after_store}
+use Rattle.store_trace.specs.Image.{line_after}
+use Rattle.store_trace.specs.Stores.{stores}
+use Rattle.store_trace.specs.declared.crash_model.step.PersistenceStep.{PersistenceStep}
+use Rattle.store_trace.specs.declared.crash_model.step.PersistenceStep.TheVariants as step
 use Rattle.line_memory.specs.Lines.{line_at}
 use Rattle.word_bits.specs.Bytes.{stored}
 use Rattle.crash_image.specs.LeastCut.{IsLeastNumber, IsSought, AreSought, number_after, looked}

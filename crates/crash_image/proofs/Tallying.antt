@@ -5,11 +5,11 @@ use Rattle.std.proofs.lemmas.Bool.{cases_Bool}
 use Rattle.std.proofs.lemmas.Bool.Decides.{nat_tests}
 use Rattle.std.proofs.lemmas.List.{get_or-replicate, length-replicate}
 use Rattle.std.proofs.lemmas.Grind.{common_steps}
-use Rattle.crash_model.proofs.Bounds.{cleaned_le_stores, floor_le_stores}
-use Rattle.crash_model.specs.Floor.{cleaned, floor}
-use Rattle.crash_model.specs.Stores.{stores}
-use Rattle.crash_model.specs.declared.step.PersistenceStep.{PersistenceStep}
-use Rattle.crash_model.specs.declared.step.PersistenceStep.TheVariants.{Store, Clean, Fence}
+use Rattle.store_trace.proofs.Bounds.{cleaned_le_stores, floor_le_stores}
+use Rattle.store_trace.specs.Floor.{cleaned, floor}
+use Rattle.store_trace.specs.Stores.{stores}
+use Rattle.store_trace.specs.declared.crash_model.step.PersistenceStep.{PersistenceStep}
+use Rattle.store_trace.specs.declared.crash_model.step.PersistenceStep.TheVariants.{Store, Clean, Fence}
 use Rattle.crash_image.proofs.Stored.{stored_among, stored_lines_among, AreBelow, history_more}
 use Rattle.store_trace.specs.History.{history, steps_of}
 use Rattle.store_trace.specs.declared.event.Event.{Event}

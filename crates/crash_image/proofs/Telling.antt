@@ -5,12 +5,12 @@ use Rattle.std.proofs.lemmas.Bool.{cases_Bool}
 use Rattle.std.proofs.lemmas.Bool.Decides.{nat_tests}
 use Rattle.std.proofs.lemmas.List.{get_or-map, length-map}
 use Rattle.std.proofs.lemmas.List.Elements.{All-filter}
-use Rattle.crash_model.proofs.Lines.{Upwards, upwards_stored_lines}
-use Rattle.crash_model.specs.Cut.{IsCut, numbered, stored_lines}
-use Rattle.crash_model.specs.Floor.{floor}
-use Rattle.crash_model.specs.declared.step.PersistenceStep.{PersistenceStep}
-use Rattle.image_name.specs.declared.name.ImageName.{ImageName}
-use Rattle.image_name.specs.declared.name.ImageName.TheVariants.{Number, Cut}
+use Rattle.store_trace.proofs.Lines.{Upwards, upwards_stored_lines}
+use Rattle.store_trace.specs.Cut.{IsCut, numbered, stored_lines}
+use Rattle.store_trace.specs.Floor.{floor}
+use Rattle.store_trace.specs.declared.crash_model.step.PersistenceStep.{PersistenceStep}
+use Rattle.text.specs.declared.image_name.name.ImageName.{ImageName}
+use Rattle.text.specs.declared.image_name.name.ImageName.TheVariants.{Number, Cut}
 use Rattle.crash_image.specs.Named.{HasLinesOf, IsNameOf, IsNamed, named_cut, number_or, raised}
 
 -- a line below the lines of a cut isn't raised

@@ -15,13 +15,13 @@ use Rattle.crash_image.proofs.Stored.{history_more}
 use Rattle.store_trace.specs.History.{at_moment, history, steps_of}
 use Rattle.store_trace.specs.declared.event.Event.{Event}
 use Rattle.store_trace.specs.declared.event.Event.TheVariants as events
-use Rattle.crash_model.proofs.Bounds.{cleaned_le_stores, floor_le_stores}
-use Rattle.crash_model.proofs.Lines.{Upwards, has, has_stored_lines, upwards_stored_lines}
-use Rattle.crash_model.specs.Cut.{count_of, cut_count, stored_lines, width_of, with_line}
-use Rattle.crash_model.specs.Floor.{cleaned, floor}
-use Rattle.crash_model.specs.Stores.{stores}
-use Rattle.crash_model.specs.declared.step.PersistenceStep.{PersistenceStep}
-use Rattle.crash_model.specs.declared.step.PersistenceStep.TheVariants.{Store, Clean, Fence, Evict}
+use Rattle.store_trace.proofs.Bounds.{cleaned_le_stores, floor_le_stores}
+use Rattle.store_trace.proofs.Lines.{Upwards, has, has_stored_lines, upwards_stored_lines}
+use Rattle.store_trace.specs.Cut.{count_of, cut_count, stored_lines, width_of, with_line}
+use Rattle.store_trace.specs.Floor.{cleaned, floor}
+use Rattle.store_trace.specs.Stores.{stores}
+use Rattle.store_trace.specs.declared.crash_model.step.PersistenceStep.{PersistenceStep}
+use Rattle.store_trace.specs.declared.crash_model.step.PersistenceStep.TheVariants.{Store, Clean, Fence, Evict}
 use Rattle.crash_image.specs.Totals.{IsFreePlace, choices_of, cleaned_line, fenced_line, free_among, free_line, free_lines, harts, images_between, raised_line, still_free, stored_line, with_store}
 use Rattle.crash_image.specs.declared.totals.FreeLine.{FreeLine}
 

@@ -1,9 +1,9 @@
 -- The bounds of the stored lines.
 use Rattle.std.specs.Prelude.{◌≡◌, ℕ, ◌+◌, ◌-◌, ◌*◌, ◌/◌, ◌%◌, ◌<◌, ◌≤◌, List, [], ◌∷◌, length, map, slice_index_or}
-use Rattle.crash_model.specs.Cut.{stored_lines}
-use Rattle.crash_model.specs.Floor.{floor}
-use Rattle.crash_model.specs.Stores.{stores}
-use Rattle.crash_model.specs.declared.step.PersistenceStep.{PersistenceStep}
+use Rattle.store_trace.specs.Cut.{stored_lines}
+use Rattle.store_trace.specs.Floor.{floor}
+use Rattle.store_trace.specs.Stores.{stores}
+use Rattle.store_trace.specs.declared.crash_model.step.PersistenceStep.{PersistenceStep}
 use Rattle.crash_image.specs.declared.bounds.LineBounds.{LineBounds}
 
 -- between which numbers of its stores line l stands

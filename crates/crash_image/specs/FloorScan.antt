@@ -1,8 +1,8 @@
 -- What is known of the lines while the steps are read from the newest back.
 use Rattle.std.specs.Prelude.{◌≡◌, ℕ, suc, ◌+◌, ◌-◌, ◌<◌, ◌≤◌, ◌⊎◌, nat_lt, Bool, true, false, List, [], ◌∷◌, Option, Some, None, length, if◌then◌else◌, unwrap_or, slice_index_or}
-use Rattle.crash_model.specs.Floor.{cleaned, floor}
-use Rattle.crash_model.specs.Stores.{stores}
-use Rattle.crash_model.specs.declared.step.PersistenceStep.{PersistenceStep}
+use Rattle.store_trace.specs.Floor.{cleaned, floor}
+use Rattle.store_trace.specs.Stores.{stores}
+use Rattle.store_trace.specs.declared.crash_model.step.PersistenceStep.{PersistenceStep}
 use Rattle.crash_image.specs.declared.bounds.LineBounds.{LineBounds}
 use Rattle.crash_image.specs.declared.bounds.Tally.{Tally}
 

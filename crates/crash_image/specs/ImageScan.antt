@@ -1,8 +1,8 @@
 -- The image of a cut while its stores are made, the oldest first.
 use Rattle.std.specs.Prelude.{◌≡◌, ℕ, ◌-◌, ◌<◌, List, length, slice_index_or}
-use Rattle.crash_model.specs.Image.{line_after}
-use Rattle.crash_model.specs.Stores.{stores}
-use Rattle.crash_model.specs.declared.step.PersistenceStep.{PersistenceStep}
+use Rattle.store_trace.specs.Image.{line_after}
+use Rattle.store_trace.specs.Stores.{stores}
+use Rattle.store_trace.specs.declared.crash_model.step.PersistenceStep.{PersistenceStep}
 use Rattle.line_memory.specs.Lines.{line_at}
 
 -- after these steps each line l has had its first `k l` stores, as far as they were made, and `left` counts those that are due

@@ -1,9 +1,9 @@
 -- The search for the least cut with a given image.
 use Rattle.std.specs.Prelude.{◌≡◌, ℕ, suc, ◌<◌, ◌≤◌, ◌⊎◌, ◌&&◌, nat_lt, nat_le, Bool, true, false, Option, Some, None, List, [], ◌∷◌, length, if◌then◌else◌, option_map, slice_index_or}
-use Rattle.crash_model.specs.Cut.{IsBefore, IsCut, IsCutImage, number_in, numbered, stored_lines}
-use Rattle.crash_model.specs.Image.{image, line_after}
-use Rattle.crash_model.specs.Stores.{stores}
-use Rattle.crash_model.specs.declared.step.PersistenceStep.{PersistenceStep}
+use Rattle.store_trace.specs.Cut.{IsBefore, IsCut, IsCutImage, number_in, numbered, stored_lines}
+use Rattle.store_trace.specs.Image.{image, line_after}
+use Rattle.store_trace.specs.Stores.{stores}
+use Rattle.store_trace.specs.declared.crash_model.step.PersistenceStep.{PersistenceStep}
 use Rattle.line_memory.specs.Lines.{line_at}
 use Rattle.crash_image.specs.declared.search.Sought.{Sought}
 

@@ -6,3 +6,6 @@ pub mod Named
 pub mod Places
 pub mod Totals
 pub mod View
+pub mod Lines
+pub mod Pendings
+pub mod TraceIndexView

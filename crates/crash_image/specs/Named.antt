@@ -1,12 +1,12 @@
 -- How the cuts of a moment are named: by their number, or by the lines that stand above their floor.
 use Rattle.std.specs.Prelude.{◌≡◌, ℕ, ◌+◌, ◌-◌, ◌*◌, ◌==◌, ◌<◌, ◌≤◌, ◌⊎◌, nat_lt, List, [], ◌∷◌, if◌then◌else◌, map, slice_index, slice_index_or, All, Contains}
 use Rattle.std.specs.List.{filter}
-use Rattle.crash_model.specs.Cut.{IsCut, cut_count, cuts, numbered, stored_lines}
-use Rattle.crash_model.specs.Floor.{floor}
-use Rattle.crash_model.specs.Stores.{stores}
-use Rattle.crash_model.specs.declared.step.PersistenceStep.{PersistenceStep}
-use Rattle.image_name.specs.declared.name.ImageName.{ImageName}
-use Rattle.image_name.specs.declared.name.ImageName.TheVariants.{Number, Cut}
+use Rattle.store_trace.specs.Cut.{IsCut, cut_count, cuts, numbered, stored_lines}
+use Rattle.store_trace.specs.Floor.{floor}
+use Rattle.store_trace.specs.Stores.{stores}
+use Rattle.store_trace.specs.declared.crash_model.step.PersistenceStep.{PersistenceStep}
+use Rattle.text.specs.declared.image_name.name.ImageName.{ImageName}
+use Rattle.text.specs.declared.image_name.name.ImageName.TheVariants.{Number, Cut}
 use Rattle.crash_image.specs.Bounds.{product_of}
 use Rattle.crash_image.specs.declared.bounds.LineBounds.{LineBounds}
 

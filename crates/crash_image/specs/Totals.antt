@@ -1,10 +1,10 @@
 -- How many images a trace's moments have together, and the lines that stand free while the events are read.
 use Rattle.std.specs.Prelude.{◌≡◌, ℕ, zero, suc, ◌+◌, ◌-◌, ◌*◌, ◌==◌, ◌<◌, ◌≤◌, nat_le, nat_lt, List, [], ◌∷◌, Option, Some, None, if◌then◌else◌, length, map, replicate, slice_index, slice_index_or, slice_set}
 use Rattle.std.specs.List.{filter}
-use Rattle.crash_model.specs.Cut.{cut_count, stored_lines}
-use Rattle.crash_model.specs.Floor.{cleaned, floor}
-use Rattle.crash_model.specs.Stores.{stores}
-use Rattle.crash_model.specs.declared.step.PersistenceStep.{PersistenceStep}
+use Rattle.store_trace.specs.Cut.{cut_count, stored_lines}
+use Rattle.store_trace.specs.Floor.{cleaned, floor}
+use Rattle.store_trace.specs.Stores.{stores}
+use Rattle.store_trace.specs.declared.crash_model.step.PersistenceStep.{PersistenceStep}
 use Rattle.store_trace.specs.History.{at_moment}
 use Rattle.store_trace.specs.declared.event.Event.{Event}
 use Rattle.crash_image.specs.declared.totals.FreeLine.{FreeLine}

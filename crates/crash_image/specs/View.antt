@@ -1,6 +1,6 @@
 -- What a contract sees of the crash images of a moment, and which lines a trace names.
 use Rattle.std.specs.Prelude.{ℕ, List, length, All}
-use Rattle.crash_model.specs.declared.step.PersistenceStep.{PersistenceStep}
+use Rattle.store_trace.specs.declared.crash_model.step.PersistenceStep.{PersistenceStep}
 use Rattle.store_trace.specs.declared.event.Event.{Event}
 pub use Rattle.store_trace.specs.TraceView.{NamesLine}
 

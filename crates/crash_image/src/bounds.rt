@@ -6,7 +6,7 @@
 ghost use Rattle.crash_image.specs.Bounds.{Allows, IsOrdered, numbers_of, product_of, stored_bounds};
 ghost use Rattle.crash_image.specs.FloorScan.{AreTallies, IsFree, bounds_from, cleaned_by, stored};
 ghost use Rattle.crash_image.specs.View.{NamesLine};
-ghost use Rattle.crash_model.specs.declared.step.PersistenceStep.{PersistenceStep};
+ghost use Rattle.store_trace.specs.declared.crash_model.step.PersistenceStep.{PersistenceStep};
 ghost use Rattle.store_trace.specs.History.{history, steps_of};
 ghost use Rattle.store_trace.specs.TraceView.{IsEvent};
 ghost use Rattle.std.specs.Prelude.{◌≡◌, ℕ, ◌<◌, ◌≤◌, ◌+◌, ◌%◌, ◌^◌, ◌++◌, List, length, map, replicate, unwrap_or, slice_index_or, slice_set, ◌↔◌, All, IfOk, IfSome, IsNone, IsTrue};
@@ -14,13 +14,7 @@ ghost use Rattle.crash_image.specs.declared.bounds.Tally.{Tally as ATally};
 ghost use Rattle.crash_image.specs.declared.bounds.LineBounds.{LineBounds as OneLine};
 
 use std::alloc::{AllocError, Global};
-use store_trace::Event;
-
-/// The most cuts that are counted.
-const LIMIT: u64 = 65_536;
-
-/// The number of harts.
-const HARTS: usize = 8;
+use store_trace::{Event, MAX_CUTS, MAX_HARTS};
 
 /// A stored line: at least its first `floor` stores are in the medium, and at most all its `stores`.
 #[derive(Clone, Copy)]
@@ -95,7 +89,7 @@ pub fn line_bounds(
     ensures { IfOk result (λ found. found.items ≡ stored_bounds (history events.now)) }
 {
     let mut tallies = no_tallies(alloc, lines)?;
-    let mut fenced = [false; HARTS];
+    let mut fenced = [false; MAX_HARTS];
     for at in (0..events.len()).rev() {
         scan_back_over(&mut tallies, &mut fenced, events[at]);
     }
@@ -115,7 +109,7 @@ fn no_tallies(alloc: Global, lines: u32) -> Result<Vec<Tally>, AllocError>
 }
 
 /// Takes the tallies one event further back.
-fn scan_back_over(tallies: &mut [Tally], fenced: &mut [bool; HARTS], event: Event)
+fn scan_back_over(tallies: &mut [Tally], fenced: &mut [bool; MAX_HARTS], event: Event)
     requires event { IsEvent event }
     requires named { NamesLine (length tallies.old) event }
     requires few { (l : ℕ) (d : ATally) → l < length tallies.old →
@@ -163,7 +157,7 @@ pub fn product(bounds: &[LineBounds]) -> Option<u32>
     let mut count = 1;
     for line in bounds {
         count *= line.numbers();
-        if count > LIMIT {
+        if count > MAX_CUTS {
             return None;
         }
     }

@@ -2,7 +2,7 @@
 
 ghost use Rattle.crash_image.specs.Bounds.{Allows, Fits, IsOrdered, cut_from, numbers_of, product_of};
 ghost use Rattle.crash_image.specs.Places.{IsPlace};
-ghost use Rattle.crash_model.specs.Cut.{number_in};
+ghost use Rattle.store_trace.specs.Cut.{number_in};
 ghost use Rattle.std.specs.List.Sorted.{IsStrictlyIncreasing};
 ghost use Rattle.std.specs.Prelude.{◌≡◌, ◌↔◌, ◌<◌, All, IfOk, IsTrue, map};
 

@@ -5,9 +5,9 @@ ghost use Rattle.crash_image.specs.Named.{HasLinesOf, IsNameOf, IsNamed, IsTable
 ghost use Rattle.crash_image.specs.LeastCut.{IsLeastCut};
 ghost use Rattle.crash_image.specs.View.{HasLines};
 ghost use Rattle.crash_image.specs.declared.bounds.LineBounds.{LineBounds as OneLine};
-ghost use Rattle.crash_model.specs.Cut.{IsCut, cut_count, cuts, number_in};
-ghost use Rattle.crash_model.specs.Image.{image};
-ghost use Rattle.image_name.specs.declared.name.ImageName.TheVariants as names;
+ghost use Rattle.store_trace.specs.Cut.{IsCut, cut_count, cuts, number_in};
+ghost use Rattle.store_trace.specs.Image.{image};
+ghost use Rattle.text.specs.declared.image_name.name.ImageName.TheVariants as names;
 ghost use Rattle.line_memory.specs.Lines.{IsMedium, line_at};
 ghost use Rattle.store_trace.specs.History.{at_moment};
 ghost use Rattle.std.specs.Prelude.{◌≡◌, ℕ, ◌↔◌, ◌<◌, ◌≤◌, ◌*◌, [], List, length, map, slice_index_or, IfOk, IfSome, IsNone, IsErrOf, IfErr, IsTrue, OnOk};
@@ -19,11 +19,11 @@ use crate::images::imaged;
 use crate::line::bytes_after;
 use crate::named::{entries_over, number, raised, renumber};
 use crate::search::find_least;
-use image_name::{Cut, ImageName};
 use line_memory::Medium;
 use std::alloc::Global;
 use std::marker::Model;
 use store_trace::{Event, Trace};
+use text::{Cut, ImageName};
 
 /// The cuts of a moment of a trace, and their images over a starting medium.
 ///

@@ -2,9 +2,9 @@
 
 ghost use Rattle.crash_image.specs.ImageScan.{IsImaged};
 ghost use Rattle.crash_image.specs.View.{NamesLine};
-ghost use Rattle.crash_model.specs.Cut.{number_in};
-ghost use Rattle.crash_model.specs.Image.{image};
-ghost use Rattle.crash_model.specs.declared.step.PersistenceStep.{PersistenceStep};
+ghost use Rattle.store_trace.specs.Cut.{number_in};
+ghost use Rattle.store_trace.specs.Image.{image};
+ghost use Rattle.store_trace.specs.declared.crash_model.step.PersistenceStep.{PersistenceStep};
 ghost use Rattle.line_memory.specs.Lines.{IsMedium, line_at};
 ghost use Rattle.word_bits.specs.Bytes.{stored};
 ghost use Rattle.store_trace.specs.History.{history, steps_of};

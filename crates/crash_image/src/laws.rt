@@ -2,9 +2,9 @@
 
 ghost use Rattle.crash_image.specs.Named.{IsNameOf, IsNamed};
 ghost use Rattle.crash_image.specs.Totals.{IsImageSum, sum_of};
-ghost use Rattle.crash_model.specs.Cut.{IsCut};
-ghost use Rattle.crash_model.specs.declared.step.PersistenceStep.{PersistenceStep};
-ghost use Rattle.image_name.specs.declared.name.ImageName.{ImageName};
+ghost use Rattle.store_trace.specs.Cut.{IsCut};
+ghost use Rattle.store_trace.specs.declared.crash_model.step.PersistenceStep.{PersistenceStep};
+ghost use Rattle.text.specs.declared.image_name.name.ImageName.{ImageName};
 ghost use Rattle.store_trace.specs.declared.event.Event.{Event};
 ghost use Rattle.std.specs.Prelude.{◌≡◌, ℕ, ◌≤◌, List, Option};
 

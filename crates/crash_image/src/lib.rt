@@ -4,15 +4,6 @@
 //! stores from its floor on.
 #![tactic(auto)]
 
-pub use cuts::Cuts;
-pub use image_name::{Cut, ImageName};
-pub use images::numbers_of_lines;
-pub use laws::{image_sums_join, names_tell_cuts};
-pub use names::has_lines;
-use std::alloc::AllocError;
-use thiserror::Error;
-pub use totals::images_between;
-
 mod bounds;
 mod cut;
 mod cuts;
@@ -23,6 +14,17 @@ mod named;
 mod names;
 mod search;
 mod totals;
+mod trace_index;
+
+pub use cuts::Cuts;
+pub use images::numbers_of_lines;
+pub use laws::{image_sums_join, names_tell_cuts};
+pub use names::has_lines;
+use std::alloc::AllocError;
+pub use text::{Cut, ImageName};
+use thiserror::Error;
+pub use totals::images_between;
+pub use trace_index::TraceIndex;
 
 /// Why crash images aren't given.
 #[derive(Debug, Drop, Error)]

@@ -1,8 +1,8 @@
 //! One line of the image of a cut: its starting bytes, and over them its first stores.
 
 ghost use Rattle.crash_image.specs.ImageScan.{IsLineMade};
-ghost use Rattle.crash_model.specs.Image.{line_after};
-ghost use Rattle.crash_model.specs.declared.step.PersistenceStep.{PersistenceStep};
+ghost use Rattle.store_trace.specs.Image.{line_after};
+ghost use Rattle.store_trace.specs.declared.crash_model.step.PersistenceStep.{PersistenceStep};
 ghost use Rattle.store_trace.specs.History.{history, steps_of};
 ghost use Rattle.store_trace.specs.TraceView.{IsEvent, IsWidth};
 ghost use Rattle.word_bits.specs.Bytes.{stored};

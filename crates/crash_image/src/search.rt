@@ -3,8 +3,8 @@
 ghost use Rattle.crash_image.specs.LeastCut.{AreNumbers, AreSought, IsSought, chosen_from, looked};
 ghost use Rattle.crash_image.specs.View.{NamesLine};
 ghost use Rattle.crash_image.specs.declared.search.Sought.{Sought as ASought};
-ghost use Rattle.crash_model.specs.Cut.{number_in};
-ghost use Rattle.crash_model.specs.declared.step.PersistenceStep.{PersistenceStep};
+ghost use Rattle.store_trace.specs.Cut.{number_in};
+ghost use Rattle.store_trace.specs.declared.crash_model.step.PersistenceStep.{PersistenceStep};
 ghost use Rattle.line_memory.specs.Lines.{IsMedium, line_at};
 ghost use Rattle.store_trace.specs.History.{history, steps_of};
 ghost use Rattle.store_trace.specs.TraceView.{IsEvent};

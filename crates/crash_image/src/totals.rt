@@ -4,19 +4,13 @@
 
 ghost use Rattle.crash_image.specs.Totals.{IsFreePlace, IsImageSum, choices_of, cleaned_line, fenced_line, free_lines, still_free, with_store};
 ghost use Rattle.crash_image.specs.declared.totals.FreeLine.{FreeLine as AFreeLine};
-ghost use Rattle.crash_model.specs.declared.step.PersistenceStep.{PersistenceStep};
+ghost use Rattle.store_trace.specs.declared.crash_model.step.PersistenceStep.{PersistenceStep};
 ghost use Rattle.store_trace.specs.History.{at_moment, steps_of};
 ghost use Rattle.store_trace.specs.TraceView.{IsEvent};
 ghost use Rattle.std.specs.Prelude.{◌≡◌, ◌↔◌, ℕ, ◌+◌, ◌-◌, ◌<◌, ◌≤◌, ◌++◌, List, All, IfOk, IfSome, IsNone, OnOk, length, map};
 
 use std::alloc::{AllocError, Global};
-use store_trace::{Event, Trace};
-
-/// The most cuts that are counted.
-const LIMIT: u64 = 65_536;
-
-/// The number of harts.
-const HARTS: usize = 8;
+use store_trace::{Event, MAX_CUTS, MAX_HARTS, Trace};
 
 /// A line that stands above its floor.
 #[derive(Clone, Copy)]
@@ -25,7 +19,7 @@ struct FreeLine {
     /// Its stores above the floor.
     above: u32,
     /// How many of those each hart's last clean of the line found.
-    cleaned: [u32; HARTS],
+    cleaned: [u32; MAX_HARTS],
 }
 
 impl FreeLine {
@@ -125,7 +119,7 @@ fn store(free: &mut Vec<FreeLine>, line: u32) -> Result<(), AllocError>
     let first = FreeLine {
         line,
         above: 1,
-        cleaned: [0; HARTS],
+        cleaned: [0; MAX_HARTS],
     };
     free.insert(at, first)?;
     Ok(())
@@ -178,7 +172,7 @@ fn choices(free: &[FreeLine]) -> Option<u64>
     let mut count = 1;
     for known in free {
         count *= u64::from(known.above) + 1;
-        if count > LIMIT {
+        if count > MAX_CUTS {
             return None;
         }
     }

@@ -13,21 +13,21 @@ use Rattle.machine.specs.Refusals.{Refuses}
 use Rattle.machine.specs.Run.{RunsTo}
 use Rattle.machine.specs.Represents.{IsRunning}
 use Rattle.machine.specs.declared.fault.RunStop.{RunStop}
-use Rattle.recording.specs.Recorded.{FailsToRecord, HasGoneOn, IsRefused, RecordedView, Records, StopsRecording}
-use Rattle.schedule.proofs.Places.{step_here}
-use Rattle.schedule.specs.Grammar.{hart_steps}
-use Rattle.schedule.specs.Places.{steps_before}
-use Rattle.schedule.specs.Steps.{all_steps}
-use Rattle.schedule.specs.declared.items.Item.{Item}
-use Rattle.schedule.specs.declared.items.Item.TheVariants.{Steps}
-use Rattle.schedule.specs.declared.items.Step.{Step}
-use Rattle.schedule.specs.declared.items.Step.TheVariants.{Hart}
-use Rattle.shared_memory.specs.declared.fault.StepFault.{StepFault}
-use Rattle.shared_memory.specs.declared.fault.StepFault.TheVariants.{NoSuchHart, NoSuchLine, TraceFull, Memory, OutOfLimits}
+use Rattle.machine.specs.Recorded.{FailsToRecord, HasGoneOn, IsRefused, RecordedView, Records, StopsRecording}
+use Rattle.machine.proofs.Places.{step_here}
+use Rattle.machine.specs.Grammar.{hart_steps}
+use Rattle.machine.specs.Places.{steps_before}
+use Rattle.machine.specs.Steps.{all_steps}
+use Rattle.machine.specs.declared.schedule.items.Item.{Item}
+use Rattle.machine.specs.declared.schedule.items.Item.TheVariants.{Steps}
+use Rattle.machine.specs.declared.schedule.items.Step.{Step}
+use Rattle.machine.specs.declared.schedule.items.Step.TheVariants.{Hart}
+use Rattle.machine.specs.declared.shared_memory.fault.StepFault.{StepFault}
+use Rattle.machine.specs.declared.shared_memory.fault.StepFault.TheVariants.{NoSuchHart, NoSuchLine, TraceFull, Memory, OutOfLimits}
 use Rattle.crash_test.proofs.Together.{hart_count_of}
 use Rattle.crash_test.specs.Runs.{FailsTogether, FillsTrace, HasRunTogether, HaveMadeAll, HaveMadeAtMost, StopsHarts}
-use Rattle.recording.specs.Runs.{IsLeftOf, start_of}
-use Rattle.recording.specs.declared.setup.Setup.{Setup}
+use Rattle.machine.specs.RecordingRuns.{IsLeftOf, start_of}
+use Rattle.machine.specs.declared.recording.setup.Setup.{Setup}
 use Rattle.crash_test.specs.declared.runs.TogetherFault.TheVariants as together
 
 -- all steps of the schedule are the hart's

@@ -1,12 +1,12 @@
 -- What the explanation of a cut of a run leaves.
 use Rattle.std.proofs.Common.{ℕ, List}
 use Rattle.crash_test.specs.Explaining.{ExplainsImage, HasImage}
-use Rattle.cut_schedule.specs.Explains.{Explains}
-use Rattle.image_name.specs.declared.name.ImageName.{ImageName}
-use Rattle.recording.specs.Recorded.{RecordedView}
-use Rattle.recording.specs.Runs.{IsRecordOf, RunView}
-use Rattle.schedule.specs.Steps.{all_steps}
-use Rattle.schedule.specs.declared.items.Item.{Item}
+use Rattle.witness.specs.Explains.{Explains}
+use Rattle.text.specs.declared.image_name.name.ImageName.{ImageName}
+use Rattle.machine.specs.Recorded.{RecordedView}
+use Rattle.machine.specs.RecordingRuns.{IsRecordOf, RunView}
+use Rattle.machine.specs.Steps.{all_steps}
+use Rattle.machine.specs.declared.schedule.items.Item.{Item}
 
 pub explains_image : (run : RunView) (moment : ℕ) (name : ImageName) (recorded : RecordedView) (cut : List (ℕ × ℕ)) (explanation : List Item)
     → IsRecordOf run recorded → HasImage run.events moment name cut → Explains recorded moment cut (all_steps explanation)

@@ -6,13 +6,13 @@ use Rattle.machine.proofs.Leaving.{left_by}
 use Rattle.machine.specs.Represents.{IsThere, MachineView, Runs, RunsExactly, Represents, RepresentsExactly}
 use Rattle.machine.specs.Stops.{StopsAt}
 use Rattle.machine.specs.declared.fault.RunStop.{RunStop}
-use Rattle.recording.proofs.Numbering.{all_among}
-use Rattle.schedule.specs.Steps.{all_steps}
-use Rattle.schedule.specs.declared.items.Item.{Item}
-use Rattle.schedule.specs.declared.items.Step.{Step}
+use Rattle.machine.proofs.Numbering.{all_among}
+use Rattle.machine.specs.Steps.{all_steps}
+use Rattle.machine.specs.declared.schedule.items.Item.{Item}
+use Rattle.machine.specs.declared.schedule.items.Step.{Step}
 use Rattle.crash_test.specs.Runs.{FailsToRun, HasMade, HasRun, IsAtStart}
-use Rattle.recording.specs.Runs.{AreThere, IsLeftOf, start_of}
-use Rattle.recording.specs.declared.setup.Setup.{Setup}
+use Rattle.machine.specs.RecordingRuns.{AreThere, IsLeftOf, start_of}
+use Rattle.machine.specs.declared.recording.setup.Setup.{Setup}
 
 -- a machine at the start has as many harts as its setup says
 harts_of : (s : Setup) (machine : MachineView) → Represents machine (start_of s) → length machine.harts ≡ s.harts

@@ -1,20 +1,20 @@
 -- What a pass says of the run.
 use Rattle.std.proofs.Common.{◌≡◌, ℕ, ◌+◌, List, Option, None, length, ap, ◌∙◌, arith}
 use Rattle.image_check.specs.Verdicts.{IsVerdictBetween, PassBetween}
-use Rattle.parallel_moments.specs.Rows.{end_of}
+use Rattle.verdict.specs.Rows.{end_of}
 use Rattle.image_check.specs.declared.cause.Cause.{Cause}
-use Rattle.moment_verdict.specs.declared.verdict.Verdict.{Verdict}
-use Rattle.moment_verdict.specs.declared.verdict.Verdict.TheVariants.{Pass}
-use Rattle.shared_memory.specs.Replies.{trace_in}
+use Rattle.verdict.specs.declared.moment_verdict.verdict.Verdict.{Verdict}
+use Rattle.verdict.specs.declared.moment_verdict.verdict.Verdict.TheVariants.{Pass}
+use Rattle.machine.specs.Replies.{trace_in}
 use Rattle.machine.proofs.Determined.{runs_once}
 use Rattle.machine.specs.Run.{Config}
 use Rattle.plan.specs.declared.operation.Operation.{Operation}
-use Rattle.schedule.specs.Steps.{all_steps}
-use Rattle.schedule.specs.declared.items.Item.{Item}
+use Rattle.machine.specs.Steps.{all_steps}
+use Rattle.machine.specs.declared.schedule.items.Item.{Item}
 use Rattle.store_trace.specs.declared.event.Event.{Event}
 use Rattle.crash_test.specs.Checking.{AlwaysPasses}
-use Rattle.recording.specs.Runs.{start_of}
-use Rattle.recording.specs.declared.setup.Setup.{Setup}
+use Rattle.machine.specs.RecordingRuns.{start_of}
+use Rattle.machine.specs.declared.recording.setup.Setup.{Setup}
 use Rattle.crash_test.proofs.Running.{HasTrace}
 
 -- the run comes to one end, so its trace is the one that was judged

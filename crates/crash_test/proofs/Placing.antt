@@ -7,9 +7,9 @@ use Rattle.line_memory.specs.Regions.{RamView, padded, ram_bytes}
 use Rattle.line_memory.specs.declared.TheConstants.{DATA_SIZE, PERSISTENT_BASE, TEXT_SIZE}
 use Rattle.program.specs.Sections.{Sections}
 use Rattle.program.specs.Loading.{Loads, zero_filled}
-use Rattle.shared_memory.specs.Replies.{starting_memory}
-use Rattle.asm_names.specs.declared.kinds.Section.{Section}
-use Rattle.asm_names.specs.declared.kinds.Section.TheVariants.{Text, Data}
+use Rattle.machine.specs.Replies.{starting_memory}
+use Rattle.asm_lex.specs.declared.asm_names.kinds.Section.{Section}
+use Rattle.asm_lex.specs.declared.asm_names.kinds.Section.TheVariants.{Text, Data}
 use Rattle.assemble.specs.Assembly.{AreBytesOf, Assembles, bytes_in, lines_back, values_of}
 use Rattle.assemble.specs.Places.{base_of, limit_of, place_after, section_after}
 use Rattle.assemble.specs.Standing.{LineStands}

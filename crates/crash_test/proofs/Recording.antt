@@ -1,12 +1,12 @@
 -- Why a run isn't recorded.
 use Rattle.std.proofs.Common.{List, length, inl, inr, ◌∙◌}
-use Rattle.recording.specs.Recorded.{FailsToRecord, IsRefused as StopsMachine, StopsRecording}
+use Rattle.machine.specs.Recorded.{FailsToRecord, IsRefused as StopsMachine, StopsRecording}
 use Rattle.machine.specs.declared.fault.RunStop.{RunStop}
-use Rattle.schedule.specs.declared.items.Item.{Item}
+use Rattle.machine.specs.declared.schedule.items.Item.{Item}
 use Rattle.crash_test.proofs.Making.{are_there}
 use Rattle.crash_test.specs.Runs.{FailsToRun, RefusesStep}
-use Rattle.recording.specs.Runs.{IsWithin, start_of}
-use Rattle.recording.specs.declared.setup.Setup.{Setup}
+use Rattle.machine.specs.RecordingRuns.{IsWithin, start_of}
+use Rattle.machine.specs.declared.recording.setup.Setup.{Setup}
 
 refuses_step : (s : Setup) (schedule : List Item) (stop : RunStop) → IsWithin s
     → StopsMachine (start_of s) (length s.medium) schedule stop → RefusesStep s schedule stop.fault

@@ -1,26 +1,26 @@
 -- What a pass says of the run.
 use Rattle.std.proofs.Common.{◌≡◌, ℕ, ◌+◌, ◌≤◌, List, Option, None, length, sym, ap, ◌∙◌, arith}
 use Rattle.std.specs.Prelude.{max, min}
-use Rattle.crash_model.specs.Cut.{number_in}
-use Rattle.crash_model.specs.Image.{image}
-use Rattle.image_judge.specs.Verdicts.{IsJudged, IsVerdict, first_judged, judged_from}
-use Rattle.image_judge.specs.Views.{JudgeView}
-use Rattle.image_judge.specs.declared.cause.Cause.{Cause}
-use Rattle.shared_memory.specs.Replies.{trace_in}
+use Rattle.store_trace.specs.Cut.{number_in}
+use Rattle.store_trace.specs.Image.{image}
+use Rattle.routine_judge.specs.Verdicts.{IsJudged, IsVerdict, first_judged, judged_from}
+use Rattle.routine_judge.specs.Views.{JudgeView}
+use Rattle.routine_judge.specs.declared.cause.Cause.{Cause}
+use Rattle.machine.specs.Replies.{trace_in}
 use Rattle.machine.proofs.Determined.{runs_once}
 use Rattle.machine.specs.Run.{Config, RunsTo}
-use Rattle.moment_verdict.specs.Verdicts.{PassBetween}
-use Rattle.moment_verdict.specs.declared.verdict.Verdict.{Verdict}
-use Rattle.moment_verdict.specs.declared.verdict.Verdict.TheVariants.{Pass}
+use Rattle.verdict.specs.Verdicts.{PassBetween}
+use Rattle.verdict.specs.declared.moment_verdict.verdict.Verdict.{Verdict}
+use Rattle.verdict.specs.declared.moment_verdict.verdict.Verdict.TheVariants.{Pass}
 use Rattle.program.specs.Sections.{Sections}
-use Rattle.parallel_moments.specs.Rows.{end_of}
-use Rattle.schedule.specs.Steps.{all_steps}
-use Rattle.schedule.specs.declared.items.Item.{Item}
+use Rattle.verdict.specs.Rows.{end_of}
+use Rattle.machine.specs.Steps.{all_steps}
+use Rattle.machine.specs.declared.schedule.items.Item.{Item}
 use Rattle.store_trace.specs.History.{at_moment, history}
 use Rattle.store_trace.specs.declared.event.Event.{Event}
 use Rattle.crash_test.proofs.Surviving.{IsLeftAfter, left_after}
-use Rattle.recording.specs.Runs.{start_of}
-use Rattle.recording.specs.declared.setup.Setup.{Setup}
+use Rattle.machine.specs.RecordingRuns.{start_of}
+use Rattle.machine.specs.declared.recording.setup.Setup.{Setup}
 use Rattle.crash_test.proofs.Running.{HasTrace}
 use Rattle.crash_test.specs.Judging.{AlwaysRecovers, AnswersRightly, IsRightAt, AnswersAfterPowerCuts, view_of}
 

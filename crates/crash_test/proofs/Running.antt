@@ -1,12 +1,12 @@
 -- A run as a value is the machine's one run.
 use Rattle.std.proofs.Common.{◌≡◌, List}
 use Rattle.machine.specs.Run.{Config, RunsTo}
-use Rattle.recording.specs.Runs.{IsRun, RunView, start_of}
-use Rattle.recording.specs.declared.setup.Setup.{Setup}
-use Rattle.run_trace.proofs.Traces.{is_run}
-use Rattle.schedule.specs.Steps.{all_steps}
-use Rattle.schedule.specs.declared.items.Item.{Item}
-use Rattle.shared_memory.specs.Replies.{trace_in}
+use Rattle.machine.specs.RecordingRuns.{IsRun, RunView, start_of}
+use Rattle.machine.specs.declared.recording.setup.Setup.{Setup}
+use Rattle.machine.proofs.Traces.{is_run}
+use Rattle.machine.specs.Steps.{all_steps}
+use Rattle.machine.specs.declared.schedule.items.Item.{Item}
+use Rattle.machine.specs.Replies.{trace_in}
 use Rattle.store_trace.specs.declared.event.Event.{Event}
 
 -- the events of the run by a schedule

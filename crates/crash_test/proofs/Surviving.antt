@@ -1,12 +1,12 @@
 -- What a pass says of the machine: it represents a cut of the run's events, whatever its cache did.
 use Rattle.std.proofs.Common.{◌≡◌, ℕ, ◌+◌, ◌≤◌, List, [], ◌∷◌, ◌++◌, length, take, refl, sym, ap, ◌∙◌, arith}
 use Rattle.std.proofs.lemmas.List.{length-append}
-use Rattle.crash_model.specs.Cut.{IsCutImage}
-use Rattle.cut_schedule.proofs.HartRuns.{run_start}
-use Rattle.cut_schedule.proofs.Leaving.{leaves_a_cut}
-use Rattle.cut_schedule.proofs.Lists.{hart_steps_append}
+use Rattle.store_trace.specs.Cut.{IsCutImage}
+use Rattle.witness.proofs.HartRuns.{run_start}
+use Rattle.witness.proofs.Leaving.{leaves_a_cut}
+use Rattle.witness.proofs.Lists.{hart_steps_append}
 use Rattle.image_check.specs.Verdicts.{Passes}
-use Rattle.shared_memory.specs.Replies.{trace_in}
+use Rattle.machine.specs.Replies.{trace_in}
 use Rattle.machine.proofs.Determined.{runs_once}
 use Rattle.machine.proofs.Evicting.{alike_itself, runs_alike, trace_alike}
 use Rattle.machine.proofs.RunParts.{run_grows, run_parted}
@@ -14,16 +14,16 @@ use Rattle.machine.specs.Evicting.{hart_steps}
 use Rattle.machine.specs.Represents.{MachineView, Represents}
 use Rattle.machine.specs.Run.{Config, RunsTo}
 use Rattle.plan.specs.declared.operation.Operation.{Operation}
-use Rattle.schedule.specs.Steps.{all_steps}
-use Rattle.schedule.specs.declared.items.Item.{Item}
-use Rattle.schedule.specs.declared.items.Step.{Step}
+use Rattle.machine.specs.Steps.{all_steps}
+use Rattle.machine.specs.declared.schedule.items.Item.{Item}
+use Rattle.machine.specs.declared.schedule.items.Step.{Step}
 use Rattle.store_trace.specs.History.{history}
 use Rattle.store_trace.specs.declared.event.Event.{Event}
 use Rattle.crash_test.proofs.Running.{has_trace}
-use Rattle.recording.specs.Runs.{IsRun, RunView}
+use Rattle.machine.specs.RecordingRuns.{IsRun, RunView}
 use Rattle.crash_test.specs.Checking.{AlwaysPasses, Recovers, SurvivesPowerCuts}
-use Rattle.recording.specs.Runs.{start_of}
-use Rattle.recording.specs.declared.setup.Setup.{Setup}
+use Rattle.machine.specs.RecordingRuns.{start_of}
+use Rattle.machine.specs.declared.recording.setup.Setup.{Setup}
 
 -- the events of a run's first hart steps are its first events
 events_in_front : (s : Setup) (schedule : List Item) (end whole : Config) (steps rest : List Step)

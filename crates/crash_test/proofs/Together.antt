@@ -19,20 +19,20 @@ use Rattle.hart.specs.declared.need.Need.TheVariants.{Local, Ask, Stop}
 use Rattle.hart.specs.declared.state.HartState.{HartState}
 use Rattle.hart.specs.declared.state.Status.{Status}
 use Rattle.hart.specs.declared.state.Status.TheVariants.{Running, Exited, Trapped}
-use Rattle.shared_memory.specs.Replies.{trace_in}
+use Rattle.machine.specs.Replies.{trace_in}
 use Rattle.machine.proofs.Determined.{runs_once}
 use Rattle.machine.specs.Left.{IsLeftBy}
 use Rattle.machine.specs.Run.{Config, HartSteps, HartStepsIfThere, Meets, RunsTo, fetched_by}
 use Rattle.machine.specs.Represents.{MachineView}
-use Rattle.recording.specs.Recorded.{RecordedView, Records}
-use Rattle.schedule.specs.Steps.{all_steps}
-use Rattle.schedule.specs.declared.items.Step.{Step}
-use Rattle.schedule.specs.declared.items.Step.TheVariants.{Hart, Evict}
-use Rattle.shared_memory.specs.declared.fault.StepFault.{StepFault}
-use Rattle.shared_memory.specs.declared.fault.StepFault.TheVariants as step_faults
+use Rattle.machine.specs.Recorded.{RecordedView, Records}
+use Rattle.machine.specs.Steps.{all_steps}
+use Rattle.machine.specs.declared.schedule.items.Step.{Step}
+use Rattle.machine.specs.declared.schedule.items.Step.TheVariants.{Hart, Evict}
+use Rattle.machine.specs.declared.shared_memory.fault.StepFault.{StepFault}
+use Rattle.machine.specs.declared.shared_memory.fault.StepFault.TheVariants as step_faults
 use Rattle.crash_test.specs.Runs.{FailsTogether, FillsTrace, HasRun, HasRunTogether, HaveMadeAll, HaveMadeAtMost, IsRunOf, IsUnfinished, StopsHarts, unfinished_of}
-use Rattle.recording.specs.Runs.{AreThere, IsLeftOf, start_of}
-use Rattle.recording.specs.declared.setup.Setup.{Setup}
+use Rattle.machine.specs.RecordingRuns.{AreThere, IsLeftOf, start_of}
+use Rattle.machine.specs.declared.recording.setup.Setup.{Setup}
 use Rattle.crash_test.specs.declared.runs.TogetherFault.{TogetherFault}
 
 -- a run has as many harts at its end as at its start

@@ -1,32 +1,37 @@
 -- The verdict on the run of a program by a schedule.
 use Rattle.std.specs.Prelude.{◌≡◌, ℕ, ◌≤◌, ◌++◌, List, Option, Ok, length, take}
-use Rattle.crash_model.specs.Cut.{IsCut}
+use Rattle.store_trace.specs.Cut.{IsCut}
 use Rattle.image_check.specs.Legal.{IsLegal}
 use Rattle.image_check.specs.OrderFaults.{AreSound}
-use Rattle.image_check.specs.Verdicts.{IsVerdictBetween, Passes}
+use Rattle.image_check.specs.Verdicts.{IsVerdictBetween, Passes, judged_at}
 use Rattle.image_check.specs.declared.cause.Cause.{Cause}
-use Rattle.shared_memory.specs.Replies.{trace_in}
+use Rattle.machine.specs.Replies.{trace_in}
 use Rattle.machine.specs.Evicting.{hart_steps}
 use Rattle.machine.specs.Run.{Config, RunsTo}
 use Rattle.machine.specs.Represents.{MachineView, Represents}
-use Rattle.moment_verdict.specs.declared.verdict.Verdict.{Verdict}
+use Rattle.verdict.specs.Progress.{IsTold}
+use Rattle.verdict.specs.declared.moment_verdict.verdict.Verdict.{Verdict}
 use Rattle.nova_log.specs.Volumes.{volume_of}
-use Rattle.parallel_moments.specs.Rows.{end_of}
+use Rattle.verdict.specs.Rows.{end_of}
 use Rattle.plan.specs.declared.operation.Operation.{Operation}
-use Rattle.schedule.specs.Steps.{all_steps}
-use Rattle.schedule.specs.declared.items.Item.{Item}
-use Rattle.schedule.specs.declared.items.Step.{Step}
+use Rattle.machine.specs.Steps.{all_steps}
+use Rattle.machine.specs.declared.schedule.items.Item.{Item}
+use Rattle.machine.specs.declared.schedule.items.Step.{Step}
 use Rattle.store_trace.specs.History.{at_moment}
 use Rattle.store_trace.specs.declared.event.Event.{Event}
-use Rattle.recording.specs.Runs.{start_of}
-use Rattle.recording.specs.declared.setup.Setup.{Setup}
-use Rattle.recording.specs.Runs.{RunView}
-use Rattle.volume.specs.declared.entry.Entry.{Entry}
+use Rattle.machine.specs.RecordingRuns.{start_of}
+use Rattle.machine.specs.declared.recording.setup.Setup.{Setup}
+use Rattle.machine.specs.RecordingRuns.{RunView}
+use Rattle.nova_log.specs.declared.volume.entry.Entry.{Entry}
 
 -- the verdict on the moments of the run from `first` to `last`, or to its last one; the run's marks are right
 pub record HasVerdict (plan : List Operation) (run : RunView) (first : ℕ) (last : Option ℕ) (verdict : Verdict Cause) : Type 0 where
   pub sound : AreSound plan run.events (length run.events)
   pub verdict_is : IsVerdictBetween plan run.setup.medium run.events first (end_of run.events last) verdict
+
+-- on the way to that verdict somebody is told of moments that pass; `hears` says what becomes of the hearer each time
+abbrev pub IsToldOf : {Hearer : Type 0} → (Hearer → ℕ → ℕ → Option ℕ → Hearer → Type 0) → List Operation → RunView → ℕ → Option ℕ → Hearer → Hearer → Type 0
+IsToldOf hears plan run first last = IsTold hears (judged_at plan run.setup.medium run.events) run.events first (end_of run.events last)
 
 -- whatever a power cut leaves at whatever moment of the run recovers to a legal volume
 abbrev pub AlwaysPasses : List Operation → Setup → List Item → Type 0

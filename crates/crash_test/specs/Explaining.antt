@@ -2,18 +2,18 @@
 use Rattle.std.specs.Prelude.{◌≡◌, ℕ, ◌≤◌, List, length, take}
 use Rattle.clean_fence.specs.Represents.{AreAmong}
 use Rattle.crash_image.specs.Named.{IsNamed}
-use Rattle.crash_model.specs.Cut.{number_in}
-use Rattle.crash_model.specs.Image.{image}
-use Rattle.cut_schedule.specs.Explains.{Explains}
-use Rattle.image_name.specs.declared.name.ImageName.{ImageName}
+use Rattle.store_trace.specs.Cut.{number_in}
+use Rattle.store_trace.specs.Image.{image}
+use Rattle.witness.specs.Explains.{Explains}
+use Rattle.text.specs.declared.image_name.name.ImageName.{ImageName}
 use Rattle.machine.specs.Represents.{MachineView, Represents}
 use Rattle.machine.specs.Run.{Config, RunsTo}
-use Rattle.recording.specs.Recorded.{RecordedView}
-use Rattle.recording.specs.Runs.{IsRecordOf, RunView, start_of}
-use Rattle.schedule.specs.Steps.{all_steps}
-use Rattle.schedule.specs.declared.items.Item.{Item}
-use Rattle.shared_memory.specs.Persisted.{touched}
-use Rattle.shared_memory.specs.Replies.{trace_in}
+use Rattle.machine.specs.Recorded.{RecordedView}
+use Rattle.machine.specs.RecordingRuns.{IsRecordOf, RunView, start_of}
+use Rattle.machine.specs.Steps.{all_steps}
+use Rattle.machine.specs.declared.schedule.items.Item.{Item}
+use Rattle.machine.specs.Persisted.{touched}
+use Rattle.machine.specs.Replies.{trace_in}
 use Rattle.store_trace.specs.History.{at_moment}
 use Rattle.store_trace.specs.declared.event.Event.{Event}
 

@@ -1,29 +1,30 @@
 -- The verdict on the run of a program by a schedule, by a recovery routine.
 use Rattle.std.specs.Prelude.{◌≡◌, ◌≢◌, ℕ, ◌≤◌, Bool, List, [], Option, None, Ok, length}
-use Rattle.crash_model.specs.Cut.{IsCut, number_in}
-use Rattle.image_check.specs.Marks.{begun}
-use Rattle.image_judge.specs.RightAnswers.{IsFoundOf, IsRightOf, is_among}
-use Rattle.image_judge.specs.Verdicts.{IsVerdict, first_judged}
-use Rattle.image_judge.specs.Views.{JudgeView}
-use Rattle.image_judge.specs.declared.cause.Cause.{Cause}
-use Rattle.judge_marks.specs.MarkFaults.{AreSound}
-use Rattle.judge_marks.specs.Windows.{IsWindow}
-use Rattle.judge_marks.specs.declared.moments.Window.{Window}
-use Rattle.shared_memory.specs.Replies.{trace_in}
+use Rattle.store_trace.specs.Cut.{IsCut, number_in}
+use Rattle.store_trace.specs.Marks.{begun}
+use Rattle.routine_judge.specs.RightAnswers.{IsFoundOf, IsRightOf, is_among}
+use Rattle.routine_judge.specs.Verdicts.{IsJudged, IsVerdict, first_judged, judged_from}
+use Rattle.routine_judge.specs.Views.{JudgeView}
+use Rattle.routine_judge.specs.declared.cause.Cause.{Cause}
+use Rattle.routine_judge.specs.MarkFaults.{AreSound}
+use Rattle.routine_judge.specs.Windows.{IsWindow}
+use Rattle.routine_judge.specs.declared.history.moments.Window.{Window}
+use Rattle.machine.specs.Replies.{trace_in}
 use Rattle.machine.specs.Run.{Config, RunsTo, started}
-use Rattle.moment_verdict.specs.declared.verdict.Verdict.{Verdict}
+use Rattle.verdict.specs.Progress.{IsTold}
+use Rattle.verdict.specs.declared.moment_verdict.verdict.Verdict.{Verdict}
 use Rattle.program.specs.Sections.{Sections}
-use Rattle.parallel_moments.specs.Rows.{end_of}
-use Rattle.recovery_run.specs.Answers.{answer}
-use Rattle.recovery_run.specs.Recovery.{RunsFor}
-use Rattle.schedule.specs.Steps.{all_steps}
-use Rattle.schedule.specs.declared.items.Item.{Item}
+use Rattle.verdict.specs.Rows.{end_of}
+use Rattle.recovery.specs.Answers.{answer}
+use Rattle.recovery.specs.Recovery.{RunsFor}
+use Rattle.machine.specs.Steps.{all_steps}
+use Rattle.machine.specs.declared.schedule.items.Item.{Item}
 use Rattle.store_trace.specs.History.{at_moment}
 use Rattle.store_trace.specs.declared.event.Event.{Event}
 use Rattle.crash_test.specs.Checking.{HoldsAfterPowerCuts}
-use Rattle.recording.specs.Runs.{start_of}
-use Rattle.recording.specs.declared.setup.Setup.{Setup}
-use Rattle.recording.specs.Runs.{RunView}
+use Rattle.machine.specs.RecordingRuns.{start_of}
+use Rattle.machine.specs.declared.recording.setup.Setup.{Setup}
+use Rattle.machine.specs.RecordingRuns.{RunView}
 
 -- the routine, for so many steps at most, over these events of a run from the setup's medium
 abbrev pub view_of : Setup → Sections → ℕ → List Event → JudgeView
@@ -35,6 +36,11 @@ pub record HasJudgement (run : RunView) (recovery : Sections) (steps : ℕ) (ove
   pub sound : AreSound overlapping run.events (length run.events)
   pub begins : begun run.events ≢ []
   pub verdict_is : IsVerdict (view_of run.setup recovery steps run.events) first (end_of run.events last) verdict
+
+-- on the way to that verdict somebody is told of moments that pass; `hears` says what becomes of the hearer each time
+abbrev pub IsToldOf : {Hearer : Type 0} → (Hearer → ℕ → ℕ → Option ℕ → Hearer → Type 0) → RunView → Sections → ℕ → ℕ → Option ℕ → Hearer → Hearer → Type 0
+IsToldOf hears run recovery steps first last = IsTold hears (IsJudged (view_of run.setup recovery steps run.events)) run.events
+    (judged_from run.events first (end_of run.events last)) (end_of run.events last)
 
 -- whatever a power cut leaves at a moment of the run from its first Begin on: the routine has an answer, and a right one
 pub record IsRightAt (view : JudgeView) (moment : ℕ) (cut : ℕ → ℕ) : Type 0 where

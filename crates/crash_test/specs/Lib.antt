@@ -8,3 +8,4 @@ pub mod Loading
 pub mod Losses
 pub mod Checking
 pub mod Judging
+pub mod Told

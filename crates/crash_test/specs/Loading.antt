@@ -3,7 +3,7 @@
 use Rattle.std.specs.Prelude.{ℕ, List, Result}
 use Rattle.program.specs.Sections.{Sections}
 use Rattle.recovery.specs.Routine.{Recovers}
-use Rattle.recovery_run.specs.declared.Cause.{Cause}
+use Rattle.recovery.specs.declared.recovery_run.Cause.{Cause}
 
 -- the routine's run on the image, of at most so many steps, loads these lines, the first one first, whatever it comes to
 pub record IsLoaded (program : Sections) (steps : ℕ) (image : List (List ℕ)) (lines : List ℕ) : Type 0 where

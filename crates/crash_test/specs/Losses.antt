@@ -2,9 +2,9 @@
 use Rattle.std.specs.Prelude.{ℕ, List}
 use Rattle.crash_test.specs.Explaining.{ExplainsImage}
 use Rattle.crash_test.specs.declared.losses.ExplainedImage.{ExplainedImage}
-use Rattle.image_causes.specs.Told.{IsToldBy}
-use Rattle.image_name.specs.declared.name.ImageName.{ImageName}
-use Rattle.recording.specs.Runs.{RunView}
+use Rattle.crash_test.specs.Told.{IsToldBy}
+use Rattle.text.specs.declared.image_name.name.ImageName.{ImageName}
+use Rattle.machine.specs.RecordingRuns.{RunView}
 
 -- what the image of this name lacks and keeps, by lines that a recovery reads of it, and a schedule that leaves the image
 pub record IsExplainedBy (reads : List (List ℕ) → List ℕ → Type 0) (run : RunView) (moment : ℕ) (name : ImageName)

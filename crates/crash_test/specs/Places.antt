@@ -1,7 +1,7 @@
 -- Where the bytes of a source stand in the flat memory that a run of its program begins with.
 use Rattle.std.specs.Prelude.{◌≡◌, ◌≤◌, ◌<◌, ◌+◌, ◌++◌, ℕ, List, ◌∷◌, Some, length, slice_get}
 use Rattle.line_memory.specs.Memory.{Memory}
-use Rattle.asm_names.specs.declared.kinds.Section.{Section}
+use Rattle.asm_lex.specs.declared.asm_names.kinds.Section.{Section}
 use Rattle.assemble.specs.Assembly.{lines_back, values_of}
 use Rattle.assemble.specs.Places.{base_of, limit_of, place_after, section_after, size_of}
 use Rattle.assemble.specs.SourceLines.{IsSourceLine}

@@ -9,17 +9,17 @@ use Rattle.hart.specs.declared.state.Status.TheVariants.{Running}
 use Rattle.machine.specs.Refusals.{RefusesNext}
 use Rattle.machine.specs.Run.{Config, RunsTo}
 use Rattle.machine.specs.Represents.{IsRunning, MachineView, Represents}
-use Rattle.recording.specs.Recorded.{RecordedView, Records}
-use Rattle.recording.specs.Runs.{AreThere, IsRun, IsWithin, RunView, start_of}
-use Rattle.recording.specs.declared.setup.Setup.{Setup}
-use Rattle.schedule.specs.Places.{steps_before, steps_of_item}
-use Rattle.schedule.specs.Steps.{all_steps}
-use Rattle.schedule.specs.declared.items.Item.{Item}
-use Rattle.schedule.specs.declared.items.Step.{Step}
-use Rattle.shared_memory.specs.Limits.{AreOutsideLimits}
-use Rattle.shared_memory.specs.Replies.{trace_in}
-use Rattle.shared_memory.specs.declared.fault.StepFault.{StepFault}
-use Rattle.shared_memory.specs.declared.fault.StepFault.TheVariants.{NoSuchHart, NoSuchLine, TraceFull, Memory, OutOfLimits}
+use Rattle.machine.specs.Recorded.{RecordedView, Records}
+use Rattle.machine.specs.RecordingRuns.{AreThere, IsRun, IsWithin, RunView, start_of}
+use Rattle.machine.specs.declared.recording.setup.Setup.{Setup}
+use Rattle.machine.specs.Places.{steps_before, steps_of_item}
+use Rattle.machine.specs.Steps.{all_steps}
+use Rattle.machine.specs.declared.schedule.items.Item.{Item}
+use Rattle.machine.specs.declared.schedule.items.Step.{Step}
+use Rattle.machine.specs.Limits.{AreOutsideLimits}
+use Rattle.machine.specs.Replies.{trace_in}
+use Rattle.machine.specs.declared.shared_memory.fault.StepFault.{StepFault}
+use Rattle.machine.specs.declared.shared_memory.fault.StepFault.TheVariants.{NoSuchHart, NoSuchLine, TraceFull, Memory, OutOfLimits}
 use Rattle.crash_test.specs.declared.runs.TogetherFault.{TogetherFault}
 use Rattle.crash_test.specs.declared.runs.TogetherFault.TheVariants as together
 

@@ -1,18 +1,17 @@
 //! The schedule that leaves one crash image of a run.
 
 ghost use Rattle.std.specs.Prelude.{◌^◌, ◌<◌, ◌≤◌, IfErr, IfOk};
-ghost use Rattle.schedule.specs.Grammar.{hart_steps};
+ghost use Rattle.machine.specs.Grammar.{hart_steps};
 ghost use Rattle.crash_image.specs.View.{HasLines};
 ghost use Rattle.crash_test.specs.Explaining.{ExplainsImage, HasImage};
-ghost use Rattle.image_causes.specs.Told.{LacksImage};
+ghost use Rattle.crash_test.specs.Told.{LacksImage};
 
 use crash_image::{Cut, Cuts, ImageFault, ImageName};
-use cut_schedule::explain;
 use line_memory::Medium;
-use recording::Run;
-use schedule::Schedule;
+use machine::{Run, Schedule};
 use std::alloc::Global;
 use store_trace::Trace;
+use witness::explain;
 
 /// The schedule that leaves one crash image of a moment of a run. A moment is the number of events before it. A number names an image,
 /// from 0, where the moment has at most 65,536 images; lines with their numbers name, at any moment, the one in which the other lines

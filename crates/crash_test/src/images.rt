@@ -4,7 +4,7 @@ ghost use Rattle.std.specs.Prelude.{IfErr, IfOk};
 ghost use Rattle.crash_test.specs.Images.{CountsImages, LacksMoment};
 
 use crash_image::{Cuts, ImageFault};
-use recording::Run;
+use machine::Run;
 use std::alloc::Global;
 
 /// How many images a power cut may leave at a moment of a run; None above 65,536. A moment is the number of events before it.

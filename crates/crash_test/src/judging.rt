@@ -1,45 +1,48 @@
 //! The verdict on a run, by a recovery routine.
 
-ghost use Rattle.crash_test.specs.Judging.{AlwaysRecovers, HasJudgement, AnswersAfterPowerCuts};
-ghost use Rattle.image_judge.specs.Verdicts.{IsRefusal};
-ghost use Rattle.std.specs.Prelude.{◌≡◌, ◌<◌, ◌≤◌, ℕ, IfErr, IfOk, IfSome, Ok, None, Option};
+ghost use Rattle.crash_test.specs.Judging.{AlwaysRecovers, AnswersAfterPowerCuts, HasJudgement, IsToldOf};
+ghost use Rattle.routine_judge.specs.Verdicts.{IsRefusal};
+ghost use Rattle.std.specs.Prelude.{◌≡◌, ℕ, IfErr, IfOk, Ok, None, Option};
 
-use gate::Open;
-use image_judge::{Cause, JudgeFault, Judgement, Verdict, judged_part};
-use recording::Run;
+use crate::work::Work;
+use machine::Run;
+use routine_judge::{Cause, JudgeFault, Judgement, Verdict, judged_part};
 use std::alloc::Global;
 use std::thread::Threads;
+use verdict::Progress;
 
-/// The verdict on the moments of a run from `first` to `last`, or to its last one where none is given: whether each state that a power
-/// cut may leave from the first Begin on shows, to the recovery routine, the structure as before or after the operation under way. A
-/// moment past those of the run counts as its last one. One to eight workers judge the moments, in threads of their own where these can
-/// be started; the verdict is the same for any number of them.
+/// The verdict on the moments of a run that the work names: whether each state that a power cut may leave from the first Begin on shows, to
+/// the recovery routine, the structure as before or after the operation under way. The workers judge the moments in threads of their own
+/// where these can be started. The verdict is the same for any number of them, and whoever is told on the way how far it has come.
 ///
 /// # Errors
-/// Marks for the first wrong mark of the run, or where there is none; NoSuchMoment where the marks are right and `first` is past the moments
-/// of the run. Memory where a growth is refused.
-#[tactic(auto, using(judge_marks::proofs::Begun::sound_begin))]
-pub fn judge_program<T: Threads + Sync>(
+/// Marks for the first wrong mark of the run, or where there is none; NoSuchMoment where the marks are right and the first moment is past
+/// those of the run. Memory where a growth is refused.
+#[tactic(auto, using(routine_judge::proofs::Begun::sound_begin))]
+pub fn judge_program<T: Threads + Sync, P: Progress>(
     rt: &T,
     alloc: Global,
     run: &Run,
     judgement: Judgement<'_>,
-    first: u32,
-    last: Option<u32>,
-    workers: u32,
+    work: Work,
+    progress: &mut P,
 ) -> Result<Verdict<Cause>, JudgeFault>
-    requires order { IfSome last (λ moment. first ≤ moment) }
-    requires workers { (0 < workers) × (workers ≤ 8) }
-    ensures ok { IfOk result (HasJudgement run.now judgement.entry.recovery.now judgement.entry.steps judgement.entry.overlapping first last) }
+    ensures ok { IfOk result (HasJudgement run.now judgement.entry.recovery.now judgement.entry.steps judgement.entry.overlapping work.first work.last) }
 
     // Pass of the whole: on every image of every judged moment the routine has an answer, and a right one; and so it has on what a power
     // cut leaves of any machine, with a cache of any size, that has made the first hart steps of the run with evictions anywhere.
-    ensures pass { (moments : ℕ) (images : Option ℕ) → result ≡ Ok (Verdict.Pass moments images) → first ≡ 0 → last ≡ None →
+    ensures pass { (moments : ℕ) (images : Option ℕ) → result ≡ Ok (Verdict.Pass moments images) → work.first ≡ 0 → work.last ≡ None →
         AlwaysRecovers run.now.setup run.now.schedule judgement.entry.recovery.now judgement.entry.steps }
-    ensures survives { (moments : ℕ) (images : Option ℕ) → result ≡ Ok (Verdict.Pass moments images) → first ≡ 0 → last ≡ None →
+    ensures survives { (moments : ℕ) (images : Option ℕ) → result ≡ Ok (Verdict.Pass moments images) → work.first ≡ 0 → work.last ≡ None →
         AnswersAfterPowerCuts run.now.setup run.now.schedule judgement.entry.recovery.now judgement.entry.steps }
-    ensures err { IfErr result (IsRefusal judgement.entry.overlapping run.now.events first) }
+    ensures err { IfErr result (IsRefusal judgement.entry.overlapping run.now.events work.first) }
+    ensures told { IsToldOf P.hears run.now judgement.entry.recovery.now judgement.entry.steps work.first work.last progress.old progress.new }
 {
+    let Work {
+        first,
+        last,
+        workers,
+    } = work;
     let part = judged_part(alloc, run.start(), run.trace(), judgement, first, last)?;
-    Ok(part.judge(rt, alloc, workers, &Open)?)
+    Ok(part.judge_watched(rt, alloc, workers, progress)?)
 }

@@ -2,25 +2,32 @@
 //! is made once, and each question is asked of it.
 #![tactic(auto)]
 
-pub use checking::check_program;
-pub use explaining::explain_image;
-pub use image_judge::Judgement;
-pub use images::count_images;
-pub use judging::judge_program;
-pub use lines::source_lines;
-pub use loading::{ProgramFault, load_object, load_program};
-pub use losses::{ExplainedImage, explain_losses};
-pub use reading::RoutineReader;
-pub use runs::{TogetherFault, record_run, replay, run_program, start_program};
-pub use volumes::{default_medium, make_volume};
-
 mod checking;
 mod explaining;
+mod image_causes;
 mod images;
 mod judging;
-mod lines;
 mod loading;
 mod losses;
+mod places;
 mod reading;
 mod runs;
 mod volumes;
+mod work;
+
+pub use checking::check_program;
+pub use explaining::explain_image;
+pub use image_causes::{
+    LogReader, Reader, ToldImage, kept_lines_are_read, tell_image, tell_image_by,
+};
+pub use images::count_images;
+pub use judging::judge_program;
+pub use loading::{ProgramFault, load_object, load_program};
+pub use losses::{ExplainedImage, explain_losses};
+pub use places::places_of;
+pub use reading::RoutineReader;
+pub use routine_judge::Judgement;
+pub use runs::{TogetherFault, record_run, replay, run_program, start_program};
+pub use verdict::{Progress, Unwatched};
+pub use volumes::{default_medium, make_volume};
+pub use work::Work;

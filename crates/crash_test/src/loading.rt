@@ -1,6 +1,6 @@
 //! From a program's file to the program.
 
-ghost use Rattle.shared_memory.specs.Replies.{starting_memory};
+ghost use Rattle.machine.specs.Replies.{starting_memory};
 ghost use Rattle.std.specs.Prelude.{◌≡◌, IfErr, IfOk, List, false, true, ℕ};
 ghost use Rattle.crash_test.specs.Places.{HoldsSource};
 ghost use Rattle.crash_test.specs.Programs.{IsLoadFault, IsObjectOf, IsProgramOf, begins_as_object};

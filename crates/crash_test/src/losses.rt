@@ -1,15 +1,14 @@
 //! Why a crash image of a run fails.
 
 ghost use Rattle.crash_test.specs.Losses.{IsExplainedBy};
-ghost use Rattle.image_causes.specs.Told.{LacksImage};
-ghost use Rattle.schedule.specs.Grammar.{hart_steps};
+ghost use Rattle.crash_test.specs.Told.{LacksImage};
+ghost use Rattle.machine.specs.Grammar.{hart_steps};
 ghost use Rattle.std.specs.Prelude.{◌^◌, ◌<◌, ◌≤◌, IfErr, IfOk};
 
 use crate::explaining::explain_image;
+use crate::image_causes::{Reader, ToldImage, tell_image_by};
 use crash_image::{ImageFault, ImageName};
-use image_causes::{Reader, ToldImage, tell_image_by};
-use recording::Run;
-use schedule::Schedule;
+use machine::{Run, Schedule};
 use std::alloc::Global;
 
 /// A crash image of a run: what it lacks and keeps of the lines that a recovery reads of it, told by the numbers of the run's events, and a

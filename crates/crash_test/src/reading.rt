@@ -2,7 +2,7 @@
 
 ghost use Rattle.crash_test.specs.Loading.{IsLoaded};
 
-use image_causes::Reader;
+use crate::image_causes::Reader;
 use line_memory::Medium;
 use program::Program;
 use recovery::Routine;

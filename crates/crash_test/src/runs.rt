@@ -2,23 +2,22 @@
 
 ghost use Rattle.bus.specs.Limits.{AreWithin};
 ghost use Rattle.machine.specs.Represents.{RepresentsExactly};
-ghost use Rattle.recording.specs.Recorded.{HasGoneOn};
-ghost use Rattle.schedule.specs.Grammar.{hart_steps};
-ghost use Rattle.shared_memory.specs.Limits.{RefusesStart};
+ghost use Rattle.machine.specs.Recorded.{HasGoneOn};
+ghost use Rattle.machine.specs.Grammar.{hart_steps};
+ghost use Rattle.machine.specs.Limits.{RefusesStart};
 ghost use Rattle.std.specs.Prelude.{◌≡◌, ◌≢◌, ◌^◌, ◌<◌, IfErr, IfOk};
 ghost use Rattle.crash_test.specs.Runs.{FailsToRun, FailsTogether, HasRun, HasRunTogether, IsAtStart, IsRunBy, IsRunOf, IsUnfinished, unfinished_of};
-ghost use Rattle.recording.specs.Runs.{IsLeftOf, setup, start_of};
+ghost use Rattle.machine.specs.RecordingRuns.{IsLeftOf, setup, start_of};
 
 use bus::{Bus, FinishFault, RunFault, check_start, run_harts};
-use gate::Open;
 use line_memory::Medium;
-use machine::{Machine, Schedule, StepFault};
+use machine::{Machine, Recorded, Run, Schedule, Setup, StepFault, record_alone};
 use program::Program;
-use recording::{Recorded, Run, Setup, record_alone};
 use std::alloc::Global;
 use std::sync::Wait;
 use std::thread::Threads;
 use thiserror::Error;
+use workers::Open;
 
 /// Why harts haven't run a program together.
 #[derive(Clone, Copy, Debug, PartialEq, Eq, Error)]

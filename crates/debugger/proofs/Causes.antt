@@ -1,7 +1,7 @@
 -- Causes to stop, from one step of a run to the next.
 use Rattle.std.proofs.Common.{◌≡◌, ℕ, zero, suc, ◌<◌, List, [], ◌∷◌, ◌++◌, length, take, Some, slice_get, ◌∙◌, arith}
-use Rattle.schedule.specs.declared.items.Step.{Step}
-use Rattle.schedule.specs.declared.items.Step.TheVariants.{Hart}
+use Rattle.machine.specs.declared.schedule.items.Step.{Step}
+use Rattle.machine.specs.declared.schedule.items.Step.TheVariants.{Hart}
 use Rattle.machine.specs.Run.{Config, RunsTo, StepsTo}
 use Rattle.machine.proofs.Determined.{steps_once}
 use Rattle.debugger.specs.StopPoint.{HasCause, IsAtBreak, IsLeastStop, Touches, TouchesAt, text_at}

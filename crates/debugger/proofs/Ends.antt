@@ -2,14 +2,14 @@
 use Rattle.std.proofs.Common.{◌≡◌, ℕ, suc, ◌<◌, List, [], ◌∷◌, ◌++◌, length, take, Some, slice_get, refl, sym, ap, ◌∙◌, arith, append_assoc, IfErr, IfOk}
 use Rattle.std.proofs.Math.Seq.{take-append_seam}
 use Rattle.std.proofs.lemmas.List.{length-append}
-use Rattle.schedule.specs.Places.{IsPlaceOf, IsStepAt, Leads, steps_after}
-use Rattle.schedule.specs.Walks.{HaltsAt}
-use Rattle.schedule.specs.declared.items.Item.{Item}
-use Rattle.schedule.specs.declared.items.Step.{Step}
-use Rattle.schedule.specs.declared.items.Step.TheVariants.{Hart}
-use Rattle.schedule.specs.declared.place.Place.{Place}
-use Rattle.schedule.proofs.Places.{leads_behind, leads_end, leads_more, nothing_after, place_at, place_behind, reached, step_there}
-use Rattle.shared_memory.specs.declared.fault.StepFault.{StepFault}
+use Rattle.machine.specs.Places.{IsPlaceOf, IsStepAt, Leads, steps_after}
+use Rattle.machine.specs.Walks.{HaltsAt}
+use Rattle.machine.specs.declared.schedule.items.Item.{Item}
+use Rattle.machine.specs.declared.schedule.items.Step.{Step}
+use Rattle.machine.specs.declared.schedule.items.Step.TheVariants.{Hart}
+use Rattle.machine.specs.declared.schedule.place.Place.{Place}
+use Rattle.machine.proofs.Places.{leads_behind, leads_end, leads_more, nothing_after, place_at, place_behind, reached, step_there}
+use Rattle.machine.specs.declared.shared_memory.fault.StepFault.{StepFault}
 use Rattle.machine.specs.Refusals.{Refuses}
 use Rattle.machine.specs.Run.{Config, StepsTo}
 use Rattle.machine.specs.Represents.{MachineView, Runs, Represents}

@@ -2,3 +2,11 @@ pub mod Causes
 pub mod Ends
 pub mod Walking
 pub mod Watching
+pub mod Ahead
+pub mod Commands
+pub mod Outcomes
+pub mod SessionPoints
+pub mod Runs
+pub mod Taking
+pub mod Texts
+pub mod Underway

@@ -9,8 +9,8 @@ use Rattle.hart.specs.declared.state.Status.TheVariants as statuses
 use Rattle.hart.specs.declared.need.Need.{Need}
 use Rattle.hart.specs.declared.need.Need.TheVariants.{Ask}
 use Rattle.hart.specs.declared.need.Request.{Request}
-use Rattle.schedule.specs.declared.items.Step.{Step}
-use Rattle.schedule.specs.declared.items.Step.TheVariants.{Hart}
+use Rattle.machine.specs.declared.schedule.items.Step.{Step}
+use Rattle.machine.specs.declared.schedule.items.Step.TheVariants.{Hart}
 use Rattle.machine.specs.declared.machine.Outcome.{Outcome}
 use Rattle.machine.specs.declared.machine.Outcome.TheVariants as outcomes
 use Rattle.machine.specs.Outcomes.{hart_outcome, outcome_after, outcome_between}

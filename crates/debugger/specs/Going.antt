@@ -3,11 +3,11 @@ use Rattle.std.specs.Prelude.{◌<◌, ◌+◌, ◌≡◌, ℕ, List, Result, Ok
 use Rattle.machine.specs.Refusals.{Refuses, RefusesNext}
 use Rattle.machine.specs.Run.{Config}
 use Rattle.machine.specs.Represents.{MachineView, Runs, Represents}
-use Rattle.schedule.specs.Places.{IsPlaceOf, IsReached, steps_after, steps_of_item}
-use Rattle.schedule.specs.declared.items.Item.{Item}
-use Rattle.schedule.specs.declared.items.Step.{Step}
-use Rattle.schedule.specs.declared.place.Place.{Place}
-use Rattle.shared_memory.specs.declared.fault.StepFault.{StepFault}
+use Rattle.machine.specs.Places.{IsPlaceOf, IsReached, steps_after, steps_of_item}
+use Rattle.machine.specs.declared.schedule.items.Item.{Item}
+use Rattle.machine.specs.declared.schedule.items.Step.{Step}
+use Rattle.machine.specs.declared.schedule.place.Place.{Place}
+use Rattle.machine.specs.declared.shared_memory.fault.StepFault.{StepFault}
 use Rattle.debugger.specs.Points.{DebuggerView}
 use Rattle.debugger.specs.StopPoint.{HasCause, IsStopPoint}
 use Rattle.debugger.specs.declared.fault.DebugFault.{DebugFault}

@@ -1,6 +1,6 @@
 -- The laws of walks: no step changes nothing, and steps after steps are all of them.
 use Rattle.std.proofs.Common.{◌≡◌, List, [], ◌∷◌, ◌++◌, refl, ◌∙◌}
-use Rattle.schedule.specs.declared.items.Step.{Step}
+use Rattle.machine.specs.declared.schedule.items.Step.{Step}
 use Rattle.machine.specs.Run.{Config}
 use Rattle.machine.specs.RunLaws.{runs_more, runs_none}
 use Rattle.debugger.specs.Points.{DebuggerView}

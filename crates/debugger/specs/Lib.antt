@@ -3,3 +3,12 @@ pub mod Laws
 pub mod Points
 pub mod StopPoint
 pub mod Walks
+pub mod Answers
+pub mod Codes
+pub mod CommandEffects
+pub mod Dialogue
+pub mod Grammar
+pub mod Reading
+pub mod Running
+pub mod Sessions
+pub mod StreamFailures

@@ -7,9 +7,9 @@ use Rattle.hart.specs.declared.state.Status.TheVariants.{Running}
 use Rattle.hart.specs.declared.need.Need.TheVariants.{Ask}
 use Rattle.hart.specs.declared.need.Request.{Request}
 use Rattle.hart.specs.declared.need.Request.TheVariants.{Load, Store, Lr, Sc, Amo}
-use Rattle.schedule.specs.declared.items.Step.{Step}
-use Rattle.schedule.specs.declared.items.Step.TheVariants.{Hart}
-use Rattle.shared_memory.specs.Histories.{fetched_text}
+use Rattle.machine.specs.declared.schedule.items.Step.{Step}
+use Rattle.machine.specs.declared.schedule.items.Step.TheVariants.{Hart}
+use Rattle.machine.specs.Histories.{fetched_text}
 use Rattle.machine.specs.Run.{Config, RunsTo, StepsTo, fetched}
 use Rattle.machine.specs.Represents.{IsRunning}
 use Rattle.debugger.specs.Points.{has_break, has_watch, line_start}

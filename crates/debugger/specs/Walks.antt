@@ -2,8 +2,8 @@
 use Rattle.std.specs.Prelude.{◌≡◌, ℕ, List, [], ◌∷◌, Option, Some, None, IsTrue, slice_get}
 use Rattle.line_memory.specs.Memory.{Memory}
 use Rattle.hart.specs.declared.state.HartState.{HartState}
-use Rattle.schedule.specs.declared.items.Step.{Step}
-use Rattle.schedule.specs.declared.items.Step.TheVariants.{Hart}
+use Rattle.machine.specs.declared.schedule.items.Step.{Step}
+use Rattle.machine.specs.declared.schedule.items.Step.TheVariants.{Hart}
 use Rattle.machine.specs.Refusals.{Refuses}
 use Rattle.machine.specs.Run.{Config, StepsTo}
 use Rattle.machine.specs.declared.machine.Outcome.{Outcome}

@@ -4,7 +4,7 @@ ghost use Rattle.std.specs.Prelude.{◌≡◌, ◌≤◌, ◌<◌, ◌+◌, ◌�
 ghost use Rattle.machine.specs.Outcomes.{MakesEvent, outcome_after};
 ghost use Rattle.machine.specs.Refusals.{LacksHart};
 ghost use Rattle.machine.specs.Represents.{Runs};
-ghost use Rattle.shared_memory.specs.SharedView.{memory_of};
+ghost use Rattle.machine.specs.SharedView.{memory_of};
 ghost use Rattle.std.specs.List.{list_any};
 ghost use Rattle.debugger.specs.Going.{RefusesStep};
 ghost use Rattle.debugger.specs.Points.{can_break as can_break_at, has_break, has_watch, is_meant, line_start as start_of_line, with_break, with_watch, without};
@@ -13,9 +13,7 @@ use crate::fault::DebugFault;
 use crate::points::{MAX_POINTS, Point, can_break, line_start};
 use arrayvec::ArrayVec;
 use hart::HartState;
-use machine::{Machine, Outcome};
-use schedule::Step;
-use shared_memory::StepFault;
+use machine::{Machine, Outcome, Step, StepFault};
 use std::marker::Model;
 
 /// A machine, and the points at which it is to stop. It writes nothing into the machine's memory.

@@ -1,31 +1,56 @@
-//! Why a debugger can't do what it is asked.
+//! Why a debugger can't do what it is asked, and the codes of its faults.
 
-use schedule::Place;
-use shared_memory::StepFault;
+ghost use Rattle.std.specs.Prelude.{◌≡◌};
+ghost use Rattle.debugger.specs.Codes.{code, step_code};
+
+use machine::{Place, StepFault};
 use thiserror::Error;
 
-/// Why a debugger can't do what it is asked.
+/// Why a debugger can't do what it is asked. The message is the fault's code.
 #[derive(Clone, Copy, Debug, PartialEq, Eq, Error)]
+#[error("{}", self.code())]
 pub enum DebugFault {
-    /// D1: the line is no command.
-    #[error("D1")]
+    /// The line is no command.
     Command,
-    /// D2: there can be no such point at the address, no point is set there, or no byte is.
-    #[error("D2")]
+    /// There can be no such point at the address, no point is set there, or no byte is.
     Address,
-    /// D3: sixty-four points are set.
-    #[error("D3")]
+    /// Sixty-four points are set.
     PointsFull,
-    /// D4: memory was refused.
-    #[error("D4")]
+    /// Memory was refused.
     Memory,
-    /// D5: the reader or the writer failed.
-    #[error("D5")]
+    /// The reader or the writer failed.
     InputOutput,
     /// The step was refused.
-    #[error("a step was refused")]
     Step(StepFault),
     /// The next step of a schedule, which stands at this place, was refused.
-    #[error("a step was refused")]
     Stopped { place: Place, fault: StepFault },
+}
+
+impl DebugFault {
+    /// The code by which the fault is known, D1 to D5, or that of the step.
+    pub fn code(self) -> &'static str
+        ensures { result.now ≡ code self }
+    {
+        match self {
+            DebugFault::Command => "D1",
+            DebugFault::Address => "D2",
+            DebugFault::PointsFull => "D3",
+            DebugFault::Memory => "D4",
+            DebugFault::InputOutput => "D5",
+            DebugFault::Step(fault) | DebugFault::Stopped { fault, .. } => step_code(fault),
+        }
+    }
+}
+
+/// The code by which a fault of a step is known.
+pub fn step_code(fault: StepFault) -> &'static str
+    ensures { result.now ≡ step_code fault }
+{
+    match fault {
+        StepFault::NoSuchHart => "G1",
+        StepFault::NoSuchLine => "G2",
+        StepFault::TraceFull => "G4",
+        StepFault::Memory => "G5",
+        StepFault::OutOfLimits => "G6",
+    }
 }

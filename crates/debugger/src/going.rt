@@ -6,7 +6,7 @@ ghost use Rattle.debugger.specs.Going.{GoesTo, IsStoppedBy, ended, stop_at};
 use crate::debugger::Debugger;
 use crate::fault::DebugFault;
 use crate::stop::{Cause, Halt, Stop};
-use schedule::{Place, Schedule, next_step, walk};
+use machine::{Place, Schedule, next_step, walk};
 
 impl Debugger {
     /// Makes the steps of a schedule from a place on, one at least where there is one, up to the first after which a

@@ -5,13 +5,13 @@ mod debugger;
 mod fault;
 mod going;
 mod points;
+mod sessions;
 mod stepping;
 mod stop;
 
 pub use debugger::Debugger;
-pub use fault::DebugFault;
-pub use machine::{Machine, Outcome};
+pub use fault::{DebugFault, step_code};
+pub use machine::{Machine, Outcome, Place, Schedule, StepFault};
 pub use points::{MAX_POINTS, Point};
-pub use schedule::{Place, Schedule};
-pub use shared_memory::StepFault;
+pub use sessions::{Failed, Sink, Source, session};
 pub use stop::{Cause, Halt, Stop};

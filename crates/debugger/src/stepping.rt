@@ -9,8 +9,7 @@ use crate::debugger::Debugger;
 use crate::points::touched_line;
 use crate::stop::{Cause, Halt};
 use hart::{HartState, Need, Status};
-use machine::Outcome;
-use schedule::{Step, Stepper};
+use machine::{Outcome, Step, Stepper};
 
 /// Steps of a run that has begun: it halts before a breakpoint, behind an access to a watched line, and at a step that is refused.
 impl Stepper for Debugger {

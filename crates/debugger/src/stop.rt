@@ -1,7 +1,6 @@
 //! Where a run stops, and why.
 
-use schedule::Place;
-use shared_memory::StepFault;
+use machine::{Place, StepFault};
 
 /// Why a run stops.
 #[derive(Clone, Copy, Debug, PartialEq, Eq)]

@@ -12,3 +12,16 @@ pub mod Opens
 pub mod Pairs
 pub mod Stores
 pub mod Tellings
+pub mod Alike
+pub mod Answers
+pub mod Back
+pub mod Completed
+pub mod Decisions
+pub mod Greedy
+pub mod Lacks
+pub mod Leaving
+pub mod Moments
+pub mod Readings
+pub mod Start
+pub mod Telling
+pub mod Whole

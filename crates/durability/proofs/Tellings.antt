@@ -1,8 +1,8 @@
 -- Stores of a line by their numbers, and what comes after them.
 use Rattle.std.proofs.Common.{◌≡◌, ℕ, zero, suc, ◌+◌, ◌-◌, ◌<◌, ◌≤◌, true, inl, inr, List, Some, length, get_or, refl, subst, arith}
 use Rattle.std.proofs.lemmas.Bool.Decides.{nat_tests}
-use Rattle.crash_model.specs.Floor.{floor}
-use Rattle.crash_model.specs.Stores.{stores}
+use Rattle.store_trace.specs.Floor.{floor}
+use Rattle.store_trace.specs.Stores.{stores}
 use Rattle.store_trace.specs.History.{at_moment}
 use Rattle.store_trace.specs.declared.event.Event.{Event}
 use Rattle.store_trace.specs.declared.event.Event.TheVariants.{Store, Clean, Fence, Begin, End}

@@ -2,8 +2,8 @@
 -- Source: RISC-V CMO specification 1.0, chapter 2 (a clean asks for a write-back), and this model's rule that a fence
 -- completes the cleans of its own hart.
 use Rattle.std.specs.Prelude.{◌≡◌, ℕ, ◌+◌, ◌<◌, ◌≤◌, List, Option, Some, length, slice_get, slice_index_or}
-use Rattle.crash_model.specs.Floor.{floor}
-use Rattle.crash_model.specs.Stores.{stores}
+use Rattle.store_trace.specs.Floor.{floor}
+use Rattle.store_trace.specs.Stores.{stores}
 use Rattle.store_trace.specs.History.{at_moment}
 use Rattle.store_trace.specs.declared.event.Event.{Event}
 use Rattle.store_trace.specs.declared.event.Event.TheVariants.{Store}

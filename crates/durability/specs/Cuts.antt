@@ -1,7 +1,7 @@
 -- What a cut of a moment lacks of a line, and what it has past the line's floor.
 use Rattle.std.specs.Prelude.{◌≡◌, ℕ, ◌+◌, ◌<◌, ◌≤◌, ◌==◌, ◌⊎◌, Bool, false, List, Option, Some, None}
-use Rattle.crash_model.specs.Floor.{floor}
-use Rattle.crash_model.specs.Stores.{stores}
+use Rattle.store_trace.specs.Floor.{floor}
+use Rattle.store_trace.specs.Stores.{stores}
 use Rattle.store_trace.specs.History.{at_moment}
 use Rattle.store_trace.specs.declared.event.Event.{Event}
 use Rattle.store_trace.specs.declared.event.Event.TheVariants.{Store, Clean, Fence, Begin, End}

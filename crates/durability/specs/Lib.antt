@@ -6,3 +6,9 @@ pub mod Numbered
 pub mod Operations
 pub mod Stores
 pub mod Unpersisted
+pub mod Completing
+pub mod Found
+pub mod Needless
+pub mod Reading
+pub mod Reasons
+pub mod Words

@@ -7,10 +7,7 @@ ghost use Rattle.store_trace.specs.TraceView.{IsEvent, NamesLine};
 
 use crate::cause::Fate;
 use std::alloc::{AllocError, Global};
-use store_trace::Event;
-
-/// The number of harts.
-pub(crate) const HARTS: usize = 8;
+use store_trace::{Event, MAX_HARTS};
 
 /// For each store among the events, at its place, its fate in the whole run. The events name lines below `lines`.
 pub fn fates_of(alloc: Global, events: &[Event], lines: u32) -> Result<Vec<Fate>, AllocError>
@@ -20,7 +17,7 @@ pub fn fates_of(alloc: Global, events: &[Event], lines: u32) -> Result<Vec<Fate>
     ensures { IfOk result (λ fates. AreFates events.now 0 fates.items) }
 {
     let mut fates = vec![in alloc; Fate::NOTHING; events.len()]?;
-    let mut fences = [None; HARTS];
+    let mut fences = [None; MAX_HARTS];
     let mut next = vec![in alloc; Fate::NOTHING; lines as usize]?;
     for at in (0..events.len()).rev() {
         fates[at] = fate_of(events[at], &next);
@@ -42,7 +39,7 @@ fn fate_of(event: Event, next: &[Fate]) -> Fate
 }
 
 /// Goes one event back.
-fn read(events: &[Event], at: usize, fences: &mut [Option<u32>; HARTS], next: &mut [Fate])
+fn read(events: &[Event], at: usize, fences: &mut [Option<u32>; MAX_HARTS], next: &mut [Fate])
     requires there { at < length events.now }
     requires each { All IsEvent events.now }
     requires named { All (NamesLine (length next.old)) events.now }

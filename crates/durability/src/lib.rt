@@ -11,8 +11,12 @@ mod fates;
 mod laws;
 mod losses;
 mod operations;
+mod redundant;
 
 pub use cause::Cause;
 pub use cut::{CutLine, Kept, Lost, ToldCut, tell_cut};
 pub use ends::{EndLoss, Unpersisted, tell_unpersisted};
 pub use laws::{completions_come_late, ends_are_of_last_begins};
+pub use redundant::{
+    Needless, Reason, needless_events, needless_leave_cuts, none_is_left, reasons_are_all,
+};

@@ -6,10 +6,9 @@ ghost use Rattle.std.specs.Prelude.{◌≡◌, ◌+◌, ◌<◌, ◌≤◌, ℕ,
 ghost use Rattle.store_trace.specs.TraceView.{IsEvent};
 ghost use Rattle.store_trace.specs.declared.event.Event.{Event};
 
-use crate::fates::HARTS;
 use std::alloc::{AllocError, Global};
 use std::collections::BTreeMap;
-use store_trace::Event;
+use store_trace::{Event, MAX_HARTS};
 
 /// The operations that are open.
 #[derive(Drop)]
@@ -19,7 +18,7 @@ pub struct OpenOperations {
     /// For each event so far that is a Begin, at its place, the number of the Begin of its operation that was the last one open.
     before: Vec<Option<u32>>,
     /// How many operations of each hart are open.
-    counts: [u32; HARTS],
+    counts: [u32; MAX_HARTS],
 }
 
 /// An operation that has ended, and the numbers of its Begin and its End.
@@ -39,7 +38,7 @@ impl OpenOperations {
         OpenOperations {
             last: BTreeMap::new(alloc),
             before: Vec::new(alloc),
-            counts: [0; HARTS],
+            counts: [0; MAX_HARTS],
         }
     }
 

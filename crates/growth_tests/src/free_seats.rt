@@ -1,16 +1,15 @@
 //! Seats of a bus, a stop word and a check desk, and a debugger's points, whose calls take no memory.
 
-ghost use Rattle.check_desk.specs.Desks.{fresh as fresh_desk_seat};
+ghost use Rattle.workers.specs.Desks.{fresh as fresh_desk_seat};
 ghost use Rattle.std.specs.Prelude.{◌≡◌, replicate};
-ghost use Rattle.stop_word.specs.Stops.{fresh};
+ghost use Rattle.workers.specs.Stops.{fresh};
 
 use crate::ending::{Refused, ended, ready};
 use crate::samples::{LOADS, REGISTERS, bus_of, machine_of, program_of, zeros};
 use bus::{Outcome, Seat};
-use check_desk::{CheckDesk, DeskResult, DeskSeat};
 use debugger::{DebugFault, Debugger};
 use std::alloc::Global;
-use stop_word::{StopSeat, StopWord};
+use workers::{CheckDesk, DeskResult, DeskSeat, StopSeat, StopWord};
 
 /// Makes forty steps of a seat that need no request.
 fn stepped(seats: &mut [Seat<'_>]) -> bool {

@@ -1,17 +1,16 @@
 //! The cuts of a moment, their images, and the schedules that leave them: those of a line that stands between 2 and 3.
 
-ghost use Rattle.schedule.specs.Grammar.{hart_steps};
+ghost use Rattle.machine.specs.Grammar.{hart_steps};
 ghost use Rattle.std.specs.Prelude.{◌^◌, ◌<◌};
 
 use crate::ending::{Refused, ended, ready, refusal, repeated};
 use crate::samples::{TWO_IMAGES, program_of, zeros};
 use crash_image::{Cut, Cuts, ImageFault, has_lines};
-use cut_schedule::explain;
 use line_memory::Medium;
-use machine::Schedule;
-use recording::{Recorded, record};
+use machine::{Recorded, Schedule, record};
 use std::alloc::Global;
 use store_trace::Trace;
+use witness::explain;
 
 /// What a call comes to that an image refused.
 fn refused_image(fault: ImageFault) -> Result<bool, Refused> {

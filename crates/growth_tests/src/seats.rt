@@ -5,7 +5,7 @@ use crate::ending::{Refused, ended, ready, refusal};
 use crate::samples::{COUNTER, COUNTS, assembled, bus_of, program_of};
 use bus::{Bus, FinishFault, Outcome, Seat, StepFault};
 use hart::{HartState, Status};
-use recording::Recorded;
+use machine::Recorded;
 use std::alloc::Global;
 use std::sync::Wait;
 

@@ -2,8 +2,7 @@
 
 use crate::ending::{Refused, ended, ready, refusal, repeated};
 use crate::samples::FIVE;
-use asm_line::AsmCode;
-use assemble::assemble;
+use assemble::{AsmCode, assemble};
 use program::{LoadFault, Object, TEXT_LIMIT, load};
 use std::alloc::Global;
 

@@ -4,11 +4,11 @@
 use crate::ending::{Refused, ended, refusal};
 use crate::samples::{COUNTS, bus_of, program_of};
 use bus::{FinishFault, RunFault, StepFault, run_harts};
-use gate::Open;
-use recording::Recorded;
+use machine::Recorded;
 use std::alloc::Global;
 use std::sync::Wait;
 use std::thread::Threads;
+use workers::Open;
 
 /// Whether two harts have made nine steps each, of which five were requests. Their order isn't fixed.
 fn is_run(recorded: &Recorded) -> bool {

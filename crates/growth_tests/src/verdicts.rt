@@ -3,15 +3,14 @@
 use crate::ending::{Refused, ended, ready, refusal, repeated};
 use crate::samples::{append_trace, new_volume};
 use crash_image::has_lines;
-use gate::Open;
 use image_check::{Cause, CheckFault, Verdict, check_parallel, check_run};
 use line_memory::Medium;
-use nova_log::{VolumeFault, recover};
+use nova_log::{Volume, VolumeFault, recover};
 use plan::Plan;
 use std::alloc::Global;
 use std::thread::Threads;
 use store_trace::Trace;
-use volume::Volume;
+use workers::Open;
 
 /// A plan of one append, its new volume, and the trace of the routine.
 #[derive(Drop)]

@@ -15,7 +15,7 @@ use Rattle.command_line.specs.Reports.{line_end}
 use Rattle.command_line.specs.Steps.{Reads, Writes}
 use Rattle.command_line.specs.declared.failure.Failure.{Failure}
 use Rattle.command_line.specs.declared.failure.Failure.TheVariants.{File, Line, Memory, Refused, Unfinished}
-use Rattle.session.specs.StreamFailures.{AppendsFront}
+use Rattle.debugger.specs.StreamFailures.{AppendsFront}
 
 -- why the words of a line can't be had: memory was refused, or one of them is no text
 abbrev pub IsLost : Failure → Type 0

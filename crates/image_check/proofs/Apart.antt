@@ -10,10 +10,10 @@ use Rattle.plan.specs.declared.operation.Operation.{Operation}
 use Rattle.store_trace.specs.declared.event.Event.{Event}
 use Rattle.store_trace.specs.declared.event.Event.TheVariants.{Store, Clean, Fence, Begin, End}
 use Rattle.image_check.specs.Growth.{AreApart}
-use Rattle.image_check.specs.Marks.{begun, begun_by, ended, ended_by, is_open, pending}
+use Rattle.store_trace.specs.Marks.{begun, begun_by, ended, ended_by, is_open, pending}
 use Rattle.image_check.specs.OrderFaults.{AreSound, IsSharing, ShareInode}
 use Rattle.image_check.specs.declared.fault.OpFault.TheVariants.{SharesInode}
-use Rattle.image_check.proofs.Members.{from_filter, from_some, in_filter, no_members}
+use Rattle.store_trace.proofs.Members.{from_filter, from_some, in_filter, no_members}
 
 neither_first : (a b : Bool) → not (a || b) ≡ true → not a ≡ true
 neither_first true b e = e

@@ -9,11 +9,11 @@ use Rattle.std.proofs.lemmas.Option.{slice_get-get_or, get_or_from_slice_get}
 use Rattle.plan.specs.declared.operation.Operation.{Operation}
 use Rattle.store_trace.specs.declared.event.Event.{Event}
 use Rattle.store_trace.specs.declared.event.Event.TheVariants.{Store, Clean, Fence, Begin, End}
-use Rattle.image_check.specs.Marks.{begun, begun_by, ended, ended_by, pending}
+use Rattle.store_trace.specs.Marks.{begun, begun_by, ended, ended_by, pending}
 use Rattle.image_check.specs.OrderFaults.{AreSound, HasFault, IsBegunTwice, IsNotPending, OpensSharer, ShareInode}
 use Rattle.image_check.specs.declared.fault.OpFault.TheVariants.{BegunTwice, NotPending}
-use Rattle.image_check.proofs.Marking.{open_true, open_unended}
-use Rattle.image_check.proofs.Members.{from_mapped, mapped_here}
+use Rattle.store_trace.proofs.Marking.{open_true, open_unended}
+use Rattle.store_trace.proofs.Members.{from_mapped, mapped_here}
 use Rattle.image_check.proofs.Sharing.{shared_here}
 
 -- the first events of a sound trace

@@ -6,7 +6,7 @@ use Rattle.std.proofs.lemmas.Option.{slice_get-get_or, get_or_from_slice_get}
 use Rattle.plan.specs.declared.operation.Operation.{Operation}
 use Rattle.store_trace.specs.declared.event.Event.{Event}
 use Rattle.store_trace.specs.declared.event.Event.TheVariants.{Store, Clean, Fence, Begin, End}
-use Rattle.image_check.specs.Marks.{begun, ended, pending}
+use Rattle.store_trace.specs.Marks.{begun, ended, pending}
 use Rattle.image_check.specs.OrderFaults.{AreSound, HasFault, IsFirstFault, IsLowestFault, IsPlanned, ShareInode, code_of}
 use Rattle.image_check.specs.declared.fault.OpFault.{OpFault}
 use Rattle.image_check.specs.declared.fault.OpFault.TheVariants.{Unknown, BegunTwice, NotPending, SharesInode}

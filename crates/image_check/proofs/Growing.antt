@@ -3,12 +3,12 @@ use Rattle.std.proofs.Common.{◌≡◌, ℕ, ◌+◌, ◌<◌, ◌≤◌, Bool,
 use Rattle.std.specs.Prelude.{◌==◌, nat_lt, slice_set, option_and_then, IsTrue}
 use Rattle.std.specs.List.{Contains, flat_map}
 use Rattle.std.proofs.lemmas.Bool.{cases_Bool, cases_eq}
-use Rattle.volume.specs.Logs.{log_of}
+use Rattle.nova_log.specs.Logs.{log_of}
 use Rattle.plan.specs.declared.operation.PlannedEntry.{PlannedEntry}
-use Rattle.volume.specs.declared.entry.Entry.{Entry}
+use Rattle.nova_log.specs.declared.volume.entry.Entry.{Entry}
 use Rattle.image_check.specs.Growth.{are_within, is_longer, is_shown}
 use Rattle.image_check.specs.Legal.{with_entries, with_entry}
-use Rattle.image_check.proofs.Members.{contains_cases, contains_first, contains_later, no_members}
+use Rattle.store_trace.proofs.Members.{contains_cases, contains_first, contains_later, no_members}
 
 -- further entries go to the volume that the first ones leave
 append_next : (o : Option (List (List Entry))) (xs ys : List PlannedEntry) →

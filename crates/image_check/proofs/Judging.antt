@@ -10,14 +10,14 @@ use Rattle.nova_log.specs.declared.fault.VolumeFault.{VolumeFault}
 use Rattle.plan.specs.declared.operation.Operation.{Operation}
 use Rattle.plan.specs.declared.operation.PlannedEntry.{PlannedEntry}
 use Rattle.store_trace.specs.declared.event.Event.{Event}
-use Rattle.volume.specs.Logs.{log_of}
-use Rattle.volume.specs.declared.entry.Entry.{Entry}
+use Rattle.nova_log.specs.Logs.{log_of}
+use Rattle.nova_log.specs.declared.volume.entry.Entry.{Entry}
 use Rattle.image_check.specs.Growth.{AreApart, AreOutcomes, are_within, is_longer, is_shown}
 use Rattle.image_check.specs.Legal.{IsLegal, with_entries}
-use Rattle.image_check.specs.Marks.{ended, pending}
+use Rattle.store_trace.specs.Marks.{ended, pending}
 use Rattle.image_check.specs.Planned.{planned}
 use Rattle.image_check.proofs.Growing.{Grown, count_none, count_of, count_on, grown, not_on, with_append, within_of}
-use Rattle.image_check.proofs.Members.{contains_first, contains_later, from_filter, in_filter}
+use Rattle.store_trace.proofs.Members.{contains_first, contains_later, from_filter, in_filter}
 
 -- what one operation adds to those that follow
 pub flat_cond : {X : Type 0} (b : Bool) (f : X → List PlannedEntry) (x : X) (xs : List X) →

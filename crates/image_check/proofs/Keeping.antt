@@ -1,16 +1,16 @@
 -- What recovery asks of an image, and whether it is legal, is settled by the lines that it asks.
 use Rattle.std.proofs.Common.{◌≡◌, ℕ, Bool, List, length, refl, sym, subst, ◌∙◌}
-use Rattle.crash_model.proofs.Images.{length_image}
-use Rattle.crash_model.specs.Image.{image}
-use Rattle.moment_verdict.proofs.Keeping.{AgreeIn, IsByLines}
-use Rattle.moment_verdict.specs.Keeping.{IsUnseen}
+use Rattle.store_trace.proofs.Images.{length_image}
+use Rattle.store_trace.specs.Image.{image}
+use Rattle.verdict.proofs.Keeping.{AgreeIn, IsByLines}
+use Rattle.verdict.specs.Keeping.{IsUnseen}
 use Rattle.nova_log.specs.Volumes.{asked_lines, volume_of}
 use Rattle.nova_log.proofs.Agreement.{same_recovery}
 use Rattle.plan.specs.declared.operation.Operation.{Operation}
 use Rattle.store_trace.specs.History.{history}
 use Rattle.store_trace.specs.declared.event.Event.{Event}
 use Rattle.store_trace.specs.declared.event.Event.TheVariants.{Store, Clean, Fence, Begin, End}
-use Rattle.volume.specs.declared.entry.Entry.{Entry}
+use Rattle.nova_log.specs.declared.volume.entry.Entry.{Entry}
 use Rattle.image_check.specs.Keeping.{KeepsPass}
 use Rattle.image_check.specs.Legal.{IsLegal}
 use Rattle.image_check.specs.Verdicts.{asks_at, found_at}

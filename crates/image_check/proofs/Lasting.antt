@@ -12,21 +12,23 @@ use Rattle.plan.specs.declared.operation.Operation.{Operation}
 use Rattle.store_trace.specs.History.{at_moment, history}
 use Rattle.store_trace.specs.declared.event.Event.{Event}
 use Rattle.store_trace.specs.declared.event.Event.TheVariants.{Store, Clean, Fence, Begin, End}
-use Rattle.volume.specs.declared.entry.Entry.{Entry}
+use Rattle.nova_log.specs.declared.volume.entry.Entry.{Entry}
 use Rattle.image_check.specs.Growth.{AreOutcomes}
 use Rattle.image_check.specs.Keeping.{KeepsPass}
 use Rattle.image_check.specs.Legal.{IsLegal, with_entries}
-use Rattle.image_check.specs.Marks.{begun, begun_by, ended, ended_by, is_open, pending}
+use Rattle.store_trace.specs.Marks.{begun, begun_by, ended, ended_by, is_open, pending}
 use Rattle.image_check.specs.OrderFaults.{AreSound, HasFault}
 use Rattle.image_check.specs.Planned.{planned}
 use Rattle.image_check.specs.Verdicts.{AreFlagged, IsMomentVerdict, asks_at, found_at}
 use Rattle.image_check.specs.declared.fault.OpFault.TheVariants.{BegunTwice}
-use Rattle.moment_verdict.proofs.Keeping.{like_next, pass_kept}
-use Rattle.moment_verdict.specs.declared.verdict.MomentVerdict.TheVariants as moments
+use Rattle.verdict.specs.Branches.{SameNumber}
+use Rattle.verdict.proofs.Keeping.{like_next, pass_kept}
+use Rattle.verdict.specs.declared.moment_verdict.verdict.MomentVerdict.TheVariants as moments
 use Rattle.image_check.proofs.Beginning.{sound_first, unended}
 use Rattle.image_check.proofs.Keeping.{by_lines, unseen}
-use Rattle.image_check.proofs.Members.{contains_first, contains_later, from_filter}
-use Rattle.image_check.proofs.Noting.{begin_noted, ended_kept, other_noted}
+use Rattle.store_trace.proofs.Members.{contains_first, contains_later, from_filter}
+use Rattle.image_check.proofs.Noting.{begin_noted, other_noted}
+use Rattle.store_trace.proofs.Marking.{ended_kept}
 
 -- where no operation begins or ends, the same is legal
 legal_same : (plan : List Operation) (r : Result (List (List Entry)) VolumeFault) (before after : List Event) (v : List (List Entry)) →
@@ -120,5 +122,5 @@ kept_next plan start events i d flags l s k f pass =
     let legal : (v : List (List Entry)) → IsLegal plan (volume_of start) before v → IsLegal plan (volume_of start) after v =
     λ v h. subst (λ (es : List Event). IsLegal plan (volume_of start) es v) same
     (legal_event plan (volume_of start) before event flags v (sound_first plan events i (omega arith) s) twice k h) in
-    pass_kept start (history before) (history after) flags (asks_at start (history before)) (asks_at start (history after)) (found_at plan start before)
-    (found_at plan start after) (like_next start events i d flags l (unseen flags event k)) (by_lines plan start before after legal) f pass
+    pass_kept start (history before) (history after) flags SameNumber SameNumber (asks_at start (history before)) (asks_at start (history after)) (found_at plan start before)
+    (found_at plan start after) (λ l n m x y e. e) (like_next start events i d flags l (unseen flags event k)) (by_lines plan start before after legal) f pass

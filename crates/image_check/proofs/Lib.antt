@@ -6,8 +6,6 @@ pub mod Judging
 pub mod Keeping
 pub mod Lasting
 pub mod Looping
-pub mod Marking
-pub mod Members
 pub mod Noting
 pub mod Opening
 pub mod Passing

@@ -9,7 +9,7 @@ use Rattle.std.proofs.lemmas.List.Elements.{filter-append}
 use Rattle.plan.specs.Entries.{entries_of}
 use Rattle.plan.specs.declared.operation.Operation.{Operation}
 use Rattle.plan.specs.declared.operation.PlannedEntry.{PlannedEntry}
-use Rattle.volume.specs.declared.entry.Entry.{Entry}
+use Rattle.nova_log.specs.declared.volume.entry.Entry.{Entry}
 use Rattle.image_check.specs.Growth.{are_within, is_longer, is_shown}
 use Rattle.image_check.specs.Legal.{with_entries}
 use Rattle.image_check.specs.Planned.{operation_of, planned}

@@ -10,28 +10,16 @@ use Rattle.plan.specs.declared.operation.Operation.{Operation}
 use Rattle.plan.specs.declared.operation.PlannedEntry.{PlannedEntry}
 use Rattle.store_trace.specs.declared.event.Event.{Event}
 use Rattle.store_trace.specs.declared.event.Event.TheVariants.{Store, Clean, Fence, Begin, End}
-use Rattle.volume.specs.declared.entry.Entry.{Entry}
+use Rattle.nova_log.specs.declared.volume.entry.Entry.{Entry}
 use Rattle.image_check.specs.Growth.{AreOutcomes}
 use Rattle.image_check.specs.Legal.{with_entries}
-use Rattle.image_check.specs.Marks.{begun, begun_by, ended, ended_by, is_open, pending}
+use Rattle.store_trace.specs.Marks.{begun, begun_by, ended, ended_by, is_open, pending}
 use Rattle.image_check.specs.OrderFaults.{AreSound}
 use Rattle.image_check.specs.Planned.{planned}
 use Rattle.image_check.specs.declared.fault.OpFault.TheVariants.{BegunTwice}
 use Rattle.image_check.proofs.Beginning.{sound_first, unended}
 use Rattle.image_check.proofs.Judging.{joined}
-use Rattle.image_check.proofs.Marking.{open_true}
-
-ended_step : (before : List Event) (event : Event) → ended (before ++ event ∷ []) ≡ ended before ++ cons_option (ended_by event) []
-ended_step before event = filter_map-append ended_by before (event ∷ [])
-
-begun_step : (before : List Event) (event : Event) → begun (before ++ event ∷ []) ≡ begun before ++ cons_option (begun_by event) []
-begun_step before event = filter_map-append begun_by before (event ∷ [])
-
-pub ended_kept : (before : List Event) (event : Event) → ended_by event ≡ None → ended (before ++ event ∷ []) ≡ ended before
-ended_kept before event e = ended_step before event ∙ ap (λ (o : Option ℕ). ended before ++ cons_option o []) e ∙ append-nil (ended before)
-
-begun_kept : (before : List Event) (event : Event) → begun_by event ≡ None → begun (before ++ event ∷ []) ≡ begun before
-begun_kept before event e = begun_step before event ∙ ap (λ (o : Option ℕ). begun before ++ cons_option o []) e ∙ append-nil (begun before)
+use Rattle.store_trace.proofs.Marking.{begun_kept, begun_step, ended_kept, ended_step, open_true}
 
 abbrev still_open : List ℕ → ℕ → Bool
 still_open over op = not (list_any (λ other. other == op) over)

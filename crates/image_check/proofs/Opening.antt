@@ -2,23 +2,24 @@
 use Rattle.std.proofs.Common.{◌≡◌, ℕ, ◌≤◌, Bool, false, List, length, take, sym, ap, subst, ◌∙◌, Option}
 use Rattle.std.proofs.lemmas.List.{length-replicate}
 use Rattle.std.specs.Prelude.{All, replicate}
-use Rattle.crash_model.proofs.Images.{image_same}
-use Rattle.crash_model.specs.Image.{image}
-use Rattle.crash_model.specs.declared.step.PersistenceStep.{PersistenceStep}
+use Rattle.store_trace.proofs.Images.{image_same}
+use Rattle.store_trace.specs.Image.{image}
+use Rattle.store_trace.specs.declared.crash_model.step.PersistenceStep.{PersistenceStep}
 use Rattle.plan.specs.declared.operation.Operation.{Operation}
 use Rattle.line_memory.specs.Lines.{IsMedium}
 use Rattle.store_trace.specs.History.{at_moment}
 use Rattle.store_trace.specs.TraceView.{IsEvent}
 use Rattle.store_trace.specs.declared.event.Event.{Event}
 use Rattle.image_check.specs.Images.{IsFound}
-use Rattle.image_check.specs.Branching.{AreMedia}
+use Rattle.verdict.specs.CutImages.{AreMedia}
 use Rattle.image_check.specs.Growth.{AreApart}
 use Rattle.image_check.specs.OrderFaults.{AreSound}
-use Rattle.moment_verdict.specs.Verdicts as verdicts
+use Rattle.verdict.specs.Branches.{SameNumber}
+use Rattle.verdict.specs.Verdicts as verdicts
 use Rattle.image_check.specs.Verdicts.{IsMomentVerdict, asks_at, found_at}
-use Rattle.moment_verdict.specs.declared.verdict.MomentVerdict.{MomentVerdict}
+use Rattle.verdict.specs.declared.moment_verdict.verdict.MomentVerdict.{MomentVerdict}
 use Rattle.image_check.proofs.Apart.{sound_apart}
-use Rattle.image_check.proofs.Reading.{image_medium}
+use Rattle.verdict.proofs.CutLines as images
 use Rattle.image_check.specs.declared.cause.Cause.{Cause}
 
 -- what is found of a cut is found of each that gives the lines the same numbers
@@ -30,13 +31,13 @@ found_alike plan start events p k c found same f =
 -- the verdict by the branches that were opened, over the index's lines and events
 pub opened_moment : (plan same : List Operation) (start medium : List (List ℕ)) (all events : List Event) (moment m : ℕ) (verdict : MomentVerdict Cause) →
     same ≡ plan → start ≡ medium → all ≡ events → m ≡ moment →
-    verdicts.IsMomentVerdict (asks_at start (at_moment all m)) (found_at same start (take m all)) (at_moment events moment) verdict →
+    verdicts.IsMomentVerdict SameNumber (asks_at start (at_moment all m)) (found_at same start (take m all)) (at_moment events moment) verdict →
     IsMomentVerdict plan medium (take moment events) verdict
 opened_moment plan same start medium all events moment m verdict o s e n h =
     subst (λ (os : List Operation). IsMomentVerdict os medium (take moment events) verdict) o
     (subst (λ (x : List (List ℕ)). IsMomentVerdict same x (take moment events) verdict) s
-    (subst (λ (es : List Event). verdicts.IsMomentVerdict (asks_at start (at_moment es moment)) (found_at same start (take moment es)) (at_moment events moment) verdict) e
-    (subst (λ (k : ℕ). verdicts.IsMomentVerdict (asks_at start (at_moment all k)) (found_at same start (take k all)) (at_moment events moment) verdict) n h)))
+    (subst (λ (es : List Event). verdicts.IsMomentVerdict SameNumber (asks_at start (at_moment es moment)) (found_at same start (take moment es)) (at_moment events moment) verdict) e
+    (subst (λ (k : ℕ). verdicts.IsMomentVerdict SameNumber (asks_at start (at_moment all k)) (found_at same start (take k all)) (at_moment events moment) verdict) n h)))
 
 -- what the images of a moment are made of
 pub images_apart : (plan : List Operation) (all events : List Event) (moment : ℕ) → all ≡ events → moment ≤ length events →
@@ -44,7 +45,7 @@ pub images_apart : (plan : List Operation) (all events : List Event) (moment : �
 images_apart plan all events moment e h s = subst (λ (es : List Event). AreApart plan (take moment es)) (sym e) (sound_apart plan events moment h s)
 
 pub images_whole : (start : List (List ℕ)) (all events : List Event) (moment : ℕ) → all ≡ events → IsMedium start → All IsEvent events → AreMedia start all moment
-images_whole start all events moment e m a = λ k. image_medium start all moment k m (subst (λ (es : List Event). All IsEvent es) (sym e) a)
+images_whole start all events moment e m a = images.images_whole start all moment m (subst (λ (es : List Event). All IsEvent es) (sym e) a)
 
 pub opener_size : (count : ℕ) (start medium : List (List ℕ)) (flags : List Bool) → count ≡ length start → start ≡ medium → flags ≡ replicate count false →
     length flags ≡ length medium

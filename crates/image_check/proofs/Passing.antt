@@ -1,20 +1,20 @@
 -- What a verdict says of a run.
 use Rattle.std.proofs.Common.{◌≡◌, ℕ, ◌≤◌, List, Option, length, take, subst, arith}
 use Rattle.std.specs.Prelude.{Ok}
-use Rattle.crash_model.specs.Cut.{IsCut, number_in}
-use Rattle.crash_model.specs.Image.{image}
+use Rattle.store_trace.specs.Cut.{IsCut, number_in}
+use Rattle.store_trace.specs.Image.{image}
 use Rattle.nova_log.specs.Volumes.{volume_of}
 use Rattle.plan.specs.declared.operation.Operation.{Operation}
 use Rattle.store_trace.specs.History.{at_moment}
 use Rattle.store_trace.specs.declared.event.Event.{Event}
-use Rattle.volume.specs.declared.entry.Entry.{Entry}
+use Rattle.nova_log.specs.declared.volume.entry.Entry.{Entry}
 use Rattle.image_check.specs.Legal.{IsLegal}
 use Rattle.image_check.specs.Images.{Passes}
 use Rattle.image_check.specs.declared.cause.Cause.{Cause}
 use Rattle.image_check.specs.RunViews.{RunView}
 use Rattle.image_check.specs.Verdicts.{IsVerdict, IsVerdictBetween}
-use Rattle.moment_verdict.specs.declared.verdict.Verdict.{Verdict}
-use Rattle.moment_verdict.specs.declared.verdict.Verdict.TheVariants as runs
+use Rattle.verdict.specs.declared.moment_verdict.verdict.Verdict.{Verdict}
+use Rattle.verdict.specs.declared.moment_verdict.verdict.Verdict.TheVariants as runs
 
 -- what a pass says of every cut of every moment
 pub all_pass : (plan : List Operation) (start : List (List ℕ)) (events : List Event) (number : ℕ) (images : Option ℕ) →

@@ -8,7 +8,7 @@ use Rattle.plan.specs.declared.operation.Operation.{Operation}
 use Rattle.plan.specs.declared.operation.PlannedEntry.{PlannedEntry}
 use Rattle.image_check.specs.OrderFaults.{IsPlanned}
 use Rattle.image_check.specs.Planned.{operation_of}
-use Rattle.image_check.proofs.Members.{contains_cases, contains_first, contains_later, no_members}
+use Rattle.store_trace.proofs.Members.{contains_cases, contains_first, contains_later, no_members}
 
 abbrev inodes : List PlannedEntry → List ℕ
 inodes es = map (λ e. e.inode) es

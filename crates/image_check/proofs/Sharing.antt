@@ -7,11 +7,11 @@ use Rattle.plan.specs.Entries.{entries_of}
 use Rattle.plan.specs.declared.operation.Operation.{Operation}
 use Rattle.store_trace.specs.declared.event.Event.{Event}
 use Rattle.store_trace.specs.declared.event.Event.TheVariants.{Begin}
-use Rattle.image_check.specs.Marks.{begun, begun_by, ended, is_open, pending}
+use Rattle.store_trace.specs.Marks.{begun, begun_by, ended, is_open, pending}
 use Rattle.image_check.specs.OrderFaults.{OpensSharer, ShareInode}
 use Rattle.image_check.specs.Planned.{inodes_of, operation_of}
-use Rattle.image_check.proofs.Marking.{open_true, open_unended}
-use Rattle.image_check.proofs.Members.{from_filter, from_mapped, in_filter, mapped_here, no_members}
+use Rattle.store_trace.proofs.Marking.{open_true, open_unended}
+use Rattle.store_trace.proofs.Members.{from_filter, from_mapped, in_filter, mapped_here, no_members}
 
 -- an event that opens a sharer shows that a pending operation shares
 pub shared_here : (plan : List Operation) (events : List Event) (i : ℕ) (d : Event) (op : ℕ) → i < length events →

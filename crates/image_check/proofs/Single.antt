@@ -1,9 +1,10 @@
 -- A run has one verdict: each image is found to be one thing.
 use Rattle.std.proofs.Common.{◌≡◌, ℕ, List, refl, ap, subst, Option, Some, None, take}
-use Rattle.crash_model.specs.Image.{image}
-use Rattle.moment_verdict.proofs.Deciding as verdicts
-use Rattle.moment_verdict.specs.declared.verdict.MomentVerdict.{MomentVerdict}
-use Rattle.moment_verdict.specs.declared.verdict.Verdict.{Verdict}
+use Rattle.store_trace.specs.Image.{image}
+use Rattle.verdict.specs.Branches.{SameNumber}
+use Rattle.verdict.proofs.Deciding as verdicts
+use Rattle.verdict.specs.declared.moment_verdict.verdict.MomentVerdict.{MomentVerdict}
+use Rattle.verdict.specs.declared.moment_verdict.verdict.Verdict.{Verdict}
 use Rattle.nova_log.specs.Volumes.{volume_of}
 use Rattle.plan.specs.declared.operation.Operation.{Operation}
 use Rattle.store_trace.specs.History.{history}
@@ -13,7 +14,7 @@ use Rattle.image_check.specs.Legal.{IsLegal}
 use Rattle.image_check.specs.Verdicts.{IsMomentVerdict, IsVerdictBetween, asks_at, found_at, judged_at}
 use Rattle.image_check.specs.declared.cause.Cause.{Cause}
 use Rattle.image_check.specs.declared.cause.Cause.TheVariants.{Fault, Illegal}
-use Rattle.volume.specs.declared.entry.Entry.{Entry}
+use Rattle.nova_log.specs.declared.volume.entry.Entry.{Entry}
 
 -- an image is bad for one cause, and a good one for none
 cause_once : (plan : List Operation) (start : List (List ℕ)) (events : List Event) (medium : List (List ℕ)) (cause other : Cause) →
@@ -42,7 +43,7 @@ found_once plan start events medium (Some cause) (Some other) a b = ap (λ (c : 
 pub moment_once : (plan : List Operation) (start : List (List ℕ)) (events : List Event) (verdict other : MomentVerdict Cause) →
     IsMomentVerdict plan start events verdict → IsMomentVerdict plan start events other → verdict ≡ other
 moment_once plan start events verdict other a b =
-    verdicts.moment_once (asks_at start (history events)) (found_at plan start events) (history events) verdict other
+    verdicts.moment_once SameNumber (asks_at start (history events)) (found_at plan start events) (history events) verdict other
     (λ k one its f h. found_once plan start events (image start k (history events)) one its f h) a b
 
 pub verdict_once : (plan : List Operation) (start : List (List ℕ)) (events : List Event) (first end : ℕ) (verdict other : Verdict Cause) →

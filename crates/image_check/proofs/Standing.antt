@@ -8,7 +8,7 @@ use Rattle.image_check.specs.RunViews.{RunView}
 use Rattle.image_check.specs.Standing.{IsStanding}
 use Rattle.image_check.specs.Verdicts.{AreFlagged, IsMomentVerdict}
 use Rattle.image_check.specs.declared.moment_judge.Standing.{Standing}
-use Rattle.moment_verdict.specs.declared.verdict.MomentVerdict.TheVariants as moments
+use Rattle.verdict.specs.declared.moment_verdict.verdict.MomentVerdict.TheVariants as moments
 use Rattle.image_check.proofs.Lasting.{kept_next}
 
 -- a moment that is still known to pass after its next event

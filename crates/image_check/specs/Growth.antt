@@ -5,10 +5,10 @@ use Rattle.std.specs.List.{Contains, flat_map, list_all}
 use Rattle.plan.specs.declared.operation.Operation.{Operation}
 use Rattle.plan.specs.declared.operation.PlannedEntry.{PlannedEntry}
 use Rattle.store_trace.specs.declared.event.Event.{Event}
-use Rattle.volume.specs.Logs.{log_of}
-use Rattle.volume.specs.declared.entry.Entry.{Entry}
+use Rattle.nova_log.specs.Logs.{log_of}
+use Rattle.nova_log.specs.declared.volume.entry.Entry.{Entry}
 use Rattle.image_check.specs.Legal.{with_entries}
-use Rattle.image_check.specs.Marks.{ended, pending}
+use Rattle.store_trace.specs.Marks.{ended, pending}
 use Rattle.image_check.specs.OrderFaults.{ShareInode}
 use Rattle.image_check.specs.Planned.{planned}
 

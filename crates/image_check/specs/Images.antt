@@ -1,13 +1,13 @@
 -- What recovery and the plan say of the image of a cut.
 -- Source: Vinter, USENIX ATC 2022: every crash image is recovered, and the state that shows is judged.
 use Rattle.std.specs.Prelude.{◌≡◌, ℕ, List, Option, Some, None, Ok, Err}
-use Rattle.crash_model.specs.Cut.{IsCut, number_in}
-use Rattle.crash_model.specs.Image.{image}
+use Rattle.store_trace.specs.Cut.{IsCut, number_in}
+use Rattle.store_trace.specs.Image.{image}
 use Rattle.nova_log.specs.Volumes.{volume_of}
 use Rattle.plan.specs.declared.operation.Operation.{Operation}
 use Rattle.store_trace.specs.History.{history}
 use Rattle.store_trace.specs.declared.event.Event.{Event}
-use Rattle.volume.specs.declared.entry.Entry.{Entry}
+use Rattle.nova_log.specs.declared.volume.entry.Entry.{Entry}
 use Rattle.image_check.specs.Legal.{IsLegal}
 use Rattle.image_check.specs.declared.cause.Cause.{Cause}
 use Rattle.image_check.specs.declared.cause.Cause.TheVariants.{Fault, Illegal}

@@ -1,7 +1,7 @@
 -- When a moment passes because the moment before it does.
 -- This project's own: an event that no image shows, and that forbids no volume, spoils no pass.
 use Rattle.std.specs.Prelude.{Bool, List}
-use Rattle.moment_verdict.specs.Keeping.{IsUnseen}
+use Rattle.verdict.specs.Keeping.{IsUnseen}
 use Rattle.store_trace.specs.declared.event.Event.{Event}
 use Rattle.store_trace.specs.declared.event.Event.TheVariants.{Store, Clean, Fence, Begin, End}
 

@@ -7,9 +7,9 @@ use Rattle.nova_log.specs.declared.fault.VolumeFault.{VolumeFault}
 use Rattle.plan.specs.declared.operation.Operation.{Operation}
 use Rattle.plan.specs.declared.operation.PlannedEntry.{PlannedEntry}
 use Rattle.store_trace.specs.declared.event.Event.{Event}
-use Rattle.volume.specs.Logs.{log_of}
-use Rattle.volume.specs.declared.entry.Entry.{Entry}
-use Rattle.image_check.specs.Marks.{ended, pending}
+use Rattle.nova_log.specs.Logs.{log_of}
+use Rattle.nova_log.specs.declared.volume.entry.Entry.{Entry}
+use Rattle.store_trace.specs.Marks.{ended, pending}
 use Rattle.image_check.specs.Planned.{planned}
 
 -- the volume with an entry at the end of its inode's log; none where it lacks the inode

@@ -4,7 +4,6 @@ pub mod Growth
 pub mod Images
 pub mod Keeping
 pub mod Legal
-pub mod Marks
 pub mod OrderFaults
 pub mod Planned
 pub mod RunViews

@@ -5,7 +5,7 @@ use Rattle.std.specs.List.{Contains}
 use Rattle.plan.specs.declared.operation.Operation.{Operation}
 use Rattle.store_trace.specs.declared.event.Event.{Event}
 use Rattle.store_trace.specs.declared.event.Event.TheVariants.{Store, Clean, Fence, Begin, End}
-use Rattle.image_check.specs.Marks.{begun, begun_by, ended, is_open, pending}
+use Rattle.store_trace.specs.Marks.{begun, begun_by, ended, is_open, pending}
 use Rattle.image_check.specs.Planned.{inodes_of}
 use Rattle.image_check.specs.declared.fault.OpFault.{OpFault}
 use Rattle.image_check.specs.declared.fault.OpFault.TheVariants.{Unknown, BegunTwice, NotPending, SharesInode}

@@ -8,7 +8,7 @@ use Rattle.image_check.specs.RunViews.{RunView}
 use Rattle.image_check.specs.Verdicts.{AreFlagged, IsMomentVerdict}
 use Rattle.image_check.specs.declared.moment_judge.MomentJudge.{MomentJudge}
 use Rattle.image_check.specs.declared.moment_judge.Standing.{Standing}
-use Rattle.moment_verdict.specs.declared.verdict.MomentVerdict.TheVariants as moments
+use Rattle.verdict.specs.declared.moment_verdict.verdict.MomentVerdict.TheVariants as moments
 
 -- The judge has what the legal volumes of its moment are made of; where it knows that the moment passes, each line that recovery
 -- asks there is flagged.

@@ -2,11 +2,12 @@
 -- there, share a branch; a moment with over 65,536 branches isn't judged.
 -- Source: Vinter, USENIX ATC 2022: every crash image is recovered, and the state that shows is judged.
 use Rattle.std.specs.Prelude.{◌≡◌, ℕ, ◌+◌, ◌<◌, ◌≤◌, Bool, List, Option, length, take}
-use Rattle.crash_model.specs.Image.{image}
-use Rattle.crash_model.specs.declared.step.PersistenceStep.{PersistenceStep}
-use Rattle.moment_verdict.specs.Verdicts as verdicts
-use Rattle.moment_verdict.specs.declared.verdict.MomentVerdict.{MomentVerdict}
-use Rattle.moment_verdict.specs.declared.verdict.Verdict.{Verdict}
+use Rattle.store_trace.specs.Image.{image}
+use Rattle.store_trace.specs.declared.crash_model.step.PersistenceStep.{PersistenceStep}
+use Rattle.verdict.specs.Branches.{SameNumber}
+use Rattle.verdict.specs.Verdicts as verdicts
+use Rattle.verdict.specs.declared.moment_verdict.verdict.MomentVerdict.{MomentVerdict}
+use Rattle.verdict.specs.declared.moment_verdict.verdict.Verdict.{Verdict}
 use Rattle.nova_log.specs.Volumes.{asked_lines}
 use Rattle.plan.specs.declared.operation.Operation.{Operation}
 use Rattle.store_trace.specs.History.{history}
@@ -28,7 +29,7 @@ found_at plan start events k found = IsFound plan start events (image start k (h
 
 -- there are over 65,536 branches
 abbrev pub HasManyBranches : List (List ℕ) → List PersistenceStep → Type 0
-HasManyBranches start p = verdicts.HasManyBranches (asks_at start p) p
+HasManyBranches start p = verdicts.HasManyBranches SameNumber (asks_at start p) p
 
 -- every line that recovery asks of an image of these steps is flagged
 abbrev pub AreFlagged : List (List ℕ) → List PersistenceStep → List Bool → Type 0
@@ -40,7 +41,8 @@ IsLeastBad plan start events cut cause = verdicts.IsLeastBad (found_at plan star
 
 -- the verdict on the moment after these events
 abbrev pub IsMomentVerdict : List Operation → List (List ℕ) → List Event → MomentVerdict Cause → Type 0
-IsMomentVerdict plan start events verdict = verdicts.IsMomentVerdict (asks_at start (history events)) (found_at plan start events) (history events) verdict
+IsMomentVerdict plan start events verdict =
+    verdicts.IsMomentVerdict SameNumber (asks_at start (history events)) (found_at plan start events) (history events) verdict
 
 -- the verdict on moment m of these events
 abbrev pub judged_at : List Operation → List (List ℕ) → List Event → ℕ → MomentVerdict Cause → Type 0

@@ -1,29 +1,28 @@
 //! The verdict on a run, on some of its moments, and on one.
 
 ghost use Rattle.crash_image.specs.View.{HasLines};
-ghost use Rattle.crash_model.specs.Cut.{IsCut, number_in};
-ghost use Rattle.crash_model.specs.Image.{image};
+ghost use Rattle.store_trace.specs.Cut.{IsCut, number_in};
+ghost use Rattle.store_trace.specs.Image.{image};
 ghost use Rattle.image_check.specs.Legal.{IsLegal};
 ghost use Rattle.image_check.specs.OrderFaults.{AreSound};
 ghost use Rattle.image_check.specs.Verdicts.{IsMomentVerdict, IsRefusal, IsVerdict};
-ghost use Rattle.moment_verdict.specs.declared.verdict.Verdict.{Verdict as AVerdict};
+ghost use Rattle.verdict.specs.declared.moment_verdict.verdict.Verdict.{Verdict as AVerdict};
 ghost use Rattle.nova_log.specs.Volumes.{volume_of};
-ghost use Rattle.parallel_moments.specs.Rows.{end_of};
+ghost use Rattle.verdict.specs.Rows.{end_of};
 ghost use Rattle.store_trace.specs.History.{at_moment};
 ghost use Rattle.store_trace.specs.declared.event.Event.{Event as AnEvent};
-ghost use Rattle.volume.specs.declared.entry.Entry.{Entry as AnEntry};
+ghost use Rattle.nova_log.specs.declared.volume.entry.Entry.{Entry as AnEntry};
 ghost use Rattle.std.specs.Prelude.{◌≡◌, ℕ, ◌+◌, ◌<◌, ◌≤◌, List, Option, length, take, IfErr, IfOk, IfSome};
 
 use crate::moment_judge::SoundRun;
 use crate::{Cause, CheckFault};
-use gate::{Gate, Open};
 use line_memory::Medium;
-use moment_verdict::{MomentVerdict, Verdict};
-use parallel_moments::{Moments, Part, end_at};
 use plan::Plan;
 use std::alloc::Global;
 use std::thread::Threads;
 use store_trace::Trace;
+use verdict::{MomentVerdict, Moments, Part, Verdict, end_at};
+use workers::{Gate, Open};
 
 /// The moments of the trace from `first` to `last`, or to the last one of the run where none is given, to be judged by the plan. A moment
 /// past those of the run counts as its last one. The trace started from the medium, which has every line that the trace names.
@@ -108,6 +107,14 @@ pub fn check_run<R: Threads + Sync>(
     requires { HasLines medium.now trace.now.events }
     ensures ok { IfOk result (λ verdict. IsVerdict plan.now.operations medium.now trace.now.events verdict) }
     ensures sound { IfOk result (λ verdict. AreSound plan.now.operations trace.now.events (length trace.now.events)) }
+
+    // Pass: whatever a power cut leaves at whatever moment recovers to a legal volume.
+    ensures pass { (moments : ℕ) (images : Option ℕ) → result ≡ Ok (Verdict.Pass moments images) →
+        (moment : ℕ) (cut : List (ℕ × ℕ)) → moment ≤ length trace.now.events →
+        IsCut (at_moment trace.now.events moment) cut →
+        (found : List (List AnEntry))
+        × (volume_of (image medium.now (number_in cut) (at_moment trace.now.events moment)) ≡ Ok found)
+        × IsLegal plan.now.operations (volume_of medium.now) (take moment trace.now.events) found }
     ensures err { IfErr result (λ fault. IsRefusal plan.now.operations trace.now.events 0 fault) }
 {
     check_parallel(rt, alloc, plan, medium, trace, 1, &Open)

@@ -1,17 +1,19 @@
 //! The image of a cut as recovery reads it: each line comes from the index when it is asked for.
 
-ghost use Rattle.crash_model.specs.Floor.{floor};
-ghost use Rattle.image_check.specs.Branching.{AreKeptAt, AreNumbers, image_of, numbers_at};
+ghost use Rattle.store_trace.specs.Floor.{floor};
+ghost use Rattle.image_check.specs.Branching.{AreKeptAt};
+ghost use Rattle.verdict.specs.CutImages.{AreNumbers, cut_of, image_of};
 ghost use Rattle.nova_log.specs.Volumes.{asked_lines, volume_of};
 ghost use Rattle.nova_log.specs.declared.fault.VolumeFault.TheVariants.{Memory};
 ghost use Rattle.std.specs.List.{AllByRecursion};
 ghost use Rattle.std.specs.Prelude.{◌≡◌, ◌<◌, ◌≤◌, ◌⊎◌, [], Err, Ok, length, IfErr, OnOk};
 
+use crash_image::TraceIndex;
 use nova_log::{FixedLines, KeptVolume, LineSource, VolumeFault, recover_again};
 use std::alloc::{AllocError, Global};
 use std::marker::Model;
 use std::mem;
-use trace_index::TraceIndex;
+use verdict::CutImage;
 
 /// The volume of the image of a cut at a moment, as recovery of the whole image gives it: it is that which is kept then. The cut is
 /// given by line, with 0 for a line at its floor. Adds the lines that recovery asks.
@@ -36,62 +38,41 @@ pub fn recover_cut(
     ensures kept { AreKeptAt index.now.start index.now.events moment kept.new }
 {
     let before = mem::replace(asked, Vec::new(alloc));
-    let mut source = IndexLines::new(index, moment, numbers, before);
+    let image = CutImage::new(index, moment, numbers);
+    let mut source = ImageLines::new(image, before);
     let fixed = MomentLines { index, moment };
     let recovered = recover_again(alloc, &mut source, &fixed, kept);
     *asked = source.into_asked();
     recovered
 }
 
-/// The lines of the image of a cut at a moment.
+/// The lines of the image of a cut, with those that were asked for.
 #[derive(Drop)]
-struct IndexLines<'a, 'b> {
-    index: &'a TraceIndex<'b>,
-    moment: u32,
-    /// The cut by line, with 0 for a line at its floor.
-    numbers: &'a [u32],
+struct ImageLines<'a, 'b, 'c> {
+    image: CutImage<'a, 'b, 'c>,
     /// The lines that were asked for, in order.
     asked: Vec<u32>,
 }
 
-impl<'a, 'b> Model for IndexLines<'a, 'b> {
+impl<'a, 'b, 'c> Model for ImageLines<'a, 'b, 'c> {
     ghost use Rattle.std.specs.Prelude.{◌<◌, length};
     ghost use Rattle.std.specs.List.{AllByRecursion};
-    ghost use Rattle.image_check.specs.Branching.{AreNumbers, image_of};
     ghost use Rattle.nova_log.specs.Sources.{Source};
 
     ghost Value = { Source };
 
-    ghost view = { λ s. record {
-      lines = image_of s.index.now.start s.index.now.events s.moment s.numbers.now;
-      asked = s.asked.items;
-    } };
+    ghost view = { λ s. record { lines = s.image; asked = s.asked.items } };
 
-    ghost invariant = { λ s. AreNumbers s.index.now.start s.index.now.events s.moment s.numbers.now
-        × AllByRecursion (λ l. l < length s.index.now.start) s.asked.items };
+    ghost invariant = { λ s. AllByRecursion (λ l. l < length s.image) s.asked.items };
 }
 
-impl<'a, 'b> IndexLines<'a, 'b> {
-    /// The lines of the image of the cut, with none asked yet: `asked` is empty.
-    fn new(
-        index: &'a TraceIndex<'b>,
-        moment: u32,
-        numbers: &'a [u32],
-        asked: Vec<u32>,
-    ) -> IndexLines<'a, 'b>
-        requires cut { AreNumbers index.now.start index.now.events moment numbers.now }
-        requires asked { asked.items ≡ [] }
-        ensures { result ≡ record {
-          lines = image_of index.now.start index.now.events moment numbers.now;
-          asked = [];
-        } }
+impl<'a, 'b, 'c> ImageLines<'a, 'b, 'c> {
+    /// The lines of the image, with none asked yet: `asked` is empty.
+    fn new(image: CutImage<'a, 'b, 'c>, asked: Vec<u32>) -> ImageLines<'a, 'b, 'c>
+        requires { asked.items ≡ [] }
+        ensures { result ≡ record { lines = image.entry; asked = [] } }
     {
-        IndexLines {
-            index,
-            moment,
-            numbers,
-            asked,
-        }
+        ImageLines { image, asked }
     }
 
     /// The lines asked, given back.
@@ -103,29 +84,13 @@ impl<'a, 'b> IndexLines<'a, 'b> {
     }
 }
 
-/// The number of stores of a line in the cut.
-#[inline(always)]
-fn number_of(index: &TraceIndex, moment: u32, numbers: &[u32], line: u32) -> u32
-    requires there { moment ≤ length index.now.events }
-    requires line { line < length index.now.start }
-    requires size { length numbers.now ≡ length index.now.start }
-    ensures { result ≡ numbers_at index.now.events moment numbers.now line }
-{
-    let number = numbers[line as usize];
-    if number == 0 {
-        index.floor(line, moment)
-    } else {
-        number
-    }
-}
-
-impl LineSource for IndexLines<'_, '_> {
+impl LineSource for ImageLines<'_, '_, '_> {
     ghost medium = { λ s. s.lines };
 
     ghost asked = { λ s. s.asked };
 
     fn lines(&self) -> u32 {
-        self.index.lines()
+        self.image.lines()
     }
 
     #[inline(always)]
@@ -133,8 +98,7 @@ impl LineSource for IndexLines<'_, '_> {
         if self.asked.push(n).is_err() {
             return Err(VolumeFault::Memory);
         }
-        let number = number_of(self.index, self.moment, self.numbers, n);
-        Ok(*self.index.line(n, number))
+        Ok(*self.image.line(n))
     }
 
     fn asked_so_far(&self) -> &[u32] {
@@ -155,8 +119,8 @@ struct MomentLines<'a, 'b> {
 }
 
 impl FixedLines for MomentLines<'_, '_> {
-    ghost use Rattle.crash_model.specs.Floor.{floor};
-    ghost use Rattle.crash_model.specs.Stores.{stores};
+    ghost use Rattle.store_trace.specs.Floor.{floor};
+    ghost use Rattle.store_trace.specs.Stores.{stores};
     ghost use Rattle.store_trace.specs.History.{at_moment};
     ghost use Rattle.std.specs.Prelude.{◌≡◌};
 

@@ -5,18 +5,17 @@ ghost use Rattle.image_check.specs.Images.{IsVolumeJudged};
 ghost use Rattle.image_check.specs.OrderFaults.{AreSound};
 ghost use Rattle.nova_log.specs.Volumes.{volume_of};
 ghost use Rattle.store_trace.specs.declared.event.Event.{Event as AnEvent};
-ghost use Rattle.volume.specs.declared.entry.Entry.{Entry as AnEntry};
+ghost use Rattle.nova_log.specs.declared.volume.entry.Entry.{Entry as AnEntry};
 ghost use Rattle.std.specs.Prelude.{◌≡◌, ℕ, ◌+◌, List, Option, length, take, IfErr, IfOk, OnOk};
 ghost use Rattle.std.specs.Result.{result_ok};
 
 use crate::legal::Outcomes;
 use crate::{Cause, CheckFault};
 use line_memory::Medium;
-use nova_log::{VolumeFault, recover};
+use nova_log::{Volume, VolumeFault, recover};
 use plan::Plan;
 use std::alloc::{AllocError, Global};
 use store_trace::Trace;
-use volume::Volume;
 
 /// The volume of the starting medium, if it has one.
 pub fn starting_volume(alloc: Global, medium: &Medium) -> Result<Option<Volume>, CheckFault>

@@ -1,9 +1,9 @@
 //! The laws of verdicts, each as the contract of a function with nothing to run.
 
 ghost use Rattle.image_check.specs.Verdicts.{IsMomentVerdict, IsVerdictBetween};
-ghost use Rattle.moment_verdict.specs.Verdicts.{joined};
-ghost use Rattle.moment_verdict.specs.declared.verdict.MomentVerdict.{MomentVerdict as AMomentVerdict};
-ghost use Rattle.moment_verdict.specs.declared.verdict.Verdict.{Verdict as AVerdict};
+ghost use Rattle.verdict.specs.Verdicts.{joined};
+ghost use Rattle.verdict.specs.declared.moment_verdict.verdict.MomentVerdict.{MomentVerdict as AMomentVerdict};
+ghost use Rattle.verdict.specs.declared.moment_verdict.verdict.Verdict.{Verdict as AVerdict};
 ghost use Rattle.plan.specs.declared.operation.Operation.{Operation as AnOperation};
 ghost use Rattle.store_trace.specs.declared.event.Event.{Event as AnEvent};
 ghost use Rattle.std.specs.Prelude.{◌≡◌, ℕ, ◌≤◌, List};

@@ -2,22 +2,22 @@
 
 ghost use Rattle.image_check.specs.Growth.{AreApart, AreOutcomes, is_shown};
 ghost use Rattle.image_check.specs.Legal.{IsLegal, with_entries};
-ghost use Rattle.image_check.specs.Marks.{begun_by, ended};
+ghost use Rattle.store_trace.specs.Marks.{begun_by, ended};
 ghost use Rattle.image_check.specs.OrderFaults.{AreSound};
 ghost use Rattle.image_check.specs.Planned.{planned};
 ghost use Rattle.nova_log.specs.declared.fault.VolumeFault.{VolumeFault as AFault};
 ghost use Rattle.store_trace.specs.declared.event.Event.{Event as AnEvent};
-ghost use Rattle.volume.specs.declared.entry.Entry.{Entry as AnEntry};
+ghost use Rattle.nova_log.specs.declared.volume.entry.Entry.{Entry as AnEntry};
 ghost use Rattle.plan.specs.declared.operation.Operation.{Operation as AnOperation};
 ghost use Rattle.std.specs.List.{Contains, flat_map};
 ghost use Rattle.std.specs.Prelude.{◌≡◌, ◌↔◌, ◌==◌, ℕ, not, List, [], ◌∷◌, ◌++◌, Option, Some, Result, filter, length, option_and_then, IfOk, IsTrue, OnOk, if◌then◌else◌};
 ghost use Rattle.std.specs.Result.{result_ok};
 
 use crate::operations::{append, find_operation, fits, shows};
+use nova_log::Volume;
 use plan::Plan;
 use std::alloc::{AllocError, Global};
 use store_trace::Event;
-use volume::Volume;
 
 /// What the legal volumes of a moment are made of.
 #[derive(Drop)]

@@ -9,8 +9,8 @@ pub use checking::{check_moment, check_parallel, check_run, checked_part};
 pub use fault::{CheckFault, OpFault};
 pub use laws::{one_verdict, verdicts_join};
 pub use moment_judge::{MomentJudge, SoundRun};
-pub use moment_verdict::{ImageName, MomentVerdict, Verdict};
 pub use order::check_trace;
+pub use verdict::{ImageName, MomentVerdict, Verdict};
 
 mod cause;
 mod checking;

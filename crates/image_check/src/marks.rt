@@ -1,13 +1,13 @@
 //! The marks of operations among events.
 
-ghost use Rattle.image_check.specs.Marks.{begun, begun_by, ended, ended_by};
+ghost use Rattle.store_trace.specs.Marks.{begun, begun_by, ended, ended_by};
 ghost use Rattle.std.specs.List.{Contains};
 ghost use Rattle.std.specs.Prelude.{◌≡◌, ◌↔◌, IsTrue};
 
 use store_trace::Event;
 
 /// Whether the operation begins in one of the events.
-#[tactic(auto, using(crate::proofs::Marking::begun_here, crate::proofs::Marking::none_begun))]
+#[tactic(auto, using(store_trace::proofs::Marking::begun_here, store_trace::proofs::Marking::none_begun))]
 pub fn has_begun(events: &[Event], op: u64) -> bool
     ensures { IsTrue result ↔ Contains (begun events.now) op }
 {
@@ -20,7 +20,7 @@ pub fn has_begun(events: &[Event], op: u64) -> bool
 }
 
 /// Whether the operation ends in one of the events.
-#[tactic(auto, using(crate::proofs::Marking::ended_here, crate::proofs::Marking::none_ended))]
+#[tactic(auto, using(store_trace::proofs::Marking::ended_here, store_trace::proofs::Marking::none_ended))]
 pub fn has_ended(events: &[Event], op: u64) -> bool
     ensures { IsTrue result ↔ Contains (ended events.now) op }
 {
@@ -33,7 +33,7 @@ pub fn has_ended(events: &[Event], op: u64) -> bool
 }
 
 /// Whether this hart begins the operation in one of the events.
-#[tactic(auto, using(crate::proofs::Marking::event_here, crate::proofs::Marking::no_events, crate::proofs::Marking::no_more_events))]
+#[tactic(auto, using(store_trace::proofs::Marking::event_here, store_trace::proofs::Marking::no_events, store_trace::proofs::Marking::no_more_events))]
 pub fn has_begun_by(events: &[Event], hart: u32, op: u64) -> bool
     ensures { IsTrue result ↔ Contains events.now (Event.Begin hart op) }
 {
@@ -48,19 +48,13 @@ pub fn has_begun_by(events: &[Event], hart: u32, op: u64) -> bool
 fn begins(event: Event, op: u64) -> bool
     ensures { IsTrue result ↔ (begun_by event ≡ Some op) }
 {
-    match event {
-        Event::Begin { op: begun, .. } => begun == op,
-        _ => false,
-    }
+    event.begun() == Some(op)
 }
 
 fn ends(event: Event, op: u64) -> bool
     ensures { IsTrue result ↔ (ended_by event ≡ Some op) }
 {
-    match event {
-        Event::End { op: ended, .. } => ended == op,
-        _ => false,
-    }
+    event.ended() == Some(op)
 }
 
 fn begins_by(event: Event, hart: u32, op: u64) -> bool

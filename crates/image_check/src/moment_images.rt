@@ -1,6 +1,6 @@
 //! The images of a moment, as the branches of its cuts are opened: one run of recovery judges a branch.
 
-ghost use Rattle.image_check.specs.Branching.{AreMedia};
+ghost use Rattle.verdict.specs.CutImages.{AreMedia};
 ghost use Rattle.image_check.specs.Growth.{AreApart, AreOutcomes};
 ghost use Rattle.nova_log.specs.Volumes.{volume_of};
 ghost use Rattle.std.specs.Prelude.{◌≡◌, ◌≤◌, length, take};
@@ -10,11 +10,11 @@ use crate::Cause;
 use crate::index_lines::recover_cut;
 use crate::judge::judge_volume;
 use crate::legal::Outcomes;
-use branches::Recovery;
+use crash_image::TraceIndex;
 use nova_log::{KeptVolume, VolumeFault};
 use plan::Plan;
 use std::alloc::{AllocError, Global};
-use trace_index::TraceIndex;
+use verdict::Recovery;
 
 /// The images of a moment, and what the legal volumes are made of there.
 #[derive(Drop)]
@@ -57,16 +57,18 @@ impl<'a, 'b> MomentImages<'a, 'b> {
 }
 
 impl Recovery for MomentImages<'_, '_> {
-    ghost use Rattle.crash_model.specs.Floor.{floor};
-    ghost use Rattle.crash_model.specs.Image.{image};
-    ghost use Rattle.crash_model.specs.Stores.{stores};
-    ghost use Rattle.crash_model.proofs.Bounds.{floor_le_stores};
+    ghost use Rattle.store_trace.specs.Floor.{floor};
+    ghost use Rattle.store_trace.specs.Image.{image};
+    ghost use Rattle.store_trace.specs.Stores.{stores};
+    ghost use Rattle.store_trace.proofs.Bounds.{floor_le_stores};
+    ghost use Rattle.verdict.specs.Branches.{SameNumber};
+    ghost use Rattle.verdict.proofs.Numbering.{no_lower, same_number};
     ghost use Rattle.image_check.specs.Branching.{AreKeptAt};
     ghost use Rattle.image_check.specs.Images.{IsFound};
     ghost use Rattle.image_check.specs.Verdicts.{asks_at};
     ghost use Rattle.image_check.specs.Alike.{adaptive, branchwise, shared};
     ghost use Rattle.store_trace.specs.History.{at_moment};
-    ghost use Rattle.std.specs.Prelude.{length, take};
+    ghost use Rattle.std.specs.Prelude.{None, length, take};
 
     type Cause = Cause;
 
@@ -77,6 +79,10 @@ impl Recovery for MomentImages<'_, '_> {
     ghost low = { λ s l. floor l (at_moment s.index.now.events s.moment) };
 
     ghost high = { λ s l. stores l (at_moment s.index.now.events s.moment) };
+
+    ghost alike = { λ s. SameNumber };
+
+    ghost last_alike = { λ s l n. None };
 
     ghost asks = { λ s k ls. asks_at s.index.now.start (at_moment s.index.now.events s.moment) k ls };
 
@@ -95,6 +101,10 @@ impl Recovery for MomentImages<'_, '_> {
 
     fn stores(&self, line: u32) -> u32 {
         self.index.stores(line, self.moment)
+    }
+
+    fn last_alike(&self, _line: u32, _number: u32) -> Option<u32> {
+        None
     }
 
     fn workspace(&self, alloc: Global) -> Result<KeptVolume, AllocError> {
@@ -116,6 +126,10 @@ impl Recovery for MomentImages<'_, '_> {
     }
 
     ghost ordered = { λ s l. floor_le_stores l (at_moment s.index.now.events s.moment) };
+
+    ghost equivalent = { λ s. same_number };
+
+    ghost last = { λ s l n. no_lower l n };
 
     ghost adaptive = { λ s. adaptive s.index.now.start (at_moment s.index.now.events s.moment) };
 

@@ -4,13 +4,13 @@ ghost use Rattle.image_check.specs.Growth.{are_within, is_shown};
 ghost use Rattle.image_check.specs.Legal.{with_entries};
 ghost use Rattle.image_check.specs.Planned.{operation_of};
 ghost use Rattle.plan.specs.Entries.{entries_of};
-ghost use Rattle.volume.specs.Logs.{log_of};
+ghost use Rattle.nova_log.specs.Logs.{log_of};
 ghost use Rattle.std.specs.List.{Contains};
 ghost use Rattle.std.specs.Prelude.{◌≡◌, ◌↔◌, ℕ, length, map, IsTrue, OnOk};
 
+use nova_log::Volume;
 use plan::{Operation, Plan, PlannedEntries};
 use std::alloc::AllocError;
-use volume::Volume;
 
 /// The planned operation of this number.
 #[tactic(auto, using(crate::proofs::Planning::found_here, crate::proofs::Planning::found_later))]

@@ -1,6 +1,6 @@
 //! The marks of operations in a trace, looked at in turn.
 
-ghost use Rattle.image_check.specs.Marks.{pending};
+ghost use Rattle.store_trace.specs.Marks.{pending};
 ghost use Rattle.image_check.specs.OrderFaults.{AreSound, HasFault, IsFirstFault, IsLowestFault, OpensSharer, ShareInode};
 ghost use Rattle.image_check.specs.Planned.{operation_of};
 ghost use Rattle.image_check.specs.declared.fault.OpFault.{OpFault as AFault};

@@ -9,9 +9,9 @@ use Rattle.line_memory.specs.Memory.{Memory}
 use Rattle.line_memory.specs.Regions.{RamView, flat, ram_bytes, region}
 use Rattle.line_memory.specs.declared.TheConstants.{DATA_BASE, PERSISTENT_BASE, TEXT_BASE, TEXT_SIZE}
 use Rattle.line_memory.proofs.Accesses.{region_loaded}
-use Rattle.shared_memory.specs.declared.history.Entry.{Entry}
-use Rattle.shared_memory.specs.declared.history.Entry.TheVariants.{Asked}
-use Rattle.shared_memory.specs.Histories.{fetched_text, is_renewing, replayed, text_of}
+use Rattle.machine.specs.declared.shared_memory.history.Entry.{Entry}
+use Rattle.machine.specs.declared.shared_memory.history.Entry.TheVariants.{Asked}
+use Rattle.machine.specs.Histories.{fetched_text, is_renewing, replayed, text_of}
 use Rattle.machine.specs.Run.{fetched}
 use Rattle.machine.specs.Represents.{copies_after, text_bytes}
 

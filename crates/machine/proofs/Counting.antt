@@ -3,12 +3,12 @@ use Rattle.std.proofs.Common.{◌≡◌, ℕ, zero, suc, ◌+◌, List, [], ◌�
 use Rattle.std.proofs.lemmas.List.{length-append}
 use Rattle.std.proofs.lemmas.List.Sums.{sum_by-cons}
 use Rattle.std.proofs.lemmas.List.Elements.{filter-append}
-use Rattle.schedule.specs.Grammar.{hart_steps as count_of_hart_steps, steps_in}
-use Rattle.schedule.specs.Steps.{all_steps, steps_of}
-use Rattle.schedule.specs.declared.items.Item.{Item}
-use Rattle.schedule.specs.declared.items.Item.TheVariants as items
-use Rattle.schedule.specs.declared.items.Step.{Step}
-use Rattle.schedule.specs.declared.items.Step.TheVariants.{Hart}
+use Rattle.machine.specs.Grammar.{hart_steps as count_of_hart_steps, steps_in}
+use Rattle.machine.specs.Steps.{all_steps, steps_of}
+use Rattle.machine.specs.declared.schedule.items.Item.{Item}
+use Rattle.machine.specs.declared.schedule.items.Item.TheVariants as items
+use Rattle.machine.specs.declared.schedule.items.Step.{Step}
+use Rattle.machine.specs.declared.schedule.items.Step.TheVariants.{Hart}
 use Rattle.machine.specs.Evicting.{hart_steps, is_hart_step}
 
 pub counted : (xs ys : List Step) → length (hart_steps (xs ++ ys)) ≡ length (hart_steps xs) + length (hart_steps ys)

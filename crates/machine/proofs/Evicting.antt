@@ -11,15 +11,15 @@ use Rattle.hart.specs.declared.need.Reply.{Reply}
 use Rattle.hart.specs.declared.need.Request.{Request}
 use Rattle.line_memory.specs.Memory.{Memory}
 use Rattle.reservation.specs.Reserved.{Call, is_reserved}
-use Rattle.schedule.specs.declared.items.Step.{Step}
-use Rattle.schedule.specs.declared.items.Step.TheVariants.{Hart, Evict}
+use Rattle.machine.specs.declared.schedule.items.Step.{Step}
+use Rattle.machine.specs.declared.schedule.items.Step.TheVariants.{Hart, Evict}
 use Rattle.store_trace.specs.declared.event.Event.{Event}
-use Rattle.shared_memory.specs.declared.history.Entry.{Entry}
-use Rattle.shared_memory.specs.declared.history.Entry.TheVariants.{Asked, Evicted}
+use Rattle.machine.specs.declared.shared_memory.history.Entry.{Entry}
+use Rattle.machine.specs.declared.shared_memory.history.Entry.TheVariants.{Asked, Evicted}
 use Rattle.machine.specs.Evicting.{AreAlike, hart_steps, requests}
-use Rattle.shared_memory.specs.Histories.{calls_of, fetched_text, has_reserved, is_renewal, memory_after, replayed, text_of}
+use Rattle.machine.specs.Histories.{calls_of, fetched_text, has_reserved, is_renewal, memory_after, replayed, text_of}
 use Rattle.machine.specs.Run.{Config, HartSteps, HartStepsIfThere, Meets, RunsTo, StepsTo, after_request, fetched, fetched_by, with_hart}
-use Rattle.shared_memory.specs.Replies.{events_of, memory_in, replied, reply_after, trace_in, trace_of}
+use Rattle.machine.specs.Replies.{events_of, memory_in, replied, reply_after, trace_in, trace_of}
 
 -- what is read off a history is read off its requests
 calls_kept : (history : List Entry) → flat_map calls_of history ≡ flat_map calls_of (requests history)

@@ -1,9 +1,9 @@
 -- What a machine leaves that has run with the one cache of its history.
 use Rattle.std.proofs.Common.{◌≡◌, ℕ, List, ap, ◌∙◌}
-use Rattle.schedule.specs.declared.items.Step.{Step}
-use Rattle.shared_memory.specs.Cached.{medium_left}
-use Rattle.shared_memory.specs.SharedView.{IsExact, SharedView}
-use Rattle.shared_memory.proofs.Shown.{exact_medium}
+use Rattle.machine.specs.declared.schedule.items.Step.{Step}
+use Rattle.machine.specs.Cached.{medium_left}
+use Rattle.machine.specs.SharedView.{IsExact, SharedView}
+use Rattle.machine.proofs.Shown.{exact_medium}
 use Rattle.machine.specs.Left.{IsLeftBy}
 use Rattle.machine.specs.Represents.{MachineView, RepresentsExactly, RunsExactly}
 use Rattle.machine.specs.Run.{Config, RunsTo}

@@ -14,10 +14,10 @@ use Rattle.machine.specs.QuietSteps.{AreQuietSteps, IsQuietStep, RunsBeforeEach,
 use Rattle.machine.specs.Represents.{MachineView, RunsBoth, copies_after, copy_of}
 use Rattle.machine.specs.Run.{RunsTo}
 use Rattle.machine.specs.RunLaws.{both_more, both_none}
-use Rattle.schedule.specs.declared.items.Step.{Step}
-use Rattle.schedule.specs.declared.items.Step.TheVariants.{Hart}
-use Rattle.shared_memory.specs.Replies.{events_of}
-use Rattle.shared_memory.specs.SharedView.{SharedView}
+use Rattle.machine.specs.declared.schedule.items.Step.{Step}
+use Rattle.machine.specs.declared.schedule.items.Step.TheVariants.{Hart}
+use Rattle.machine.specs.Replies.{events_of}
+use Rattle.machine.specs.SharedView.{SharedView}
 use Rattle.store_trace.specs.declared.event.Event.{Event}
 
 -- a hart's place among the states

@@ -13,21 +13,21 @@ use Rattle.hart.specs.declared.need.Need.TheVariants.{Local, Ask, Stop}
 use Rattle.hart.specs.declared.need.Reply.{Reply}
 use Rattle.hart.specs.declared.need.Request.{Request}
 use Rattle.decode.specs.Decoding.{Decodes}
-use Rattle.shared_memory.specs.declared.fault.StepFault.{StepFault}
-use Rattle.shared_memory.specs.declared.fault.StepFault.TheVariants.{NoSuchHart, NoSuchLine, TraceFull, Memory as MemoryRefused, OutOfLimits}
+use Rattle.machine.specs.declared.shared_memory.fault.StepFault.{StepFault}
+use Rattle.machine.specs.declared.shared_memory.fault.StepFault.TheVariants.{NoSuchHart, NoSuchLine, TraceFull, Memory as MemoryRefused, OutOfLimits}
 use Rattle.machine.specs.declared.machine.Outcome.{Outcome}
-use Rattle.schedule.specs.declared.items.Step.{Step}
-use Rattle.schedule.specs.declared.items.Step.TheVariants.{Hart, Evict}
+use Rattle.machine.specs.declared.schedule.items.Step.{Step}
+use Rattle.machine.specs.declared.schedule.items.Step.TheVariants.{Hart, Evict}
 use Rattle.machine.specs.Outcomes.{HartMakesEvent, MakesEvent}
 use Rattle.machine.specs.Refusals.{LacksHart, LacksLine, Refuses}
 use Rattle.machine.specs.Stepped.{HasStepped}
-use Rattle.shared_memory.specs.Refusals.{IsEventFault, RefusesRequest}
+use Rattle.machine.specs.SharedMemoryRefusals.{IsEventFault, RefusesRequest}
 use Rattle.machine.specs.Run.{Config, Executes, StepsTo, after_request, fetched, fetched_by}
-use Rattle.shared_memory.specs.Replies.{events_of, reply_after, trace_in}
+use Rattle.machine.specs.Replies.{events_of, reply_after, trace_in}
 use Rattle.machine.specs.Represents.{IsThere, MachineView, Represents, copy_of}
-use Rattle.shared_memory.specs.SharedView.{Serves, SharedView, reply_to}
+use Rattle.machine.specs.SharedView.{Serves, SharedView, reply_to}
 use Rattle.machine.proofs.Determined.{needs_once}
-use Rattle.shared_memory.proofs.Shown.{reply_stands}
+use Rattle.machine.proofs.Shown.{reply_stands}
 use Rattle.machine.proofs.Stepping.{hart_steps, word_stands}
 
 -- the instruction by which a hart asks

@@ -10,12 +10,12 @@ use Rattle.hart.specs.declared.need.Reply.{Reply}
 use Rattle.hart.specs.declared.need.Reply.TheVariants.{Done}
 use Rattle.hart.specs.declared.need.Request.{Request}
 use Rattle.hart.specs.declared.need.Request.TheVariants as requests
-use Rattle.schedule.specs.declared.items.Step.{Step}
-use Rattle.schedule.specs.declared.items.Step.TheVariants.{Hart, Evict}
+use Rattle.machine.specs.declared.schedule.items.Step.{Step}
+use Rattle.machine.specs.declared.schedule.items.Step.TheVariants.{Hart, Evict}
 use Rattle.store_trace.specs.declared.event.Event.{Event}
-use Rattle.shared_memory.specs.Histories.{Write, written}
+use Rattle.machine.specs.Histories.{Write, written}
 use Rattle.machine.specs.Run.{Config, HartSteps, HartStepsIfThere, Meets, RunsTo, StepsTo, fetched_by}
-use Rattle.shared_memory.specs.Replies.{events_of, events_of_write, reply_after, trace_in}
+use Rattle.machine.specs.Replies.{events_of, events_of_write, reply_after, trace_in}
 
 pub run_joined : (c d e : Config) (first others : List Step) → RunsTo c first d → RunsTo d others e → RunsTo c (first ++ others) e
 run_joined c d e [] others a b = rw (← a) b

@@ -14,8 +14,8 @@ use Rattle.machine.specs.Stepped.{HasStepped}
 use Rattle.machine.specs.declared.machine.Outcome.TheVariants.{Done}
 use Rattle.machine.proofs.Refusing.{longer, silent_alone, silent_trap}
 use Rattle.machine.proofs.Stepping.{evicts, goes_on_alone, goes_on_answered, outcome_made, traps, with_state}
-use Rattle.schedule.specs.declared.items.Step.TheVariants.{Hart, Evict}
-use Rattle.shared_memory.specs.SharedView.{Evicts, SharedView}
+use Rattle.machine.specs.declared.schedule.items.Step.TheVariants.{Hart, Evict}
+use Rattle.machine.specs.SharedView.{Evicts, SharedView}
 
 pub stepped_alone : (old new : MachineView) (h : ℕ) (s after : HartState) → slice_get old.harts h ≡ Some s → s.status ≡ Running
     → Needs s (fetched (copy_of old h) s.pc) (Local after) → new ≡ with_state old h after

@@ -15,17 +15,17 @@ use Rattle.hart.specs.declared.need.Need.TheVariants.{Local, Ask, Stop}
 use Rattle.hart.specs.declared.need.Reply.{Reply}
 use Rattle.hart.specs.declared.need.Request.{Request}
 use Rattle.line_memory.specs.Memory.{Memory}
-use Rattle.schedule.specs.declared.items.Step.{Step}
-use Rattle.schedule.specs.declared.items.Step.TheVariants.{Hart, Evict}
-use Rattle.shared_memory.specs.declared.history.Entry.TheVariants.{Asked, Evicted}
-use Rattle.shared_memory.specs.Histories.{fetched_text, replayed, text_of}
+use Rattle.machine.specs.declared.schedule.items.Step.{Step}
+use Rattle.machine.specs.declared.schedule.items.Step.TheVariants.{Hart, Evict}
+use Rattle.machine.specs.declared.shared_memory.history.Entry.TheVariants.{Asked, Evicted}
+use Rattle.machine.specs.Histories.{fetched_text, replayed, text_of}
 use Rattle.machine.specs.Outcomes.{hart_outcome, outcome_of}
-use Rattle.shared_memory.specs.Replies.{reply_after, shared_after}
+use Rattle.machine.specs.Replies.{reply_after, shared_after}
 use Rattle.machine.specs.Run.{Config, Executes, HartSteps, RunsTo, StepsTo, after_request, fetched, fetched_by, with_hart}
 use Rattle.machine.specs.Represents.{Answers, IsThere, MachineView, Represents, RunsBoth, copies_after, copy_of, text_bytes}
-use Rattle.shared_memory.specs.SharedView.{Evicts, IsExact, RepresentsShared, SharedView, lines_shown}
+use Rattle.machine.specs.SharedView.{Evicts, IsExact, RepresentsShared, SharedView, lines_shown}
 use Rattle.clean_fence.specs.Rules.{PmView, SameSizes}
-use Rattle.shared_memory.proofs.Shown.{evicted_exact, evicted_shows, reply_stands, served_exact, served_shows}
+use Rattle.machine.proofs.Shown.{evicted_exact, evicted_shows, reply_stands, served_exact, served_shows}
 use Rattle.machine.proofs.Copying.{copied_more, text_there}
 
 -- one step as a run

@@ -6,19 +6,19 @@ use Rattle.std.proofs.lemmas.Option.{slice_get_past}
 use Rattle.hart.specs.declared.state.HartState.{HartState}
 use Rattle.hart.specs.declared.state.Status.{Status}
 use Rattle.hart.specs.declared.state.Status.TheVariants.{Running, Exited, Trapped}
-use Rattle.schedule.proofs.Places.{step_there}
-use Rattle.schedule.specs.Walks.{HaltsAt}
-use Rattle.schedule.specs.declared.place.Place.{Place}
-use Rattle.schedule.specs.declared.items.Item.{Item}
-use Rattle.schedule.specs.declared.items.Step.{Step}
-use Rattle.schedule.specs.declared.items.Step.TheVariants.{Hart}
+use Rattle.machine.proofs.Places.{step_there}
+use Rattle.machine.specs.Walks.{HaltsAt}
+use Rattle.machine.specs.declared.schedule.place.Place.{Place}
+use Rattle.machine.specs.declared.schedule.items.Item.{Item}
+use Rattle.machine.specs.declared.schedule.items.Step.{Step}
+use Rattle.machine.specs.declared.schedule.items.Step.TheVariants.{Hart}
 use Rattle.machine.specs.Run.{Config, HartSteps, HartStepsIfThere, RunsTo}
 use Rattle.machine.specs.Represents.{IsThere, MachineView, Runs, RunsBoth, RunsExactly}
 use Rattle.machine.specs.Stops.{StopsAt, has_stopped, is_stopped}
 use Rattle.machine.specs.Refusals.{IsRefused}
-use Rattle.schedule.specs.Places.{steps_before}
+use Rattle.machine.specs.Places.{steps_before}
 pub use Rattle.machine.specs.RunLaws.{runs_more, runs_none}
-use Rattle.shared_memory.specs.declared.fault.StepFault.{StepFault}
+use Rattle.machine.specs.declared.shared_memory.fault.StepFault.{StepFault}
 
 -- a hart that stopped makes no step
 rests : (c : Config) (h : ℕ) (s : HartState) (status : Status) → has_stopped status ≡ true → HartSteps c h s status c

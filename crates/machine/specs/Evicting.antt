@@ -1,9 +1,9 @@
 -- Runs that differ in their evictions alone.
 use Rattle.std.specs.Prelude.{◌≡◌, List, Bool, true, false, filter}
-use Rattle.shared_memory.specs.declared.history.Entry.{Entry}
-use Rattle.shared_memory.specs.declared.history.Entry.TheVariants.{Asked, Evicted}
-use Rattle.schedule.specs.declared.items.Step.{Step}
-use Rattle.schedule.specs.declared.items.Step.TheVariants.{Hart, Evict}
+use Rattle.machine.specs.declared.shared_memory.history.Entry.{Entry}
+use Rattle.machine.specs.declared.shared_memory.history.Entry.TheVariants.{Asked, Evicted}
+use Rattle.machine.specs.declared.schedule.items.Step.{Step}
+use Rattle.machine.specs.declared.schedule.items.Step.TheVariants.{Hart, Evict}
 use Rattle.machine.specs.Run.{Config}
 
 -- the hart steps of a list of steps, in order, without its evictions

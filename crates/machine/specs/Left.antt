@@ -1,7 +1,7 @@
 -- What a power cut leaves at the end of a run, at any capacity of the cache.
 use Rattle.std.specs.Prelude.{◌≡◌, ℕ, List}
-use Rattle.schedule.specs.declared.items.Step.{Step}
-use Rattle.shared_memory.specs.Cached.{medium_left}
+use Rattle.machine.specs.declared.schedule.items.Step.{Step}
+use Rattle.machine.specs.Cached.{medium_left}
 use Rattle.machine.specs.Run.{Config, RunsTo}
 
 -- these lines are what the run from c by these steps leaves: the medium behind the one cache of this capacity that all of its

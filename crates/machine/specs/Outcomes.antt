@@ -7,11 +7,11 @@ use Rattle.hart.specs.declared.need.Need.TheVariants.{Ask}
 use Rattle.hart.specs.declared.need.Request.{Request}
 use Rattle.machine.specs.declared.machine.Outcome.{Outcome}
 use Rattle.machine.specs.declared.machine.Outcome.TheVariants.{Done, Exited, Trapped, Stopped}
-use Rattle.schedule.specs.declared.items.Step.{Step}
-use Rattle.schedule.specs.declared.items.Step.TheVariants.{Hart, Evict}
-use Rattle.shared_memory.specs.Replies.{events_of}
+use Rattle.machine.specs.declared.schedule.items.Step.{Step}
+use Rattle.machine.specs.declared.schedule.items.Step.TheVariants.{Hart, Evict}
+use Rattle.machine.specs.Replies.{events_of}
 use Rattle.machine.specs.Represents.{IsRunning, MachineView, NeedsAt}
-use Rattle.shared_memory.specs.SharedView.{reply_to}
+use Rattle.machine.specs.SharedView.{reply_to}
 
 -- by a hart's status after a step that it made
 abbrev pub outcome_of : Status → Outcome

@@ -10,8 +10,8 @@ use Rattle.isa_table.specs.declared.instruction.Instr.{Instr}
 use Rattle.line_memory.specs.Memory.{Memory}
 use Rattle.machine.specs.Run.{Config, RunsTo, fetched}
 use Rattle.machine.specs.Represents.{Answers, IsRunning, MachineView, Represents}
-use Rattle.schedule.specs.declared.items.Step.TheVariants.{Hart}
-use Rattle.shared_memory.specs.SharedView.{SharedView}
+use Rattle.machine.specs.declared.schedule.items.Step.TheVariants.{Hart}
+use Rattle.machine.specs.SharedView.{SharedView}
 
 -- hart h runs before each of so many steps of its own
 abbrev pub RunsBeforeEach : MachineView → ℕ → ℕ → Type 0

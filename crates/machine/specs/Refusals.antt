@@ -1,9 +1,9 @@
 -- Why a step is refused.
 use Rattle.std.specs.Prelude.{◌≡◌, ◌<◌, ◌≤◌, Option, Some, None, length}
-use Rattle.shared_memory.specs.declared.fault.StepFault.{StepFault}
-use Rattle.shared_memory.specs.declared.fault.StepFault.TheVariants.{NoSuchHart, NoSuchLine, TraceFull, Memory, OutOfLimits}
-use Rattle.schedule.specs.declared.items.Step.{Step}
-use Rattle.schedule.specs.declared.items.Step.TheVariants.{Hart, Evict}
+use Rattle.machine.specs.declared.shared_memory.fault.StepFault.{StepFault}
+use Rattle.machine.specs.declared.shared_memory.fault.StepFault.TheVariants.{NoSuchHart, NoSuchLine, TraceFull, Memory, OutOfLimits}
+use Rattle.machine.specs.declared.schedule.items.Step.{Step}
+use Rattle.machine.specs.declared.schedule.items.Step.TheVariants.{Hart, Evict}
 use Rattle.machine.specs.Outcomes.{MakesEvent}
 use Rattle.machine.specs.Represents.{MachineView}
 

@@ -11,11 +11,11 @@ use Rattle.hart.specs.declared.need.Need.{Need}
 use Rattle.hart.specs.declared.need.Request.{Request}
 use Rattle.hart.specs.declared.state.Status.TheVariants.{Running}
 use Rattle.hart.specs.declared.need.Reply.{Reply}
-use Rattle.schedule.specs.declared.items.Step.{Step}
-use Rattle.schedule.specs.declared.items.Step.TheVariants.{Hart, Evict}
-use Rattle.shared_memory.specs.Histories.{fetched_text, is_renewing}
+use Rattle.machine.specs.declared.schedule.items.Step.{Step}
+use Rattle.machine.specs.declared.schedule.items.Step.TheVariants.{Hart, Evict}
+use Rattle.machine.specs.Histories.{fetched_text, is_renewing}
 use Rattle.machine.specs.Run.{Config, RunsTo, fetched}
-use Rattle.shared_memory.specs.SharedView.{IsExact, RepresentsShared, Serves, SharedView}
+use Rattle.machine.specs.SharedView.{IsExact, RepresentsShared, Serves, SharedView}
 
 -- what a contract sees of a machine: the harts, the text that each of them fetches, and what they share
 pub record MachineView : Type 0 where

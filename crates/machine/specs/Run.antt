@@ -15,11 +15,11 @@ use Rattle.hart.specs.declared.need.Need.TheVariants.{Local, Ask, Stop}
 use Rattle.hart.specs.declared.need.Request.{Request}
 use Rattle.hart.specs.Effect.{answered, start}
 use Rattle.hart.specs.Needs.{IsSpelledBy, Needs}
-use Rattle.shared_memory.specs.declared.history.Entry.TheVariants.{Evicted}
-use Rattle.schedule.specs.declared.items.Step.{Step}
-use Rattle.schedule.specs.declared.items.Step.TheVariants.{Hart, Evict}
-use Rattle.shared_memory.specs.Histories.{fetched_text}
-use Rattle.shared_memory.specs.Replies.{SharedState, reply_after, shared_after, shared_at_start}
+use Rattle.machine.specs.declared.shared_memory.history.Entry.TheVariants.{Evicted}
+use Rattle.machine.specs.declared.schedule.items.Step.{Step}
+use Rattle.machine.specs.declared.schedule.items.Step.TheVariants.{Hart, Evict}
+use Rattle.machine.specs.Histories.{fetched_text}
+use Rattle.machine.specs.Replies.{SharedState, reply_after, shared_after, shared_at_start}
 
 -- all that a run changes: the harts, by their number, and what they share
 pub record Config : Type 0 where

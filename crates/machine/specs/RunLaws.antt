@@ -1,8 +1,8 @@
 -- Runs of no step, and of steps after steps.
 use Rattle.std.proofs.Common.{◌≡◌, List, [], ◌∷◌, ◌++◌, length, All, refl, ◌∙◌}
 use Rattle.std.proofs.lemmas.List.Elements.{All-append, All-nil}
-use Rattle.schedule.specs.declared.items.Step.{Step}
-use Rattle.schedule.specs.declared.items.Step.TheVariants.{Hart, Evict}
+use Rattle.machine.specs.declared.schedule.items.Step.{Step}
+use Rattle.machine.specs.declared.schedule.items.Step.TheVariants.{Hart, Evict}
 use Rattle.machine.specs.Run.{Config, RunsTo}
 use Rattle.machine.specs.Represents.{IsThere, MachineView, Runs, RunsBoth, RunsExactly}
 

@@ -1,7 +1,7 @@
 -- What a step does that is made.
 use Rattle.std.specs.Prelude.{◌≡◌, ◌+◌, [], ◌∷◌, length}
 use Rattle.machine.specs.declared.machine.Outcome.{Outcome}
-use Rattle.schedule.specs.declared.items.Step.{Step}
+use Rattle.machine.specs.declared.schedule.items.Step.{Step}
 use Rattle.machine.specs.Outcomes.{MakesEvent, outcome_after}
 use Rattle.machine.specs.Represents.{MachineView, Runs, RunsExactly}
 

@@ -4,9 +4,9 @@ use Rattle.hart.specs.declared.state.HartState.{HartState}
 use Rattle.hart.specs.declared.state.Status.{Status}
 use Rattle.hart.specs.declared.state.Status.TheVariants.{Running, Exited, Trapped}
 use Rattle.machine.specs.declared.fault.RunStop.{RunStop}
-use Rattle.schedule.specs.declared.items.Item.{Item}
+use Rattle.machine.specs.declared.schedule.items.Item.{Item}
 use Rattle.machine.specs.Refusals.{RefusesNext}
-use Rattle.schedule.specs.Places.{steps_before, steps_of_item}
+use Rattle.machine.specs.Places.{steps_before, steps_of_item}
 use Rattle.machine.specs.Represents.{MachineView, Runs}
 
 -- a run that was refused a step: that step is there, those before it stand, and the machine as they left it refuses it

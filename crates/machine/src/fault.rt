@@ -1,7 +1,7 @@
 //! Where a run is refused a step.
 
-use schedule::{Halted, Place};
-use shared_memory::StepFault;
+use crate::schedule::{Halted, Place};
+use crate::shared_memory::StepFault;
 use thiserror::Error;
 
 /// Where a run stopped. The steps before it stand.

@@ -1,14 +1,14 @@
 //! The laws of runs, each as the contract of a function with an empty body: a caller has the law as what that
 //! call ensures.
 
-ghost use Rattle.shared_memory.specs.Replies.{trace_in};
+ghost use Rattle.machine.specs.Replies.{trace_in};
 ghost use Rattle.machine.specs.Evicting.{AreAlike, hart_steps};
 ghost use Rattle.machine.specs.Refusals.{Refuses};
 ghost use Rattle.machine.specs.Run.{Config, RunsTo, StepsTo};
 ghost use Rattle.machine.specs.Outcomes.{MakesEvent};
 ghost use Rattle.machine.specs.Represents.{MachineView, Represents};
-ghost use Rattle.shared_memory.specs.declared.fault.StepFault.{StepFault};
-ghost use Rattle.schedule.specs.declared.items.Step.{Step};
+ghost use Rattle.machine.specs.declared.shared_memory.fault.StepFault.{StepFault};
+ghost use Rattle.machine.specs.declared.schedule.items.Step.{Step};
 ghost use Rattle.store_trace.specs.declared.event.Event.{Event};
 ghost use Rattle.std.specs.Prelude.{◌≡◌, ◌+◌, ◌≤◌, ◌++◌, List, length};
 

@@ -5,7 +5,11 @@ mod fault;
 mod laws;
 mod machine;
 mod quiet_steps;
+mod recording;
+mod run_trace;
 mod running;
+mod schedule;
+mod shared_memory;
 mod text_copy;
 
 pub use fault::RunStop;
@@ -14,6 +18,10 @@ pub use laws::{
     run_is_determined, trace_grows,
 };
 pub use machine::{Machine, Outcome};
-pub use schedule::{Item, Place, Schedule, Step};
-pub use shared_memory::{Entry, Shared, StepFault};
+pub use recording::{Recorded, Run, Setup, record, record_alone};
+pub use run_trace::{
+    TracedAlone, TracedEvent, TracedMachine, trace_alone, trace_run, traced_run_is_run,
+};
+pub use schedule::{Halted, Item, Place, Schedule, ScheduleFault, Step, Stepper, next_step, walk};
+pub use shared_memory::{Entry, MAX_CAPACITY, MAX_HARTS, Shared, StepFault, check_limits};
 pub use text_copy::TextCopy;

@@ -1,14 +1,14 @@
 //! A machine of one to eight harts, and one step of it.
 
 ghost use Rattle.std.specs.Prelude.{◌≡◌, ◌<◌, ◌≤◌, ◌↔◌, ℕ, List, [], Some, length, replicate, slice_get, map, IfOk, IfErr, OnOk, OnErr, All};
-ghost use Rattle.crash_model.specs.Cut.{IsCutImage};
-ghost use Rattle.crash_model.specs.Image.{image};
-ghost use Rattle.crash_model.specs.WrittenBack.{write_back_state};
+ghost use Rattle.store_trace.specs.Cut.{IsCutImage};
+ghost use Rattle.store_trace.specs.Image.{image};
+ghost use Rattle.store_trace.specs.WrittenBack.{write_back_state};
 ghost use Rattle.store_trace.specs.History.{history};
 ghost use Rattle.clean_fence.specs.Represents.{AreAmong};
-ghost use Rattle.shared_memory.specs.Replies.{trace_in};
-ghost use Rattle.shared_memory.specs.Cached.{medium_left};
-ghost use Rattle.shared_memory.specs.Persisted.{persisted, touched};
+ghost use Rattle.machine.specs.Replies.{trace_in};
+ghost use Rattle.machine.specs.Cached.{medium_left};
+ghost use Rattle.machine.specs.Persisted.{persisted, touched};
 ghost use Rattle.hart.specs.Effect.{start};
 ghost use Rattle.hart.specs.Needs.{IsInstruction};
 ghost use Rattle.hart.specs.Requests.{IsRequest};
@@ -16,21 +16,21 @@ ghost use Rattle.std.specs.List.{range_with_len};
 ghost use Rattle.store_trace.specs.TraceView.{NamesLine};
 ghost use Rattle.machine.specs.Outcomes.{MakesEvent, outcome_of};
 ghost use Rattle.machine.specs.Refusals.{LacksHart, LacksLine, Refuses};
-ghost use Rattle.shared_memory.specs.Limits.{AreWithinLimits, RefusesStart};
-ghost use Rattle.shared_memory.specs.Refusals.{RefusesRequest};
+ghost use Rattle.machine.specs.Limits.{AreWithinLimits, RefusesStart};
+ghost use Rattle.machine.specs.SharedMemoryRefusals.{RefusesRequest};
 ghost use Rattle.machine.specs.Run.{Config, fetched as fetched_from, started};
 ghost use Rattle.machine.specs.Stepped.{HasStepped};
 ghost use Rattle.machine.specs.Stops.{is_stopped};
 ghost use Rattle.machine.specs.Represents.{Answers, IsRunning, NeedsAt, Represents, RepresentsExactly, copy_of};
-ghost use Rattle.shared_memory.specs.SharedView.{Evicts, memory_of};
+ghost use Rattle.machine.specs.SharedView.{Evicts, memory_of};
 
+use crate::schedule::Step;
+use crate::shared_memory::{Shared, StepFault};
 use crate::text_copy::{TextCopy, renew_after, starting_copies};
 use hart::{Advance, HartState, Need, Request, Status, Trap, advance, next, resume};
 use isa_table::Instr;
 use line_memory::Medium;
 use program::Program;
-use schedule::Step;
-use shared_memory::{Shared, StepFault};
 use std::alloc::Global;
 use std::marker::Model;
 use store_trace::{Event, Trace};
@@ -290,7 +290,7 @@ impl Machine {
 }
 
 /// Has a request served, and tells the hart the reply. A refusal leaves both as they were. A load goes by the shortest way.
-#[tactic(auto, using(shared_memory::proofs::Naming::served_named))]
+#[tactic(auto, using(crate::proofs::Naming::served_named))]
 #[inline(always)]
 fn ask(
     shared: &mut Shared,
@@ -319,7 +319,7 @@ fn ask(
 }
 
 /// The same for any request.
-#[tactic(auto, using(shared_memory::proofs::Naming::served_named))]
+#[tactic(auto, using(crate::proofs::Naming::served_named))]
 fn ask_any(
     shared: &mut Shared,
     hart: u32,
@@ -341,7 +341,7 @@ fn ask_any(
     Ok(())
 }
 
-#[tactic(auto, using(shared_memory::proofs::Naming::evicted_named))]
+#[tactic(auto, using(crate::proofs::Naming::evicted_named))]
 fn evict_line(shared: &mut Shared, line: u32) -> Result<(), StepFault>
     requires named { All (NamesLine (length shared.old.cache.lines)) shared.old.trace }
     ensures ok { OnOk result (Evicts shared.old shared.new line) }

@@ -6,11 +6,11 @@ ghost use Rattle.machine.specs.QuietSteps.{AreQuietSteps, RunsBeforeEach, is_loa
 ghost use Rattle.machine.specs.Represents.{Answers, RunsBoth, text_bytes};
 
 use crate::machine::Machine;
+use crate::schedule::Step;
+use crate::shared_memory::Shared;
 use crate::text_copy::TextCopy;
 use hart::{Advance, HartState, Request, Status, advance, resume};
 use isa_table::Instr;
-use schedule::Step;
-use shared_memory::Shared;
 
 impl Machine {
     /// Makes the next instructions of a hart up to the first that asks more of memory than a load or traps by itself, but so many at

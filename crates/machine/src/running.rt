@@ -1,15 +1,15 @@
 //! Runs of a schedule.
 
 ghost use Rattle.std.specs.Prelude.{OnOk, IfErr};
-ghost use Rattle.schedule.specs.Places.{steps_before};
-ghost use Rattle.schedule.specs.Steps.{all_steps};
+ghost use Rattle.machine.specs.Places.{steps_before};
+ghost use Rattle.machine.specs.Steps.{all_steps};
 ghost use Rattle.machine.specs.Represents.{Runs, RunsExactly};
 ghost use Rattle.machine.specs.Stops.{StopsAt};
 
 use crate::fault::RunStop;
 use crate::machine::Machine;
-use schedule::{Place, Schedule, Step, Stepper, walk};
-use shared_memory::StepFault;
+use crate::schedule::{Place, Schedule, Step, Stepper, walk};
+use crate::shared_memory::StepFault;
 
 impl Stepper for Machine {
     ghost use Rattle.machine.specs.RunLaws.{both_more, both_none};

@@ -8,11 +8,11 @@ ghost use Rattle.machine.specs.Run.{fetched};
 ghost use Rattle.machine.specs.Represents.{copies_after, text_bytes};
 ghost use Rattle.word_bits.specs.Bytes.{loaded};
 
+use crate::shared_memory::StepFault;
 use byteorder::{ByteOrder, LittleEndian};
 use hart::{Request, Trap, instruction};
 use isa_table::Instr;
 use line_memory::{LINE_SIZE, TEXT_BASE, TEXT_SIZE};
-use shared_memory::StepFault;
 use std::alloc::Global;
 use std::marker::Model;
 

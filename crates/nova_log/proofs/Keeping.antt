@@ -13,8 +13,8 @@ use Rattle.nova_log.proofs.Questions.{items_mapped}
 use Rattle.nova_log.specs.declared.inode.Inode.{Inode}
 use Rattle.nova_log.specs.declared.kept.LogReading.{LogReading}
 use Rattle.nova_log.specs.declared.superblock.Geometry.{Geometry}
-use Rattle.volume.specs.declared.entry.Entry.{Entry}
-use Rattle.volume.specs.Logs.{log_of}
+use Rattle.nova_log.specs.declared.volume.entry.Entry.{Entry}
+use Rattle.nova_log.specs.Logs.{log_of}
 
 pub each_one : (P : ℕ → Type 0) (xs : List ℕ) → ((k : ℕ) → k < length xs → P (get_or xs k 0)) → AllByRecursion P xs
 each_one P [] h = tt

@@ -10,3 +10,17 @@ pub mod Tracking
 pub mod Volumes
 pub mod Walks
 pub mod Wholes
+pub mod Names
+pub mod Again
+pub mod LogUpgradeChains
+pub mod Faults
+pub mod Making
+pub mod Numbers
+pub mod Places
+pub mod Recovered
+pub mod Room
+pub mod Sound
+pub mod StoredEntries
+pub mod Upgrading
+pub mod Writing
+pub mod WrittenLines

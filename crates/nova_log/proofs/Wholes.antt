@@ -15,7 +15,7 @@ use Rattle.nova_log.proofs.Questions.{stopped_first, stopped_second, through_bot
 use Rattle.nova_log.specs.declared.fault.VolumeFault.{VolumeFault}
 use Rattle.nova_log.specs.declared.inode.Inode.{Inode}
 use Rattle.nova_log.specs.declared.superblock.Geometry.{Geometry}
-use Rattle.volume.specs.declared.entry.Entry.{Entry}
+use Rattle.nova_log.specs.declared.volume.entry.Entry.{Entry}
 
 -- an inode with its effective tail
 pub inode_made : (m : List (List ℕ)) (journals n tail : ℕ) (own : Inode) (restored : List (Option ℕ)) →

@@ -5,9 +5,9 @@ use Rattle.word_bits.specs.Bytes.{loaded}
 use Rattle.nova_log.specs.Questions.{Question, question}
 use Rattle.nova_log.specs.declared.fault.VolumeFault.{VolumeFault}
 use Rattle.nova_log.specs.declared.fault.VolumeFault.TheVariants.{Kind, Name}
-use Rattle.volume.specs.declared.entry.Entry.{Entry}
-use Rattle.volume.specs.declared.entry.EntryKind.{EntryKind}
-use Rattle.volume.specs.declared.entry.EntryKind.TheVariants.{Write, AddName, RemoveName}
+use Rattle.nova_log.specs.declared.volume.entry.Entry.{Entry}
+use Rattle.nova_log.specs.declared.volume.entry.EntryKind.{EntryKind}
+use Rattle.nova_log.specs.declared.volume.entry.EntryKind.TheVariants.{Write, AddName, RemoveName}
 
 -- the kind of a number from 1 to 3
 abbrev pub kind_of : ℕ → EntryKind

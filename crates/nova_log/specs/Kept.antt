@@ -7,8 +7,8 @@ use Rattle.nova_log.specs.Volumes.{log_in, log_questions}
 use Rattle.nova_log.specs.declared.kept.KeptVolume.{KeptVolume}
 use Rattle.nova_log.specs.declared.kept.LogReading.{LogReading}
 use Rattle.nova_log.specs.declared.superblock.Geometry.{Geometry}
-use Rattle.volume.specs.declared.entry.Entry.{Entry}
-use Rattle.volume.specs.Logs.{log_of}
+use Rattle.nova_log.specs.declared.volume.entry.Entry.{Entry}
+use Rattle.nova_log.specs.Logs.{log_of}
 
 -- media of one size that have the same bytes in these lines
 pub record AreAlikeAt (fixed : ℕ → Type 0) (medium other : List (List ℕ)) : Type 0 where

@@ -11,3 +11,8 @@ pub mod Sources
 pub mod Superblocks
 pub mod Volumes
 pub mod Walks
+pub mod Logs
+pub mod Stored
+pub mod Parts
+pub mod Upgraded
+pub mod Written

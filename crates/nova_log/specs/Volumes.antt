@@ -11,7 +11,7 @@ use Rattle.nova_log.specs.Superblocks.{geometry_of, superblock_question}
 use Rattle.nova_log.specs.declared.fault.VolumeFault.{VolumeFault}
 use Rattle.nova_log.specs.declared.inode.Inode.{Inode}
 use Rattle.nova_log.specs.declared.superblock.Geometry.{Geometry}
-use Rattle.volume.specs.declared.entry.Entry.{Entry}
+use Rattle.nova_log.specs.declared.volume.entry.Entry.{Entry}
 
 -- the positions of the entries of an inode's log, in order
 abbrev pub positions_of : Geometry → List (List ℕ) → Inode → List ℕ

@@ -7,9 +7,9 @@ ghost use Rattle.nova_log.specs.Questions.{IsStopped, IsThrough};
 
 use crate::VolumeFault;
 use crate::source::LineSource;
+use crate::volume::{Entry, EntryKind, Log, Name};
 use line_memory::{LINE_SIZE, load_bytes};
 use std::alloc::Global;
-use volume::{Entry, EntryKind, Log, Name};
 use word_bits::replace_bytes;
 
 /// Where the name begins in an entry.

@@ -13,9 +13,9 @@ use crate::journal::read_journals;
 use crate::recovery::read_log;
 use crate::source::LineSource;
 use crate::superblock::{Geometry, read_superblock};
+use crate::volume::{Log, Volume};
 use crate::{Layout, VolumeFault};
 use std::alloc::{AllocError, Global};
-use volume::{Log, Volume};
 
 /// Which lines are the same on each of several media.
 pub trait FixedLines {

@@ -14,9 +14,9 @@ use crate::inode::{Inode, read_inodes};
 use crate::journal::read_journals;
 use crate::source::{LineSource, MediumLines};
 use crate::superblock::{Geometry, read_superblock};
+use crate::volume::{Log, Volume};
 use line_memory::Medium;
 use std::alloc::Global;
-use volume::{Log, Volume};
 
 /// The volume of a medium, in either layout.
 ///

@@ -1,8 +1,8 @@
 -- The entries that an operation plans, each with the inode to whose log it goes.
 -- Source: NOVA, FAST 2016: an append goes to one inode's log, a rename to two.
 use Rattle.std.specs.Prelude.{ℕ, List, [], ◌∷◌}
-use Rattle.volume.specs.declared.entry.EntryKind.{EntryKind}
-use Rattle.volume.specs.declared.entry.EntryKind.TheVariants as kind
+use Rattle.nova_log.specs.declared.volume.entry.EntryKind.{EntryKind}
+use Rattle.nova_log.specs.declared.volume.entry.EntryKind.TheVariants as kind
 use Rattle.plan.specs.declared.operation.Action.{Action}
 use Rattle.plan.specs.declared.operation.Action.TheVariants.{Append, Rename}
 use Rattle.plan.specs.declared.operation.Operation.{Operation}

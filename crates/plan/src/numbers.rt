@@ -8,11 +8,10 @@ ghost use Rattle.plan.specs.Plans.{is_name_byte};
 ghost use Rattle.plan.specs.Worded.{BeginsInode, BeginsWide, HoldsName};
 ghost use Rattle.nova_log.specs.declared.layout.Layout.{Layout as ALayout};
 
-use nova_log::Layout;
+use nova_log::{Layout, Name};
 use text::{
     Blanks, after_keyword, decimal, decimal_within, first_word, number_in, only_word, wide_decimal,
 };
-use volume::Name;
 
 /// The most bytes of a name under any layout.
 const LONGEST_NAME: usize = 96;

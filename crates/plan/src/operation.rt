@@ -4,7 +4,7 @@ ghost use Rattle.std.specs.Prelude.{◌≡◌, ◌∷◌};
 ghost use Rattle.std.specs.Option.{option_to_list};
 ghost use Rattle.plan.specs.Entries.{entries_of, entry};
 
-use volume::{Entry, EntryKind, Name};
+use nova_log::{Entry, EntryKind, Name};
 
 /// What an operation does. Inodes are named by their numbers from 0.
 #[derive(Clone, Copy, Debug, PartialEq, Eq)]

@@ -8,8 +8,8 @@ ghost use Rattle.plan.specs.declared.operation.Action.{Action as AnAction};
 ghost use Rattle.plan.specs.declared.operation.Operation.{Operation as AnOperation};
 
 use crate::numbers::{after_inode, after_number, name};
+use nova_log::Name;
 use text::{Blanks, after_keyword, first_word, is_blank};
-use volume::Name;
 
 /// What an operation does. None stands for an inode's number past 32 bits, and for a name that is none.
 #[derive(Clone, Copy)]

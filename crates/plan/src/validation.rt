@@ -7,8 +7,7 @@ ghost use Rattle.plan.specs.Worded.{Allows, Forbids, HoldsInode, HoldsName};
 use crate::fault::PlanCode;
 use crate::operation::Action;
 use crate::operation_line::WordedAction;
-use nova_log::Layout;
-use volume::Name;
+use nova_log::{Layout, Name};
 
 /// An inode that is there.
 #[tactic(auto, using(crate::proofs::Judgements::inode_there, crate::proofs::Judgements::inode_high, crate::proofs::Judgements::inode_missing))]

@@ -2,3 +2,13 @@ pub mod Serving
 pub mod Stepping
 pub mod Running
 pub mod Resting
+pub mod Starting
+pub mod Placing
+pub mod Holding
+pub mod Memories
+pub mod Replies
+pub mod Following
+pub mod Runs
+pub mod Answering
+pub mod Limited
+pub mod Imaged

@@ -7,13 +7,13 @@ use Rattle.line_memory.specs.Memory.{Memory}
 use Rattle.line_memory.specs.Regions.{padded}
 use Rattle.line_memory.specs.declared.TheConstants.{DATA_SIZE, TEXT_SIZE}
 use Rattle.program.specs.Sections.{Sections}
-use Rattle.shared_memory.specs.Histories.{text_of}
-use Rattle.shared_memory.specs.Replies.{starting_memory}
+use Rattle.machine.specs.Histories.{text_of}
+use Rattle.machine.specs.Replies.{starting_memory}
 use Rattle.machine.specs.Run.{Config, started}
 use Rattle.machine.specs.Represents.{text_bytes}
 use Rattle.machine.proofs.Copying.{text_there}
-use Rattle.recovery_run.specs.declared.Cause.{Cause}
-use Rattle.recovery_run.specs.Answers.{answer, byte_list, bytes_from}
+use Rattle.recovery.specs.declared.recovery_run.Cause.{Cause}
+use Rattle.recovery.specs.Answers.{answer, byte_list, bytes_from}
 use Rattle.recovery.specs.Engine.{Comes, Represents, ending}
 use Rattle.recovery.specs.Routine.{IsAtRest, Recovers}
 use Rattle.recovery.specs.declared.engine.Engine.{Engine}

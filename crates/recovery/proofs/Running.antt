@@ -2,12 +2,12 @@
 use Rattle.std.proofs.Common.{◌≡◌, ℕ, zero, suc, ◌+◌, ◌-◌, ◌<◌, ◌≤◌, List, Bool, true, false, Some, length, slice_get, refl, ◌∙◌, inl, inr, arith}
 use Rattle.hart.specs.declared.state.Status.{Status}
 use Rattle.hart.specs.declared.state.Status.TheVariants.{Running, Exited, Trapped}
-use Rattle.schedule.specs.declared.items.Step.TheVariants.{Hart}
-use Rattle.shared_memory.specs.Replies.{trace_in}
+use Rattle.machine.specs.declared.schedule.items.Step.TheVariants.{Hart}
+use Rattle.machine.specs.Replies.{trace_in}
 use Rattle.machine.specs.Run.{Config, StepsTo}
 use Rattle.machine.specs.Stops.{has_stopped}
-use Rattle.recovery_run.specs.Recovery.{RunsFor}
-use Rattle.recovery_run.proofs.Limited.{goes_on, stays}
+use Rattle.recovery.specs.Recovery.{RunsFor}
+use Rattle.recovery.proofs.Limited.{goes_on, stays}
 use Rattle.recovery.specs.Engine.{Goes, IsKept, Runs}
 use Rattle.recovery.specs.declared.engine.Engine.{Engine}
 

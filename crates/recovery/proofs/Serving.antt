@@ -9,10 +9,10 @@ use Rattle.line_memory.specs.declared.MemFault.TheVariants as faults
 use Rattle.line_memory.specs.declared.TheConstants.{PERSISTENT_BASE}
 use Rattle.store_trace.specs.declared.event.Event.{Event}
 use Rattle.store_trace.specs.declared.event.Event.TheVariants as events
-use Rattle.shared_memory.specs.Replies.{events_of, if_persistent, line_of, offset_of}
-use Rattle.held_memory.specs.declared.memory.Place.{Place}
-use Rattle.held_memory.specs.declared.memory.Place.TheVariants.{Text, Data, Image}
-use Rattle.held_memory.specs.Memory.{HeldView, IsWithin, address_of, memory_of}
+use Rattle.machine.specs.Replies.{events_of, if_persistent, line_of, offset_of}
+use Rattle.recovery.specs.declared.overlay_memory.memory.Place.{Place}
+use Rattle.recovery.specs.declared.overlay_memory.memory.Place.TheVariants.{Text, Data, Image}
+use Rattle.recovery.specs.Memory.{HeldView, IsWithin, address_of, memory_of}
 use Rattle.recovery.specs.World.{IsTooMany, WorldView, event_count, reply_to}
 
 -- an access that can be made finds a number

@@ -15,18 +15,18 @@ use Rattle.hart.specs.declared.need.Request.{Request}
 use Rattle.line_memory.specs.Memory.{Memory}
 use Rattle.line_memory.specs.Regions.{region}
 use Rattle.line_memory.specs.declared.TheConstants.{TEXT_BASE, TEXT_SIZE}
-use Rattle.schedule.specs.declared.items.Step.TheVariants.{Hart}
-use Rattle.shared_memory.specs.declared.history.Entry.{Entry}
-use Rattle.shared_memory.specs.declared.history.Entry.TheVariants.{Asked}
-use Rattle.shared_memory.specs.Histories.{calls_of, fetched_text, has_reserved, is_renewing, memory_after, replayed, text_of}
-use Rattle.shared_memory.specs.Replies.{events_of, memory_in, reply_after, trace_in}
+use Rattle.machine.specs.declared.schedule.items.Step.TheVariants.{Hart}
+use Rattle.machine.specs.declared.shared_memory.history.Entry.{Entry}
+use Rattle.machine.specs.declared.shared_memory.history.Entry.TheVariants.{Asked}
+use Rattle.machine.specs.Histories.{calls_of, fetched_text, has_reserved, is_renewing, memory_after, replayed, text_of}
+use Rattle.machine.specs.Replies.{events_of, memory_in, reply_after, trace_in}
 use Rattle.machine.specs.Run.{Config, Executes, StepsTo, after_request, fetched, with_hart}
 use Rattle.machine.specs.Represents.{text_bytes}
 use Rattle.machine.proofs.Stepping.{hart_steps}
-use Rattle.held_memory.specs.Memory.{HeldView, memory_of}
-use Rattle.held_memory.specs.Regions.{bytes_of}
-use Rattle.held_memory.proofs.Placing.{text_byte}
-use Rattle.recovery_run.specs.Loading.{lines_loaded}
+use Rattle.recovery.specs.Memory.{HeldView, memory_of}
+use Rattle.recovery.specs.Regions.{bytes_of}
+use Rattle.recovery.proofs.Placing.{text_byte}
+use Rattle.recovery.specs.Loading.{lines_loaded}
 use Rattle.recovery.specs.Engine.{Answers, Goes, IsAsked, Represents}
 use Rattle.recovery.specs.Fetched.{FetchedView, Refetches}
 use Rattle.recovery.specs.World.{IsTooMany, Serves, is_line, reply_to}

@@ -4,17 +4,17 @@ use Rattle.isa_table.specs.declared.instruction.Instr.{Instr}
 use Rattle.hart.specs.Effect.{answered}
 use Rattle.hart.specs.declared.need.Reply.{Reply}
 use Rattle.hart.specs.declared.need.Request.{Request}
-use Rattle.schedule.specs.declared.items.Step.TheVariants.{Hart}
-use Rattle.shared_memory.specs.Replies.{memory_in, trace_in}
-use Rattle.shared_memory.specs.Histories.{calls_of, fetched_text}
+use Rattle.machine.specs.declared.schedule.items.Step.TheVariants.{Hart}
+use Rattle.machine.specs.Replies.{memory_in, trace_in}
+use Rattle.machine.specs.Histories.{calls_of, fetched_text}
 use Rattle.machine.specs.Run.{Config, StepsTo}
 use Rattle.machine.specs.Represents.{text_bytes}
-use Rattle.held_memory.specs.Memory.{IsSame, memory_of}
-use Rattle.recovery_run.specs.declared.Cause.{Cause}
-use Rattle.recovery_run.specs.declared.Cause.TheVariants.{Events}
-use Rattle.recovery_run.specs.Answers.{answer_by}
-use Rattle.recovery_run.specs.Loading.{loaded}
-use Rattle.recovery_run.specs.Recovery.{RunsFor}
+use Rattle.recovery.specs.Memory.{IsSame, memory_of}
+use Rattle.recovery.specs.declared.recovery_run.Cause.{Cause}
+use Rattle.recovery.specs.declared.recovery_run.Cause.TheVariants.{Events}
+use Rattle.recovery.specs.Answers.{answer_by}
+use Rattle.recovery.specs.Loading.{loaded}
+use Rattle.recovery.specs.Recovery.{RunsFor}
 use Rattle.recovery.specs.Fetched.{Refetches}
 use Rattle.recovery.specs.World.{Holds, IsTooMany, Serves}
 use Rattle.recovery.specs.declared.engine.Engine.{Engine}

@@ -2,9 +2,9 @@
 use Rattle.std.specs.Prelude.{◌≡◌, ◌<◌, ℕ, List, true, false, slice_get}
 use Rattle.line_memory.specs.declared.TheConstants.{TEXT_SIZE}
 use Rattle.hart.specs.declared.need.Request.{Request}
-use Rattle.shared_memory.specs.Histories.{is_renewing}
-use Rattle.held_memory.specs.Memory.{HeldView}
-use Rattle.held_memory.specs.Regions.{bytes_of}
+use Rattle.machine.specs.Histories.{is_renewing}
+use Rattle.recovery.specs.Memory.{HeldView}
+use Rattle.recovery.specs.Regions.{bytes_of}
 
 -- the bytes of the text region at the start, and as they are fetched
 pub record FetchedView : Type 0 where

@@ -2,3 +2,10 @@ pub mod World
 pub mod Fetched
 pub mod Engine
 pub mod Routine
+pub mod Regions
+pub mod Memory
+pub mod Held
+pub mod Loading
+pub mod Answers
+pub mod Recovery
+pub mod Images

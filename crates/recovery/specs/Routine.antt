@@ -3,11 +3,11 @@ use Rattle.std.specs.Prelude.{◌≡◌, ℕ, List, Bool, Result, length}
 use Rattle.line_memory.specs.declared.TheConstants.{TEXT_SIZE}
 use Rattle.program.specs.Sections.{Sections}
 use Rattle.machine.specs.Run.{Config, started}
-use Rattle.held_memory.specs.Memory.{IsAtStart}
-use Rattle.recovery_run.specs.declared.Cause.{Cause}
-use Rattle.recovery_run.specs.Answers.{answer}
-use Rattle.recovery_run.specs.Loading.{loaded}
-use Rattle.recovery_run.specs.Recovery.{RunsFor}
+use Rattle.recovery.specs.Memory.{IsAtStart}
+use Rattle.recovery.specs.declared.recovery_run.Cause.{Cause}
+use Rattle.recovery.specs.Answers.{answer}
+use Rattle.recovery.specs.Loading.{loaded}
+use Rattle.recovery.specs.Recovery.{RunsFor}
 use Rattle.recovery.specs.declared.engine.Engine.{Engine}
 
 -- what a contract sees of a routine: its program, how many lines its images have, and the lines that its last run loaded

@@ -6,11 +6,11 @@ use Rattle.hart.specs.declared.need.Request.{Request}
 use Rattle.hart.specs.declared.need.Reply.{Reply}
 use Rattle.hart.specs.declared.need.Reply.TheVariants.{Done}
 use Rattle.reservation.specs.Reserved.{Call, is_reserved}
-use Rattle.shared_memory.specs.declared.history.Entry.TheVariants.{Asked}
-use Rattle.shared_memory.specs.Histories.{calls_of, memory_after}
-use Rattle.shared_memory.specs.Replies.{events_of, replied}
-use Rattle.held_memory.specs.Memory.{HeldView, memory_of}
-use Rattle.recovery_run.specs.Loading.{lines_loaded}
+use Rattle.machine.specs.declared.shared_memory.history.Entry.TheVariants.{Asked}
+use Rattle.machine.specs.Histories.{calls_of, memory_after}
+use Rattle.machine.specs.Replies.{events_of, replied}
+use Rattle.recovery.specs.Memory.{HeldView, memory_of}
+use Rattle.recovery.specs.Loading.{lines_loaded}
 use Rattle.recovery.specs.declared.world.Served.{Served}
 use Rattle.recovery.specs.declared.world.Served.TheVariants.{Full, Replied}
 

@@ -3,14 +3,14 @@
 ghost use Rattle.std.specs.Prelude.{◌≡◌, ◌<◌, ◌≤◌, Bool, IfOk, OnErr};
 ghost use Rattle.hart.specs.Requests.{IsRequest};
 ghost use Rattle.hart.specs.declared.state.Status.{Status};
-ghost use Rattle.held_lines.specs.Held.{IsOver};
+ghost use Rattle.recovery.specs.Held.{IsOver};
 ghost use Rattle.machine.specs.Stops.{has_stopped};
 ghost use Rattle.recovery.specs.Engine.{Goes, IsAsked, IsKept, Runs};
 
 use crate::fetched::FetchedText;
+use crate::overlay::Source;
 use crate::world::{Served, World};
 use hart::{Advance, HartState, Request, Status, advance, resume};
-use held_memory::Source;
 use isa_table::Instr;
 use std::alloc::AllocError;
 

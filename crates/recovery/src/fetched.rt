@@ -5,7 +5,7 @@ ghost use Rattle.line_memory.specs.declared.TheConstants.{TEXT_SIZE};
 ghost use Rattle.hart.specs.Needs.{IsInstruction};
 ghost use Rattle.machine.specs.Run.{fetched};
 ghost use Rattle.machine.specs.Represents.{text_bytes};
-ghost use Rattle.shared_memory.specs.declared.fault.StepFault.{StepFault};
+ghost use Rattle.machine.specs.declared.shared_memory.fault.StepFault.{StepFault};
 ghost use Rattle.recovery.specs.Fetched.{Refetches};
 
 use crate::world::World;

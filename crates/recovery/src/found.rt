@@ -2,17 +2,17 @@
 
 ghost use Rattle.std.specs.Prelude.{◌≡◌, ◌+◌, ◌∷◌, ◌++◌, ◌<◌, ◌^◌, IfOk, OnOk};
 ghost use Rattle.hart.specs.Registers.{register};
-ghost use Rattle.held_lines.specs.Held.{IsOver};
-ghost use Rattle.held_memory.specs.Memory.{memory_of};
-ghost use Rattle.recovery_run.specs.Answers.{answer_at, byte_list, bytes_from};
+ghost use Rattle.recovery.specs.Held.{IsOver};
+ghost use Rattle.recovery.specs.Memory.{memory_of};
+ghost use Rattle.recovery.specs.Answers.{answer_at, byte_list, bytes_from};
 ghost use Rattle.recovery.specs.Engine.{Comes, IsKept, ending};
 
 use crate::engine::Engine;
+use crate::overlay::Source;
+use crate::recovery_run::Cause;
 use hart::{HartState, Status};
-use held_memory::Source;
 use isa_table::Reg;
 use line_memory::{DATA_BASE, DATA_SIZE};
-use recovery_run::Cause;
 use std::alloc::{AllocError, Global};
 use std::marker::Model;
 

@@ -8,10 +8,17 @@
 mod engine;
 mod fetched;
 mod found;
+mod overlay;
+mod overlay_memory;
+mod recovery_run;
 mod routine;
 mod world;
 
 pub use found::Answer;
-pub use held_memory::Source;
-pub use recovery_run::Cause;
+pub use overlay::{Held, Source};
+pub use overlay_memory::{HeldMemory, Place};
+pub use recovery_run::{
+    Cause, images_are_judged_by_branches, lines_loaded_decide, lines_loaded_decide_recovery,
+    lines_loaded_so_far_decide, recovery_has_parts, recovery_is_a_run,
+};
 pub use routine::Routine;

@@ -3,20 +3,20 @@
 ghost use Rattle.std.specs.Prelude.{◌≡◌, ◌<◌, All, length, IfOk, IfErr};
 ghost use Rattle.line_memory.specs.declared.MediumFault.{MediumFault};
 ghost use Rattle.machine.specs.Run.{started};
-ghost use Rattle.held_lines.specs.Held.{IsOver};
-ghost use Rattle.held_memory.specs.Memory.{IsAtStart};
+ghost use Rattle.recovery.specs.Held.{IsOver};
+ghost use Rattle.recovery.specs.Memory.{IsAtStart};
 ghost use Rattle.recovery.specs.Engine.{IsKept, Represents};
 ghost use Rattle.recovery.specs.Routine.{IsAtRest, Recovers};
 
 use crate::engine::Engine;
 use crate::fetched::FetchedText;
 use crate::found::Answer;
+use crate::overlay::Source;
+use crate::recovery_run::Cause;
 use crate::world::World;
 use hart::HartState;
-use held_memory::Source;
 use line_memory::MediumFault;
 use program::Program;
-use recovery_run::Cause;
 use std::alloc::{AllocError, Global};
 use std::marker::Model;
 

@@ -6,18 +6,19 @@ ghost use Rattle.line_memory.specs.declared.MediumFault.{MediumFault};
 ghost use Rattle.line_memory.specs.declared.TheConstants.{PERSISTENT_BASE, TEXT_SIZE};
 ghost use Rattle.hart.specs.Requests.{IsAtomicWidth, IsRequest};
 ghost use Rattle.hart.specs.declared.need.Request.{Request};
-ghost use Rattle.held_lines.specs.Held.{IsOver};
-ghost use Rattle.held_memory.specs.Memory.{IsAtStart, IsSame, IsWithin, address_of, memory_of};
-ghost use Rattle.shared_memory.specs.Persisted.{line_used};
-ghost use Rattle.shared_memory.specs.Replies.{access_fault, line_of};
-ghost use Rattle.held_memory.specs.Regions.{bytes_of};
+ghost use Rattle.recovery.specs.Held.{IsOver};
+ghost use Rattle.recovery.specs.Memory.{IsAtStart, IsSame, IsWithin, address_of, memory_of};
+ghost use Rattle.machine.specs.Persisted.{line_used};
+ghost use Rattle.machine.specs.Replies.{access_fault, line_of};
+ghost use Rattle.recovery.specs.Regions.{bytes_of};
 ghost use Rattle.isa_table.specs.declared.instruction.CacheOp.{CacheOp};
 ghost use Rattle.hart.specs.declared.need.Reply.{Reply};
 ghost use Rattle.recovery.specs.World.{IsNoted, IsServed, Serves, Writes, event_count, is_line};
 ghost use Rattle.recovery.specs.declared.world.Served.{Served};
 
+use crate::overlay::Source;
+use crate::overlay_memory::{HeldMemory, Place};
 use hart::{AccessFault, Reply, Request, amo_result};
-use held_memory::{HeldMemory, Place, Source};
 use isa_table::AtomicOp;
 use line_memory::{LINE_SIZE, MediumFault, MemFault, PERSISTENT_BASE};
 use program::Program;
@@ -25,7 +26,7 @@ use std::alloc::{AllocError, Global};
 use std::marker::Model;
 
 /// How many events a run may make.
-const MAX_EVENTS: u32 = 65_536;
+const MAX_EVENTS: u32 = store_trace::MAX_EVENTS as u32;
 
 /// What came of a request.
 #[derive(Clone, Copy, Debug, PartialEq, Eq)]

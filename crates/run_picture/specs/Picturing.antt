@@ -3,8 +3,8 @@ use Rattle.std.specs.Prelude.{ℕ, ◌<◌, ◌≤◌, List, Option, Some, None,
 use Rattle.crash_image.specs.Named.{IsNamed}
 use Rattle.crash_image.specs.declared.ImageFault.{ImageFault}
 use Rattle.crash_image.specs.declared.ImageFault.TheVariants.{NoSuchMoment, NotACut, Memory}
-use Rattle.crash_model.specs.declared.step.PersistenceStep.{PersistenceStep}
-use Rattle.image_name.specs.declared.name.ImageName.{ImageName}
+use Rattle.store_trace.specs.declared.crash_model.step.PersistenceStep.{PersistenceStep}
+use Rattle.text.specs.declared.image_name.name.ImageName.{ImageName}
 use Rattle.store_trace.specs.History.{at_moment}
 use Rattle.store_trace.specs.declared.event.Event.{Event}
 

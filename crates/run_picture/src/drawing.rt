@@ -1,8 +1,9 @@
 //! The whole picture.
 
 use crate::marks::{left_of, push_legend, push_other_marks, push_row_marks, top_of};
-use crate::picture::{ImageLine, PicturedEvent};
+use crate::picture::ImageLine;
 use crate::rows::Row;
+use report::PlacedEvent;
 use std::alloc::{AllocError, Global};
 use std::fmt;
 use std::fmt::Write;
@@ -11,7 +12,7 @@ use store_trace::Event;
 /// Draws rows over the columns of events, which are the last ones of the run.
 pub(crate) fn draw(
     alloc: Global,
-    events: &[PicturedEvent],
+    events: &[PlacedEvent],
     rows: &[Row],
     image: Option<&[ImageLine]>,
 ) -> Result<String, AllocError> {
@@ -47,7 +48,7 @@ fn push_head(text: &mut String, width: u64, height: u64) -> Result<(), AllocErro
 }
 
 /// How many stores of a row come before these events.
-fn stores_before(events: &[PicturedEvent], row: &Row) -> u32 {
+fn stores_before(events: &[PlacedEvent], row: &Row) -> u32 {
     let mut before = row.stores;
     for told in events {
         if is_store_to(told.event, row.line) {

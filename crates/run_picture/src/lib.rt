@@ -6,7 +6,6 @@ mod marks;
 mod picture;
 mod picturing;
 mod rows;
-mod titles;
 
-pub use picture::{ImageLine, PicturedEvent, picture_text};
+pub use picture::{ImageLine, picture_text};
 pub use picturing::picture_run;

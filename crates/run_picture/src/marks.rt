@@ -1,8 +1,7 @@
 //! How the events of a row are drawn.
 
-use crate::picture::PicturedEvent;
 use crate::rows::{Row, place_of};
-use crate::titles::{Title, hart_of};
+use report::{PlacedEvent, hart_of};
 use std::alloc::AllocError;
 use std::fmt;
 use store_trace::Event;
@@ -34,7 +33,7 @@ pub(crate) fn top_of(row: usize) -> u64 {
 /// A mark of an event, at a place.
 #[derive(Clone, Copy)]
 pub(crate) struct Mark {
-    pub(crate) told: PicturedEvent,
+    pub(crate) told: PlacedEvent,
     pub(crate) left: u64,
     pub(crate) top: u64,
     /// Whether a power cut may lose it.
@@ -44,7 +43,7 @@ pub(crate) struct Mark {
 impl fmt::Display for Mark {
     fn fmt<W: fmt::Write>(&self, f: &mut fmt::Formatter<W>) -> fmt::Result {
         let colour = COLOURS[place_of(hart_of(self.told.event))];
-        let title = Title { told: self.told };
+        let title = self.told;
         let left = self.left;
         let top = self.top;
         match self.told.event {
@@ -90,7 +89,7 @@ pub(crate) fn push_legend(text: &mut String) -> Result<(), AllocError> {
 /// Adds the marks of the events in a row: of its stores, the first of which has the number after `before`, and of its cleans.
 pub(crate) fn push_row_marks(
     text: &mut String,
-    events: &[PicturedEvent],
+    events: &[PlacedEvent],
     row: &Row,
     before: u32,
     top: u64,
@@ -125,7 +124,7 @@ pub(crate) fn is_in_row(event: Event, line: u32) -> bool {
 /// Adds the marks of the events that belong to no row, above the rows.
 pub(crate) fn push_other_marks(
     text: &mut String,
-    events: &[PicturedEvent],
+    events: &[PlacedEvent],
 ) -> Result<(), AllocError> {
     for (column, told) in events.iter().enumerate() {
         if matches!(

@@ -4,20 +4,8 @@ ghost use Rattle.std.specs.Prelude.{◌≤◌, length};
 
 use crate::drawing::draw;
 use crate::rows::{Row, rows_of};
+use report::PlacedEvent;
 use std::alloc::{AllocError, Global};
-use store_trace::Event;
-
-/// An event of a run, and where in the run it was made.
-#[derive(Clone, Copy)]
-pub struct PicturedEvent {
-    pub event: Event,
-    /// How many hart steps there are up to and with the one that made it.
-    pub step: u32,
-    /// The pc that its hart had before that step.
-    pub pc: u64,
-    /// The number, from 1, of the line of the source at that pc.
-    pub source_line: Option<u32>,
-}
 
 /// How many stores of a cache line a crash image has.
 #[derive(Clone, Copy)]
@@ -39,7 +27,7 @@ const MOST_EVENTS: usize = 200;
 /// Of more than 40 cache lines only those are shown whose stores may be lost, and of more than 200 events only the last 200.
 pub fn picture_text(
     alloc: Global,
-    events: &[PicturedEvent],
+    events: &[PlacedEvent],
     image: Option<&[ImageLine]>,
 ) -> Result<String, AllocError> {
     let mut rows = rows_of(alloc, events)?;
@@ -50,7 +38,7 @@ pub fn picture_text(
 }
 
 /// The last 200 events.
-fn last_events(events: &[PicturedEvent]) -> &[PicturedEvent]
+fn last_events(events: &[PlacedEvent]) -> &[PlacedEvent]
     ensures { length result.now ≤ 200 }
 {
     let (_, last) = events.split_at(events.len().saturating_sub(MOST_EVENTS));

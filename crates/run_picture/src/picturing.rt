@@ -5,18 +5,16 @@ ghost use Rattle.crash_image.specs.View.{HasLines};
 ghost use Rattle.run_picture.specs.Picturing.{HasImageAt, IsUnnamed, LacksPicture};
 ghost use Rattle.std.specs.Prelude.{◌≤◌, ℕ, List, IfErr, IfOk, OnOk, length};
 
-use crate::picture::{ImageLine, PicturedEvent, picture_text};
-use assemble::LineNumbers;
+use crate::picture::{ImageLine, picture_text};
 use crash_image::{Cut, Cuts, ImageFault};
-use image_name::ImageName;
 use line_memory::Medium;
-use recording::Run;
-use run_text::line_of;
-use run_trace::TracedEvent;
+use machine::{Run, TracedEvent};
+use report::{PlacedEvent, Places};
 use std::alloc::{AllocError, Global};
 use store_trace::Trace;
+use text::ImageName;
 
-/// A picture, as the text of an SVG, of a run up to a moment, with the lines of the program's source; and with the stores that one crash
+/// A picture, as the text of an SVG, of a run up to a moment, with where its instructions come from; and with the stores that one crash
 /// image of the moment has, where one is named. A moment is the number of events before it.
 ///
 /// # Errors
@@ -24,7 +22,7 @@ use store_trace::Trace;
 pub fn picture_run(
     alloc: Global,
     run: &Run,
-    lines: &Option<LineNumbers>,
+    places: &Places,
     moment: u32,
     image: &Option<ImageName>,
 ) -> Result<String, ImageFault>
@@ -32,7 +30,7 @@ pub fn picture_run(
     ensures err { IfErr result (LacksPicture run.now.events moment image.now) }
 {
     let image = image_lines(alloc, run.start(), run.trace(), moment, image)?;
-    match draw(alloc, run.traced(), lines, moment, &image) {
+    match draw(alloc, run.traced(), places, moment, &image) {
         Ok(text) => Ok(text),
         Err(_) => Err(ImageFault::Memory),
     }
@@ -97,33 +95,28 @@ fn lines_of(alloc: Global, cut: &Cut) -> Result<Vec<ImageLine>, AllocError> {
 fn draw(
     alloc: Global,
     traced: &[TracedEvent],
-    lines: &Option<LineNumbers>,
+    places: &Places,
     moment: u32,
     image: &Option<Vec<ImageLine>>,
 ) -> Result<String, AllocError>
     requires { moment ≤ length traced.now }
 {
-    let events = pictured(alloc, &traced[..moment as usize], lines)?;
+    let events = placed(alloc, &traced[..moment as usize], places)?;
     match image {
         Some(image) => picture_text(alloc, &events, Some(image)),
         None => picture_text(alloc, &events, None),
     }
 }
 
-/// Events, each with the line of the source that it comes from.
-fn pictured(
+/// Events, each with where its instruction stands.
+fn placed(
     alloc: Global,
     traced: &[TracedEvent],
-    lines: &Option<LineNumbers>,
-) -> Result<Vec<PicturedEvent>, AllocError> {
+    places: &Places,
+) -> Result<Vec<PlacedEvent>, AllocError> {
     let mut events = Vec::new(alloc);
     for one in traced {
-        events.push(PicturedEvent {
-            event: one.event,
-            step: one.step,
-            pc: one.pc,
-            source_line: line_of(lines, one.pc),
-        })?;
+        events.push(places.placed(one))?;
     }
     Ok(events)
 }

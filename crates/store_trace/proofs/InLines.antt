@@ -4,8 +4,8 @@ use Rattle.std.specs.Prelude.{All}
 use Rattle.std.specs.List.{flat_map}
 use Rattle.std.proofs.lemmas.Grind.{common_steps}
 use Rattle.std.proofs.lemmas.List.Elements.{All-append, All-cons, All-nil}
-use Rattle.crash_model.specs.Stores.{IsInLine}
-use Rattle.crash_model.specs.declared.step.PersistenceStep.TheVariants as step
+use Rattle.store_trace.specs.Stores.{IsInLine}
+use Rattle.store_trace.specs.declared.crash_model.step.PersistenceStep.TheVariants as step
 use Rattle.store_trace.specs.History.{history, steps_of}
 use Rattle.store_trace.specs.TraceView.{IsEvent, IsWidth}
 use Rattle.store_trace.specs.declared.event.Event.{Event}

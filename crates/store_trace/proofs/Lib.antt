@@ -1,1 +1,13 @@
 pub mod InLines
+pub mod Bounds
+pub mod Fenced
+pub mod Pendings
+pub mod Radix
+pub mod Explained
+pub mod Images
+pub mod Lines
+pub mod Leaving
+pub mod Front
+pub mod Product
+pub mod Marking
+pub mod Members

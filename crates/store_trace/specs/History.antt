@@ -1,8 +1,8 @@
 -- A trace as a list of persistence steps, for which stores, floors, cuts and images are defined.
 use Rattle.std.specs.Prelude.{ℕ, List, [], ◌∷◌, reverse, take}
 use Rattle.std.specs.List.{flat_map}
-use Rattle.crash_model.specs.declared.step.PersistenceStep.{PersistenceStep}
-use Rattle.crash_model.specs.declared.step.PersistenceStep.TheVariants as step
+use Rattle.store_trace.specs.declared.crash_model.step.PersistenceStep.{PersistenceStep}
+use Rattle.store_trace.specs.declared.crash_model.step.PersistenceStep.TheVariants as step
 use Rattle.store_trace.specs.declared.event.Event.{Event}
 use Rattle.store_trace.specs.declared.event.Event.TheVariants.{Store, Clean, Fence, Begin, End}
 

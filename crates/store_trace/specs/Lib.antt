@@ -1,2 +1,9 @@
 pub mod History
 pub mod TraceView
+pub mod Cut
+pub mod Floor
+pub mod Image
+pub mod Schedule
+pub mod Stores
+pub mod WrittenBack
+pub mod Marks

@@ -1,5 +1,11 @@
 //! The events of a trace.
 
+ghost use Rattle.std.specs.Prelude.{◌≡◌};
+ghost use Rattle.store_trace.specs.Marks.{begun_by, ended_by};
+
+/// The most harts of a run: their numbers are below it.
+pub const MAX_HARTS: usize = 8;
+
 /// What one instruction of a hart did to persistent memory, or the mark of an operation that it set.
 ///
 /// Harts are numbered from 0 to 7 and lines of 64 bytes from 0, the first line of persistent memory;
@@ -33,4 +39,26 @@ pub enum Event {
         hart: u32,
         op: u64,
     },
+}
+
+impl Event {
+    /// The operation that begins in this event.
+    pub fn begun(self) -> Option<u64>
+        ensures { result ≡ begun_by self }
+    {
+        match self {
+            Event::Begin { op, .. } => Some(op),
+            _ => None,
+        }
+    }
+
+    /// The operation that ends in this event.
+    pub fn ended(self) -> Option<u64>
+        ensures { result ≡ ended_by self }
+    {
+        match self {
+            Event::End { op, .. } => Some(op),
+            _ => None,
+        }
+    }
 }

@@ -1,6 +1,6 @@
 //! A trace read as persistence steps.
 
-ghost use Rattle.crash_model.specs.Stores.{IsInLine};
+ghost use Rattle.store_trace.specs.Stores.{IsInLine};
 ghost use Rattle.std.specs.Prelude.{◌≡◌, List, [], ◌∷◌, ◌++◌, All};
 ghost use Rattle.store_trace.specs.History.{history, steps_of};
 ghost use Rattle.store_trace.specs.TraceView.{IsEvent};

@@ -9,7 +9,7 @@ use std::marker::Model;
 use thiserror::Error;
 
 /// The most events that a trace holds.
-const LIMIT: usize = 65_536;
+pub const MAX_EVENTS: usize = 65_536;
 
 /// Why an event can't be added.
 #[derive(Debug, Drop, Error)]
@@ -65,7 +65,7 @@ impl Trace {
     pub fn is_full(&self) -> bool
         ensures { IsTrue result ↔ (length self.now.events ≡ 65536) }
     {
-        self.events.len() == LIMIT
+        self.events.len() == MAX_EVENTS
     }
 
     /// Makes room for one event, so that the next `push` succeeds.

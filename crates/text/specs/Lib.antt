@@ -1,2 +1,4 @@
 pub mod Numbers
 pub mod Words
+pub mod Grammar
+pub mod Texts

@@ -3,6 +3,6 @@
 #![tactic(auto)]
 
 #[cfg(test)]
-mod harts;
+mod checks;
 #[cfg(test)]
-mod workers;
+mod harts;

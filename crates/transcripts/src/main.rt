@@ -1,5 +1,5 @@
 //! Transcripts of what a user types and sees, typed again: a line for each file that the arguments name, and the first
-//! difference of one that reads otherwise now. docs/ARCHITECTURE.md says what stands in a transcript.
+//! difference of one that reads otherwise now. docs/TRANSCRIPTS.md says what stands in a transcript.
 #![tactic(auto)]
 
 mod agreement;

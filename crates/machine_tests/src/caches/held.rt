@@ -2,10 +2,10 @@
 
 ghost use Rattle.std.specs.Prelude.{◌≡◌, length};
 ghost use Rattle.line_memory.specs.Lines.{IsMedium};
-ghost use Rattle.held_lines.specs.Held.{IsOver};
+ghost use Rattle.recovery.specs.Held.{IsOver};
 
-use held_lines::Held;
 use line_memory::{Medium, MediumFault};
+use recovery::Held;
 use std::alloc::{AllocError, Global};
 use std::test::Fail;
 
@@ -43,7 +43,7 @@ fn stored(held: &mut Held, medium: &Medium) -> Result<[u64; 3], AllocError>
 }
 
 /// What is found over a medium after stores, and over another one after setting back; None where they aren't of 512 lines.
-#[tactic(auto, using(held_lines::proofs::Holding::over_fresh))]
+#[tactic(auto, using(recovery::proofs::Holding::over_fresh))]
 fn both(alloc: Global) -> Result<Option<[[u64; 3]; 2]>, MediumFault> {
     let mut one = Medium::zero(alloc, 512)?;
     let mut other = Medium::zero(alloc, 512)?;

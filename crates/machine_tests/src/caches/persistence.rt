@@ -3,11 +3,11 @@
 ghost use Rattle.std.specs.Prelude.{◌≡◌, ◌<◌, ◌≤◌, length, IfOk};
 
 use clean_fence::PmCache;
-use crash_model::{PersistenceStep, stores, written_back};
 use line_memory::{Medium, MediumFault};
 use std::alloc::{AllocError, Global};
 use std::process::Abort;
 use std::test::Fail;
+use store_trace::{PersistenceStep, stores, written_back};
 
 /// A call of a cache over persistent memory, or what is to hold before the next one. Numbers are of the eight bytes at the start
 /// of a line.

@@ -1,8 +1,7 @@
 //! Commands and their answers.
 
 use crate::debugging::machines::{FIRST_RUN, debugger_of};
-use debugger::{DebugFault, Debugger};
-use session::{Failed, Sink, Source, session};
+use debugger::{DebugFault, Debugger, Failed, Sink, Source, session};
 use std::alloc::Global;
 use std::test::Fail;
 

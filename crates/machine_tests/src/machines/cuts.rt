@@ -3,11 +3,10 @@
 ghost use Rattle.std.specs.Prelude.{◌<◌, length};
 
 use crate::machines::programs::{FENCE, first_of_line, left_by};
-use crash_model::{PersistenceStep, floor, stores, written_back};
 use line_memory::Medium;
 use machine::{Item, Schedule};
 use std::alloc::{AllocError, Global};
-use store_trace::{Event, Trace};
+use store_trace::{Event, PersistenceStep, Trace, floor, stores, written_back};
 
 /// A program, and how many steps its harts make, each in turn. Each store is of eight bytes at the start of a line.
 struct Routine {

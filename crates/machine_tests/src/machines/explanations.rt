@@ -3,12 +3,11 @@
 use crate::machines::programs::{ENTRY_AND_TAIL, TWO_IMAGES, TWO_LINES, first_of_line, left_by};
 use crate::machines::recordings::recorded_of;
 use crash_image::{Cut, Cuts, ImageFault};
-use cut_schedule::explain;
 use isa_table::Reg;
 use line_memory::Medium;
-use machine::Schedule;
-use recording::Recorded;
+use machine::{Recorded, Schedule};
 use std::alloc::{AllocError, Global};
+use witness::explain;
 
 /// A run of a program, a moment of it, the entries of a cut, and the text of the schedule that explains the cut, or of the
 /// fault. Where there is such a schedule, `left` is the first doublewords of lines 1 and 5 that it leaves.

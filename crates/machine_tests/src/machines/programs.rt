@@ -1,10 +1,8 @@
 //! Programs of a few words, and machines that run them over 512 lines of zeros.
 
 use line_memory::Medium;
-use machine::Machine;
+use machine::{Machine, Schedule, StepFault};
 use program::{Object, Program, load};
-use schedule::Schedule;
-use shared_memory::StepFault;
 use std::alloc::{AllocError, Global};
 use store_trace::Trace;
 

@@ -3,10 +3,7 @@
 use crate::machines::programs::{
     FENCE, FENCES, TWO_IMAGES, TWO_LINES, first_of_line, is_written_so, start_of,
 };
-use machine::{Place, RunStop};
-use recording::{Recorded, record};
-use schedule::Schedule;
-use shared_memory::StepFault;
+use machine::{Place, Recorded, RunStop, Schedule, StepFault, record};
 use std::alloc::Global;
 use store_trace::Event;
 

@@ -7,7 +7,7 @@ use crate::machines::programs::{first_of_line, program_of};
 use hart::{Reply, Request};
 use isa_table::{AtomicOp, CacheOp};
 use line_memory::Medium;
-use shared_memory::{Shared, StepFault};
+use machine::{Shared, StepFault};
 use std::alloc::Global;
 use store_trace::Event;
 

@@ -1,6 +1,6 @@
 //! Texts that are schedules, texts that are none, and how schedules are written.
 
-use schedule::{Item, Schedule, ScheduleFault};
+use machine::{Item, Schedule, ScheduleFault};
 use std::alloc::{AllocError, Global};
 use std::test::Fail;
 

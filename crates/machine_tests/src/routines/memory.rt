@@ -1,14 +1,14 @@
 //! Memory over images by itself: places, loads, stores and bytes, and the start after setting back.
 
 ghost use Rattle.std.specs.Prelude.{◌≡◌, length, IfSome};
-ghost use Rattle.held_lines.specs.Held.{IsOver};
-ghost use Rattle.held_memory.specs.Memory.{IsAtStart};
+ghost use Rattle.recovery.specs.Held.{IsOver};
+ghost use Rattle.recovery.specs.Memory.{IsAtStart};
 
 use crate::routines::samples::image_of;
 use assemble::assemble;
-use held_memory::{HeldMemory, Place};
 use line_memory::{Medium, MemFault};
 use program::load;
+use recovery::{HeldMemory, Place};
 use std::alloc::Global;
 use std::test::Fail;
 
@@ -69,7 +69,7 @@ fn found_over_five(alloc: Global, held: &mut HeldMemory) -> Option<([[u64; 2]; 3
     changed_twice(held, &image)
 }
 
-#[tactic(auto, using(held_memory::proofs::Placing::over_at_start))]
+#[tactic(auto, using(recovery::proofs::Placing::over_at_start))]
 fn changed_twice(held: &mut HeldMemory, image: &Medium) -> Option<([[u64; 2]; 3], [[u64; 2]; 3])>
     requires start { IsAtStart held.old 512 }
     requires image { length image.now ≡ 512 }
@@ -116,7 +116,7 @@ fn looks_over(alloc: Global, held: &mut HeldMemory) -> Option<bool>
     is_seen(alloc, held, &image)
 }
 
-#[tactic(auto, using(held_memory::proofs::Placing::over_at_start))]
+#[tactic(auto, using(recovery::proofs::Placing::over_at_start))]
 fn is_seen(alloc: Global, held: &mut HeldMemory, image: &Medium) -> Option<bool>
     requires start { IsAtStart held.old 512 }
     requires image { length image.now ≡ 512 }

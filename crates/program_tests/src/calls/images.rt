@@ -5,9 +5,9 @@ use crate::calls::starts::{
 };
 use crash_image::ImageFault;
 use crash_test::{count_images, explain_image};
-use image_name::ImageName;
 use machine::Schedule;
 use std::alloc::Global;
+use text::ImageName;
 
 /// What isn't there.
 #[derive(Clone, Copy, PartialEq, Eq)]

@@ -3,23 +3,19 @@
 //! The codes are those of docs/FORMATS.md; a fault without a code says what is wrong in words.
 
 use crate::calls::messages::differing;
-use asm_line::AsmCode;
-use assemble::AsmFault;
+use assemble::{AsmCode, AsmFault};
 use bus::{FinishFault, RunFault};
 use crash_image::ImageFault;
 use debugger::{DebugFault, Place};
 use image_check::{Cause, CheckFault, OpFault};
-use image_judge::JudgeFault;
-use interleaving::InterleaveFault;
 use isa_table::FieldFault;
-use judge_marks::MarkFault;
 use line_memory::{MediumFault, MemFault};
-use machine::RunStop;
+use machine::{RunStop, ScheduleFault, StepFault};
 use nova_log::VolumeFault;
 use plan::{PlanCode, PlanFault};
 use program::LoadFault;
-use schedule::ScheduleFault;
-use shared_memory::StepFault;
+use random_schedule::InterleaveFault;
+use routine_judge::{JudgeFault, MarkFault};
 use store_trace::TraceFault;
 
 static LINES: [(AsmCode, &str); 10] = [
@@ -127,16 +123,13 @@ static SESSIONS: [(DebugFault, &str); 7] = [
     (DebugFault::PointsFull, "D3"),
     (DebugFault::Memory, "D4"),
     (DebugFault::InputOutput, "D5"),
-    (
-        DebugFault::Step(StepFault::NoSuchHart),
-        "a step was refused",
-    ),
+    (DebugFault::Step(StepFault::NoSuchHart), "G1"),
     (
         DebugFault::Stopped {
             place: Place { item: 1, steps: 2 },
             fault: StepFault::TraceFull,
         },
-        "a step was refused",
+        "G4",
     ),
 ];
 

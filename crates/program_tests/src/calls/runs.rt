@@ -3,8 +3,7 @@
 use crate::calls::starts::{FIRST_RUN, Start, is_written_so, loaded, run_of, start_of};
 use crash_test::{TogetherFault, replay, run_program, start_program};
 use hart::Status;
-use machine::{Machine, Schedule, StepFault};
-use recording::{Recorded, Run};
+use machine::{Machine, Recorded, Run, Schedule, StepFault};
 use std::alloc::Global;
 use std::sync::Wait;
 use std::thread::Threads;

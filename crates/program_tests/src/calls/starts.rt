@@ -2,10 +2,9 @@
 
 use crash_test::{default_medium, load_program, make_volume, record_run};
 use line_memory::Medium;
-use machine::{Schedule, StepFault};
+use machine::{Run, Schedule, Setup, StepFault};
 use plan::Plan;
 use program::Program;
-use recording::{Run, Setup};
 use std::alloc::Global;
 
 pub(crate) const FIRST_RUN: &str =

@@ -3,13 +3,13 @@
 ghost use Rattle.std.specs.Prelude.{◌<◌, ◌≤◌, IfSome};
 
 use crate::calls::starts::{END, ENTRY, FENCE, NO_TAIL, ONE_APPEND, STRAYS, TAIL, UNKNOWN, run_of};
-use crash_test::check_program;
+use crash_test::{Unwatched, Work, check_program};
 use image_check::{Cause, CheckFault, OpFault, Verdict};
-use image_name::ImageName;
 use nova_log::VolumeFault;
 use plan::Plan;
 use std::alloc::Global;
 use std::thread::Threads;
+use text::ImageName;
 
 /// A verdict that is wanted, the bad image by its name's text.
 #[derive(Clone, Copy)]
@@ -79,7 +79,12 @@ fn verdict_of<R: Threads + Sync + AllocGlobal>(
     let alloc = rt.alloc();
     let plan = Plan::read(alloc, ONE_APPEND.as_bytes()).ok()?;
     let run = run_of(alloc, Some(ONE_APPEND), checked.pieces, checked.schedule)?.ok()?;
-    Some(check_program(rt, alloc, &plan, &run, 0, None, workers))
+    let work = Work {
+        first: 0,
+        last: None,
+        workers,
+    };
+    Some(check_program(rt, alloc, &plan, &run, work, &mut Unwatched))
 }
 
 fn is_named_so(alloc: Global, image: &ImageName, text: &str) -> bool {
@@ -200,8 +205,22 @@ fn verdict_on_part<R: Threads + Sync + AllocGlobal>(
     let alloc = rt.alloc();
     let plan = Plan::read(alloc, ONE_APPEND.as_bytes()).ok()?;
     let run = run_of(alloc, Some(ONE_APPEND), part.pieces, part.schedule)?.ok()?;
-    let last = part.last.filter(|last| part.first <= *last);
-    Some(check_program(rt, alloc, &plan, &run, part.first, last, workers))
+    let work = Work {
+        first: part.first,
+        last: last_of(part),
+        workers,
+    };
+    Some(check_program(rt, alloc, &plan, &run, work, &mut Unwatched))
+}
+
+/// The last moment of a part that has one behind its first.
+fn last_of(part: &Part) -> Option<u32>
+    ensures { IfSome result (λ last. part.now.first ≤ last) }
+{
+    match part.last {
+        Some(last) if part.first <= last => Some(last),
+        _ => None,
+    }
 }
 
 fn is_judged_so<R: Threads + Sync + AllocGlobal>(rt: &R, part: &Part, workers: u32) -> bool

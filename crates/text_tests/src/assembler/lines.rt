@@ -6,7 +6,7 @@
 
 use crate::assembler::examples::{Example, first_difference, first_listed_difference};
 use crate::assembler::readings::Reading;
-use asm_line::halves;
+use assemble::halves;
 use std::test::Fail;
 
 const JUMPS_AND_BRANCHES: &str = "\

@@ -1,6 +1,6 @@
 //! Names that stand for something, and their neighbours that don't.
 
-use asm_names::{Mnemonic, mnemonic_of, register_of, return_register, set_of, zero_register};
+use asm_lex::{Mnemonic, mnemonic_of, register_of, return_register, set_of, zero_register};
 use isa_table::AccessSet;
 
 /// Names and the numbers of their registers.

@@ -1,8 +1,7 @@
 //! What bytes are read as, and what each reading answers, as text.
 
 use asm_lex::{Kind, LexFault, next_line, tokens};
-use asm_line::{AsmCode, Line, Section, Statement, read_line};
-use assemble::{AsmFault, assemble};
+use assemble::{AsmCode, AsmFault, Line, Section, Statement, assemble, read_line};
 use decode::{decode, show};
 use isa_table::encode;
 use program::{LoadFault, Object, load};

@@ -1,6 +1,6 @@
 //! What is expected of the logs of a volume.
 
-use volume::{Entry, EntryKind, Volume};
+use nova_log::{Entry, EntryKind, Volume};
 
 /// A log: how many entries it has, and the last one.
 pub(crate) struct ExpectedLog {

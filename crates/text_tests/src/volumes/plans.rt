@@ -1,9 +1,8 @@
 //! Texts that are plans, and texts that are none.
 
-use nova_log::Layout;
+use nova_log::{Entry, EntryKind, Layout, Name};
 use plan::{Action, Operation, Plan, PlanCode, PlanFault, PlannedEntry};
 use std::alloc::{AllocError, Global};
-use volume::{Entry, EntryKind, Name};
 
 /// What a plan counts.
 struct Counts {

@@ -5,9 +5,11 @@
 
 use crate::volumes::logs::{EMPTY, ExpectedEntry, ExpectedLog, has_logs};
 use line_memory::Medium;
-use nova_log::{Layout, MediumLines, Shape, VolumeFault, are_counts, mkfs, recover, recover_from};
+use nova_log::{
+    EntryKind, Layout, MediumLines, Shape, Volume, VolumeFault, are_counts, mkfs, recover,
+    recover_from,
+};
 use std::alloc::{AllocError, Global};
-use volume::{EntryKind, Volume};
 
 /// Numbers of eight bytes, with their offsets.
 pub(crate) type Numbers = &'static [(u32, u64)];

@@ -6,8 +6,7 @@ use crate::volumes::recovery::{
     Counts, LONG_NAME, Numbers, RENAMED, holds_only, made, put_all, put_entries, recovered,
 };
 use line_memory::Medium;
-use log_upgrade::upgrade;
-use nova_log::{Layout, VolumeFault};
+use nova_log::{Layout, VolumeFault, upgrade};
 use std::alloc::Global;
 
 /// A volume of 512 lines in a layout with these counts, numbers and rows of entries.

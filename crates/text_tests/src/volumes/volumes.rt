@@ -1,8 +1,8 @@
 //! Volumes that grow, are compared and copied.
 
 use crate::volumes::logs::{ExpectedEntry, ExpectedLog, has_logs};
+use nova_log::{Entry, EntryKind, Log, Name, Volume};
 use std::alloc::{AllocError, Global};
-use volume::{Entry, EntryKind, Log, Name, Volume};
 
 fn appended(operation: u64, value: u64) -> Entry {
     Entry {

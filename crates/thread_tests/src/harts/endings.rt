@@ -6,8 +6,8 @@ use crate::harts::programs::{
 use bus::{Bus, FinishFault, Seat, StepFault};
 use hart::Status;
 use isa_table::Reg;
+use machine::Recorded;
 use program::Program;
-use recording::Recorded;
 use std::alloc::Global;
 use std::sync::Wait;
 use store_trace::Event;

@@ -1,7 +1,7 @@
 //! Stop words whose seats raise them and look at them on one thread.
 
 use std::test::*;
-use stop_word::StopWord;
+use workers::StopWord;
 
 #[test]
 fn a_raise_is_seen_by_both(rt: HostRuntime) -> Result<(), Fail> {

@@ -6,18 +6,16 @@ use crate::harts::programs::{
     BUDGET, COUNT_1000, FIRST_RUN, bus_of, program_of, seats_of, start_of,
 };
 use bus::{Bus, RunFault, Seat, StepFault, run_harts};
-use gate::{Gate, Open};
 use hart::{HartState, Status};
 use isa_table::Reg;
-use machine::Machine;
+use machine::{Item, Machine, Recorded, Schedule};
 use program::Program;
-use recording::Recorded;
-use schedule::{Item, Schedule};
 use std::alloc::Global;
 use std::sync::Wait;
 use std::sync::atomic::{AtomicBool, AtomicU32, Ordering};
 use std::thread;
 use std::thread::Threads;
+use workers::{Gate, Open};
 
 /// How often a hart looks whether the other has entered.
 const TURNS: u32 = 1_000_000_000;

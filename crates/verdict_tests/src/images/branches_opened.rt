@@ -1,12 +1,12 @@
 //! The branches of a small recovery over three lines.
 
-ghost use Rattle.branches.specs.Branches.{IsWithin};
+ghost use Rattle.verdict.specs.Branches.{IsWithin};
 ghost use Rattle.std.specs.Prelude.{◌≡◌, ◌≤◌, length};
 
-use branches::{Opened, Opener, Recovery};
 use std::alloc::{AllocError, Global};
 use std::test::Fail;
 use std::thread::Threads;
+use verdict::{Opened, Opener, Recovery};
 
 /// Asks line 0, and lines 1 and 2 only where line 0 has so many stores as the key. Then the image is bad where line 1 has at least
 /// so many stores, and that number is the cause. Each line stands after none of its stores, or more.
@@ -18,7 +18,9 @@ struct Small {
 }
 
 impl Recovery for Small {
-    ghost use Rattle.std.specs.Prelude.{ℕ, slice_index};
+    ghost use Rattle.std.specs.Prelude.{ℕ, None, slice_index};
+    ghost use Rattle.verdict.specs.Branches.{SameNumber};
+    ghost use Rattle.verdict.proofs.Numbering.{no_lower, same_number};
     ghost use Rattle.std.proofs.Common.{rules};
     ghost use Rattle.verdict_tests.specs.Asked.{Asks, IsJudged, adaptive, branchwise, shared};
 
@@ -31,6 +33,10 @@ impl Recovery for Small {
     ghost low = { λ s l. 0 };
 
     ghost high = { λ s l. slice_index s.stores l };
+
+    ghost alike = { λ s. SameNumber };
+
+    ghost last_alike = { λ s l n. None };
 
     ghost asks = { λ s k ls. Asks s.key k ls };
 
@@ -48,6 +54,10 @@ impl Recovery for Small {
 
     fn stores(&self, line: u32) -> u32 {
         self.stores[line as usize]
+    }
+
+    fn last_alike(&self, _line: u32, _number: u32) -> Option<u32> {
+        None
     }
 
     fn workspace(&self, _alloc: Global) -> Result<(), AllocError> {
@@ -75,6 +85,10 @@ impl Recovery for Small {
     }
 
     ghost ordered = { λ s l. Prim.search rules };
+
+    ghost equivalent = { λ s. same_number };
+
+    ghost last = { λ s l n. no_lower l n };
 
     ghost adaptive = { λ s. adaptive s.key };
 

@@ -1,8 +1,8 @@
 //! Texts that name an image, and texts that don't.
 
-use image_name::ImageName;
 use std::alloc::AllocError;
 use std::test::Fail;
+use text::ImageName;
 
 /// What the text's name is written as, and None where it is no name.
 fn written(rt: &HostRuntime, text: &str) -> Result<Option<String>, AllocError> {

@@ -5,12 +5,11 @@
 
 use crate::images::events::{FENCED, Made, Parts, trace_of};
 use crash_image::{Cut, Cuts, ImageFault, ImageName, has_lines, images_between};
-use crash_model::{PersistenceStep, count_cuts};
 use line_memory::Medium;
 use std::alloc::Global;
 use std::process::Abort;
 use std::test::Fail;
-use store_trace::{Event, Trace, TraceFault};
+use store_trace::{Event, PersistenceStep, Trace, TraceFault, count_cuts};
 
 /// The entries of a cut: lines with their numbers of stores.
 type Entries = &'static [(u32, u32)];

@@ -4,13 +4,12 @@ ghost use Rattle.crash_image.specs.View.{HasLines};
 ghost use Rattle.std.specs.Prelude.{◌≡◌, ◌≤◌, length};
 
 use crate::images::events::{FENCED, trace_of};
-use crash_image::has_lines;
+use crash_image::{TraceIndex, has_lines};
 use line_memory::Medium;
 use std::alloc::{AllocError, Global};
 use std::process::Abort;
 use std::test::Fail;
 use store_trace::Trace;
-use trace_index::TraceIndex;
 
 /// How many stores line 0 has at a moment, and its floor.
 type Bounds = (u32, u32);

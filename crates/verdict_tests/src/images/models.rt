@@ -1,6 +1,6 @@
 //! Small lists of steps, with their numbers by hand.
 
-use crash_model::{PersistenceStep, count_cuts, floor, line_image, stores, written_back};
+use store_trace::{PersistenceStep, count_cuts, floor, line_image, stores, written_back};
 
 fn store(line: u32, value: u64) -> PersistenceStep {
     PersistenceStep::Store {

@@ -2,17 +2,16 @@
 //! each volume that the plan allows there.
 
 ghost use Rattle.crash_image.specs.View.{HasLines};
-ghost use Rattle.crash_model.specs.Cut.{cut_count};
+ghost use Rattle.store_trace.specs.Cut.{cut_count};
 ghost use Rattle.std.specs.Prelude.{◌≡◌, ◌≤◌, length};
 
 use crash_image::Cuts;
 use image_check::{Cause, CheckFault, check_trace};
 use line_memory::Medium;
-use nova_log::{VolumeFault, recover};
+use nova_log::{Volume, VolumeFault, recover};
 use plan::{Operation, Plan, PlannedEntry};
 use std::alloc::{AllocError, Global};
 use store_trace::{Event, Trace};
-use volume::Volume;
 
 /// The plain check's verdict on one moment.
 #[derive(Clone, Copy, PartialEq, Eq)]

@@ -3,12 +3,13 @@
 ghost use Rattle.std.specs.Prelude.{◌<◌, ◌≤◌, IfSome};
 
 use crate::judging::sources::{READ, REPLACED};
-use crash_test::{Judgement, default_medium, judge_program, load_program, record_run};
-use image_judge::{Cause, ImageName, JudgeFault, Verdict};
+use crash_test::{
+    Judgement, Unwatched, Work, default_medium, judge_program, load_program, record_run,
+};
 use line_memory::Medium;
-use machine::Schedule;
+use machine::{Schedule, Setup};
 use program::Program;
-use recording::Setup;
+use routine_judge::{Cause, ImageName, JudgeFault, Verdict};
 use std::alloc::Global;
 use std::thread::Threads;
 
@@ -109,8 +110,12 @@ fn verdict_over<R: Threads + Sync + AllocGlobal>(
     };
     let setup = Setup::with_room(program, medium, case.harts);
     let run = record_run(alloc, setup, &schedule).ok()?;
-    let last = case.last.filter(|last| case.first <= *last);
-    Some(judge_program(rt, alloc, &run, judgement, case.first, last, workers))
+    let work = Work {
+        first: case.first,
+        last: case.last.filter(|last| case.first <= *last),
+        workers,
+    };
+    Some(judge_program(rt, alloc, &run, judgement, work, &mut Unwatched))
 }
 
 fn is_named_so(alloc: Global, image: &ImageName, text: &str) -> bool {

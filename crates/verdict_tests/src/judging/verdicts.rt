@@ -2,8 +2,7 @@
 
 use crate::judging::cases::{CASE, Case, Wanted, differing_for_any};
 use crate::judging::sources::{BEGIN, RECORD_UNFENCED, SILENT};
-use image_judge::{Cause, JudgeFault};
-use judge_marks::MarkFault;
+use routine_judge::{Cause, JudgeFault, MarkFault};
 
 /// Operation 1 begins on hart 0, operation 2 on hart 1.
 const TWO_HARTS: Case = Case {

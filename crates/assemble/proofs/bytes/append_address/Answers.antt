@@ -1,7 +1,7 @@
 use Rattle.std.proofs.Common.{sym, ap, ◌∙◌, rules, w32, FitsSigned}
 use Rattle.std.proofs.lemmas.Int.{to_z-of_z}
 use Rattle.std.proofs.lemmas.Result.{on_ok_weaker}
-use Rattle.asm_line.specs.Numbers.{upper_half, lower_half}
+use Rattle.assemble.specs.Numbers.{upper_half, lower_half}
 use Rattle.assemble.specs.Labels.{place_at}
 use Rattle.assemble.proofs.ByteSteps.{address_words}
 use Rattle.assemble.proofs.bytes.append_address.Goals as goal

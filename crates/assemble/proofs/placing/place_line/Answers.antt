@@ -1,5 +1,5 @@
 use Rattle.std.proofs.Common.{sym, ap, ◌∙◌}
-use Rattle.asm_line.specs.Meanings.{line_meaning}
+use Rattle.assemble.specs.Meanings.{line_meaning}
 use Rattle.assemble.specs.Labels.{noted, place_at}
 use Rattle.std.proofs.lemmas.Result.{err_from_is_err_and}
 use Rattle.assemble.proofs.Placed.{line_placed, line_has_none, statement_code}

@@ -1,5 +1,5 @@
 use Rattle.std.proofs.Common.{sym, ap, subst, inr, ◌∙◌}
-use Rattle.stop_word.specs.Stops.{Sitting}
+use Rattle.workers.specs.Stops.{Sitting}
 use Rattle.bus.specs.declared.driving.Round.{Round}
 use Rattle.bus.specs.Driving.{IsRound, badge}
 use Rattle.bus.proofs.Rounds.{answered_badge, look_unseen, round_ends, round_seen}

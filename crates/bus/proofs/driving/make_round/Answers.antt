@@ -1,5 +1,5 @@
 use Rattle.std.proofs.Common.{subst, sym, ap, inl, ◌∙◌}
-use Rattle.stop_word.specs.Stops.{Sitting}
+use Rattle.workers.specs.Stops.{Sitting}
 use Rattle.bus.specs.Driving.{IsRound, badge}
 use Rattle.bus.specs.Seating.{AsksNext}
 use Rattle.bus.proofs.Rounds.{local_badge, local_ends}

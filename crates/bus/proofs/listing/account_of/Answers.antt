@@ -1,6 +1,6 @@
 use Rattle.std.proofs.Common.{ap, arith}
 use Rattle.std.proofs.lemmas.Result.{err_from_is_err_and}
-use Rattle.schedule.specs.Steps.{all_steps}
+use Rattle.machine.specs.Steps.{all_steps}
 use Rattle.bus.proofs.Comparing.{is_account, listed_none, not_whole_fails, unlisted_fails, zeros_are}
 use Rattle.bus.proofs.listing.account_of.Goals as goal
 

@@ -1,7 +1,7 @@
 use Rattle.std.proofs.Common.{rules, ◌≡◌, ◌∙◌, ◌++◌, ◌∷◌, [], ℕ, List, All, map, append_assoc, ap, sym, subst}
 use Rattle.std.proofs.lemmas.List.{map-append}
 use Rattle.std.proofs.lemmas.List.Elements.{All-push}
-use Rattle.stop_word.proofs.Closing.{next_of}
+use Rattle.workers.proofs.StopWordClosing.{next_of}
 use Rattle.bus.specs.Driving.{HasEnded, badge}
 use Rattle.bus.specs.Seats.{SeatView}
 use Rattle.bus.proofs.together.seats_of.Goals as goal

@@ -1,8 +1,8 @@
 use Rattle.std.proofs.Common.{◌≡◌, ◌∙◌, ◌++◌, ℕ, List, ap, length, take, drop, sym, subst, arith}
 use Rattle.std.proofs.lemmas.List.{take_all}
 use Rattle.crash_image.proofs.Slices.{written}
-use Rattle.crash_model.specs.Cut.{number_in}
-use Rattle.crash_model.specs.declared.step.PersistenceStep.{PersistenceStep}
+use Rattle.store_trace.specs.Cut.{number_in}
+use Rattle.store_trace.specs.declared.crash_model.step.PersistenceStep.{PersistenceStep}
 use Rattle.crash_image.specs.ImageScan.{IsImaged}
 use Rattle.crash_image.proofs.Imaged.{imaged_all, imaged_none}
 use Rattle.crash_image.proofs.Stored.{history_more}

@@ -1,6 +1,6 @@
 use Rattle.std.proofs.Common.{take}
 use Rattle.store_trace.specs.History.{history}
-use Rattle.crash_model.specs.Cut.{number_in}
+use Rattle.store_trace.specs.Cut.{number_in}
 use Rattle.crash_image.specs.ImageScan.{IsImaged}
 use Rattle.line_memory.specs.Lines.{IsMedium}
 use Rattle.crash_image.proofs.images.imaged.Given as goal

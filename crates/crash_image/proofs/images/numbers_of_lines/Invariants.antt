@@ -1,6 +1,6 @@
 use Rattle.std.proofs.Common.{◌≡◌, ℕ, ◌<◌, drop, length}
 use Rattle.std.specs.Prelude.{slice_index_or}
-use Rattle.crash_model.specs.Cut.{number_in}
+use Rattle.store_trace.specs.Cut.{number_in}
 use Rattle.crash_image.proofs.images.numbers_of_lines.Given as goal
 
 abbrev pub invariant-loop-at : goal.invariant-loop-at

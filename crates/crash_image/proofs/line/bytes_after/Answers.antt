@@ -1,5 +1,5 @@
 use Rattle.std.proofs.Common.{List, sym, subst}
-use Rattle.crash_model.specs.declared.step.PersistenceStep.{PersistenceStep}
+use Rattle.store_trace.specs.declared.crash_model.step.PersistenceStep.{PersistenceStep}
 use Rattle.crash_image.specs.ImageScan.{IsLineMade}
 use Rattle.crash_image.proofs.Lined.{all_made, enough_made, none_made}
 use Rattle.crash_image.proofs.Stored.{history_more}

@@ -1,5 +1,5 @@
 use Rattle.std.proofs.Common.{◌≡◌, ◌∙◌, List, length, ap, arith}
-use Rattle.crash_model.specs.Cut.{number_in}
+use Rattle.store_trace.specs.Cut.{number_in}
 use Rattle.crash_image.specs.declared.search.Sought.{Sought}
 use Rattle.crash_image.proofs.Slices.{written}
 use Rattle.crash_image.proofs.search.find_least.Goals as goal

@@ -1,6 +1,6 @@
 use Rattle.std.proofs.Common.{◌≡◌, ◌+◌, List, refl, take, sym, subst, ◌∙◌, arith}
 use Rattle.std.proofs.lemmas.List.{take_all}
-use Rattle.crash_model.specs.declared.step.PersistenceStep.{PersistenceStep}
+use Rattle.store_trace.specs.declared.crash_model.step.PersistenceStep.{PersistenceStep}
 use Rattle.crash_image.specs.LeastCut.{AreSought}
 use Rattle.crash_image.proofs.Least.{found_numbers}
 use Rattle.crash_image.proofs.Stored.{below_history, history_more}

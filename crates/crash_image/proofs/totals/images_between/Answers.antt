@@ -1,5 +1,5 @@
 use Rattle.std.proofs.Common.{◌≡◌, ◌<◌, List, ap, length, refl, subst, arith}
-use Rattle.crash_model.specs.Cut.{cut_count}
+use Rattle.store_trace.specs.Cut.{cut_count}
 use Rattle.store_trace.specs.History.{at_moment}
 use Rattle.store_trace.specs.declared.event.Event.{Event}
 use Rattle.crash_image.proofs.Totaling.{few_more, free_count, sum_adds, sum_skips}

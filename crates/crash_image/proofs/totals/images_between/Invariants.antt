@@ -1,5 +1,5 @@
 use Rattle.std.proofs.Common.{◌≡◌, ℕ, ◌*◌, ◌<◌, ◌≤◌}
-use Rattle.crash_model.specs.Cut.{cut_count}
+use Rattle.store_trace.specs.Cut.{cut_count}
 use Rattle.store_trace.specs.History.{at_moment}
 use Rattle.crash_image.specs.Totals.{free_lines, images_between}
 use Rattle.crash_image.proofs.totals.images_between.Given as goal

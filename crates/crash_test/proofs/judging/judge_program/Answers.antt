@@ -1,7 +1,12 @@
 use Rattle.std.proofs.Common.{◌≡◌, rules}
-use Rattle.moment_verdict.specs.declared.verdict.Verdict.TheVariants.{Pass}
+use Rattle.routine_judge.specs.Verdicts.{IsJudged, judged_from}
+use Rattle.routine_judge.specs.Views.{JudgeView}
+use Rattle.verdict.specs.Rows.{end_of}
+use Rattle.verdict.specs.declared.moment_verdict.verdict.Verdict.TheVariants.{Pass}
+use Rattle.crash_test.specs.Judging.{view_of}
 use Rattle.crash_test.proofs.Recovering.{always_recovers, answers_after}
 use Rattle.crash_test.proofs.Running.{has_trace}
+use Rattle.crash_test.proofs.Telling.{told_as, told_nothing}
 use Rattle.crash_test.proofs.judging.judge_program.Goals as goal
 
 pub returns-clause-ok : goal.returns-clause-ok
@@ -9,10 +14,48 @@ returns-clause-ok g c = search rules
 
 pub returns-clause-pass : goal.returns-clause-pass
 returns-clause-pass g c = λ moments images passed zero all.
-    let same : c.in_ok-judge.field-0 ≡ Pass moments images = cc in
-    always_recovers _ _ _ _ _ _ _ c.in_ok-judge.field-0 (has_trace c.args.run.now c.trace.ensures.run) (returns-clause-ok g c).verdict_is moments images same zero all
+    let same : c.in_ok-judge_watched.field-0 ≡ Pass moments images = cc in
+    always_recovers _ _ _ _ _ _ _ c.in_ok-judge_watched.field-0 (has_trace c.args.run.now c.trace.ensures.run) (returns-clause-ok g c).verdict_is
+    moments images same zero all
 
 pub returns-clause-survives : goal.returns-clause-survives
 returns-clause-survives g c = λ moments images passed zero all.
     answers_after c.args.run.now.setup c.args.run.now.schedule c.args.judgement.recovery.now c.args.judgement.steps
     (returns-clause-pass g c moments images passed zero all)
+
+pub returns-clause-told : goal.returns-clause-told
+returns-clause-told g c =
+    let part = c.in_ok-part.part in
+    let made = c.in_ok-part.ensures in
+    let run = c.args.run.now in
+    let work = c.args.work in
+    let view = view_of run.setup c.args.judgement.recovery.now c.args.judgement.steps run.events in
+    let same : part.run ≡ view = rw (c.trace.ensures.value, c.start.ensures.value) at made.run in
+    let until = end_of run.events work.last in
+    let from = judged_from run.events work.first until in
+    let ends : part.end ≡ until = rw c.trace.ensures.value at made.end in
+    let begins : part.first ≡ from = rw (c.trace.ensures.value, ends) at made.first in
+    told_as g.P.Progress.hears (λ (v : JudgeView). IsJudged v) (λ (v : JudgeView). v.events) part.run view part.first from part.end until
+    c.args.progress.now c.judge_watched.new.progress same begins ends c.judge_watched.ensures.told
+
+pub returns-in_err-judge_watched-clause-told : goal.returns-in_err-judge_watched-clause-told
+returns-in_err-judge_watched-clause-told g c =
+    let part = c.in_ok-part.part in
+    let made = c.in_ok-part.ensures in
+    let run = c.args.run.now in
+    let work = c.args.work in
+    let view = view_of run.setup c.args.judgement.recovery.now c.args.judgement.steps run.events in
+    let same : part.run ≡ view = rw (c.trace.ensures.value, c.start.ensures.value) at made.run in
+    let until = end_of run.events work.last in
+    let from = judged_from run.events work.first until in
+    let ends : part.end ≡ until = rw c.trace.ensures.value at made.end in
+    let begins : part.first ≡ from = rw (c.trace.ensures.value, ends) at made.first in
+    told_as g.P.Progress.hears (λ (v : JudgeView). IsJudged v) (λ (v : JudgeView). v.events) part.run view part.first from part.end until
+    c.args.progress.now c.judge_watched.new.progress same begins ends c.judge_watched.ensures.told
+
+pub returns-in_err-part-clause-told : goal.returns-in_err-part-clause-told
+returns-in_err-part-clause-told g c =
+    let run = c.args.run.now in
+    let view = view_of run.setup c.args.judgement.recovery.now c.args.judgement.steps run.events in
+    let until = end_of run.events c.args.work.last in
+    told_nothing g.P.Progress.hears (IsJudged view) run.events (judged_from run.events c.args.work.first until) until c.args.progress.now

@@ -1,5 +1,5 @@
 use Rattle.std.proofs.Common.{◌≡◌, ◌≤◌}
-use Rattle.crash_model.specs.Stores.{stores}
+use Rattle.store_trace.specs.Stores.{stores}
 use Rattle.store_trace.specs.History.{at_moment}
 use Rattle.durability.proofs.cut.store_past.Given as goal
 

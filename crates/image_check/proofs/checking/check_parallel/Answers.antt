@@ -4,8 +4,8 @@ use Rattle.image_check.proofs.Passing.{all_pass, part_of}
 use Rattle.image_check.proofs.Single.{verdict_once}
 use Rattle.image_check.specs.Verdicts.{IsVerdict}
 use Rattle.image_check.specs.declared.cause.Cause.{Cause}
-use Rattle.moment_verdict.specs.declared.verdict.Verdict.{Verdict}
-use Rattle.moment_verdict.specs.declared.verdict.Verdict.TheVariants as runs
+use Rattle.verdict.specs.declared.moment_verdict.verdict.Verdict.{Verdict}
+use Rattle.verdict.specs.declared.moment_verdict.verdict.Verdict.TheVariants as runs
 use Rattle.image_check.proofs.checking.check_parallel.Goals as goal
 
 pub returns-clause-ok : goal.returns-clause-ok

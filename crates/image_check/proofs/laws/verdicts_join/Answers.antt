@@ -1,5 +1,5 @@
 use Rattle.image_check.specs.Verdicts.{judged_at}
-use Rattle.moment_verdict.proofs.Parts.{verdicts_join}
+use Rattle.verdict.proofs.Parts.{verdicts_join}
 use Rattle.image_check.proofs.laws.verdicts_join.Goals as goal
 
 pub returns : goal.returns

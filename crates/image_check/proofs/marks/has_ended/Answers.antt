@@ -2,8 +2,8 @@ use Rattle.std.proofs.Common.{◌≡◌, true≢false, List, take, sym, subst, �
 use Rattle.std.proofs.lemmas.List.{take_all}
 use Rattle.std.specs.List.{Contains}
 use Rattle.store_trace.specs.declared.event.Event.{Event}
-use Rattle.image_check.specs.Marks.{ended}
-use Rattle.image_check.proofs.Marking.{no_more_ended}
+use Rattle.store_trace.specs.Marks.{ended}
+use Rattle.store_trace.proofs.Marking.{no_more_ended}
 use Rattle.image_check.proofs.marks.has_ended.Goals as goal
 
 pub loop-event-preserved : goal.loop-event-preserved

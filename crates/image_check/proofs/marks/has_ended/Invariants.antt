@@ -1,6 +1,6 @@
 use Rattle.std.proofs.Common.{take}
 use Rattle.std.specs.List.{Contains}
-use Rattle.image_check.specs.Marks.{ended}
+use Rattle.store_trace.specs.Marks.{ended}
 use Rattle.image_check.proofs.marks.has_ended.Given as goal
 
 abbrev pub invariant-loop-event : goal.invariant-loop-event

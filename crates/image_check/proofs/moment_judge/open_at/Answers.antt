@@ -1,5 +1,5 @@
 use Rattle.std.proofs.Common.{◌≤◌, ◌∙◌, length, take, subst, sym}
-use Rattle.crash_model.specs.Image.{image}
+use Rattle.store_trace.specs.Image.{image}
 use Rattle.line_memory.specs.Lines.{IsMedium}
 use Rattle.image_check.specs.RunViews.{RunView}
 use Rattle.image_check.specs.Verdicts.{IsMomentVerdict}

@@ -4,10 +4,9 @@
 use crash_image::Cuts;
 use crash_test::load_program;
 use line_memory::Medium;
+use machine::{Item, Recorded, Schedule, record};
 use nova_log::{Layout, mkfs};
 use program::Program;
-use recording::{Recorded, record};
-use schedule::{Item, Schedule};
 use std::alloc::Global;
 
 /// A routine on a new volume of 512 lines with so many inodes and pages, its steps up to its exit, and how many events it makes.

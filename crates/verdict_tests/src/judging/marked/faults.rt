@@ -2,7 +2,7 @@
 
 use crate::judging::marked::events::Made::{Begin, Clean, End, Fence, Store};
 use crate::judging::marked::events::{Parts, trace_of};
-use judge_marks::{MarkFault, check_marks};
+use routine_judge::{MarkFault, check_marks};
 use std::process::Abort;
 use std::test::Fail;
 

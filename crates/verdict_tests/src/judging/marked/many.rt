@@ -1,6 +1,6 @@
 //! A run of many operations, all of which begin before the first one ends.
 
-use judge_marks::{Window, Windows, check_marks};
+use routine_judge::{Window, Windows, check_marks};
 use std::test::Fail;
 use store_trace::{Event, Trace, TraceFault};
 

@@ -2,7 +2,7 @@
 
 use crate::judging::marked::events::Made::{Begin, End, Store};
 use crate::judging::marked::events::{Parts, trace_of};
-use judge_marks::{Window, Windows, is_judged};
+use routine_judge::{Window, Windows, is_judged};
 use std::process::Abort;
 use std::test::Fail;
 

@@ -1,7 +1,7 @@
 //! Schedules that are drawn.
 
 use crate::reports::sources::{ENDLESS, FENCES, STORES, machine_of};
-use interleaving::{InterleaveFault, interleave};
+use random_schedule::{InterleaveFault, interleave};
 use std::alloc::Global;
 use std::test::Fail;
 

@@ -1,6 +1,6 @@
 //! The numbers that are drawn.
 
-use interleaving::Numbers;
+use random_schedule::Numbers;
 
 /// What splitmix64.c draws first from the seeds 0 and 1,234,567.
 static OF_ZERO: [u64; 4] = [

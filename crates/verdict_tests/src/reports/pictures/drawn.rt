@@ -1,7 +1,8 @@
 //! Pictures.
 
 use crate::reports::pictures::samples::{EVENTS, IMAGE};
-use run_picture::{PicturedEvent, picture_text};
+use report::{CodePlace, PlacedEvent};
+use run_picture::picture_text;
 use std::alloc::{AllocError, Global};
 use std::test::Fail;
 use store_trace::Event;
@@ -53,16 +54,18 @@ fn lines_with(text: &str, start: &str) -> usize {
     count
 }
 
-fn made(event: Event) -> PicturedEvent {
-    PicturedEvent {
+fn made(event: Event) -> PlacedEvent {
+    PlacedEvent {
         event,
         step: 1,
-        pc: 0x1_0000,
-        source_line: None,
+        at: CodePlace {
+            pc: 0x1_0000,
+            line: None,
+        },
     }
 }
 
-fn store_to(line: u32) -> PicturedEvent {
+fn store_to(line: u32) -> PlacedEvent {
     made(Event::Store {
         hart: 0,
         line,
@@ -73,7 +76,7 @@ fn store_to(line: u32) -> PicturedEvent {
 }
 
 /// A store to each of so many cache lines, the first of which is made durable.
-fn stores(alloc: Global, lines: u32) -> Result<Vec<PicturedEvent>, AllocError> {
+fn stores(alloc: Global, lines: u32) -> Result<Vec<PlacedEvent>, AllocError> {
     let mut events = Vec::new(alloc);
     for line in 0..lines {
         events.push(store_to(line))?;

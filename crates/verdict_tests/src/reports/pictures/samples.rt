@@ -1,17 +1,20 @@
 //! Events, and what their picture is.
 
-use run_picture::{ImageLine, PicturedEvent};
+use report::{CodePlace, PlacedEvent};
+use run_picture::ImageLine;
 use store_trace::Event;
 
 /// An operation of hart 1 that stores to two lines and makes one of the stores durable, and a store of hart 2 beside it.
-pub(crate) static EVENTS: [PicturedEvent; 7] = [
-    PicturedEvent {
+pub(crate) static EVENTS: [PlacedEvent; 7] = [
+    PlacedEvent {
         event: Event::Begin { hart: 1, op: 7 },
         step: 3,
-        pc: 0x1_0008,
-        source_line: Some(3),
+        at: CodePlace {
+            pc: 0x1_0008,
+            line: Some(3),
+        },
     },
-    PicturedEvent {
+    PlacedEvent {
         event: Event::Store {
             hart: 1,
             line: 256,
@@ -20,16 +23,20 @@ pub(crate) static EVENTS: [PicturedEvent; 7] = [
             value: 0x4d,
         },
         step: 7,
-        pc: 0x1_0018,
-        source_line: Some(7),
+        at: CodePlace {
+            pc: 0x1_0018,
+            line: Some(7),
+        },
     },
-    PicturedEvent {
+    PlacedEvent {
         event: Event::Clean { hart: 1, line: 256 },
         step: 8,
-        pc: 0x1_001c,
-        source_line: None,
+        at: CodePlace {
+            pc: 0x1_001c,
+            line: None,
+        },
     },
-    PicturedEvent {
+    PlacedEvent {
         event: Event::Store {
             hart: 2,
             line: 256,
@@ -38,16 +45,20 @@ pub(crate) static EVENTS: [PicturedEvent; 7] = [
             value: 0x12_3456,
         },
         step: 9,
-        pc: 0x1_0018,
-        source_line: Some(7),
+        at: CodePlace {
+            pc: 0x1_0018,
+            line: Some(7),
+        },
     },
-    PicturedEvent {
+    PlacedEvent {
         event: Event::Fence { hart: 1 },
         step: 10,
-        pc: 0x1_0020,
-        source_line: Some(9),
+        at: CodePlace {
+            pc: 0x1_0020,
+            line: Some(9),
+        },
     },
-    PicturedEvent {
+    PlacedEvent {
         event: Event::Store {
             hart: 1,
             line: 1,
@@ -56,14 +67,18 @@ pub(crate) static EVENTS: [PicturedEvent; 7] = [
             value: 1,
         },
         step: 11,
-        pc: 0x1_0024,
-        source_line: Some(10),
+        at: CodePlace {
+            pc: 0x1_0024,
+            line: Some(10),
+        },
     },
-    PicturedEvent {
+    PlacedEvent {
         event: Event::End { hart: 1, op: 7 },
         step: 13,
-        pc: 0x1_002c,
-        source_line: Some(12),
+        at: CodePlace {
+            pc: 0x1_002c,
+            line: Some(12),
+        },
     },
 ];
 

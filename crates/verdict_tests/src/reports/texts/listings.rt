@@ -1,7 +1,7 @@
 //! The listing of a source whose lines give no word, one, or two, and that of its words alone.
 
 use assemble::{assemble, line_numbers};
-use listing_text::listing_text;
+use report::{Places, listing_text};
 use std::test::Fail;
 
 /// A line ends with CR and LF, and one has a byte that is no text.
@@ -24,12 +24,12 @@ const WORDS: &[u8] = b"0x10000 000122b7 lui x5, 18\n\
 
 fn lists(rt: &impl AllocGlobal, is_numbered: bool, expected: &[u8]) -> Result<bool, Fail> {
     let object = assemble(rt.alloc(), SOURCE)?;
-    let numbers = if is_numbered {
-        Some(line_numbers(rt.alloc(), SOURCE)?)
+    let places = if is_numbered {
+        Places::Source(line_numbers(rt.alloc(), SOURCE)?)
     } else {
-        None
+        Places::Unknown
     };
-    let listing = listing_text(rt.alloc(), object.text_bytes(), SOURCE, &numbers)?;
+    let listing = listing_text(rt.alloc(), object.text_bytes(), SOURCE, &places)?;
     Ok(listing.as_slice() == expected)
 }
 

@@ -4,8 +4,8 @@ ghost use Rattle.line_memory.specs.Lines.{IsMedium};
 ghost use Rattle.std.specs.Prelude.{IfOk};
 
 use line_memory::Medium;
-use medium_text::{line_text, volume_text};
 use nova_log::{Layout, VolumeFault, mkfs};
+use report::{line_text, volume_text};
 use std::test::Fail;
 
 /// How an entry begins that appends 77, and one that removes a name.

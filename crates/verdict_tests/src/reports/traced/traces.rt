@@ -1,8 +1,7 @@
 //! Traced runs.
 
 use crate::reports::sources::{WIDTHS, machine_of};
-use machine::{Schedule, StepFault};
-use run_trace::{TracedEvent, trace_run};
+use machine::{Schedule, StepFault, TracedEvent, trace_run};
 use std::alloc::Global;
 use store_trace::Event;
 

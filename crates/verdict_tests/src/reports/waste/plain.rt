@@ -3,8 +3,8 @@
 ghost use Rattle.std.specs.Prelude.{◌≡◌, ◌^◌, ◌<◌, ◌≤◌, length, IfOk};
 
 use crate::reports::waste::runs::Made;
-use crash_model::{PersistenceStep, floor};
 use std::alloc::{AllocError, Global};
+use store_trace::{PersistenceStep, floor};
 
 /// For each event of a run, whether it is needless in the list without those found before.
 pub(crate) fn needless_by_floors(

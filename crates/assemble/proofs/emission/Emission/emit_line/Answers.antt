@@ -1,5 +1,5 @@
 use Rattle.std.proofs.lemmas.Result.{err_from_is_err_and, on_ok_weaker, MatchResult-weaker}
-use Rattle.asm_line.specs.Meanings.{line_meaning}
+use Rattle.assemble.specs.Meanings.{line_meaning}
 use Rattle.assemble.specs.Labels.{place_at}
 use Rattle.assemble.proofs.SecondPass.{emitted_next, late_none, late_some, is_read}
 use Rattle.assemble.proofs.emission.Emission.emit_line.Goals as goal

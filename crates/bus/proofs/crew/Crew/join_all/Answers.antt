@@ -1,5 +1,5 @@
 use Rattle.std.proofs.Common.{rules, ◌≡◌, ◌∙◌, ◌++◌, ◌∷◌, [], List, length, append_assoc, append-nil, ap, sym, subst}
-use Rattle.stop_word.proofs.Closing.{next_of}
+use Rattle.workers.proofs.StopWordClosing.{next_of}
 use Rattle.bus.proofs.Crews.{none_left}
 use Rattle.bus.specs.Crews.{AreJoined, BeganView}
 use Rattle.bus.proofs.crew.Crew.join_all.Goals as goal

@@ -1,5 +1,5 @@
 use Rattle.std.proofs.Common.{◌≡◌, ◌++◌, All}
-use Rattle.stop_word.specs.Stops.{Sitting, fresh}
+use Rattle.workers.specs.Stops.{Sitting, fresh}
 use Rattle.bus.specs.Crews.{IsCrew}
 use Rattle.bus.proofs.crew.Crew.start_all.Given as goal
 

@@ -1,7 +1,7 @@
 use Rattle.std.proofs.Common.{◌<◌, ◌∙◌, sym, subst, arith}
 use Rattle.std.proofs.lemmas.Result.{err_from_is_err_and}
 use Rattle.bus.specs.Replays.{CoreView}
-use Rattle.shared_memory.proofs.Naming.{served_named}
+use Rattle.machine.proofs.Naming.{served_named}
 use Rattle.bus.proofs.Refusing.{refuses_telling, telling_for_memory}
 use Rattle.bus.proofs.Replaying.{asked_below, asked_exact, asked_kept, asked_lines, renews_is, tells_is}
 use Rattle.bus.proofs.locked.Core.ask.Goals as goal

@@ -1,7 +1,7 @@
 use Rattle.std.proofs.Common.{reverse, sym}
 use Rattle.std.proofs.lemmas.Result.{err_from_is_err_and}
 use Rattle.std.proofs.Common.{◌∙◌}
-use Rattle.shared_memory.proofs.Naming.{evicted_named}
+use Rattle.machine.proofs.Naming.{evicted_named}
 use Rattle.bus.proofs.Refusing.{line_for_memory, refuses_line}
 use Rattle.bus.proofs.Replaying.{evicted_below, evicted_kept, evicted_lines, evicted_stays_exact, evicts_is}
 use Rattle.bus.proofs.locked.Core.evict.Goals as goal

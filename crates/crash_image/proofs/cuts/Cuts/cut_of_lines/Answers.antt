@@ -1,5 +1,5 @@
 use Rattle.std.proofs.Common.{◌≡◌, ◌∙◌, ◌++◌, List, ℕ, map, take, drop, length, ap, sym, subst}
-use Rattle.crash_model.specs.Cut.{IsCut}
+use Rattle.store_trace.specs.Cut.{IsCut}
 use Rattle.crash_image.proofs.CutNames.{lines_cut, lines_there, there_lines}
 use Rattle.crash_image.proofs.Least.{floors_cut}
 use Rattle.crash_image.proofs.Lined.{cut_increasing}

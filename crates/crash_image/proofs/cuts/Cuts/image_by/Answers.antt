@@ -1,5 +1,5 @@
 use Rattle.std.proofs.Common.{sym, subst}
-use Rattle.crash_model.specs.Cut.{IsCut}
+use Rattle.store_trace.specs.Cut.{IsCut}
 use Rattle.crash_image.specs.View.{CutsView}
 use Rattle.crash_image.proofs.Stored.{cut_below}
 use Rattle.crash_image.proofs.cuts.Cuts.image_by.Goals as goal

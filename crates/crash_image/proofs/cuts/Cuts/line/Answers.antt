@@ -1,5 +1,5 @@
 use Rattle.std.proofs.Common.{◌≡◌, ◌∙◌, ◌<◌, ℕ, List, length, sym, subst, ap}
-use Rattle.crash_model.specs.Cut.{number_in}
+use Rattle.store_trace.specs.Cut.{number_in}
 use Rattle.crash_image.proofs.Lined.{cut_increasing, cut_line}
 use Rattle.crash_image.specs.View.{CutsView}
 use Rattle.crash_image.proofs.cuts.Cuts.line.Goals as goal

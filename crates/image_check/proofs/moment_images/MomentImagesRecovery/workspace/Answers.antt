@@ -1,4 +1,4 @@
-use Rattle.crash_model.specs.Image.{image}
+use Rattle.store_trace.specs.Image.{image}
 use Rattle.store_trace.specs.History.{at_moment}
 use Rattle.image_check.proofs.moment_images.MomentImagesRecovery.workspace.Goals as goal
 

@@ -1,7 +1,7 @@
 use Rattle.std.proofs.Common.{◌∙◌, ap, subst, arith, List, [], Option}
 use Rattle.std.specs.Result.{result_ok}
 use Rattle.nova_log.specs.Volumes.{volume_of}
-use Rattle.volume.specs.declared.entry.Entry.{Entry}
+use Rattle.nova_log.specs.declared.volume.entry.Entry.{Entry}
 use Rattle.image_check.specs.Growth.{AreOutcomes}
 use Rattle.image_check.specs.RunViews.{RunView}
 use Rattle.image_check.proofs.moment_judge.Standing.first.Goals as goal

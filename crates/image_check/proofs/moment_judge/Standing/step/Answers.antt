@@ -3,7 +3,7 @@ use Rattle.std.specs.Prelude.{slice_index_or}
 use Rattle.std.specs.Result.{result_ok}
 use Rattle.nova_log.specs.Volumes.{volume_of}
 use Rattle.store_trace.specs.declared.event.Event.TheVariants.{Fence}
-use Rattle.volume.specs.declared.entry.Entry.{Entry}
+use Rattle.nova_log.specs.declared.volume.entry.Entry.{Entry}
 use Rattle.image_check.specs.Growth.{AreOutcomes}
 use Rattle.image_check.specs.Keeping.{KeepsPass}
 use Rattle.image_check.specs.OrderFaults.{AreSound}

@@ -1,7 +1,7 @@
 use Rattle.std.proofs.Common.{◌≡◌, ◌<◌, refl, rules, ap, arith}
 use Rattle.std.proofs.lemmas.Option.{slice_get_within}
 use Rattle.hart.specs.declared.state.Status.TheVariants.{Running, Trapped}
-use Rattle.schedule.specs.declared.items.Step.TheVariants.{Hart}
+use Rattle.machine.specs.declared.schedule.items.Step.TheVariants.{Hart}
 use Rattle.machine.specs.Refusals.{Refuses}
 use Rattle.machine.specs.Represents.{MachineView}
 use Rattle.machine.proofs.Refusing.{refused_with_request}

@@ -4,8 +4,8 @@ use Rattle.std.proofs.lemmas.Result.{IfOk-weaker}
 use Rattle.hart.specs.Effect.{start}
 use Rattle.line_memory.specs.Lines.{line_bytes}
 use Rattle.line_memory.specs.Memory.{Memory}
-use Rattle.shared_memory.specs.Histories.{text_of}
-use Rattle.shared_memory.specs.SharedView.{lines_shown}
+use Rattle.machine.specs.Histories.{text_of}
+use Rattle.machine.specs.SharedView.{lines_shown}
 use Rattle.machine.proofs.Copying.{copies_at_start, text_there}
 use Rattle.machine.proofs.machine.Machine.new.Goals as goal
 

@@ -1,6 +1,6 @@
 use Rattle.std.proofs.Common.{◌∙◌, ap}
 use Rattle.machine.specs.Represents.{MachineView}
-use Rattle.shared_memory.proofs.Shown.{exact_medium}
+use Rattle.machine.proofs.Shown.{exact_medium}
 use Rattle.machine.proofs.machine.Machine.power_cut.Goals as goal
 
 pub returns-clause-cut : goal.returns-clause-cut

@@ -1,4 +1,4 @@
-use Rattle.recovery_run.specs.Answers.{bytes_from}
+use Rattle.recovery.specs.Answers.{bytes_from}
 use Rattle.recovery.proofs.engine.Engine.read.Goals as goal
 
 pub loop-at-init : goal.loop-at-init

@@ -1,6 +1,6 @@
 use Rattle.std.proofs.Common.{◌≡◌}
-use Rattle.held_memory.specs.Memory.{memory_of}
-use Rattle.recovery_run.specs.Answers.{bytes_from}
+use Rattle.recovery.specs.Memory.{memory_of}
+use Rattle.recovery.specs.Answers.{bytes_from}
 use Rattle.recovery.proofs.engine.Engine.read.Given as goal
 
 abbrev pub invariant-loop-at : goal.invariant-loop-at

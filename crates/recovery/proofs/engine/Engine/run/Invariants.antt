@@ -1,5 +1,5 @@
 use Rattle.std.proofs.Common.{false}
-use Rattle.held_lines.specs.Held.{IsOver}
+use Rattle.recovery.specs.Held.{IsOver}
 use Rattle.recovery.specs.Engine.{IsKept, Runs}
 use Rattle.recovery.proofs.engine.Engine.run.Given as goal
 

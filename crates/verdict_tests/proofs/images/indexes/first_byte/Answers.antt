@@ -1,7 +1,7 @@
 -- The last moment is the one after all six events.
 use Rattle.std.proofs.Common.{◌≡◌, ◌≤◌, ℕ, List, length, take, subst, arith}
 use Rattle.std.proofs.lemmas.List.{take_all}
-use Rattle.crash_model.specs.Stores.{stores}
+use Rattle.store_trace.specs.Stores.{stores}
 use Rattle.store_trace.specs.History.{history}
 use Rattle.store_trace.specs.declared.event.Event.{Event}
 use Rattle.verdict_tests.proofs.images.indexes.first_byte.Goals as goal

@@ -1,0 +1,52 @@
+//! Words that stand in place of a code.
+
+ghost use Rattle.std.specs.Prelude.{◌≡◌};
+ghost use Rattle.arguments.specs.Codes.{texts_of_rows, words};
+
+use crate::codes::table::Row;
+
+static WORDS: [Row; 7] = [
+    (
+        "illegal",
+        "the image recovers to a volume, but not to one that the plan may have left",
+        "Each operation that ended must be in its logs, each pending one wholly or not at all: look for what a missing clean or fence lost by `explain`.",
+    ),
+    (
+        "different",
+        "the recovery routine has answered, and the answer isn't a right one of the moment",
+        "Look by `judge --why` for what the image lost and kept: a clean or fence may be missing, or a store may come too early or to a wrong place.",
+    ),
+    (
+        "running",
+        "the recovery routine hasn't exited within its steps",
+        "Look for a loop that doesn't end, as on a list that has become a circle, or allow more steps by --steps.",
+    ),
+    (
+        "answer",
+        "a1 and a2 name no answer where the recovery routine exits",
+        "Put the answer's address into a1 and its length into a2: at most 65,536 bytes of data memory, or a length of 0.",
+    ),
+    (
+        "events",
+        "the recovery routine's next step would make event 65,537",
+        "Let the routine make fewer stores to persistent memory, cleans, fences and marks, or look for a loop that doesn't end.",
+    ),
+    (
+        "memory",
+        "out of memory",
+        "Give the program more memory, or check a shorter run. The status is 4.",
+    ),
+    (
+        "file",
+        "a file or a standard stream that couldn't be read or written",
+        "Look at its name, its folder and its permissions. The status is 5.",
+    ),
+];
+
+/// The rows of these words.
+#[tactic(auto, unfolding(crate::specs::Codes::words))]
+pub(super) fn rows() -> &'static [Row]
+    ensures { texts_of_rows result.now ≡ words }
+{
+    &WORDS
+}

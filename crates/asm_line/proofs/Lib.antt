@@ -1,3 +1,0 @@
-pub mod NumberLists
-pub mod LineWords
-pub mod WholeNumbers

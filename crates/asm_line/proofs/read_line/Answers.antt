@@ -1,8 +1,0 @@
-use Rattle.asm_line.proofs.LineWords.{line_of_kinds}
-use Rattle.asm_line.proofs.read_line.Goals as goal
-
-pub returns-clause-ok : goal.returns-clause-ok
-returns-clause-ok c = rw (line_of_kinds _ _ c.in_ok-lexemes.ensures.found, ← c.deref.ensures.value) c.line_at.ensures.ok
-
-pub returns-clause-err : goal.returns-clause-err
-returns-clause-err c = rw (line_of_kinds _ _ c.in_ok-lexemes.ensures.found, ← c.deref.ensures.value) c.line_at.ensures.err

@@ -1,3 +1,0 @@
-pub mod Mnemonics
-pub mod Registers
-pub mod Widths

@@ -1,0 +1,22 @@
+use Rattle.std.proofs.Common.{arith, [], ◌∷◌}
+use Rattle.std.proofs.lemmas.Grind.{common_steps}
+use Rattle.assemble.specs.Grammar.{register_name}
+use Rattle.assemble.proofs.asm_line.parts.three_registers.Goals as goal
+
+pub returns : goal.returns
+returns c = rw (c.names_then.ensures (register_name ∷ [])) (grind (arith, common_steps))
+
+pub returns-in_err-first : goal.returns-in_err-first
+returns-in_err-first c = rw (c.names_then.ensures (register_name ∷ [])) (grind (arith, common_steps))
+
+pub returns-in_err-register : goal.returns-in_err-register
+returns-in_err-register c = rw (c.names_then.ensures (register_name ∷ [])) (grind (arith, common_steps))
+
+pub returns-in_err-register-2 : goal.returns-in_err-register-2
+returns-in_err-register-2 c = rw (c.names_then.ensures (register_name ∷ [])) (grind (arith, common_steps))
+
+pub returns-in_err-register-3 : goal.returns-in_err-register-3
+returns-in_err-register-3 c = rw (c.names_then.ensures (register_name ∷ [])) (grind (arith, common_steps))
+
+pub returns-in_err-third : goal.returns-in_err-third
+returns-in_err-third c = rw (c.names_then.ensures (register_name ∷ [])) (grind (arith, common_steps))

@@ -1,8 +1,0 @@
-use Rattle.std.proofs.Common.{◌≡◌, ℕ, ◌||◌, length, take}
-use Rattle.branches.specs.Numbers.{has, is_flagged}
-use Rattle.branches.proofs.lines.LineSet.insert_all.Given as goal
-
-abbrev pub invariant-loop-line : goal.invariant-loop-line
-invariant-loop-line l =
-    ((m : ℕ) → is_flagged m l.self ≡ (is_flagged m l.fn.self || has m (take l.line-index l.lines)))
-    × (length l.self ≡ length l.fn.self)

@@ -1,9 +1,0 @@
-use Rattle.std.proofs.Common.{◌∙◌}
-use Rattle.branches.proofs.Listed.{length_set, number_dropped}
-use Rattle.branches.proofs.numbers.Numbers.clear.Goals as goal
-
-pub loop-line-preserved : goal.loop-line-preserved
-loop-line-preserved c = (
-  number_dropped c.loop-line.self-inside.by_line.items c.pop.new.self.items c.loop-line.self-inside.raised.items c.in-Some.line c.in-Some.ensures.items c.loop-line.invariant.0,
-  length_set c.loop-line.self-inside.by_line.items c.in-Some.line 0 ∙ c.loop-line.invariant.1,
-)

@@ -1,9 +1,0 @@
-use Rattle.std.proofs.Common.{◌≡◌, ◌++◌, ◌∷◌, []}
-use Rattle.check_desk.specs.Rule.{Gathers}
-use Rattle.check_desk.proofs.desk.CheckDesk.join.Given as goal
-
-abbrev pub invariant-loop-seat : goal.invariant-loop-seat
-invariant-loop-seat l = (l.all.table_id ≡ l.self.name.table)
-    × (l.all.me.1 ≡ [])
-    × Gathers (l.fn.first ∷ l.yielded) l.all.me.0
-    × (l.yielded ++ l.seat-iterator.rest.items ≡ l.fn.others.items)

@@ -1,5 +1,0 @@
-pub mod Counts
-pub mod Desks
-pub mod Rule
-pub mod Sweeps
-pub mod Works

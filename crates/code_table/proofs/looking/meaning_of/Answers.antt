@@ -1,7 +1,0 @@
--- The rows that the search goes through are those of the table.
-use Rattle.code_table.proofs.Rows.{meaning_by_row}
-use Rattle.code_table.proofs.looking.meaning_of.Goals as goal
-
-pub returns : goal.returns
-returns c =
-    meaning_by_row c.families.result c.args.code.now c.meaning_within.result c.meaning_within.ensures c.families.ensures

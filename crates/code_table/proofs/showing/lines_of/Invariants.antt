@@ -1,6 +1,0 @@
-use Rattle.std.proofs.Common.{◌≡◌, string_bytes, take}
-use Rattle.code_table.specs.Codes.{lines, texts_of_families}
-use Rattle.code_table.proofs.showing.lines_of.Given as goal
-
-abbrev pub invariant-loop-rows : goal.invariant-loop-rows
-invariant-loop-rows l = string_bytes l.text ≡ lines (texts_of_families (take l.rows-index l.families))

@@ -1,6 +1,0 @@
-use Rattle.std.proofs.Common.{◌≡◌, ◌++◌, string_bytes, take}
-use Rattle.code_table.specs.Codes.{lines, texts_of_rows}
-use Rattle.code_table.proofs.showing.push_lines.Given as goal
-
-abbrev pub invariant-loop-row : goal.invariant-loop-row
-invariant-loop-row l = string_bytes l.text ≡ string_bytes l.fn.text ++ lines (texts_of_rows (take l.row-index l.rows))

@@ -1,0 +1,8 @@
+-- The text by the file's places is that by its source's lines.
+use Rattle.std.proofs.Common.{◌∙◌}
+use Rattle.command_line.proofs.trace.trace_answer.Goals as goal
+
+pub returns : goal.returns
+returns c = record {
+  answer = (c.of.ensures.text ∙ rw c.in_ok-places.ensures at c.in_ok-text.ensures, c.of.ensures.status);
+}

@@ -1,0 +1,134 @@
+//! What the index keeps of one line: its stores, and the fences at which its floor rises.
+
+ghost use Rattle.crash_image.specs.Lines.{IsPlace, bytes_before, floor_before, raise_event, raised_to, store_event};
+ghost use Rattle.store_trace.specs.TraceView.{IsWidth};
+ghost use Rattle.word_bits.specs.Bytes.{stored};
+ghost use Rattle.std.specs.Prelude.{◌≡◌, ℕ, ◌-◌, ◌<◌, ◌≤◌, ◌%◌, ◌++◌, ◌∷◌, [], length, IfOk};
+
+use line_memory::store_bytes;
+use std::alloc::{AllocError, Global};
+
+/// One store of a line.
+#[derive(Clone, Copy)]
+pub struct StoredLine {
+    /// The place of its event in the trace.
+    pub event: u32,
+    /// The bytes of the line after the store.
+    pub bytes: [u8; 64],
+}
+
+/// A fence that raised the floor of a line.
+#[derive(Clone, Copy)]
+pub struct Raise {
+    /// The place of its event in the trace.
+    pub event: u32,
+    /// The floor after it.
+    pub floor: u32,
+}
+
+/// The stores of a line, and the raises of its floor, the oldest first.
+#[derive(Drop)]
+pub struct LineIndex {
+    pub stores: Vec<StoredLine>,
+    pub raises: Vec<Raise>,
+}
+
+impl LineIndex {
+    /// A line before the first event. Empty lists take no memory.
+    pub fn new(alloc: Global) -> LineIndex
+        ensures stores { result.stores.items ≡ [] }
+        ensures raises { result.raises.items ≡ [] }
+    {
+        LineIndex {
+            stores: Vec::new(alloc),
+            raises: Vec::new(alloc),
+        }
+    }
+
+    /// Adds a store of the low `width` bytes of `value`, of the event at this place. The line started with `start`.
+    pub fn store(
+        &mut self,
+        start: &[u8; 64],
+        event: u32,
+        offset: u32,
+        width: u32,
+        value: u64,
+    ) -> Result<(), AllocError>
+        requires width { IsWidth width }
+        requires aligned { offset % width ≡ 0 }
+        requires offset { offset < 64 }
+        ensures stores { IfOk result (λ _. self.new.stores.items ≡ self.old.stores.items ++ record { event = event; bytes = stored (bytes_before start.now self.old.stores.items (length self.old.stores.items)) offset width value } ∷ []) }
+        ensures raises { self.new.raises.items ≡ self.old.raises.items }
+    {
+        let mut bytes = *bytes_after(start, &self.stores, self.stores.len());
+        store_in_line(&mut bytes, offset, width, value);
+        self.stores.push(StoredLine { event, bytes })?;
+        Ok(())
+    }
+
+    /// Raises the floor to at least this one, by the fence of the event at this place.
+    pub fn raise(&mut self, event: u32, floor: u32) -> Result<(), AllocError>
+        ensures stores { self.new.stores.items ≡ self.old.stores.items }
+        ensures raises { IfOk result (λ _. self.new.raises.items ≡ raised_to self.old.raises.items event floor) }
+    {
+        if floor > floor_after(&self.raises, self.raises.len()) {
+            self.raises.push(Raise { event, floor })?;
+        }
+        Ok(())
+    }
+}
+
+/// Writes the low `width` bytes of `value` at the `offset` of a line's bytes.
+#[tactic(auto, using(crate::proofs::Steps::aligned_fits))]
+fn store_in_line(bytes: &mut [u8; 64], offset: u32, width: u32, value: u64)
+    requires width { IsWidth width }
+    requires aligned { offset % width ≡ 0 }
+    requires offset { offset < 64 }
+    ensures { bytes.new ≡ stored bytes.old offset width value }
+{
+    store_bytes(bytes, offset as usize, width as usize, value);
+}
+
+/// How many of the stores are of events before the moment.
+#[inline(always)]
+pub fn stores_before(stores: &[StoredLine], moment: u32) -> usize
+    ensures within { result ≤ length stores.now }
+    ensures place { (count : ℕ) → IsPlace store_event stores.now moment count → result ≡ count }
+{
+    stores.partition_point(|store| store.event < moment)
+}
+
+/// How many of the raises are of events before the moment.
+#[inline(always)]
+pub fn raises_before(raises: &[Raise], moment: u32) -> usize
+    ensures within { result ≤ length raises.now }
+    ensures place { (count : ℕ) → IsPlace raise_event raises.now moment count → result ≡ count }
+{
+    raises.partition_point(|raise| raise.event < moment)
+}
+
+/// The floor after the first `count` raises.
+#[inline(always)]
+pub fn floor_after(raises: &[Raise], count: usize) -> u32
+    requires { count ≤ length raises.now }
+    ensures { result ≡ floor_before raises.now count }
+{
+    if count == 0 {
+        0
+    } else {
+        raises[count - 1].floor
+    }
+}
+
+/// The bytes after the first `count` stores, of a line that started with `start`.
+#[inline(always)]
+pub fn bytes_after<'a>(start: &'a [u8; 64], stores: &'a [StoredLine], count: usize) -> &'a [u8; 64]
+    requires { count ≤ length stores.now }
+    ensures { result.now ≡ bytes_before start.now stores.now count }
+{
+    if count == 0 {
+        start
+    } else {
+        &stores[count - 1].bytes
+    }
+}

@@ -1,5 +1,0 @@
-use Rattle.crash_model.proofs.Radix.{cuts_exact}
-use Rattle.crash_model.proofs.laws.cuts_are_listed.Goals as goal
-
-pub returns-clause-exact : goal.returns-clause-exact
-returns-clause-exact c = λ p cut. cuts_exact p cut

@@ -1,5 +1,0 @@
-use Rattle.crash_model.proofs.Explained.{cuts_without_evictions}
-use Rattle.crash_model.proofs.laws.evictions_leave_cuts.Goals as goal
-
-pub returns-clause-cut : goal.returns-clause-cut
-returns-clause-cut c = λ p cut. cuts_without_evictions p cut

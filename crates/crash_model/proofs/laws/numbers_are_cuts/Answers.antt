@@ -1,5 +1,0 @@
-use Rattle.crash_model.proofs.Lines.{cut_from_within}
-use Rattle.crash_model.proofs.laws.numbers_are_cuts.Goals as goal
-
-pub returns-clause-cut : goal.returns-clause-cut
-returns-clause-cut c = λ p k within. cut_from_within p k within

@@ -1,6 +1,0 @@
-use Rattle.std.proofs.Common.{◌≡◌, reverse, take}
-use Rattle.crash_model.specs.Floor.{cleaned}
-use Rattle.crash_model.proofs.plain.cleaned.Given as goal
-
-abbrev pub invariant-loop-at : goal.invariant-loop-at
-invariant-loop-at l = l.before ≡ cleaned l.line l.hart (reverse (take l.at l.steps))

@@ -1,6 +1,0 @@
-use Rattle.std.proofs.Common.{◌≡◌, ◌≤◌, reverse, take}
-use Rattle.crash_model.specs.Cut.{count_of, stored_lines}
-use Rattle.crash_model.proofs.plain.count_cuts.Given as goal
-
-abbrev pub invariant-loop-at : goal.invariant-loop-at
-invariant-loop-at l = (l.count ≡ count_of (reverse l.steps) (stored_lines (reverse (take l.at l.steps)))) × (l.count ≤ 65536)

@@ -1,6 +1,0 @@
-use Rattle.std.proofs.Common.{◌≡◌, reverse, take}
-use Rattle.crash_model.specs.WrittenBack.{written_back}
-use Rattle.crash_model.proofs.plain.written_back.Given as goal
-
-abbrev pub invariant-loop-at : goal.invariant-loop-at
-invariant-loop-at l = l.back ≡ written_back l.line (reverse (take l.at l.steps))

@@ -1,0 +1,18 @@
+//! What is judged of a run, and by how many.
+
+ghost use Rattle.std.proofs.Props.{props};
+ghost use Rattle.std.specs.Prelude.{◌<◌, ◌≤◌, IfSome};
+
+/// The moments of a run that are judged, and how many workers share them.
+#[derive(Clone, Copy, Debug)]
+pub struct Work {
+    /// The first of the moments.
+    pub first: u32,
+    /// The last of them, or None for that of the run. A moment past those of the run counts as its last one.
+    pub last: Option<u32>,
+    /// One to eight.
+    pub workers: u32,
+    ghost order: { IfSome last (λ moment. first ≤ moment) } by { Prim.hlevel props },
+    ghost some: { 0 < workers },
+    ghost few: { workers ≤ 8 },
+}

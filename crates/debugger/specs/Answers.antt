@@ -1,0 +1,73 @@
+-- The text that answers a line.
+use Rattle.std.specs.Prelude.{ℕ, ◌+◌, ◌/◌, ◌%◌, ◌++◌, ◌∷◌, List, [], Option, Some, None, Result, Ok, Err, codes, decimal, if◌then◌else◌, ◌==◌}
+use Rattle.std.specs.List.{flat_map, range_with_len}
+use Rattle.hart.specs.Registers.{register}
+use Rattle.hart.specs.declared.state.HartState.{HartState}
+use Rattle.hart.specs.HartLines.{hart_line, hexadecimal}
+use Rattle.machine.specs.Represents.{MachineView}
+use Rattle.debugger.specs.declared.fault.DebugFault.{DebugFault}
+use Rattle.debugger.specs.declared.stop.Cause.{Cause}
+use Rattle.debugger.specs.declared.stop.Cause.TheVariants as causes
+use Rattle.debugger.specs.Codes.{code}
+use Rattle.debugger.specs.CommandEffects.{byte_at}
+use Rattle.debugger.specs.declared.sessions.effects.Answer.{Answer}
+use Rattle.debugger.specs.declared.sessions.effects.Answer.TheVariants as answers
+
+-- a text and a line end
+abbrev pub line_of : List ℕ → List ℕ
+line_of text = text ++ 10 ∷ []
+
+-- `fault CODE`
+abbrev pub fault_text : DebugFault → List ℕ
+fault_text fault = line_of (codes "fault " ++ code fault)
+
+-- `break hN pc=0xH`, `watch hN line=0xH` and `end`
+abbrev pub stop_text : Cause → List ℕ
+stop_text (causes.Break hart pc) = line_of (codes "break h" ++ (decimal hart ++ (codes " pc=0x" ++ hexadecimal pc)))
+stop_text (causes.Watch hart line) = line_of (codes "watch h" ++ (decimal hart ++ (codes " line=0x" ++ hexadecimal line)))
+stop_text causes.End = line_of (codes "end")
+
+-- `xN=0xH`
+abbrev pub register_line : ℕ → ℕ → List ℕ
+register_line number value = line_of (codes "x" ++ (decimal number ++ (codes "=0x" ++ hexadecimal value)))
+
+-- `pc=0xH`, and then x0 to x31
+unfoldable pub state_text : HartState → List ℕ
+state_text state = line_of (codes "pc=0x" ++ hexadecimal state.pc)
+    ++ flat_map (λ number. register_line number (register state.registers number)) (range_with_len 0 32)
+
+-- the line of a hart
+unfoldable pub hart_text : ℕ → HartState → List ℕ
+hart_text hart state = line_of (hart_line hart state)
+
+-- the text of what is there
+abbrev pub text_of : {A : Type 0} → (A → List ℕ) → Option A → List ℕ
+text_of text None = []
+text_of text (Some value) = text value
+
+-- a byte as two hexadecimal digits
+abbrev pub byte_text : ℕ → List ℕ
+byte_text byte = hexadecimal (byte / 16) ++ hexadecimal (byte % 16)
+
+-- the byte at this place of several, with a space between two
+abbrev pub parted_byte : ℕ → Option ℕ → List ℕ
+parted_byte place byte = (if place == 0 then [] else codes " ") ++ text_of byte_text byte
+
+-- the bytes from an address on
+abbrev pub bytes_text : MachineView → ℕ → ℕ → List ℕ
+bytes_text machine address count =
+    line_of (flat_map (λ place. parted_byte place (byte_at machine (address + place))) (range_with_len 0 count))
+
+-- what a command that was carried out is answered with
+abbrev pub answer_text : MachineView → Answer → List ℕ
+answer_text machine answers.Done = line_of (codes "ok")
+answer_text machine (answers.Hart hart state) = hart_text hart state
+answer_text machine (answers.Stop cause) = stop_text cause
+answer_text machine (answers.Registers state) = state_text state
+answer_text machine (answers.Bytes address count) = bytes_text machine address count
+answer_text machine answers.Quit = []
+
+-- what a line is answered with; nothing where it has no words
+abbrev pub outcome_text : MachineView → Result (Option Answer) DebugFault → List ℕ
+outcome_text machine (Ok found) = text_of (answer_text machine) found
+outcome_text machine (Err fault) = fault_text fault

@@ -1,0 +1,11 @@
+//! Commands to a debugger, read line by line, each answered by lines of text.
+
+mod answers;
+mod command;
+mod dialogue;
+mod effects;
+mod input;
+mod line_reader;
+
+pub use dialogue::session;
+pub use input::{Failed, Sink, Source};

@@ -1,0 +1,102 @@
+//! The text that answers a command.
+
+ghost use Rattle.std.specs.Prelude.{◌≡◌, ◌++◌, IfOk, OnOk, string_bytes};
+ghost use Rattle.debugger.specs.Answers.{answer_text, bytes_text, fault_text, hart_text, parted_byte, register_line, state_text, stop_text};
+
+use crate::sessions::effects::{Answer, byte_at};
+use crate::{Cause, DebugFault, Debugger};
+use hart::{HartLine, HartState};
+use isa_table::Reg;
+use std::alloc::{AllocError, Global};
+use std::fmt::Write;
+
+/// The lines that answer a command which was carried out.
+pub(crate) fn answer_text(
+    alloc: Global,
+    debugger: &Debugger,
+    answer: Answer,
+) -> Result<String, AllocError>
+    ensures { IfOk result (λ text. string_bytes text ≡ answer_text debugger.now.machine answer) }
+{
+    match answer {
+        Answer::Done => String::from_str(alloc, "ok\n"),
+        Answer::Hart(hart, state) => hart_text(alloc, hart, state),
+        Answer::Stop(cause) => stop_text(alloc, cause),
+        Answer::Registers(state) => state_text(alloc, &state),
+        Answer::Bytes { address, count } => bytes_text(alloc, debugger, address, count),
+        Answer::Quit => Ok(String::new(alloc)),
+    }
+}
+
+/// `fault CODE`.
+pub(crate) fn fault_text(alloc: Global, fault: DebugFault) -> Result<String, AllocError>
+    ensures { IfOk result (λ text. string_bytes text ≡ fault_text fault) }
+{
+    format!(in alloc; "fault {}\n", fault.code())
+}
+
+#[tactic(auto, unfolding(crate::specs::Answers::hart_text))]
+fn hart_text(alloc: Global, hart: u32, state: HartState) -> Result<String, AllocError>
+    ensures { IfOk result (λ text. string_bytes text ≡ hart_text hart state) }
+{
+    format!(in alloc; "{}\n", HartLine { hart, state })
+}
+
+fn stop_text(alloc: Global, cause: Cause) -> Result<String, AllocError>
+    ensures { IfOk result (λ text. string_bytes text ≡ stop_text cause) }
+{
+    match cause {
+        Cause::Break { hart, pc } => format!(in alloc; "break h{hart} pc=0x{pc:x}\n"),
+        Cause::Watch { hart, line } => format!(in alloc; "watch h{hart} line=0x{line:x}\n"),
+        Cause::End => String::from_str(alloc, "end\n"),
+    }
+}
+
+/// `pc=0xH`, and a line `xN=0xH` for each register.
+#[tactic(auto, unfolding(crate::specs::Answers::state_text), using(crate::proofs::Texts::registers_more))]
+fn state_text(alloc: Global, state: &HartState) -> Result<String, AllocError>
+    ensures { IfOk result (λ text. string_bytes text ≡ state_text state.now) }
+{
+    let mut text = format!(in alloc; "pc=0x{:x}\n", state.pc)?;
+    for number in 0..32 {
+        push_register(&mut text, number, state.registers.get(Reg { number }))?;
+    }
+    Ok(text)
+}
+
+fn push_register(text: &mut String, number: u8, value: u64) -> Result<(), AllocError>
+    ensures { OnOk result (string_bytes text.new ≡ string_bytes text.old ++ register_line number value) }
+{
+    write!(text, "x{number}=0x{value:x}\n")
+}
+
+/// Bytes as two hexadecimal digits each, with one space between them.
+#[tactic(auto, using(crate::proofs::Texts::bytes_more))]
+fn bytes_text(
+    alloc: Global,
+    debugger: &Debugger,
+    address: u64,
+    count: u64,
+) -> Result<String, AllocError>
+    ensures { IfOk result (λ text. string_bytes text ≡ bytes_text debugger.now.machine address count) }
+{
+    let mut text = String::new(alloc);
+    for place in 0..count {
+        push_byte(&mut text, place, byte_at(debugger, address, place))?;
+    }
+    text.push('\n')?;
+    Ok(text)
+}
+
+/// Adds a byte that is there, after a space where it isn't the first.
+fn push_byte(text: &mut String, place: u64, byte: Option<u8>) -> Result<(), AllocError>
+    ensures { OnOk result (string_bytes text.new ≡ string_bytes text.old ++ parted_byte place byte) }
+{
+    if place > 0 {
+        text.push(' ')?;
+    }
+    match byte {
+        Some(byte) => write!(text, "{:x}{:x}", byte / 16, byte % 16),
+        None => Ok(()),
+    }
+}

@@ -1,0 +1,136 @@
+//! A whole run of commands.
+
+ghost use Rattle.std.specs.Prelude.{◌≡◌, ℕ, List, true, IfErr, IfOk, MatchResult, OnErr, OnOk, string_bytes};
+ghost use Rattle.std.specs.Io.KnownBytes.{Appends};
+ghost use Rattle.debugger.specs.StreamFailures.{AppendsFront, EndsBy, FailsBy};
+ghost use Rattle.debugger.specs.Reading.{IsHeld};
+ghost use Rattle.debugger.specs.Running.{SomeRun};
+ghost use Rattle.debugger.specs.Sessions.{Fails, Session};
+ghost use Rattle.debugger.specs.Dialogue.{ComesOut, IsAnswered, LacksAnswer};
+
+use crate::sessions::answers::{answer_text, fault_text};
+use crate::sessions::command::read_command;
+use crate::sessions::effects::{Answer, Progress, carry_out};
+use crate::sessions::input::{Failed, Fit, Input, Sink, Source};
+use crate::{DebugFault, Debugger};
+use std::alloc::{AllocError, Global};
+
+/// Reads commands line by line, up to `quit` or the end of the input, carries each out, and answers it before the next is
+/// asked for. A line of more than 65,536 bytes is no command, and an input ends after 4,294,967,295 bytes at the latest.
+///
+/// Whatever is read, the debugger's machine is brought by steps of a schedule from where it stood to where it stands.
+///
+/// # Errors
+/// Memory where a growth is refused, InputOutput where a read or a write failed; nothing is written of them. The machine
+/// stands as after the last command that was carried out.
+pub fn session<S: Source, K: Sink>(
+    alloc: Global,
+    debugger: &mut Debugger,
+    source: &mut S,
+    sink: &mut K,
+) -> Result<(), DebugFault>
+    ensures runs { SomeRun debugger.old.machine debugger.new.machine }
+    ensures same { (S.name_of source.new ≡ S.name_of source.old) × (K.name_of sink.new ≡ K.name_of sink.old) }
+    ensures session { OnOk result (Session debugger.old debugger.new (S.remaining_of source.old) (S.remaining_of source.new)
+        (K.contents_of sink.old) (K.contents_of sink.new)) }
+    ensures fails { IfErr result (Fails debugger.old debugger.new (S.remaining_of source.old) (S.remaining_of source.new)
+        (K.contents_of sink.old) (K.contents_of sink.new) (K.failures_of sink.old) (K.failures_of sink.new)) }
+    ensures source { OnOk result (S.failures_of source.new ≡ S.failures_of source.old) }
+    ensures sink { OnOk result (K.failures_of sink.new ≡ K.failures_of sink.old) }
+    ensures err { IfErr result (EndsBy (S.failures_of source.old) (S.failures_of source.new)
+        (K.failures_of sink.old) (K.failures_of sink.new)) }
+{
+    let mut input = Input::new();
+    let mut line = Vec::new(alloc);
+    let mut last = None;
+    'lines: loop {
+        let read = match input.read_line(source, &mut line) {
+            Ok(read) => read,
+            Err(unread) => return Err(unread),
+        };
+        match answer_line(alloc, debugger, &mut last, read.fit, &line, sink) {
+            Ok(goes_on) => {
+                if !goes_on || read.is_last {
+                    return Ok(());
+                }
+            }
+            Err(fault) => return Err(fault),
+        }
+    }
+}
+
+/// Carries out the command of a line and answers it; false where no further line is to be read.
+fn answer_line<K: Sink>(
+    alloc: Global,
+    debugger: &mut Debugger,
+    last: &mut Option<Progress>,
+    fit: Fit,
+    line: &[u8],
+    sink: &mut K,
+) -> Result<bool, DebugFault>
+    ensures runs { SomeRun debugger.old.machine debugger.new.machine }
+    ensures same { K.name_of sink.new ≡ K.name_of sink.old }
+    ensures answered { IfOk result (λ goes_on. (whole : List ℕ) → IsHeld fit line.now whole
+        → IsAnswered (record { debugger = debugger.old; last = last.old }) (record { debugger = debugger.new; last = last.new })
+        whole goes_on (K.contents_of sink.old) (K.contents_of sink.new)) }
+    ensures unanswered { IfErr result (λ fault. (whole : List ℕ) → IsHeld fit line.now whole
+        → LacksAnswer (record { debugger = debugger.old; last = last.old }) (record { debugger = debugger.new; last = last.new })
+        whole (K.contents_of sink.old) (K.contents_of sink.new) fault) }
+    ensures ok { OnOk result (K.failures_of sink.new ≡ K.failures_of sink.old) }
+    ensures err { IfErr result (FailsBy (K.failures_of sink.old) (K.failures_of sink.new)) }
+{
+    match carried(alloc, debugger, last, fit, line) {
+        Ok(None) => Ok(true),
+        Ok(Some(Answer::Quit)) => Ok(false),
+        Ok(Some(answer)) => write_answer(answer_text(alloc, debugger, answer), sink),
+        Err(DebugFault::Memory) => Err(DebugFault::Memory),
+        Err(fault) => write_answer(fault_text(alloc, fault), sink),
+    }
+}
+
+/// Carries out the command of a line; None where the line has no words.
+fn carried(
+    alloc: Global,
+    debugger: &mut Debugger,
+    last: &mut Option<Progress>,
+    fit: Fit,
+    line: &[u8],
+) -> Result<Option<Answer>, DebugFault>
+    ensures runs { SomeRun debugger.old.machine debugger.new.machine }
+    ensures comes_out { (whole : List ℕ) → IsHeld fit line.now whole
+        → ComesOut (record { debugger = debugger.old; last = last.old }) (record { debugger = debugger.new; last = last.new })
+        whole result }
+{
+    match fit {
+        Fit::TooLong => Err(DebugFault::Command),
+        Fit::Whole => match read_command(alloc, line) {
+            Ok(None) => Ok(None),
+            Ok(Some(command)) => match carry_out(debugger, last, command) {
+                Ok(answer) => Ok(Some(answer)),
+                Err(fault) => Err(fault),
+            },
+            Err(fault) => Err(fault),
+        },
+    }
+}
+
+/// Writes an answer, after which the session goes on.
+fn write_answer<K: Sink>(text: Result<String, AllocError>, sink: &mut K) -> Result<bool, DebugFault>
+    ensures same { K.name_of sink.new ≡ K.name_of sink.old }
+    ensures goes_on { IfOk result (λ goes_on. goes_on ≡ true) }
+    ensures written { OnOk result (MatchResult text
+        (λ said. Appends (K.contents_of sink.old) (K.contents_of sink.new) (string_bytes said)) (λ _. ⊥)) }
+    ensures unwritten { IfErr result (λ fault. fault ≡ DebugFault.Memory → K.contents_of sink.new ≡ K.contents_of sink.old) }
+    ensures front { IfErr result (λ fault. fault ≡ DebugFault.InputOutput → MatchResult text
+        (λ said. AppendsFront (K.contents_of sink.old) (K.contents_of sink.new) (string_bytes said)) (λ _. ⊥)) }
+    ensures ok { OnOk result (K.failures_of sink.new ≡ K.failures_of sink.old) }
+    ensures err { IfErr result (FailsBy (K.failures_of sink.old) (K.failures_of sink.new)) }
+{
+    let Ok(text) = text else {
+        return Err(DebugFault::Memory);
+    };
+    match sink.write(text.as_bytes()) {
+        Ok(()) => Ok(true),
+        Err(Failed) => Err(DebugFault::InputOutput),
+    }
+}

@@ -1,5 +1,0 @@
-use Rattle.held_memory.proofs.Starting.{over_start}
-use Rattle.held_memory.proofs.region.Region.set_back.Goals as goal
-
-pub invariant_of-self : goal.invariant_of-self
-invariant_of-self c = (c.self.invariant.0, over_start _ _ _ c.set_back.ensures.fresh c.self.invariant.0 c.self.invariant.1.count)

@@ -1,5 +1,0 @@
-pub mod Beginning
-pub mod Gathering
-pub mod Keeping
-pub mod Looking
-pub mod Running

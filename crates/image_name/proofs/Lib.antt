@@ -1,6 +1,0 @@
-mod Entries
-mod OneReading
-mod Proper
-mod Upwards
-mod Words
-mod Written

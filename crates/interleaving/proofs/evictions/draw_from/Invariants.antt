@@ -1,9 +1,0 @@
-use Rattle.std.proofs.Common.{◌≡◌, length}
-use Rattle.interleaving.specs.Evictions.{Draws, InTurn}
-use Rattle.interleaving.proofs.evictions.draw_from.Given as goal
-
-abbrev pub invariant-loop-done : goal.invariant-loop-done
-invariant-loop-done l = record {
-  drawn : InTurn (Draws l.stores l.first l.steps) l.initial.numbers l.evictions.items l.numbers;
-  count : length l.evictions.items ≡ l._done;
-}

@@ -1,6 +1,0 @@
-use Rattle.std.proofs.Common.{◌≡◌, ◌+◌, length}
-use Rattle.interleaving.proofs.Running.{running_below}
-use Rattle.interleaving.proofs.harts.running_hart.Given as goal
-
-abbrev pub invariant-loop-hart : goal.invariant-loop-hart
-invariant-loop-hart l = length (running_below l.machine.harts l.hart) + l.left ≡ l.place

@@ -1,8 +1,0 @@
-use Rattle.std.proofs.Common.{◌≡◌, ◌++◌, replicate}
-use Rattle.interleaving.specs.Weaving.{with_evictions}
-use Rattle.schedule.specs.Steps.{all_steps}
-use Rattle.schedule.specs.declared.items.Step.TheVariants.{Hart}
-use Rattle.interleaving.proofs.weaving.weave_hart.Given as goal
-
-abbrev pub invariant-loop-done : goal.invariant-loop-done
-invariant-loop-done l = all_steps l.woven ≡ all_steps l.initial.woven ++ with_evictions l.made l.evictions (replicate l.done (Hart l.hart))

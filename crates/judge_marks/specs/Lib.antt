@@ -1,4 +1,0 @@
-pub mod MarkFaults
-pub mod Operations
-pub mod Spans
-pub mod Windows

@@ -1,3 +1,0 @@
-mod TextWords
-mod SourceLines
-mod Listing

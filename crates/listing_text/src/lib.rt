@@ -1,8 +1,0 @@
-//! What is printed of a program's text: its words, the instructions that they spell, and the lines of the source that they come from.
-#![tactic(auto)]
-
-mod begun;
-mod printed;
-mod words;
-
-pub use printed::listing_text;

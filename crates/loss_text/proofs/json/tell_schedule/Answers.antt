@@ -1,4 +1,0 @@
-use Rattle.loss_text.proofs.json.tell_schedule.Goals as goal
-
-pub returns : goal.returns
-returns c = rw c.in_ok-items.ensures at c.writeln.ensures.bytes

@@ -1,0 +1,166 @@
+//! How a run is traced.
+
+ghost use Rattle.machine.specs.QuietSteps.{RunsBeforeEach};
+ghost use Rattle.machine.specs.Traced.{StopsTracing, Traces};
+ghost use Rattle.machine.specs.Tracers.{IsHeld, Makes};
+ghost use Rattle.machine.specs.Grammar.{hart_steps as count_of_hart_steps};
+ghost use Rattle.machine.specs.Steps.{all_steps};
+ghost use Rattle.std.specs.Prelude.{◌≡◌, ◌+◌, ◌^◌, ◌<◌, ◌≤◌, [], ◌∷◌, ◌++◌, IfErr, IfOk, OnOk, replicate};
+
+use crate::run_trace::traced_event::TracedEvent;
+use crate::{Machine, Place, RunStop, Schedule, Step, StepFault, Stepper, walk};
+use std::alloc::Global;
+use std::marker::Model;
+
+/// A machine that makes the steps of a schedule, and what is told of their events.
+#[derive(Drop)]
+pub(crate) struct Tracer {
+    pub(crate) machine: Machine,
+    /// How many hart steps were made, modulo 2^32.
+    pub(crate) made: u32,
+    pub(crate) traced: Vec<TracedEvent>,
+}
+
+impl Model for Tracer {
+    ghost use Rattle.machine.specs.Tracers.{TracerView};
+
+    ghost Value = { TracerView };
+
+    ghost view = { λ t. record { machine = t.machine; made = t.made; traced = t.traced.items } };
+}
+
+/// A machine that has carried out a schedule, and the events that this made.
+#[derive(Drop)]
+pub struct TracedMachine {
+    pub machine: Machine,
+    pub traced: Vec<TracedEvent>,
+}
+
+/// Carries out a schedule on a machine, and gives the machine and the events that this makes, in order, each with the number of
+/// its hart step, the schedule's first being hart step 1, and the pc that its hart had before that step. Steps of a hart that
+/// has stopped count, and evictions don't.
+///
+/// # Errors
+/// The first step that is refused, with its item and the steps made in it. Memory where a growth is refused.
+pub fn trace_run(
+    alloc: Global,
+    machine: Machine,
+    schedule: &Schedule,
+) -> Result<TracedMachine, RunStop>
+    requires { count_of_hart_steps schedule.now < 2 ^ 32 }
+    ensures ok { IfOk result (λ run. Traces machine run.machine (all_steps schedule.now) run.traced.items) }
+    ensures err { IfErr result (StopsTracing machine schedule.now) }
+{
+    let mut tracer = Tracer {
+        machine,
+        made: 0,
+        traced: Vec::new(alloc),
+    };
+    let ended = walk(&mut tracer, schedule, Place::start());
+    // The trace is within its limit, also where a step was refused.
+    prove!(tracer.machine.events().len() <= 65_536);
+    let Tracer {
+        machine,
+        traced,
+        ..
+    } = tracer;
+    match ended {
+        Ok(()) => Ok(TracedMachine { machine, traced }),
+        Err(halted) => Err(RunStop::from(halted)),
+    }
+}
+
+impl Stepper for Tracer {
+    ghost use Rattle.machine.specs.TracerLaws.{makes_more, makes_none};
+    ghost use Rattle.machine.specs.Tracers.{IsHeld, Makes};
+
+    type Halt = StepFault;
+
+    ghost makes = { Makes };
+
+    ghost halts = { IsHeld };
+
+    fn step(&mut self, step: Step) -> Result<(), StepFault> {
+        match step {
+            Step::Hart(hart) => self.step_hart(hart),
+            Step::Evict(line) => self.evict(line),
+        }
+    }
+
+    /// All steps of a hart that has stopped; of one that runs, those up to the first that may make an event.
+    fn make_several(&mut self, step: Step, most: u32) -> u32 {
+        let Step::Hart(hart) = step else {
+            return 0;
+        };
+        if !self.machine.has_stopped(hart) {
+            return self.make_quiet_steps(hart, most);
+        }
+        self.made = self.made.wrapping_add(most);
+        most
+    }
+
+    ghost no_step = { makes_none };
+
+    ghost more_steps = { makes_more };
+}
+
+impl Tracer {
+    /// Makes the next instruction of a hart, and tells its event if it makes one.
+    #[inline(always)]
+    pub(crate) fn step_hart(&mut self, hart: u32) -> Result<(), StepFault>
+        ensures ok { OnOk result (Makes self.old (Step.Hart hart ∷ []) self.new) }
+        ensures held { IfErr result (IsHeld self.old (Step.Hart hart) self.new) }
+    {
+        if hart >= self.machine.harts() {
+            return Err(StepFault::NoSuchHart);
+        }
+        let pc = self.machine.hart(hart).pc;
+        let before = self.machine.events().len();
+        if let Err(fault) = self.machine.step(Step::Hart(hart)) {
+            return Err(fault);
+        }
+        self.made = self.made.wrapping_add(1);
+        match self.machine.events().get(before) {
+            Some(event) => {
+                let traced = TracedEvent {
+                    step: self.made,
+                    pc,
+                    event: *event,
+                };
+                push_traced(&mut self.traced, traced)
+            }
+            None => Ok(()),
+        }
+    }
+
+    /// Makes the next steps of a hart that make no event, so many at most, and says how many they are.
+    pub(crate) fn make_quiet_steps(&mut self, hart: u32, most: u32) -> u32
+        ensures most { result ≤ most }
+        ensures made { Makes self.old (replicate result (Step.Hart hart)) self.new }
+        ensures running { RunsBeforeEach self.old.machine hart result }
+    {
+        let made = self.machine.make_quiet_steps(hart, most);
+        self.made = self.made.wrapping_add(made);
+        made
+    }
+
+    fn evict(&mut self, line: u32) -> Result<(), StepFault>
+        ensures ok { OnOk result (Makes self.old (Step.Evict line ∷ []) self.new) }
+        ensures held { IfErr result (IsHeld self.old (Step.Evict line) self.new) }
+    {
+        if let Err(fault) = self.machine.step(Step::Evict(line)) {
+            return Err(fault);
+        }
+        Ok(())
+    }
+}
+
+fn push_traced(events: &mut Vec<TracedEvent>, traced: TracedEvent) -> Result<(), StepFault>
+    ensures ok { IfOk result (λ _. events.new.items ≡ events.old.items ++ traced ∷ []) }
+    ensures err { IfErr result (λ fault. fault ≡ StepFault.Memory) }
+{
+    match events.push(traced) {
+        Ok(()) => Ok(()),
+        Err(_) => Err(StepFault::Memory),
+    }
+}

@@ -1,5 +1,0 @@
-use Rattle.needless.proofs.Leaving.{further_changes}
-use Rattle.needless.proofs.laws.none_is_left.Goals as goal
-
-pub returns : goal.returns
-returns c = λ events found f before event after place kind. further_changes events found f before event after place kind

@@ -1,3 +1,0 @@
-mod Counting
-mod Listing
-mod Telling

@@ -1,9 +1,0 @@
-use Rattle.std.proofs.Common.{take}
-use Rattle.std.specs.BTreeMap.{get}
-use Rattle.std.specs.List.{zip}
-use Rattle.std.specs.Ordering.{nat_cmp}
-use Rattle.needless_text.specs.Tallies.{AreUses}
-use Rattle.needless_text.proofs.uses.uses_by_pc.Given as goal
-
-abbrev pub invariant-loop-at : goal.invariant-loop-at
-invariant-loop-at l = AreUses (take l.at (zip l.traced l.reasons)) (get nat_cmp l.uses)

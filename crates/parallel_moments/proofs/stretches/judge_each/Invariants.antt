@@ -1,7 +1,0 @@
-use Rattle.std.proofs.Common.{ℕ, ◌<◌, ◌≤◌}
-use Rattle.moment_verdict.specs.declared.verdict.MomentVerdict.TheVariants as moments
-use Rattle.parallel_moments.proofs.stretches.judge_each.Given as goal
-
-abbrev pub invariant-loop-moment : goal.invariant-loop-moment
-invariant-loop-moment g l = g.M.Moments.keeps l.fn.run l.judge
-    × ((m : ℕ) → l.first ≤ m → m < l.moment → g.M.Moments.judged l.fn.run m moments.Pass)

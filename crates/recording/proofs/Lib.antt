@@ -1,4 +1,0 @@
-pub mod OneHart
-pub mod Leaving
-pub mod Numbering
-pub mod Kept

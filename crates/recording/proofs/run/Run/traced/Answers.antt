@@ -1,5 +1,0 @@
-use Rattle.recording.proofs.Kept.{events_told}
-use Rattle.recording.proofs.run.Run.traced.Goals as goal
-
-pub returns-clause-events : goal.returns-clause-events
-returns-clause-events c = rw (← c.self.view_is) (events_told _ c.self.invariant.0)

@@ -1,0 +1,135 @@
+//! Text, or data: a region whose bytes stay as they are under copies of the lines that were stored to.
+
+ghost use Rattle.std.specs.Prelude.{◌≡◌, ◌*◌, ◌%◌, ◌<◌, ◌≤◌, ℕ, Some, length, slice_get, IfOk, IfErr, OnOk, OnErr};
+ghost use Rattle.line_memory.specs.Lines.{IsMedium, line_bytes};
+ghost use Rattle.std.specs.List.{concat};
+ghost use Rattle.line_memory.specs.Memory.{IsWidth, loaded_from, stored_to};
+ghost use Rattle.line_memory.specs.Regions.{padded};
+ghost use Rattle.line_memory.specs.declared.MediumFault.{MediumFault};
+ghost use Rattle.recovery.specs.Regions.{IsKept, IsRegion, bytes_of};
+
+use crate::overlay::Held;
+use line_memory::{LINE_SIZE, Medium, MediumFault};
+use std::alloc::{AllocError, Global};
+use std::marker::Model;
+use word_bits::replace_bytes;
+
+/// The bytes of a region as they were at the start, and copies of those lines that were stored to. Offsets count bytes from the
+/// region's first.
+#[derive(Drop)]
+pub struct Region {
+    start: Medium,
+    held: Held,
+}
+
+impl Model for Region {
+    ghost use Rattle.recovery.specs.Held.{IsOver};
+    ghost use Rattle.recovery.specs.Regions.{RegionView};
+    ghost use Rattle.line_memory.specs.Lines.{AreLines};
+
+    ghost Value = { RegionView };
+
+    ghost view = { λ r. record { start = r.start; copies = r.held } };
+
+    ghost invariant = { λ r. AreLines r.start × IsOver r.held r.start };
+}
+
+impl Region {
+    /// A region of `size` bytes, 32,768 to 1,048,576 and whole lines: these bytes, and zeros past them. The fault is Memory.
+    #[tactic(auto, using(crate::proofs::Starting::region_starts, crate::proofs::Starting::lines_counted))]
+    pub fn new(alloc: Global, bytes: &[u8], size: u32) -> Result<Region, MediumFault>
+        requires fits { length bytes.now ≤ size }
+        requires least { 32768 ≤ size }
+        requires most { size ≤ 1048576 }
+        requires whole { size % 64 ≡ 0 }
+        ensures ok { IfOk result (λ region. IsRegion region bytes.now size) }
+        ensures start { IfOk result (λ region. bytes_of region ≡ line_bytes region.start) }
+        ensures err { IfErr result (λ fault. fault ≡ MediumFault.Memory) }
+    {
+        let all = padded_bytes(alloc, bytes, size as usize)?;
+        let start = lines_of(alloc, &all)?;
+        let held = Held::new(alloc, size / LINE_SIZE as u32)?;
+        Ok(Region { start, held })
+    }
+
+    /// The number of the `width` bytes at an offset.
+    pub fn load(&self, offset: u32, width: u32) -> u64
+        requires width { IsWidth width }
+        requires aligned { offset % width ≡ 0 }
+        requires there { offset < 64 * length self.now.copies }
+        ensures { loaded_from (bytes_of self.now) offset width ≡ Some result }
+    {
+        self.held.load(&self.start, offset, width)
+    }
+
+    /// The byte at an offset.
+    pub fn peek(&self, offset: u32) -> u8
+        requires { offset < 64 * length self.now.copies }
+        ensures { bytes_of self.now offset ≡ Some result }
+    {
+        self.held.peek(&self.start, offset)
+    }
+
+    /// Reads as many bytes as there are places, from the first on.
+    #[tactic(auto, using(crate::proofs::Starting::read_more))]
+    pub fn read(&self, into: &mut [u8])
+        requires there { length into.old ≤ 64 * length self.now.copies }
+        requires few { length into.old ≤ 1048576 }
+        ensures bytes { (offset : ℕ) → offset < length into.old → slice_get into.new offset ≡ bytes_of self.now offset }
+        ensures count { length into.new ≡ length into.old }
+    {
+        for at in 0..into.len() {
+            into[at] = self.peek(at as u32);
+        }
+    }
+
+    /// Writes the low `width` bytes of `value` at an offset. Memory is taken only while more lines have copies than ever before;
+    /// where it is refused nothing changes.
+    pub fn store(&mut self, offset: u32, width: u32, value: u64) -> Result<(), AllocError>
+        requires width { IsWidth width }
+        requires aligned { offset % width ≡ 0 }
+        requires there { offset < 64 * length self.old.copies }
+        ensures ok { OnOk result (bytes_of self.new ≡ stored_to (bytes_of self.old) offset width value) }
+        ensures kept { IsKept self.old self.new }
+        ensures err { OnErr result (self.new ≡ self.old) }
+    {
+        self.held.store(&self.start, offset, width, value)
+    }
+
+    /// The bytes are again those of the start. No memory is taken.
+    #[tactic(auto, using(crate::proofs::Starting::start_found, crate::proofs::Starting::over_start))]
+    pub fn set_back(&mut self)
+        ensures start { bytes_of self.new ≡ line_bytes self.old.start }
+        ensures kept { IsKept self.old self.new }
+    {
+        self.held.set_back();
+    }
+}
+
+/// The medium of whole lines.
+fn lines_of(alloc: Global, bytes: &[u8]) -> Result<Medium, MediumFault>
+    requires least { 32768 ≤ length bytes.now }
+    requires most { length bytes.now ≤ 1048576 }
+    requires whole { length bytes.now % 64 ≡ 0 }
+    ensures ok { IfOk result (λ lines. concat lines ≡ bytes.now) }
+    ensures medium { IfOk result (λ lines. IsMedium lines) }
+    ensures err { IfErr result (λ fault. fault ≡ MediumFault.Memory) }
+{
+    match Medium::from_bytes(alloc, bytes) {
+        Ok(lines) => Ok(lines),
+        Err(_) => Err(MediumFault::Memory),
+    }
+}
+
+/// These bytes, and zeros up to a size.
+#[tactic(auto, using(line_memory::proofs::Loops::padded_is))]
+fn padded_bytes(alloc: Global, bytes: &[u8], size: usize) -> Result<Vec<u8>, MediumFault>
+    requires { length bytes.now ≤ size }
+    ensures ok { IfOk result (λ made. made.items ≡ padded bytes.now size) }
+    ensures whole { IfOk result (λ made. length made.items ≡ size) }
+    ensures err { IfErr result (λ fault. fault ≡ MediumFault.Memory) }
+{
+    let mut made = vec![in alloc; 0u8; size]?;
+    replace_bytes(&mut made, 0, bytes);
+    Ok(made)
+}

@@ -1,4 +1,0 @@
-pub mod Loading
-pub mod Answers
-pub mod Recovery
-pub mod Images

@@ -1,0 +1,10 @@
+mod Lines
+mod Stored
+mod LossesLines
+mod Counting
+mod Listing
+mod Telling
+mod MediumLines
+mod TextWords
+mod SourceLines
+mod DisassemblyListing

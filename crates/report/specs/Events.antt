@@ -1,0 +1,57 @@
+-- What is printed of a run's events.
+use Rattle.std.specs.Prelude.{ℕ, ◌%◌, ◌^◌, ◌*◌, List, [], ◌++◌, Option, codes, decimal, length}
+use Rattle.std.specs.List.{enumerate_from, flat_map}
+use Rattle.hart.specs.HartLines.{hexadecimal}
+use Rattle.machine.specs.declared.run_trace.traced_event.TracedEvent.{TracedEvent}
+use Rattle.store_trace.specs.declared.event.Event.{Event}
+use Rattle.store_trace.specs.declared.event.Event.TheVariants.{Store, Clean, Fence, Begin, End}
+use Rattle.report.specs.Places.{code_place, code_text, line_end}
+use Rattle.report.specs.declared.events.PlacedEvent.{PlacedEvent}
+use Rattle.report.specs.declared.place.Place.{Place}
+
+-- the hart that made an event
+abbrev pub hart_of : Event → ℕ
+hart_of (Store hart line offset width value) = hart
+hart_of (Clean hart line) = hart
+hart_of (Fence hart) = hart
+hart_of (Begin hart op) = hart
+hart_of (End hart op) = hart
+
+-- where an event was made, by the line of the source at each pc
+abbrev pub place_of : (ℕ → Option ℕ) → TracedEvent → Place
+place_of lines traced = record { hart = hart_of traced.event; at = code_place lines traced.pc }
+
+-- an event with the hart step that made it, the pc before that step, and the line of the source there
+abbrev pub placed : (ℕ → Option ℕ) → TracedEvent → PlacedEvent
+placed lines traced = record { step = traced.step; at = code_place lines traced.pc; event = traced.event }
+
+-- the kind of an event in a word
+abbrev pub kind_of : Event → List ℕ
+kind_of (Store hart line offset width value) = codes "store"
+kind_of (Clean hart line) = codes "clean"
+kind_of (Fence hart) = codes "fence"
+kind_of (Begin hart op) = codes "begin"
+kind_of (End hart op) = codes "end"
+
+-- what an event did: of a store the line, the offset in it, the width in bytes, and the number of the bytes that were stored
+abbrev pub act_text : Event → List ℕ
+act_text (Store hart line offset width value) = codes " l" ++ (decimal line ++ (codes "+" ++ (decimal offset
+    ++ (codes " w" ++ (decimal width ++ (codes " 0x" ++ hexadecimal (value % 2 ^ (8 * width))))))))
+act_text (Clean hart line) = codes " l" ++ decimal line
+act_text (Fence hart) = []
+act_text (Begin hart op) = codes " " ++ decimal op
+act_text (End hart op) = codes " " ++ decimal op
+
+-- `hH step=S pc=0xP line=L` and what the event did
+abbrev pub placed_text : PlacedEvent → List ℕ
+placed_text one = codes "h" ++ (decimal (hart_of one.event) ++ (codes " step=" ++ (decimal one.step
+    ++ (codes " " ++ (code_text one.at ++ (codes " " ++ (kind_of one.event ++ act_text one.event)))))))
+
+-- the line of an event with its number, from 1, by the line of the source at each pc
+abbrev pub numbered_line : (ℕ → Option ℕ) → ℕ × TracedEvent → List ℕ
+numbered_line lines t = decimal t.0 ++ (codes " " ++ (placed_text (placed lines t.1) ++ line_end))
+
+-- a line for each event, and `events N`
+abbrev pub trace_text : (ℕ → Option ℕ) → List TracedEvent → List ℕ
+trace_text lines traced =
+    flat_map (numbered_line lines) (enumerate_from 1 traced) ++ (codes "events " ++ (decimal (length traced) ++ line_end))

@@ -1,0 +1,49 @@
+-- What is printed of a run's events as JSON: an object a line.
+use Rattle.std.specs.Prelude.{ℕ, ◌%◌, ◌^◌, ◌*◌, List, [], ◌++◌, Option, Some, None, codes, decimal, length}
+use Rattle.std.specs.List.{enumerate_from, flat_map}
+use Rattle.hart.specs.HartLines.{hexadecimal}
+use Rattle.machine.specs.declared.run_trace.traced_event.TracedEvent.{TracedEvent}
+use Rattle.store_trace.specs.declared.event.Event.{Event}
+use Rattle.store_trace.specs.declared.event.Event.TheVariants.{Store, Clean, Fence, Begin, End}
+use Rattle.report.specs.Events.{hart_of, kind_of, placed}
+use Rattle.report.specs.Places.{line_end}
+use Rattle.report.specs.declared.events.PlacedEvent.{PlacedEvent}
+use Rattle.report.specs.declared.place.CodePlace.{CodePlace}
+
+-- `N`, or `null` where there is none
+abbrev pub number_or_null : Option ℕ → List ℕ
+number_or_null None = codes "null"
+number_or_null (Some number) = decimal number
+
+-- `"pc":"0xP","source_line":L`
+abbrev pub pc_members : CodePlace → List ℕ
+pc_members at = codes "\"pc\":\"0x" ++ (hexadecimal at.pc ++ (codes "\",\"source_line\":" ++ number_or_null at.line))
+
+-- what an event did, each member behind a comma: of a store the value is the number of the bytes that were stored
+abbrev pub act_members : Event → List ℕ
+act_members (Store hart line offset width value) = codes ",\"cache_line\":" ++ (decimal line ++ (codes ",\"offset\":" ++ (decimal offset
+    ++ (codes ",\"width\":" ++ (decimal width ++ (codes ",\"value\":\"0x" ++ (hexadecimal (value % 2 ^ (8 * width)) ++ codes "\"")))))))
+act_members (Clean hart line) = codes ",\"cache_line\":" ++ decimal line
+act_members (Fence hart) = []
+act_members (Begin hart op) = codes ",\"operation\":\"" ++ (decimal op ++ codes "\"")
+act_members (End hart op) = codes ",\"operation\":\"" ++ (decimal op ++ codes "\"")
+
+-- the members of an event's object: its kind, its number, from 1, its hart, the hart step that made it, the pc before that step, the
+-- line of the source there, and what it did
+abbrev pub event_members : ℕ → PlacedEvent → List ℕ
+event_members number one = codes "\"kind\":\"" ++ (kind_of one.event ++ (codes "\",\"event\":" ++ (decimal number
+    ++ (codes ",\"hart\":" ++ (decimal (hart_of one.event) ++ (codes ",\"step\":" ++ (decimal one.step
+    ++ (codes "," ++ (pc_members one.at ++ act_members one.event)))))))))
+
+-- the end of an object and of its line
+abbrev pub object_end : List ℕ
+object_end = codes "}" ++ line_end
+
+-- the object of an event with its number, by the line of the source at each pc
+abbrev pub numbered_object : (ℕ → Option ℕ) → ℕ × TracedEvent → List ℕ
+numbered_object lines t = codes "{" ++ (event_members t.0 (placed lines t.1) ++ object_end)
+
+-- an object for each event, and one with their number
+abbrev pub trace_json : (ℕ → Option ℕ) → List TracedEvent → List ℕ
+trace_json lines traced = flat_map (numbered_object lines) (enumerate_from 1 traced)
+    ++ (codes "{\"kind\":\"events\",\"events\":" ++ (decimal (length traced) ++ object_end))

@@ -1,0 +1,54 @@
+-- What is printed of a run's needless cleans and fences.
+use Rattle.std.specs.Prelude.{◌≡◌, ℕ, List, [], ◌++◌, Option, Some, None, codes, decimal}
+use Rattle.std.specs.List.{count_by, enumerate_from, flat_map}
+use Rattle.durability.specs.Words.{words_of}
+use Rattle.durability.specs.declared.redundant.reason.Reason.{Reason}
+use Rattle.report.specs.Events.{placed, placed_text}
+use Rattle.report.specs.Places.{code_place, code_text, line_end}
+use Rattle.report.specs.declared.redundant.always.ShownAlways.{ShownAlways}
+use Rattle.machine.specs.declared.run_trace.traced_event.TracedEvent.{TracedEvent}
+use Rattle.report.specs.Uses.{Always, AreAlways, Judged, is_unfenced, is_use, is_vain}
+
+-- the line of an event as `trace` prints it, and why it is needless
+abbrev pub reason_line : (ℕ → Option ℕ) → ℕ → TracedEvent → Reason → List ℕ
+reason_line lines number traced reason =
+    decimal number ++ (codes " " ++ (placed_text (placed lines traced) ++ (codes ": " ++ (words_of reason ++ line_end))))
+
+-- what is told of an event that is needless, and nothing where it isn't
+abbrev pub judged_text : (ℕ → TracedEvent → Reason → List ℕ) → ℕ → TracedEvent → Option Reason → List ℕ
+judged_text needless number traced None = []
+judged_text needless number traced (Some reason) = needless number traced reason
+
+abbrev pub judged_line : (ℕ → TracedEvent → Reason → List ℕ) → ℕ × Judged → List ℕ
+judged_line needless one = judged_text needless one.0 one.1.0 one.1.1
+
+-- `hH `, where one hart made them all
+abbrev pub maker_text : Option ℕ → List ℕ
+maker_text None = []
+maker_text (Some hart) = codes "h" ++ (decimal hart ++ codes " ")
+
+-- an instruction that is needless each time, with its place
+abbrev pub shown_always : (ℕ → Option ℕ) → Always → ShownAlways
+shown_always lines one = record { at = code_place lines one.pc; hart = one.hart; count = one.count }
+
+-- `always hH pc=0xP line=L, N of N`
+abbrev pub always_text : ShownAlways → List ℕ
+always_text one = codes "always " ++ (maker_text one.hart ++ (code_text one.at
+    ++ (codes ", " ++ (decimal one.count ++ (codes " of " ++ decimal one.count)))))
+
+abbrev pub always_line : (ℕ → Option ℕ) → Always → List ℕ
+always_line lines one = always_text (shown_always lines one) ++ line_end
+
+-- `needless N of M, unfenced K`
+abbrev pub summary_line : List Judged → List ℕ
+summary_line all = codes "needless " ++ (decimal (count_by is_vain all) ++ (codes " of " ++ (decimal (count_by is_use all)
+    ++ (codes ", unfenced " ++ (decimal (count_by is_unfenced all) ++ line_end)))))
+
+-- what is told of each needless event, in the events' order, then of each instruction that is needless each time, upwards, and the sums
+abbrev pub IsWaste : (ℕ → TracedEvent → Reason → List ℕ) → (Always → List ℕ) → (List Judged → List ℕ) → List Judged → List ℕ → Type 0
+IsWaste needless always sums all text = (found : List Always) × AreAlways all found
+    × (text ≡ flat_map (judged_line needless) (enumerate_from 1 all) ++ (flat_map always found ++ sums all))
+
+-- a line for each of these
+abbrev pub IsWasteText : (ℕ → Option ℕ) → List Judged → List ℕ → Type 0
+IsWasteText lines all text = IsWaste (reason_line lines) (always_line lines) summary_line all text

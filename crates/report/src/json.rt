@@ -1,0 +1,146 @@
+//! What is printed of a run's events as JSON (RFC 8259): an object a line.
+
+ghost use Rattle.report.specs.Json.{trace_json};
+ghost use Rattle.report.specs.Places.{line_in};
+ghost use Rattle.std.specs.Prelude.{◌≡◌, IfOk, string_bytes};
+
+use crate::events::{EventKind, PlacedEvent, hart_of, stored};
+use crate::place::{CodePlace, Places};
+use machine::TracedEvent;
+use std::alloc::{AllocError, Global};
+use std::fmt;
+use std::fmt::Write;
+use store_trace::Event;
+
+/// An object for each event, with the number of the moment after it, and then one with the number of events, each on a line of its own,
+/// as JSON of RFC 8259:
+///
+/// ```text
+/// {"kind":"store","event":2,"hart":0,"step":9,"pc":"0x10020","source_line":9,"cache_line":256,"offset":0,"width":8,"value":"0x1"}
+/// {"kind":"fence","event":3,"hart":0,"step":10,"pc":"0x10024","source_line":null}
+/// {"kind":"events","events":2}
+/// ```
+///
+/// What may have 64 bits is a string, since a reader of JSON may keep 53 bits of a number: a pc and a stored value in hex, an operation's
+/// number in decimal. A line of the source that isn't known is `null`.
+pub fn trace_json(
+    alloc: Global,
+    traced: &[TracedEvent],
+    places: &Places,
+) -> Result<String, AllocError>
+    ensures { IfOk result (λ text. string_bytes text ≡ trace_json (line_in places.now) traced.now) }
+{
+    let mut text = String::new(alloc);
+    for (index, told) in traced.iter().enumerate() {
+        let members = EventMembers {
+            number: index as u64 + 1,
+            placed: places.placed(told),
+        };
+        writeln!(text, "{{{members}}}")?;
+    }
+    let events = traced.len();
+    writeln!(text, "{{\"kind\":\"events\",\"events\":{events}}}")?;
+    Ok(text)
+}
+
+/// The members of an event's object: `"kind":"clean","event":3,"hart":0,"step":10,"pc":"0x10024","source_line":10,"cache_line":256`.
+#[derive(Clone, Copy)]
+pub(crate) struct EventMembers {
+    pub(crate) number: u64,
+    pub(crate) placed: PlacedEvent,
+}
+
+impl fmt::Display for EventMembers {
+    ghost use Rattle.std.specs.Prelude.{Some};
+    ghost use Rattle.report.specs.Json.{event_members};
+
+    ghost output = { λ members. Some (event_members members.number members.placed) };
+
+    fn fmt<W: fmt::Write>(&self, f: &mut fmt::Formatter<W>) -> fmt::Result {
+        let EventMembers { number, placed } = *self;
+        let PlacedEvent { step, at, event } = placed;
+        let hart = hart_of(event);
+        let place = PcMembers { at };
+        let kind = EventKind { event };
+        let act = ActMembers { event };
+        write!(
+            f,
+            "\"kind\":\"{kind}\",\"event\":{number},\"hart\":{hart},\"step\":{step},{place}{act}"
+        )
+    }
+}
+
+/// What an event did, as members that follow others: `,"cache_line":256`.
+#[derive(Clone, Copy)]
+struct ActMembers {
+    event: Event,
+}
+
+impl fmt::Display for ActMembers {
+    ghost use Rattle.std.specs.Prelude.{Some};
+    ghost use Rattle.report.specs.Json.{act_members};
+
+    ghost output = { λ act. Some (act_members act.event) };
+
+    fn fmt<W: fmt::Write>(&self, f: &mut fmt::Formatter<W>) -> fmt::Result {
+        match self.event {
+            Event::Store {
+                line,
+                offset,
+                width,
+                value,
+                ..
+            } => {
+                let value = stored(value, width);
+                write!(
+                    f,
+                    ",\"cache_line\":{line},\"offset\":{offset},\"width\":{width},\"value\":\"0x{value:x}\""
+                )
+            }
+            Event::Clean { line, .. } => write!(f, ",\"cache_line\":{line}"),
+            Event::Fence { .. } => Ok(()),
+            Event::Begin { op, .. } | Event::End { op, .. } => {
+                write!(f, ",\"operation\":\"{op}\"")
+            }
+        }
+    }
+}
+
+/// A pc and its line as members of an object: `"pc":"0x10020","source_line":9`.
+#[derive(Clone, Copy)]
+pub(crate) struct PcMembers {
+    pub(crate) at: CodePlace,
+}
+
+impl fmt::Display for PcMembers {
+    ghost use Rattle.std.specs.Prelude.{Some};
+    ghost use Rattle.report.specs.Json.{pc_members};
+
+    ghost output = { λ members. Some (pc_members members.at) };
+
+    fn fmt<W: fmt::Write>(&self, f: &mut fmt::Formatter<W>) -> fmt::Result {
+        let CodePlace { pc, line } = self.at;
+        let line = NumberOrNull { number: line };
+        write!(f, "\"pc\":\"0x{pc:x}\",\"source_line\":{line}")
+    }
+}
+
+/// A number, and `null` where there is none.
+#[derive(Clone, Copy)]
+pub(crate) struct NumberOrNull {
+    pub(crate) number: Option<u32>,
+}
+
+impl fmt::Display for NumberOrNull {
+    ghost use Rattle.std.specs.Prelude.{Some};
+    ghost use Rattle.report.specs.Json.{number_or_null};
+
+    ghost output = { λ shown. Some (number_or_null shown.number) };
+
+    fn fmt<W: fmt::Write>(&self, f: &mut fmt::Formatter<W>) -> fmt::Result {
+        match self.number {
+            Some(number) => write!(f, "{number}"),
+            None => write!(f, "null"),
+        }
+    }
+}

@@ -1,0 +1,20 @@
+//! What is printed of a run: its events, each with its place in the program, and what keeps it from being whole.
+#![tactic(auto)]
+
+mod causes;
+mod disassembly;
+mod events;
+mod json;
+mod losses;
+mod medium;
+mod place;
+mod redundant;
+
+pub use causes::unfinished_text;
+pub use disassembly::listing_text;
+pub use events::{PlacedEvent, hart_of, trace_text};
+pub use json::trace_json;
+pub use losses::{unpersisted_json, unpersisted_text, why_json, why_text};
+pub use medium::{line_text, volume_text};
+pub use place::{CodePlace, Place, Places};
+pub use redundant::{waste_json, waste_text};

@@ -1,0 +1,94 @@
+-- A pass is kept from a moment to the next by an event that is no mark and that no image shows.
+use Rattle.std.proofs.Common.{◌≡◌, ℕ, ◌+◌, ◌<◌, Bool, List, length, get_or, refl, sym, ap, ◌∙◌, subst, arith, Result, Ok}
+use Rattle.std.specs.Prelude.{◌≢◌}
+use Rattle.store_trace.proofs.Images.{length_image}
+use Rattle.routine_judge.proofs.Gathering.{found_alike}
+use Rattle.verdict.specs.CutImages.{AreMedia, image_at}
+use Rattle.routine_judge.specs.RightAnswers.{IsFoundOf, IsRightOf, LoadsOf, SameBytes, Shows, is_among}
+use Rattle.routine_judge.specs.Standing.{IsPassed}
+use Rattle.routine_judge.specs.Views.{JudgeView}
+use Rattle.routine_judge.specs.Windows.{IsWindow}
+use Rattle.routine_judge.specs.declared.history.moments.Window.{Window}
+use Rattle.routine_judge.specs.declared.history.moments.Window.TheVariants.{Itself, Either, Through}
+use Rattle.machine.specs.Run.{Config, started}
+use Rattle.verdict.proofs.Keeping.{AgreeIn, IsByLines, like_next, pass_kept}
+use Rattle.verdict.specs.Keeping.{IsUnseen}
+use Rattle.recovery.proofs.Limited.{ends_once, runs_alike}
+use Rattle.recovery.specs.Answers.{answer}
+use Rattle.recovery.specs.Loading.{loaded}
+use Rattle.recovery.specs.declared.recovery_run.Cause as run
+use Rattle.line_memory.specs.Lines.{line_at}
+use Rattle.store_trace.specs.History.{at_moment}
+use Rattle.store_trace.specs.declared.event.Event.{Event}
+
+-- a routine that comes to something loads some lines
+loads_of : (view : JudgeView) (m : ℕ) (cut : ℕ → ℕ) (found : Result (List ℕ) run.Cause) → Shows view m cut found → (lines : List ℕ) × LoadsOf view m cut lines
+loads_of view m cut found s = (loaded s.end.common.history, record { end = s.end; full = s.full; runs = s.runs; loads = refl })
+
+loads_once : (view : JudgeView) (m : ℕ) (cut : ℕ → ℕ) (lines others : List ℕ) → LoadsOf view m cut lines → LoadsOf view m cut others → lines ≡ others
+loads_once view m cut lines others x y =
+    let one = ends_once (started view.routine (image_at view.start view.events m cut) 1) x.end y.end view.steps x.full y.full x.runs y.runs in
+    x.loads ∙ ap (λ (end : Config). loaded end.common.history) (sym one.0) ∙ sym y.loads
+
+same_size : (view : JudgeView) (m n : ℕ) (c k : ℕ → ℕ) → length (image_at view.start view.events n k) ≡ length (image_at view.start view.events m c)
+same_size view m n c k = length_image view.start k (at_moment view.events n) ∙ sym (length_image view.start c (at_moment view.events m))
+
+-- on an image of another moment that has the lines which it loads of this one, it loads the same
+loads_later : (view : JudgeView) (m n : ℕ) → AreMedia view.start view.events m → AreMedia view.start view.events n → (c k : ℕ → ℕ) (lines : List ℕ) →
+    LoadsOf view m c lines → AgreeIn (image_at view.start view.events m c) (image_at view.start view.events n k) lines → LoadsOf view n k lines
+loads_later view m n whole next c k lines x agree =
+    let one = image_at view.start view.events m c in
+    let other = image_at view.start view.events n k in
+    let r = runs_alike view.routine one other view.steps x.end x.full (whole c).each (next k).each (same_size view m n c k) x.runs
+    (subst (λ (ls : List ℕ). AgreeIn one other ls) x.loads agree) in
+    record { end = r.0; full = x.full; runs = r.1; loads = x.loads ∙ ap loaded (sym r.2.history) }
+
+-- and comes to the same
+shows_later : (view : JudgeView) (m n : ℕ) → AreMedia view.start view.events m → AreMedia view.start view.events n → (c k : ℕ → ℕ) (lines : List ℕ)
+    (found : Result (List ℕ) run.Cause) → LoadsOf view m c lines → AgreeIn (image_at view.start view.events m c) (image_at view.start view.events n k) lines →
+    Shows view m c found → Shows view n k found
+shows_later view m n whole next c k lines found x agree a =
+    let one = image_at view.start view.events m c in
+    let other = image_at view.start view.events n k in
+    let r = runs_alike view.routine one other view.steps x.end x.full (whole c).each (next k).each (same_size view m n c k) x.runs
+    (subst (λ (ls : List ℕ). AgreeIn one other ls) x.loads agree) in
+    let same = ends_once (started view.routine one 1) a.end x.end view.steps a.full x.full a.runs x.runs in
+    record {
+      end = r.0;
+      full = x.full;
+      runs = r.1;
+      comes = a.comes ∙ sym (r.3 ∙ ap (λ (full : Bool). answer x.end full) same.1 ∙ ap (λ (end : Config). answer end a.full) same.0);
+    }
+
+-- a window that doesn't move with its moment has the same right answers
+right_later : (view : JudgeView) (window : Window) (m n : ℕ) (bytes : List ℕ) → window ≢ Itself → IsRightOf view (is_among window m) bytes →
+    IsRightOf view (is_among window n) bytes
+right_later view Itself m n bytes fixed r = absurd (fixed refl)
+right_later view (Either before after) m n bytes fixed r = r
+right_later view (Through first last) m n bytes fixed r = r
+
+by_lines : (view : JudgeView) (window : Window) (m n : ℕ) → AreMedia view.start view.events m → AreMedia view.start view.events n → window ≢ Itself →
+    IsByLines view.start (at_moment view.events m) (at_moment view.events n) (LoadsOf view m) (LoadsOf view n) (IsFoundOf view (is_among window m) m)
+    (IsFoundOf view (is_among window n) n)
+by_lines view window m n whole next fixed = record {
+  asked = λ c good. loads_of view m c (Ok good.0) good.1;
+  same = λ c k lines loads agree. loads_later view m n whole next c k lines loads agree;
+  once = λ k lines others a b. loads_once view n k lines others a b;
+  good = λ c k lines loads agree good. (
+    good.0,
+    shows_later view m n whole next c k lines (Ok good.0) loads agree good.1,
+    right_later view window m n good.0 fixed good.2,
+  );
+  alike = λ k c found same f. found_alike view (is_among window m) m k c found same f;
+}
+
+pub kept_next : (view : JudgeView) (m : ℕ) (d : Event) (flags : List Bool) (window : Window) → AreMedia view.start view.events m →
+    AreMedia view.start view.events (m + 1) → m < length view.events → window ≢ Itself → IsUnseen flags (get_or view.events m d) →
+    IsWindow view.events (m + 1) window → IsPassed view flags window m → IsPassed view flags window (m + 1)
+kept_next view m d flags window whole next there fixed unseen is passed =
+    let kept = pass_kept view.start (at_moment view.events m) (at_moment view.events (m + 1)) flags (SameBytes view m) (SameBytes view (m + 1))
+    (LoadsOf view m) (LoadsOf view (m + 1))
+    (IsFoundOf view (is_among window m) m) (IsFoundOf view (is_among window (m + 1)) (m + 1))
+    (λ l n o x y e. x (line_at view.start l) ∙ e ∙ sym (y (line_at view.start l))) (like_next view.start view.events m d flags there unseen)
+    (by_lines view window m (m + 1) whole next fixed) passed.flagged passed.passes in
+    record { there = omega arith; is_window = is; flagged = kept.0; passes = kept.1 }

@@ -1,0 +1,14 @@
+pub mod Beginning
+pub mod Gathering
+pub mod Keeping
+pub mod Running
+pub mod Sameness
+pub mod Alone
+pub mod Begun
+pub mod Ends
+pub mod Faulting
+pub mod Looping
+pub mod Marked
+pub mod Spanning
+pub mod Staying
+pub mod Telling

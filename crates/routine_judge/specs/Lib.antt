@@ -1,0 +1,12 @@
+pub mod Views
+pub mod Images
+pub mod RightAnswers
+pub mod Branchwise
+pub mod Contents
+pub mod Gathered
+pub mod Verdicts
+pub mod Standing
+pub mod MarkFaults
+pub mod Operations
+pub mod Spans
+pub mod Windows

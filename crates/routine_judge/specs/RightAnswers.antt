@@ -1,0 +1,62 @@
+-- Which answers of the routine are right at a moment, and what is found of an image.
+-- This project's own: a routine shows the structure as before or after the operation under way, as a reader that met no power cut
+-- would have seen it.
+use Rattle.std.specs.Prelude.{◌≡◌, ℕ, ◌≤◌, ◌==◌, ◌&&◌, ◌||◌, nat_le, Bool, true, List, Option, Some, None, Result, Ok, Err}
+use Rattle.routine_judge.specs.Images.{full_cut}
+use Rattle.routine_judge.specs.Views.{JudgeView}
+use Rattle.routine_judge.specs.declared.cause.Cause.{Cause}
+use Rattle.routine_judge.specs.declared.cause.Cause.TheVariants.{Missing, Different, Full}
+use Rattle.routine_judge.specs.declared.history.moments.Window.{Window}
+use Rattle.routine_judge.specs.declared.history.moments.Window.TheVariants.{Itself, Either, Through}
+use Rattle.recovery.specs.Images.{Answers, HasSameBytes, Loads}
+use Rattle.recovery.specs.declared.recovery_run.Cause as run
+use Rattle.store_trace.specs.History.{at_moment}
+
+-- on the image of a cut of moment m the routine comes to this
+abbrev pub Shows : JudgeView → ℕ → (ℕ → ℕ) → Result (List ℕ) run.Cause → Type 0
+Shows view m cut found = Answers view.routine view.steps view.start (at_moment view.events m) cut found
+
+-- and it loads these lines of it
+abbrev pub LoadsOf : JudgeView → ℕ → (ℕ → ℕ) → List ℕ → Type 0
+LoadsOf view m cut lines = Loads view.routine view.steps view.start (at_moment view.events m) cut lines
+
+-- a line of the images of moment m has the same bytes after two numbers of its stores
+abbrev pub SameBytes : JudgeView → ℕ → ℕ → ℕ → ℕ → Type 0
+SameBytes view m l n o = HasSameBytes view.start (at_moment view.events m) l n o
+
+-- on the full image of moment m it comes to this
+abbrev pub ShowsFull : JudgeView → ℕ → Result (List ℕ) run.Cause → Type 0
+ShowsFull view m found = Shows view m (full_cut view.events m) found
+
+-- whether moment i is one of those whose full images give the right answers of moment m, which has this window
+abbrev pub is_among : Window → ℕ → ℕ → Bool
+is_among Itself m i = i == m
+is_among (Either before after) m i = (i == before) || (i == after)
+is_among (Through first last) m i = nat_le first i && nat_le i last
+
+-- the bytes are the answer on one of these full images
+abbrev pub IsRightOf : JudgeView → (ℕ → Bool) → List ℕ → Type 0
+IsRightOf view among bytes = (i : ℕ) × (among i ≡ true) × ShowsFull view i (Ok bytes)
+
+-- the last of these moments, on whose full image the routine has no answer for this cause
+pub record HasLastCause (view : JudgeView) (among : ℕ → Bool) (cause : run.Cause) : Type 0 where
+  pub last : ℕ
+  pub here : among last ≡ true
+  pub later : (i : ℕ) → among i ≡ true → i ≤ last
+  pub missing : ShowsFull view last (Err cause)
+
+-- none of these full images has an answer
+abbrev pub AreMissing : JudgeView → (ℕ → Bool) → Type 0
+AreMissing view among = (bytes : List ℕ) → ¬ IsRightOf view among bytes
+
+-- why the image of a cut is bad, where these full images give the right answers
+abbrev pub IsBadOf : JudgeView → (ℕ → Bool) → ℕ → (ℕ → ℕ) → Cause → Type 0
+IsBadOf view among m cut (Missing cause) = Shows view m cut (Err cause)
+IsBadOf view among m cut Different = (bytes : List ℕ) × Shows view m cut (Ok bytes) × (¬ IsRightOf view among bytes)
+    × ((right : List ℕ) × IsRightOf view among right)
+IsBadOf view among m cut (Full cause) = (bytes : List ℕ) × Shows view m cut (Ok bytes) × AreMissing view among × HasLastCause view among cause
+
+-- what is found of the image of a cut: that its answer is right, or why it is bad
+abbrev pub IsFoundOf : JudgeView → (ℕ → Bool) → ℕ → (ℕ → ℕ) → Option Cause → Type 0
+IsFoundOf view among m cut None = (bytes : List ℕ) × Shows view m cut (Ok bytes) × IsRightOf view among bytes
+IsFoundOf view among m cut (Some cause) = IsBadOf view among m cut cause

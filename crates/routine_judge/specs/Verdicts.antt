@@ -1,0 +1,47 @@
+-- The verdict on a moment and on a row of moments, by the answers of a recovery routine.
+-- Source: Vinter, USENIX ATC 2022: every crash image is recovered, and the state that shows is judged.
+use Rattle.std.specs.Prelude.{◌≢◌, ℕ, ◌+◌, ◌<◌, Bool, List, [], length, max, min, is_some}
+use Rattle.std.specs.List.{position_from}
+use Rattle.std.specs.Option.{option_map_or}
+use Rattle.store_trace.specs.Marks.{begun, begun_by}
+use Rattle.routine_judge.specs.RightAnswers.{IsFoundOf, LoadsOf, SameBytes, is_among}
+use Rattle.routine_judge.specs.Views.{JudgeView}
+use Rattle.routine_judge.specs.declared.cause.Cause.{Cause}
+use Rattle.routine_judge.specs.declared.fault.JudgeFault.{JudgeFault}
+use Rattle.routine_judge.specs.declared.fault.JudgeFault.TheVariants as faults
+use Rattle.routine_judge.specs.MarkFaults.{AreSound, HasSoundBegin, IsFault}
+use Rattle.routine_judge.specs.Windows.{IsWindow}
+use Rattle.routine_judge.specs.declared.history.fault.MarkFault.TheVariants as marks
+use Rattle.routine_judge.specs.declared.history.moments.Window.{Window}
+use Rattle.verdict.specs.Verdicts.{IsMomentVerdict, IsVerdictBetween}
+use Rattle.verdict.specs.declared.moment_verdict.verdict.MomentVerdict.{MomentVerdict}
+use Rattle.verdict.specs.declared.moment_verdict.verdict.Verdict.{Verdict}
+use Rattle.store_trace.specs.History.{at_moment}
+use Rattle.store_trace.specs.declared.event.Event.{Event}
+
+-- the verdict on moment m: branches are opened by the lines that the routine loads and their bytes, and the answers on the full images
+-- of the moment's window are the right ones
+pub record IsJudged (view : JudgeView) (m : ℕ) (verdict : MomentVerdict Cause) : Type 0 where
+  pub window : Window
+  pub is_window : IsWindow view.events m window
+  pub judged : IsMomentVerdict (SameBytes view m) (LoadsOf view m) (IsFoundOf view (is_among window m) m) (at_moment view.events m) verdict
+
+-- the first moment that is judged: right after the first Begin, and past the last moment where there is none
+abbrev pub first_judged : List Event → ℕ
+first_judged events = option_map_or (λ at. at + 1) (position_from (λ event. is_some (begun_by event)) 0 events) (length events + 1)
+
+-- of the moments from `first` on that are below `end`, the first that is judged, and `end` where none is
+abbrev pub judged_from : List Event → ℕ → ℕ → ℕ
+judged_from events first end = min (max first (first_judged events)) end
+
+-- the verdict on those of these moments that are judged
+abbrev pub IsVerdict : JudgeView → ℕ → ℕ → Verdict Cause → Type 0
+IsVerdict view first end verdict = IsVerdictBetween (IsJudged view) view.events (judged_from view.events first end) end verdict
+
+-- Why there is no verdict on the moments from this one on: a wrong mark or that there is none, then that the moment isn't one of the run.
+-- A growth is refused behind marks that are right, one of which begins an operation.
+abbrev pub IsRefusal : Bool → List Event → ℕ → JudgeFault → Type 0
+IsRefusal overlapping events first (faults.Marks fault) = IsFault overlapping events fault × (fault ≢ marks.Memory)
+IsRefusal overlapping events first faults.NoSuchMoment =
+    AreSound overlapping events (length events) × (begun events ≢ []) × (length events < first)
+IsRefusal overlapping events first faults.Memory = HasSoundBegin overlapping events

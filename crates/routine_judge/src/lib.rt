@@ -1,0 +1,31 @@
+//! The verdict over crash images by a recovery routine: whether every state that a power cut may leave shows, to the routine, the
+//! structure as it was before or after the operation under way.
+//!
+//! Source: Vinter, USENIX ATC 2022: crash images are made from a trace, and the state that recovery shows in each is judged. Which
+//! answers are right is this project's own.
+#![tactic(auto)]
+
+mod cause;
+mod contents;
+mod fault;
+mod full_image;
+mod history;
+mod images;
+mod judge;
+mod judging;
+mod passing;
+mod right;
+mod run;
+mod window;
+
+pub use cause::Cause;
+pub use fault::JudgeFault;
+pub use history::{
+    MarkFault, Window, Windows, alone_is_the_only_one, check_marks, is_judged, one_window,
+    operations_apart_have_few, pending_operations_began, windows_lie_in_the_run,
+    windows_stay_between_marks,
+};
+pub use judge::MomentJudge;
+pub use judging::{Judgement, judged_part};
+pub use run::MarkedRun;
+pub use verdict::{ImageName, MomentVerdict, Verdict};

@@ -1,0 +1,194 @@
+//! A run whose moments are judged by a recovery routine.
+
+ghost use Rattle.crash_image.specs.View.{HasLines};
+ghost use Rattle.store_trace.specs.Marks.{begun};
+ghost use Rattle.routine_judge.specs.Contents.{last_before, same_end};
+ghost use Rattle.routine_judge.specs.Verdicts.{IsRefusal, first_judged, judged_from};
+ghost use Rattle.store_trace.specs.History.{at_moment, history};
+ghost use Rattle.store_trace.specs.Stores.{stores};
+ghost use Rattle.routine_judge.specs.MarkFaults.{AreSound};
+ghost use Rattle.routine_judge.specs.Windows.{IsWindow};
+ghost use Rattle.std.specs.Prelude.{◌≡◌, ◌≢◌, ◌+◌, ◌<◌, ◌≤◌, ℕ, [], length, IfErr, IfOk};
+
+use crate::JudgeFault;
+use crate::contents::Contents;
+use crate::history::{MarkFault, Window, Windows, begins, check_marks};
+use crash_image::TraceIndex;
+use line_memory::Medium;
+use program::Program;
+use recovery::Routine;
+use std::alloc::{AllocError, Global};
+use std::marker::Model;
+use store_trace::{Event, Trace};
+
+/// A run whose marks are right, with the routine by which its moments are judged. Judges of moments share it.
+///
+/// A contract sees the routine and its steps, the lines of the starting medium, and the events.
+#[derive(Drop)]
+pub struct MarkedRun<'a> {
+    pub(crate) medium: &'a Medium,
+    pub(crate) trace: &'a Trace,
+    routine: &'a Program,
+    /// How many steps the routine makes at most on an image.
+    pub(crate) steps: u32,
+    pub(crate) index: TraceIndex<'a>,
+    contents: Contents,
+    windows: Windows,
+    /// The number of lines of the medium.
+    pub(crate) lines: u32,
+    /// The number of moments: one more than there are events.
+    moments: u32,
+    /// The first moment that is judged.
+    begin: u32,
+}
+
+impl<'a> Model for MarkedRun<'a> {
+    ghost use Rattle.crash_image.specs.View.{HasLines};
+    ghost use Rattle.routine_judge.specs.Verdicts.{first_judged};
+    ghost use Rattle.routine_judge.specs.Contents.{AreContents};
+    ghost use Rattle.routine_judge.specs.Views.{JudgeView};
+    ghost use Rattle.routine_judge.specs.Spans.{AreWindows};
+    ghost use Rattle.line_memory.specs.Lines.{IsMedium};
+    ghost use Rattle.store_trace.specs.TraceView.{IsEvent};
+    ghost use Rattle.std.specs.Prelude.{◌≡◌, ◌+◌, ◌≤◌, length, All};
+
+    ghost Value = { JudgeView };
+
+    ghost view = { λ r. record { routine = r.routine.now; steps = r.steps; start = r.medium.now; events = r.trace.now.events } };
+
+    ghost invariant = { λ r. HasLines r.medium.now r.trace.now.events
+        × (r.index.start ≡ r.medium.now)
+        × (r.index.events ≡ r.trace.now.events)
+        × AreWindows r.trace.now.events r.windows
+        × IsMedium r.medium.now
+        × All IsEvent r.trace.now.events
+        × (r.lines ≡ length r.medium.now)
+        × (r.moments ≡ length r.trace.now.events + 1)
+        × (r.moments ≤ 65537)
+        × (r.begin ≡ first_judged r.trace.now.events)
+        × AreContents r.medium.now r.trace.now.events r.contents };
+}
+
+impl<'a> MarkedRun<'a> {
+    /// The run of this trace, which started from the medium, judged by a routine that makes at most so many steps on an image.
+    /// Operations may overlap where `overlapping` says so. The medium has every line that the trace names.
+    ///
+    /// # Errors
+    /// A wrong mark of an operation, or that there is none. Memory where a growth is refused, behind a Begin that is right.
+    #[tactic(auto, using(crate::proofs::Begun::sound_begin))]
+    pub fn new(
+        alloc: Global,
+        medium: &'a Medium,
+        trace: &'a Trace,
+        routine: &'a Program,
+        steps: u32,
+        overlapping: bool,
+    ) -> Result<MarkedRun<'a>, JudgeFault>
+        requires { HasLines medium.now trace.now.events }
+        ensures ok { IfOk result (λ run. run ≡ record { routine = routine.now; steps = steps; start = medium.now; events = trace.now.events }) }
+        ensures sound { IfOk result (λ run. AreSound overlapping trace.now.events (length trace.now.events)) }
+        ensures begins { IfOk result (λ run. begun trace.now.events ≢ []) }
+        ensures err { IfErr result (IsRefusal overlapping trace.now.events 0) }
+    {
+        match check_marks(alloc, trace, overlapping) {
+            Ok(()) => {}
+            Err(MarkFault::Memory) => return Err(JudgeFault::Memory),
+            Err(fault) => return Err(JudgeFault::Marks(fault)),
+        }
+        let run = MarkedRun::of(alloc, medium, trace, routine, steps)?;
+        Ok(run)
+    }
+
+    /// The run of a trace.
+    fn of(
+        alloc: Global,
+        medium: &'a Medium,
+        trace: &'a Trace,
+        routine: &'a Program,
+        steps: u32,
+    ) -> Result<MarkedRun<'a>, AllocError>
+        requires { HasLines medium.now trace.now.events }
+        ensures { IfOk result (λ run. run ≡ record { routine = routine.now; steps = steps; start = medium.now; events = trace.now.events }) }
+    {
+        let windows = Windows::of(alloc, trace)?;
+        let index = TraceIndex::new(alloc, medium, trace)?;
+        let contents = Contents::new(alloc, &index, trace.events().len() as u32)?;
+        let lines = index.lines();
+        let moments = trace.events().len() as u32 + 1;
+        let begin = first_judged(trace.events());
+        Ok(MarkedRun {
+            medium,
+            trace,
+            routine,
+            steps,
+            index,
+            contents,
+            windows,
+            lines,
+            moments,
+            begin,
+        })
+    }
+
+    /// The number of moments: one more than there are events.
+    pub fn moments(&self) -> u32
+        ensures count { result ≡ length self.now.events + 1 }
+        ensures most { result ≤ 65537 }
+    {
+        self.moments
+    }
+
+    /// Of the moments from `first` on that are below `end` the first that is judged; `end` where none is. Moments are judged from the
+    /// first Begin on.
+    pub fn judged_from(&self, first: u32, end: u32) -> u32
+        ensures { result ≡ judged_from self.now.events first end }
+    {
+        first.max(self.begin).min(end)
+    }
+
+    /// A routine of its own for a judge of the run's moments.
+    pub(crate) fn routine(&self, alloc: Global) -> Result<Routine, AllocError>
+        ensures program { IfOk result (λ routine. routine.program ≡ self.now.routine) }
+        ensures lines { IfOk result (λ routine. routine.lines ≡ length self.now.start) }
+    {
+        let program = self.routine.copy(alloc)?;
+        match Routine::new(alloc, program, self.lines) {
+            Ok(routine) => Ok(routine),
+            Err(_memory) => Err(AllocError),
+        }
+    }
+
+    /// The last number of stores of a line below this one after which it holds the same bytes, at each moment that has them.
+    #[inline(always)]
+    pub(crate) fn last_same(&self, line: u32, number: u32) -> Option<u32>
+        requires line { line < length self.now.start }
+        requires number { (0 < number) × (number ≤ stores line (history self.now.events)) }
+        ensures { (moment : ℕ) → number ≤ stores line (at_moment self.now.events moment) →
+            result ≡ last_before (same_end self.now.start (at_moment self.now.events moment) line number) }
+    {
+        self.contents.lines[line as usize].last_same(number)
+    }
+
+    /// Which full images give the right answers of a moment.
+    pub(crate) fn window(&self, moment: u32) -> Window
+        requires { moment ≤ length self.now.events }
+        ensures window { IsWindow self.now.events moment result }
+        ensures few { length self.now.events ≤ 65536 }
+    {
+        self.windows.at(self.trace.events(), moment as usize)
+    }
+}
+
+/// The first moment that is judged: right after the first Begin, and past the last moment where there is none.
+#[tactic(auto, using(crate::proofs::Beginning::begins_here, crate::proofs::Beginning::begins_later, crate::proofs::Beginning::begins_nowhere))]
+fn first_judged(events: &[Event]) -> u32
+    requires { length events.now ≤ 65536 }
+    ensures { result ≡ first_judged events.now }
+{
+    for at in 0..events.len() {
+        if begins(events[at]) {
+            return at as u32 + 1;
+        }
+    }
+    events.len() as u32 + 1
+}

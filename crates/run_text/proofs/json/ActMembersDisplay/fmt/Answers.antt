@@ -1,5 +1,0 @@
-use Rattle.std.proofs.Common.{rules, sym}
-use Rattle.run_text.proofs.json.ActMembersDisplay.fmt.Goals as goal
-
-pub returns-in-Store-clause-writes : goal.returns-in-Store-clause-writes
-returns-in-Store-clause-writes g c = rw c.in-Store.is (rw (sym c.stored-value.ensures) (search rules))

@@ -1,4 +1,0 @@
-pub mod Places
-pub mod Events
-pub mod Causes
-pub mod Json

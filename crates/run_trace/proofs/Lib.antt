@@ -1,3 +1,0 @@
-pub mod OneHart
-pub mod Traces
-pub mod Tracing

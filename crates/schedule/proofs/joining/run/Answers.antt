@@ -1,7 +1,0 @@
-use Rattle.std.proofs.Common.{◌∙◌, refl}
-use Rattle.schedule.proofs.RunLemmas.{run_joined}
-use Rattle.schedule.proofs.joining.run.Goals as goal
-
-pub returns : goal.returns
-returns c = rw (c.split_at.ensures.front, c.split_at.ensures.back)
-    (run_joined c.args.hart c.args.items.now c.unwrap_or.result (c.unwrap_or.ensures ∙ rw c.end.ensures refl))

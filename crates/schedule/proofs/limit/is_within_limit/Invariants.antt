@@ -1,6 +1,0 @@
-use Rattle.std.proofs.Common.{◌≡◌, ◌<◌, ◌^◌, take}
-use Rattle.schedule.specs.Grammar.{hart_steps}
-use Rattle.schedule.proofs.limit.is_within_limit.Given as goal
-
-abbrev pub invariant-loop-item : goal.invariant-loop-item
-invariant-loop-item l = (l.total ≡ hart_steps (take l.item-index l.items)) × (l.total < 2 ^ 32)

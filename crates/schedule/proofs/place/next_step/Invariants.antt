@@ -1,6 +1,0 @@
-use Rattle.std.proofs.Common.{[]}
-use Rattle.schedule.specs.Places.{Leads}
-use Rattle.schedule.proofs.place.next_step.Given as goal
-
-abbrev pub invariant-loop-item : goal.invariant-loop-item
-invariant-loop-item l = Leads l.items l.fn.from (record { item = l.item; steps = l.steps }) []

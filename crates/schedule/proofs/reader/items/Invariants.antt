@@ -1,9 +1,0 @@
-use Rattle.std.proofs.Common.{length}
-use Rattle.schedule.proofs.Said.{IsRead}
-use Rattle.schedule.proofs.reader.items.Given as goal
-
-abbrev pub invariant-loop-word : goal.invariant-loop-word
-invariant-loop-word l = IsRead l.text l.schedule l.rest
-
-abbrev pub decreases-loop-word : goal.decreases-loop-word
-decreases-loop-word l = length l.rest

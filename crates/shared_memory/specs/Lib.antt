@@ -1,9 +1,0 @@
-pub mod Cached
-pub mod Faults
-pub mod Histories
-pub mod Limits
-pub mod Persisted
-pub mod Placement
-pub mod Refusals
-pub mod Replies
-pub mod SharedView

@@ -1,6 +1,0 @@
-use Rattle.store_trace.specs.History.{at_moment}
-use Rattle.trace_index.specs.Pendings.{AreIndexed}
-use Rattle.trace_index.proofs.build.lines_of.Given as goal
-
-abbrev pub invariant-loop-at : goal.invariant-loop-at
-invariant-loop-at l = AreIndexed l.medium (at_moment l.events) l.at l.lines.items l.pending.items

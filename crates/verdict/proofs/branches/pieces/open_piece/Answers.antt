@@ -1,0 +1,16 @@
+use Rattle.std.proofs.Common.{◌≡◌, ◌∙◌, [], ap, length, refl}
+use Rattle.std.proofs.lemmas.List.{length-replicate}
+use Rattle.verdict.proofs.Opening.{fresh_decided}
+use Rattle.verdict.proofs.branches.pieces.open_piece.Goals as goal
+
+pub open_up_to-requires-clause-piece : goal.open_up_to-requires-clause-piece
+open_up_to-requires-clause-piece g c κs within =
+    let e = c.in_ok-new.ensures in
+    record {
+      done = [];
+      count = refl;
+      least_size = e.least ∙ c.lines.ensures;
+      asked_size = ap length e.asked ∙ length-replicate _ _ ∙ c.lines.ensures;
+      only = fresh_decided _ _ e.asked;
+      runs = record { answers = tt; asked = tt; best = tt; branches = e.found };
+    }

@@ -1,0 +1,13 @@
+pub mod Stretches
+pub mod Rows
+pub mod Keeping
+pub mod Verdicts
+pub mod Branches
+pub mod Numbers
+pub mod Queue
+pub mod Opened
+pub mod Least
+pub mod Pieces
+pub mod Openings
+pub mod CutImages
+pub mod Progress

@@ -1,0 +1,79 @@
+-- The verdicts on a moment and on a row of moments, whatever judges an image. Cuts of whose images recovery asks the same lines, and
+-- finds them alike, share a branch; a moment with over 65,536 branches isn't judged.
+-- `asks c lines` says which lines recovery asks of the image of the cut c, `alike l n m` that line l is the same for it after n of its
+-- stores as after m, and `found c cause` what is found of the image: its cause where it is bad, and None where it is good.
+-- Source: Vinter, USENIX ATC 2022: every crash image is recovered, and the state that shows is judged.
+use Rattle.std.specs.Prelude.{◌≡◌, ℕ, ◌+◌, ◌<◌, ◌≤◌, Bool, true, List, Option, Some, None}
+use Rattle.std.specs.List.{AllByRecursion}
+use Rattle.verdict.specs.Branches.{AreOver, IsWithin}
+use Rattle.verdict.specs.Numbers.{is_flagged}
+use Rattle.crash_image.specs.Named.{IsNameOf}
+use Rattle.crash_image.specs.Totals.{IsImageSum, sum_of}
+use Rattle.store_trace.specs.Cut.{IsBefore, IsCut, number_in}
+use Rattle.store_trace.specs.Floor.{floor}
+use Rattle.store_trace.specs.Stores.{stores}
+use Rattle.store_trace.specs.declared.crash_model.step.PersistenceStep.{PersistenceStep}
+use Rattle.store_trace.specs.declared.event.Event.{Event}
+use Rattle.verdict.specs.declared.moment_verdict.verdict.MomentVerdict.{MomentVerdict}
+use Rattle.verdict.specs.declared.moment_verdict.verdict.MomentVerdict.TheVariants as moments
+use Rattle.verdict.specs.declared.moment_verdict.verdict.Verdict.{Verdict}
+use Rattle.verdict.specs.declared.moment_verdict.verdict.Verdict.TheVariants as runs
+
+-- there are over 65,536 branches after these persistence steps
+abbrev pub HasManyBranches : (ℕ → ℕ → ℕ → Type 0) → ((ℕ → ℕ) → List ℕ → Type 0) → List PersistenceStep → Type 0
+HasManyBranches alike asks p = AreOver alike asks (λ l. floor l p) (λ l. stores l p) 65536
+
+-- every line that recovery asks of an image of these steps is flagged
+abbrev pub AreFlagged : ((ℕ → ℕ) → List ℕ → Type 0) → List PersistenceStep → List Bool → Type 0
+AreFlagged asks p flags = (k : ℕ → ℕ) → IsWithin (λ l. floor l p) (λ l. stores l p) k → (lines : List ℕ) → asks k lines →
+    AllByRecursion (λ l. is_flagged l flags ≡ true) lines
+
+-- the image of every cut is good
+abbrev pub AreGood : {Cause : Type 0} → ((ℕ → ℕ) → Option Cause → Type 0) → List PersistenceStep → Type 0
+AreGood found p = (cut : List (ℕ × ℕ)) → IsCut p cut → found (number_in cut) None
+
+-- the least bad cut, in the order of cuts, and its cause
+pub record IsLeastBad {Cause : Type 0} (found : (ℕ → ℕ) → Option Cause → Type 0) (p : List PersistenceStep) (cut : List (ℕ × ℕ)) (cause : Cause) : Type 0 where
+  pub there : IsCut p cut
+  pub bad : found (number_in cut) (Some cause)
+  pub least : (other : List (ℕ × ℕ)) → IsCut p other → IsBefore other cut → found (number_in other) None
+
+-- the verdict on the moment after these persistence steps
+abbrev pub IsMomentVerdict : {Cause : Type 0} → (ℕ → ℕ → ℕ → Type 0) → ((ℕ → ℕ) → List ℕ → Type 0) → ((ℕ → ℕ) → Option Cause → Type 0) →
+    List PersistenceStep → MomentVerdict Cause → Type 0
+IsMomentVerdict alike asks found p moments.Pass = (¬ HasManyBranches alike asks p) × AreGood found p
+IsMomentVerdict alike asks found p (moments.Fail name cause) = (¬ HasManyBranches alike asks p)
+    × ((cut : List (ℕ × ℕ)) × IsNameOf p cut name × IsLeastBad found p cut cause)
+IsMomentVerdict alike asks found p moments.TooMany = HasManyBranches alike asks p
+
+-- the claim holds where the moment passes
+abbrev pub IfPassed : {Cause : Type 0} → MomentVerdict Cause → Type 0 → Type 0
+IfPassed moments.Pass claim = claim
+IfPassed (moments.Fail name cause) claim = Unit {0}
+IfPassed moments.TooMany claim = Unit {0}
+
+-- the moments from `first` on that are below `end` pass, where `judged m` says which verdict there is on moment m
+abbrev pub PassBetween : {Cause : Type 0} → (ℕ → MomentVerdict Cause → Type 0) → ℕ → ℕ → Type 0
+PassBetween judged first end = (m : ℕ) → first ≤ m → m < end → judged m moments.Pass
+
+-- of the moments from `first` on that are below `end`, this is the least that doesn't pass, and its verdict
+pub record IsLeastMoment {Cause : Type 0} (judged : ℕ → MomentVerdict Cause → Type 0) (first end moment : ℕ) (verdict : MomentVerdict Cause) : Type 0 where
+  pub from : first ≤ moment
+  pub there : moment < end
+  pub passed : PassBetween judged first moment
+  pub here : judged moment verdict
+
+-- the verdict on these moments; a pass has their number and the sum of the numbers of their images, unless one of them has over 65,536
+abbrev pub IsVerdictBetween : {Cause : Type 0} → (ℕ → MomentVerdict Cause → Type 0) → List Event → ℕ → ℕ → Verdict Cause → Type 0
+IsVerdictBetween judged events first end (runs.Pass moments images) =
+    (first + moments ≡ end) × IsImageSum events first end images × PassBetween judged first end
+IsVerdictBetween judged events first end (runs.Fail moment name cause) = IsLeastMoment judged first end moment (moments.Fail name cause)
+IsVerdictBetween judged events first end (runs.TooMany moment) = IsLeastMoment judged first end moment moments.TooMany
+
+-- the verdict on two rows of moments, of which the second begins where the first ends
+abbrev pub joined : {Cause : Type 0} → Verdict Cause → Verdict Cause → Verdict Cause
+joined (runs.Pass moments images) (runs.Pass more others) = runs.Pass (moments + more) (sum_of images others)
+joined (runs.Pass moments images) (runs.Fail moment name cause) = runs.Fail moment name cause
+joined (runs.Pass moments images) (runs.TooMany moment) = runs.TooMany moment
+joined (runs.Fail moment name cause) other = runs.Fail moment name cause
+joined (runs.TooMany moment) other = runs.TooMany moment

@@ -1,0 +1,148 @@
+//! What recovery comes to at branches that follow each other in the queue.
+
+ghost use Rattle.std.specs.Prelude.{◌≡◌, ◌+◌, ◌<◌, ◌≤◌, length, IfOk, OnOk};
+ghost use Rattle.verdict.specs.Pieces.{AreCuts, IsPiece};
+
+use crate::branches::Recovery;
+use crate::branches::findings::Findings;
+use crate::branches::queue::Entry;
+use crate::branches::run::Run;
+use std::alloc::{AllocError, Global};
+
+/// A piece that found more branches than this ends early, so that a round takes little memory.
+const MUCH: usize = 65_536;
+
+/// What recovery came to at branches that follow each other in the queue.
+#[derive(Drop)]
+pub struct Piece<Cause> {
+    /// The place of the first of them.
+    pub first: usize,
+    /// How many they are.
+    pub count: usize,
+    pub findings: Findings,
+    /// Why the least bad cut of them is bad, if one is.
+    pub cause: Option<Cause>,
+}
+
+/// Runs recovery at so many branches of the queue from place `first` on, or at fewer where the queue ends or much is found.
+pub fn open_piece<R: Recovery>(
+    alloc: Global,
+    recovery: &R,
+    queue: &[Entry],
+    first: usize,
+    count: usize,
+) -> Result<Piece<R::Cause>, AllocError>
+    requires cuts { AreCuts (R.low recovery.now) (R.high recovery.now) (R.lines recovery.now) queue.now }
+    requires workspace { (other : R.Workspace) × R.fits recovery.now other }
+    ensures { IfOk result (IsPiece (R.asks recovery.now) (R.judged recovery.now) (R.last_alike recovery.now) (R.low recovery.now) (R.high recovery.now) (R.lines recovery.now) queue.now) }
+{
+    let mut piece = Piece {
+        first,
+        count: 0,
+        findings: Findings::new(alloc, recovery.lines())?,
+        cause: None,
+    };
+    let end = first.saturating_add(count).min(queue.len());
+    open_up_to(alloc, recovery, queue, end, &mut piece)?;
+    Ok(piece)
+}
+
+/// Runs recovery at the branches of a piece that counts none yet, up to place `end`, or at fewer where much is found.
+fn open_up_to<R: Recovery>(
+    alloc: Global,
+    recovery: &R,
+    queue: &[Entry],
+    end: usize,
+    piece: &mut Piece<R::Cause>,
+) -> Result<(), AllocError>
+    requires workspace { (other : R.Workspace) × R.fits recovery.now other }
+    requires none { piece.old.count ≡ 0 }
+    requires end { end ≤ length queue.now }
+    requires cuts { AreCuts (R.low recovery.now) (R.high recovery.now) (R.lines recovery.now) queue.now }
+    requires piece { IsPiece (R.asks recovery.now) (R.judged recovery.now) (R.last_alike recovery.now) (R.low recovery.now) (R.high recovery.now) (R.lines recovery.now) queue.now piece.old }
+    ensures { OnOk result (IsPiece (R.asks recovery.now) (R.judged recovery.now) (R.last_alike recovery.now) (R.low recovery.now) (R.high recovery.now) (R.lines recovery.now) queue.now piece.new) }
+{
+    let mut workspace = recovery.workspace(alloc)?;
+    open_in(alloc, recovery, &mut workspace, queue, end, piece)
+}
+
+/// Does so in this workspace.
+fn open_in<R: Recovery>(
+    alloc: Global,
+    recovery: &R,
+    workspace: &mut R::Workspace,
+    queue: &[Entry],
+    end: usize,
+    piece: &mut Piece<R::Cause>,
+) -> Result<(), AllocError>
+    requires none { piece.old.count ≡ 0 }
+    requires end { end ≤ length queue.now }
+    requires fits { R.fits recovery.now workspace.old }
+    requires cuts { AreCuts (R.low recovery.now) (R.high recovery.now) (R.lines recovery.now) queue.now }
+    requires piece { IsPiece (R.asks recovery.now) (R.judged recovery.now) (R.last_alike recovery.now) (R.low recovery.now) (R.high recovery.now) (R.lines recovery.now) queue.now piece.old }
+    ensures { OnOk result (IsPiece (R.asks recovery.now) (R.judged recovery.now) (R.last_alike recovery.now) (R.low recovery.now) (R.high recovery.now) (R.lines recovery.now) queue.now piece.new) }
+{
+    let mut run = Run::new(alloc, recovery.lines())?;
+    open_each(alloc, recovery, workspace, &mut run, queue, end, piece)
+}
+
+/// Does so by this run.
+fn open_each<R: Recovery>(
+    alloc: Global,
+    recovery: &R,
+    workspace: &mut R::Workspace,
+    run: &mut Run,
+    queue: &[Entry],
+    end: usize,
+    piece: &mut Piece<R::Cause>,
+) -> Result<(), AllocError>
+    requires none { piece.old.count ≡ 0 }
+    requires end { end ≤ length queue.now }
+    requires size { length run.old.numbers ≡ R.lines recovery.now }
+    requires fits { R.fits recovery.now workspace.old }
+    requires cuts { AreCuts (R.low recovery.now) (R.high recovery.now) (R.lines recovery.now) queue.now }
+    requires piece { IsPiece (R.asks recovery.now) (R.judged recovery.now) (R.last_alike recovery.now) (R.low recovery.now) (R.high recovery.now) (R.lines recovery.now) queue.now piece.old }
+    ensures { OnOk result (IsPiece (R.asks recovery.now) (R.judged recovery.now) (R.last_alike recovery.now) (R.low recovery.now) (R.high recovery.now) (R.lines recovery.now) queue.now piece.new) }
+{
+    for place in piece.first..end {
+        if piece.findings.found.len() > MUCH {
+            break;
+        }
+        open_at(alloc, recovery, workspace, run, queue, place, piece)?;
+    }
+    Ok(())
+}
+
+/// Runs recovery at the branch at this place of the queue, which is the next one of the piece.
+fn open_at<R: Recovery>(
+    alloc: Global,
+    recovery: &R,
+    workspace: &mut R::Workspace,
+    run: &mut Run,
+    queue: &[Entry],
+    place: usize,
+    piece: &mut Piece<R::Cause>,
+) -> Result<(), AllocError>
+    requires there { place < length queue.now }
+    requires next { place ≡ piece.old.first + piece.old.count }
+    requires cuts { AreCuts (R.low recovery.now) (R.high recovery.now) (R.lines recovery.now) queue.now }
+    requires size { length run.old.numbers ≡ R.lines recovery.now }
+    requires fits { R.fits recovery.now workspace.old }
+    requires piece { IsPiece (R.asks recovery.now) (R.judged recovery.now) (R.last_alike recovery.now) (R.low recovery.now) (R.high recovery.now) (R.lines recovery.now) queue.now piece.old }
+    ensures piece { OnOk result (IsPiece (R.asks recovery.now) (R.judged recovery.now) (R.last_alike recovery.now) (R.low recovery.now) (R.high recovery.now) (R.lines recovery.now) queue.now piece.new) }
+    ensures first { piece.new.first ≡ piece.old.first }
+    ensures count { OnOk result (piece.new.count ≡ piece.old.count + 1) }
+    ensures size { length run.new.numbers ≡ length run.old.numbers }
+    ensures fits { R.fits recovery.now workspace.new }
+{
+    let judged = run.open(alloc, recovery, workspace, queue, place)?;
+    piece.cause = piece.findings.add(
+        &mut run.numbers,
+        judged,
+        &run.asked,
+        &run.found,
+        piece.cause,
+    )?;
+    piece.count += 1;
+    Ok(())
+}

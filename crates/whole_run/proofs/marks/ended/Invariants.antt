@@ -1,6 +1,0 @@
-use Rattle.std.proofs.Common.{◌≡◌, take}
-use Rattle.image_check.specs.Marks.{ended}
-use Rattle.whole_run.proofs.marks.ended.Given as goal
-
-abbrev pub invariant-loop-event : goal.invariant-loop-event
-invariant-loop-event l = l.numbers.items ≡ ended (take l.event-index l.events)
