@@ -65,7 +65,7 @@ pub record IsOpen (judge : OpenJudge) : Type 0 where
   pub moments : IfSome judge.command.moments IsUpward
   pub program : IsProgramOf judge.made.file.items judge.made.run.setup.program
 
--- what is told of a failing image, by the lines that the routine loads of it, where that is asked for
+-- what is told of a failing image, by the lines of which the routine loads bytes that it hasn't stored itself, where that is asked for
 abbrev pub ExplainsFailing : OpenJudge → Verdict Cause → Result (Option ExplainedImage) Failure → Type 0
 ExplainsFailing judge verdict =
     Explains (IsLoaded judge.recovery judge.command.steps) judge.made.run (failing judge.command.why verdict)

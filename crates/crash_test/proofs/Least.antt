@@ -3,7 +3,7 @@ use Rattle.std.proofs.Common.{◌≡◌, ℕ, ◌<◌, ◌≤◌, true, false, �
 use Rattle.std.specs.Prelude.{if◌then◌else◌, map, Some}
 use Rattle.std.proofs.lemmas.Bool.{cases_Bool}
 use Rattle.std.proofs.lemmas.Bool.Decides.{nat_tests}
-use Rattle.verdict.specs.Branches.{Agree, SameNumber}
+use Rattle.verdict.specs.Branches.{Agree, same_number}
 use Rattle.store_trace.proofs.Bounds.{floor_le_stores}
 use Rattle.std.proofs.lemmas.List.Elements.{All-map}
 use Rattle.store_trace.specs.Cut.{IsBefore, IsCut, number_in}
@@ -12,7 +12,7 @@ use Rattle.store_trace.specs.Stores.{stores}
 use Rattle.store_trace.specs.declared.crash_model.step.PersistenceStep.{PersistenceStep}
 use Rattle.image_check.specs.Alike.{branchwise}
 use Rattle.image_check.specs.Images.{IsGood, IsSpoilt, Passes, image_after}
-use Rattle.image_check.specs.Verdicts.{IsLeastBad}
+use Rattle.image_check.specs.Verdicts.{IsLeastBad, whole_line}
 use Rattle.image_check.specs.declared.cause.Cause.{Cause}
 use Rattle.image_check.specs.declared.cause.Cause.TheVariants.{Fault, Illegal}
 use Rattle.nova_log.specs.Volumes.{asked_lines}
@@ -61,12 +61,18 @@ elsewhere : (p : List PersistenceStep) (line : ℕ) (cut : List (ℕ × ℕ)) (l
 elsewhere p line [] l other = refl
 elsewhere p line (entry ∷ cut) l other = grind (arith, nat_tests, other, elsewhere p line cut l other)
 
+same_whole : (l n m : ℕ) → n ≡ m → same_number (whole_line l) n m ≡ true
+same_whole l n m e = grind (arith, e)
+
 agree : (p : List PersistenceStep) (line : ℕ) (cut : List (ℕ × ℕ)) (ls : List ℕ) → is_among ls line ≡ false
-    → Agree SameNumber (number_in (lower_in p line cut)) (number_in cut) ls
+    → Agree same_number (number_in (lower_in p line cut)) (number_in cut) (map whole_line ls)
 agree p line cut [] none = tt
 agree p line cut (l ∷ ls) none = elim (cases_Bool (l == line)) [
   | inl here ↦ absurd (grind (arith, here, none))
-  | inr other ↦ (elsewhere p line cut l other, agree p line cut ls (rw other at none))
+  | inr other ↦ (
+    same_whole l (number_in (lower_in p line cut) l) (number_in cut l) (elsewhere p line cut l other),
+    agree p line cut ls (rw other at none),
+  )
 ]
 
 -- no image is both good and bad
@@ -90,5 +96,5 @@ kept_is_read plan start events cut cause line bad above =
       | inr unasked ↦
           let good : Passes plan start events other = bad.least other (lowered_cut p line cut bad.there) (before p line cut above) in
           absurd (one_judgement plan start events (image_after start events other) cause good
-          (branchwise plan start events p (number_in cut) (number_in other) ls (Some cause) refl (agree p line cut ls unasked) bad.bad))
+          (branchwise plan start events p (number_in cut) (number_in other) (map whole_line ls) (Some cause) refl (agree p line cut ls unasked) bad.bad))
     ]

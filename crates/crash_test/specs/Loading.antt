@@ -1,11 +1,19 @@
--- The lines of an image that a recovery routine loads.
--- This project's own: what a routine does on a crash image (Vinter, USENIX ATC 2022) depends on what it loads of it.
-use Rattle.std.specs.Prelude.{ℕ, List, Result}
+-- The lines of an image of which a recovery routine asks bytes.
+-- This project's own: what a routine does on a crash image (Vinter, USENIX ATC 2022) depends on what it asks of it.
+use Rattle.std.specs.Prelude.{◌≡◌, ℕ, List, Result, map}
 use Rattle.program.specs.Sections.{Sections}
 use Rattle.recovery.specs.Routine.{Recovers}
 use Rattle.recovery.specs.declared.recovery_run.Cause.{Cause}
+use Rattle.verdict.specs.declared.branches.question.Question.{Question}
 
--- the routine's run on the image, of at most so many steps, loads these lines, the first one first, whatever it comes to
+-- the lines of questions, each as often as it is asked
+abbrev pub lines_of : List Question → List ℕ
+lines_of questions = map (λ (q : Question). q.line) questions
+
+-- the routine's run on the image, of at most so many steps, loads bytes of these lines that it hasn't stored itself, the first one first,
+-- whatever it comes to
 pub record IsLoaded (program : Sections) (steps : ℕ) (image : List (List ℕ)) (lines : List ℕ) : Type 0 where
+  pub questions : List Question
   pub found : Result (List ℕ) Cause
-  pub recovers : Recovers program image steps lines found
+  pub recovers : Recovers program image steps questions found
+  pub same : lines ≡ lines_of questions

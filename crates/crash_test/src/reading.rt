@@ -1,14 +1,16 @@
-//! The lines of an image that a recovery routine loads.
+//! The lines of an image of which a recovery routine asks bytes.
 
-ghost use Rattle.crash_test.specs.Loading.{IsLoaded};
+ghost use Rattle.crash_test.specs.Loading.{IsLoaded, lines_of};
+ghost use Rattle.std.specs.Prelude.{◌≡◌, IfOk};
 
 use crate::image_causes::Reader;
 use line_memory::Medium;
 use program::Program;
 use recovery::Routine;
 use std::alloc::{AllocError, Global};
+use verdict::Question;
 
-/// A recovery routine in assembly. It reads the lines that its run on an image loads.
+/// A recovery routine in assembly. It reads the lines of which its run on an image loads bytes that it hasn't stored itself.
 #[derive(Drop)]
 pub struct RoutineReader<'a> {
     pub program: &'a Program,
@@ -19,14 +21,21 @@ pub struct RoutineReader<'a> {
 impl Reader for RoutineReader<'_> {
     ghost reads = { λ s image lines. IsLoaded s.program.now s.steps image lines };
 
-    /// In the order in which it loads them, each as often as it is loaded.
+    /// In the order in which it asks them, each as often as it is asked.
     fn lines_read(&self, alloc: Global, image: &Medium) -> Result<Vec<u32>, AllocError> {
         let program = self.program.copy(alloc)?;
         let Ok(mut routine) = Routine::new(alloc, program, image.lines()) else {
             return Err(AllocError);
         };
-        // also a run without an answer loads lines
+        // also a run without an answer asks lines
         let _ = routine.run(alloc, image, self.steps)?;
-        Vec::from_slice(alloc, routine.lines_loaded())
+        lines_of(alloc, routine.asked())
     }
+}
+
+/// The lines of what is asked, each as often as it is asked.
+fn lines_of(alloc: Global, asked: &[Question]) -> Result<Vec<u32>, AllocError>
+    ensures { IfOk result (λ lines. lines.items ≡ lines_of asked.now) }
+{
+    asked.iter().map(|question| question.line).collect(alloc)
 }

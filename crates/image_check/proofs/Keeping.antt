@@ -1,11 +1,12 @@
 -- What recovery asks of an image, and whether it is legal, is settled by the lines that it asks.
-use Rattle.std.proofs.Common.{◌≡◌, ℕ, Bool, List, length, refl, sym, subst, ◌∙◌}
+use Rattle.std.proofs.Common.{◌≡◌, ℕ, Bool, List, [], ◌∷◌, length, map, refl, sym, ap, subst, ◌∙◌}
 use Rattle.store_trace.proofs.Images.{length_image}
 use Rattle.store_trace.specs.Image.{image}
 use Rattle.verdict.proofs.Keeping.{AgreeIn, IsByLines}
 use Rattle.verdict.specs.Keeping.{IsUnseen}
 use Rattle.nova_log.specs.Volumes.{asked_lines, volume_of}
-use Rattle.nova_log.proofs.Agreement.{same_recovery}
+use Rattle.nova_log.proofs.Agreement.{Agrees, same_recovery}
+use Rattle.verdict.specs.declared.branches.question.Question.{Question}
 use Rattle.plan.specs.declared.operation.Operation.{Operation}
 use Rattle.store_trace.specs.History.{history}
 use Rattle.store_trace.specs.declared.event.Event.{Event}
@@ -13,19 +14,23 @@ use Rattle.store_trace.specs.declared.event.Event.TheVariants.{Store, Clean, Fen
 use Rattle.nova_log.specs.declared.volume.entry.Entry.{Entry}
 use Rattle.image_check.specs.Keeping.{KeepsPass}
 use Rattle.image_check.specs.Legal.{IsLegal}
-use Rattle.image_check.specs.Verdicts.{asks_at, found_at}
+use Rattle.image_check.specs.Verdicts.{asks_at, found_at, whole_line}
 use Rattle.image_check.proofs.Opening.{found_alike}
 
 -- images that agree on what recovery asks of one of them have the same questions and the same volume
-same_asked : (start : List (List ℕ)) (before after : List Event) (c k : ℕ → ℕ) (lines : List ℕ) → asks_at start (history before) c lines →
-    AgreeIn (image start c (history before)) (image start k (history after)) lines →
+agrees_in : (lines others : List (List ℕ)) (ls : List ℕ) → AgreeIn lines others (map whole_line ls) → Agrees lines others ls
+agrees_in lines others [] h = tt
+agrees_in lines others (l ∷ ls) h = (h.0, agrees_in lines others ls h.1)
+
+same_asked : (start : List (List ℕ)) (before after : List Event) (c k : ℕ → ℕ) (questions : List Question) → asks_at start (history before) c questions →
+    AgreeIn (image start c (history before)) (image start k (history after)) questions →
     (asked_lines (image start k (history after)) ≡ asked_lines (image start c (history before)))
     × (volume_of (image start k (history after)) ≡ volume_of (image start c (history before)))
-same_asked start before after c k lines asks agree =
+same_asked start before after c k questions asks agree =
     let one = image start c (history before) in
     let other = image start k (history after) in
     let size : length other ≡ length one = length_image start k (history after) ∙ sym (length_image start c (history before)) in
-    same_recovery one other size (subst (λ (ls : List ℕ). AgreeIn one other ls) asks agree)
+    same_recovery one other size (agrees_in one other (asked_lines one) (subst (λ (qs : List Question). AgreeIn one other qs) asks agree))
 
 -- from a moment to a later one at which what was legal is legal
 pub by_lines : (plan : List Operation) (start : List (List ℕ)) (before after : List Event) →
@@ -33,11 +38,12 @@ pub by_lines : (plan : List Operation) (start : List (List ℕ)) (before after :
     IsByLines start (history before) (history after) (asks_at start (history before)) (asks_at start (history after)) (found_at plan start before)
     (found_at plan start after)
 by_lines plan start before after legal = record {
-  asked = λ c good. (asked_lines (image start c (history before)), refl);
-  same = λ c k lines asks agree. asks ∙ sym (same_asked start before after c k lines asks agree).0;
-  once = λ k lines others a b. a ∙ sym b;
-  good = λ c k lines asks agree good.
-      let same = (same_asked start before after c k lines asks agree).1 in
+  asked = λ c good. (map whole_line (asked_lines (image start c (history before))), refl);
+  same = λ c k questions asks agree.
+      asks ∙ ap (λ (ls : List ℕ). map whole_line ls) (sym (same_asked start before after c k questions asks agree).0);
+  once = λ k questions others a b. a ∙ sym b;
+  good = λ c k questions asks agree good.
+      let same = (same_asked start before after c k questions asks agree).1 in
       record { volume = good.volume; recovers = same ∙ good.recovers; legal = legal good.volume good.legal };
   alike = λ k c found same f. found_alike plan start before (history before) k c found same f;
 }

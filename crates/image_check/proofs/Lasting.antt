@@ -21,7 +21,7 @@ use Rattle.image_check.specs.OrderFaults.{AreSound, HasFault}
 use Rattle.image_check.specs.Planned.{planned}
 use Rattle.image_check.specs.Verdicts.{AreFlagged, IsMomentVerdict, asks_at, found_at}
 use Rattle.image_check.specs.declared.fault.OpFault.TheVariants.{BegunTwice}
-use Rattle.verdict.specs.Branches.{SameNumber}
+use Rattle.verdict.specs.Branches.{same_number}
 use Rattle.verdict.proofs.Keeping.{like_next, pass_kept}
 use Rattle.verdict.specs.declared.moment_verdict.verdict.MomentVerdict.TheVariants as moments
 use Rattle.image_check.proofs.Beginning.{sound_first, unended}
@@ -122,5 +122,5 @@ kept_next plan start events i d flags l s k f pass =
     let legal : (v : List (List Entry)) → IsLegal plan (volume_of start) before v → IsLegal plan (volume_of start) after v =
     λ v h. subst (λ (es : List Event). IsLegal plan (volume_of start) es v) same
     (legal_event plan (volume_of start) before event flags v (sound_first plan events i (omega arith) s) twice k h) in
-    pass_kept start (history before) (history after) flags SameNumber SameNumber (asks_at start (history before)) (asks_at start (history after)) (found_at plan start before)
-    (found_at plan start after) (λ l n m x y e. e) (like_next start events i d flags l (unseen flags event k)) (by_lines plan start before after legal) f pass
+    pass_kept start (history before) (history after) flags same_number same_number (asks_at start (history before)) (asks_at start (history after)) (found_at plan start before)
+    (found_at plan start after) (λ q n m x y e. e) (like_next start events i d flags l (unseen flags event k)) (by_lines plan start before after legal) f pass

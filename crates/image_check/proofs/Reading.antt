@@ -1,6 +1,7 @@
 -- The lines of the image of a cut, as recovery asks them.
-use Rattle.std.proofs.Common.{◌≡◌, ℕ, ◌<◌, Bool, true, false, cond, List, [], ◌∷◌, ◌++◌, length, sym, subst, ◌∙◌, arith}
-use Rattle.std.specs.Prelude.{All}
+use Rattle.std.proofs.Common.{◌≡◌, ℕ, zero, suc, ◌+◌, ◌<◌, ◌≤◌, Bool, true, false, cond, List, [], ◌∷◌, ◌++◌, get_or, length, map, take, refl, sym, ap, subst, ◌∙◌, arith, append_assoc, inr}
+use Rattle.std.proofs.lemmas.List.{append-nil, map-append, take_more}
+use Rattle.std.specs.Prelude.{◌⊎◌, Err, IfErr, Ok, OnOk, Result}
 use Rattle.std.specs.List.{AllByRecursion}
 use Rattle.store_trace.proofs.Images.{length_image}
 use Rattle.store_trace.specs.Floor.{floor}
@@ -13,6 +14,8 @@ use Rattle.store_trace.specs.History.{at_moment}
 use Rattle.store_trace.specs.declared.event.Event.{Event}
 use Rattle.image_check.specs.Alike.{line_decides}
 use Rattle.verdict.specs.CutImages.{IsWithinAt, cut_of, image_of}
+use Rattle.verdict.specs.declared.branches.question.Question.{Question}
+use Rattle.image_check.specs.Verdicts.{whole_line}
 
 -- an image's lines, of which none has been asked
 abbrev pub source_of : List (List ℕ) → Source
@@ -57,3 +60,46 @@ source_alike start events moment numbers k source e within other =
           let most = other.most l in
           line_decides start c k p l (omega (arith, low, high, least, most, same));
     })
+
+-- the first lines, each asked as a whole
+pub lines_none : (asked : List Question) (lines : List ℕ) → asked ≡ asked ++ map whole_line (take 0 lines)
+lines_none asked lines = sym (append-nil asked)
+
+pub lines_more : (start old new : List Question) (lines : List ℕ) (at line : ℕ) → at < length lines → line ≡ get_or lines at 0 → new ≡ old ++ whole_line line ∷ [] →
+    old ≡ start ++ map whole_line (take at lines) → new ≡ start ++ map whole_line (take (at + 1) lines)
+lines_more start old new lines at line less here grown h =
+    grown ∙ ap (λ (qs : List Question). qs ++ whole_line line ∷ []) h ∙ append_assoc start (map whole_line (take at lines)) (whole_line line ∷ [])
+    ∙ ap (λ (l : ℕ). start ++ (map whole_line (take at lines) ++ whole_line l ∷ [])) here
+    ∙ ap (λ (qs : List Question). start ++ qs) (sym (map-append whole_line (take at lines) (get_or lines at 0 ∷ [])))
+    ∙ ap (λ (ls : List ℕ). start ++ map whole_line ls) (sym (take_more lines at 0 less))
+
+pub lines_all : (start asked : List Question) (lines : List ℕ) (at : ℕ) → length lines ≤ at → asked ≡ start ++ map whole_line (take at lines) → asked ≡ start ++ map whole_line lines
+lines_all start asked lines at past h = h ∙ ap (λ (ls : List ℕ). start ++ map whole_line ls) (take_past lines at past)
+  where
+    take_past : (lines : List ℕ) (at : ℕ) → length lines ≤ at → take at lines ≡ lines
+    take_past [] zero le = refl
+    take_past [] (suc at) le = refl
+    take_past (l ∷ lines) zero le = absurd (omega (arith, le))
+    take_past (l ∷ lines) (suc at) le = ap (λ (ls : List ℕ). l ∷ ls) (take_past lines at (omega (arith, le)))
+
+pub whole_below : (bound : ℕ) (lines : List ℕ) → AllByRecursion (λ l. l < bound) lines → AllByRecursion (λ q. q.line < bound) (map whole_line lines)
+whole_below bound [] h = tt
+whole_below bound (l ∷ lines) h = (h.0, whole_below bound lines h.1)
+
+-- what was asked where nothing was before
+pub asked_whole : (old new : List Question) (ls its : List ℕ) → old ≡ [] → new ≡ old ++ map whole_line ls → ls ≡ its → new ≡ map whole_line its
+asked_whole old new ls its none grown same = grown ∙ ap (λ (qs : List Question). qs ++ map whole_line ls) none ∙ ap (λ (xs : List ℕ). map whole_line xs) same
+
+pub asked_below : (bound : ℕ) (old new : List Question) (ls : List ℕ) → old ≡ [] → new ≡ old ++ map whole_line ls → AllByRecursion (λ l. l < bound) ls →
+    AllByRecursion (λ q. q.line < bound) new
+asked_below bound old new ls none grown h =
+    subst (λ (qs : List Question). AllByRecursion (λ q. q.line < bound) qs) (sym (asked_whole old new ls ls none grown refl)) (whole_below bound ls h)
+
+-- what holds in any case holds of a result
+pub ok_held : {T E : Type 0} (r : Result T E) (P : Type 0) → P → OnOk r P
+ok_held (Ok v) P p = p
+ok_held (Err e) P p = tt
+
+pub err_held : {T E : Type 0} (r : Result T E) (Q : E → Type 0) (P : Type 0) → P → IfErr r (λ e. Q e ⊎ P)
+err_held (Ok v) Q P p = tt
+err_held (Err e) Q P p = inr p

@@ -1,7 +1,7 @@
 -- A run has one verdict: each image is found to be one thing.
 use Rattle.std.proofs.Common.{◌≡◌, ℕ, List, refl, ap, subst, Option, Some, None, take}
 use Rattle.store_trace.specs.Image.{image}
-use Rattle.verdict.specs.Branches.{SameNumber}
+use Rattle.verdict.specs.Branches.{same_number}
 use Rattle.verdict.proofs.Deciding as verdicts
 use Rattle.verdict.specs.declared.moment_verdict.verdict.MomentVerdict.{MomentVerdict}
 use Rattle.verdict.specs.declared.moment_verdict.verdict.Verdict.{Verdict}
@@ -43,7 +43,7 @@ found_once plan start events medium (Some cause) (Some other) a b = ap (λ (c : 
 pub moment_once : (plan : List Operation) (start : List (List ℕ)) (events : List Event) (verdict other : MomentVerdict Cause) →
     IsMomentVerdict plan start events verdict → IsMomentVerdict plan start events other → verdict ≡ other
 moment_once plan start events verdict other a b =
-    verdicts.moment_once SameNumber (asks_at start (history events)) (found_at plan start events) (history events) verdict other
+    verdicts.moment_once same_number (asks_at start (history events)) (found_at plan start events) (history events) verdict other
     (λ k one its f h. found_once plan start events (image start k (history events)) one its f h) a b
 
 pub verdict_once : (plan : List Operation) (start : List (List ℕ)) (events : List Event) (first end : ℕ) (verdict other : Verdict Cause) →

@@ -1,11 +1,12 @@
--- The verdicts on a moment and on a run. Cuts of whose images recovery asks the same lines, and finds the same numbers of stores
--- there, share a branch; a moment with over 65,536 branches isn't judged.
+-- The verdicts on a moment and on a run. Cuts of whose images recovery asks the same lines, whole ones, and finds the same numbers of
+-- stores there, share a branch; a moment with over 65,536 branches isn't judged.
 -- Source: Vinter, USENIX ATC 2022: every crash image is recovered, and the state that shows is judged.
-use Rattle.std.specs.Prelude.{◌≡◌, ℕ, ◌+◌, ◌<◌, ◌≤◌, Bool, List, Option, length, take}
+use Rattle.std.specs.Prelude.{◌≡◌, ℕ, ◌+◌, ◌-◌, ◌^◌, ◌<◌, ◌≤◌, Bool, List, Option, length, map, take}
 use Rattle.store_trace.specs.Image.{image}
 use Rattle.store_trace.specs.declared.crash_model.step.PersistenceStep.{PersistenceStep}
-use Rattle.verdict.specs.Branches.{SameNumber}
+use Rattle.verdict.specs.Branches.{question, same_number}
 use Rattle.verdict.specs.Verdicts as verdicts
+use Rattle.verdict.specs.declared.branches.question.Question.{Question}
 use Rattle.verdict.specs.declared.moment_verdict.verdict.MomentVerdict.{MomentVerdict}
 use Rattle.verdict.specs.declared.moment_verdict.verdict.Verdict.{Verdict}
 use Rattle.nova_log.specs.Volumes.{asked_lines}
@@ -19,9 +20,13 @@ use Rattle.image_check.specs.declared.fault.CheckFault.{CheckFault}
 use Rattle.image_check.specs.declared.fault.CheckFault.TheVariants as refused
 use Rattle.image_check.specs.declared.cause.Cause.{Cause}
 
+-- all bytes of a line
+abbrev pub whole_line : ℕ → Question
+whole_line l = question l (2 ^ 64 - 1)
+
 -- of the image of the cut k recovery asks these lines, in this order
-abbrev pub asks_at : List (List ℕ) → List PersistenceStep → (ℕ → ℕ) → List ℕ → Type 0
-asks_at start p k lines = lines ≡ asked_lines (image start k p)
+abbrev pub asks_at : List (List ℕ) → List PersistenceStep → (ℕ → ℕ) → List Question → Type 0
+asks_at start p k questions = questions ≡ map whole_line (asked_lines (image start k p))
 
 -- what is found of it: that it is good, or why it isn't
 abbrev pub found_at : List Operation → List (List ℕ) → List Event → (ℕ → ℕ) → Option Cause → Type 0
@@ -29,7 +34,7 @@ found_at plan start events k found = IsFound plan start events (image start k (h
 
 -- there are over 65,536 branches
 abbrev pub HasManyBranches : List (List ℕ) → List PersistenceStep → Type 0
-HasManyBranches start p = verdicts.HasManyBranches SameNumber (asks_at start p) p
+HasManyBranches start p = verdicts.HasManyBranches same_number (asks_at start p) p
 
 -- every line that recovery asks of an image of these steps is flagged
 abbrev pub AreFlagged : List (List ℕ) → List PersistenceStep → List Bool → Type 0
@@ -42,7 +47,7 @@ IsLeastBad plan start events cut cause = verdicts.IsLeastBad (found_at plan star
 -- the verdict on the moment after these events
 abbrev pub IsMomentVerdict : List Operation → List (List ℕ) → List Event → MomentVerdict Cause → Type 0
 IsMomentVerdict plan start events verdict =
-    verdicts.IsMomentVerdict SameNumber (asks_at start (history events)) (found_at plan start events) (history events) verdict
+    verdicts.IsMomentVerdict same_number (asks_at start (history events)) (found_at plan start events) (history events) verdict
 
 -- the verdict on moment m of these events
 abbrev pub judged_at : List Operation → List (List ℕ) → List Event → ℕ → MomentVerdict Cause → Type 0

@@ -15,12 +15,12 @@ ghost use Rattle.std.specs.Result.{result_ok};
 
 use crate::judge::{note_next, starting_volume};
 use crate::legal::Outcomes;
-use crate::moment_images::MomentImages;
+use crate::moment_images::{MomentImages, Workspace};
 use crate::order::check_trace;
 use crate::{Cause, CheckFault};
 use crash_image::{TraceIndex, images_between};
 use line_memory::Medium;
-use nova_log::{KeptVolume, Volume};
+use nova_log::Volume;
 use plan::Plan;
 use std::alloc::{AllocError, Global};
 use std::marker::Model;
@@ -281,8 +281,17 @@ fn open_at<T: Threads + Sync>(
 {
     let images = MomentImages::new(&run.index, run.plan, outcomes, moment);
     let (medium, trace) = (run.medium, run.trace);
-    let mut kept = KeptVolume::new(alloc);
-    let verdict = open_moment(rt, alloc, medium, trace, moment, &images, &mut kept, opener)?;
+    let mut workspace = Workspace::new(alloc);
+    let verdict = open_moment(
+        rt,
+        alloc,
+        medium,
+        trace,
+        moment,
+        &images,
+        &mut workspace,
+        opener,
+    )?;
     Ok(verdict)
 }
 

@@ -10,7 +10,7 @@ use Rattle.hart.specs.declared.state.Status.TheVariants as statuses
 use Rattle.machine.specs.Replies.{memory_in}
 use Rattle.machine.specs.Run.{Config}
 use Rattle.recovery.specs.Answers.{answer, answer_at, answer_by, answer_of_hart, bytes_from}
-use Rattle.recovery.specs.Loading.{AreAsOne}
+use Rattle.recovery.specs.Asking.{AreAsOne}
 
 bytes_same : (m o : Memory) → ((a : ℕ) → a < PERSISTENT_BASE → o a ≡ m a) → (address count : ℕ) → address + count ≤ PERSISTENT_BASE
     → bytes_from o address count ≡ bytes_from m address count

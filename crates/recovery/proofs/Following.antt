@@ -1,5 +1,5 @@
 -- One step from two configurations that differ in persistent memory alone.
-use Rattle.std.proofs.Common.{◌≡◌, ℕ, ◌-◌, ◌%◌, ◌==◌, ◌≤◌, List, [], ◌∷◌, ◌++◌, length, Option, Some, None, Bool, true, false, if◌then◌else◌, slice_get, slice_set, refl, sym, ap, ◌∙◌, inl, inr, arith, rules}
+use Rattle.std.proofs.Common.{◌≡◌, ℕ, ◌-◌, ◌%◌, ◌==◌, ◌≤◌, List, [], ◌∷◌, ◌++◌, length, Option, Some, None, Bool, true, false, nat_le, slice_get, slice_set, refl, sym, ap, subst, ◌∙◌, inl, inr, arith, rules}
 use Rattle.std.specs.List.{AllByRecursion}
 use Rattle.std.proofs.lemmas.Bool.{cases_Bool}
 use Rattle.std.proofs.lemmas.List.{append-nil, length-append}
@@ -36,9 +36,11 @@ use Rattle.machine.specs.declared.shared_memory.history.Entry.TheVariants.{Asked
 use Rattle.machine.specs.Histories.{fetched_text, has_reserved, replayed}
 use Rattle.machine.specs.Replies.{events_of, memory_in, replied, reply_after, shared_after, trace_in, trace_of}
 use Rattle.machine.specs.Run.{Config, HartSteps, HartStepsIfThere, Meets, StepsTo, after_request, fetched, fetched_by, with_hart}
-use Rattle.recovery.specs.Loading.{lines_loaded, loaded}
-use Rattle.recovery.proofs.Memories.{AgreeAt, Alike, copy_same, replayed_alike, replayed_same}
-use Rattle.recovery.proofs.Replies.{IsSized, request_events, request_lines, request_same}
+use Rattle.line_memory.specs.declared.TheConstants.{PERSISTENT_BASE}
+use Rattle.recovery.specs.Asking.{asked, asked_at, asked_by, asked_if, own_bytes}
+use Rattle.verdict.specs.declared.branches.question.Question.{Question}
+use Rattle.recovery.proofs.Memories.{AgreeAt, Alike, copy_same, replayed_alike}
+use Rattle.recovery.proofs.Replies.{AnswersSame, IsSized, answers_same, request_asks, request_events, request_same}
 
 -- what a hart asks for loads some width
 abbrev AsksSized : Need → Type 0
@@ -135,21 +137,21 @@ pub memory_there : (m o : Memory) (c d : Config) → Twins m o c d → memory_in
 memory_there m o c d twins =
     ap (λ (memory : Memory). replayed memory d.common.history) twins.other ∙ ap (λ (history : List Entry). replayed o history) twins.history
 
--- what the step of a configuration is for its twin: both load the same line, and stay twins where the memories agree on it
+-- what the step of a configuration is for its twin: both ask the same, and stay twins where the memories agree on it
 pub record Follows (m o : Memory) (c d c2 d2 : Config) : Type 0 where
-  pub lines : List ℕ
-  pub here : loaded c2.common.history ≡ loaded c.common.history ++ lines
-  pub there : loaded d2.common.history ≡ loaded d.common.history ++ lines
-  pub few : length lines ≤ 1
+  pub questions : List Question
+  pub here : asked c2.common.history ≡ asked c.common.history ++ questions
+  pub there : asked d2.common.history ≡ asked d.common.history ++ questions
+  pub few : length questions ≤ 1
   pub events : length (trace_in d2.common) ≡ length (trace_in c2.common)
-  pub same : AllByRecursion (AgreeAt m o) lines → Twins m o c2 d2
+  pub same : AllByRecursion (AgreeAt m o) questions → Twins m o c2 d2
 
 follows_none : (m o : Memory) (c d c2 d2 : Config) → c2.common.history ≡ c.common.history → d2.common.history ≡ d.common.history
     → Twins m o c2 d2 → Follows m o c d c2 d2
 follows_none m o c d c2 d2 e f twins = record {
-  lines = [];
-  here = ap loaded e ∙ sym (append-nil (loaded c.common.history));
-  there = ap loaded f ∙ sym (append-nil (loaded d.common.history));
+  questions = [];
+  here = ap asked e ∙ sym (append-nil (asked c.common.history));
+  there = ap asked f ∙ sym (append-nil (asked d.common.history));
   few = search rules;
   events = ap (λ (history : List Entry). length (trace_of history)) twins.history;
   same = λ agree. twins;
@@ -177,40 +179,34 @@ memories_alike m o c d alike twins =
     let now : Alike (replayed m c.common.history) (replayed o c.common.history) = replayed_alike m o c.common.history alike in
     rw (memory_here m o c d twins, memory_there m o c d twins) now
 
-agree_each : (m o : Memory) (history : List Entry) (lines : List ℕ) → AllByRecursion (AgreeAt m o) lines
-    → AllByRecursion (AgreeAt (replayed m history) (replayed o history)) lines
-agree_each m o history [] agree = tt
-agree_each m o history (l ∷ ls) agree =
-    (λ a high here. replayed_same m o history a (agree.0 a high here), agree_each m o history ls agree.1)
+few_if : (l bytes : ℕ) → length (asked_if l bytes) ≤ 1
+few_if l bytes = elim (cases_Bool (bytes == 0)) [ inl t ↦ rw t (search rules) | inr f ↦ rw f (search rules) ]
 
-agree_now : (m o x y : Memory) (history : List Entry) (lines : List ℕ) → x ≡ replayed m history → y ≡ replayed o history
-    → AllByRecursion (AgreeAt m o) lines → AllByRecursion (AgreeAt x y) lines
-agree_now m o x y history lines e f agree = rw (e, f) (agree_each m o history lines agree)
+few_at : (own : ℕ → ℕ) (address width : ℕ) → length (asked_at own address width) ≤ 1
+few_at own address width = elim (cases_Bool (nat_le PERSISTENT_BASE address)) [ inl t ↦ rw t (few_if _ _) | inr f ↦ rw f (search rules) ]
 
-few_if : (l : ℕ) (persistent : Bool) → length (if persistent then l ∷ [] else []) ≤ 1
-few_if l true = search rules
-few_if l false = search rules
-
-few_loaded : (request : Request) (reply : Reply) → length (lines_loaded request reply) ≤ 1
-few_loaded (requests.Load address width) (Value v) = few_if _ _
-few_loaded (requests.Lr address width) (Value v) = few_if _ _
-few_loaded (requests.Amo op address width operand) (Value v) = few_if _ _
-few_loaded request reply = search rules
+few_asked : (own : ℕ → ℕ) (request : Request) (reply : Reply) → length (asked_by own request reply) ≤ 1
+few_asked own (requests.Load address width) (Value v) = few_at own address width
+few_asked own (requests.Lr address width) (Value v) = few_at own address width
+few_asked own (requests.Amo op address width operand) (Value v) = few_at own address width
+few_asked own request reply = search rules
 
 -- the replies to the same request
-replies_lines : (m o : Memory) (c d : Config) (h : ℕ) (request : Request) → Alike m o → Twins m o c d
-    → lines_loaded request (reply_after d.common h request) ≡ lines_loaded request (reply_after c.common h request)
-replies_lines m o c d h request alike twins =
-    ap (λ (history : List Entry). lines_loaded request (replied (memory_in d.common) (has_reserved history h) request)) twins.history
-    ∙ request_lines (memory_in c.common) (memory_in d.common) (memories_alike m o c d alike twins) (has_reserved c.common.history h) request
+replies_ask : (m o : Memory) (c d : Config) (h : ℕ) (request : Request) → Alike m o → Twins m o c d
+    → asked_by (own_bytes d.common.history) request (reply_after d.common h request) ≡ asked_by (own_bytes c.common.history) request (reply_after c.common h request)
+replies_ask m o c d h request alike twins =
+    ap (λ (history : List Entry). asked_by (own_bytes history) request (replied (memory_in d.common) (has_reserved history h) request)) twins.history
+    ∙ request_asks (own_bytes c.common.history) (memory_in c.common) (memory_in d.common) (memories_alike m o c d alike twins) (has_reserved c.common.history h) request
 
 replies_same : (m o : Memory) (c d : Config) (h : ℕ) (request : Request) → Alike m o → Twins m o c d → IsSized request
-    → AllByRecursion (AgreeAt m o) (lines_loaded request (reply_after c.common h request))
+    → AllByRecursion (AgreeAt m o) (asked_by (own_bytes c.common.history) request (reply_after c.common h request))
     → reply_after d.common h request ≡ reply_after c.common h request
 replies_same m o c d h request alike twins sized agree =
-    let each : AllByRecursion (AgreeAt (memory_in c.common) (memory_in d.common)) (lines_loaded request (reply_after c.common h request)) =
-    agree_now m o (memory_in c.common) (memory_in d.common) c.common.history (lines_loaded request (reply_after c.common h request))
-    (memory_here m o c d twins) (memory_there m o c d twins) agree in
+    let reply : Reply = reply_after c.common h request in
+    let now : AnswersSame (replayed m c.common.history) (replayed o c.common.history) request reply = answers_same m o c.common.history request reply sized agree in
+    let each : AnswersSame (memory_in c.common) (memory_in d.common) request reply =
+    subst (λ (x : Memory). AnswersSame x (memory_in d.common) request reply) (sym (memory_here m o c d twins))
+    (subst (λ (y : Memory). AnswersSame (replayed m c.common.history) y request reply) (sym (memory_there m o c d twins)) now) in
     ap (λ (history : List Entry). replied (memory_in d.common) (has_reserved history h) request) twins.history
     ∙ request_same (memory_in c.common) (memory_in d.common) (memories_alike m o c d alike twins) (has_reserved c.common.history h) request sized each
 
@@ -250,10 +246,10 @@ trace_lengths m o c d h request alike twins =
 request_follows : (m o : Memory) (c d : Config) (h : ℕ) (s : HartState) (i : Instr) (request : Request) → Alike m o → Twins m o c d → IsSized request
     → Follows m o c d (after_request c h s i request) (after_request d h s i request)
 request_follows m o c d h s i request alike twins sized = record {
-  lines = lines_loaded request (reply_after c.common h request);
+  questions = asked_by (own_bytes c.common.history) request (reply_after c.common h request);
   here = refl;
-  there = ap (λ (lines : List ℕ). loaded d.common.history ++ lines) (replies_lines m o c d h request alike twins);
-  few = few_loaded request (reply_after c.common h request);
+  there = ap (λ (questions : List Question). asked d.common.history ++ questions) (replies_ask m o c d h request alike twins);
+  few = few_asked (own_bytes c.common.history) request (reply_after c.common h request);
   events = trace_lengths m o c d h request alike twins;
   same = λ agree. request_twins m o c d h s i request twins (replies_same m o c d h request alike twins sized agree);
 }
@@ -324,9 +320,9 @@ evicted c line = record c { common = record c.common { history = Evicted line �
 evict_follows : (m o : Memory) (c d : Config) (line : ℕ) → Twins m o c d → Follows m o c d (evicted c line) (evicted d line)
 unfolding evicted
 evict_follows m o c d line twins = record {
-  lines = [];
-  here = refl;
-  there = refl;
+  questions = [];
+  here = sym (append-nil (asked c.common.history));
+  there = sym (append-nil (asked d.common.history));
   few = search rules;
   events = ap (λ (history : List Entry). length (trace_of history)) twins.history;
   same = λ agree. record {

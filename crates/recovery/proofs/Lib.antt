@@ -12,3 +12,4 @@ pub mod Runs
 pub mod Answering
 pub mod Limited
 pub mod Imaged
+pub mod Bytewise

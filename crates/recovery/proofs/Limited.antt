@@ -14,7 +14,7 @@ use Rattle.hart.specs.declared.state.Status.TheVariants.{Running, Exited, Trappe
 use Rattle.machine.specs.Run.{Config, HartSteps, HartStepsIfThere, RunsTo, StepsTo, started}
 use Rattle.machine.proofs.Determined.{steps_once}
 use Rattle.recovery.specs.Answers.{answer}
-use Rattle.recovery.specs.Loading.{AgreeOn, AreAsOne, loaded}
+use Rattle.recovery.specs.Asking.{AgreeOn, AreAsOne, asked}
 use Rattle.recovery.specs.Recovery.{RunsFor, alone}
 use Rattle.recovery.proofs.Answering.{answer_same}
 use Rattle.recovery.proofs.Memories.{AgreeAt, Alike}
@@ -22,14 +22,14 @@ use Rattle.recovery.proofs.Following.{Twins, twin_steps}
 use Rattle.recovery.proofs.Runs.{Grows, agree_self, alike_self, all_back, all_front, as_one, flat_agree, flat_alike, joined, next_step, other_twins, self_twins, start_twins}
 
 grown_for : (m : Memory) (c d : Config) (steps : ℕ) (full : Bool) → Twins m m c c → RunsFor c steps d full → Grows c d
-grown_for m c d zero full twins (e, f) = record { more = []; loads = rw e (sym (append-nil (loaded c.common.history))) }
-grown_for m c d (suc steps) full twins (middle, x, inr (over, e, f)) = record { more = []; loads = rw e (sym (append-nil (loaded c.common.history))) }
+grown_for m c d zero full twins (e, f) = record { more = []; asks = rw e (sym (append-nil (asked c.common.history))) }
+grown_for m c d (suc steps) full twins (middle, x, inr (over, e, f)) = record { more = []; asks = rw e (sym (append-nil (asked c.common.history))) }
 grown_for m c d (suc steps) full twins (middle, x, inl (room, later)) =
     let t = twin_steps m m c c (Hart 0) middle (alike_self m) twins x in
-    let now = t.follows.same (agree_self m t.follows.lines) in
+    let now = t.follows.same (agree_self m t.follows.questions) in
     let rest = grown_for m middle d steps full (self_twins m m middle t.end now) later in record {
-      more = t.follows.lines ++ rest.more;
-      loads = joined (loaded c.common.history) (loaded middle.common.history) (loaded d.common.history) t.follows.lines rest.more t.follows.here rest.loads;
+      more = t.follows.questions ++ rest.more;
+      asks = joined (asked c.common.history) (asked middle.common.history) (asked d.common.history) t.follows.questions rest.more t.follows.here rest.asks;
     }
 
 pub record TwinRunsFor (m o : Memory) (d : Config) (steps : ℕ) (c2 : Config) (full : Bool) : Type 0 where
@@ -38,7 +38,7 @@ pub record TwinRunsFor (m o : Memory) (d : Config) (steps : ℕ) (c2 : Config) (
   pub twins : Twins m o c2 end
 
 pub twin_runs_for : (m o : Memory) (c d : Config) (steps : ℕ) (c2 : Config) (full : Bool) → Alike m o → Twins m o c d → RunsFor c steps c2 full
-    → AllByRecursion (AgreeAt m o) (loaded c2.common.history) → TwinRunsFor m o d steps c2 full
+    → AllByRecursion (AgreeAt m o) (asked c2.common.history) → TwinRunsFor m o d steps c2 full
 twin_runs_for m o c d zero c2 full alike twins (e, f) agree = record { end = d; runs = (refl, f); twins = rw e twins }
 twin_runs_for m o c d (suc steps) c2 full alike twins (middle, x, inr (over, e, f)) agree =
     let t = twin_steps m o c d (Hart 0) middle alike twins x in
@@ -47,22 +47,22 @@ twin_runs_for m o c d (suc steps) c2 full alike twins (middle, x, inr (over, e, 
 twin_runs_for m o c d (suc steps) c2 full alike twins (middle, x, inl (room, later)) agree =
     let t = twin_steps m o c d (Hart 0) middle alike twins x in
     let u = twin_steps m m c c (Hart 0) middle (alike_self m) (self_twins m o c d twins) x in
-    let own = self_twins m m middle u.end (u.follows.same (agree_self m u.follows.lines)) in
+    let own = self_twins m m middle u.end (u.follows.same (agree_self m u.follows.questions)) in
     let rest = grown_for m middle c2 steps full own later in
-    let all = rw rest.loads at agree in
-    let seen = rw t.follows.here at (all_front (AgreeAt m o) (loaded middle.common.history) rest.more all) in
-    let here = all_back (AgreeAt m o) (loaded c.common.history) t.follows.lines seen in
+    let all = rw rest.asks at agree in
+    let seen = rw t.follows.here at (all_front (AgreeAt m o) (asked middle.common.history) rest.more all) in
+    let here = all_back (AgreeAt m o) (asked c.common.history) t.follows.questions seen in
     let n = twin_runs_for m o middle t.end steps c2 full alike (t.follows.same here) later agree in
     let same_number = t.follows.events in
     record { end = n.end; runs = (t.end, t.steps, inl (omega (arith, room), n.runs)); twins = n.twins }
 
 pub next_for : (m o : Memory) (c d : Config) (steps : ℕ) (c2 d2 : Config) (full other_full : Bool) (count : ℕ) → Alike m o → Twins m o c d
-    → RunsFor c steps c2 full → RunsFor d steps d2 other_full → AllByRecursion (AgreeAt m o) (take count (loaded c2.common.history))
-    → take (count + 1) (loaded d2.common.history) ≡ take (count + 1) (loaded c2.common.history)
+    → RunsFor c steps c2 full → RunsFor d steps d2 other_full → AllByRecursion (AgreeAt m o) (take count (asked c2.common.history))
+    → take (count + 1) (asked d2.common.history) ≡ take (count + 1) (asked c2.common.history)
 next_for m o c d zero c2 d2 full other_full count alike twins x y agree =
-    rw (x.0, y.0) (ap (λ (history : List Entry). take (count + 1) (loaded history)) twins.history)
+    rw (x.0, y.0) (ap (λ (history : List Entry). take (count + 1) (asked history)) twins.history)
 next_for m o c d (suc steps) c2 d2 full other_full count alike twins (middle, x, inr (past, e, p)) (other, y, inr (over, f, q)) agree =
-    rw (e, f) (ap (λ (history : List Entry). take (count + 1) (loaded history)) twins.history)
+    rw (e, f) (ap (λ (history : List Entry). take (count + 1) (asked history)) twins.history)
 next_for m o c d (suc steps) c2 d2 full other_full count alike twins (middle, x, inr (past, e, p)) (other, y, inl (room, later)) agree =
     let t = twin_steps m o c d (Hart 0) middle alike twins x in
     let one : other ≡ t.end = steps_once d (Hart 0) other t.end y t.steps in
@@ -78,35 +78,35 @@ next_for m o c d (suc steps) c2 d2 full other_full count alike twins (middle, x,
 next_for m o c d (suc steps) c2 d2 full other_full count alike twins (middle, x, inl (room, later)) (y0, y, inl (under, then_on)) agree =
     let t = twin_steps m o c d (Hart 0) middle alike twins x in
     let one : y0 ≡ t.end = steps_once d (Hart 0) y0 t.end y t.steps in
-    let there : loaded y0.common.history ≡ loaded c.common.history ++ t.follows.lines =
-    ap (λ (end : Config). loaded end.common.history) one ∙ t.follows.there
-    ∙ ap (λ (history : List Entry). loaded history ++ t.follows.lines) twins.history in
-    let same : AllByRecursion (AgreeAt m o) t.follows.lines → Twins m o middle y0 = λ h. rw one (t.follows.same h) in
+    let there : asked y0.common.history ≡ asked c.common.history ++ t.follows.questions =
+    ap (λ (end : Config). asked end.common.history) one ∙ t.follows.there
+    ∙ ap (λ (history : List Entry). asked history ++ t.follows.questions) twins.history in
+    let same : AllByRecursion (AgreeAt m o) t.follows.questions → Twins m o middle y0 = λ h. rw one (t.follows.same h) in
     let u = twin_steps m m c c (Hart 0) middle (alike_self m) (self_twins m o c d twins) x in
-    let more = grown_for m middle c2 steps full (self_twins m m middle u.end (u.follows.same (agree_self m u.follows.lines))) later in
+    let more = grown_for m middle c2 steps full (self_twins m m middle u.end (u.follows.same (agree_self m u.follows.questions))) later in
     let v = twin_steps o o d d (Hart 0) y0 (alike_self o) (other_twins m o c d twins) y in
-    let others = grown_for o y0 d2 steps other_full (self_twins o o y0 v.end (v.follows.same (agree_self o v.follows.lines))) then_on in
-    next_step m o c middle y0 c2 d2 count agree t.follows.lines more.more others.more t.follows.here there t.follows.few same more.loads others.loads
+    let others = grown_for o y0 d2 steps other_full (self_twins o o y0 v.end (v.follows.same (agree_self o v.follows.questions))) then_on in
+    next_step m o c middle y0 c2 d2 count agree t.follows.questions more.more others.more t.follows.here there t.follows.few same more.asks others.asks
     (λ next. next_for m o middle y0 steps c2 d2 full other_full count alike next later then_on agree)
 
 pub next_asked : (program : Sections) (lines others : List (List ℕ)) (steps : ℕ) (d e : Config) (full other : Bool) (count : ℕ)
     → AreLines lines → AreLines others → length others ≡ length lines
     → RunsFor (started program lines 1) steps d full → RunsFor (started program others 1) steps e other
-    → AgreeOn lines others (take count (loaded d.common.history))
-    → take (count + 1) (loaded e.common.history) ≡ take (count + 1) (loaded d.common.history)
+    → AgreeOn lines others (take count (asked d.common.history))
+    → take (count + 1) (asked e.common.history) ≡ take (count + 1) (asked d.common.history)
 next_asked program lines others steps d e full other count whole each same x y agree =
     next_for (starting_memory program lines) (starting_memory program others) (started program lines 1) (started program others 1) steps d e full other count
     (flat_alike _ lines others whole each same) (start_twins program lines others 1) x y
-    (flat_agree _ lines others (take count (loaded d.common.history)) agree)
+    (flat_agree _ lines others (take count (asked d.common.history)) agree)
 
 pub runs_alike : (program : Sections) (lines others : List (List ℕ)) (steps : ℕ) (d : Config) (full : Bool)
     → AreLines lines → AreLines others → length others ≡ length lines
-    → RunsFor (started program lines 1) steps d full → AgreeOn lines others (loaded d.common.history)
+    → RunsFor (started program lines 1) steps d full → AgreeOn lines others (asked d.common.history)
     → (e : Config) × RunsFor (started program others 1) steps e full × AreAsOne d e × (answer e full ≡ answer d full)
 runs_alike program lines others steps d full whole each same x agree =
     let alike : Alike (starting_memory program lines) (starting_memory program others) = flat_alike _ lines others whole each same in
     let t = twin_runs_for (starting_memory program lines) (starting_memory program others) (started program lines 1) (started program others 1) steps d full
-    alike (start_twins program lines others 1) x (flat_agree _ lines others (loaded d.common.history) agree) in
+    alike (start_twins program lines others 1) x (flat_agree _ lines others (asked d.common.history) agree) in
     let one = as_one (starting_memory program lines) (starting_memory program others) d t.end alike t.twins in
     (t.end, t.runs, one, answer_same d t.end full one)
 

@@ -1,6 +1,6 @@
 -- Two memories that differ in persistent bytes alone, and what the same history makes of them.
-use Rattle.std.proofs.Common.{◌≡◌, ℕ, zero, suc, ◌+◌, ◌-◌, ◌%◌, ◌<◌, ◌≤◌, ◌&&◌, List, [], ◌∷◌, Option, Some, None, Bool, true, false, is_some, nat_le, nat_lt, if◌then◌else◌, refl, inl, inr, arith}
-use Rattle.std.proofs.lemmas.Bool.{cases_lt, le-ltb, and_right}
+use Rattle.std.proofs.Common.{◌≡◌, ℕ, zero, suc, ◌+◌, ◌-◌, ◌%◌, ◌<◌, ◌≤◌, ◌≢◌, ◌==◌, ◌&&◌, ◌||◌, eqb, List, [], ◌∷◌, Option, Some, None, Bool, true, false, is_some, nat_le, nat_lt, if◌then◌else◌, refl, sym, ap, ◌∙◌, inl, inr, arith, true≢false}
+use Rattle.std.proofs.lemmas.Bool.{cases_Bool, cases_lt, le-leb, le-ltb, lt-ltb, and_right}
 use Rattle.line_memory.specs.Memory.{IsWidth, Memory, fault_of, loaded_from, stored_to, with_byte}
 use Rattle.line_memory.specs.declared.TheConstants.{PERSISTENT_BASE, TEXT_BASE, TEXT_SIZE}
 use Rattle.line_memory.proofs.Accesses.{fits_line}
@@ -8,14 +8,25 @@ use Rattle.line_memory.proofs.Flat.{aligned_below, loaded_same}
 use Rattle.machine.specs.declared.shared_memory.history.Entry.{Entry}
 use Rattle.machine.specs.declared.shared_memory.history.Entry.TheVariants.{Asked, Evicted}
 use Rattle.machine.specs.Histories.{Write, fetched_text, is_renewal, memory_with, replayed, text_of, written}
-use Rattle.machine.specs.Replies.{line_of}
+use Rattle.machine.specs.Replies.{line_of, offset_of}
+use Rattle.recovery.specs.Asking.{asked_at, asked_if, own_bytes, with_written}
+use Rattle.std.specs.List.{AllByRecursion}
+use Rattle.verdict.proofs.Bytes.{access_has, nothing_has, or_has, without_has}
+use Rattle.verdict.specs.Branches.{question}
+use Rattle.verdict.specs.Bytes.{access_bytes, has_byte, without}
+use Rattle.verdict.specs.declared.branches.question.Question.{Question}
 
 pub record Alike (m o : Memory) : Type 0 where
   pub below : (a : ℕ) → a < PERSISTENT_BASE → o a ≡ m a
   pub there : (a : ℕ) → is_some (o a) ≡ is_some (m a)
 
-abbrev pub AgreeAt : Memory → Memory → ℕ → Type 0
-AgreeAt m o l = (a : ℕ) → PERSISTENT_BASE ≤ a → line_of a ≡ l → o a ≡ m a
+-- they have the same byte wherever a question asks for it
+abbrev pub AgreeAt : Memory → Memory → Question → Type 0
+AgreeAt m o q = (a : ℕ) → PERSISTENT_BASE ≤ a → line_of a ≡ q.line → has_byte q.bytes (offset_of a) ≡ true → o a ≡ m a
+
+-- an aligned access to persistent memory finds the same bytes in both
+abbrev pub HasSame : Memory → Memory → ℕ → ℕ → Type 0
+HasSame m o address width = PERSISTENT_BASE ≤ address → address % width ≡ 0 → (k : ℕ) → k < width → o (address + k) ≡ m (address + k)
 
 chosen_same : (here : Bool) (new x y : Option ℕ) → y ≡ x → (if here then new else y) ≡ (if here then new else x)
 chosen_same true new x y e = refl
@@ -93,20 +104,92 @@ pub fault_same : (m o : Memory) → Alike m o → (a width : ℕ) → fault_of o
 unfolding fault_of
 fault_same m o alike a width = rw (loaded_there m o alike.there a width) refl
 
--- an aligned access finds the same number where the line that it lies in is the same
+-- an aligned access lies in one line
 offset_aligned : (a width : ℕ) → IsWidth width → PERSISTENT_BASE ≤ a → a % width ≡ 0 → (a - PERSISTENT_BASE) % width ≡ 0
 offset_aligned a width (inl e) h k = rw e (omega arith)
 offset_aligned a width (inr (inl e)) h k = let f = rw e at k in rw e (omega arith)
 offset_aligned a width (inr (inr (inl e))) h k = let f = rw e at k in rw e (omega arith)
 offset_aligned a width (inr (inr (inr e))) h k = let f = rw e at k in rw e (omega arith)
 
-pub number_same : (m o : Memory) → Alike m o → (a width : ℕ) → IsWidth width → a % width ≡ 0
-    → (PERSISTENT_BASE ≤ a → AgreeAt m o (line_of a)) → loaded_from o a width ≡ loaded_from m a width
-number_same m o alike a width w aligned agree = elim (cases_lt a PERSISTENT_BASE) [
+pub fits_its_line : (a width : ℕ) → IsWidth width → PERSISTENT_BASE ≤ a → a % width ≡ 0 → offset_of a + width ≤ 64
+fits_its_line a width w high aligned = fits_line (a - PERSISTENT_BASE) width w (offset_aligned a width w high aligned)
+
+-- it finds the same number where it finds the same bytes
+pub number_same : (m o : Memory) → Alike m o → (a width : ℕ) → IsWidth width → a % width ≡ 0 → HasSame m o a width → loaded_from o a width ≡ loaded_from m a width
+number_same m o alike a width w aligned same = elim (cases_lt a PERSISTENT_BASE) [
   | inl low ↦
       let fits = aligned_below a width w aligned low in
       loaded_same o m a a width (λ k h. alike.below (a + k) (omega arith))
-  | inr high ↦
-      let fits = fits_line (a - PERSISTENT_BASE) width w (offset_aligned a width w high aligned) in
-      loaded_same o m a a width (λ k h. agree high (a + k) (omega arith) (omega arith))
+  | inr high ↦ loaded_same o m a a width (λ k h. same (omega (arith, high)) aligned k h)
 ]
+
+-- what a history has written is the same over any memory
+covered : (here : Bool) (new x y : Option ℕ) → here ≡ true → (if here then new else y) ≡ (if here then new else x)
+covered here new x y t = rw t refl
+
+written_covers : (w : Write) (a : ℕ) → PERSISTENT_BASE ≤ w.address → PERSISTENT_BASE ≤ a → line_of w.address ≡ line_of a →
+    has_byte (access_bytes (offset_of w.address) w.width) (offset_of a) ≡ true → (nat_le w.address a && nat_lt a (w.address + w.width)) ≡ true
+written_covers w a low high line has =
+    let both : (nat_le (offset_of w.address) (offset_of a) && nat_lt (offset_of a) (offset_of w.address + w.width)) ≡ true =
+    sym (access_has w.width (offset_of w.address) (offset_of a)) ∙ has in
+    let from : offset_of w.address ≤ offset_of a = grind (arith, both) in
+    let upto : offset_of a < offset_of w.address + w.width = grind (arith, both) in
+    let one : w.address ≤ a = omega (arith, low, high, line, from) in
+    let other : a < w.address + w.width = omega (arith, low, high, line, upto) in
+    rw (le-leb w.address a one, lt-ltb a (w.address + w.width) other) refl
+
+with_own : (m o : Memory) (write : Option Write) (a l bytes : ℕ) → PERSISTENT_BASE ≤ a → line_of a ≡ l → (has_byte bytes (offset_of a) ≡ true → o a ≡ m a) →
+    has_byte (with_written l write bytes) (offset_of a) ≡ true → memory_with o write a ≡ memory_with m write a
+unfolding stored_to
+with_own m o None a l bytes high line earlier has = earlier has
+with_own m o (Some w) a l bytes high line earlier has = elim (cases_Bool (nat_le PERSISTENT_BASE w.address && (line_of w.address == l))) [
+  | inr other ↦ with_same m o (Some w) a (earlier (rw other at has))
+  | inl here ↦
+      let low : PERSISTENT_BASE ≤ w.address = grind (arith, here) in
+      let one : line_of w.address ≡ l = grind (arith, here) in
+      let either : (has_byte bytes (offset_of a) || has_byte (access_bytes (offset_of w.address) w.width) (offset_of a)) ≡ true =
+      sym (or_has bytes (access_bytes (offset_of w.address) w.width) (offset_of a)) ∙ (rw here at has) in
+      elim (cases_Bool (has_byte (access_bytes (offset_of w.address) w.width) (offset_of a))) [
+        | inl now ↦ covered (nat_le w.address a && nat_lt a (w.address + w.width)) _ (m a) (o a) (written_covers w a low high (one ∙ sym line) now)
+        | inr not_now ↦ with_same m o (Some w) a (earlier (first_of (has_byte bytes (offset_of a)) (rw not_now at either)))
+      ]
+]
+  where
+    first_of : (b : Bool) → (b || false) ≡ true → b ≡ true
+    first_of true h = refl
+    first_of false h = h
+
+pub own_same : (m o : Memory) (history : List Entry) (a l : ℕ) → PERSISTENT_BASE ≤ a → line_of a ≡ l → has_byte (own_bytes history l) (offset_of a) ≡ true →
+    replayed o history a ≡ replayed m history a
+own_same m o [] a l high line has = absurd (true≢false (sym has ∙ nothing_has (offset_of a)))
+own_same m o (Asked h request reply ∷ before) a l high line has =
+    with_own (replayed m before) (replayed o before) (written request reply) a l (own_bytes before l) high line
+    (λ earlier. own_same m o before a l high line earlier) has
+own_same m o (Evicted other ∷ before) a l high line has = own_same m o before a l high line has
+
+-- so the bytes of an access are the same where what it asks is
+asks_it : (l bytes : ℕ) (P : Question → Type 0) → bytes ≢ 0 → AllByRecursion P (asked_if l bytes) → P (question l bytes)
+asks_it l bytes P some h = let f : eqb bytes 0 ≡ false = grind (arith, some) in (rw f at h).0
+
+pub asked_same : (m o : Memory) (history : List Entry) (address width : ℕ) → IsWidth width → AllByRecursion (AgreeAt m o) (asked_at (own_bytes history) address width) →
+    HasSame (replayed m history) (replayed o history) address width
+asked_same m o history address width w agree high aligned k less =
+    let fits : offset_of address + width ≤ 64 = fits_its_line address width w high aligned in
+    let a : ℕ = address + k in
+    let l : ℕ = line_of address in
+    let above : PERSISTENT_BASE ≤ a = omega (arith, high) in
+    let line : line_of a ≡ l = omega (arith, high, fits, less) in
+    let place : offset_of a ≡ offset_of address + k = omega (arith, high, fits, less) in
+    let access : ℕ = access_bytes (offset_of address) width in
+    let own : ℕ = own_bytes history l in
+    elim (cases_Bool (has_byte own (offset_of a))) [
+      | inl mine ↦ own_same m o history a l above line mine
+      | inr other ↦
+          let among : has_byte access (offset_of a) ≡ true =
+          access_has width (offset_of address) (offset_of a)
+          ∙ rw (le-leb (offset_of address) (offset_of a) (omega (arith, place)), lt-ltb (offset_of a) (offset_of address + width) (omega (arith, place, less))) refl in
+          let left : has_byte (without access own) (offset_of a) ≡ true = without_has access own (offset_of a) ∙ rw (among, other) refl in
+          let some : without access own ≢ 0 = λ z. true≢false (sym left ∙ ap (λ (bytes : ℕ). has_byte bytes (offset_of a)) z ∙ nothing_has (offset_of a)) in
+          let questions : AllByRecursion (AgreeAt m o) (asked_if l (without access own)) = rw (le-leb PERSISTENT_BASE address high) at agree in
+          replayed_same m o history a (asks_it l (without access own) (AgreeAt m o) some questions a above line left)
+    ]

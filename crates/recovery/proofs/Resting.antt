@@ -1,5 +1,5 @@
 -- A routine at rest begins as Run does, and comes to what Run comes to.
-use Rattle.std.proofs.Common.{◌≡◌, ℕ, zero, suc, ◌+◌, ◌-◌, List, [], ◌++◌, Bool, true, false, None, Result, length, refl, sym, ap, ◌∙◌, append_assoc, arith}
+use Rattle.std.proofs.Common.{◌≡◌, ℕ, zero, suc, ◌+◌, ◌-◌, List, [], ◌++◌, Bool, true, false, None, Result, length, slice_index, refl, sym, ap, ◌∙◌, append_assoc, arith}
 use Rattle.std.proofs.lemmas.List.{append-nil}
 use Rattle.hart.specs.Effect.{start}
 use Rattle.line_memory.specs.Lines.{line_bytes}
@@ -17,6 +17,7 @@ use Rattle.recovery.specs.Answers.{answer, byte_list, bytes_from}
 use Rattle.recovery.specs.Engine.{Comes, Represents, ending}
 use Rattle.recovery.specs.Routine.{IsAtRest, Recovers}
 use Rattle.recovery.specs.declared.engine.Engine.{Engine}
+use Rattle.verdict.specs.declared.branches.question.Question.{Question}
 
 -- the whole text region is padded by nothing
 padded_whole : (bytes : List ℕ) (size : ℕ) → length bytes ≡ size → padded bytes size ≡ bytes
@@ -32,16 +33,17 @@ starting_text program image whole =
     ∙ text_there (record { text = padded program.text TEXT_SIZE; bytes = padded program.static_data DATA_SIZE }) (line_bytes image)
 
 pub begins : (old new : Engine) (image : List (List ℕ)) → IsAtRest old → new.hart ≡ start 0 → new.text ≡ old.text → new.world.held ≡ old.world.held
-    → new.world.reserved ≡ None → new.world.events ≡ 0 → new.world.loaded ≡ []
+    → new.world.reserved ≡ None → new.world.events ≡ 0 → ((l : ℕ) → slice_index new.world.own l ≡ 0) → new.world.asked ≡ []
     → Represents new image (started old.world.held.program image 1)
-begins old new image rest hart text held reserved events loaded = record {
+begins old new image rest hart text held reserved events own asked = record {
   harts = rw hart refl;
   memory = rw held (rest.memory.memory image);
   text = rw (text, rest.fetched, rest.start) (starting_text old.world.held.program image rest.size);
   reserved = rw reserved (λ l. refl);
   events = events;
   few = omega arith;
-  lines = loaded;
+  own = own;
+  asked = asked;
 }
 
 -- what a run came to
@@ -49,16 +51,16 @@ ends : (engine : Engine) (image : List (List ℕ)) (d : Config) (full : Bool) �
 ends engine image d true stands = refl
 ends engine image d false stands = rw (stands.harts, ← stands.memory) refl
 
-pub recovers : (begun new : Engine) (image : List (List ℕ)) (steps : ℕ) (program : Sections) (lines : List ℕ) (found : Result (List ℕ) Cause)
-    → Represents begun image (started program image 1) → Comes begun new image steps found → lines ≡ new.world.loaded
-    → Recovers program image steps lines found
-recovers begun new image steps program lines found stands comes loads =
+pub recovers : (begun new : Engine) (image : List (List ℕ)) (steps : ℕ) (program : Sections) (questions : List Question) (found : Result (List ℕ) Cause)
+    → Represents begun image (started program image 1) → Comes begun new image steps found → questions ≡ new.world.asked
+    → Recovers program image steps questions found
+recovers begun new image steps program questions found stands comes asked =
     let (d, runs, ended) = comes.runs.runs (started program image 1) stands in
     record {
       end = d;
       full = comes.full;
       runs = runs;
-      loads = loads ∙ ended.lines;
+      asks = asked ∙ ended.asked;
       comes = comes.comes ∙ ends new image d comes.full ended;
     }
 

@@ -1,10 +1,12 @@
 -- A request whose event would be one too many.
-use Rattle.std.proofs.Common.{◌≡◌, ℕ, ◌+◌, ◌%◌, ◌<◌, ◌≤◌, List, Option, Some, None, Bool, true, false, eqb, is_some, length, nat_le, if◌then◌else◌, refl, inl, inr, arith}
+use Rattle.std.proofs.Common.{◌≡◌, ℕ, ◌+◌, ◌-◌, ◌*◌, ◌%◌, ◌^◌, ◌<◌, ◌≤◌, List, Option, Some, None, Bool, true, false, eqb, is_some, length, nat_le, if◌then◌else◌, refl, ap, ◌∙◌, inl, inr, arith}
 use Rattle.std.proofs.lemmas.Bool.{cases_Bool}
+use Rattle.std.proofs.lemmas.Nat.{one_shl, pow_pos, shl_whole}
 use Rattle.hart.specs.Memory.{amo_result}
 use Rattle.hart.specs.declared.need.Request.TheVariants.{Amo}
 use Rattle.isa_table.specs.declared.instruction.AtomicOp.{AtomicOp}
-use Rattle.line_memory.specs.Memory.{Memory, fault_of, loaded_from}
+use Rattle.line_memory.specs.Memory.{IsWidth, Memory, fault_of, loaded_from}
+use Rattle.verdict.specs.Bytes.{access_bytes}
 use Rattle.line_memory.specs.declared.MemFault.TheVariants as faults
 use Rattle.line_memory.specs.declared.TheConstants.{PERSISTENT_BASE}
 use Rattle.store_trace.specs.declared.event.Event.{Event}
@@ -44,3 +46,17 @@ pub line_there : (held : HeldView) (width : ℕ) (place : Place) (address : ℕ)
 line_there held width (Text offset) address within e above = let there = within.there in absurd (omega arith)
 line_there held width (Data offset) address within e above = let there = within.there in absurd (omega arith)
 line_there held width (Image offset) address within e above = let there = within.there in omega arith
+
+-- the bits of an access's bytes
+width_few : (width : ℕ) → IsWidth width → width < 64
+width_few width (inl e) = omega (arith, e)
+width_few width (inr (inl e)) = omega (arith, e)
+width_few width (inr (inr (inl e))) = omega (arith, e)
+width_few width (inr (inr (inr e))) = omega (arith, e)
+
+pub access_bits : (address width : ℕ) → IsWidth width → offset_of address + width ≤ 64 →
+    (((1 * 2 ^ width) % 2 ^ 64 - 1) * 2 ^ offset_of address) % 2 ^ 64 ≡ access_bytes (offset_of address) width
+access_bits address width w fits =
+    let some = pow_pos width in
+    ap (λ (n : ℕ). ((n - 1) * 2 ^ offset_of address) % 2 ^ 64) (one_shl width 64 (width_few width w))
+    ∙ shl_whole (2 ^ width - 1) width (offset_of address) 64 (omega (arith, some)) (omega (arith, fits))

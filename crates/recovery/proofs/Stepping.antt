@@ -18,7 +18,7 @@ use Rattle.line_memory.specs.declared.TheConstants.{TEXT_BASE, TEXT_SIZE}
 use Rattle.machine.specs.declared.schedule.items.Step.TheVariants.{Hart}
 use Rattle.machine.specs.declared.shared_memory.history.Entry.{Entry}
 use Rattle.machine.specs.declared.shared_memory.history.Entry.TheVariants.{Asked}
-use Rattle.machine.specs.Histories.{calls_of, fetched_text, has_reserved, is_renewing, memory_after, replayed, text_of}
+use Rattle.machine.specs.Histories.{calls_of, fetched_text, has_reserved, is_renewing, memory_after, replayed, text_of, written}
 use Rattle.machine.specs.Replies.{events_of, memory_in, reply_after, trace_in}
 use Rattle.machine.specs.Run.{Config, Executes, StepsTo, after_request, fetched, with_hart}
 use Rattle.machine.specs.Represents.{text_bytes}
@@ -26,7 +26,9 @@ use Rattle.machine.proofs.Stepping.{hart_steps}
 use Rattle.recovery.specs.Memory.{HeldView, memory_of}
 use Rattle.recovery.specs.Regions.{bytes_of}
 use Rattle.recovery.proofs.Placing.{text_byte}
-use Rattle.recovery.specs.Loading.{lines_loaded}
+use Rattle.recovery.specs.Asking.{asked_by, own_bytes, with_written}
+use Rattle.std.proofs.Math.Path.{fun_ext}
+use Rattle.verdict.specs.declared.branches.question.Question.{Question}
 use Rattle.recovery.specs.Engine.{Answers, Goes, IsAsked, Represents}
 use Rattle.recovery.specs.Fetched.{FetchedView, Refetches}
 use Rattle.recovery.specs.World.{IsTooMany, Serves, is_line, reply_to}
@@ -88,7 +90,8 @@ goes_alone old new image after running needs e = λ c stands. (
     reserved = stands.reserved;
     events = stands.events;
     few = stands.few;
-    lines = stands.lines;
+    own = stands.own;
+    asked = stands.asked;
   }),
 )
 
@@ -106,7 +109,8 @@ goes_trapped old new image trap running needs e = λ c stands.
         reserved = stands.reserved;
         events = stands.events;
         few = stands.few;
-        lines = stands.lines;
+        own = stands.own;
+        asked = stands.asked;
       }),
     )
 
@@ -132,7 +136,9 @@ answered_stands old new image i request reply c told serves hart text stands =
       reserved = s.reserved (flat_map calls_of c.common.history) stands.reserved;
       events = events;
       few = let few = s.few in omega arith;
-      lines = s.loaded ∙ ap (λ (lines : List ℕ). lines ++ lines_loaded request (reply_after c.common 0 request)) stands.lines;
+      own = λ l. s.own l ∙ ap (λ (bytes : ℕ). with_written l (written request (reply_after c.common 0 request)) bytes) (stands.own l);
+      asked = s.asked ∙ ap (λ (own : ℕ → ℕ). old.world.asked ++ asked_by own request (reply_after c.common 0 request)) (fun_ext stands.own)
+          ∙ ap (λ (questions : List Question). questions ++ asked_by (own_bytes c.common.history) request (reply_after c.common 0 request)) stands.asked;
     }
 
 pub goes_answered : (old new : Engine) (image : List (List ℕ)) (i : Instr) (request : Request) → old.hart.status ≡ Running

@@ -1,5 +1,5 @@
 -- A routine under way: what it represents in terms of Run, and what its steps do to that.
-use Rattle.std.specs.Prelude.{◌≡◌, ◌<◌, ◌≤◌, ℕ, List, [], ◌∷◌, Bool, true, false, Result, Err, length, flat_map}
+use Rattle.std.specs.Prelude.{◌≡◌, ◌<◌, ◌≤◌, ℕ, List, [], ◌∷◌, Bool, true, false, Result, Err, length, slice_index, flat_map}
 use Rattle.isa_table.specs.declared.instruction.Instr.{Instr}
 use Rattle.hart.specs.Effect.{answered}
 use Rattle.hart.specs.declared.need.Reply.{Reply}
@@ -13,7 +13,7 @@ use Rattle.recovery.specs.Memory.{IsSame, memory_of}
 use Rattle.recovery.specs.declared.recovery_run.Cause.{Cause}
 use Rattle.recovery.specs.declared.recovery_run.Cause.TheVariants.{Events}
 use Rattle.recovery.specs.Answers.{answer_by}
-use Rattle.recovery.specs.Loading.{loaded}
+use Rattle.recovery.specs.Asking.{asked, own_bytes}
 use Rattle.recovery.specs.Recovery.{RunsFor}
 use Rattle.recovery.specs.Fetched.{Refetches}
 use Rattle.recovery.specs.World.{Holds, IsTooMany, Serves}
@@ -27,7 +27,8 @@ pub record Represents (engine : Engine) (image : List (List ℕ)) (c : Config) :
   pub reserved : Holds engine.world.reserved (flat_map calls_of c.common.history)
   pub events : engine.world.events ≡ length (trace_in c.common)
   pub few : length (trace_in c.common) ≤ 65536
-  pub lines : engine.world.loaded ≡ loaded c.common.history
+  pub own : (l : ℕ) → slice_index engine.world.own l ≡ own_bytes c.common.history l
+  pub asked : engine.world.asked ≡ asked c.common.history
 
 -- what stays the same in all that a routine does
 pub record IsKept (old new : Engine) : Type 0 where

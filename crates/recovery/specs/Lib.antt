@@ -5,7 +5,7 @@ pub mod Routine
 pub mod Regions
 pub mod Memory
 pub mod Held
-pub mod Loading
+pub mod Asking
 pub mod Answers
 pub mod Recovery
 pub mod Images

@@ -1,5 +1,5 @@
 -- What a recovery routine has round it, and what its requests do to that: the same as in Run, over the history of hart 0 alone.
-use Rattle.std.specs.Prelude.{◌≡◌, ℕ, ◌+◌, ◌++◌, ◌<◌, ◌≤◌, List, Option, Some, None, Bool, false, eqb, length, nat_le, if◌then◌else◌}
+use Rattle.std.specs.Prelude.{◌≡◌, ℕ, ◌+◌, ◌++◌, ◌<◌, ◌≤◌, List, Option, Some, None, Bool, false, eqb, length, nat_le, slice_index, if◌then◌else◌}
 use Rattle.line_memory.specs.Memory.{stored_to}
 use Rattle.line_memory.specs.declared.TheConstants.{PERSISTENT_BASE}
 use Rattle.hart.specs.declared.need.Request.{Request}
@@ -7,20 +7,22 @@ use Rattle.hart.specs.declared.need.Reply.{Reply}
 use Rattle.hart.specs.declared.need.Reply.TheVariants.{Done}
 use Rattle.reservation.specs.Reserved.{Call, is_reserved}
 use Rattle.machine.specs.declared.shared_memory.history.Entry.TheVariants.{Asked}
-use Rattle.machine.specs.Histories.{calls_of, memory_after}
+use Rattle.machine.specs.Histories.{calls_of, memory_after, written}
 use Rattle.machine.specs.Replies.{events_of, replied}
 use Rattle.recovery.specs.Memory.{HeldView, memory_of}
-use Rattle.recovery.specs.Loading.{lines_loaded}
+use Rattle.recovery.specs.Asking.{asked_by, with_written}
+use Rattle.verdict.specs.declared.branches.question.Question.{Question}
 use Rattle.recovery.specs.declared.world.Served.{Served}
 use Rattle.recovery.specs.declared.world.Served.TheVariants.{Full, Replied}
 
--- what a contract sees of it: the memory, the line of the address space that hart 0 has reserved, how many events it made, and the
--- lines that it loaded, the oldest first
+-- what a contract sees of it: the memory, the line of the address space that hart 0 has reserved, how many events it made, which bytes of
+-- each line it has stored, and what it asked, the oldest first
 pub record WorldView : Type 0 where
   pub held : HeldView
   pub reserved : Option ℕ
   pub events : ℕ
-  pub loaded : List ℕ
+  pub own : List ℕ
+  pub asked : List Question
 
 -- whether hart 0 has reserved line l
 abbrev pub is_line : Option ℕ → ℕ → Bool
@@ -46,7 +48,8 @@ pub record Serves (old new : WorldView) (image : List (List ℕ)) (request : Req
   pub reserved : (calls : List Call) → Holds old.reserved calls → Holds new.reserved (calls_of (Asked 0 request r) ++ calls)
   pub events : new.events ≡ old.events + length (events_of 0 request r)
   pub few : new.events ≤ 65536
-  pub loaded : new.loaded ≡ old.loaded ++ lines_loaded request r
+  pub own : (l : ℕ) → slice_index new.own l ≡ with_written l (written request r) (slice_index old.own l)
+  pub asked : new.asked ≡ old.asked ++ asked_by (slice_index old.own) request r
 
 -- a request whose event would be event 65,537 isn't
 pub record IsTooMany (world : WorldView) (image : List (List ℕ)) (request : Request) : Type 0 where
@@ -61,7 +64,8 @@ pub record Writes (old new : WorldView) (image : List (List ℕ)) (address width
   pub memory : memory_of new.held image ≡ stored_to (memory_of old.held image) address width value
   pub reserved : new.reserved ≡ old.reserved
   pub events : new.events ≡ old.events + event_count address
-  pub loaded : new.loaded ≡ old.loaded
+  pub own : (l : ℕ) → slice_index new.own l ≡ with_written l (Some (record { address = address; width = width; value = value })) (slice_index old.own l)
+  pub asked : new.asked ≡ old.asked
 
 -- so many events are counted, where there is room
 abbrev pub IsNoted : WorldView → WorldView → ℕ → Served → Type 0

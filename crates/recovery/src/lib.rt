@@ -1,8 +1,8 @@
 //! Runs a recovery routine, a program of its author's, on one crash image after another: what it answers or why it has no answer,
-//! and the lines of the image that it loads.
+//! and the bytes of the image that it asks.
 //!
-//! Whether recovery's answer is a right one is for the crates above; here an image is only run on. Two images that agree on the lines
-//! that a run loads have the same run.
+//! Whether recovery's answer is a right one is for the crates above; here an image is only run on. Two images that agree on the bytes
+//! that a run asks have the same run.
 #![tactic(auto)]
 
 mod engine;
@@ -18,7 +18,7 @@ pub use found::Answer;
 pub use overlay::{Held, Source};
 pub use overlay_memory::{HeldMemory, Place};
 pub use recovery_run::{
-    Cause, images_are_judged_by_branches, lines_loaded_decide, lines_loaded_decide_recovery,
-    lines_loaded_so_far_decide, recovery_has_parts, recovery_is_a_run,
+    Cause, bytes_asked_decide, bytes_asked_decide_recovery, bytes_asked_so_far_decide,
+    images_are_judged_by_branches, recovery_has_parts, recovery_is_a_run,
 };
 pub use routine::Routine;

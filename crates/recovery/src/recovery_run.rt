@@ -1,5 +1,5 @@
-//! What a recovery routine in assembly makes of a medium: its run, its answer or why it has none, and the law that the lines
-//! which it loads decide both. The definitions stand over Run; nothing here runs.
+//! What a recovery routine in assembly makes of a medium: its run, its answer or why it has none, and the law that the bytes
+//! which it asks decide both. The definitions stand over Run; nothing here runs.
 
 ghost use Rattle.std.specs.Prelude.{◌≡◌, ◌≢◌, ◌+◌, ◌≤◌, ℕ, List, Bool, Result, Some, false, length, slice_get, take};
 ghost use Rattle.verdict.specs.Branches.{Agree, IsAdaptive, IsShared};
@@ -13,8 +13,9 @@ ghost use Rattle.machine.specs.declared.schedule.items.Step.{Step};
 ghost use Rattle.machine.specs.Replies.{trace_in};
 ghost use Rattle.machine.specs.Run.{Config, RunsTo, started};
 ghost use Rattle.recovery.specs.Answers.{answer};
-ghost use Rattle.recovery.specs.Images.{Answers, HasSameBytes, Loads};
-ghost use Rattle.recovery.specs.Loading.{AgreeOn, AreAsOne, loaded};
+ghost use Rattle.recovery.specs.Asking.{AgreeOn, AreAsOne, asked};
+ghost use Rattle.recovery.specs.Images.{Answers, Asks, has_same_bytes};
+ghost use Rattle.verdict.specs.declared.branches.question.Question.{Question};
 ghost use Rattle.recovery.specs.Recovery.{RunsFor, alone};
 
 use hart::Trap;
@@ -55,49 +56,49 @@ pub fn recovery_has_parts()
         length (trace_in c.common) ≤ 65536 → RunsFor c steps c false }
 {}
 
-/// Media of the same length that agree on the lines that a run loads have the same run: but for persistent memory it comes
+/// Media of the same length that agree on the bytes that a run asks have the same run: but for persistent memory it comes
 /// to the same configuration.
 #[tactic(auto, using(crate::proofs::Runs::runs_as_one))]
-pub fn lines_loaded_decide()
+pub fn bytes_asked_decide()
     ensures { (program : Sections) (lines others : List (List ℕ)) (harts : ℕ) (steps : List Step) (d : Config) →
         AreLines lines → AreLines others → length others ≡ length lines →
-        RunsTo (started program lines harts) steps d → AgreeOn lines others (loaded d.common.history) →
+        RunsTo (started program lines harts) steps d → AgreeOn lines others (asked d.common.history) →
         (e : Config) × RunsTo (started program others harts) steps e × AreAsOne d e }
 {}
 
-/// The lines that were loaded so far decide the next one.
-#[tactic(auto, using(crate::proofs::Runs::next_loaded))]
-pub fn lines_loaded_so_far_decide()
+/// The bytes that were asked so far decide which are asked next.
+#[tactic(auto, using(crate::proofs::Runs::next_asked))]
+pub fn bytes_asked_so_far_decide()
     ensures { (program : Sections) (lines others : List (List ℕ)) (harts : ℕ) (steps : List Step) (d e : Config) (count : ℕ) →
         AreLines lines → AreLines others → length others ≡ length lines →
         RunsTo (started program lines harts) steps d → RunsTo (started program others harts) steps e →
-        AgreeOn lines others (take count (loaded d.common.history)) →
-        take (count + 1) (loaded e.common.history) ≡ take (count + 1) (loaded d.common.history) }
+        AgreeOn lines others (take count (asked d.common.history)) →
+        take (count + 1) (asked e.common.history) ≡ take (count + 1) (asked d.common.history) }
 {}
 
-/// Both laws for a recovery run, with what it comes to: media that agree on the lines that it loads have the same answer, or
+/// Both laws for a recovery run, with what it comes to: media that agree on the bytes that it asks have the same answer, or
 /// none for the same cause.
 #[tactic(auto, using(crate::proofs::Limited::runs_alike, crate::proofs::Limited::next_asked))]
-pub fn lines_loaded_decide_recovery()
+pub fn bytes_asked_decide_recovery()
     ensures run { (program : Sections) (lines others : List (List ℕ)) (steps : ℕ) (d : Config) (full : Bool) →
         AreLines lines → AreLines others → length others ≡ length lines →
-        RunsFor (started program lines 1) steps d full → AgreeOn lines others (loaded d.common.history) →
+        RunsFor (started program lines 1) steps d full → AgreeOn lines others (asked d.common.history) →
         (e : Config) × RunsFor (started program others 1) steps e full × AreAsOne d e × (answer e full ≡ answer d full) }
     ensures next { (program : Sections) (lines others : List (List ℕ)) (steps : ℕ) (d e : Config) (full other : Bool) (count : ℕ) →
         AreLines lines → AreLines others → length others ≡ length lines →
         RunsFor (started program lines 1) steps d full → RunsFor (started program others 1) steps e other →
-        AgreeOn lines others (take count (loaded d.common.history)) →
-        take (count + 1) (loaded e.common.history) ≡ take (count + 1) (loaded d.common.history) }
+        AgreeOn lines others (take count (asked d.common.history)) →
+        take (count + 1) (asked e.common.history) ≡ take (count + 1) (asked d.common.history) }
 {}
 
-/// The laws in terms of cuts: recovery of their images can be judged by branches, of which lines are alike by their bytes.
+/// The laws in terms of cuts: recovery of their images can be judged by branches, whose questions are alike by their bytes.
 pub fn images_are_judged_by_branches()
     ensures adaptive { (program : Sections) (steps : ℕ) (start : List (List ℕ)) (p : List PersistenceStep) →
-        ((cut : ℕ → ℕ) → AreLines (image start cut p)) → IsAdaptive (HasSameBytes start p) (Loads program steps start p) }
+        ((cut : ℕ → ℕ) → AreLines (image start cut p)) → IsAdaptive (has_same_bytes start p) (Asks program steps start p) }
     ensures shared { (program : Sections) (steps : ℕ) (start : List (List ℕ)) (p : List PersistenceStep) →
-        ((cut : ℕ → ℕ) → AreLines (image start cut p)) → IsShared (HasSameBytes start p) (Loads program steps start p) }
+        ((cut : ℕ → ℕ) → AreLines (image start cut p)) → IsShared (has_same_bytes start p) (Asks program steps start p) }
     ensures branchwise { (program : Sections) (steps : ℕ) (start : List (List ℕ)) (p : List PersistenceStep) →
         ((cut : ℕ → ℕ) → AreLines (image start cut p)) →
-        (c k : ℕ → ℕ) (lines : List ℕ) (found : Result (List ℕ) Cause) →
-        Loads program steps start p c lines → Agree (HasSameBytes start p) k c lines → Answers program steps start p c found → Answers program steps start p k found }
+        (c k : ℕ → ℕ) (questions : List Question) (found : Result (List ℕ) Cause) →
+        Asks program steps start p c questions → Agree (has_same_bytes start p) k c questions → Answers program steps start p c found → Answers program steps start p k found }
 {}

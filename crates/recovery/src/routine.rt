@@ -1,6 +1,7 @@
 //! A recovery routine, for any number of images.
 
-ghost use Rattle.std.specs.Prelude.{◌≡◌, ◌<◌, All, length, IfOk, IfErr};
+ghost use Rattle.std.specs.Prelude.{◌≡◌, ◌<◌, ℕ, length, slice_index, IfOk, IfErr};
+ghost use Rattle.std.specs.List.{AllByRecursion};
 ghost use Rattle.line_memory.specs.declared.MediumFault.{MediumFault};
 ghost use Rattle.machine.specs.Run.{started};
 ghost use Rattle.recovery.specs.Held.{IsOver};
@@ -19,6 +20,7 @@ use line_memory::MediumFault;
 use program::Program;
 use std::alloc::{AllocError, Global};
 use std::marker::Model;
+use verdict::Question;
 
 /// A recovery routine, which is as new before and after each run: the next image can be any other.
 #[derive(Drop)]
@@ -35,7 +37,7 @@ impl Model for Routine {
     ghost view = { λ r. record {
       program = r.engine.world.held.program;
       lines = length r.engine.world.held.image;
-      loaded = r.engine.world.loaded;
+      asked = r.engine.world.asked;
     } };
 
     ghost invariant = { λ r. IsAtRest r.engine };
@@ -43,7 +45,7 @@ impl Model for Routine {
 
 impl Routine {
     /// The routine of a program, for images of so many lines. All memory is taken here but for the lists of the lines that runs
-    /// store to and load, and for answers. The fault is Memory.
+    /// store to and of what they ask, and for answers. The fault is Memory.
     pub fn new(alloc: Global, program: Program, lines: u32) -> Result<Routine, MediumFault>
         ensures program { IfOk result (λ routine. routine.program ≡ program) }
         ensures lines { IfOk result (λ routine. routine.lines ≡ lines) }
@@ -75,7 +77,7 @@ impl Routine {
         steps: u32,
     ) -> Result<Result<Answer, Cause>, AllocError>
         requires lines { length (S.medium image.now) ≡ self.old.lines }
-        ensures ok { IfOk result (λ found. Recovers self.old.program (S.medium image.now) steps self.new.loaded found) }
+        ensures ok { IfOk result (λ found. Recovers self.old.program (S.medium image.now) steps self.new.asked found) }
         ensures program { self.new.program ≡ self.old.program }
         ensures lines { self.new.lines ≡ self.old.lines }
     {
@@ -85,13 +87,13 @@ impl Routine {
         found
     }
 
-    /// The lines of the image that the last run loaded by loads, LRs and atomic operations that didn't trap, the first one first,
-    /// and each as often as it was loaded.
-    pub fn lines_loaded(&self) -> &[u32]
-        ensures lines { result.now ≡ self.now.loaded }
-        ensures below { All (λ line. line < self.now.lines) self.now.loaded }
+    /// The bytes of the image that the last run asked by loads, LRs and atomic operations that didn't trap, the first ones first: those
+    /// that it hadn't stored itself. Bytes that were loaded again are asked again.
+    pub fn asked(&self) -> &[Question]
+        ensures asked { result.now ≡ self.now.asked }
+        ensures below { AllByRecursion (λ q. q.line < self.now.lines) self.now.asked }
     {
-        self.engine.world.lines_loaded()
+        self.engine.world.asked()
     }
 }
 
@@ -115,7 +117,8 @@ impl Engine {
         ensures memory { IsAtStart self.new.world.held (length self.old.world.held.image) }
         ensures fetched { self.new.text.bytes ≡ self.new.text.start }
         ensures kept { IsKept self.old self.new }
-        ensures loaded { self.new.world.loaded ≡ self.old.world.loaded }
+        ensures own { (l : ℕ) → slice_index self.new.world.own l ≡ 0 }
+        ensures asked { self.new.world.asked ≡ self.old.world.asked }
     {
         self.world.set_back();
         self.text.set_back();

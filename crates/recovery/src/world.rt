@@ -1,6 +1,8 @@
-//! What a routine has round it: its memory over an image, its reservation, how many events it made, and the lines that it loaded.
+//! What a routine has round it: its memory over an image, its reservation, how many events it made, which bytes it has stored, and what it
+//! asked of the image.
 
-ghost use Rattle.std.specs.Prelude.{◌≡◌, ◌+◌, ◌^◌, ◌/◌, ◌<◌, ◌≤◌, ◌++◌, ℕ, [], slice_get, nat_lt, None, Some, All, length, IfOk, IfErr, OnOk, OnErr};
+ghost use Rattle.std.specs.Prelude.{◌≡◌, ◌+◌, ◌^◌, ◌/◌, ◌%◌, ◌<◌, ◌≤◌, ◌++◌, ℕ, [], slice_get, slice_index, nat_lt, None, Some, length, IfOk, IfErr, OnOk, OnErr};
+ghost use Rattle.std.specs.List.{AllByRecursion};
 ghost use Rattle.line_memory.specs.Memory.{IsWidth, loaded_from};
 ghost use Rattle.line_memory.specs.declared.MediumFault.{MediumFault};
 ghost use Rattle.line_memory.specs.declared.TheConstants.{PERSISTENT_BASE, TEXT_SIZE};
@@ -8,8 +10,9 @@ ghost use Rattle.hart.specs.Requests.{IsAtomicWidth, IsRequest};
 ghost use Rattle.hart.specs.declared.need.Request.{Request};
 ghost use Rattle.recovery.specs.Held.{IsOver};
 ghost use Rattle.recovery.specs.Memory.{IsAtStart, IsSame, IsWithin, address_of, memory_of};
-ghost use Rattle.machine.specs.Persisted.{line_used};
-ghost use Rattle.machine.specs.Replies.{access_fault, line_of};
+ghost use Rattle.machine.specs.Replies.{access_fault, line_of, offset_of};
+ghost use Rattle.recovery.specs.Asking.{asked_at};
+ghost use Rattle.verdict.specs.Bytes.{access_bytes};
 ghost use Rattle.recovery.specs.Regions.{bytes_of};
 ghost use Rattle.isa_table.specs.declared.instruction.CacheOp.{CacheOp};
 ghost use Rattle.hart.specs.declared.need.Reply.{Reply};
@@ -24,6 +27,7 @@ use line_memory::{LINE_SIZE, MediumFault, MemFault, PERSISTENT_BASE};
 use program::Program;
 use std::alloc::{AllocError, Global};
 use std::marker::Model;
+use verdict::{LineBytes, Question};
 
 /// How many events a run may make.
 const MAX_EVENTS: u32 = store_trace::MAX_EVENTS as u32;
@@ -44,18 +48,21 @@ pub struct World {
     /// The line of the address space that an LR has reserved.
     reserved: Option<u32>,
     events: u32,
-    loaded: Vec<u32>,
+    /// The bytes of the image's lines that were stored: the run's own.
+    own: LineBytes,
+    asked: Vec<Question>,
 }
 
 impl Model for World {
-    ghost use Rattle.std.specs.Prelude.{◌<◌, ◌≤◌, All, length};
+    ghost use Rattle.std.specs.Prelude.{◌≡◌, ◌<◌, ◌≤◌, length};
+    ghost use Rattle.std.specs.List.{AllByRecursion};
     ghost use Rattle.recovery.specs.World.{WorldView};
 
     ghost Value = { WorldView };
 
-    ghost view = { λ w. record { held = w.held; reserved = w.reserved; events = w.events; loaded = w.loaded.items } };
+    ghost view = { λ w. record { held = w.held; reserved = w.reserved; events = w.events; own = w.own; asked = w.asked.items } };
 
-    ghost invariant = { λ w. (w.events ≤ 65536) × All (λ line. line < length w.held.image) w.loaded.items };
+    ghost invariant = { λ w. (w.events ≤ 65536) × (length w.own ≡ length w.held.image) × AllByRecursion (λ q. q.line < length w.held.image) w.asked.items };
 }
 
 impl World {
@@ -63,6 +70,7 @@ impl World {
     pub fn new(alloc: Global, program: Program, lines: u32) -> Result<World, MediumFault>
         ensures program { IfOk result (λ world. world.held.program ≡ program) }
         ensures start { IfOk result (λ world. IsAtStart world.held lines) }
+        ensures own { IfOk result (λ world. (l : ℕ) → slice_index world.own l ≡ 0) }
         ensures err { IfErr result (λ fault. fault ≡ MediumFault.Memory) }
     {
         let held = HeldMemory::new(alloc, program, lines)?;
@@ -70,26 +78,29 @@ impl World {
             held,
             reserved: None,
             events: 0,
-            loaded: Vec::new(alloc),
+            own: LineBytes::new(alloc, lines)?,
+            asked: Vec::new(alloc),
         })
     }
 
-    /// Nothing is reserved, no event was made and no line loaded.
+    /// Nothing is reserved, no event was made and nothing asked.
     pub fn begin(&mut self)
-        ensures { self.new ≡ record self.old { reserved = None; events = 0; loaded = [] } }
+        ensures { self.new ≡ record self.old { reserved = None; events = 0; asked = [] } }
     {
         self.reserved = None;
         self.events = 0;
-        self.loaded.clear();
+        self.asked.clear();
     }
 
-    /// The memory is that at the start again, over any image.
+    /// The memory is that at the start again, over any image, and no byte was stored.
     pub fn set_back(&mut self)
         ensures start { IsAtStart self.new.held (length self.old.held.image) }
         ensures same { IsSame self.old.held self.new.held }
-        ensures loaded { self.new.loaded ≡ self.old.loaded }
+        ensures own { (l : ℕ) → slice_index self.new.own l ≡ 0 }
+        ensures asked { self.new.asked ≡ self.old.asked }
     {
         self.held.set_back();
+        self.own.clear();
     }
 
     /// The bytes of the text region as they are at the start.
@@ -117,12 +128,12 @@ impl World {
         self.held.peek(image, address)
     }
 
-    /// The lines of the image that were loaded, the oldest first, and each as often as it was.
-    pub fn lines_loaded(&self) -> &[u32]
-        ensures lines { result.now ≡ self.now.loaded }
-        ensures below { All (λ line. line < length self.now.held.image) self.now.loaded }
+    /// The bytes of the image that were asked: those that were loaded and hadn't been stored, the oldest first.
+    pub fn asked(&self) -> &[Question]
+        ensures asked { result.now ≡ self.now.asked }
+        ensures below { AllByRecursion (λ q. q.line < length self.now.held.image) self.now.asked }
     {
-        &self.loaded
+        &self.asked
     }
 
     /// Serves a request. Where memory is refused, what is round the routine is of no use before it is set back.
@@ -331,7 +342,7 @@ impl World {
         }
     }
 
-    /// The number that the bytes of an access spell; a line of the image is noted.
+    /// The number that the bytes of an access spell; those of the image that aren't the run's own are asked.
     #[tactic(auto, using(crate::proofs::Serving::line_there))]
     fn read<S: Source>(
         &mut self,
@@ -346,25 +357,33 @@ impl World {
         requires address { address ≡ address_of place }
         requires low { address < 2 ^ 38 }
         ensures ok { IfOk result (λ value. loaded_from (memory_of self.old.held (S.medium image.now)) address width ≡ Some value) }
-        ensures changed { OnOk result (self.new ≡ record self.old { loaded = self.old.loaded ++ line_used address }) }
+        ensures changed { OnOk result (self.new ≡ record self.old { asked = self.old.asked ++ asked_at (slice_index self.old.own) address width }) }
         ensures err { OnErr result (self.new ≡ self.old) }
     {
-        self.note_line(address)?;
+        self.ask(address, width)?;
         Ok(self.held.load(image, place, width))
     }
 
-    /// Notes that the line of an address is loaded, where it is a line of the image.
-    fn note_line(&mut self, address: u64) -> Result<(), AllocError>
+    /// Asks the bytes of an access that aren't the run's own, where it is one of the image.
+    fn ask(&mut self, address: u64, width: u32) -> Result<(), AllocError>
+        requires width { IsWidth width }
+        requires aligned { address % width ≡ 0 }
         requires low { address < 2 ^ 38 }
         requires there { PERSISTENT_BASE ≤ address → line_of address < length self.old.held.image }
-        ensures ok { OnOk result (self.new ≡ record self.old { loaded = self.old.loaded ++ line_used address }) }
+        ensures ok { OnOk result (self.new ≡ record self.old { asked = self.old.asked ++ asked_at (slice_index self.old.own) address width }) }
         ensures err { OnErr result (self.new ≡ self.old) }
     {
         if address < PERSISTENT_BASE {
             return Ok(());
         }
-        let line = ((address - PERSISTENT_BASE) / LINE_SIZE as u64) as u32;
-        self.loaded.push(line)?;
+        let access = access_of(address, width);
+        let bytes = access.bytes ^ (access.bytes & self.own.of(access.line));
+        if bytes != 0 {
+            self.asked.push(Question {
+                line: access.line,
+                bytes,
+            })?;
+        }
         Ok(())
     }
 
@@ -381,14 +400,34 @@ impl World {
         requires width { IsWidth width }
         requires within { IsWithin self.old.held width place }
         requires address { address ≡ address_of place }
+        requires low { address < 2 ^ 38 }
         requires room { self.old.events + event_count address ≤ 65536 }
         ensures ok { OnOk result (Writes self.old self.new (S.medium image.now) address width value) }
         ensures over { IsOver self.new.held.image (S.medium image.now) }
         ensures same { IsSame self.old.held self.new.held }
     {
         self.held.store(image, place, width, value)?;
+        if address >= PERSISTENT_BASE {
+            self.own.add(access_of(address, width))?;
+        }
         self.events += events_at(address);
         Ok(())
+    }
+}
+
+/// The line of an access to persistent memory, and its bytes there.
+fn access_of(address: u64, width: u32) -> Question
+    requires width { IsWidth width }
+    requires aligned { address % width ≡ 0 }
+    requires from { PERSISTENT_BASE ≤ address }
+    requires low { address < 2 ^ 38 }
+    ensures line { result.line ≡ line_of address }
+    ensures bytes { result.bytes ≡ access_bytes (offset_of address) width }
+{
+    let offset = address - PERSISTENT_BASE;
+    Question {
+        line: (offset / LINE_SIZE as u64) as u32,
+        bytes: ((1 << width) - 1) << (offset % LINE_SIZE as u64),
     }
 }
 

@@ -1,10 +1,10 @@
 -- A pass is kept from a moment to the next by an event that is no mark and that no image shows.
-use Rattle.std.proofs.Common.{◌≡◌, ℕ, ◌+◌, ◌<◌, Bool, List, length, get_or, refl, sym, ap, ◌∙◌, subst, arith, Result, Ok}
+use Rattle.std.proofs.Common.{◌≡◌, ℕ, ◌+◌, ◌<◌, Bool, List, [], ◌∷◌, length, get_or, slice_get, refl, sym, ap, ◌∙◌, subst, arith, Result, Ok}
 use Rattle.std.specs.Prelude.{◌≢◌}
 use Rattle.store_trace.proofs.Images.{length_image}
 use Rattle.routine_judge.proofs.Gathering.{found_alike}
 use Rattle.verdict.specs.CutImages.{AreMedia, image_at}
-use Rattle.routine_judge.specs.RightAnswers.{IsFoundOf, IsRightOf, LoadsOf, SameBytes, Shows, is_among}
+use Rattle.routine_judge.specs.RightAnswers.{IsFoundOf, IsRightOf, AsksOf, same_bytes, Shows, is_among}
 use Rattle.routine_judge.specs.Standing.{IsPassed}
 use Rattle.routine_judge.specs.Views.{JudgeView}
 use Rattle.routine_judge.specs.Windows.{IsWindow}
@@ -15,43 +15,51 @@ use Rattle.verdict.proofs.Keeping.{AgreeIn, IsByLines, like_next, pass_kept}
 use Rattle.verdict.specs.Keeping.{IsUnseen}
 use Rattle.recovery.proofs.Limited.{ends_once, runs_alike}
 use Rattle.recovery.specs.Answers.{answer}
-use Rattle.recovery.specs.Loading.{loaded}
+use Rattle.recovery.specs.Images.{same_at}
+use Rattle.recovery.proofs.Bytewise.{bytes_at}
+use Rattle.recovery.specs.Asking.{AgreeOn, asked}
+use Rattle.verdict.specs.declared.branches.question.Question.{Question}
 use Rattle.recovery.specs.declared.recovery_run.Cause as run
 use Rattle.line_memory.specs.Lines.{line_at}
 use Rattle.store_trace.specs.History.{at_moment}
 use Rattle.store_trace.specs.declared.event.Event.{Event}
 
--- a routine that comes to something loads some lines
-loads_of : (view : JudgeView) (m : ℕ) (cut : ℕ → ℕ) (found : Result (List ℕ) run.Cause) → Shows view m cut found → (lines : List ℕ) × LoadsOf view m cut lines
-loads_of view m cut found s = (loaded s.end.common.history, record { end = s.end; full = s.full; runs = s.runs; loads = refl })
+-- a routine that comes to something asks some bytes
+asks_of : (view : JudgeView) (m : ℕ) (cut : ℕ → ℕ) (found : Result (List ℕ) run.Cause) → Shows view m cut found → (questions : List Question) × AsksOf view m cut questions
+asks_of view m cut found s = (asked s.end.common.history, record { end = s.end; full = s.full; runs = s.runs; asks = refl })
 
-loads_once : (view : JudgeView) (m : ℕ) (cut : ℕ → ℕ) (lines others : List ℕ) → LoadsOf view m cut lines → LoadsOf view m cut others → lines ≡ others
-loads_once view m cut lines others x y =
+asks_once : (view : JudgeView) (m : ℕ) (cut : ℕ → ℕ) (questions others : List Question) → AsksOf view m cut questions → AsksOf view m cut others → questions ≡ others
+asks_once view m cut questions others x y =
     let one = ends_once (started view.routine (image_at view.start view.events m cut) 1) x.end y.end view.steps x.full y.full x.runs y.runs in
-    x.loads ∙ ap (λ (end : Config). loaded end.common.history) (sym one.0) ∙ sym y.loads
+    x.asks ∙ ap (λ (end : Config). asked end.common.history) (sym one.0) ∙ sym y.asks
 
 same_size : (view : JudgeView) (m n : ℕ) (c k : ℕ → ℕ) → length (image_at view.start view.events n k) ≡ length (image_at view.start view.events m c)
 same_size view m n c k = length_image view.start k (at_moment view.events n) ∙ sym (length_image view.start c (at_moment view.events m))
 
--- on an image of another moment that has the lines which it loads of this one, it loads the same
-loads_later : (view : JudgeView) (m n : ℕ) → AreMedia view.start view.events m → AreMedia view.start view.events n → (c k : ℕ → ℕ) (lines : List ℕ) →
-    LoadsOf view m c lines → AgreeIn (image_at view.start view.events m c) (image_at view.start view.events n k) lines → LoadsOf view n k lines
-loads_later view m n whole next c k lines x agree =
+-- lines that are the same have the same bytes
+agrees_on : (lines others : List (List ℕ)) (questions : List Question) → AgreeIn lines others questions → AgreeOn lines others questions
+agrees_on lines others [] h = tt
+agrees_on lines others (q ∷ qs) h = (λ i has. ap (λ (line : List ℕ). slice_get line i) h.0, agrees_on lines others qs h.1)
+
+-- on an image of another moment that has the lines of which it asks bytes of this one, it asks the same
+asks_later : (view : JudgeView) (m n : ℕ) → AreMedia view.start view.events m → AreMedia view.start view.events n → (c k : ℕ → ℕ) (questions : List Question) →
+    AsksOf view m c questions → AgreeIn (image_at view.start view.events m c) (image_at view.start view.events n k) questions → AsksOf view n k questions
+asks_later view m n whole next c k questions x agree =
     let one = image_at view.start view.events m c in
     let other = image_at view.start view.events n k in
     let r = runs_alike view.routine one other view.steps x.end x.full (whole c).each (next k).each (same_size view m n c k) x.runs
-    (subst (λ (ls : List ℕ). AgreeIn one other ls) x.loads agree) in
-    record { end = r.0; full = x.full; runs = r.1; loads = x.loads ∙ ap loaded (sym r.2.history) }
+    (subst (λ (qs : List Question). AgreeOn one other qs) x.asks (agrees_on one other questions agree)) in
+    record { end = r.0; full = x.full; runs = r.1; asks = x.asks ∙ ap asked (sym r.2.history) }
 
 -- and comes to the same
-shows_later : (view : JudgeView) (m n : ℕ) → AreMedia view.start view.events m → AreMedia view.start view.events n → (c k : ℕ → ℕ) (lines : List ℕ)
-    (found : Result (List ℕ) run.Cause) → LoadsOf view m c lines → AgreeIn (image_at view.start view.events m c) (image_at view.start view.events n k) lines →
+shows_later : (view : JudgeView) (m n : ℕ) → AreMedia view.start view.events m → AreMedia view.start view.events n → (c k : ℕ → ℕ) (questions : List Question)
+    (found : Result (List ℕ) run.Cause) → AsksOf view m c questions → AgreeIn (image_at view.start view.events m c) (image_at view.start view.events n k) questions →
     Shows view m c found → Shows view n k found
-shows_later view m n whole next c k lines found x agree a =
+shows_later view m n whole next c k questions found x agree a =
     let one = image_at view.start view.events m c in
     let other = image_at view.start view.events n k in
     let r = runs_alike view.routine one other view.steps x.end x.full (whole c).each (next k).each (same_size view m n c k) x.runs
-    (subst (λ (ls : List ℕ). AgreeIn one other ls) x.loads agree) in
+    (subst (λ (qs : List Question). AgreeOn one other qs) x.asks (agrees_on one other questions agree)) in
     let same = ends_once (started view.routine one 1) a.end x.end view.steps a.full x.full a.runs x.runs in
     record {
       end = r.0;
@@ -68,15 +76,15 @@ right_later view (Either before after) m n bytes fixed r = r
 right_later view (Through first last) m n bytes fixed r = r
 
 by_lines : (view : JudgeView) (window : Window) (m n : ℕ) → AreMedia view.start view.events m → AreMedia view.start view.events n → window ≢ Itself →
-    IsByLines view.start (at_moment view.events m) (at_moment view.events n) (LoadsOf view m) (LoadsOf view n) (IsFoundOf view (is_among window m) m)
+    IsByLines view.start (at_moment view.events m) (at_moment view.events n) (AsksOf view m) (AsksOf view n) (IsFoundOf view (is_among window m) m)
     (IsFoundOf view (is_among window n) n)
 by_lines view window m n whole next fixed = record {
-  asked = λ c good. loads_of view m c (Ok good.0) good.1;
-  same = λ c k lines loads agree. loads_later view m n whole next c k lines loads agree;
-  once = λ k lines others a b. loads_once view n k lines others a b;
-  good = λ c k lines loads agree good. (
+  asked = λ c good. asks_of view m c (Ok good.0) good.1;
+  same = λ c k questions asks agree. asks_later view m n whole next c k questions asks agree;
+  once = λ k questions others a b. asks_once view n k questions others a b;
+  good = λ c k questions asks agree good. (
     good.0,
-    shows_later view m n whole next c k lines (Ok good.0) loads agree good.1,
+    shows_later view m n whole next c k questions (Ok good.0) asks agree good.1,
     right_later view window m n good.0 fixed good.2,
   );
   alike = λ k c found same f. found_alike view (is_among window m) m k c found same f;
@@ -86,9 +94,10 @@ pub kept_next : (view : JudgeView) (m : ℕ) (d : Event) (flags : List Bool) (wi
     AreMedia view.start view.events (m + 1) → m < length view.events → window ≢ Itself → IsUnseen flags (get_or view.events m d) →
     IsWindow view.events (m + 1) window → IsPassed view flags window m → IsPassed view flags window (m + 1)
 kept_next view m d flags window whole next there fixed unseen is passed =
-    let kept = pass_kept view.start (at_moment view.events m) (at_moment view.events (m + 1)) flags (SameBytes view m) (SameBytes view (m + 1))
-    (LoadsOf view m) (LoadsOf view (m + 1))
+    let kept = pass_kept view.start (at_moment view.events m) (at_moment view.events (m + 1)) flags (same_bytes view m) (same_bytes view (m + 1))
+    (AsksOf view m) (AsksOf view (m + 1))
     (IsFoundOf view (is_among window m) m) (IsFoundOf view (is_among window (m + 1)) (m + 1))
-    (λ l n o x y e. x (line_at view.start l) ∙ e ∙ sym (y (line_at view.start l))) (like_next view.start view.events m d flags there unseen)
+    (λ q n o x y e. ap (λ (xs : List ℕ). same_at q.bytes 0 xs (bytes_at view.start (at_moment view.events (m + 1)) q.line o)) (x (line_at view.start q.line))
+    ∙ ap (λ (ys : List ℕ). same_at q.bytes 0 (bytes_at view.start (at_moment view.events m) q.line n) ys) (y (line_at view.start q.line)) ∙ e) (like_next view.start view.events m d flags there unseen)
     (by_lines view window m (m + 1) whole next fixed) passed.flagged passed.passes in
     record { there = omega arith; is_window = is; flagged = kept.0; passes = kept.1 }

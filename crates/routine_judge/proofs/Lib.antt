@@ -2,7 +2,6 @@ pub mod Beginning
 pub mod Gathering
 pub mod Keeping
 pub mod Running
-pub mod Sameness
 pub mod Alone
 pub mod Begun
 pub mod Ends
@@ -12,3 +11,4 @@ pub mod Marked
 pub mod Spanning
 pub mod Staying
 pub mod Telling
+pub mod Bytewise

@@ -2,7 +2,6 @@ pub mod Views
 pub mod Images
 pub mod RightAnswers
 pub mod Branchwise
-pub mod Contents
 pub mod Gathered
 pub mod Verdicts
 pub mod Standing

@@ -8,7 +8,8 @@ use Rattle.routine_judge.specs.declared.cause.Cause.{Cause}
 use Rattle.routine_judge.specs.declared.cause.Cause.TheVariants.{Missing, Different, Full}
 use Rattle.routine_judge.specs.declared.history.moments.Window.{Window}
 use Rattle.routine_judge.specs.declared.history.moments.Window.TheVariants.{Itself, Either, Through}
-use Rattle.recovery.specs.Images.{Answers, HasSameBytes, Loads}
+use Rattle.recovery.specs.Images.{Answers, Asks, has_same_bytes}
+use Rattle.verdict.specs.declared.branches.question.Question.{Question}
 use Rattle.recovery.specs.declared.recovery_run.Cause as run
 use Rattle.store_trace.specs.History.{at_moment}
 
@@ -16,13 +17,13 @@ use Rattle.store_trace.specs.History.{at_moment}
 abbrev pub Shows : JudgeView → ℕ → (ℕ → ℕ) → Result (List ℕ) run.Cause → Type 0
 Shows view m cut found = Answers view.routine view.steps view.start (at_moment view.events m) cut found
 
--- and it loads these lines of it
-abbrev pub LoadsOf : JudgeView → ℕ → (ℕ → ℕ) → List ℕ → Type 0
-LoadsOf view m cut lines = Loads view.routine view.steps view.start (at_moment view.events m) cut lines
+-- and it asks these bytes of it
+abbrev pub AsksOf : JudgeView → ℕ → (ℕ → ℕ) → List Question → Type 0
+AsksOf view m cut questions = Asks view.routine view.steps view.start (at_moment view.events m) cut questions
 
--- a line of the images of moment m has the same bytes after two numbers of its stores
-abbrev pub SameBytes : JudgeView → ℕ → ℕ → ℕ → ℕ → Type 0
-SameBytes view m l n o = HasSameBytes view.start (at_moment view.events m) l n o
+-- in the images of moment m the bytes of a question are the same after two numbers of their line's stores
+abbrev pub same_bytes : JudgeView → ℕ → Question → ℕ → ℕ → Bool
+same_bytes view m q n o = has_same_bytes view.start (at_moment view.events m) q n o
 
 -- on the full image of moment m it comes to this
 abbrev pub ShowsFull : JudgeView → ℕ → Result (List ℕ) run.Cause → Type 0

@@ -1,7 +1,7 @@
 -- What a judge of moments knows of the moment that it judged last.
 use Rattle.std.specs.Prelude.{◌≡◌, ◌≤◌, ℕ, Bool, List, IfSome, length}
 use Rattle.routine_judge.specs.Gathered.{AreKept}
-use Rattle.routine_judge.specs.RightAnswers.{IsFoundOf, LoadsOf, SameBytes, is_among}
+use Rattle.routine_judge.specs.RightAnswers.{IsFoundOf, AsksOf, same_bytes, is_among}
 use Rattle.routine_judge.specs.Views.{JudgeView}
 use Rattle.routine_judge.specs.declared.judge.MomentJudge.{MomentJudge}
 use Rattle.routine_judge.specs.Windows.{IsWindow}
@@ -10,12 +10,12 @@ use Rattle.verdict.specs.Verdicts.{AreFlagged, IsMomentVerdict}
 use Rattle.verdict.specs.declared.moment_verdict.verdict.MomentVerdict.TheVariants as moments
 use Rattle.store_trace.specs.History.{at_moment}
 
--- The moment passes by the answers of its window, and each line that the routine loads of an image of it is flagged.
+-- The moment passes by the answers of its window, and each line of which the routine asks bytes of an image of it is flagged.
 pub record IsPassed (view : JudgeView) (flags : List Bool) (window : Window) (m : ℕ) : Type 0 where
   pub there : m ≤ length view.events
   pub is_window : IsWindow view.events m window
-  pub flagged : AreFlagged (LoadsOf view m) (at_moment view.events m) flags
-  pub passes : IsMomentVerdict (SameBytes view m) (LoadsOf view m) (IsFoundOf view (is_among window m) m) (at_moment view.events m) moments.Pass
+  pub flagged : AreFlagged (AsksOf view m) (at_moment view.events m) flags
+  pub passes : IsMomentVerdict (same_bytes view m) (AsksOf view m) (IsFoundOf view (is_among window m) m) (at_moment view.events m) moments.Pass
 
 -- what a worker keeps is right, and of the run's routine and medium
 pub record StandsIn (view : JudgeView) (judge : MomentJudge) : Type 0 where

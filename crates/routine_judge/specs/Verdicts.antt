@@ -4,7 +4,7 @@ use Rattle.std.specs.Prelude.{◌≢◌, ℕ, ◌+◌, ◌<◌, Bool, List, [], 
 use Rattle.std.specs.List.{position_from}
 use Rattle.std.specs.Option.{option_map_or}
 use Rattle.store_trace.specs.Marks.{begun, begun_by}
-use Rattle.routine_judge.specs.RightAnswers.{IsFoundOf, LoadsOf, SameBytes, is_among}
+use Rattle.routine_judge.specs.RightAnswers.{IsFoundOf, AsksOf, same_bytes, is_among}
 use Rattle.routine_judge.specs.Views.{JudgeView}
 use Rattle.routine_judge.specs.declared.cause.Cause.{Cause}
 use Rattle.routine_judge.specs.declared.fault.JudgeFault.{JudgeFault}
@@ -19,12 +19,12 @@ use Rattle.verdict.specs.declared.moment_verdict.verdict.Verdict.{Verdict}
 use Rattle.store_trace.specs.History.{at_moment}
 use Rattle.store_trace.specs.declared.event.Event.{Event}
 
--- the verdict on moment m: branches are opened by the lines that the routine loads and their bytes, and the answers on the full images
+-- the verdict on moment m: branches are opened by the bytes that the routine asks, and the answers on the full images
 -- of the moment's window are the right ones
 pub record IsJudged (view : JudgeView) (m : ℕ) (verdict : MomentVerdict Cause) : Type 0 where
   pub window : Window
   pub is_window : IsWindow view.events m window
-  pub judged : IsMomentVerdict (SameBytes view m) (LoadsOf view m) (IsFoundOf view (is_among window m) m) (at_moment view.events m) verdict
+  pub judged : IsMomentVerdict (same_bytes view m) (AsksOf view m) (IsFoundOf view (is_among window m) m) (at_moment view.events m) verdict
 
 -- the first moment that is judged: right after the first Begin, and past the last moment where there is none
 abbrev pub first_judged : List Event → ℕ

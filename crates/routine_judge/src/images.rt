@@ -4,12 +4,13 @@ ghost use Rattle.verdict.specs.CutImages.{AreMedia};
 ghost use Rattle.std.specs.Prelude.{◌≡◌, ◌≤◌, length};
 
 use crate::Cause;
+use crate::bytes::have_same;
 use crate::history::Window;
 use crate::right::RightAnswers;
 use crate::run::MarkedRun;
 use recovery::Routine;
 use std::alloc::{AllocError, Global};
-use verdict::{CutImage, Recovery};
+use verdict::{CutImage, Question, Recovery};
 
 /// The images of a moment, and the answers that are right there.
 #[derive(Drop)]
@@ -50,10 +51,9 @@ impl Recovery for MomentImages<'_, '_> {
     ghost use Rattle.store_trace.specs.Floor.{floor};
     ghost use Rattle.store_trace.specs.Stores.{stores};
     ghost use Rattle.store_trace.proofs.Bounds.{floor_le_stores};
-    ghost use Rattle.routine_judge.specs.Branchwise.{adaptive, branchwise, last_alike, same_bytes, shared};
+    ghost use Rattle.routine_judge.specs.Branchwise.{adaptive, branchwise, bytes_alike, bytes_both, bytes_nothing, shared};
     ghost use Rattle.routine_judge.specs.Gathered.{AreAnswers};
-    ghost use Rattle.routine_judge.specs.Contents.{last_before, same_end};
-    ghost use Rattle.routine_judge.specs.RightAnswers.{IsFoundOf, LoadsOf, SameBytes, is_among};
+    ghost use Rattle.routine_judge.specs.RightAnswers.{AsksOf, IsFoundOf, is_among, same_bytes};
     ghost use Rattle.store_trace.specs.History.{at_moment};
     ghost use Rattle.std.specs.Prelude.{◌≡◌, ℕ, true, length};
 
@@ -67,11 +67,9 @@ impl Recovery for MomentImages<'_, '_> {
 
     ghost high = { λ s l. stores l (at_moment s.run.now.events s.moment) };
 
-    ghost alike = { λ s. SameBytes s.run.now s.moment };
+    ghost alike = { λ s. same_bytes s.run.now s.moment };
 
-    ghost last_alike = { λ s l n. last_before (same_end s.run.now.start (at_moment s.run.now.events s.moment) l n) };
-
-    ghost asks = { λ s cut lines. LoadsOf s.run.now s.moment cut lines };
+    ghost asks = { λ s cut questions. AsksOf s.run.now s.moment cut questions };
 
     ghost judged = { λ s cut found. IsFoundOf s.run.now (is_among s.window s.moment) s.moment cut found };
 
@@ -94,8 +92,24 @@ impl Recovery for MomentImages<'_, '_> {
         run.index.stores(line, self.moment)
     }
 
-    fn last_alike(&self, line: u32, number: u32) -> Option<u32> {
-        self.run.last_same(line, number)
+    fn is_alike(&self, asked: Question, one: u32, other: u32) -> bool {
+        let run = self.run;
+        let index = &run.index;
+        have_same(
+            asked.bytes,
+            index.line(asked.line, one),
+            index.line(asked.line, other),
+        )
+    }
+
+    fn is_first(&self, asked: Question, number: u32) -> bool {
+        let floor = self.floor(asked.line);
+        for lower in floor..number {
+            if self.is_alike(asked, lower, number) {
+                return false;
+            }
+        }
+        true
     }
 
     fn workspace(&self, alloc: Global) -> Result<Routine, AllocError> {
@@ -107,24 +121,26 @@ impl Recovery for MomentImages<'_, '_> {
         alloc: Global,
         routine: &mut Routine,
         numbers: &[u32],
-        asked: &mut Vec<u32>,
+        asked: &mut Vec<Question>,
     ) -> Result<Option<Cause>, AllocError> {
         let run = self.run;
         let image = CutImage::new(&run.index, self.moment, numbers);
         let found = routine.run(alloc, &image, run.steps)?;
-        asked.extend_from_slice(routine.lines_loaded())?;
+        asked.extend_from_slice(routine.asked())?;
         Ok(self.right.judge(&found))
     }
 
     ghost ordered = { λ s l. floor_le_stores l (at_moment s.run.now.events s.moment) };
 
-    ghost equivalent = { λ s. same_bytes s.run.now.start (at_moment s.run.now.events s.moment) };
+    ghost equivalent = { λ s. bytes_alike s.run.now.start (at_moment s.run.now.events s.moment) };
 
-    ghost last = { λ s l n. last_alike s.run.now.start (at_moment s.run.now.events s.moment) l n };
+    ghost nothing = { λ s l n m. bytes_nothing s.run.now.start (at_moment s.run.now.events s.moment) l n m };
+
+    ghost both = { λ s l a b n m. bytes_both s.run.now.start (at_moment s.run.now.events s.moment) l a b n m };
 
     ghost adaptive = { λ s. adaptive s.run.now s.moment s.whole };
 
     ghost shared = { λ s. shared s.run.now s.moment s.whole };
 
-    ghost branchwise = { λ s c k ls found a h f. branchwise s.run.now (is_among s.window s.moment) s.moment s.whole c k ls found a h f };
+    ghost branchwise = { λ s c k qs found a h f. branchwise s.run.now (is_among s.window s.moment) s.moment s.whole c k qs found a h f };
 }

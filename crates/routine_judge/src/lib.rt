@@ -5,8 +5,8 @@
 //! answers are right is this project's own.
 #![tactic(auto)]
 
+mod bytes;
 mod cause;
-mod contents;
 mod fault;
 mod full_image;
 mod history;

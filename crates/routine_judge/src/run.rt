@@ -2,16 +2,12 @@
 
 ghost use Rattle.crash_image.specs.View.{HasLines};
 ghost use Rattle.store_trace.specs.Marks.{begun};
-ghost use Rattle.routine_judge.specs.Contents.{last_before, same_end};
 ghost use Rattle.routine_judge.specs.Verdicts.{IsRefusal, first_judged, judged_from};
-ghost use Rattle.store_trace.specs.History.{at_moment, history};
-ghost use Rattle.store_trace.specs.Stores.{stores};
 ghost use Rattle.routine_judge.specs.MarkFaults.{AreSound};
 ghost use Rattle.routine_judge.specs.Windows.{IsWindow};
 ghost use Rattle.std.specs.Prelude.{◌≡◌, ◌≢◌, ◌+◌, ◌<◌, ◌≤◌, ℕ, [], length, IfErr, IfOk};
 
 use crate::JudgeFault;
-use crate::contents::Contents;
 use crate::history::{MarkFault, Window, Windows, begins, check_marks};
 use crash_image::TraceIndex;
 use line_memory::Medium;
@@ -32,7 +28,6 @@ pub struct MarkedRun<'a> {
     /// How many steps the routine makes at most on an image.
     pub(crate) steps: u32,
     pub(crate) index: TraceIndex<'a>,
-    contents: Contents,
     windows: Windows,
     /// The number of lines of the medium.
     pub(crate) lines: u32,
@@ -45,7 +40,6 @@ pub struct MarkedRun<'a> {
 impl<'a> Model for MarkedRun<'a> {
     ghost use Rattle.crash_image.specs.View.{HasLines};
     ghost use Rattle.routine_judge.specs.Verdicts.{first_judged};
-    ghost use Rattle.routine_judge.specs.Contents.{AreContents};
     ghost use Rattle.routine_judge.specs.Views.{JudgeView};
     ghost use Rattle.routine_judge.specs.Spans.{AreWindows};
     ghost use Rattle.line_memory.specs.Lines.{IsMedium};
@@ -65,8 +59,7 @@ impl<'a> Model for MarkedRun<'a> {
         × (r.lines ≡ length r.medium.now)
         × (r.moments ≡ length r.trace.now.events + 1)
         × (r.moments ≤ 65537)
-        × (r.begin ≡ first_judged r.trace.now.events)
-        × AreContents r.medium.now r.trace.now.events r.contents };
+        × (r.begin ≡ first_judged r.trace.now.events) };
 }
 
 impl<'a> MarkedRun<'a> {
@@ -112,7 +105,6 @@ impl<'a> MarkedRun<'a> {
     {
         let windows = Windows::of(alloc, trace)?;
         let index = TraceIndex::new(alloc, medium, trace)?;
-        let contents = Contents::new(alloc, &index, trace.events().len() as u32)?;
         let lines = index.lines();
         let moments = trace.events().len() as u32 + 1;
         let begin = first_judged(trace.events());
@@ -122,7 +114,6 @@ impl<'a> MarkedRun<'a> {
             routine,
             steps,
             index,
-            contents,
             windows,
             lines,
             moments,
@@ -156,17 +147,6 @@ impl<'a> MarkedRun<'a> {
             Ok(routine) => Ok(routine),
             Err(_memory) => Err(AllocError),
         }
-    }
-
-    /// The last number of stores of a line below this one after which it holds the same bytes, at each moment that has them.
-    #[inline(always)]
-    pub(crate) fn last_same(&self, line: u32, number: u32) -> Option<u32>
-        requires line { line < length self.now.start }
-        requires number { (0 < number) × (number ≤ stores line (history self.now.events)) }
-        ensures { (moment : ℕ) → number ≤ stores line (at_moment self.now.events moment) →
-            result ≡ last_before (same_end self.now.start (at_moment self.now.events moment) line number) }
-    {
-        self.contents.lines[line as usize].last_same(number)
     }
 
     /// Which full images give the right answers of a moment.

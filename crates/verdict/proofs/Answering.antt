@@ -1,11 +1,12 @@
 -- What recovery came to at entries of the queue: what it was while others are taken in, and at entries side by side.
-use Rattle.std.proofs.Common.{◌≡◌, ℕ, zero, suc, ◌+◌, ◌≤◌, ◌<◌, List, [], ◌∷◌, ◌++◌, Option, length, set, take, drop, get_or, refl, sym, ap, subst, ◌∙◌, arith, append_assoc}
+use Rattle.std.proofs.Common.{◌≡◌, ℕ, zero, suc, ◌+◌, ◌≤◌, ◌<◌, List, [], ◌∷◌, ◌++◌, Bool, Option, length, set, take, drop, get_or, refl, sym, ap, subst, ◌∙◌, arith, append_assoc}
 use Rattle.std.proofs.lemmas.List.{get_or_append_left, get_or-set_other, length-append, length-set}
 use Rattle.std.specs.List.{All, AllZip}
 use Rattle.std.specs.Prelude.{IfOk, Err, Ok, Result}
 use Rattle.verdict.specs.Pieces.{AreAnswers, IsPiece, all_branching}
 use Rattle.verdict.specs.Queue.{branching, cut_at, entry, entry_at, IsTree}
 use Rattle.verdict.specs.declared.branches.pieces.Piece.{Piece}
+use Rattle.verdict.specs.declared.branches.question.Question.{Question}
 use Rattle.verdict.specs.declared.branches.queue.Entry.{Entry}
 use Rattle.verdict.specs.Openings.{Node}
 use Rattle.verdict.proofs.Tables.{cut_more}
@@ -41,7 +42,7 @@ pub longer_still : (before more queue later next : List Entry) → queue ≡ bef
 longer_still before more queue later next e f = f ∙ ap (λ (q : List Entry). q ++ later) e ∙ append_assoc before more later
 
 -- all entries of the answers stand in the queue
-pub answers_end : (asks : (ℕ → ℕ) → List ℕ → Type 0) (low : ℕ → ℕ) (lines : ℕ) (queue : List Entry) (i : ℕ) (vs : List Node) → i ≤ length queue →
+pub answers_end : (asks : (ℕ → ℕ) → List Question → Type 0) (low : ℕ → ℕ) (lines : ℕ) (queue : List Entry) (i : ℕ) (vs : List Node) → i ≤ length queue →
     AreAnswers asks low lines queue i vs → i + length vs ≤ length queue
 answers_end asks low lines queue i [] le a = omega (arith, le)
 answers_end asks low lines queue i (v ∷ vs) le a =
@@ -49,7 +50,7 @@ answers_end asks low lines queue i (v ∷ vs) le a =
     let rest = answers_end asks low lines queue (i + 1) vs (omega (arith, there)) a.1 in omega (arith, rest)
 
 -- entries that come later change no answer,
-pub answers_later : (asks : (ℕ → ℕ) → List ℕ → Type 0) (low : ℕ → ℕ) (lines : ℕ) (queue more : List Entry) (i : ℕ) (vs : List Node) → IsTree lines queue →
+pub answers_later : (asks : (ℕ → ℕ) → List Question → Type 0) (low : ℕ → ℕ) (lines : ℕ) (queue more : List Entry) (i : ℕ) (vs : List Node) → IsTree lines queue →
     AreAnswers asks low lines queue i vs → AreAnswers asks low lines (queue ++ more) i vs
 answers_later asks low lines queue more i [] tree a = tt
 answers_later asks low lines queue more i (v ∷ vs) tree a =
@@ -64,37 +65,39 @@ answers_later asks low lines queue more i (v ∷ vs) tree a =
     )
 
 -- and nothing that branches off
-pub branching_later : (asks : (ℕ → ℕ) → List ℕ → Type 0) (last : ℕ → ℕ → Option ℕ) (low high : ℕ → ℕ) (lines : ℕ) (queue more : List Entry) (i : ℕ) (vs : List Node) →
-    AreAnswers asks low lines queue i vs → all_branching last low high (queue ++ more) i vs ≡ all_branching last low high queue i vs
-branching_later asks last low high lines queue more i [] a = refl
-branching_later asks last low high lines queue more i (v ∷ vs) a =
+pub branching_later : (asks : (ℕ → ℕ) → List Question → Type 0) (alike : Question → ℕ → ℕ → Bool) (low high : ℕ → ℕ) (lines : ℕ) (queue more : List Entry) (i : ℕ) (vs : List Node) → IsTree lines queue →
+    AreAnswers asks low lines queue i vs → all_branching alike low high (queue ++ more) i vs ≡ all_branching alike low high queue i vs
+branching_later asks alike low high lines queue more i [] tree a = refl
+branching_later asks alike low high lines queue more i (v ∷ vs) tree a =
     let same : entry_at (queue ++ more) i ≡ entry_at queue i = get_or_append_left queue more (entry 0 0 0 0) i a.0.there in
-    ap (λ (e : Entry). branching i last low high (take e.decided v.decided) (drop e.decided v.decided) ++ all_branching last low high (queue ++ more) (i + 1) vs) same
-    ∙ ap (λ (es : List Entry). branching i last low high (take (entry_at queue i).decided v.decided) (drop (entry_at queue i).decided v.decided) ++ es)
-    (branching_later asks last low high lines queue more (i + 1) vs a.1)
+    let cut : cut_at low (queue ++ more) i ≡ cut_at low queue i = cut_more low queue more i i tree.behind a.0.there in
+    ap (λ (e : Entry). branching i alike low high (cut_at low (queue ++ more) i) (take e.decided v.decided) (drop e.decided v.decided) ++ all_branching alike low high (queue ++ more) (i + 1) vs) same
+    ∙ ap (λ (c : ℕ → ℕ). branching i alike low high c (take (entry_at queue i).decided v.decided) (drop (entry_at queue i).decided v.decided) ++ all_branching alike low high (queue ++ more) (i + 1) vs) cut
+    ∙ ap (λ (es : List Entry). branching i alike low high (cut_at low queue i) (take (entry_at queue i).decided v.decided) (drop (entry_at queue i).decided v.decided) ++ es)
+    (branching_later asks alike low high lines queue more (i + 1) vs tree a.1)
 
-pub answers_join : (asks : (ℕ → ℕ) → List ℕ → Type 0) (low : ℕ → ℕ) (lines : ℕ) (queue : List Entry) (i : ℕ) (vs ws : List Node) →
+pub answers_join : (asks : (ℕ → ℕ) → List Question → Type 0) (low : ℕ → ℕ) (lines : ℕ) (queue : List Entry) (i : ℕ) (vs ws : List Node) →
     AreAnswers asks low lines queue i vs → AreAnswers asks low lines queue (i + length vs) ws → AreAnswers asks low lines queue i (vs ++ ws)
 answers_join asks low lines queue i [] ws a b = subst (λ (n : ℕ). AreAnswers asks low lines queue n ws) (omega arith) b
 answers_join asks low lines queue i (v ∷ vs) ws a b =
     (a.0, answers_join asks low lines queue (i + 1) vs ws a.1 (subst (λ (n : ℕ). AreAnswers asks low lines queue n ws) (omega arith) b))
 
-pub branching_join : (last : ℕ → ℕ → Option ℕ) (low high : ℕ → ℕ) (queue : List Entry) (i : ℕ) (vs ws : List Node) →
-    all_branching last low high queue i (vs ++ ws) ≡ all_branching last low high queue i vs ++ all_branching last low high queue (i + length vs) ws
-branching_join last low high queue i [] ws = ap (λ (n : ℕ). all_branching last low high queue n ws) (omega arith)
-branching_join last low high queue i (v ∷ vs) ws =
-    let here : List Entry = branching i last low high (take (entry_at queue i).decided v.decided) (drop (entry_at queue i).decided v.decided) in
+pub branching_join : (alike : Question → ℕ → ℕ → Bool) (low high : ℕ → ℕ) (queue : List Entry) (i : ℕ) (vs ws : List Node) →
+    all_branching alike low high queue i (vs ++ ws) ≡ all_branching alike low high queue i vs ++ all_branching alike low high queue (i + length vs) ws
+branching_join alike low high queue i [] ws = ap (λ (n : ℕ). all_branching alike low high queue n ws) (omega arith)
+branching_join alike low high queue i (v ∷ vs) ws =
+    let here : List Entry = branching i alike low high (cut_at low queue i) (take (entry_at queue i).decided v.decided) (drop (entry_at queue i).decided v.decided) in
     let place : (i + 1) + length vs ≡ i + length (v ∷ vs) = omega arith in
-    ap (λ (es : List Entry). here ++ es) (branching_join last low high queue (i + 1) vs ws
-    ∙ ap (λ (n : ℕ). all_branching last low high queue (i + 1) vs ++ all_branching last low high queue n ws) place)
-    ∙ sym (append_assoc here (all_branching last low high queue (i + 1) vs) (all_branching last low high queue (i + length (v ∷ vs)) ws))
+    ap (λ (es : List Entry). here ++ es) (branching_join alike low high queue (i + 1) vs ws
+    ∙ ap (λ (n : ℕ). all_branching alike low high queue (i + 1) vs ++ all_branching alike low high queue n ws) place)
+    ∙ sym (append_assoc here (all_branching alike low high queue (i + 1) vs) (all_branching alike low high queue (i + length (v ∷ vs)) ws))
 
 -- a piece, where more was found since
-pub piece_later : {Cause : Type 0} (asks : (ℕ → ℕ) → List ℕ → Type 0) (judged : (ℕ → ℕ) → Option Cause → Type 0) (last : ℕ → ℕ → Option ℕ) (low high : ℕ → ℕ) (lines : ℕ)
+pub piece_later : {Cause : Type 0} (asks : (ℕ → ℕ) → List Question → Type 0) (judged : (ℕ → ℕ) → Option Cause → Type 0) (alike : Question → ℕ → ℕ → Bool) (low high : ℕ → ℕ) (lines : ℕ)
     (before more queue : List Entry) (piece : Piece Cause) → IsTree lines before → queue ≡ before ++ more →
-    IsPiece asks judged last low high lines before piece → IsPiece asks judged last low high lines queue piece
-piece_later asks judged last low high lines before more queue piece tree grown p =
-    subst (λ (q : List Entry). IsPiece asks judged last low high lines q piece) (sym grown) (record {
+    IsPiece asks judged alike low high lines before piece → IsPiece asks judged alike low high lines queue piece
+piece_later asks judged alike low high lines before more queue piece tree grown p =
+    subst (λ (q : List Entry). IsPiece asks judged alike low high lines q piece) (sym grown) (record {
       done = p.done;
       count = p.count;
       least_size = p.least_size;
@@ -104,16 +107,16 @@ piece_later asks judged last low high lines before more queue piece tree grown p
         answers = answers_later asks low lines before more piece.first p.done tree p.runs.answers;
         asked = p.runs.asked;
         best = p.runs.best;
-        branches = p.runs.branches ∙ sym (branching_later asks last low high lines before more piece.first p.done p.runs.answers);
+        branches = p.runs.branches ∙ sym (branching_later asks alike low high lines before more piece.first p.done tree p.runs.answers);
       };
     })
 
 -- a piece of a round, where more was found since
-pub piece_now : {Cause E : Type 0} (asks : (ℕ → ℕ) → List ℕ → Type 0) (judged : (ℕ → ℕ) → Option Cause → Type 0) (last : ℕ → ℕ → Option ℕ) (low high : ℕ → ℕ) (lines : ℕ)
+pub piece_now : {Cause E : Type 0} (asks : (ℕ → ℕ) → List Question → Type 0) (judged : (ℕ → ℕ) → Option Cause → Type 0) (alike : Question → ℕ → ℕ → Bool) (low high : ℕ → ℕ) (lines : ℕ)
     (before more queue : List Entry) (pieces : List (Result (Piece Cause) E)) (i : ℕ) (found : Result (Piece Cause) E) (piece : Piece Cause) → IsTree lines before →
     queue ≡ before ++ more → i < length pieces → get_or pieces i found ≡ Ok piece →
-    AreFrom (λ found. IfOk found (IsPiece asks judged last low high lines before)) i pieces → IsPiece asks judged last low high lines queue piece
-piece_now {Cause} {E} asks judged last low high lines before more queue pieces i found piece tree grown less is h =
-    let P : Piece Cause → Type 0 = IsPiece asks judged last low high lines before in
-    piece_later asks judged last low high lines before more queue piece tree grown
+    AreFrom (λ found. IfOk found (IsPiece asks judged alike low high lines before)) i pieces → IsPiece asks judged alike low high lines queue piece
+piece_now {Cause} {E} asks judged alike low high lines before more queue pieces i found piece tree grown less is h =
+    let P : Piece Cause → Type 0 = IsPiece asks judged alike low high lines before in
+    piece_later asks judged alike low high lines before more queue piece tree grown
     (subst (λ (x : Result (Piece Cause) E). IfOk x P) is (h i found (omega arith) less))

@@ -1,12 +1,15 @@
--- What branches off an entry, line by line.
-use Rattle.std.proofs.Common.{◌≡◌, inl, inr, ℕ, zero, suc, ◌+◌, ◌-◌, ◌≤◌, ◌<◌, ◌==◌, ◌||◌, if◌then◌else◌, Bool, true, false, not, ltb, Option, List, [], ◌∷◌, ◌++◌, length, take, drop, get_or, refl, sym, ap, subst, ◌∙◌, arith, append_assoc}
+-- What branches off an entry, question by question.
+use Rattle.std.proofs.Common.{◌≡◌, inl, inr, ℕ, zero, suc, ◌+◌, ◌-◌, ◌≤◌, ◌<◌, ◌==◌, ◌&&◌, if◌then◌else◌, Bool, true, false, eqb, ltb, List, [], ◌∷◌, ◌++◌, length, take, drop, get_or, slice_index, refl, sym, ap, subst, ◌∙◌, arith, append_assoc}
+use Rattle.std.specs.Prelude.{bit_or}
+use Rattle.std.proofs.Math.Path.{fun_ext}
 use Rattle.std.proofs.lemmas.List.{append-nil, take_more, drop_more, length-take-le}
 use Rattle.std.proofs.lemmas.Bool.{cases_Bool, cases_eq}
-use Rattle.verdict.specs.Numbers.{has, is_flagged}
-use Rattle.verdict.specs.Queue.{entry, siblings, branching}
+use Rattle.verdict.specs.Branches.{IsEquivalence, all_alike, is_first, question}
+use Rattle.verdict.specs.Queue.{entry, is_new, is_new_behind, siblings, branching}
+use Rattle.verdict.specs.declared.branches.question.Question.{Question}
 use Rattle.verdict.specs.declared.branches.queue.Entry.{Entry}
-use Rattle.verdict.proofs.Listed.{drop_past, has_more}
-use Rattle.verdict.proofs.Nodes.{new_at}
+use Rattle.verdict.proofs.Alikes.{not_first}
+use Rattle.verdict.proofs.Listed.{drop_past}
 
 siblings_more : (new : ℕ → Bool) (p d l n more : ℕ) →
     siblings new p d l n (more + 1) ≡ siblings new p d l n more ++ (if new (n + more) then entry p d l (n + more) ∷ [] else [])
@@ -50,85 +53,186 @@ pub siblings_end : (new : ℕ → Bool) (p d l floor number low high : ℕ) (old
     found ≡ old ++ siblings new p d l (floor + 1) (number - floor) → found ≡ old ++ siblings new p d l (low + 1) (high - low)
 siblings_end new p d l floor number low high old found e f h = rw (e, f) at h
 
--- one more line
-branching_more : (p : ℕ) (last : ℕ → ℕ → Option ℕ) (low high : ℕ → ℕ) (lines : List ℕ) (at d : ℕ) → at < length lines →
-    branching p last low high (take at lines) (drop at lines)
-    ≡ (if has (get_or lines at d) (take at lines) then [] else siblings (new_at last low (get_or lines at d)) p (at + 1) (get_or lines at d) (low (get_or lines at d) + 1) (high (get_or lines at d) - low (get_or lines at d)))
-    ++ branching p last low high (take (at + 1) lines) (drop (at + 1) lines)
-branching_more p last low high lines at d less =
-    let x : ℕ = get_or lines at d in
-    let size : length (take at lines) ≡ at = length-take-le at lines (omega (arith, less)) in
-    ap (λ (r : List ℕ). branching p last low high (take at lines) r) (drop_more lines at d less)
-    ∙ ap (λ (n : ℕ). (if has x (take at lines) then [] else siblings (new_at last low x) p (n + 1) x (low x + 1) (high x - low x)) ++ branching p last low high (take at lines ++ x ∷ []) (drop (at + 1) lines)) size
-    ∙ ap (λ (s : List ℕ). (if has x (take at lines) then [] else siblings (new_at last low x) p (at + 1) x (low x + 1) (high x - low x)) ++ branching p last low high s (drop (at + 1) lines)) (sym (take_more lines at d less))
+-- two conditions, of which both hold or one doesn't
+pub both_true : {a b : Bool} → a ≡ true → b ≡ true → (a && b) ≡ true
+both_true {a} {b} e f = rw (e, f) refl
 
--- the lines before this place are seen, and what branches off there is found
-pub record IsFound (last : ℕ → ℕ → Option ℕ) (low high : ℕ → ℕ) (p decided : ℕ) (asked : List ℕ) (place : ℕ) (seen : List Bool) (found : List Entry) : Type 0 where
-  pub flags : (l : ℕ) → is_flagged l seen ≡ has l (take place asked)
+pub first_false : {a : Bool} (b : Bool) → a ≡ false → (a && b) ≡ false
+first_false {a} b e = rw e refl
+
+pub last_false : (a : Bool) {b : Bool} → b ≡ false → (a && b) ≡ false
+last_false a {b} e = rw e (elim a as (λ x. (x && false) ≡ false) [ true ↦ refl | false ↦ refl ])
+
+-- where none is new, nothing branches off
+siblings_none : (new : ℕ → Bool) (p d l n more : ℕ) → ((m : ℕ) → n ≤ m → new m ≡ false) → siblings new p d l n more ≡ []
+siblings_none new p d l n zero h = refl
+siblings_none new p d l n (suc more) h = rw (h n (omega arith)) (siblings_none new p d l (n + 1) more (λ m le. h m (omega (arith, le))))
+
+-- the bytes of a line that some questions ask, beside others
+pub so_far : ℕ → ℕ → List Question → ℕ
+so_far l bytes [] = bytes
+so_far l bytes (q ∷ qs) = so_far l (if q.line == l then bit_or bytes q.bytes else bytes) qs
+
+so_far_last : (l bytes : ℕ) (qs : List Question) (q : Question) → so_far l bytes (qs ++ q ∷ []) ≡ (if q.line == l then bit_or (so_far l bytes qs) q.bytes else so_far l bytes qs)
+unfolding so_far
+so_far_last l bytes [] q = refl
+so_far_last l bytes (x ∷ qs) q = so_far_last l (if x.line == l then bit_or bytes x.bytes else bytes) qs q
+
+-- what each judge of numbers keeps to
+pub record AreBytes (alike : Question → ℕ → ℕ → Bool) : Type 0 where
+  pub nothing : (l n m : ℕ) → alike (question l 0) n m ≡ true
+  pub both : (l a b n m : ℕ) → alike (question l (bit_or a b)) n m ≡ (alike (question l a) n m && alike (question l b) n m)
+
+and_assoc : (a b c : Bool) → ((a && b) && c) ≡ (a && (b && c))
+and_assoc true b c = refl
+and_assoc false b c = refl
+
+and_true : (a : Bool) → (a && true) ≡ a
+and_true true = refl
+and_true false = refl
+
+-- numbers are alike in all that some questions ask of a line just if they are in all these bytes of it
+alike_so_far : (alike : Question → ℕ → ℕ → Bool) (l bytes : ℕ) (qs : List Question) (n m : ℕ) → AreBytes alike →
+    (alike (question l bytes) n m && all_alike alike l qs n m) ≡ alike (question l (so_far l bytes qs)) n m
+unfolding so_far
+alike_so_far alike l bytes [] n m h = and_true (alike (question l bytes) n m)
+alike_so_far alike l bytes (q ∷ qs) n m h = elim (cases_eq q.line l) [
+  | inl e ↦
+      let t : eqb q.line l ≡ true = grind (arith, e) in
+      let own : alike q n m ≡ alike (question l q.bytes) n m = ap (λ (x : ℕ). alike (question x q.bytes) n m) e in
+      rw t (ap (λ (b : Bool). alike (question l bytes) n m && (b && all_alike alike l qs n m)) own
+      ∙ sym (and_assoc (alike (question l bytes) n m) (alike (question l q.bytes) n m) (all_alike alike l qs n m))
+      ∙ ap (λ (b : Bool). b && all_alike alike l qs n m) (sym (h.both l bytes q.bytes n m))
+      ∙ alike_so_far alike l (bit_or bytes q.bytes) qs n m h)
+  | inr ne ↦ let f : eqb q.line l ≡ false = grind (arith, ne) in rw f (alike_so_far alike l bytes qs n m h)
+]
+
+all_so_far : (alike : Question → ℕ → ℕ → Bool) (l : ℕ) (qs : List Question) (n m : ℕ) → AreBytes alike → all_alike alike l qs n m ≡ alike (question l (so_far l 0 qs)) n m
+all_so_far alike l qs n m h = sym (ap (λ (b : Bool). b && all_alike alike l qs n m) (h.nothing l n m)) ∙ alike_so_far alike l 0 qs n m h
+
+so_far_with : (seen : List Question) (q : Question) → so_far q.line 0 (seen ++ q ∷ []) ≡ bit_or (so_far q.line 0 seen) q.bytes
+so_far_with seen q = let t : eqb q.line q.line ≡ true = grind arith in so_far_last q.line 0 seen q ∙ (rw t refl)
+
+-- a number is new by the questions seen just if it is by their bytes
+new_behind : (alike : Question → ℕ → ℕ → Bool) (low c : ℕ → ℕ) (seen : List Question) (q : Question) → AreBytes alike →
+    is_new alike low c seen q ≡ is_new_behind alike low q (so_far q.line 0 seen) (c q.line)
+new_behind alike low c seen q h = fun_ext (λ n.
+    let one = all_so_far alike q.line seen n (c q.line) h in
+    let all : all_alike alike q.line (seen ++ q ∷ []) ≡ alike (question q.line (bit_or (so_far q.line 0 seen) q.bytes)) =
+    fun_ext (λ x. fun_ext (λ y. all_so_far alike q.line (seen ++ q ∷ []) x y h ∙ ap (λ (bytes : ℕ). alike (question q.line bytes) x y) (so_far_with seen q))) in
+    ap (λ (b : Bool). b && is_first (all_alike alike q.line (seen ++ q ∷ [])) (low q.line) n) one
+    ∙ ap (λ (r : ℕ → ℕ → Bool). alike (question q.line (so_far q.line 0 seen)) n (c q.line) && is_first r (low q.line) n) all)
+
+-- a question that asks nothing more
+nothing_new : (alike : Question → ℕ → ℕ → Bool) (low : ℕ → ℕ) (q : Question) (before own n : ℕ) → IsEquivalence alike → bit_or before q.bytes ≡ before →
+    low q.line ≤ own → own < n → is_new_behind alike low q before own n ≡ false
+nothing_new alike low q before own n eq same le less = elim (cases_Bool (alike (question q.line before) n own)) [
+  | inl t ↦
+      let back : alike (question q.line (bit_or before q.bytes)) own n ≡ true =
+      ap (λ (bytes : ℕ). alike (question q.line bytes) own n) same ∙ eq.back (question q.line before) n own t in
+      rw t (not_first (alike (question q.line (bit_or before q.bytes))) (low q.line) n own le less back)
+  | inr f ↦ rw f refl
+]
+
+-- one more question
+branching_more : (p : ℕ) (alike : Question → ℕ → ℕ → Bool) (low high c : ℕ → ℕ) (asked : List Question) (at : ℕ) (d : Question) → at < length asked →
+    branching p alike low high c (take at asked) (drop at asked)
+    ≡ siblings (is_new alike low c (take at asked) (get_or asked at d)) p (at + 1) (get_or asked at d).line (c (get_or asked at d).line + 1) (high (get_or asked at d).line - c (get_or asked at d).line)
+    ++ branching p alike low high c (take (at + 1) asked) (drop (at + 1) asked)
+branching_more p alike low high c asked at d less =
+    let x : Question = get_or asked at d in
+    let size : length (take at asked) ≡ at = length-take-le at asked (omega (arith, less)) in
+    ap (λ (r : List Question). branching p alike low high c (take at asked) r) (drop_more asked at d less)
+    ∙ ap (λ (n : ℕ). siblings (is_new alike low c (take at asked) x) p (n + 1) x.line (c x.line + 1) (high x.line - c x.line) ++ branching p alike low high c (take at asked ++ x ∷ []) (drop (at + 1) asked)) size
+    ∙ ap (λ (s : List Question). siblings (is_new alike low c (take at asked) x) p (at + 1) x.line (c x.line + 1) (high x.line - c x.line) ++ branching p alike low high c s (drop (at + 1) asked)) (sym (take_more asked at d less))
+
+-- the questions before this place are seen, and what branches off there is found
+pub record IsFound (alike : Question → ℕ → ℕ → Bool) (low high c : ℕ → ℕ) (p decided : ℕ) (asked : List Question) (place : ℕ) (seen : List ℕ) (found : List Entry) : Type 0 where
+  pub bytes : (l : ℕ) → slice_index seen l ≡ so_far l 0 (take place asked)
   pub early : place < decided → found ≡ []
-  pub late : decided ≤ place → branching p last low high (take decided asked) (drop decided asked) ≡ found ++ branching p last low high (take place asked) (drop place asked)
+  pub late : decided ≤ place → branching p alike low high c (take decided asked) (drop decided asked) ≡ found ++ branching p alike low high c (take place asked) (drop place asked)
 
-pub found_first : (last : ℕ → ℕ → Option ℕ) (low high : ℕ → ℕ) (p decided : ℕ) (asked : List ℕ) (seen : List Bool) (found : List Entry) → ((l : ℕ) → is_flagged l seen ≡ false) → found ≡ [] →
-    IsFound last low high p decided asked 0 seen found
-found_first last low high p decided asked seen found h e = record {
-  flags = h;
+pub found_first : (alike : Question → ℕ → ℕ → Bool) (low high c : ℕ → ℕ) (p decided : ℕ) (asked : List Question) (seen : List ℕ) (found : List Entry) →
+    ((l : ℕ) → slice_index seen l ≡ 0) → found ≡ [] → IsFound alike low high c p decided asked 0 seen found
+unfolding so_far
+found_first alike low high c p decided asked seen found h e = record {
+  bytes = h;
   early = λ less. e;
   late = λ le. let z : decided ≡ 0 = omega (arith, le) in rw (e, z) refl;
 }
 
-seen_more : (asked : List ℕ) (place line : ℕ) (old new : List Bool) → place < length asked → line ≡ get_or asked place 0 →
-    ((l : ℕ) → is_flagged l old ≡ has l (take place asked)) → ((l : ℕ) → is_flagged l new ≡ (is_flagged l old || (line == l))) →
-    (l : ℕ) → is_flagged l new ≡ has l (take (place + 1) asked)
-seen_more asked place line old new less e h n l =
-    n l ∙ ap (λ (b : Bool). b || (line == l)) (h l) ∙ ap (λ (x : ℕ). has l (take place asked) || (x == l)) e ∙ sym (has_more l asked place 0 less)
+seen_more : (asked : List Question) (place : ℕ) (q d : Question) (old new : List ℕ) → place < length asked → q ≡ get_or asked place d →
+    ((l : ℕ) → slice_index old l ≡ so_far l 0 (take place asked)) →
+    ((l : ℕ) → slice_index new l ≡ (if q.line == l then bit_or (slice_index old l) q.bytes else slice_index old l)) →
+    (l : ℕ) → slice_index new l ≡ so_far l 0 (take (place + 1) asked)
+seen_more asked place q d old new less e h n l =
+    n l ∙ ap (λ (b : ℕ). if q.line == l then bit_or b q.bytes else b) (h l) ∙ sym (so_far_last l 0 (take place asked) q)
+    ∙ ap (λ (x : Question). so_far l 0 (take place asked ++ x ∷ [])) e
+    ∙ ap (λ (qs : List Question). so_far l 0 qs) (sym (take_more asked place d less))
 
--- a line that was seen, or is decided
-pub found_same : (last : ℕ → ℕ → Option ℕ) (low high : ℕ → ℕ) (p decided : ℕ) (asked : List ℕ) (place line : ℕ) (old new : List Bool) (found later : List Entry) (fresh : Bool) → later ≡ found →
-    place < length asked → line ≡ get_or asked place 0 → is_flagged line old ≡ not fresh → (fresh ≡ true → place < decided) →
-    ((l : ℕ) → is_flagged l new ≡ (is_flagged l old || (line == l))) →
-    IsFound last low high p decided asked place old found → IsFound last low high p decided asked (place + 1) new later
-found_same last low high p decided asked place line old new found later fresh same less e was none n h = subst (IsFound last low high p decided asked (place + 1) new) (sym same) (record {
-  flags = seen_more asked place line old new less e h.flags n;
-  early = λ before. h.early (omega (arith, before));
+-- a question that is decided, or asks nothing more
+pub found_same : (alike : Question → ℕ → ℕ → Bool) (low high c : ℕ → ℕ) (p decided : ℕ) (asked : List Question) (place : ℕ) (q d : Question) (before : ℕ) (old new : List ℕ) (found later : List Entry) →
+    IsEquivalence alike → AreBytes alike → low q.line ≤ c q.line → later ≡ found → place < length asked → q ≡ get_or asked place d → before ≡ slice_index old q.line →
+    (decided ≤ place → bit_or before q.bytes ≡ before) →
+    ((l : ℕ) → slice_index new l ≡ (if q.line == l then bit_or (slice_index old l) q.bytes else slice_index old l)) →
+    IsFound alike low high c p decided asked place old found → IsFound alike low high c p decided asked (place + 1) new later
+found_same alike low high c p decided asked place q d before old new found later eq bytes above same less e was none n h = subst (IsFound alike low high c p decided asked (place + 1) new) (sym same) (record {
+  bytes = seen_more asked place q d old new less e h.bytes n;
+  early = λ early. h.early (omega (arith, early));
   late = λ le. elim (cases_eq decided (place + 1)) [
-    | inl q ↦ let z : found ≡ [] = h.early (omega (arith, q)) in rw (z, q) refl
-    | inr nq ↦
-        let after : decided ≤ place = omega (arith, le, nq) in
-        let stale : fresh ≡ false = elim (cases_Bool fresh) [ inl t ↦ absurd (let k = none t in omega (arith, k, after)) | inr f ↦ f ] in
-        let t : has (get_or asked place 0) (take place asked) ≡ true =
-        subst (λ (x : ℕ). has x (take place asked) ≡ true) e (sym (h.flags line) ∙ was ∙ ap not stale) in
-        h.late after ∙ ap (λ (r : List Entry). found ++ r) (branching_more p last low high asked place 0 less ∙ (rw t refl))
+    | inl at ↦ let z : found ≡ [] = h.early (omega (arith, at)) in rw (z, at) refl
+    | inr nd ↦
+        let after : decided ≤ place = omega (arith, le, nd) in
+        let seen : List Question = take place asked in
+        let mask : before ≡ so_far q.line 0 seen = was ∙ h.bytes q.line in
+        let here : siblings (is_new alike low c seen q) p (place + 1) q.line (c q.line + 1) (high q.line - c q.line) ≡ [] =
+        ap (λ (new : ℕ → Bool). siblings new p (place + 1) q.line (c q.line + 1) (high q.line - c q.line)) (new_behind alike low c seen q bytes)
+        ∙ siblings_none (is_new_behind alike low q (so_far q.line 0 seen) (c q.line)) p (place + 1) q.line (c q.line + 1) (high q.line - c q.line)
+        (λ m from. nothing_new alike low q (so_far q.line 0 seen) (c q.line) m eq
+        (subst (λ (b : ℕ). bit_or b q.bytes ≡ b) mask (none after)) above (omega (arith, from))) in
+        let more = branching_more p alike low high c asked place d less in
+        h.late after ∙ ap (λ (r : List Entry). found ++ r)
+        (subst (λ (x : Question). branching p alike low high c (take place asked) (drop place asked)
+        ≡ siblings (is_new alike low c (take place asked) x) p (place + 1) x.line (c x.line + 1) (high x.line - c x.line) ++ branching p alike low high c (take (place + 1) asked) (drop (place + 1) asked))
+        (sym e) more
+        ∙ ap (λ (r : List Entry). r ++ branching p alike low high c (take (place + 1) asked) (drop (place + 1) asked)) here)
   ];
 })
 
--- a line that wasn't seen
-pub found_more : (last : ℕ → ℕ → Option ℕ) (low high : ℕ → ℕ) (p decided : ℕ) (asked : List ℕ) (place line : ℕ) (old new : List Bool) (found pushed more : List Entry) → more ≡ pushed →
-    place < length asked → line ≡ get_or asked place 0 → is_flagged line old ≡ false → decided ≤ place →
-    ((l : ℕ) → is_flagged l new ≡ (is_flagged l old || (line == l))) →
-    pushed ≡ found ++ siblings (new_at last low line) p (place + 1) line (low line + 1) (high line - low line) →
-    IsFound last low high p decided asked place old found → IsFound last low high p decided asked (place + 1) new more
-found_more last low high p decided asked place line old new found pushed more same less e was after n m h = record {
-  flags = seen_more asked place line old new less e h.flags n;
-  early = λ before. absurd (omega (arith, before, after));
+-- a question that asks more
+pub found_more : (alike : Question → ℕ → ℕ → Bool) (low high c : ℕ → ℕ) (p decided : ℕ) (asked : List Question) (place : ℕ) (q d : Question) (before : ℕ) (old new : List ℕ) (found pushed more : List Entry) →
+    AreBytes alike → more ≡ pushed → place < length asked → q ≡ get_or asked place d → before ≡ slice_index old q.line → decided ≤ place →
+    ((l : ℕ) → slice_index new l ≡ (if q.line == l then bit_or (slice_index old l) q.bytes else slice_index old l)) →
+    pushed ≡ found ++ siblings (is_new_behind alike low q before (c q.line)) p (place + 1) q.line (c q.line + 1) (high q.line - c q.line) →
+    IsFound alike low high c p decided asked place old found → IsFound alike low high c p decided asked (place + 1) new more
+found_more alike low high c p decided asked place q d before old new found pushed more bytes same less e was after n m h = record {
+  bytes = seen_more asked place q d old new less e h.bytes n;
+  early = λ early. absurd (omega (arith, early, after));
   late = λ le.
-      (let x : ℕ = get_or asked place 0 in
-      let f : has x (take place asked) ≡ false = subst (λ (y : ℕ). has y (take place asked) ≡ false) e (sym (h.flags line) ∙ was) in
-      let m' : more ≡ found ++ siblings (new_at last low x) p (place + 1) x (low x + 1) (high x - low x) =
-      subst (λ (y : ℕ). more ≡ found ++ siblings (new_at last low y) p (place + 1) y (low y + 1) (high y - low y)) e (same ∙ m) in
-      h.late after ∙ ap (λ (r : List Entry). found ++ r) (branching_more p last low high asked place 0 less ∙ (rw f refl))
-      ∙ sym (append_assoc found (siblings (new_at last low x) p (place + 1) x (low x + 1) (high x - low x)) (branching p last low high (take (place + 1) asked) (drop (place + 1) asked)))
-      ∙ ap (λ (r : List Entry). r ++ branching p last low high (take (place + 1) asked) (drop (place + 1) asked)) (sym m'));
+      (let seen : List Question = take place asked in
+      let mask : before ≡ so_far q.line 0 seen = was ∙ h.bytes q.line in
+      let news : is_new_behind alike low q before (c q.line) ≡ is_new alike low c seen q =
+      ap (λ (b : ℕ). is_new_behind alike low q b (c q.line)) mask ∙ sym (new_behind alike low c seen q bytes) in
+      let here : List Entry = siblings (is_new alike low c seen q) p (place + 1) q.line (c q.line + 1) (high q.line - c q.line) in
+      let rest : List Entry = branching p alike low high c (take (place + 1) asked) (drop (place + 1) asked) in
+      let grown : more ≡ found ++ here =
+      same ∙ m ∙ ap (λ (new : ℕ → Bool). found ++ siblings new p (place + 1) q.line (c q.line + 1) (high q.line - c q.line)) news in
+      h.late after ∙ ap (λ (r : List Entry). found ++ r)
+      (subst (λ (x : Question). branching p alike low high c (take place asked) (drop place asked)
+      ≡ siblings (is_new alike low c (take place asked) x) p (place + 1) x.line (c x.line + 1) (high x.line - c x.line) ++ rest)
+      (sym e) (branching_more p alike low high c asked place d less))
+      ∙ sym (append_assoc found here rest) ∙ ap (λ (r : List Entry). r ++ rest) (sym grown));
 }
 
-pub found_all : (last : ℕ → ℕ → Option ℕ) (low high : ℕ → ℕ) (p decided : ℕ) (asked : List ℕ) (place : ℕ) (seen : List Bool) (found : List Entry) → length asked ≤ place →
-    IsFound last low high p decided asked place seen found → found ≡ branching p last low high (take decided asked) (drop decided asked)
-found_all last low high p decided asked place seen found past h = elim (cases_Bool (ltb place decided)) [
+pub found_all : (alike : Question → ℕ → ℕ → Bool) (low high c : ℕ → ℕ) (p decided : ℕ) (asked : List Question) (place : ℕ) (seen : List ℕ) (found : List Entry) → length asked ≤ place →
+    IsFound alike low high c p decided asked place seen found → found ≡ branching p alike low high c (take decided asked) (drop decided asked)
+found_all alike low high c p decided asked place seen found past h = elim (cases_Bool (ltb place decided)) [
   | inl t ↦
       let before : place < decided = grind (arith, t) in
       let none : drop decided asked ≡ [] = drop_past asked decided (omega (arith, past, before)) in
-      h.early before ∙ sym (ap (λ (r : List ℕ). branching p last low high (take decided asked) r) none)
+      h.early before ∙ sym (ap (λ (r : List Question). branching p alike low high c (take decided asked) r) none)
   | inr f ↦
       let after : decided ≤ place = grind (arith, f) in
       let none : drop place asked ≡ [] = drop_past asked place past in
-      sym (h.late after ∙ ap (λ (r : List ℕ). found ++ branching p last low high (take place asked) r) none ∙ append-nil found)
+      sym (h.late after ∙ ap (λ (r : List Question). found ++ branching p alike low high c (take place asked) r) none ∙ append-nil found)
 ]

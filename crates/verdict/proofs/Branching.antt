@@ -14,6 +14,7 @@ use Rattle.store_trace.specs.declared.crash_model.step.PersistenceStep.{Persiste
 use Rattle.text.specs.declared.image_name.name.ImageName.{ImageName}
 use Rattle.verdict.proofs.Lists.{before_comes}
 use Rattle.verdict.specs.Verdicts.{AreFlagged, AreGood, HasManyBranches, IsLeastBad, IsMomentVerdict}
+use Rattle.verdict.specs.declared.branches.question.Question.{Question}
 use Rattle.verdict.specs.declared.moment_verdict.verdict.MomentVerdict.TheVariants as moments
 
 -- what is found of a cut is found of each that gives the lines the same numbers
@@ -51,17 +52,17 @@ least_cut found p c cause alike l =
     }
 
 -- the verdict where there are too many branches, where each cut passes, and where one is bad
-pub over_moment : (alike : ℕ → ℕ → ℕ → Type 0) (asks : (ℕ → ℕ) → List ℕ → Type 0) (low high : ℕ → ℕ) (p : List PersistenceStep) → low ≡ (λ l. floor l p) → high ≡ (λ l. stores l p) →
+pub over_moment : (alike : Question → ℕ → ℕ → Bool) (asks : (ℕ → ℕ) → List Question → Type 0) (low high : ℕ → ℕ) (p : List PersistenceStep) → low ≡ (λ l. floor l p) → high ≡ (λ l. stores l p) →
     AreOver alike asks low high 65536 → HasManyBranches alike asks p
 over_moment alike asks low high p f s h =
     subst (λ (g : ℕ → ℕ). AreOver alike asks (λ l. floor l p) g 65536) s (subst (λ (g : ℕ → ℕ). AreOver alike asks g high 65536) f h)
 
-pub few_moment : (alike : ℕ → ℕ → ℕ → Type 0) (asks : (ℕ → ℕ) → List ℕ → Type 0) (low high : ℕ → ℕ) (p : List PersistenceStep) → low ≡ (λ l. floor l p) → high ≡ (λ l. stores l p) →
+pub few_moment : (alike : Question → ℕ → ℕ → Bool) (asks : (ℕ → ℕ) → List Question → Type 0) (low high : ℕ → ℕ) (p : List PersistenceStep) → low ≡ (λ l. floor l p) → high ≡ (λ l. stores l p) →
     ¬ AreOver alike asks low high 65536 → ¬ HasManyBranches alike asks p
 few_moment alike asks low high p f s few over =
     few (subst (λ (g : ℕ → ℕ). AreOver alike asks g high 65536) (sym f) (subst (λ (g : ℕ → ℕ). AreOver alike asks (λ l. floor l p) g 65536) (sym s) over))
 
-pub pass_moment : {Cause : Type 0} (alike : ℕ → ℕ → ℕ → Type 0) (asks : (ℕ → ℕ) → List ℕ → Type 0) (found : (ℕ → ℕ) → Option Cause → Type 0) (low high : ℕ → ℕ) (p : List PersistenceStep) →
+pub pass_moment : {Cause : Type 0} (alike : Question → ℕ → ℕ → Bool) (asks : (ℕ → ℕ) → List Question → Type 0) (found : (ℕ → ℕ) → Option Cause → Type 0) (low high : ℕ → ℕ) (p : List PersistenceStep) →
     low ≡ (λ l. floor l p) → high ≡ (λ l. stores l p) → ¬ AreOver alike asks low high 65536 → ((k : ℕ → ℕ) → IsWithin low high k → found k None) →
     IsMomentVerdict alike asks found p moments.Pass
 pass_moment alike asks found low high p f s few h = (
@@ -71,8 +72,8 @@ pass_moment alike asks found low high p f s few h = (
 )
 
 -- and the lines that recovery asks
-pub flags_moment : (asks : (ℕ → ℕ) → List ℕ → Type 0) (low high : ℕ → ℕ) (p : List PersistenceStep) (flags : List Bool) → low ≡ (λ l. floor l p) →
-    high ≡ (λ l. stores l p) → ((k : ℕ → ℕ) → IsWithin low high k → (lines : List ℕ) → asks k lines → AllByRecursion (λ l. is_flagged l flags ≡ true) lines) →
+pub flags_moment : (asks : (ℕ → ℕ) → List Question → Type 0) (low high : ℕ → ℕ) (p : List PersistenceStep) (flags : List Bool) → low ≡ (λ l. floor l p) →
+    high ≡ (λ l. stores l p) → ((k : ℕ → ℕ) → IsWithin low high k → (questions : List Question) → asks k questions → AllByRecursion (λ q. is_flagged q.line flags ≡ true) questions) →
     AreFlagged asks p flags
 flags_moment asks low high p flags f s h = λ k w. h k
     (subst (λ (g : ℕ → ℕ). IsWithin g high k) (sym f) (subst (λ (g : ℕ → ℕ). IsWithin (λ l. floor l p) g k) (sym s) w))
@@ -85,7 +86,7 @@ bad_within found low high p numbers cause f s least =
     subst (λ (g : ℕ → ℕ). branches.IsLeastBad (λ l. floor l p) g found (number_over (λ l. floor l p) numbers) cause) s
     (subst (λ (g : ℕ → ℕ). branches.IsLeastBad g high found (number_over g numbers) cause) f least)
 
-pub fail_moment : {Cause : Type 0} (alike : ℕ → ℕ → ℕ → Type 0) (asks : (ℕ → ℕ) → List ℕ → Type 0) (found : (ℕ → ℕ) → Option Cause → Type 0) (low high : ℕ → ℕ) (p : List PersistenceStep)
+pub fail_moment : {Cause : Type 0} (alike : Question → ℕ → ℕ → Bool) (asks : (ℕ → ℕ) → List Question → Type 0) (found : (ℕ → ℕ) → Option Cause → Type 0) (low high : ℕ → ℕ) (p : List PersistenceStep)
     (numbers table : List ℕ) (name : ImageName) (cause : Cause) → low ≡ (λ l. floor l p) → high ≡ (λ l. stores l p) → table ≡ numbers → IsAlike found →
     ¬ AreOver alike asks low high 65536 → branches.IsLeastBad low high found (number_over low numbers) cause →
     IsNameOf p (numbered (number_over (λ l. floor l p) table) (stored_lines p)) name → IsMomentVerdict alike asks found p (moments.Fail name cause)

@@ -1,12 +1,12 @@
 -- A store to a line that recovery asks of no cut adds no branch, and neither do higher floors.
-use Rattle.std.proofs.Common.{◌≡◌, ℕ, zero, suc, ◌≤◌, ◌<◌, ◌≢◌, min, false, inl, inr, List, [], ◌∷◌, length, map, get_or, refl, sym, ap, subst, arith}
+use Rattle.std.proofs.Common.{◌≡◌, ℕ, zero, suc, ◌≤◌, ◌<◌, ◌≢◌, min, Bool, true, false, inl, inr, List, [], ◌∷◌, length, map, get_or, refl, sym, ap, subst, arith}
 use Rattle.std.proofs.lemmas.Bool.{cases_eq}
 use Rattle.std.specs.List.{AllByRecursion}
-use Rattle.verdict.specs.Branches.{Agree, IsEquivalence, IsShared, IsWithin, ShareBranch, AreOver}
-use Rattle.verdict.specs.Numbers.{has}
+use Rattle.verdict.specs.Branches.{Agree, IsEquivalence, IsShared, IsWithin, ShareBranch, AreOver, has_line}
 use Rattle.verdict.specs.Queue.{with_number}
-use Rattle.verdict.proofs.Nodes.{unseen_agrees, agree_self, with_here, with_other}
-use Rattle.verdict.proofs.Splitting.{turned, chained, all_at}
+use Rattle.verdict.specs.declared.branches.question.Question.{Question}
+use Rattle.verdict.proofs.Alikes.{agree_chained, agree_self, agree_turned, unasked_agrees, with_here, with_other}
+use Rattle.verdict.proofs.Splitting.{all_at}
 
 abbrev Cuts : Type 0
 Cuts = List (ℕ → ℕ)
@@ -42,37 +42,41 @@ clip_at l n (c ∷ cuts) zero d e less = refl
 clip_at l n (c ∷ cuts) (suc i) d e less = clip_at l n cuts i d e (omega (arith, less))
 
 -- numbers that are alike before are so after
-agree_after : (before after : ℕ → ℕ → ℕ → Type 0) (low high c k : ℕ → ℕ) (ls : List ℕ) →
-    ((l n m : ℕ) → n ≤ high l → m ≤ high l → before l n m → after l n m) → IsWithin low high c → IsWithin low high k → Agree before k c ls → Agree after k c ls
+agree_after : (before after : Question → ℕ → ℕ → Bool) (low high c k : ℕ → ℕ) (qs : List Question) →
+    ((q : Question) (n m : ℕ) → n ≤ high q.line → m ≤ high q.line → before q n m ≡ true → after q n m ≡ true) → IsWithin low high c → IsWithin low high k →
+    Agree before k c qs → Agree after k c qs
 agree_after before after low high c k [] f wc wk g = tt
-agree_after before after low high c k (l ∷ ls) f wc wk g = (f l (k l) (c l) (wk.most l) (wc.most l) g.0, agree_after before after low high c k ls f wc wk g.1)
+agree_after before after low high c k (q ∷ qs) f wc wk g = (
+  f q (k q.line) (c q.line) (wk.most q.line) (wc.most q.line) g.0,
+  agree_after before after low high c k qs f wc wk g.1,
+)
 
 -- cuts whose clipped cuts share a branch share one
-clip_shared : (alike_before alike : ℕ → ℕ → ℕ → Type 0) (before after : (ℕ → ℕ) → List ℕ → Type 0) (low high : ℕ → ℕ) (c k : ℕ → ℕ) (l : ℕ) → IsShared alike after →
-    IsEquivalence alike → ((m n o : ℕ) → n ≤ high m → o ≤ high m → alike_before m n o → alike m n o) →
-    ((k : ℕ → ℕ) (ls : List ℕ) → IsWithin low high k → before k ls → after k ls) →
-    ((k : ℕ → ℕ) (ls : List ℕ) → IsWithin low high k → before k ls → has l ls ≡ false) →
+clip_shared : (alike_before alike : Question → ℕ → ℕ → Bool) (before after : (ℕ → ℕ) → List Question → Type 0) (low high : ℕ → ℕ) (c k : ℕ → ℕ) (l : ℕ) → IsShared alike after →
+    IsEquivalence alike → ((q : Question) (n m : ℕ) → n ≤ high q.line → m ≤ high q.line → alike_before q n m ≡ true → alike q n m ≡ true) →
+    ((k : ℕ → ℕ) (qs : List Question) → IsWithin low high k → before k qs → after k qs) →
+    ((k : ℕ → ℕ) (qs : List Question) → IsWithin low high k → before k qs → has_line l qs ≡ false) →
     IsWithin low high (clip l (high l) c) → IsWithin low high (clip l (high l) k) →
     ShareBranch alike_before before (clip l (high l) c) (clip l (high l) k) → ShareBranch alike after c k
 clip_shared alike_before alike before after low high c k l shared eq kept same never wc wk s =
     let c' : ℕ → ℕ = clip l (high l) c in
     let k' : ℕ → ℕ = clip l (high l) k in
-    let unseen : has l s.lines ≡ false = never c' s.lines wc s.of_one in
-    let cs : Agree alike c c' s.lines = unseen_agrees alike c c l (min (c l) (high l)) s.lines unseen (agree_self alike c s.lines eq) in
-    let ks : Agree alike k k' s.lines = unseen_agrees alike k k l (min (k l) (high l)) s.lines unseen (agree_self alike k s.lines eq) in
-    let both : Agree alike k' c' s.lines = agree_after alike_before alike low high c' k' s.lines kept wc wk s.agree in
+    let unasked : has_line l s.questions ≡ false = never c' s.questions wc s.of_one in
+    let cs : Agree alike c c' s.questions = unasked_agrees alike c c l (min (c l) (high l)) s.questions unasked (agree_self alike c s.questions eq) in
+    let ks : Agree alike k k' s.questions = unasked_agrees alike k k l (min (k l) (high l)) s.questions unasked (agree_self alike k s.questions eq) in
+    let both : Agree alike k' c' s.questions = agree_after alike_before alike low high c' k' s.questions kept wc wk s.agree in
     record {
-      lines = s.lines;
-      of_one = shared c' c s.lines (same c' s.lines wc s.of_one) cs;
-      of_other = shared k' k s.lines (same k' s.lines wk s.of_other) ks;
-      agree = chained alike k k' c s.lines eq ks (chained alike k' c' c s.lines eq both (turned alike c' c s.lines eq cs));
+      questions = s.questions;
+      of_one = shared c' c s.questions (same c' s.questions wc s.of_one) cs;
+      of_other = shared k' k s.questions (same k' s.questions wk s.of_other) ks;
+      agree = agree_chained alike k k' c s.questions eq ks (agree_chained alike k' c' c s.questions eq both (agree_turned alike c' c s.questions eq cs));
     }
 
-pub store_over : (alike_before alike : ℕ → ℕ → ℕ → Type 0) (before after : (ℕ → ℕ) → List ℕ → Type 0) (low high more : ℕ → ℕ) (l limit : ℕ) → low l ≤ high l →
+pub store_over : (alike_before alike : Question → ℕ → ℕ → Bool) (before after : (ℕ → ℕ) → List Question → Type 0) (low high more : ℕ → ℕ) (l limit : ℕ) → low l ≤ high l →
     ((m : ℕ) → m ≢ l → more m ≡ high m) → IsShared alike after →
-    IsEquivalence alike → ((m n o : ℕ) → n ≤ high m → o ≤ high m → alike_before m n o → alike m n o) →
-    ((k : ℕ → ℕ) (ls : List ℕ) → IsWithin low high k → before k ls → after k ls) →
-    ((k : ℕ → ℕ) (ls : List ℕ) → IsWithin low high k → before k ls → has l ls ≡ false) →
+    IsEquivalence alike → ((q : Question) (n m : ℕ) → n ≤ high q.line → m ≤ high q.line → alike_before q n m ≡ true → alike q n m ≡ true) →
+    ((k : ℕ → ℕ) (qs : List Question) → IsWithin low high k → before k qs → after k qs) →
+    ((k : ℕ → ℕ) (qs : List Question) → IsWithin low high k → before k qs → has_line l qs ≡ false) →
     AreOver alike after low more limit → AreOver alike_before before low high limit
 store_over alike_before alike before after low high more l limit o other shared eq kept same never over =
     let each = clip_each low high more l over.cuts o other over.apart.each in
@@ -102,7 +106,7 @@ floors_each low higher high [] h w = tt
 floors_each low higher high (c ∷ cuts) h w =
     (record { least = λ m. let p = w.0.least m in let q = h m in omega (arith, p, q); most = w.0.most }, floors_each low higher high cuts h w.1)
 
-pub floors_over : (alike : ℕ → ℕ → ℕ → Type 0) (asks : (ℕ → ℕ) → List ℕ → Type 0) (low higher high : ℕ → ℕ) (limit : ℕ) → ((m : ℕ) → low m ≤ higher m) →
+pub floors_over : (alike : Question → ℕ → ℕ → Bool) (asks : (ℕ → ℕ) → List Question → Type 0) (low higher high : ℕ → ℕ) (limit : ℕ) → ((m : ℕ) → low m ≤ higher m) →
     AreOver alike asks higher high limit → AreOver alike asks low high limit
 floors_over alike asks low higher high limit h o = record {
   cuts = o.cuts;

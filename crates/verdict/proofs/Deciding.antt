@@ -1,6 +1,6 @@
 -- A moment has one verdict where each image is found to be one thing, and so has a row of moments where each of them has one: the moment,
 -- the image's name and the cause, or the numbers of moments and images, are settled by it.
-use Rattle.std.proofs.Common.{◌≡◌, ℕ, ◌<◌, ◌⊎◌, inl, inr, List, [], ◌∷◌, get_or, refl, sym, ap, subst, ◌∙◌, arith, Option, Some, None}
+use Rattle.std.proofs.Common.{◌≡◌, ℕ, ◌<◌, ◌⊎◌, inl, inr, Bool, List, [], ◌∷◌, get_or, refl, sym, ap, subst, ◌∙◌, arith, Option, Some, None}
 use Rattle.std.proofs.lemmas.Bool.{cases_lt}
 use Rattle.crash_image.specs.Named.{IsNameOf}
 use Rattle.crash_image.specs.Totals.{IsImageSum}
@@ -11,6 +11,7 @@ use Rattle.text.specs.declared.image_name.name.ImageName.{ImageName}
 use Rattle.text.specs.declared.image_name.name.ImageName.TheVariants.{Number, Cut}
 use Rattle.store_trace.specs.declared.event.Event.{Event}
 use Rattle.verdict.specs.Verdicts.{IsLeastBad, IsLeastMoment, IsMomentVerdict, IsVerdictBetween}
+use Rattle.verdict.specs.declared.branches.question.Question.{Question}
 use Rattle.verdict.specs.declared.moment_verdict.verdict.MomentVerdict.{MomentVerdict}
 use Rattle.verdict.specs.declared.moment_verdict.verdict.MomentVerdict.TheVariants as moments
 use Rattle.verdict.specs.declared.moment_verdict.verdict.Verdict.{Verdict}
@@ -82,7 +83,7 @@ cause_once : {Cause : Type 0} (found : (ℕ → ℕ) → Option Cause → Type 0
 cause_once found k cause its once a b = let e = once k (Some cause) (Some its) a b in cc
 
 -- and one verdict
-fail_once : {Cause : Type 0} (alike : ℕ → ℕ → ℕ → Type 0) (asks : (ℕ → ℕ) → List ℕ → Type 0) (found : (ℕ → ℕ) → Option Cause → Type 0) (p : List PersistenceStep) (name other : ImageName)
+fail_once : {Cause : Type 0} (alike : Question → ℕ → ℕ → Bool) (asks : (ℕ → ℕ) → List Question → Type 0) (found : (ℕ → ℕ) → Option Cause → Type 0) (p : List PersistenceStep) (name other : ImageName)
     (cause its : Cause) → IsFoundOnce found → IsMomentVerdict alike asks found p (moments.Fail name cause) → IsMomentVerdict alike asks found p (moments.Fail other its) →
     (name ≡ other) × (cause ≡ its)
 fail_once alike asks found p name other cause its once a b =
@@ -93,7 +94,7 @@ fail_once alike asks found p name other cause its once a b =
     let bad : IsLeastBad found p mine.0 its = subst (λ (c : List (ℕ × ℕ)). IsLeastBad found p c its) (sym same) theirs.2 in
     (name_once p mine.0 name other mine.1 named, cause_once found (number_in mine.0) cause its once mine.2.bad bad.bad)
 
-pub moment_once : {Cause : Type 0} (alike : ℕ → ℕ → ℕ → Type 0) (asks : (ℕ → ℕ) → List ℕ → Type 0) (found : (ℕ → ℕ) → Option Cause → Type 0) (p : List PersistenceStep)
+pub moment_once : {Cause : Type 0} (alike : Question → ℕ → ℕ → Bool) (asks : (ℕ → ℕ) → List Question → Type 0) (found : (ℕ → ℕ) → Option Cause → Type 0) (p : List PersistenceStep)
     (verdict other : MomentVerdict Cause) → IsFoundOnce found → IsMomentVerdict alike asks found p verdict → IsMomentVerdict alike asks found p other → verdict ≡ other
 moment_once alike asks found p moments.Pass moments.Pass once a b = refl
 moment_once alike asks found p moments.Pass (moments.Fail other its) once a b =

@@ -21,6 +21,7 @@ use Rattle.line_memory.specs.Lines.{line_at}
 use Rattle.verdict.proofs.Branching.{IsAlike}
 use Rattle.verdict.specs.Keeping.{IsUnseen}
 use Rattle.verdict.specs.Verdicts.{AreFlagged, AreGood, HasManyBranches, IsMomentVerdict}
+use Rattle.verdict.specs.declared.branches.question.Question.{Question}
 use Rattle.verdict.specs.declared.moment_verdict.verdict.MomentVerdict.TheVariants as moments
 use Rattle.store_trace.specs.History.{at_moment, history, steps_of}
 use Rattle.store_trace.specs.declared.event.Event.{Event}
@@ -39,31 +40,31 @@ abbrev pub IsUnchanged : List PersistenceStep → List PersistenceStep → ℕ �
 IsUnchanged p later l n = (bytes : List ℕ) → line_after bytes l n later ≡ line_after bytes l n p
 
 -- such numbers are alike at the later steps where they are so at these
-abbrev pub StayAlike : List PersistenceStep → List PersistenceStep → (ℕ → ℕ → ℕ → Type 0) → (ℕ → ℕ → ℕ → Type 0) → Type 0
-StayAlike p later alike alike_later = (l n m : ℕ) → IsUnchanged p later l n → IsUnchanged p later l m → alike l n m → alike_later l n m
+abbrev pub StayAlike : List PersistenceStep → List PersistenceStep → (Question → ℕ → ℕ → Bool) → (Question → ℕ → ℕ → Bool) → Type 0
+StayAlike p later alike alike_later = (q : Question) (n m : ℕ) → IsUnchanged p later q.line n → IsUnchanged p later q.line m → alike q n m ≡ true → alike_later q n m ≡ true
 
 -- every cut of the later steps is like one of the earlier ones
 pub record AreLike (start : List (List ℕ)) (p later : List PersistenceStep) (flags : List Bool) : Type 0 where
   pub of : (ℕ → ℕ) → ℕ → ℕ
   pub each : (k : ℕ → ℕ) → IsWithin (λ l. floor l later) (λ l. stores l later) k → IsLike start p later flags k (of k)
 
--- an image has these lines of another one
-abbrev pub AgreeIn : List (List ℕ) → List (List ℕ) → List ℕ → Type 0
-AgreeIn lines others asked = AllByRecursion (λ l. line_at others l ≡ line_at lines l) asked
+-- an image has the lines of these questions as another one has them
+abbrev pub AgreeIn : List (List ℕ) → List (List ℕ) → List Question → Type 0
+AgreeIn lines others asked = AllByRecursion (λ q. line_at others q.line ≡ line_at lines q.line) asked
 
 -- What recovery asks of an image, and that it is good, is settled by the lines that it asks, at these steps and at later ones.
-pub record IsByLines {Cause : Type 0} (start : List (List ℕ)) (p later : List PersistenceStep) (asks asks_later : (ℕ → ℕ) → List ℕ → Type 0)
+pub record IsByLines {Cause : Type 0} (start : List (List ℕ)) (p later : List PersistenceStep) (asks asks_later : (ℕ → ℕ) → List Question → Type 0)
     (found found_later : (ℕ → ℕ) → Option Cause → Type 0) : Type 0 where
-  pub asked : (c : ℕ → ℕ) → found c None → (lines : List ℕ) × asks c lines
-  pub same : (c k : ℕ → ℕ) (lines : List ℕ) → asks c lines → AgreeIn (image start c p) (image start k later) lines → asks_later k lines
-  pub once : (k : ℕ → ℕ) (lines others : List ℕ) → asks_later k lines → asks_later k others → lines ≡ others
-  pub good : (c k : ℕ → ℕ) (lines : List ℕ) → asks c lines → AgreeIn (image start c p) (image start k later) lines → found c None → found_later k None
+  pub asked : (c : ℕ → ℕ) → found c None → (questions : List Question) × asks c questions
+  pub same : (c k : ℕ → ℕ) (questions : List Question) → asks c questions → AgreeIn (image start c p) (image start k later) questions → asks_later k questions
+  pub once : (k : ℕ → ℕ) (questions others : List Question) → asks_later k questions → asks_later k others → questions ≡ others
+  pub good : (c k : ℕ → ℕ) (questions : List Question) → asks c questions → AgreeIn (image start c p) (image start k later) questions → found c None → found_later k None
   pub alike : IsAlike found
 
-flagged_agree : (lines others : List (List ℕ)) (flags : List Bool) (asked : List ℕ) →
-    ((l : ℕ) → is_flagged l flags ≡ true → line_at others l ≡ line_at lines l) → AllByRecursion (λ l. is_flagged l flags ≡ true) asked → AgreeIn lines others asked
+flagged_agree : (lines others : List (List ℕ)) (flags : List Bool) (asked : List Question) →
+    ((l : ℕ) → is_flagged l flags ≡ true → line_at others l ≡ line_at lines l) → AllByRecursion (λ q. is_flagged q.line flags ≡ true) asked → AgreeIn lines others asked
 flagged_agree lines others flags [] h f = tt
-flagged_agree lines others flags (l ∷ ls) h f = (h l f.0, flagged_agree lines others flags ls h f.1)
+flagged_agree lines others flags (q ∷ qs) h f = (h q.line f.0, flagged_agree lines others flags qs h f.1)
 
 -- over many branches were over many before
 map_within : (low high more_low more_high : ℕ → ℕ) (f : (ℕ → ℕ) → ℕ → ℕ) (ks : List (ℕ → ℕ)) →
@@ -78,33 +79,33 @@ all_at P (k ∷ ks) zero d l h = h.0
 all_at P (k ∷ ks) (suc i) d l h = all_at P ks i d (omega arith) h.1
 
 -- cuts like two that agree on flagged lines agree on them
-agree_later : (start : List (List ℕ)) (p later : List PersistenceStep) (flags : List Bool) (alike alike_later : ℕ → ℕ → ℕ → Type 0) (c k b a : ℕ → ℕ) (lines : List ℕ) →
+agree_later : (start : List (List ℕ)) (p later : List PersistenceStep) (flags : List Bool) (alike alike_later : Question → ℕ → ℕ → Bool) (c k b a : ℕ → ℕ) (questions : List Question) →
     StayAlike p later alike alike_later → IsLike start p later flags c b → IsLike start p later flags k a →
-    AllByRecursion (λ l. is_flagged l flags ≡ true) lines → Agree alike a b lines → Agree alike_later k c lines
+    AllByRecursion (λ q. is_flagged q.line flags ≡ true) questions → Agree alike a b questions → Agree alike_later k c questions
 agree_later start p later flags alike alike_later c k b a [] stay x y f h = tt
-agree_later start p later flags alike alike_later c k b a (l ∷ ls) stay x y f h = (
-  stay l (k l) (c l) (λ bytes. y.bytes bytes l f.0) (λ bytes. x.bytes bytes l f.0)
-      (subst (λ (n : ℕ). alike l n (c l)) (y.number l f.0) (subst (λ (n : ℕ). alike l (a l) n) (x.number l f.0) h.0)),
-  agree_later start p later flags alike alike_later c k b a ls stay x y f.1 h.1,
+agree_later start p later flags alike alike_later c k b a (q ∷ qs) stay x y f h = (
+  stay q (k q.line) (c q.line) (λ bytes. y.bytes bytes q.line f.0) (λ bytes. x.bytes bytes q.line f.0)
+      (subst (λ (n : ℕ). alike q n (c q.line) ≡ true) (y.number q.line f.0) (subst (λ (n : ℕ). alike q (a q.line) n ≡ true) (x.number q.line f.0) h.0)),
+  agree_later start p later flags alike alike_later c k b a qs stay x y f.1 h.1,
 )
 
 -- cuts like two that share a branch share one
-share_later : (start : List (List ℕ)) (p later : List PersistenceStep) (flags : List Bool) (alike alike_later : ℕ → ℕ → ℕ → Type 0)
-    (asks asks_later : (ℕ → ℕ) → List ℕ → Type 0) (c k b a : ℕ → ℕ) → StayAlike p later alike alike_later →
-    ((d e : ℕ → ℕ) (lines : List ℕ) → asks d lines → AgreeIn (image start d p) (image start e later) lines → asks_later e lines) → AreFlagged asks p flags →
+share_later : (start : List (List ℕ)) (p later : List PersistenceStep) (flags : List Bool) (alike alike_later : Question → ℕ → ℕ → Bool)
+    (asks asks_later : (ℕ → ℕ) → List Question → Type 0) (c k b a : ℕ → ℕ) → StayAlike p later alike alike_later →
+    ((d e : ℕ → ℕ) (questions : List Question) → asks d questions → AgreeIn (image start d p) (image start e later) questions → asks_later e questions) → AreFlagged asks p flags →
     IsLike start p later flags c b → IsLike start p later flags k a → ShareBranch alike asks b a → ShareBranch alike_later asks_later c k
 share_later start p later flags alike alike_later asks asks_later c k b a stay same flagged x y s =
-    let mine = flagged b x.within s.lines s.of_one in
+    let mine = flagged b x.within s.questions s.of_one in
     record {
-      lines = s.lines;
-      of_one = same b c s.lines s.of_one (flagged_agree (image start b p) (image start c later) flags s.lines x.line mine);
-      of_other = same a k s.lines s.of_other (flagged_agree (image start a p) (image start k later) flags s.lines y.line mine);
-      agree = agree_later start p later flags alike alike_later c k b a s.lines stay x y mine s.agree;
+      questions = s.questions;
+      of_one = same b c s.questions s.of_one (flagged_agree (image start b p) (image start c later) flags s.questions x.line mine);
+      of_other = same a k s.questions s.of_other (flagged_agree (image start a p) (image start k later) flags s.questions y.line mine);
+      agree = agree_later start p later flags alike alike_later c k b a s.questions stay x y mine s.agree;
     }
 
-many_before : (start : List (List ℕ)) (p later : List PersistenceStep) (flags : List Bool) (alike alike_later : ℕ → ℕ → ℕ → Type 0)
-    (asks asks_later : (ℕ → ℕ) → List ℕ → Type 0) → StayAlike p later alike alike_later →
-    ((d e : ℕ → ℕ) (lines : List ℕ) → asks d lines → AgreeIn (image start d p) (image start e later) lines → asks_later e lines) → AreFlagged asks p flags →
+many_before : (start : List (List ℕ)) (p later : List PersistenceStep) (flags : List Bool) (alike alike_later : Question → ℕ → ℕ → Bool)
+    (asks asks_later : (ℕ → ℕ) → List Question → Type 0) → StayAlike p later alike alike_later →
+    ((d e : ℕ → ℕ) (questions : List Question) → asks d questions → AgreeIn (image start d p) (image start e later) questions → asks_later e questions) → AreFlagged asks p flags →
     AreLike start p later flags → HasManyBranches alike_later asks_later later → HasManyBranches alike asks p
 many_before start p later flags alike alike_later asks asks_later stay same flagged a o =
     let longer : length (map a.of o.cuts) ≡ length o.cuts = length-map o.cuts a.of in
@@ -135,19 +136,19 @@ good_numbers found p c alike good w =
     alike c (number_in cut) None (λ l. sym (number_in_within p c inside l)) (good cut (cut_from_within p c inside))
 
 -- a pass is kept, and each line that recovery asks is still flagged
-pub pass_kept : {Cause : Type 0} (start : List (List ℕ)) (p later : List PersistenceStep) (flags : List Bool) (alike alike_later : ℕ → ℕ → ℕ → Type 0)
-    (asks asks_later : (ℕ → ℕ) → List ℕ → Type 0) (found found_later : (ℕ → ℕ) → Option Cause → Type 0) → StayAlike p later alike alike_later →
+pub pass_kept : {Cause : Type 0} (start : List (List ℕ)) (p later : List PersistenceStep) (flags : List Bool) (alike alike_later : Question → ℕ → ℕ → Bool)
+    (asks asks_later : (ℕ → ℕ) → List Question → Type 0) (found found_later : (ℕ → ℕ) → Option Cause → Type 0) → StayAlike p later alike alike_later →
     AreLike start p later flags → IsByLines start p later asks asks_later found found_later →
     AreFlagged asks p flags → IsMomentVerdict alike asks found p moments.Pass →
     AreFlagged asks_later later flags × IsMomentVerdict alike_later asks_later found_later later moments.Pass
 pass_kept start p later flags alike alike_later asks asks_later found found_later stay a by flagged v = (
-  λ k w lines asked.
+  λ k w questions asked.
       let like = a.each k w in
       let c = a.of k in
       let its = by.asked c (good_numbers found p c by.alike v.1 like.within) in
       let mine = flagged c like.within its.0 its.1 in
       let ours = by.same c k its.0 its.1 (flagged_agree (image start c p) (image start k later) flags its.0 like.line mine) in
-      subst (λ (ls : List ℕ). AllByRecursion (λ l. is_flagged l flags ≡ true) ls) (by.once k its.0 lines ours asked) mine,
+      subst (λ (qs : List Question). AllByRecursion (λ q. is_flagged q.line flags ≡ true) qs) (by.once k its.0 questions ours asked) mine,
   (
     λ o. v.0 (many_before start p later flags alike alike_later asks asks_later stay by.same flagged a o),
     λ cut c.

@@ -7,6 +7,7 @@ pub mod Parts
 pub mod Listed
 pub mod Tables
 pub mod BranchesBranching
+pub mod Alikes
 pub mod Nodes
 pub mod Numbering
 pub mod Splitting
@@ -16,4 +17,5 @@ pub mod Carrying
 pub mod Answering
 pub mod Opening
 pub mod CutLines
+pub mod Bytes
 pub mod Watching

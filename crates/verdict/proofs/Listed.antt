@@ -1,9 +1,12 @@
 -- Tables by line, and the lists by which they are cleared.
-use Rattle.std.proofs.Common.{◌≡◌, ◌≢◌, ◌⊎◌, inl, inr, ℕ, zero, suc, ◌+◌, ◌≤◌, ◌<◌, ◌==◌, Bool, true, false, eqb, ◌||◌, List, [], ◌∷◌, ◌++◌, length, take, drop, get_or, set, slice_index, refl, sym, ap, subst, ◌∙◌, arith, true≢false, get_or-set_other, get_or-set_same}
+use Rattle.std.proofs.Common.{◌≡◌, ◌≢◌, ◌⊎◌, inl, inr, ℕ, zero, suc, ◌+◌, ◌≤◌, ◌<◌, ◌==◌, Bool, true, false, eqb, ◌||◌, if◌then◌else◌, List, [], ◌∷◌, ◌++◌, length, take, drop, get_or, set, slice_index, refl, sym, ap, subst, ◌∙◌, arith, true≢false, get_or-set_other, get_or-set_same}
+use Rattle.std.specs.Prelude.{bit_or}
 use Rattle.std.proofs.lemmas.List.{take_more}
 use Rattle.std.proofs.lemmas.Bool.{cases_Bool, cases_eq}
 use Rattle.std.specs.List.{AllByRecursion}
+use Rattle.verdict.specs.Branches.{has_line}
 use Rattle.verdict.specs.Numbers.{has, is_flagged, AreInList, AreListed}
+use Rattle.verdict.specs.declared.branches.question.Question.{Question}
 
 pub below_at : (n : ℕ) (lines : List ℕ) (i d : ℕ) → i < length lines → AllByRecursion (λ l. l < n) lines → get_or lines i d < n
 below_at n [] i d less h = absurd (omega (arith, less))
@@ -27,7 +30,7 @@ has_more l lines i d less =
     ap (λ (xs : List ℕ). has l xs) (take_more lines i d less) ∙ has_join l (take i lines) (get_or lines i d ∷ [])
     ∙ ap (λ (b : Bool). has l (take i lines) || b) (elim (eqb (get_or lines i d) l) as (λ e. (e || false) ≡ e) [ true ↦ refl | false ↦ refl ])
 
-pub drop_past : (lines : List ℕ) (i : ℕ) → length lines ≤ i → drop i lines ≡ []
+pub drop_past : {A : Type 0} (lines : List A) (i : ℕ) → length lines ≤ i → drop i lines ≡ []
 drop_past [] zero h = refl
 drop_past [] (suc i) h = refl
 drop_past (x ∷ lines) zero h = absurd (omega (arith, h))
@@ -186,3 +189,54 @@ pub lowest_kept : (one other lines : List ℕ) (end i lowest new : ℕ) → i < 
     (get_or lines i 0 < lowest → slice_index one (get_or lines i 0) ≡ slice_index other (get_or lines i 0)) → new ≡ lowest →
     IsLowest one other lines end i lowest → IsLowest one other lines end (i + 1) new
 lowest_kept one other lines end i lowest new less same e h = rw e (h.0, h.1, same_kept one other lines i lowest less same h.2)
+
+-- the lines of one more question are flagged
+pub asked_below : (n : ℕ) (asked : List Question) (i : ℕ) (d : Question) → i < length asked → AllByRecursion (λ q. q.line < n) asked → (get_or asked i d).line < n
+asked_below n [] i d less h = absurd (omega (arith, less))
+asked_below n (q ∷ asked) zero d less h = h.0
+asked_below n (q ∷ asked) (suc i) d less h = asked_below n asked i d (omega (arith, less)) h.1
+
+lines_join : (l : ℕ) (a b : List Question) → has_line l (a ++ b) ≡ (has_line l a || has_line l b)
+lines_join l [] b = refl
+lines_join l (q ∷ a) b =
+    (elim (eqb q.line l) as (λ e. (e || has_line l (a ++ b)) ≡ ((e || has_line l a) || has_line l b)) [ true ↦ refl | false ↦ lines_join l a b ])
+
+line_more : (l : ℕ) (asked : List Question) (i : ℕ) (d : Question) → i < length asked → has_line l (take (i + 1) asked) ≡ (has_line l (take i asked) || ((get_or asked i d).line == l))
+line_more l asked i d less =
+    ap (λ (qs : List Question). has_line l qs) (take_more asked i d less) ∙ lines_join l (take i asked) (get_or asked i d ∷ [])
+    ∙ ap (λ (b : Bool). has_line l (take i asked) || b) (elim (eqb (get_or asked i d).line l) as (λ e. (e || false) ≡ e) [ true ↦ refl | false ↦ refl ])
+
+pub asked_more : (start old new : List Bool) (asked : List Question) (i : ℕ) (d : Question) → i < length asked →
+    ((l : ℕ) → is_flagged l new ≡ (is_flagged l old || ((get_or asked i d).line == l))) →
+    ((l : ℕ) → is_flagged l old ≡ (is_flagged l start || has_line l (take i asked))) → (l : ℕ) → is_flagged l new ≡ (is_flagged l start || has_line l (take (i + 1) asked))
+asked_more start old new asked i d less n o l =
+    n l ∙ ap (λ (b : Bool). b || ((get_or asked i d).line == l)) (o l)
+    ∙ (elim (is_flagged l start) as (λ b. ((b || has_line l (take i asked)) || ((get_or asked i d).line == l)) ≡ (b || (has_line l (take i asked) || ((get_or asked i d).line == l)))) [ true ↦ refl | false ↦ refl ])
+    ∙ ap (λ (b : Bool). is_flagged l start || b) (sym (line_more l asked i d less))
+
+-- what stands at a place of a list, whatever stands for none
+pub index_same : (numbers : List ℕ) (i d e : ℕ) → i < length numbers → get_or numbers i d ≡ get_or numbers i e
+index_same [] i d e less = absurd (omega (arith, less))
+index_same (x ∷ numbers) zero d e less = refl
+index_same (x ∷ numbers) (suc i) d e less = index_same numbers i d e (omega (arith, less))
+
+-- another number for a line that the list has
+pub number_kept : (numbers lines : List ℕ) (line number : ℕ) → slice_index numbers line ≢ 0 → AreListed numbers lines → AreListed (set numbers line number) lines
+number_kept numbers lines line number some h = record {
+  listed = λ l t. elim (cases_eq line l) [
+    | inl e ↦ h.listed l (subst (λ (m : ℕ). slice_index numbers m ≢ 0) e some)
+    | inr ne ↦ h.listed l (λ z. t (get_or-set_other numbers line l number 0 (λ e. ne (sym e)) ∙ z))
+  ];
+  below = below_same (length numbers) (length (set numbers line number)) lines (sym (length_set numbers line number)) h.below;
+}
+
+-- the bytes of one more question
+pub bytes_added : (old : List ℕ) (line bytes l : ℕ) → line < length old →
+    slice_index (set old line (bit_or (slice_index old line) bytes)) l ≡ (if line == l then bit_or (slice_index old l) bytes else slice_index old l)
+bytes_added old line bytes l less = elim (cases_eq line l) [
+  | inl e ↦ let t : eqb line l ≡ true = grind (arith, e) in
+      rw t (subst (λ (m : ℕ). slice_index (set old line (bit_or (slice_index old line) bytes)) m ≡ bit_or (slice_index old m) bytes) e
+      (get_or-set_same old line (bit_or (slice_index old line) bytes) 0 less))
+  | inr ne ↦ let f : eqb line l ≡ false = grind (arith, ne) in
+      rw f (get_or-set_other old line l (bit_or (slice_index old line) bytes) 0 (λ e. ne (sym e)))
+]

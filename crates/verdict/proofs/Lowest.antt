@@ -1,21 +1,18 @@
 -- The least bad cut is the least of the bad ones among the least cuts of the branches.
-use Rattle.std.proofs.Common.{◌≡◌, ℕ, zero, suc, ◌≤◌, ◌<◌, ◌≢◌, false, ltb, ◌⊎◌, inl, inr, List, [], ◌∷◌, Option, None, sym, ap, subst, ◌∙◌, arith}
-use Rattle.std.proofs.lemmas.Bool.{cases_Bool, cases_eq}
+use Rattle.std.proofs.Common.{◌≡◌, ℕ, zero, suc, ◌≤◌, ◌<◌, ◌≢◌, Bool, ltb, ◌⊎◌, inl, inr, List, [], ◌∷◌, Option, None, sym, ap, subst, ◌∙◌, arith, true≢false}
+use Rattle.std.proofs.lemmas.Bool.{cases_Bool, cases_eq, cases_lt}
 use Rattle.std.specs.List.{AllByRecursion}
 use Rattle.verdict.specs.Branches.{Agree, IsWithin, ComesBefore}
-use Rattle.verdict.specs.Numbers.{has}
 use Rattle.verdict.specs.Openings.{AreLeast, Covers, IsFinished, IsPast, Node}
-use Rattle.verdict.proofs.Nodes.{agree_has}
+use Rattle.verdict.specs.declared.branches.question.Question.{Question}
+use Rattle.verdict.proofs.Alikes.{alike_agreed}
 
 -- the cut of a finished node is at most each of the node's cuts
-below_all : (alike : ℕ → ℕ → ℕ → Type 0) (low high c k : ℕ → ℕ) (ls : List ℕ) → ((l : ℕ) → has l ls ≡ false → c l ≡ low l) → AreLeast alike low c →
-    Agree alike k c ls → IsWithin low high k → (l : ℕ) → c l ≤ k l
-below_all alike low high c k ls f least s w l = elim (cases_Bool (has l ls)) [
-  | inl t ↦ elim (cases_Bool (ltb (k l) (c l))) [
-    | inl below ↦ absurd (least l (k l) (w.least l) (grind (arith, below)) (agree_has alike k c ls l s t))
-    | inr above ↦ grind (arith, above)
-  ]
-  | inr u ↦ let e : c l ≡ low l = f l u in let h = w.least l in omega (arith, e, h)
+below_all : (alike : Question → ℕ → ℕ → Bool) (low high k : ℕ → ℕ) (v : Node) → AreLeast alike low v → Agree alike k v.numbers v.decided → IsWithin low high k →
+    (l : ℕ) → v.numbers l ≤ k l
+below_all alike low high k v least s w l = elim (cases_lt (k l) (v.numbers l)) [
+  | inl below ↦ absurd (true≢false (sym (alike_agreed alike k v.numbers l v.decided s) ∙ least l (k l) (w.least l) below))
+  | inr past ↦ omega (arith, past)
 ]
 
 -- up to line n they are the same, or they differ before
@@ -112,19 +109,19 @@ pub never_itself : (c : ℕ → ℕ) → ¬ ComesBefore c c
 never_itself c b = let h = b.lower in absurd (omega (arith, h))
 
 -- of the finished nodes, none has a cut that is bad and comes before this one
-pub least_of : {Cause : Type 0} (alike : ℕ → ℕ → ℕ → Type 0) (asks : (ℕ → ℕ) → List ℕ → Type 0) (judged : (ℕ → ℕ) → Option Cause → Type 0) (low high best k : ℕ → ℕ) (vs : List Node) →
-    ((c k : ℕ → ℕ) (ls : List ℕ) (found : Option Cause) → asks c ls → Agree alike k c ls → judged c found → judged k found) →
+pub least_of : {Cause : Type 0} (alike : Question → ℕ → ℕ → Bool) (asks : (ℕ → ℕ) → List Question → Type 0) (judged : (ℕ → ℕ) → Option Cause → Type 0) (low high best k : ℕ → ℕ) (vs : List Node) →
+    ((c k : ℕ → ℕ) (qs : List Question) (found : Option Cause) → asks c qs → Agree alike k c qs → judged c found → judged k found) →
     AllByRecursion (IsFinished alike asks low high) vs → AllByRecursion (IsPast judged best) vs → IsWithin low high k → ComesBefore k best → Covers alike k vs → judged k None
 least_of alike asks judged low high best k [] w f n i b h = absurd h
 least_of alike asks judged low high best k (v ∷ vs) w f n i b (inl h) = elim n.0 [
   | inl p ↦ w v.numbers k v.decided None f.0.asked h p
-  | inr q ↦ absurd (q (before_best v.numbers k best (below_all alike low high v.numbers k v.decided f.0.at_floor f.0.least h i) b))
+  | inr q ↦ absurd (q (before_best v.numbers k best (below_all alike low high k v f.0.least h i) b))
 ]
 least_of alike asks judged low high best k (v ∷ vs) w f n i b (inr h) = least_of alike asks judged low high best k vs w f.1 n.1 i b h
 
 -- where the cut of each finished node passes, all do
-pub pass_of : {Cause : Type 0} (alike : ℕ → ℕ → ℕ → Type 0) (asks : (ℕ → ℕ) → List ℕ → Type 0) (judged : (ℕ → ℕ) → Option Cause → Type 0) (low high k : ℕ → ℕ) (vs : List Node) →
-    ((c k : ℕ → ℕ) (ls : List ℕ) (found : Option Cause) → asks c ls → Agree alike k c ls → judged c found → judged k found) →
+pub pass_of : {Cause : Type 0} (alike : Question → ℕ → ℕ → Bool) (asks : (ℕ → ℕ) → List Question → Type 0) (judged : (ℕ → ℕ) → Option Cause → Type 0) (low high k : ℕ → ℕ) (vs : List Node) →
+    ((c k : ℕ → ℕ) (qs : List Question) (found : Option Cause) → asks c qs → Agree alike k c qs → judged c found → judged k found) →
     AllByRecursion (IsFinished alike asks low high) vs → AllByRecursion (λ v. judged v.numbers None) vs → Covers alike k vs → judged k None
 pass_of alike asks judged low high k [] w f n h = absurd h
 pass_of alike asks judged low high k (v ∷ vs) w f n (inl h) = w v.numbers k v.decided None f.0.asked h n.0

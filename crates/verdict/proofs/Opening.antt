@@ -1,12 +1,13 @@
 -- An opening so far: the entries before a place are worked, the others are open.
-use Rattle.std.proofs.Common.{◌≡◌, ◌⊎◌, inl, inr, ℕ, zero, suc, ◌+◌, ◌-◌, ◌≤◌, ◌<◌, ◌||◌, if◌then◌else◌, Bool, true, false, eqb, ltb, cond, List, [], ◌∷◌, ◌++◌, Option, Some, None, IsSome, length, map, take, drop, get_or, replicate, refl, sym, ap, subst, ◌∙◌, arith, append_assoc, true≢false}
+use Rattle.std.proofs.Common.{◌≡◌, ◌⊎◌, inl, inr, ℕ, zero, suc, ◌+◌, ◌-◌, ◌≤◌, ◌<◌, ◌||◌, Bool, true, false, eqb, ltb, List, [], ◌∷◌, ◌++◌, Option, Some, None, IsSome, length, map, take, drop, get_or, replicate, refl, sym, ap, subst, ◌∙◌, arith, append_assoc, true≢false}
 use Rattle.std.proofs.lemmas.List.{append-nil, map-append, get_or_append_left, get_or-append-add, drop_more, drop-append-le, length-append}
 use Rattle.std.proofs.lemmas.Bool.{cases_Bool}
 use Rattle.std.specs.List.{AllByRecursion}
-use Rattle.verdict.specs.Branches.{Agree, IsEquivalence, IsAsked, IsWithin, IsAdaptive, IsShared, AreOver, ComesBefore, IsLeastBad}
+use Rattle.verdict.specs.Branches.{Agree, IsEquivalence, IsAsked, IsWithin, IsAdaptive, IsShared, AreOver, ComesBefore, IsLeastBad, has_line}
 use Rattle.verdict.specs.Least.{IsLess}
-use Rattle.verdict.specs.Numbers.{has, is_flagged, number_over, AreAbove}
-use Rattle.verdict.specs.Queue.{entry, entry_at, with_number, siblings, branching, cut_at, IsTree, AreRaised}
+use Rattle.verdict.specs.Numbers.{is_flagged, number_over, AreAbove}
+use Rattle.verdict.specs.Queue.{entry, entry_at, with_number, siblings, branching, cut_at, is_new, IsTree, AreRaised}
+use Rattle.verdict.specs.declared.branches.question.Question.{Question}
 use Rattle.verdict.specs.declared.branches.queue.Entry.{Entry}
 use Rattle.verdict.specs.Openings.{AreDecided, AreFlagged, AreNodes, Covers, IsAt, IsBest, IsFinished, IsPast, IsRun, Node, SomeDecides, Split, cuts_of}
 use Rattle.verdict.specs.Pieces.{AreAnswers, AreCuts, AreRuns, all_branching}
@@ -14,12 +15,12 @@ use Rattle.verdict.proofs.Answering.{answers_join, answers_later, branching_join
 use Rattle.verdict.proofs.Counting.{not_over}
 use Rattle.verdict.proofs.Lowest.{before_other, before_over, least_of, never_itself, pass_of}
 use Rattle.verdict.proofs.Nodes as nodes
-use Rattle.verdict.proofs.Nodes.{node, opened, new_at, AreLast, all_join, all_map}
+use Rattle.verdict.proofs.Nodes.{node, opened, opened_at, all_join, all_map}
 use Rattle.verdict.proofs.Splitting.{all_at, asked_same, drop_whole, shared_of, split_apart, split_first, split_next, take_whole}
 use Rattle.verdict.proofs.Tables.{cut_more, cut_step}
 
 -- lists side by side
-lined_up : (new : ℕ → Bool) (p : ℕ) (c : ℕ → ℕ) (decided : List ℕ) (l count n more : ℕ) → length decided ≡ count →
+lined_up : (new : ℕ → Bool) (p : ℕ) (c : ℕ → ℕ) (decided : List Question) (l count n more : ℕ) → length decided ≡ count →
     (map (λ e. with_number c e.line e.number) (siblings new p count l n more) ≡ cuts_of (nodes.siblings new c l decided n more))
     × (map (λ v. length v.decided) (nodes.siblings new c l decided n more) ≡ map (λ e. e.decided) (siblings new p count l n more))
 lined_up new p c decided l count n zero h = (refl, refl)
@@ -43,22 +44,19 @@ both_join c a b vs ws h k = (
       ∙ ap (λ (r : List ℕ). map (λ (e : Entry). e.decided) a ++ r) k.1 ∙ sym (map-append (λ (e : Entry). e.decided) a b),
 )
 
-length_last : (seen : List ℕ) (l : ℕ) → length (seen ++ l ∷ []) ≡ length seen + 1
-length_last [] l = omega arith
-length_last (x ∷ seen) l = let e = length_last seen l in omega (arith, e)
+length_last : (seen : List Question) (q : Question) → length (seen ++ q ∷ []) ≡ length seen + 1
+length_last [] q = omega arith
+length_last (x ∷ seen) q = let e = length_last seen q in omega (arith, e)
 
-all_lined_up : (p : ℕ) (last : ℕ → ℕ → Option ℕ) (low high c : ℕ → ℕ) (seen rest : List ℕ) →
-    (map (λ e. with_number c e.line e.number) (branching p last low high seen rest) ≡ cuts_of (opened last low high c seen rest))
-    × (map (λ v. length v.decided) (opened last low high c seen rest) ≡ map (λ e. e.decided) (branching p last low high seen rest))
-all_lined_up p last low high c seen [] = (refl, refl)
-all_lined_up p last low high c seen (l ∷ ls) =
-    both_join c (if has l seen then [] else siblings (new_at last low l) p (length seen + 1) l (low l + 1) (high l - low l)) (branching p last low high (seen ++ l ∷ []) ls)
-    (cond (has l seen) [] (nodes.siblings (new_at last low l) c l (seen ++ l ∷ []) (low l + 1) (high l - low l))) (opened last low high c (seen ++ l ∷ []) ls)
-    (elim (cases_Bool (has l seen)) [
-      | inl t ↦ rw t (refl, refl)
-      | inr f ↦ rw f (lined_up (new_at last low l) p c (seen ++ l ∷ []) l (length seen + 1) (low l + 1) (high l - low l) (length_last seen l))
-    ])
-    (all_lined_up p last low high c (seen ++ l ∷ []) ls)
+all_lined_up : (p : ℕ) (alike : Question → ℕ → ℕ → Bool) (low high c : ℕ → ℕ) (seen rest : List Question) →
+    (map (λ e. with_number c e.line e.number) (branching p alike low high c seen rest) ≡ cuts_of (opened alike low high c seen rest))
+    × (map (λ v. length v.decided) (opened alike low high c seen rest) ≡ map (λ e. e.decided) (branching p alike low high c seen rest))
+all_lined_up p alike low high c seen [] = (refl, refl)
+all_lined_up p alike low high c seen (q ∷ qs) =
+    both_join c (siblings (is_new alike low c seen q) p (length seen + 1) q.line (c q.line + 1) (high q.line - c q.line)) (branching p alike low high c (seen ++ q ∷ []) qs)
+    (opened_at alike low high c seen q) (opened alike low high c (seen ++ q ∷ []) qs)
+    (lined_up (is_new alike low c seen q) p c (seen ++ q ∷ []) q.line (length seen + 1) (c q.line + 1) (high q.line - c q.line) (length_last seen q))
+    (all_lined_up p alike low high c (seen ++ q ∷ []) qs)
 
 -- what branches off an entry stands under it, and raises a line above its floor
 record IsChild (p lines : ℕ) (low : ℕ → ℕ) (e : Entry) : Type 0 where
@@ -79,15 +77,14 @@ siblings_children new p lines low d l n (suc more) b a =
       | inr f ↦ rw f rest
     ]
 
-children : (p lines : ℕ) (last : ℕ → ℕ → Option ℕ) (low high : ℕ → ℕ) (seen rest : List ℕ) → AllByRecursion (λ l. l < lines) rest → AllByRecursion (IsChild p lines low) (branching p last low high seen rest)
-children p lines last low high seen [] h = tt
-children p lines last low high seen (l ∷ ls) h =
-    children_join (IsChild p lines low) (if has l seen then [] else siblings (new_at last low l) p (length seen + 1) l (low l + 1) (high l - low l)) (branching p last low high (seen ++ l ∷ []) ls)
-    (elim (cases_Bool (has l seen)) [
-      | inl t ↦ rw t tt
-      | inr f ↦ rw f (siblings_children (new_at last low l) p lines low (length seen + 1) l (low l + 1) (high l - low l) h.0 (omega arith))
-    ])
-    (children p lines last low high (seen ++ l ∷ []) ls h.1)
+children : (p lines : ℕ) (alike : Question → ℕ → ℕ → Bool) (low high c : ℕ → ℕ) (seen rest : List Question) → ((l : ℕ) → low l ≤ c l) →
+    AllByRecursion (λ q. q.line < lines) rest → AllByRecursion (IsChild p lines low) (branching p alike low high c seen rest)
+children p lines alike low high c seen [] above h = tt
+children p lines alike low high c seen (q ∷ qs) above h =
+    children_join (IsChild p lines low) (siblings (is_new alike low c seen q) p (length seen + 1) q.line (c q.line + 1) (high q.line - c q.line))
+    (branching p alike low high c (seen ++ q ∷ []) qs)
+    (siblings_children (is_new alike low c seen q) p lines low (length seen + 1) q.line (c q.line + 1) (high q.line - c q.line) h.0 (let le = above q.line in omega (arith, le)))
+    (children p lines alike low high c (seen ++ q ∷ []) qs above h.1)
 
 child_at : (P : Entry → Type 0) (es : List Entry) (j : ℕ) (d : Entry) → j < length es → AllByRecursion P es → P (get_or es j d)
 child_at P [] j d less h = absurd (omega (arith, less))
@@ -161,7 +158,7 @@ cuts_more lines at low c queue more cuts new less t t' h ec size old e i there =
       mine ∙ ap (λ (k : ℕ → ℕ). with_number k x.line x.number) (sym (ap (λ (m : ℕ). cut_at low (queue ++ more) m) child.parent ∙ parent)) ∙ sym step
 ]
 
-cuts_join : (done left ops : List Node) (v : Node) (ls : List ℕ) →
+cuts_join : (done left ops : List Node) (v : Node) (ls : List Question) →
     cuts_of ((done ++ node v.numbers ls ∷ []) ++ (left ++ ops)) ≡ cuts_of (done ++ v ∷ left) ++ cuts_of ops
 cuts_join [] left ops v ls = ap (λ (r : List (ℕ → ℕ)). v.numbers ∷ r) (map-append (λ (w : Node). w.numbers) left ops)
 cuts_join (d ∷ done) left ops v ls = ap (λ (r : List (ℕ → ℕ)). d.numbers ∷ r) (cuts_join done left ops v ls)
@@ -220,24 +217,24 @@ best_join judged low high cut kept new (Some cause) (Some other) result done vs 
       all_join (IsPast judged (number_over low kept)) done vs b.3 (past_other judged (number_over low cut) (number_over low kept) vs h.0 t.3),
     )
 
-flagged_by : (flags : List Bool) (ls ms : List ℕ) → ((l : ℕ) → has l ms ≡ true → is_flagged l flags ≡ true) → ((l : ℕ) → has l ls ≡ true → has l ms ≡ true) → AreFlagged flags ls
-flagged_by flags [] ms h i = tt
-flagged_by flags (x ∷ ls) ms h i = (
-  h x (i x (let t : eqb x x ≡ true = grind arith in rw t refl)),
-  flagged_by flags ls ms h (λ l t. i l (elim (eqb x l) as (λ e. (e || has l ls) ≡ true) [ true ↦ refl | false ↦ t ])),
+pub flagged_by : (flags : List Bool) (qs : List Question) → ((l : ℕ) → has_line l qs ≡ true → is_flagged l flags ≡ true) → AreFlagged flags qs
+flagged_by flags [] h = tt
+flagged_by flags (q ∷ qs) h = (
+  h q.line (let t : eqb q.line q.line ≡ true = grind arith in rw t refl),
+  flagged_by flags qs (λ l t. h l (elim (eqb q.line l) as (λ e. (e || has_line l qs) ≡ true) [ true ↦ refl | false ↦ t ])),
 )
 
 -- of lines that were flagged and of those that are flagged now
-pub flagged_still : (old new : List Bool) (ls : List ℕ) → ((l : ℕ) → is_flagged l new ≡ (is_flagged l old || has l ls)) → (l : ℕ) → is_flagged l old ≡ true → is_flagged l new ≡ true
-flagged_still old new ls h l t = h l ∙ ap (λ (b : Bool). b || has l ls) t
+pub flagged_still : (old new : List Bool) (now : ℕ → Bool) → ((l : ℕ) → is_flagged l new ≡ (is_flagged l old || now l)) → (l : ℕ) → is_flagged l old ≡ true → is_flagged l new ≡ true
+flagged_still old new now h l t = h l ∙ ap (λ (b : Bool). b || now l) t
 
-pub flagged_now : (old new : List Bool) (ls : List ℕ) → ((l : ℕ) → is_flagged l new ≡ (is_flagged l old || has l ls)) → (l : ℕ) → has l ls ≡ true → is_flagged l new ≡ true
-flagged_now old new ls h l t =
+pub flagged_now : (old new : List Bool) (now : ℕ → Bool) → ((l : ℕ) → is_flagged l new ≡ (is_flagged l old || now l)) → (l : ℕ) → now l ≡ true → is_flagged l new ≡ true
+flagged_now old new now h l t =
     h l ∙ ap (λ (b : Bool). is_flagged l old || b) t ∙ (elim (is_flagged l old) as (λ b. (b || true) ≡ true) [ true ↦ refl | false ↦ refl ])
 
-flagged_more : (old new : List Bool) (ls : List ℕ) → ((l : ℕ) → is_flagged l old ≡ true → is_flagged l new ≡ true) → AreFlagged old ls → AreFlagged new ls
+flagged_more : (old new : List Bool) (qs : List Question) → ((l : ℕ) → is_flagged l old ≡ true → is_flagged l new ≡ true) → AreFlagged old qs → AreFlagged new qs
 flagged_more old new [] h f = tt
-flagged_more old new (x ∷ ls) h f = (h x f.0, flagged_more old new ls h f.1)
+flagged_more old new (q ∷ qs) h f = (h q.line f.0, flagged_more old new qs h f.1)
 
 asked_join : (flags theirs new : List Bool) (done vs : List Node) → ((l : ℕ) → is_flagged l flags ≡ true → is_flagged l new ≡ true) →
     ((l : ℕ) → is_flagged l theirs ≡ true → is_flagged l new ≡ true) →
@@ -265,17 +262,17 @@ decided_more flags flags' done vs from h l t = elim (from l t) [
 ]
 
 -- where some lines are flagged beside those that were
-pub flagged_from : (old new : List Bool) (ls : List ℕ) → ((l : ℕ) → is_flagged l new ≡ (is_flagged l old || has l ls)) → (l : ℕ) → is_flagged l new ≡ true →
-    (is_flagged l old ≡ true) ⊎ (has l ls ≡ true)
-flagged_from old new ls h l t = elim (cases_Bool (is_flagged l old)) [
+pub flagged_from : (old new : List Bool) (now : ℕ → Bool) → ((l : ℕ) → is_flagged l new ≡ (is_flagged l old || now l)) → (l : ℕ) → is_flagged l new ≡ true →
+    (is_flagged l old ≡ true) ⊎ (now l ≡ true)
+flagged_from old new now h l t = elim (cases_Bool (is_flagged l old)) [
   | inl was ↦ inl was
-  | inr other ↦ inr (sym (h l ∙ ap (λ (b : Bool). b || has l ls) other) ∙ t)
+  | inr other ↦ inr (sym (h l ∙ ap (λ (b : Bool). b || now l) other) ∙ t)
 ]
 
--- those are the lines that this node decides
-pub flagged_one : (old new : List Bool) (v : Node) → ((l : ℕ) → is_flagged l new ≡ (is_flagged l old || has l v.decided)) → (l : ℕ) → is_flagged l new ≡ true →
+-- those are the lines of which this node decides a question
+pub flagged_one : (old new : List Bool) (v : Node) → ((l : ℕ) → is_flagged l new ≡ (is_flagged l old || has_line l v.decided)) → (l : ℕ) → is_flagged l new ≡ true →
     (is_flagged l old ≡ true) ⊎ SomeDecides l (v ∷ [])
-flagged_one old new v h l t = elim (flagged_from old new v.decided h l t) [ inl was ↦ inl was | inr here ↦ inr (inl here) ]
+flagged_one old new v h l t = elim (flagged_from old new (λ x. has_line x v.decided) h l t) [ inl was ↦ inl was | inr here ↦ inr (inl here) ]
 
 not_flagged : (lines l : ℕ) → is_flagged l (replicate lines false) ≡ false
 not_flagged zero l = refl
@@ -289,7 +286,7 @@ fresh_decided lines flags e l t = true≢false (sym t ∙ ap (λ (fs : List Bool
 pub none_decided : (flags : List Bool) → ((l : ℕ) → is_flagged l flags ≡ false) → AreDecided flags []
 none_decided flags none l t = true≢false (sym t ∙ none l)
 
-below_drop : (n : ℕ) (ls : List ℕ) (i : ℕ) → AllByRecursion (λ l. l < n) ls → AllByRecursion (λ l. l < n) (drop i ls)
+below_drop : (n : ℕ) (ls : List Question) (i : ℕ) → AllByRecursion (λ q. q.line < n) ls → AllByRecursion (λ q. q.line < n) (drop i ls)
 below_drop n [] zero h = tt
 below_drop n [] (suc i) h = tt
 below_drop n (x ∷ ls) zero h = h
@@ -307,41 +304,43 @@ count_last [] v = omega arith
 count_last (d ∷ done) v = let e = count_last done v in omega (arith, e)
 
 -- the cut of the next entry
-next_cut : (alike : ℕ → ℕ → ℕ → Type 0) (asks : (ℕ → ℕ) → List ℕ → Type 0) (low high : ℕ → ℕ) (lines at : ℕ) (queue : List Entry) (done left : List Node) (v : Node) →
+next_cut : (alike : Question → ℕ → ℕ → Bool) (asks : (ℕ → ℕ) → List Question → Type 0) (low high : ℕ → ℕ) (lines at : ℕ) (queue : List Entry) (done left : List Node) (v : Node) →
     at < length queue → AreNodes alike asks low high lines at queue done (v ∷ left) → v.numbers ≡ cut_at low queue at
 next_cut alike asks low high lines at queue done left v less o =
     sym (cuts_at_seam done left v low) ∙ ap (λ (i : ℕ). get_or (cuts_of (done ++ v ∷ left)) i low) o.size ∙ o.cuts at less
 
 -- the next entry is worked
-nodes_next : (alike : ℕ → ℕ → ℕ → Type 0) (last : ℕ → ℕ → Option ℕ) (asks : (ℕ → ℕ) → List ℕ → Type 0) (low high : ℕ → ℕ) (lines at : ℕ) (queue : List Entry) (ls : List ℕ) (done left : List Node) (v : Node) → IsEquivalence alike → AreLast alike last → IsAdaptive alike asks →
-    at < length queue → asks (cut_at low queue at) ls → AllByRecursion (λ l. l < lines) ls → AreNodes alike asks low high lines at queue done (v ∷ left) →
-    AreNodes alike asks low high lines (at + 1) (queue ++ branching at last low high (take (entry_at queue at).decided ls) (drop (entry_at queue at).decided ls))
-    (done ++ node v.numbers ls ∷ []) (left ++ opened last low high v.numbers v.decided (drop (length v.decided) ls))
-nodes_next alike last asks low high lines at queue ls done left v eq lasts adaptive less run_asked run_below o =
+nodes_next : (alike : Question → ℕ → ℕ → Bool) (asks : (ℕ → ℕ) → List Question → Type 0) (low high : ℕ → ℕ) (lines at : ℕ) (queue : List Entry) (ls : List Question) (done left : List Node) (v : Node) → IsEquivalence alike → IsAdaptive alike asks →
+    at < length queue → asks (cut_at low queue at) ls → AllByRecursion (λ q. q.line < lines) ls → AreNodes alike asks low high lines at queue done (v ∷ left) →
+    AreNodes alike asks low high lines (at + 1) (queue ++ branching at alike low high (cut_at low queue at) (take (entry_at queue at).decided ls) (drop (entry_at queue at).decided ls))
+    (done ++ node v.numbers ls ∷ []) (left ++ opened alike low high v.numbers v.decided (drop (length v.decided) ls))
+nodes_next alike asks low high lines at queue ls done left v eq adaptive less run_asked run_below o =
     let e0 : Entry = entry 0 0 0 0 in
     let c : ℕ → ℕ = v.numbers in
-    let more : List Entry = branching at last low high (take (entry_at queue at).decided ls) (drop (entry_at queue at).decided ls) in
+    let more : List Entry = branching at alike low high (cut_at low queue at) (take (entry_at queue at).decided ls) (drop (entry_at queue at).decided ls) in
     let cut : cut_at low queue at ≡ c = sym (next_cut alike asks low high lines at queue done left v less o) in
     let asked : asks c ls = subst (λ (k : ℕ → ℕ). asks k ls) cut run_asked in
     let b = o.split.nodes.0.begins ls asked in
-    let rest : drop (length v.decided) ls ≡ b.rest = ap (λ (xs : List ℕ). drop (length v.decided) xs) b.begins ∙ drop_whole v.decided b.rest in
-    let front : take (length v.decided) ls ≡ v.decided = ap (λ (xs : List ℕ). take (length v.decided) xs) b.begins ∙ take_whole v.decided b.rest in
-    let whole : ls ≡ v.decided ++ drop (length v.decided) ls = b.begins ∙ ap (λ (xs : List ℕ). v.decided ++ xs) (sym rest) in
+    let rest : drop (length v.decided) ls ≡ b.rest = ap (λ (xs : List Question). drop (length v.decided) xs) b.begins ∙ drop_whole v.decided b.rest in
+    let front : take (length v.decided) ls ≡ v.decided = ap (λ (xs : List Question). take (length v.decided) xs) b.begins ∙ take_whole v.decided b.rest in
+    let whole : ls ≡ v.decided ++ drop (length v.decided) ls = b.begins ∙ ap (λ (xs : List Question). v.decided ++ xs) (sym rest) in
     let heads = head_same (length v.decided) (entry_at queue at).decided (map (λ w. length w.decided) left) (map (λ e. e.decided) (drop (at + 1) queue))
     (o.counts ∙ ap (λ (es : List Entry). map (λ e. e.decided) es) (drop_more queue at e0 less)) in
-    let branches : more ≡ branching at last low high v.decided (drop (length v.decided) ls) =
-    ap (λ (n : ℕ). branching at last low high (take n ls) (drop n ls)) (sym heads.0) ∙ ap (λ (xs : List ℕ). branching at last low high xs (drop (length v.decided) ls)) front in
-    let ops : List Node = opened last low high c v.decided (drop (length v.decided) ls) in
-    let lined = all_lined_up at last low high c v.decided (drop (length v.decided) ls) in
+    let branches : more ≡ branching at alike low high c v.decided (drop (length v.decided) ls) =
+    ap (λ (k : ℕ → ℕ). branching at alike low high k (take (entry_at queue at).decided ls) (drop (entry_at queue at).decided ls)) cut
+    ∙ ap (λ (n : ℕ). branching at alike low high c (take n ls) (drop n ls)) (sym heads.0)
+    ∙ ap (λ (xs : List Question). branching at alike low high c xs (drop (length v.decided) ls)) front in
+    let ops : List Node = opened alike low high c v.decided (drop (length v.decided) ls) in
+    let lined = all_lined_up at alike low high c v.decided (drop (length v.decided) ls) in
     let child : AllByRecursion (IsChild at lines low) more =
-    subst (λ (es : List Entry). AllByRecursion (IsChild at lines low) es) (sym branches) (children at lines last low high v.decided (drop (length v.decided) ls) (below_drop lines ls (length v.decided) run_below)) in
+    subst (λ (es : List Entry). AllByRecursion (IsChild at lines low) es) (sym branches) (children at lines alike low high c v.decided (drop (length v.decided) ls) o.split.nodes.0.within.least (below_drop lines ls (length v.decided) run_below)) in
     let tree' : IsTree lines (queue ++ more) = tree_more lines at low queue more less o.tree child in
     let joined : cuts_of ((done ++ node c ls ∷ []) ++ (left ++ ops)) ≡ cuts_of (done ++ v ∷ left) ++ cuts_of ops = cuts_join done left ops v ls in
     let new_cuts : map (λ e. with_number c e.line e.number) more ≡ cuts_of ops = ap (λ (es : List Entry). map (λ e. with_number c e.line e.number) es) branches ∙ lined.0 in
     let next : Split alike asks low high (done ++ node c (v.decided ++ drop (length v.decided) ls) ∷ []) (left ++ ops) =
-    split_next alike last asks low high done v left (drop (length v.decided) ls) eq lasts adaptive (subst (λ (xs : List ℕ). asks c xs) whole asked) o.split in
+    split_next alike asks low high done v left (drop (length v.decided) ls) eq adaptive (subst (λ (xs : List Question). asks c xs) whole asked) o.split in
     record {
-      split = subst (λ (xs : List ℕ). Split alike asks low high (done ++ node c xs ∷ []) (left ++ ops)) (sym whole) next;
+      split = subst (λ (xs : List Question). Split alike asks low high (done ++ node c xs ∷ []) (left ++ ops)) (sym whole) next;
       size = count_last done (node c ls) ∙ ap (λ (n : ℕ). n + 1) o.size;
       tree = tree';
       raised = raised_more lines at low queue more o.raised child;
@@ -362,46 +361,46 @@ node_count : (done left : List Node) → length (cuts_of (done ++ left)) ≡ len
 node_count done left = mapped_count (λ (v : Node). v.numbers) (done ++ left) ∙ length-append done left
 
 -- the entries of these nodes are worked, one after the other
-nodes_many : (alike : ℕ → ℕ → ℕ → Type 0) (last : ℕ → ℕ → Option ℕ) (asks : (ℕ → ℕ) → List ℕ → Type 0) (low high : ℕ → ℕ) (lines at : ℕ) (queue : List Entry) (done left vs : List Node) → IsEquivalence alike → AreLast alike last → IsAdaptive alike asks →
+nodes_many : (alike : Question → ℕ → ℕ → Bool) (asks : (ℕ → ℕ) → List Question → Type 0) (low high : ℕ → ℕ) (lines at : ℕ) (queue : List Entry) (done left vs : List Node) → IsEquivalence alike → IsAdaptive alike asks →
     AreAnswers asks low lines queue at vs → AreNodes alike asks low high lines at queue done left →
-    (later : List Node) × AreNodes alike asks low high lines (at + length vs) (queue ++ all_branching last low high queue at vs) (done ++ vs) later
-nodes_many alike last asks low high lines at queue done left [] eq lasts adaptive a o = (
+    (later : List Node) × AreNodes alike asks low high lines (at + length vs) (queue ++ all_branching alike low high queue at vs) (done ++ vs) later
+nodes_many alike asks low high lines at queue done left [] eq adaptive a o = (
   left,
   subst (λ (ds : List Node). AreNodes alike asks low high lines (at + 0) (queue ++ []) ds left) (sym (append-nil done))
       (subst (λ (q : List Entry). AreNodes alike asks low high lines (at + 0) q done left) (sym (append-nil queue))
       (subst (λ (n : ℕ). AreNodes alike asks low high lines n queue done left) (omega arith) o)),
 )
-nodes_many alike last asks low high lines at queue done [] (v ∷ vs) eq lasts adaptive a o =
+nodes_many alike asks low high lines at queue done [] (v ∷ vs) eq adaptive a o =
     let n = node_count done [] in let s = o.same in let z = o.size in let less = a.0.there in absurd (omega (arith, less, n, s, z))
-nodes_many alike last asks low high lines at queue done (w ∷ left) (v ∷ vs) eq lasts adaptive a o =
+nodes_many alike asks low high lines at queue done (w ∷ left) (v ∷ vs) eq adaptive a o =
     let less : at < length queue = a.0.there in
-    let here : List Entry = branching at last low high (take (entry_at queue at).decided v.decided) (drop (entry_at queue at).decided v.decided) in
-    let ops : List Node = opened last low high w.numbers w.decided (drop (length w.decided) v.decided) in
+    let here : List Entry = branching at alike low high (cut_at low queue at) (take (entry_at queue at).decided v.decided) (drop (entry_at queue at).decided v.decided) in
+    let ops : List Node = opened alike low high w.numbers w.decided (drop (length w.decided) v.decided) in
     let same : node w.numbers v.decided ≡ v = ap (λ (c : ℕ → ℕ). node c v.decided) (next_cut alike asks low high lines at queue done left w less o ∙ sym a.0.cut) in
     let next : AreNodes alike asks low high lines (at + 1) (queue ++ here) (done ++ v ∷ []) (left ++ ops) =
     subst (λ (x : Node). AreNodes alike asks low high lines (at + 1) (queue ++ here) (done ++ x ∷ []) (left ++ ops)) same
-    (nodes_next alike last asks low high lines at queue v.decided done left w eq lasts adaptive less a.0.asked a.0.below o) in
-    let rest = nodes_many alike last asks low high lines (at + 1) (queue ++ here) (done ++ v ∷ []) (left ++ ops) vs eq lasts adaptive
+    (nodes_next alike asks low high lines at queue v.decided done left w eq adaptive less a.0.asked a.0.below o) in
+    let rest = nodes_many alike asks low high lines (at + 1) (queue ++ here) (done ++ v ∷ []) (left ++ ops) vs eq adaptive
     (answers_later asks low lines queue here (at + 1) vs o.tree a.1) next in
-    let grown : (queue ++ here) ++ all_branching last low high (queue ++ here) (at + 1) vs ≡ queue ++ (here ++ all_branching last low high queue (at + 1) vs) =
-    ap (λ (es : List Entry). (queue ++ here) ++ es) (branching_later asks last low high lines queue here (at + 1) vs a.1)
-    ∙ append_assoc queue here (all_branching last low high queue (at + 1) vs) in (
+    let grown : (queue ++ here) ++ all_branching alike low high (queue ++ here) (at + 1) vs ≡ queue ++ (here ++ all_branching alike low high queue (at + 1) vs) =
+    ap (λ (es : List Entry). (queue ++ here) ++ es) (branching_later asks alike low high lines queue here (at + 1) vs o.tree a.1)
+    ∙ append_assoc queue here (all_branching alike low high queue (at + 1) vs) in (
       rest.0,
-      subst (λ (n : ℕ). AreNodes alike asks low high lines n (queue ++ (here ++ all_branching last low high queue (at + 1) vs)) (done ++ v ∷ vs) rest.0) (omega arith)
+      subst (λ (n : ℕ). AreNodes alike asks low high lines n (queue ++ (here ++ all_branching alike low high queue (at + 1) vs)) (done ++ v ∷ vs) rest.0) (omega arith)
           (subst (λ (q : List Entry). AreNodes alike asks low high lines ((at + 1) + length vs) q (done ++ v ∷ vs) rest.0) grown
-          (subst (λ (ds : List Node). AreNodes alike asks low high lines ((at + 1) + length vs) ((queue ++ here) ++ all_branching last low high (queue ++ here) (at + 1) vs) ds rest.0)
+          (subst (λ (ds : List Node). AreNodes alike asks low high lines ((at + 1) + length vs) ((queue ++ here) ++ all_branching alike low high (queue ++ here) (at + 1) vs) ds rest.0)
           (append_assoc done (v ∷ []) vs) rest.1)),
     )
 
 -- what recovery came to at many entries is taken in
-pub at_many : {Cause : Type 0} (alike : ℕ → ℕ → ℕ → Type 0) (last : ℕ → ℕ → Option ℕ) (asks : (ℕ → ℕ) → List ℕ → Type 0) (judged : (ℕ → ℕ) → Option Cause → Type 0) (low high : ℕ → ℕ) (lines at : ℕ)
-    (queue more : List Entry) (numbers kept new : List ℕ) (found least result : Option Cause) (flags theirs flags' : List Bool) (vs : List Node) → IsEquivalence alike → AreLast alike last → IsAdaptive alike asks →
-    AreRuns asks judged last low high lines at queue numbers found theirs more vs → IsLess low numbers found kept least new result →
+pub at_many : {Cause : Type 0} (alike : Question → ℕ → ℕ → Bool) (asks : (ℕ → ℕ) → List Question → Type 0) (judged : (ℕ → ℕ) → Option Cause → Type 0) (low high : ℕ → ℕ) (lines at : ℕ)
+    (queue more : List Entry) (numbers kept new : List ℕ) (found least result : Option Cause) (flags theirs flags' : List Bool) (vs : List Node) → IsEquivalence alike → IsAdaptive alike asks →
+    AreRuns asks judged alike low high lines at queue numbers found theirs more vs → IsLess low numbers found kept least new result →
     ((l : ℕ) → is_flagged l flags ≡ true → is_flagged l flags' ≡ true) → ((l : ℕ) → is_flagged l theirs ≡ true → is_flagged l flags' ≡ true) →
     ((l : ℕ) → is_flagged l flags' ≡ true → (is_flagged l flags ≡ true) ⊎ SomeDecides l vs) →
     IsAt alike asks judged low high lines at queue kept least flags → IsAt alike asks judged low high lines (at + length vs) (queue ++ more) new result flags'
-at_many alike last asks judged low high lines at queue more numbers kept new found least result flags theirs flags' vs eq lasts adaptive runs less mine others from o =
-    let next = nodes_many alike last asks low high lines at queue o.done o.left vs eq lasts adaptive runs.answers o.opening.nodes in
+at_many alike asks judged low high lines at queue more numbers kept new found least result flags theirs flags' vs eq adaptive runs less mine others from o =
+    let next = nodes_many alike asks low high lines at queue o.done o.left vs eq adaptive runs.answers o.opening.nodes in
     record {
       done = o.done ++ vs;
       left = next.0;
@@ -414,32 +413,32 @@ at_many alike last asks judged low high lines at queue more numbers kept new fou
     }
 
 -- what recovery came to at one entry
-pub runs_one : {Cause : Type 0} (asks : (ℕ → ℕ) → List ℕ → Type 0) (judged : (ℕ → ℕ) → Option Cause → Type 0) (last : ℕ → ℕ → Option ℕ) (low high : ℕ → ℕ) (lines at : ℕ)
-    (queue more : List Entry) (numbers ls : List ℕ) (found : Option Cause) (flags : List Bool) →
-    at < length queue → IsWithin low high (cut_at low queue at) → ((l : ℕ) → has l ls ≡ true → is_flagged l flags ≡ true) →
-    IsRun asks judged last low high lines at queue numbers ls more found → AreRuns asks judged last low high lines at queue numbers found flags more (node (cut_at low queue at) ls ∷ [])
-runs_one asks judged last low high lines at queue more numbers ls found flags less within flagged run = record {
+pub runs_one : {Cause : Type 0} (asks : (ℕ → ℕ) → List Question → Type 0) (judged : (ℕ → ℕ) → Option Cause → Type 0) (alike : Question → ℕ → ℕ → Bool) (low high : ℕ → ℕ) (lines at : ℕ)
+    (queue more : List Entry) (numbers : List ℕ) (ls : List Question) (found : Option Cause) (flags : List Bool) →
+    at < length queue → IsWithin low high (cut_at low queue at) → ((l : ℕ) → has_line l ls ≡ true → is_flagged l flags ≡ true) →
+    IsRun asks judged alike low high lines at queue numbers ls more found → AreRuns asks judged alike low high lines at queue numbers found flags more (node (cut_at low queue at) ls ∷ [])
+runs_one asks judged alike low high lines at queue more numbers ls found flags less within flagged run = record {
   answers = (record { there = less; cut = refl; asked = run.asked; below = run.below }, tt);
-  asked = (flagged_by flags ls ls flagged (λ l t. t), tt);
+  asked = (flagged_by flags ls flagged, tt);
   best = best_one judged low high numbers found (node (cut_at low queue at) ls) run.cut run.above within run.judges;
-  branches = run.branches ∙ sym (append-nil (branching at last low high (take (entry_at queue at).decided ls) (drop (entry_at queue at).decided ls)));
+  branches = run.branches ∙ sym (append-nil (branching at alike low high (cut_at low queue at) (take (entry_at queue at).decided ls) (drop (entry_at queue at).decided ls)));
 }
 
 -- what it came to at further entries is added
-pub runs_join : {Cause : Type 0} (asks : (ℕ → ℕ) → List ℕ → Type 0) (judged : (ℕ → ℕ) → Option Cause → Type 0) (last : ℕ → ℕ → Option ℕ) (low high : ℕ → ℕ) (lines first : ℕ)
+pub runs_join : {Cause : Type 0} (asks : (ℕ → ℕ) → List Question → Type 0) (judged : (ℕ → ℕ) → Option Cause → Type 0) (alike : Question → ℕ → ℕ → Bool) (low high : ℕ → ℕ) (lines first : ℕ)
     (queue before more : List Entry) (numbers kept new : List ℕ) (found least result : Option Cause) (flags theirs flags' : List Bool) (done vs : List Node) →
-    AreRuns asks judged last low high lines (first + length done) queue numbers found theirs more vs → IsLess low numbers found kept least new result →
+    AreRuns asks judged alike low high lines (first + length done) queue numbers found theirs more vs → IsLess low numbers found kept least new result →
     ((l : ℕ) → is_flagged l flags ≡ true → is_flagged l flags' ≡ true) → ((l : ℕ) → is_flagged l theirs ≡ true → is_flagged l flags' ≡ true) →
-    AreRuns asks judged last low high lines first queue kept least flags before done → AreRuns asks judged last low high lines first queue new result flags' (before ++ more) (done ++ vs)
-runs_join asks judged last low high lines first queue before more numbers kept new found least result flags theirs flags' done vs runs less mine others r = record {
+    AreRuns asks judged alike low high lines first queue kept least flags before done → AreRuns asks judged alike low high lines first queue new result flags' (before ++ more) (done ++ vs)
+runs_join asks judged alike low high lines first queue before more numbers kept new found least result flags theirs flags' done vs runs less mine others r = record {
   answers = answers_join asks low lines queue first done vs r.answers runs.answers;
   asked = asked_join flags theirs flags' done vs mine others r.asked runs.asked;
   best = best_join judged low high numbers kept new found least result done vs less r.best runs.best;
-  branches = ap (λ (es : List Entry). es ++ more) r.branches ∙ ap (λ (es : List Entry). all_branching last low high queue first done ++ es) runs.branches
-      ∙ sym (branching_join last low high queue first done vs);
+  branches = ap (λ (es : List Entry). es ++ more) r.branches ∙ ap (λ (es : List Entry). all_branching alike low high queue first done ++ es) runs.branches
+      ∙ sym (branching_join alike low high queue first done vs);
 }
 
-pub at_first : {Cause : Type 0} (alike : ℕ → ℕ → ℕ → Type 0) (asks : (ℕ → ℕ) → List ℕ → Type 0) (judged : (ℕ → ℕ) → Option Cause → Type 0) (low high : ℕ → ℕ) (lines : ℕ)
+pub at_first : {Cause : Type 0} (alike : Question → ℕ → ℕ → Bool) (asks : (ℕ → ℕ) → List Question → Type 0) (judged : (ℕ → ℕ) → Option Cause → Type 0) (low high : ℕ → ℕ) (lines : ℕ)
     (queue : List Entry) (numbers : List ℕ) (flags : List Bool) → ((l : ℕ) → low l ≤ high l) → queue ≡ entry 0 0 0 0 ∷ [] →
     ((l : ℕ) → is_flagged l flags ≡ false) → IsAt alike asks judged low high lines 0 queue numbers None flags
 at_first alike asks judged low high lines queue numbers flags ordered e none = rw e (record {
@@ -462,7 +461,7 @@ at_first alike asks judged low high lines queue numbers flags ordered e none = r
 })
 
 -- the queue of an opening
-pub at_cuts : {Cause : Type 0} (alike : ℕ → ℕ → ℕ → Type 0) (asks : (ℕ → ℕ) → List ℕ → Type 0) (judged : (ℕ → ℕ) → Option Cause → Type 0) (low high : ℕ → ℕ) (lines at : ℕ)
+pub at_cuts : {Cause : Type 0} (alike : Question → ℕ → ℕ → Bool) (asks : (ℕ → ℕ) → List Question → Type 0) (judged : (ℕ → ℕ) → Option Cause → Type 0) (low high : ℕ → ℕ) (lines at : ℕ)
     (queue : List Entry) (numbers : List ℕ) (least : Option Cause) (flags : List Bool) → IsEquivalence alike → IsAdaptive alike asks →
     IsAt alike asks judged low high lines at queue numbers least flags → AreCuts low high lines queue
 at_cuts alike asks judged low high lines at queue numbers least flags eq adaptive o =
@@ -475,7 +474,7 @@ at_cuts alike asks judged low high lines at queue numbers least flags eq adaptiv
     }
 
 -- the cut of an entry lies within the bounds
-pub at_within : {Cause : Type 0} (alike : ℕ → ℕ → ℕ → Type 0) (asks : (ℕ → ℕ) → List ℕ → Type 0) (judged : (ℕ → ℕ) → Option Cause → Type 0) (low high : ℕ → ℕ) (lines at : ℕ)
+pub at_within : {Cause : Type 0} (alike : Question → ℕ → ℕ → Bool) (asks : (ℕ → ℕ) → List Question → Type 0) (judged : (ℕ → ℕ) → Option Cause → Type 0) (low high : ℕ → ℕ) (lines at : ℕ)
     (queue : List Entry) (numbers : List ℕ) (least : Option Cause) (flags : List Bool) → IsEquivalence alike → IsAdaptive alike asks → at < length queue →
     IsAt alike asks judged low high lines at queue numbers least flags → IsWithin low high (cut_at low queue at)
 at_within alike asks judged low high lines at queue numbers least flags eq adaptive less o =
@@ -484,14 +483,14 @@ at_within alike asks judged low high lines at queue numbers least flags eq adapt
     subst (IsWithin low high) (o.opening.nodes.cuts at less) (all_at (IsWithin low high) (cuts_of (o.done ++ o.left)) at low (omega (arith, less, s)) apart.each)
 
 -- no entry past the queue's end is worked
-pub at_most : {Cause : Type 0} (alike : ℕ → ℕ → ℕ → Type 0) (asks : (ℕ → ℕ) → List ℕ → Type 0) (judged : (ℕ → ℕ) → Option Cause → Type 0) (low high : ℕ → ℕ) (lines at : ℕ)
+pub at_most : {Cause : Type 0} (alike : Question → ℕ → ℕ → Bool) (asks : (ℕ → ℕ) → List Question → Type 0) (judged : (ℕ → ℕ) → Option Cause → Type 0) (low high : ℕ → ℕ) (lines at : ℕ)
     (queue : List Entry) (numbers : List ℕ) (least : Option Cause) (flags : List Bool) → IsAt alike asks judged low high lines at queue numbers least flags → at ≤ length queue
 at_most alike asks judged low high lines at queue numbers least flags o =
     let n = node_count o.done o.left in
     let s = o.opening.nodes.same in
     let z = o.opening.nodes.size in omega (arith, n, s, z)
 
-pub at_over : {Cause : Type 0} (alike : ℕ → ℕ → ℕ → Type 0) (asks : (ℕ → ℕ) → List ℕ → Type 0) (judged : (ℕ → ℕ) → Option Cause → Type 0) (low high : ℕ → ℕ) (lines at limit : ℕ)
+pub at_over : {Cause : Type 0} (alike : Question → ℕ → ℕ → Bool) (asks : (ℕ → ℕ) → List Question → Type 0) (judged : (ℕ → ℕ) → Option Cause → Type 0) (low high : ℕ → ℕ) (lines at limit : ℕ)
     (queue : List Entry) (numbers : List ℕ) (least : Option Cause) (flags : List Bool) → IsEquivalence alike → IsAdaptive alike asks → limit < length queue →
     IsAt alike asks judged low high lines at queue numbers least flags → AreOver alike asks low high limit
 at_over alike asks judged low high lines at limit queue numbers least flags eq adaptive less o = record {
@@ -505,14 +504,14 @@ none_left : (done left : List Node) (at n : ℕ) → length done ≡ at → leng
 none_left done [] at n e s le = refl
 none_left done (v ∷ left) at n e s le = let k = node_count done (v ∷ left) in absurd (omega (arith, e, s, le, k))
 
-pub at_end : {Cause : Type 0} (alike : ℕ → ℕ → ℕ → Type 0) (asks : (ℕ → ℕ) → List ℕ → Type 0) (judged : (ℕ → ℕ) → Option Cause → Type 0) (low high : ℕ → ℕ) (lines at : ℕ)
+pub at_end : {Cause : Type 0} (alike : Question → ℕ → ℕ → Bool) (asks : (ℕ → ℕ) → List Question → Type 0) (judged : (ℕ → ℕ) → Option Cause → Type 0) (low high : ℕ → ℕ) (lines at : ℕ)
     (queue : List Entry) (numbers : List ℕ) (least : Option Cause) (flags : List Bool) → length queue ≤ at →
     (o : IsAt alike asks judged low high lines at queue numbers least flags) → (k : ℕ → ℕ) → IsWithin low high k → Covers alike k o.done
 at_end alike asks judged low high lines at queue numbers least flags le o k w =
     let none : o.left ≡ [] = none_left o.done o.left at (length queue) o.opening.nodes.size o.opening.nodes.same le in
     subst (λ (vs : List Node). Covers alike k vs) (ap (λ (vs : List Node). o.done ++ vs) none ∙ append-nil o.done) (o.opening.nodes.split.covers k w)
 
-pub at_few : {Cause : Type 0} (alike : ℕ → ℕ → ℕ → Type 0) (asks : (ℕ → ℕ) → List ℕ → Type 0) (judged : (ℕ → ℕ) → Option Cause → Type 0) (low high : ℕ → ℕ) (lines at limit : ℕ)
+pub at_few : {Cause : Type 0} (alike : Question → ℕ → ℕ → Bool) (asks : (ℕ → ℕ) → List Question → Type 0) (judged : (ℕ → ℕ) → Option Cause → Type 0) (low high : ℕ → ℕ) (lines at limit : ℕ)
     (queue : List Entry) (numbers : List ℕ) (least : Option Cause) (flags : List Bool) → IsEquivalence alike → IsAdaptive alike asks → IsShared alike asks → length queue ≤ at → length queue ≤ limit →
     IsAt alike asks judged low high lines at queue numbers least flags → ¬ AreOver alike asks low high limit
 at_few alike asks judged low high lines at limit queue numbers least flags eq adaptive shared le few o =
@@ -523,16 +522,16 @@ at_few alike asks judged low high lines at limit queue numbers least flags eq ad
     (λ k w. shared_of alike asks low high k o.done shared o.opening.nodes.split.finished (at_end alike asks judged low high lines at queue numbers least flags le o k w))
     (omega (arith, n, m, s, few))
 
-pub at_pass : {Cause : Type 0} (alike : ℕ → ℕ → ℕ → Type 0) (asks : (ℕ → ℕ) → List ℕ → Type 0) (judged : (ℕ → ℕ) → Option Cause → Type 0) (low high : ℕ → ℕ) (lines at : ℕ)
+pub at_pass : {Cause : Type 0} (alike : Question → ℕ → ℕ → Bool) (asks : (ℕ → ℕ) → List Question → Type 0) (judged : (ℕ → ℕ) → Option Cause → Type 0) (low high : ℕ → ℕ) (lines at : ℕ)
     (queue : List Entry) (numbers : List ℕ) (flags : List Bool) →
-    ((c k : ℕ → ℕ) (ls : List ℕ) (found : Option Cause) → asks c ls → Agree alike k c ls → judged c found → judged k found) → length queue ≤ at →
+    ((c k : ℕ → ℕ) (qs : List Question) (found : Option Cause) → asks c qs → Agree alike k c qs → judged c found → judged k found) → length queue ≤ at →
     IsAt alike asks judged low high lines at queue numbers None flags → (k : ℕ → ℕ) → IsWithin low high k → judged k None
 at_pass alike asks judged low high lines at queue numbers flags branchwise le o k w =
     pass_of alike asks judged low high k o.done branchwise o.opening.nodes.split.finished o.opening.best (at_end alike asks judged low high lines at queue numbers None flags le o k w)
 
-pub at_bad : {Cause : Type 0} (alike : ℕ → ℕ → ℕ → Type 0) (asks : (ℕ → ℕ) → List ℕ → Type 0) (judged : (ℕ → ℕ) → Option Cause → Type 0) (low high : ℕ → ℕ) (lines at : ℕ)
+pub at_bad : {Cause : Type 0} (alike : Question → ℕ → ℕ → Bool) (asks : (ℕ → ℕ) → List Question → Type 0) (judged : (ℕ → ℕ) → Option Cause → Type 0) (low high : ℕ → ℕ) (lines at : ℕ)
     (queue : List Entry) (numbers : List ℕ) (cause : Cause) (flags : List Bool) →
-    ((c k : ℕ → ℕ) (ls : List ℕ) (found : Option Cause) → asks c ls → Agree alike k c ls → judged c found → judged k found) → length queue ≤ at →
+    ((c k : ℕ → ℕ) (qs : List Question) (found : Option Cause) → asks c qs → Agree alike k c qs → judged c found → judged k found) → length queue ≤ at →
     IsAt alike asks judged low high lines at queue numbers (Some cause) flags → IsLeastBad low high judged (number_over low numbers) cause
 at_bad alike asks judged low high lines at queue numbers cause flags branchwise le o = record {
   within = o.opening.best.0;
@@ -541,26 +540,26 @@ at_bad alike asks judged low high lines at queue numbers cause flags branchwise 
       (at_end alike asks judged low high lines at queue numbers (Some cause) flags le o k w);
 }
 
-covered_asked : (alike : ℕ → ℕ → ℕ → Type 0) (asks : (ℕ → ℕ) → List ℕ → Type 0) (low high k : ℕ → ℕ) (ls : List ℕ) (flags : List Bool) (vs : List Node) → IsAdaptive alike asks →
+covered_asked : (alike : Question → ℕ → ℕ → Bool) (asks : (ℕ → ℕ) → List Question → Type 0) (low high k : ℕ → ℕ) (ls : List Question) (flags : List Bool) (vs : List Node) → IsAdaptive alike asks →
     AllByRecursion (IsFinished alike asks low high) vs → AllByRecursion (λ v. AreFlagged flags v.decided) vs → asks k ls → Covers alike k vs → AreFlagged flags ls
 covered_asked alike asks low high k ls flags [] a f g h c = absurd c
 covered_asked alike asks low high k ls flags (v ∷ vs) a f g h (inl c) =
-    subst (λ (xs : List ℕ). AreFlagged flags xs) (sym (asked_same alike asks v.numbers k v.decided ls a f.0.asked h c)) g.0
+    subst (λ (xs : List Question). AreFlagged flags xs) (sym (asked_same alike asks v.numbers k v.decided ls a f.0.asked h c)) g.0
 covered_asked alike asks low high k ls flags (v ∷ vs) a f g h (inr c) = covered_asked alike asks low high k ls flags vs a f.1 g.1 h c
 
-pub at_asked : {Cause : Type 0} (alike : ℕ → ℕ → ℕ → Type 0) (asks : (ℕ → ℕ) → List ℕ → Type 0) (judged : (ℕ → ℕ) → Option Cause → Type 0) (low high : ℕ → ℕ) (lines at : ℕ)
+pub at_asked : {Cause : Type 0} (alike : Question → ℕ → ℕ → Bool) (asks : (ℕ → ℕ) → List Question → Type 0) (judged : (ℕ → ℕ) → Option Cause → Type 0) (low high : ℕ → ℕ) (lines at : ℕ)
     (queue : List Entry) (numbers : List ℕ) (least : Option Cause) (flags : List Bool) → IsAdaptive alike asks → length queue ≤ at →
-    IsAt alike asks judged low high lines at queue numbers least flags → (k : ℕ → ℕ) → IsWithin low high k → (ls : List ℕ) → asks k ls → AreFlagged flags ls
+    IsAt alike asks judged low high lines at queue numbers least flags → (k : ℕ → ℕ) → IsWithin low high k → (ls : List Question) → asks k ls → AreFlagged flags ls
 at_asked alike asks judged low high lines at queue numbers least flags adaptive le o k w ls h =
     covered_asked alike asks low high k ls flags o.done adaptive o.opening.nodes.split.finished o.opening.asked h (at_end alike asks judged low high lines at queue numbers least flags le o k w)
 
-decided_asked : (alike : ℕ → ℕ → ℕ → Type 0) (asks : (ℕ → ℕ) → List ℕ → Type 0) (low high : ℕ → ℕ) (line : ℕ) (vs : List Node) →
+decided_asked : (alike : Question → ℕ → ℕ → Bool) (asks : (ℕ → ℕ) → List Question → Type 0) (low high : ℕ → ℕ) (line : ℕ) (vs : List Node) →
     AllByRecursion (IsFinished alike asks low high) vs → SomeDecides line vs → IsAsked asks low high line
 decided_asked alike asks low high line [] f d = absurd d
-decided_asked alike asks low high line (v ∷ vs) f (inl here) = record { cut = v.numbers; lines = v.decided; within = f.0.within; asked = f.0.asked; among = here }
+decided_asked alike asks low high line (v ∷ vs) f (inl here) = record { cut = v.numbers; questions = v.decided; within = f.0.within; asked = f.0.asked; among = here }
 decided_asked alike asks low high line (v ∷ vs) f (inr d) = decided_asked alike asks low high line vs f.1 d
 
-pub at_only : {Cause : Type 0} (alike : ℕ → ℕ → ℕ → Type 0) (asks : (ℕ → ℕ) → List ℕ → Type 0) (judged : (ℕ → ℕ) → Option Cause → Type 0) (low high : ℕ → ℕ) (lines at : ℕ)
+pub at_only : {Cause : Type 0} (alike : Question → ℕ → ℕ → Bool) (asks : (ℕ → ℕ) → List Question → Type 0) (judged : (ℕ → ℕ) → Option Cause → Type 0) (low high : ℕ → ℕ) (lines at : ℕ)
     (queue : List Entry) (numbers : List ℕ) (least : Option Cause) (flags : List Bool) → IsAt alike asks judged low high lines at queue numbers least flags →
     (l : ℕ) → is_flagged l flags ≡ true → IsAsked asks low high l
 at_only alike asks judged low high lines at queue numbers least flags o l t =

@@ -8,10 +8,9 @@ use Rattle.crash_image.specs.Totals.{IsImageSum, images_between, sum_of}
 use Rattle.store_trace.specs.Cut.{cut_count}
 use Rattle.store_trace.specs.History.{at_moment}
 use Rattle.store_trace.specs.declared.event.Event.{Event}
-use Rattle.verdict.specs.Progress.{HasHeard, IsTold}
-use Rattle.verdict.specs.Verdicts.{IsVerdictBetween, PassBetween}
+use Rattle.verdict.specs.Progress.{HasHeard}
+use Rattle.verdict.specs.Verdicts.{IsVerdictBetween}
 use Rattle.verdict.specs.declared.moment_verdict.verdict.MomentVerdict.{MomentVerdict}
-use Rattle.verdict.specs.declared.moment_verdict.verdict.Verdict.{Verdict}
 use Rattle.verdict.specs.declared.moment_verdict.verdict.Verdict.TheVariants as runs
 use Rattle.verdict.proofs.Parts.{verdicts_join}
 

@@ -1,30 +1,43 @@
--- Branches: classes of cuts of whose images recovery asks the same lines, and finds these lines alike.
--- A cut is a number of stores for each line, from the line's lowest number to its highest. `asks c lines` says that recovery asks
--- these lines of the image of the cut c, in this order; a line may stand in the list more than once. `alike l n m` says that line l
--- is the same for recovery after n of its stores as after m.
+-- Branches: classes of cuts of whose images recovery asks the same bytes, and finds them alike.
+-- A cut is a number of stores for each line, from the line's lowest number to its highest. A question is of some bytes of a line.
+-- `asks c questions` says that recovery asks these of the image of the cut c, in this order; a line may be asked more than once, and each
+-- question names just the bytes that it asks itself. `alike q n m` says whether the bytes that q asks are the same for recovery after n of
+-- the line's stores as after m.
 -- This project's own: crash images (Vinter, USENIX ATC 2022) are told apart only by what recovery looks at.
-use Rattle.std.specs.Prelude.{◌≡◌, ℕ, ◌+◌, ◌≤◌, ◌<◌, true, Option, Some, None, List, length, take}
+use Rattle.std.specs.Prelude.{◌≡◌, ℕ, ◌+◌, ◌-◌, ◌≤◌, ◌<◌, ◌==◌, ◌||◌, ◌&&◌, Bool, true, false, not, if◌then◌else◌, zero, suc, Option, Some, None, List, [], ◌∷◌, length, take}
 use Rattle.std.specs.List.{AllByRecursion, AllPairs}
-use Rattle.verdict.specs.Numbers.{has}
+use Rattle.verdict.specs.declared.branches.question.Question.{Question}
 
--- a line is the same after two numbers of its stores just if the numbers are the same
-abbrev pub SameNumber : ℕ → ℕ → ℕ → Type 0
-SameNumber l n m = n ≡ m
+abbrev pub question : ℕ → ℕ → Question
+question line bytes = record { line = line; bytes = bytes }
 
--- of each line being alike is an equivalence of its numbers
-pub record IsEquivalence (alike : ℕ → ℕ → ℕ → Type 0) : Type 0 where
-  pub itself : (l n : ℕ) → alike l n n
-  pub back : (l n m : ℕ) → alike l n m → alike l m n
-  pub on : (l n m o : ℕ) → alike l n m → alike l m o → alike l n o
+-- where bytes of a line are asked, it is the same after two numbers of its stores just if the numbers are the same
+abbrev pub same_number : Question → ℕ → ℕ → Bool
+same_number q n m = (q.bytes == 0) || (n == m)
 
--- the last number below n that is alike to it, if there is one
-abbrev pub IsLastAlike : (ℕ → ℕ → Type 0) → ℕ → Option ℕ → Type 0
-IsLastAlike alike n None = (m : ℕ) → m < n → ¬ alike m n
-IsLastAlike alike n (Some last) = (last < n) × alike last n × ((m : ℕ) → last < m → m < n → ¬ alike m n)
+-- being alike for a question is an equivalence of numbers
+pub record IsEquivalence (alike : Question → ℕ → ℕ → Bool) : Type 0 where
+  pub itself : (q : Question) (n : ℕ) → alike q n n ≡ true
+  pub back : (q : Question) (n m : ℕ) → alike q n m ≡ true → alike q m n ≡ true
+  pub on : (q : Question) (n m o : ℕ) → alike q n m ≡ true → alike q m o ≡ true → alike q n o ≡ true
 
--- two cuts give these lines numbers that are alike
-abbrev pub Agree : (ℕ → ℕ → ℕ → Type 0) → (ℕ → ℕ) → (ℕ → ℕ) → List ℕ → Type 0
-Agree alike k c lines = AllByRecursion (λ l. alike l (k l) (c l)) lines
+-- none of so many numbers from one on has it
+abbrev pub none_of : (ℕ → Bool) → ℕ → ℕ → Bool
+none_of holds n zero = true
+none_of holds n (suc more) = not (holds n) && none_of holds (n + 1) more
+
+-- no lower number from the floor on is alike to this one
+abbrev pub is_first : (ℕ → ℕ → Bool) → ℕ → ℕ → Bool
+is_first alike low n = none_of (λ m. alike m n) low (n - low)
+
+-- a line is alike after two numbers of its stores in all that these questions ask of it
+abbrev pub all_alike : (Question → ℕ → ℕ → Bool) → ℕ → List Question → ℕ → ℕ → Bool
+all_alike alike l [] n m = true
+all_alike alike l (q ∷ questions) n m = (if q.line == l then alike q n m else true) && all_alike alike l questions n m
+
+-- two cuts give the lines of these questions numbers that are alike
+abbrev pub Agree : (Question → ℕ → ℕ → Bool) → (ℕ → ℕ) → (ℕ → ℕ) → List Question → Type 0
+Agree alike k c questions = AllByRecursion (λ q. alike q (k q.line) (c q.line) ≡ true) questions
 
 -- each line stands within its bounds
 pub record IsWithin (low high k : ℕ → ℕ) : Type 0 where
@@ -32,36 +45,41 @@ pub record IsWithin (low high k : ℕ → ℕ) : Type 0 where
   pub most : (l : ℕ) → k l ≤ high l
 
 -- what was asked so far, and what was found there, decides what is asked next
-abbrev pub IsAdaptive : (ℕ → ℕ → ℕ → Type 0) → ((ℕ → ℕ) → List ℕ → Type 0) → Type 0
-IsAdaptive alike asks = (c k : ℕ → ℕ) (ls ms : List ℕ) (count : ℕ) → asks c ls → asks k ms → Agree alike k c (take count ls) →
-    take (count + 1) ms ≡ take (count + 1) ls
+abbrev pub IsAdaptive : (Question → ℕ → ℕ → Bool) → ((ℕ → ℕ) → List Question → Type 0) → Type 0
+IsAdaptive alike asks = (c k : ℕ → ℕ) (qs rs : List Question) (count : ℕ) → asks c qs → asks k rs → Agree alike k c (take count qs) →
+    take (count + 1) rs ≡ take (count + 1) qs
 
 -- of a cut that agrees with another one on all that is asked of that one the same is asked
-abbrev pub IsShared : (ℕ → ℕ → ℕ → Type 0) → ((ℕ → ℕ) → List ℕ → Type 0) → Type 0
-IsShared alike asks = (c k : ℕ → ℕ) (lines : List ℕ) → asks c lines → Agree alike k c lines → asks k lines
+abbrev pub IsShared : (Question → ℕ → ℕ → Bool) → ((ℕ → ℕ) → List Question → Type 0) → Type 0
+IsShared alike asks = (c k : ℕ → ℕ) (questions : List Question) → asks c questions → Agree alike k c questions → asks k questions
+
+-- whether one of the questions is of the line
+abbrev pub has_line : ℕ → List Question → Bool
+has_line l [] = false
+has_line l (q ∷ questions) = (q.line == l) || has_line l questions
 
 -- recovery asks the line of the image of some cut
-pub record IsAsked (asks : (ℕ → ℕ) → List ℕ → Type 0) (low high : ℕ → ℕ) (line : ℕ) : Type 0 where
+pub record IsAsked (asks : (ℕ → ℕ) → List Question → Type 0) (low high : ℕ → ℕ) (line : ℕ) : Type 0 where
   pub cut : ℕ → ℕ
-  pub lines : List ℕ
+  pub questions : List Question
   pub within : IsWithin low high cut
-  pub asked : asks cut lines
-  pub among : has line lines ≡ true
+  pub asked : asks cut questions
+  pub among : has_line line questions ≡ true
 
--- recovery asks the same lines of the images of two cuts, and finds these lines alike
-pub record ShareBranch (alike : ℕ → ℕ → ℕ → Type 0) (asks : (ℕ → ℕ) → List ℕ → Type 0) (c k : ℕ → ℕ) : Type 0 where
-  pub lines : List ℕ
-  pub of_one : asks c lines
-  pub of_other : asks k lines
-  pub agree : Agree alike k c lines
+-- recovery asks the same of the images of two cuts, and finds it alike
+pub record ShareBranch (alike : Question → ℕ → ℕ → Bool) (asks : (ℕ → ℕ) → List Question → Type 0) (c k : ℕ → ℕ) : Type 0 where
+  pub questions : List Question
+  pub of_one : asks c questions
+  pub of_other : asks k questions
+  pub agree : Agree alike k c questions
 
 -- cuts of which no two share a branch
-pub record AreApart (alike : ℕ → ℕ → ℕ → Type 0) (asks : (ℕ → ℕ) → List ℕ → Type 0) (low high : ℕ → ℕ) (cuts : List (ℕ → ℕ)) : Type 0 where
+pub record AreApart (alike : Question → ℕ → ℕ → Bool) (asks : (ℕ → ℕ) → List Question → Type 0) (low high : ℕ → ℕ) (cuts : List (ℕ → ℕ)) : Type 0 where
   pub each : AllByRecursion (IsWithin low high) cuts
   pub apart : AllPairs (λ c k. ¬ ShareBranch alike asks c k) cuts
 
 -- there are over so many branches: more cuts than that, of which no two share one
-pub record AreOver (alike : ℕ → ℕ → ℕ → Type 0) (asks : (ℕ → ℕ) → List ℕ → Type 0) (low high : ℕ → ℕ) (limit : ℕ) : Type 0 where
+pub record AreOver (alike : Question → ℕ → ℕ → Bool) (asks : (ℕ → ℕ) → List Question → Type 0) (low high : ℕ → ℕ) (limit : ℕ) : Type 0 where
   pub cuts : List (ℕ → ℕ)
   pub more : limit < length cuts
   pub apart : AreApart alike asks low high cuts

@@ -10,4 +10,5 @@ pub mod Least
 pub mod Pieces
 pub mod Openings
 pub mod CutImages
+pub mod Bytes
 pub mod Progress

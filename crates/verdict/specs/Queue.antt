@@ -1,7 +1,8 @@
 -- The queue of the branches that are to be opened. An entry stands for a cut: that of its parent, which stands before it in the
 -- queue, with one line raised. The first entry raises none.
-use Rattle.std.specs.Prelude.{ℕ, zero, suc, ◌+◌, ◌-◌, ◌<◌, ◌==◌, nat_lt, if◌then◌else◌, Bool, true, Option, Some, None, List, [], ◌∷◌, ◌++◌, length, slice_index_or}
-use Rattle.verdict.specs.Numbers.{has}
+use Rattle.std.specs.Prelude.{ℕ, zero, suc, ◌+◌, ◌-◌, ◌<◌, ◌==◌, ◌&&◌, if◌then◌else◌, bit_or, Bool, List, [], ◌∷◌, ◌++◌, length, slice_index_or}
+use Rattle.verdict.specs.Branches.{all_alike, is_first, question}
+use Rattle.verdict.specs.declared.branches.question.Question.{Question}
 use Rattle.verdict.specs.declared.branches.queue.Entry.{Entry}
 
 abbrev pub entry : ℕ → ℕ → ℕ → ℕ → Entry
@@ -32,10 +33,15 @@ pub record IsTree (lines : ℕ) (entries : List Entry) : Type 0 where
 abbrev pub AreRaised : (ℕ → ℕ) → List Entry → Type 0
 AreRaised low entries = (i : ℕ) → 0 < i → i < length entries → low (entry_at entries i).line < (entry_at entries i).number
 
--- Whether a number of a line is new, by the last lower number that is alike to it: none from the floor on is.
-abbrev pub is_new : ℕ → Option ℕ → Bool
-is_new floor None = true
-is_new floor (Some last) = nat_lt last floor
+-- Whether a number of a line is new where a question is asked of a cut behind those seen: in all that they ask the line is as the cut has
+-- it, and with this question no lower number from the floor on is as this one.
+abbrev pub is_new : (Question → ℕ → ℕ → Bool) → (ℕ → ℕ) → (ℕ → ℕ) → List Question → Question → ℕ → Bool
+is_new alike low c seen q n = all_alike alike q.line seen n (c q.line) && is_first (all_alike alike q.line (seen ++ q ∷ [])) (low q.line) n
+
+-- the same, by the bytes of the line that were asked before, and its own number in the cut
+abbrev pub is_new_behind : (Question → ℕ → ℕ → Bool) → (ℕ → ℕ) → Question → ℕ → ℕ → ℕ → Bool
+is_new_behind alike low q before own n =
+    alike (question q.line before) n own && is_first (alike (question q.line (bit_or before q.bytes))) (low q.line) n
 
 -- the entries with a line at the new ones of so many numbers from n upwards
 abbrev pub siblings : (ℕ → Bool) → ℕ → ℕ → ℕ → ℕ → ℕ → List Entry
@@ -43,10 +49,10 @@ siblings new parent decided l n zero = []
 siblings new parent decided l n (suc more) =
     if new n then entry parent decided l n ∷ siblings new parent decided l (n + 1) more else siblings new parent decided l (n + 1) more
 
--- What branches off where the rest is asked after the lines seen: each line that wasn't seen, at each new number above its floor.
--- Decided are then the lines up to it.
-abbrev pub branching : ℕ → (ℕ → ℕ → Option ℕ) → (ℕ → ℕ) → (ℕ → ℕ) → List ℕ → List ℕ → List Entry
-branching parent last low high seen [] = []
-branching parent last low high seen (l ∷ ls) =
-    (if has l seen then [] else siblings (λ n. is_new (low l) (last l n)) parent (length seen + 1) l (low l + 1) (high l - low l))
-    ++ branching parent last low high (seen ++ l ∷ []) ls
+-- What branches off a cut where the rest is asked after the questions seen: the line of each question, at each new number above its own.
+-- Decided are then the questions up to it.
+abbrev pub branching : ℕ → (Question → ℕ → ℕ → Bool) → (ℕ → ℕ) → (ℕ → ℕ) → (ℕ → ℕ) → List Question → List Question → List Entry
+branching parent alike low high c seen [] = []
+branching parent alike low high c seen (q ∷ qs) =
+    siblings (is_new alike low c seen q) parent (length seen + 1) q.line (c q.line + 1) (high q.line - c q.line)
+    ++ branching parent alike low high c (seen ++ q ∷ []) qs

@@ -1,7 +1,8 @@
--- The verdicts on a moment and on a row of moments, whatever judges an image. Cuts of whose images recovery asks the same lines, and
+-- The verdicts on a moment and on a row of moments, whatever judges an image. Cuts of whose images recovery asks the same bytes, and
 -- finds them alike, share a branch; a moment with over 65,536 branches isn't judged.
--- `asks c lines` says which lines recovery asks of the image of the cut c, `alike l n m` that line l is the same for it after n of its
--- stores as after m, and `found c cause` what is found of the image: its cause where it is bad, and None where it is good.
+-- `asks c questions` says which bytes recovery asks of the image of the cut c, `alike q n m` whether those of question q are the same for
+-- it after n of the line's stores as after m, and `found c cause` what is found of the image: its cause where it is bad, and None where it
+-- is good.
 -- Source: Vinter, USENIX ATC 2022: every crash image is recovered, and the state that shows is judged.
 use Rattle.std.specs.Prelude.{◌≡◌, ℕ, ◌+◌, ◌<◌, ◌≤◌, Bool, true, List, Option, Some, None}
 use Rattle.std.specs.List.{AllByRecursion}
@@ -14,19 +15,20 @@ use Rattle.store_trace.specs.Floor.{floor}
 use Rattle.store_trace.specs.Stores.{stores}
 use Rattle.store_trace.specs.declared.crash_model.step.PersistenceStep.{PersistenceStep}
 use Rattle.store_trace.specs.declared.event.Event.{Event}
+use Rattle.verdict.specs.declared.branches.question.Question.{Question}
 use Rattle.verdict.specs.declared.moment_verdict.verdict.MomentVerdict.{MomentVerdict}
 use Rattle.verdict.specs.declared.moment_verdict.verdict.MomentVerdict.TheVariants as moments
 use Rattle.verdict.specs.declared.moment_verdict.verdict.Verdict.{Verdict}
 use Rattle.verdict.specs.declared.moment_verdict.verdict.Verdict.TheVariants as runs
 
 -- there are over 65,536 branches after these persistence steps
-abbrev pub HasManyBranches : (ℕ → ℕ → ℕ → Type 0) → ((ℕ → ℕ) → List ℕ → Type 0) → List PersistenceStep → Type 0
+abbrev pub HasManyBranches : (Question → ℕ → ℕ → Bool) → ((ℕ → ℕ) → List Question → Type 0) → List PersistenceStep → Type 0
 HasManyBranches alike asks p = AreOver alike asks (λ l. floor l p) (λ l. stores l p) 65536
 
 -- every line that recovery asks of an image of these steps is flagged
-abbrev pub AreFlagged : ((ℕ → ℕ) → List ℕ → Type 0) → List PersistenceStep → List Bool → Type 0
-AreFlagged asks p flags = (k : ℕ → ℕ) → IsWithin (λ l. floor l p) (λ l. stores l p) k → (lines : List ℕ) → asks k lines →
-    AllByRecursion (λ l. is_flagged l flags ≡ true) lines
+abbrev pub AreFlagged : ((ℕ → ℕ) → List Question → Type 0) → List PersistenceStep → List Bool → Type 0
+AreFlagged asks p flags = (k : ℕ → ℕ) → IsWithin (λ l. floor l p) (λ l. stores l p) k → (questions : List Question) → asks k questions →
+    AllByRecursion (λ q. is_flagged q.line flags ≡ true) questions
 
 -- the image of every cut is good
 abbrev pub AreGood : {Cause : Type 0} → ((ℕ → ℕ) → Option Cause → Type 0) → List PersistenceStep → Type 0
@@ -39,7 +41,7 @@ pub record IsLeastBad {Cause : Type 0} (found : (ℕ → ℕ) → Option Cause �
   pub least : (other : List (ℕ × ℕ)) → IsCut p other → IsBefore other cut → found (number_in other) None
 
 -- the verdict on the moment after these persistence steps
-abbrev pub IsMomentVerdict : {Cause : Type 0} → (ℕ → ℕ → ℕ → Type 0) → ((ℕ → ℕ) → List ℕ → Type 0) → ((ℕ → ℕ) → Option Cause → Type 0) →
+abbrev pub IsMomentVerdict : {Cause : Type 0} → (Question → ℕ → ℕ → Bool) → ((ℕ → ℕ) → List Question → Type 0) → ((ℕ → ℕ) → Option Cause → Type 0) →
     List PersistenceStep → MomentVerdict Cause → Type 0
 IsMomentVerdict alike asks found p moments.Pass = (¬ HasManyBranches alike asks p) × AreGood found p
 IsMomentVerdict alike asks found p (moments.Fail name cause) = (¬ HasManyBranches alike asks p)

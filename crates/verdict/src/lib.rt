@@ -14,7 +14,8 @@ mod rows;
 mod stretches;
 
 pub use branches::{
-    Asking, Opened, Opener, Recovery, floor_adds_no_branches, store_adds_no_branches,
+    Asking, LineBytes, Opened, Opener, Question, Recovery, floor_adds_no_branches,
+    store_adds_no_branches,
 };
 pub use cut_image::CutImage;
 pub use moment_verdict::{

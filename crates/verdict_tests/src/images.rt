@@ -3,6 +3,7 @@
 //! them. The crate has tests alone.
 
 mod branches_opened;
+mod bytes_asked;
 mod events;
 mod image_names;
 mod images;

@@ -34,28 +34,29 @@ static ROUTINES: [(&[u8], Expected); 4] = [
         COUNT,
         Expected {
             found: Ok(b"\x05"),
-            lines: &[],
+            questions: &[],
         },
     ),
     (
         STORE,
         Expected {
             found: Ok(b"\x09"),
-            lines: &[0, 0],
+            // the second load is of bytes that it has stored
+            questions: &[(0, 0xff)],
         },
     ),
     (
         PATCH,
         Expected {
             found: Err(Cause::Exit(7)),
-            lines: &[],
+            questions: &[],
         },
     ),
     (
         PATCH_UNSEEN,
         Expected {
             found: Err(Cause::Exit(3)),
-            lines: &[],
+            questions: &[],
         },
     ),
 ];
@@ -114,12 +115,12 @@ fn runs_leave_nothing(rt: HostRuntime) -> Result<(), Fail> {
 
 const OLD: Expected = Expected {
     found: Ok(b"\x05\0\0\0\0\0\0\0\x05\0\0\0\0\0\0\0"),
-    lines: &[0, 1, 1],
+    questions: &[(0, 0xff), (1, 0xff), (1, 0xff00)],
 };
 
 const NEW: Expected = Expected {
     found: Ok(b"\x06\0\0\0\0\0\0\0\x07\0\0\0\0\0\0\0"),
-    lines: &[0, 2, 2],
+    questions: &[(0, 0xff), (2, 0xff), (2, 0xff00)],
 };
 
 /// Whether a routine reads each of two images, in turn, as it is.

@@ -1,4 +1,4 @@
-//! What routines answer, or why they have no answer, and the lines that they load.
+//! What routines answer, or why they have no answer, and the bytes of lines that they ask.
 
 ghost use Rattle.std.specs.Prelude.{◌≡◌};
 
@@ -44,14 +44,82 @@ const WIDE: &[u8] =
     b"lui t0, 16\nsd a1, 1024(t0)\nlui t1, 256\nli t2, 7\nmv t3, a1\nloop: ld t4, 0(t3)\nsd t2, 0(t3)\naddi t3, t3, 64\n\
     addi t2, t2, -1\nbnez t2, loop\nsb t3, 8(t1)\nmv a1, t1\nli a2, 9\nli a7, 93\nli a0, 0\necall\n";
 
-static CASES: [Case; 17] = [
+/// Loads a byte that it has stored: it asks nothing.
+const OWN: &[u8] =
+    b"li t0, 7\nsb t0, 3(a1)\nlb t1, 3(a1)\nlui a1, 256\nsb t1, 0(a1)\nli a2, 1\nli a7, 93\nli a0, 0\necall\n";
+
+/// Loads eight bytes of which it has stored the lower four: it asks the other four.
+const HALF: &[u8] =
+    b"li t0, 7\nsw t0, 8(a1)\nld t1, 8(a1)\nlui a1, 256\nsd t1, 0(a1)\nli a2, 8\nli a7, 93\nli a0, 0\necall\n";
+
+/// Stores a byte of a word and loads the word twice; then the last word of the line before, and the last bytes and the second four of lines.
+const AGAIN: &[u8] =
+    b"li t0, 7\nsb t0, 66(a1)\nld t1, 64(a1)\nld t1, 64(a1)\nld t2, 56(a1)\nlbu t2, 127(a1)\nlh t2, 126(a1)\nlw t2, 4(a1)\n\
+    lui a1, 256\nsd t1, 0(a1)\nli a2, 8\nli a7, 93\nli a0, 0\necall\n";
+
+/// An SC that fails stores nothing. An atomic operation asks what wasn't stored of its bytes, and then has stored all of them.
+const UNSTORED: &[u8] =
+    b"sc.d t3, a1, (a1)\nld t1, 0(a1)\naddi t4, a1, 8\nsb t1, 1(t4)\namoadd.d t1, t1, (t4)\nld t1, 8(a1)\nebreak\n";
+
+static CASES: [Case; 21] = [
+    Case {
+        source: OWN,
+        words: &[],
+        steps: 99,
+        expected: Expected {
+            found: Ok(b"\x07"),
+            questions: &[],
+        },
+    },
+    Case {
+        source: HALF,
+        words: &[(8, 0x9_0000_0005)],
+        steps: 99,
+        expected: Expected {
+            found: Ok(b"\x07\0\0\0\x09\0\0\0"),
+            questions: &[(0, 0xf000)],
+        },
+    },
+    Case {
+        source: AGAIN,
+        words: &[(64, 0x0807_0605_0403_0201)],
+        steps: 99,
+        expected: Expected {
+            found: Ok(b"\x01\x02\x07\x04\x05\x06\x07\x08"),
+            questions: &[
+                (1, 0xfb),
+                (1, 0xfb),
+                (0, 0xff00_0000_0000_0000),
+                (1, 0x8000_0000_0000_0000),
+                (1, 0xc000_0000_0000_0000),
+                (0, 0xf0),
+            ],
+        },
+    },
+    Case {
+        source: UNSTORED,
+        words: &[],
+        steps: 99,
+        expected: Expected {
+            found: Err(Cause::Trap(Trap::Breakpoint)),
+            questions: &[(0, 0xff), (0, 0xfd00)],
+        },
+    },
     Case {
         source: WIDE,
         words: &[],
         steps: 99,
         expected: Expected {
             found: Ok(b"\0\0\0\0\0\0\0\0\xc0"),
-            lines: &[0, 1, 2, 3, 4, 5, 6],
+            questions: &[
+                (0, 0xff),
+                (1, 0xff),
+                (2, 0xff),
+                (3, 0xff),
+                (4, 0xff),
+                (5, 0xff),
+                (6, 0xff),
+            ],
         },
     },
     Case {
@@ -60,7 +128,7 @@ static CASES: [Case; 17] = [
         steps: 11,
         expected: Expected {
             found: Ok(b"\x05\0\0\0\0\0\0\0\x05\0\0\0\0\0\0\0"),
-            lines: &[0, 1, 1],
+            questions: &[(0, 0xff), (1, 0xff), (1, 0xff00)],
         },
     },
     Case {
@@ -69,7 +137,7 @@ static CASES: [Case; 17] = [
         steps: 500,
         expected: Expected {
             found: Ok(b"\x06\0\0\0\0\0\0\0\x07\0\0\0\0\0\0\0"),
-            lines: &[0, 2, 2],
+            questions: &[(0, 0xff), (2, 0xff), (2, 0xff00)],
         },
     },
     Case {
@@ -78,7 +146,7 @@ static CASES: [Case; 17] = [
         steps: 10,
         expected: Expected {
             found: Err(Cause::Running),
-            lines: &[0, 1, 1],
+            questions: &[(0, 0xff), (1, 0xff), (1, 0xff00)],
         },
     },
     Case {
@@ -87,7 +155,7 @@ static CASES: [Case; 17] = [
         steps: 0,
         expected: Expected {
             found: Err(Cause::Running),
-            lines: &[],
+            questions: &[],
         },
     },
     Case {
@@ -96,7 +164,7 @@ static CASES: [Case; 17] = [
         steps: 500,
         expected: Expected {
             found: Err(Cause::Exit(3)),
-            lines: &[0, 0, 0],
+            questions: &[(0, 0xff), (0, 0xff), (0, 0xff00)],
         },
     },
     Case {
@@ -105,7 +173,7 @@ static CASES: [Case; 17] = [
         steps: 500,
         expected: Expected {
             found: Err(Cause::Trap(Trap::Breakpoint)),
-            lines: &[0, 3],
+            questions: &[(0, 0xff), (3, 0xff)],
         },
     },
     Case {
@@ -114,7 +182,7 @@ static CASES: [Case; 17] = [
         steps: 500,
         expected: Expected {
             found: Err(Cause::Running),
-            lines: &[0, 0],
+            questions: &[(0, 0xff), (0, 0xff)],
         },
     },
     Case {
@@ -123,7 +191,7 @@ static CASES: [Case; 17] = [
         steps: 1,
         expected: Expected {
             found: Err(Cause::Trap(Trap::NoInstruction)),
-            lines: &[],
+            questions: &[],
         },
     },
     Case {
@@ -132,7 +200,7 @@ static CASES: [Case; 17] = [
         steps: 131_072,
         expected: Expected {
             found: Err(Cause::Running),
-            lines: &[],
+            questions: &[],
         },
     },
     Case {
@@ -141,7 +209,7 @@ static CASES: [Case; 17] = [
         steps: 131_073,
         expected: Expected {
             found: Err(Cause::Events),
-            lines: &[],
+            questions: &[],
         },
     },
     Case {
@@ -150,7 +218,7 @@ static CASES: [Case; 17] = [
         steps: 9,
         expected: Expected {
             found: Ok(b""),
-            lines: &[],
+            questions: &[],
         },
     },
     Case {
@@ -159,7 +227,7 @@ static CASES: [Case; 17] = [
         steps: 9,
         expected: Expected {
             found: Err(Cause::Exit(255)),
-            lines: &[],
+            questions: &[],
         },
     },
     Case {
@@ -168,7 +236,7 @@ static CASES: [Case; 17] = [
         steps: 9,
         expected: Expected {
             found: Err(Cause::Trap(Trap::OutsideMemory)),
-            lines: &[511],
+            questions: &[(511, 0xff00_0000_0000_0000)],
         },
     },
     Case {
@@ -177,7 +245,7 @@ static CASES: [Case; 17] = [
         steps: 9,
         expected: Expected {
             found: Err(Cause::Trap(Trap::MisalignedAccess)),
-            lines: &[1],
+            questions: &[(1, 0xff)],
         },
     },
     Case {
@@ -186,7 +254,7 @@ static CASES: [Case; 17] = [
         steps: 99,
         expected: Expected {
             found: Ok(b"\0\x01\x07\x01"),
-            lines: &[0, 0],
+            questions: &[(0, 0xff)],
         },
     },
     Case {
@@ -195,7 +263,7 @@ static CASES: [Case; 17] = [
         steps: 99,
         expected: Expected {
             found: Ok(b"\x03\x05\x08\x03"),
-            lines: &[0, 0, 0],
+            questions: &[(0, 0xff)],
         },
     },
 ];

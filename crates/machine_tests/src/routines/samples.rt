@@ -12,11 +12,12 @@ use std::alloc::{AllocError, Global};
 pub(crate) const READ: &[u8] = b"ld t0, 0(a1)\nadd t0, a1, t0\nld t1, 0(t0)\nld t2, 8(t0)\n\
     lui a1, 256\nsd t1, 0(a1)\nsd t2, 8(a1)\nli a2, 16\nli a7, 93\nli a0, 0\necall\n";
 
-/// What a run is to come to, and the lines that it is to load.
+/// What a run is to come to, and what it is to ask: lines of the image, each with the bytes that it loads and hasn't stored itself, the
+/// lowest bit for the first byte.
 #[derive(Clone, Copy)]
 pub(crate) struct Expected {
     pub(crate) found: Result<&'static [u8], Cause>,
-    pub(crate) lines: &'static [u32],
+    pub(crate) questions: &'static [(u32, u64)],
 }
 
 /// The routine of a source, for images of 512 lines; None where there is none.
@@ -51,7 +52,7 @@ fn put(image: &mut Medium, place: u32, word: u64)
     }
 }
 
-/// Whether a run comes to this and loads these lines.
+/// Whether a run comes to this and asks this.
 pub(crate) fn comes_to(
     alloc: Global,
     routine: &mut Routine,
@@ -64,7 +65,15 @@ pub(crate) fn comes_to(
     ensures { routine.new.lines ≡ 512 }
 {
     let found = routine.run(alloc, image, steps)?;
-    Ok(is_found(&found, expected.found) && routine.lines_loaded() == expected.lines)
+    Ok(is_found(&found, expected.found) && has_asked(routine, expected.questions))
+}
+
+/// Whether the last run asked these bytes of these lines, in this order.
+fn has_asked(routine: &Routine, questions: &[(u32, u64)]) -> bool {
+    let asked = routine.asked();
+    let is_same = asked.iter().zip(questions).all(|(question, (line, bytes))| question.line == *line
+        && question.bytes == *bytes);
+    asked.len() == questions.len() && is_same
 }
 
 fn is_found(found: &Result<Answer, Cause>, expected: Result<&[u8], Cause>) -> bool {

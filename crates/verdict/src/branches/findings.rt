@@ -1,9 +1,8 @@
 //! What recovery came to at branches.
 
-ghost use Rattle.std.specs.Prelude.{◌≡◌, ℕ, ◌<◌, ◌++◌, ◌||◌, [], false, length, replicate, IfOk, IsSome, OnOk};
-ghost use Rattle.std.specs.List.{AllByRecursion};
+ghost use Rattle.std.specs.Prelude.{◌≡◌, ℕ, ◌++◌, [], false, length, replicate, IfOk, IsSome, OnOk};
 ghost use Rattle.verdict.specs.Least.{IsLess};
-ghost use Rattle.verdict.specs.Numbers.{has, is_flagged, AreAbove};
+ghost use Rattle.verdict.specs.Numbers.{AreAbove};
 
 use crate::branches::lines::LineSet;
 use crate::branches::numbers::Numbers;
@@ -36,28 +35,24 @@ impl Findings {
         })
     }
 
-    /// Adds what recovery came to at further branches: the least bad cut of them is `numbers`, where one is bad. Answers the cause
-    /// of the least bad cut so far.
+    /// Adds what recovery came to at further branches, but for the lines that it asked: the least bad cut of them is `numbers`, where one
+    /// is bad. Answers the cause of the least bad cut so far.
     pub fn add<Cause: Copy>(
         &mut self,
         numbers: &mut Numbers,
         judged: Option<Cause>,
-        asked: &[u32],
         found: &[Entry],
         least: Option<Cause>,
     ) -> Result<Option<Cause>, AllocError>
-        requires size { length numbers.old ≡ length self.old.least }
-        requires below { AllByRecursion (λ l. l < length self.old.asked) asked.now }
+        requires { length numbers.old ≡ length self.old.least }
         ensures less { IfOk result (λ kept. (low : ℕ → ℕ) → (IsSome judged → AreAbove low numbers.old) → (IsSome least → AreAbove low self.old.least) →
             IsLess low numbers.old judged self.old.least least self.new.least kept) }
-        ensures asked { OnOk result ((l : ℕ) → is_flagged l self.new.asked ≡ is_flagged l self.old.asked || has l asked.now) }
+        ensures asked { self.new.asked ≡ self.old.asked }
         ensures found { OnOk result (self.new.found.items ≡ self.old.found.items ++ found.now) }
         ensures least_size { length self.new.least ≡ length self.old.least }
-        ensures asked_size { length self.new.asked ≡ length self.old.asked }
         ensures cut_size { length numbers.new ≡ length numbers.old }
     {
         let kept = keep_least(numbers, &mut self.least, judged, least);
-        self.asked.insert_all(asked)?;
         self.found.extend_from_slice(found)?;
         Ok(kept)
     }

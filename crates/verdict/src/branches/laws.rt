@@ -1,26 +1,27 @@
 //! What holds of branches from moment to moment: laws, with nothing to run.
 
-ghost use Rattle.std.specs.Prelude.{◌≡◌, ◌≢◌, ℕ, ◌≤◌, List, false};
-ghost use Rattle.verdict.specs.Branches.{AreOver, IsEquivalence, IsShared, IsWithin};
-ghost use Rattle.verdict.specs.Numbers.{has};
+ghost use Rattle.std.specs.Prelude.{◌≡◌, ◌≢◌, ℕ, ◌≤◌, List, true, false};
+ghost use Rattle.verdict.specs.Branches.{AreOver, IsEquivalence, IsShared, IsWithin, has_line};
+ghost use Rattle.verdict.specs.declared.branches.question.Question.{Question};
 
 use std::marker::Brand;
 
-/// Which lines recovery asks of the image of a cut, and at which numbers of stores a line is the same for it.
+/// Which bytes recovery asks of the image of a cut, and at which numbers of stores they are the same for it.
 pub trait Asking {
-    ghost use Rattle.std.specs.Prelude.{ℕ, List};
+    ghost use Rattle.std.specs.Prelude.{ℕ, List, Bool};
+    ghost use Rattle.verdict.specs.declared.branches.question.Question.{Question};
 
-    ghost asks: { (ℕ → ℕ) → List ℕ → Type 0 };
+    ghost asks: { (ℕ → ℕ) → List Question → Type 0 };
 
-    ghost alike: { ℕ → ℕ → ℕ → Type 0 };
+    ghost alike: { Question → ℕ → ℕ → Bool };
 }
 
 impl Asking for Brand {
-    ghost use Rattle.std.specs.Prelude.{ℕ, List};
+    ghost use Rattle.std.specs.Prelude.{true};
 
-    ghost asks = { λ c ls. Unit {0} };
+    ghost asks = { λ c qs. Unit {0} };
 
-    ghost alike = { λ l n m. Unit {0} };
+    ghost alike = { λ q n m. true };
 }
 
 /// Another store to a line that recovery asks of no cut before it adds no branch.
@@ -28,9 +29,9 @@ impl Asking for Brand {
 pub fn store_adds_no_branches<Before: Asking, After: Asking>()
     ensures { (low high more : ℕ → ℕ) (line limit : ℕ) → low line ≤ high line →
         ((l : ℕ) → l ≢ line → more l ≡ high l) → IsShared After.alike After.asks → IsEquivalence After.alike →
-        ((l n m : ℕ) → n ≤ high l → m ≤ high l → Before.alike l n m → After.alike l n m) →
-        ((k : ℕ → ℕ) (ls : List ℕ) → IsWithin low high k → Before.asks k ls → After.asks k ls) →
-        ((k : ℕ → ℕ) (ls : List ℕ) → IsWithin low high k → Before.asks k ls → has line ls ≡ false) →
+        ((q : Question) (n m : ℕ) → n ≤ high q.line → m ≤ high q.line → Before.alike q n m ≡ true → After.alike q n m ≡ true) →
+        ((k : ℕ → ℕ) (qs : List Question) → IsWithin low high k → Before.asks k qs → After.asks k qs) →
+        ((k : ℕ → ℕ) (qs : List Question) → IsWithin low high k → Before.asks k qs → has_line line qs ≡ false) →
         AreOver After.alike After.asks low more limit → AreOver Before.alike Before.asks low high limit }
 {}
 

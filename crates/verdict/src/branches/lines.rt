@@ -2,8 +2,10 @@
 
 ghost use Rattle.std.specs.Prelude.{◌≡◌, ℕ, ◌<◌, ◌||◌, ◌==◌, false, true, not, length, replicate, IfOk, OnOk};
 ghost use Rattle.std.specs.List.{AllByRecursion};
+ghost use Rattle.verdict.specs.Branches.{has_line};
 ghost use Rattle.verdict.specs.Numbers.{has, is_flagged};
 
+use crate::branches::question::Question;
 use std::alloc::{AllocError, Global};
 use std::marker::Model;
 
@@ -80,6 +82,19 @@ impl LineSet {
     {
         for line in lines {
             self.insert(*line)?;
+        }
+        Ok(())
+    }
+
+    /// Puts the lines of these questions into the set.
+    #[tactic(auto, using(crate::proofs::Listed::asked_more, crate::proofs::Listed::asked_below))]
+    pub fn insert_asked(&mut self, asked: &[Question]) -> Result<(), AllocError>
+        requires { AllByRecursion (λ q. q.line < length self.old) asked.now }
+        ensures after { OnOk result ((l : ℕ) → is_flagged l self.new ≡ is_flagged l self.old || has_line l asked.now) }
+        ensures size { length self.new ≡ length self.old }
+    {
+        for question in asked {
+            self.insert(question.line)?;
         }
         Ok(())
     }

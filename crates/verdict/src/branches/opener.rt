@@ -5,6 +5,7 @@ ghost use Rattle.std.specs.List.{AllByRecursion};
 ghost use Rattle.verdict.specs.Branches.{AreOver, IsAsked, IsLeastBad, IsWithin};
 ghost use Rattle.verdict.specs.Numbers.{is_flagged, number_over};
 ghost use Rattle.verdict.specs.Opened.{IfBad, IfOver, IfPass, IfFew};
+ghost use Rattle.verdict.specs.declared.branches.question.Question.{Question};
 
 use crate::branches::Recovery;
 use crate::branches::progress::Progress;
@@ -82,7 +83,7 @@ impl Opener {
             IsLeastBad (R.low recovery.now) (R.high recovery.now) (R.judged recovery.now) (number_over (R.low recovery.now) numbers) cause
             × (length numbers ≡ R.lines recovery.now))) }
         ensures asked { IfOk result (λ opened. IfFew opened ((k : ℕ → ℕ) → IsWithin (R.low recovery.now) (R.high recovery.now) k →
-            (ls : List ℕ) → R.asks recovery.now k ls → AllByRecursion (λ l. is_flagged l self.new ≡ true) ls)) }
+            (qs : List Question) → R.asks recovery.now k qs → AllByRecursion (λ q. is_flagged q.line self.new ≡ true) qs)) }
         ensures only { IfOk result (λ opened. (l : ℕ) → is_flagged l self.new ≡ true → IsAsked (R.asks recovery.now) (R.low recovery.now) (R.high recovery.now) l) }
         ensures size { length self.new ≡ length self.old }
     {

@@ -34,7 +34,7 @@ pub fn open_piece<R: Recovery>(
 ) -> Result<Piece<R::Cause>, AllocError>
     requires cuts { AreCuts (R.low recovery.now) (R.high recovery.now) (R.lines recovery.now) queue.now }
     requires workspace { (other : R.Workspace) × R.fits recovery.now other }
-    ensures { IfOk result (IsPiece (R.asks recovery.now) (R.judged recovery.now) (R.last_alike recovery.now) (R.low recovery.now) (R.high recovery.now) (R.lines recovery.now) queue.now) }
+    ensures { IfOk result (IsPiece (R.asks recovery.now) (R.judged recovery.now) (R.alike recovery.now) (R.low recovery.now) (R.high recovery.now) (R.lines recovery.now) queue.now) }
 {
     let mut piece = Piece {
         first,
@@ -59,8 +59,8 @@ fn open_up_to<R: Recovery>(
     requires none { piece.old.count ≡ 0 }
     requires end { end ≤ length queue.now }
     requires cuts { AreCuts (R.low recovery.now) (R.high recovery.now) (R.lines recovery.now) queue.now }
-    requires piece { IsPiece (R.asks recovery.now) (R.judged recovery.now) (R.last_alike recovery.now) (R.low recovery.now) (R.high recovery.now) (R.lines recovery.now) queue.now piece.old }
-    ensures { OnOk result (IsPiece (R.asks recovery.now) (R.judged recovery.now) (R.last_alike recovery.now) (R.low recovery.now) (R.high recovery.now) (R.lines recovery.now) queue.now piece.new) }
+    requires piece { IsPiece (R.asks recovery.now) (R.judged recovery.now) (R.alike recovery.now) (R.low recovery.now) (R.high recovery.now) (R.lines recovery.now) queue.now piece.old }
+    ensures { OnOk result (IsPiece (R.asks recovery.now) (R.judged recovery.now) (R.alike recovery.now) (R.low recovery.now) (R.high recovery.now) (R.lines recovery.now) queue.now piece.new) }
 {
     let mut workspace = recovery.workspace(alloc)?;
     open_in(alloc, recovery, &mut workspace, queue, end, piece)
@@ -79,8 +79,8 @@ fn open_in<R: Recovery>(
     requires end { end ≤ length queue.now }
     requires fits { R.fits recovery.now workspace.old }
     requires cuts { AreCuts (R.low recovery.now) (R.high recovery.now) (R.lines recovery.now) queue.now }
-    requires piece { IsPiece (R.asks recovery.now) (R.judged recovery.now) (R.last_alike recovery.now) (R.low recovery.now) (R.high recovery.now) (R.lines recovery.now) queue.now piece.old }
-    ensures { OnOk result (IsPiece (R.asks recovery.now) (R.judged recovery.now) (R.last_alike recovery.now) (R.low recovery.now) (R.high recovery.now) (R.lines recovery.now) queue.now piece.new) }
+    requires piece { IsPiece (R.asks recovery.now) (R.judged recovery.now) (R.alike recovery.now) (R.low recovery.now) (R.high recovery.now) (R.lines recovery.now) queue.now piece.old }
+    ensures { OnOk result (IsPiece (R.asks recovery.now) (R.judged recovery.now) (R.alike recovery.now) (R.low recovery.now) (R.high recovery.now) (R.lines recovery.now) queue.now piece.new) }
 {
     let mut run = Run::new(alloc, recovery.lines())?;
     open_each(alloc, recovery, workspace, &mut run, queue, end, piece)
@@ -101,8 +101,8 @@ fn open_each<R: Recovery>(
     requires size { length run.old.numbers ≡ R.lines recovery.now }
     requires fits { R.fits recovery.now workspace.old }
     requires cuts { AreCuts (R.low recovery.now) (R.high recovery.now) (R.lines recovery.now) queue.now }
-    requires piece { IsPiece (R.asks recovery.now) (R.judged recovery.now) (R.last_alike recovery.now) (R.low recovery.now) (R.high recovery.now) (R.lines recovery.now) queue.now piece.old }
-    ensures { OnOk result (IsPiece (R.asks recovery.now) (R.judged recovery.now) (R.last_alike recovery.now) (R.low recovery.now) (R.high recovery.now) (R.lines recovery.now) queue.now piece.new) }
+    requires piece { IsPiece (R.asks recovery.now) (R.judged recovery.now) (R.alike recovery.now) (R.low recovery.now) (R.high recovery.now) (R.lines recovery.now) queue.now piece.old }
+    ensures { OnOk result (IsPiece (R.asks recovery.now) (R.judged recovery.now) (R.alike recovery.now) (R.low recovery.now) (R.high recovery.now) (R.lines recovery.now) queue.now piece.new) }
 {
     for place in piece.first..end {
         if piece.findings.found.len() > MUCH {
@@ -128,21 +128,18 @@ fn open_at<R: Recovery>(
     requires cuts { AreCuts (R.low recovery.now) (R.high recovery.now) (R.lines recovery.now) queue.now }
     requires size { length run.old.numbers ≡ R.lines recovery.now }
     requires fits { R.fits recovery.now workspace.old }
-    requires piece { IsPiece (R.asks recovery.now) (R.judged recovery.now) (R.last_alike recovery.now) (R.low recovery.now) (R.high recovery.now) (R.lines recovery.now) queue.now piece.old }
-    ensures piece { OnOk result (IsPiece (R.asks recovery.now) (R.judged recovery.now) (R.last_alike recovery.now) (R.low recovery.now) (R.high recovery.now) (R.lines recovery.now) queue.now piece.new) }
+    requires piece { IsPiece (R.asks recovery.now) (R.judged recovery.now) (R.alike recovery.now) (R.low recovery.now) (R.high recovery.now) (R.lines recovery.now) queue.now piece.old }
+    ensures piece { OnOk result (IsPiece (R.asks recovery.now) (R.judged recovery.now) (R.alike recovery.now) (R.low recovery.now) (R.high recovery.now) (R.lines recovery.now) queue.now piece.new) }
     ensures first { piece.new.first ≡ piece.old.first }
     ensures count { OnOk result (piece.new.count ≡ piece.old.count + 1) }
     ensures size { length run.new.numbers ≡ length run.old.numbers }
     ensures fits { R.fits recovery.now workspace.new }
 {
     let judged = run.open(alloc, recovery, workspace, queue, place)?;
-    piece.cause = piece.findings.add(
-        &mut run.numbers,
-        judged,
-        &run.asked,
-        &run.found,
-        piece.cause,
-    )?;
+    piece.findings.asked.insert_asked(&run.asked)?;
+    piece.cause = piece
+        .findings
+        .add(&mut run.numbers, judged, &run.found, piece.cause)?;
     piece.count += 1;
     Ok(())
 }

@@ -9,6 +9,7 @@ ghost use Rattle.verdict.specs.Pieces.{IsPiece};
 ghost use Rattle.verdict.specs.Queue.{entry};
 ghost use Rattle.verdict.specs.declared.branches.queue.Entry.{Entry as AnEntry};
 ghost use Rattle.verdict.specs.Openings.{IsAt};
+ghost use Rattle.verdict.specs.declared.branches.question.Question.{Question};
 
 use crate::branches::Recovery;
 use crate::branches::findings::Findings;
@@ -132,9 +133,10 @@ impl Progress {
             &self.findings.found,
             self.opened,
         )?;
+        self.findings.asked.insert_asked(&run.asked)?;
         let kept = self
             .findings
-            .add(&mut run.numbers, judged, &run.asked, &run.found, least)?;
+            .add(&mut run.numbers, judged, &run.found, least)?;
         self.opened += 1;
         Ok(kept)
     }
@@ -177,7 +179,7 @@ impl Progress {
     ) -> Result<Option<R::Cause>, AllocError>
         requires size { length self.old.findings.asked ≡ R.lines recovery.now }
         requires least_size { length self.old.findings.least ≡ R.lines recovery.now }
-        requires pieces { All (λ found. IfOk found (IsPiece (R.asks recovery.now) (R.judged recovery.now) (R.last_alike recovery.now) (R.low recovery.now) (R.high recovery.now) (R.lines recovery.now) self.old.findings.found.items)) pieces.old }
+        requires pieces { All (λ found. IfOk found (IsPiece (R.asks recovery.now) (R.judged recovery.now) (R.alike recovery.now) (R.low recovery.now) (R.high recovery.now) (R.lines recovery.now) self.old.findings.found.items)) pieces.old }
         requires at { IsAt (R.alike recovery.now) (R.asks recovery.now) (R.judged recovery.now) (R.low recovery.now) (R.high recovery.now) (R.lines recovery.now)
             self.old.opened self.old.findings.found.items self.old.findings.least least self.old.findings.asked }
         ensures at { IfOk result (λ kept. IsAt (R.alike recovery.now) (R.asks recovery.now) (R.judged recovery.now) (R.low recovery.now) (R.high recovery.now) (R.lines recovery.now)
@@ -207,7 +209,7 @@ impl Progress {
     ) -> Result<Option<R::Cause>, AllocError>
         requires size { length self.old.findings.asked ≡ R.lines recovery.now }
         requires least_size { length self.old.findings.least ≡ R.lines recovery.now }
-        requires piece { IsPiece (R.asks recovery.now) (R.judged recovery.now) (R.last_alike recovery.now) (R.low recovery.now) (R.high recovery.now) (R.lines recovery.now) self.old.findings.found.items piece.old }
+        requires piece { IsPiece (R.asks recovery.now) (R.judged recovery.now) (R.alike recovery.now) (R.low recovery.now) (R.high recovery.now) (R.lines recovery.now) self.old.findings.found.items piece.old }
         requires at { IsAt (R.alike recovery.now) (R.asks recovery.now) (R.judged recovery.now) (R.low recovery.now) (R.high recovery.now) (R.lines recovery.now)
             self.old.opened self.old.findings.found.items self.old.findings.least least self.old.findings.asked }
         ensures at { IfOk result (λ kept. IsAt (R.alike recovery.now) (R.asks recovery.now) (R.judged recovery.now) (R.low recovery.now) (R.high recovery.now) (R.lines recovery.now)
@@ -221,13 +223,10 @@ impl Progress {
             return Ok(least);
         }
         let findings = &mut piece.findings;
-        let kept = self.findings.add(
-            &mut findings.least,
-            piece.cause,
-            findings.asked.lines(),
-            &findings.found,
-            least,
-        )?;
+        self.findings.asked.insert_all(findings.asked.lines())?;
+        let kept = self
+            .findings
+            .add(&mut findings.least, piece.cause, &findings.found, least)?;
         self.opened += piece.count;
         Ok(kept)
     }
@@ -251,7 +250,7 @@ impl Progress {
             IsLeastBad (R.low recovery.now) (R.high recovery.now) (R.judged recovery.now) (number_over (R.low recovery.now) numbers) cause
             × (length numbers ≡ R.lines recovery.now))) }
         ensures asked { IfOk result (λ opened. IfFew opened ((k : ℕ → ℕ) → IsWithin (R.low recovery.now) (R.high recovery.now) k →
-            (ls : List ℕ) → R.asks recovery.now k ls → AllByRecursion (λ l. is_flagged l self.now.findings.asked ≡ true) ls)) }
+            (qs : List Question) → R.asks recovery.now k qs → AllByRecursion (λ q. is_flagged q.line self.now.findings.asked ≡ true) qs)) }
         ensures only { (l : ℕ) → is_flagged l self.now.findings.asked ≡ true → IsAsked (R.asks recovery.now) (R.low recovery.now) (R.high recovery.now) l }
     {
         if self.is_over(limit) {

@@ -31,7 +31,7 @@ pub fn open_round<R: Recovery + Sync, T: Threads + Sync>(
 ) -> Result<Vec<Result<Piece<R::Cause>, AllocError>>, AllocError>
     requires cuts { AreCuts (R.low recovery.now) (R.high recovery.now) (R.lines recovery.now) queue.now }
     requires workspace { (other : R.Workspace) × R.fits recovery.now other }
-    ensures { IfOk result (λ pieces. All (λ found. IfOk found (IsPiece (R.asks recovery.now) (R.judged recovery.now) (R.last_alike recovery.now) (R.low recovery.now) (R.high recovery.now)
+    ensures { IfOk result (λ pieces. All (λ found. IfOk found (IsPiece (R.asks recovery.now) (R.judged recovery.now) (R.alike recovery.now) (R.low recovery.now) (R.high recovery.now)
         (R.lines recovery.now) queue.now)) pieces.items) }
 {
     let open = queue.len().saturating_sub(first).min(MOST_OF_ROUND);
@@ -52,7 +52,7 @@ fn open_pieces<R: Recovery + Sync, T: Threads + Sync>(
 ) -> Result<Vec<Result<Piece<R::Cause>, AllocError>>, AllocError>
     requires cuts { AreCuts (R.low recovery.now) (R.high recovery.now) (R.lines recovery.now) queue.now }
     requires workspace { (other : R.Workspace) × R.fits recovery.now other }
-    ensures { IfOk result (λ pieces. All (λ found. IfOk found (IsPiece (R.asks recovery.now) (R.judged recovery.now) (R.last_alike recovery.now) (R.low recovery.now) (R.high recovery.now)
+    ensures { IfOk result (λ pieces. All (λ found. IfOk found (IsPiece (R.asks recovery.now) (R.judged recovery.now) (R.alike recovery.now) (R.low recovery.now) (R.high recovery.now)
         (R.lines recovery.now) queue.now)) pieces.items) }
 {
     let pieces = current_num_threads(rt).clamp(1, MOST_PIECES);
@@ -63,7 +63,7 @@ fn open_pieces<R: Recovery + Sync, T: Threads + Sync>(
         .map(
             |number: usize| -> Result<Piece<R::Cause>, AllocError>
                 requires { AreCuts (R.low recovery.now) (R.high recovery.now) (R.lines recovery.now) queue.now × ((other : R.Workspace) × R.fits recovery.now other) }
-                ensures { IfOk result (IsPiece (R.asks recovery.entry.now) (R.judged recovery.entry.now) (R.last_alike recovery.entry.now) (R.low recovery.entry.now) (R.high recovery.entry.now)
+                ensures { IfOk result (IsPiece (R.asks recovery.entry.now) (R.judged recovery.entry.now) (R.alike recovery.entry.now) (R.low recovery.entry.now) (R.high recovery.entry.now)
                     (R.lines recovery.entry.now) queue.entry.now) }
             {
                 let place = first.saturating_add(size.saturating_mul(number));

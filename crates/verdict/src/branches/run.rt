@@ -1,24 +1,25 @@
 //! One run of recovery.
 
-ghost use Rattle.std.specs.Prelude.{◌≡◌, ℕ, ◌+◌, ◌-◌, ◌<◌, ◌++◌, List, length, take, drop, IfOk, OnOk};
+ghost use Rattle.std.specs.Prelude.{◌≡◌, ℕ, ◌+◌, ◌-◌, ◌<◌, ◌++◌, ◌==◌, if◌then◌else◌, List, length, slice_index, take, drop, IfOk, OnOk};
 ghost use Rattle.std.specs.List.{AllByRecursion};
 ghost use Rattle.verdict.specs.Branches.{IsWithin};
 ghost use Rattle.verdict.specs.Numbers.{number_over, AreAbove};
-ghost use Rattle.verdict.specs.Queue.{branching, cut_at, entry_at, is_new, siblings, AreRaised, IsTree};
+ghost use Rattle.verdict.specs.Queue.{branching, cut_at, entry_at, is_new_behind, siblings, AreRaised, IsTree};
 
 use crate::branches::Recovery;
-use crate::branches::lines::LineSet;
+use crate::branches::line_bytes::LineBytes;
 use crate::branches::numbers::Numbers;
+use crate::branches::question::Question;
 use crate::branches::queue::Entry;
 use std::alloc::{AllocError, Global};
 
-/// A run of recovery on the image of one cut: the cut, the lines that were asked, and the entries that branch off.
+/// A run of recovery on the image of one cut: the cut, what was asked, and the entries that branch off.
 #[derive(Drop)]
 pub struct Run {
     pub numbers: Numbers,
-    pub asked: Vec<u32>,
+    pub asked: Vec<Question>,
     pub found: Vec<Entry>,
-    seen: LineSet,
+    seen: LineBytes,
     ghost same_size: { length seen ≡ length numbers },
 }
 
@@ -28,7 +29,7 @@ impl Run {
     {
         Ok(Run {
             numbers: Numbers::new(alloc, lines)?,
-            seen: LineSet::new(alloc, lines)?,
+            seen: LineBytes::new(alloc, lines)?,
             asked: Vec::new(alloc),
             found: Vec::new(alloc),
         })
@@ -54,69 +55,95 @@ impl Run {
         ensures cut { OnOk result (number_over (R.low recovery.now) self.new.numbers ≡ cut_at (R.low recovery.now) entries.now at) }
         ensures above { OnOk result (AreAbove (R.low recovery.now) self.new.numbers) }
         ensures asked { OnOk result (R.asks recovery.now (cut_at (R.low recovery.now) entries.now at) self.new.asked.items) }
-        ensures below { OnOk result (AllByRecursion (λ l. l < R.lines recovery.now) self.new.asked.items) }
+        ensures below { OnOk result (AllByRecursion (λ q. q.line < R.lines recovery.now) self.new.asked.items) }
         ensures judged { IfOk result (λ found. R.judged recovery.now (cut_at (R.low recovery.now) entries.now at) found) }
-        ensures found { OnOk result (self.new.found.items ≡ branching at (R.last_alike recovery.now) (R.low recovery.now) (R.high recovery.now)
-            (take (entry_at entries.now at).decided self.new.asked.items) (drop (entry_at entries.now at).decided self.new.asked.items)) }
+        ensures found { OnOk result (self.new.found.items ≡ branching at (R.alike recovery.now) (R.low recovery.now) (R.high recovery.now)
+            (cut_at (R.low recovery.now) entries.now at) (take (entry_at entries.now at).decided self.new.asked.items) (drop (entry_at entries.now at).decided self.new.asked.items)) }
     {
         self.numbers.set(entries, at)?;
         self.asked.clear();
         let judged = recovery.recover(alloc, workspace, self.numbers.as_slice(), &mut self.asked)?;
-        branch_off(
-            recovery,
-            &self.asked,
-            &mut self.seen,
-            &mut self.found,
-            at,
-            entries[at].decided,
-        )?;
+        let cut = Branched {
+            place: at,
+            decided: entries[at].decided,
+            numbers: self.numbers.as_slice(),
+        };
+        branch_off(recovery, &self.asked, &mut self.seen, &mut self.found, cut)?;
         Ok(judged)
     }
 }
 
-/// Finds what branches off: of each line asked from place `decided` on, and not before it, each new number above its floor.
+/// A cut whose run is branched off.
+#[derive(Clone, Copy)]
+struct Branched<'a> {
+    /// The place of its entry in the queue.
+    place: usize,
+    /// How many of the questions that recovery asks were decided when the entry was made.
+    decided: usize,
+    /// The cut, by line, with 0 for a line at its floor.
+    numbers: &'a [u32],
+}
+
+/// Finds what branches off: of each question asked from place `decided` on each new number above the cut's own.
 fn branch_off<R: Recovery>(
     recovery: &R,
-    asked: &[u32],
-    seen: &mut LineSet,
+    asked: &[Question],
+    seen: &mut LineBytes,
     found: &mut Vec<Entry>,
-    parent: usize,
-    decided: usize,
+    cut: Branched<'_>,
 ) -> Result<(), AllocError>
     requires size { length seen.old ≡ R.lines recovery.now }
-    requires below { AllByRecursion (λ l. l < R.lines recovery.now) asked.now }
-    ensures found { OnOk result (found.new.items ≡ branching parent (R.last_alike recovery.now) (R.low recovery.now) (R.high recovery.now)
-        (take decided asked.now) (drop decided asked.now)) }
+    requires numbers { length cut.numbers.now ≡ R.lines recovery.now }
+    requires within { IsWithin (R.low recovery.now) (R.high recovery.now) (number_over (R.low recovery.now) cut.numbers.now) }
+    requires below { AllByRecursion (λ q. q.line < R.lines recovery.now) asked.now }
+    ensures found { OnOk result (found.new.items ≡ branching cut.entry.place (R.alike recovery.now) (R.low recovery.now) (R.high recovery.now)
+        (number_over (R.low recovery.now) cut.entry.numbers.now) (take cut.entry.decided asked.now) (drop cut.entry.decided asked.now)) }
     ensures size { length seen.new ≡ length seen.old }
 {
     seen.clear();
     found.clear();
-    for (place, line) in asked.iter().enumerate() {
-        if seen.insert(*line)? && place >= decided {
-            push_siblings(recovery, found, parent, place + 1, *line)?;
+    for (place, question) in asked.iter().enumerate() {
+        let before = seen.add(*question)?;
+        if place >= cut.decided && before | question.bytes != before {
+            push_siblings(recovery, found, cut, place + 1, *question, before)?;
         }
     }
     Ok(())
 }
 
-/// Adds an entry with the line at each of its new numbers above its floor: each is the least of those that are alike to it.
+/// Adds an entry with the line of a question at each of its new numbers, where these bytes of the line were asked before: it is as the
+/// cut has it in those, and with the question no lower number is as it.
 fn push_siblings<R: Recovery>(
     recovery: &R,
     found: &mut Vec<Entry>,
-    parent: usize,
+    cut: Branched<'_>,
     decided: usize,
-    line: u32,
+    question: Question,
+    before: u64,
 ) -> Result<(), AllocError>
-    requires { line < R.lines recovery.now }
-    ensures { OnOk result (found.new.items ≡ found.old.items ++ siblings (λ n. is_new (R.low recovery.now line) (R.last_alike recovery.now line n))
-        parent decided line (R.low recovery.now line + 1) (R.high recovery.now line - R.low recovery.now line)) }
+    requires line { question.line < R.lines recovery.now }
+    requires numbers { length cut.numbers.now ≡ R.lines recovery.now }
+    requires within { IsWithin (R.low recovery.now) (R.high recovery.now) (number_over (R.low recovery.now) cut.numbers.now) }
+    ensures { OnOk result (found.new.items ≡ found.old.items ++ siblings (is_new_behind (R.alike recovery.now) (R.low recovery.now) question before
+        (number_over (R.low recovery.now) cut.entry.numbers.now question.line)) cut.entry.place decided question.line
+        (number_over (R.low recovery.now) cut.entry.numbers.now question.line + 1)
+        (R.high recovery.now question.line - number_over (R.low recovery.now) cut.entry.numbers.now question.line)) }
 {
-    let floor = recovery.floor(line);
-    for below in floor..recovery.stores(line) {
+    let line = question.line;
+    let earlier = Question {
+        line,
+        bytes: before,
+    };
+    let all = Question {
+        line,
+        bytes: before | question.bytes,
+    };
+    let own = number_of(cut.numbers, line, recovery.floor(line));
+    for below in own..recovery.stores(line) {
         let number = below + 1;
-        if is_new(floor, recovery.last_alike(line, number)) {
+        if recovery.is_alike(earlier, number, own) && recovery.is_first(all, number) {
             found.push(Entry {
-                parent,
+                parent: cut.place,
                 decided,
                 line,
                 number,
@@ -126,13 +153,14 @@ fn push_siblings<R: Recovery>(
     Ok(())
 }
 
-/// Whether a number of a line is new, by the last lower number that is alike to it: none from the floor on is.
+/// The number of a line in a cut that has 0 for a line at its floor.
 #[inline(always)]
-fn is_new(floor: u32, last: Option<u32>) -> bool
-    ensures { result ≡ is_new floor last }
+fn number_of(numbers: &[u32], line: u32, floor: u32) -> u32
+    requires { line < length numbers.now }
+    ensures { result ≡ (if slice_index numbers.now line == 0 then floor else slice_index numbers.now line) }
 {
-    match last {
-        Some(last) => last < floor,
-        None => true,
+    match numbers[line as usize] {
+        0 => floor,
+        number => number,
     }
 }

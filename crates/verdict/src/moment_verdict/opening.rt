@@ -10,6 +10,7 @@ ghost use Rattle.verdict.specs.Verdicts.{AreFlagged, IfPassed, IsMomentVerdict};
 ghost use Rattle.store_trace.specs.History.{at_moment};
 ghost use Rattle.std.specs.List.{AllByRecursion};
 ghost use Rattle.std.specs.Prelude.{◌≡◌, ℕ, ◌≤◌, List, None, Option, true, length, IfOk};
+ghost use Rattle.verdict.specs.declared.branches.question.Question.{Question};
 
 use crate::branches::{Opened, Opener, Recovery};
 use crate::moment_verdict::MomentVerdict;
@@ -73,7 +74,7 @@ fn verdict_of<R: Recovery>(
     requires bad { IfBad opened (λ numbers cause.
         IsLeastBad (R.low recovery.now) (R.high recovery.now) (R.judged recovery.now) (number_over (R.low recovery.now) numbers) cause) }
     requires asked { IfFew opened ((k : ℕ → ℕ) → IsWithin (R.low recovery.now) (R.high recovery.now) k →
-        (lines : List ℕ) → R.asks recovery.now k lines → AllByRecursion (λ l. is_flagged l opener.now ≡ true) lines) }
+        (qs : List Question) → R.asks recovery.now k qs → AllByRecursion (λ q. is_flagged q.line opener.now ≡ true) qs) }
     ensures ok { IfOk result (IsMomentVerdict (R.alike recovery.now) (R.asks recovery.now) (R.judged recovery.now) (at_moment trace.now.events moment)) }
     ensures asked { IfOk result (λ verdict. IfPassed verdict (AreFlagged (R.asks recovery.now) (at_moment trace.now.events moment) opener.now)) }
 {

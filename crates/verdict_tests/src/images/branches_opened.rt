@@ -1,15 +1,16 @@
 //! The branches of a small recovery over three lines.
 
+ghost use Rattle.image_check.specs.Verdicts.{whole_line};
 ghost use Rattle.verdict.specs.Branches.{IsWithin};
 ghost use Rattle.std.specs.Prelude.{◌≡◌, ◌≤◌, length};
 
 use std::alloc::{AllocError, Global};
 use std::test::Fail;
 use std::thread::Threads;
-use verdict::{Opened, Opener, Recovery};
+use verdict::{Opened, Opener, Question, Recovery};
 
-/// Asks line 0, and lines 1 and 2 only where line 0 has so many stores as the key. Then the image is bad where line 1 has at least
-/// so many stores, and that number is the cause. Each line stands after none of its stores, or more.
+/// Asks the whole of line 0, and lines 1 and 2 only where line 0 has so many stores as the key. Then the image is bad where line 1 has
+/// at least so many stores, and that number is the cause. Each line stands after none of its stores, or more.
 #[derive(Clone, Copy)]
 struct Small {
     stores: [u32; 3],
@@ -18,9 +19,9 @@ struct Small {
 }
 
 impl Recovery for Small {
-    ghost use Rattle.std.specs.Prelude.{ℕ, None, slice_index};
-    ghost use Rattle.verdict.specs.Branches.{SameNumber};
-    ghost use Rattle.verdict.proofs.Numbering.{no_lower, same_number};
+    ghost use Rattle.std.specs.Prelude.{slice_index};
+    ghost use Rattle.verdict.specs.Branches.{same_number};
+    ghost use Rattle.verdict.proofs.Numbering.{numbers_both, numbers_equal, numbers_nothing};
     ghost use Rattle.std.proofs.Common.{rules};
     ghost use Rattle.verdict_tests.specs.Asked.{Asks, IsJudged, adaptive, branchwise, shared};
 
@@ -34,11 +35,9 @@ impl Recovery for Small {
 
     ghost high = { λ s l. slice_index s.stores l };
 
-    ghost alike = { λ s. SameNumber };
+    ghost alike = { λ s. same_number };
 
-    ghost last_alike = { λ s l n. None };
-
-    ghost asks = { λ s k ls. Asks s.key k ls };
+    ghost asks = { λ s k qs. Asks s.key k qs };
 
     ghost judged = { λ s k found. IsJudged s.key s.bad k found };
 
@@ -56,8 +55,12 @@ impl Recovery for Small {
         self.stores[line as usize]
     }
 
-    fn last_alike(&self, _line: u32, _number: u32) -> Option<u32> {
-        None
+    fn is_alike(&self, asked: Question, one: u32, other: u32) -> bool {
+        asked.bytes == 0 || one == other
+    }
+
+    fn is_first(&self, asked: Question, _number: u32) -> bool {
+        asked.bytes != 0
     }
 
     fn workspace(&self, _alloc: Global) -> Result<(), AllocError> {
@@ -69,14 +72,14 @@ impl Recovery for Small {
         _alloc: Global,
         _workspace: &mut (),
         numbers: &[u32],
-        asked: &mut Vec<u32>,
+        asked: &mut Vec<Question>,
     ) -> Result<Option<u32>, AllocError> {
-        asked.push(0)?;
+        asked.push(whole_line(0))?;
         if numbers[0] != self.key {
             return Ok(None);
         }
-        asked.push(1)?;
-        asked.push(2)?;
+        asked.push(whole_line(1))?;
+        asked.push(whole_line(2))?;
         if self.bad <= numbers[1] {
             Ok(Some(numbers[1]))
         } else {
@@ -86,15 +89,27 @@ impl Recovery for Small {
 
     ghost ordered = { λ s l. Prim.search rules };
 
-    ghost equivalent = { λ s. same_number };
+    ghost equivalent = { λ s. numbers_equal };
 
-    ghost last = { λ s l n. no_lower l n };
+    ghost nothing = { λ s l n m. numbers_nothing l n m };
+
+    ghost both = { λ s l a b n m. numbers_both l a b n m };
 
     ghost adaptive = { λ s. adaptive s.key };
 
     ghost shared = { λ s. shared s.key };
 
-    ghost branchwise = { λ s c k ls found a h f. branchwise s.key s.bad c k ls found a h f };
+    ghost branchwise = { λ s c k qs found a h f. branchwise s.key s.bad c k qs found a h f };
+}
+
+/// All bytes of a line.
+fn whole_line(line: u32) -> Question
+    ensures { result ≡ whole_line line }
+{
+    Question {
+        line,
+        bytes: u64::MAX,
+    }
 }
 
 /// What an opening came to: over its limit, all cuts pass, or the least bad cut with its cause.

@@ -1,8 +1,8 @@
-use Rattle.std.proofs.Common.{◌≡◌, ◌∙◌, ℕ, List, [], ap, length}
+use Rattle.std.proofs.Common.{◌∙◌, ℕ, List, ap, length}
 use Rattle.store_trace.specs.Image.{image}
 use Rattle.nova_log.specs.Sources.{Source}
 use Rattle.store_trace.specs.History.{at_moment}
-use Rattle.verdict.specs.CutImages.{cut_of, image_of}
+use Rattle.verdict.specs.CutImages.{cut_of}
 use Rattle.image_check.proofs.Reading.{below_length, image_of_length, source_alike, source_kept, source_of}
 use Rattle.image_check.proofs.index_lines.recover_cut.Goals as goal
 

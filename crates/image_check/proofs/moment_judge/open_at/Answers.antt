@@ -38,4 +38,4 @@ returns-clause-ok g c =
 pub open_moment-requires-clause-fits : goal.open_moment-requires-clause-fits
 open_moment-requires-clause-fits g c κs within = λ k inside.
     let images = c.new-images.result in
-    c.new-kept.ensures (image images.index.now.start k (at_moment images.index.now.events images.moment))
+    c.new-workspace.ensures (image images.index.now.start k (at_moment images.index.now.events images.moment))

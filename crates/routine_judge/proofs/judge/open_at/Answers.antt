@@ -1,6 +1,6 @@
 use Rattle.std.proofs.Common.{◌≡◌, ◌≤◌, ℕ, Bool, List, length, ap, subst, sym, arith}
 use Rattle.verdict.specs.CutImages.{AreMedia}
-use Rattle.routine_judge.specs.RightAnswers.{IsFoundOf, LoadsOf, SameBytes, is_among}
+use Rattle.routine_judge.specs.RightAnswers.{IsFoundOf, AsksOf, same_bytes, is_among}
 use Rattle.routine_judge.specs.Views.{JudgeView}
 use Rattle.routine_judge.proofs.Gathering.{found_alike, some_among}
 use Rattle.verdict.proofs.CutLines.{images_whole}
@@ -19,17 +19,17 @@ use Rattle.routine_judge.proofs.judge.open_at.Goals as goal
 
 -- the verdict on a moment, by other names
 named : (view other : JudgeView) (m n : ℕ) (window same : Window) (p : List PersistenceStep) (verdict : MomentVerdict Cause) → other ≡ view → n ≡ m → same ≡ window →
-    IsMomentVerdict (SameBytes other n) (LoadsOf other n) (IsFoundOf other (is_among same n) n) p verdict →
-    IsMomentVerdict (SameBytes view m) (LoadsOf view m) (IsFoundOf view (is_among window m) m) p verdict
+    IsMomentVerdict (same_bytes other n) (AsksOf other n) (IsFoundOf other (is_among same n) n) p verdict →
+    IsMomentVerdict (same_bytes view m) (AsksOf view m) (IsFoundOf view (is_among window m) m) p verdict
 named view other m n window same p verdict v e w h =
-    subst (λ (x : Window). IsMomentVerdict (SameBytes view m) (LoadsOf view m) (IsFoundOf view (is_among x m) m) p verdict) w
-    (subst (λ (x : ℕ). IsMomentVerdict (SameBytes view x) (LoadsOf view x) (IsFoundOf view (is_among same x) x) p verdict) e
-    (subst (λ (x : JudgeView). IsMomentVerdict (SameBytes x n) (LoadsOf x n) (IsFoundOf x (is_among same n) n) p verdict) v h))
+    subst (λ (x : Window). IsMomentVerdict (same_bytes view m) (AsksOf view m) (IsFoundOf view (is_among x m) m) p verdict) w
+    (subst (λ (x : ℕ). IsMomentVerdict (same_bytes view x) (AsksOf view x) (IsFoundOf view (is_among same x) x) p verdict) e
+    (subst (λ (x : JudgeView). IsMomentVerdict (same_bytes x n) (AsksOf x n) (IsFoundOf x (is_among same n) n) p verdict) v h))
 
 -- where the moment passes, what is known of it
 passed_of : (view : JudgeView) (flags : List Bool) (window : Window) (m : ℕ) (verdict : MomentVerdict Cause) → m ≤ length view.events → IsWindow view.events m window →
-    IsMomentVerdict (SameBytes view m) (LoadsOf view m) (IsFoundOf view (is_among window m) m) (at_moment view.events m) verdict →
-    IfPassed verdict (AreFlagged (LoadsOf view m) (at_moment view.events m) flags) → IfPassed verdict (IsPassed view flags window m)
+    IsMomentVerdict (same_bytes view m) (AsksOf view m) (IsFoundOf view (is_among window m) m) (at_moment view.events m) verdict →
+    IfPassed verdict (AreFlagged (AsksOf view m) (at_moment view.events m) flags) → IfPassed verdict (IsPassed view flags window m)
 passed_of view flags window m moments.Pass there is v f = record { there = there; is_window = is; flagged = f; passes = v }
 passed_of view flags window m (moments.Fail name cause) there is v f = tt
 passed_of view flags window m moments.TooMany there is v f = tt
@@ -65,7 +65,7 @@ returns-clause-ok g c =
     let m = c.args.moment in
     let s = c.new-images.result in
     let ours = named view s.run.now m s.moment window s.window (at_moment i.trace.now.events m) c.in_ok-verdict.verdict e.run e.moment e.window c.in_ok-verdict.ensures.ok in
-    let judged = subst (λ (es : List Event). IsMomentVerdict (SameBytes view m) (LoadsOf view m) (IsFoundOf view (is_among window m) m) (at_moment es m) c.in_ok-verdict.verdict)
+    let judged = subst (λ (es : List Event). IsMomentVerdict (same_bytes view m) (AsksOf view m) (IsFoundOf view (is_among window m) m) (at_moment es m) c.in_ok-verdict.verdict)
     (ap (λ (v : JudgeView). v.events) c.run.view_is) ours in
     record { window = window; is_window = c.window-window.ensures.window; judged = judged }
 
@@ -81,9 +81,9 @@ returns-clause-passed g c =
     let flags = c.open_moment.new.opener in
     let events : i.trace.now.events ≡ view.events = ap (λ (v : JudgeView). v.events) c.run.view_is in
     let ours = named view s.run.now m s.moment window s.window (at_moment i.trace.now.events m) verdict e.run e.moment e.window c.in_ok-verdict.ensures.ok in
-    let asked = subst (λ (n : ℕ). IfPassed verdict (AreFlagged (LoadsOf view n) (at_moment i.trace.now.events m) flags)) e.moment
-    (subst (λ (v : JudgeView). IfPassed verdict (AreFlagged (LoadsOf v s.moment) (at_moment i.trace.now.events m) flags)) e.run c.in_ok-verdict.ensures.asked) in
+    let asked = subst (λ (n : ℕ). IfPassed verdict (AreFlagged (AsksOf view n) (at_moment i.trace.now.events m) flags)) e.moment
+    (subst (λ (v : JudgeView). IfPassed verdict (AreFlagged (AsksOf v s.moment) (at_moment i.trace.now.events m) flags)) e.run c.in_ok-verdict.ensures.asked) in
     subst (λ (w : Window). IfPassed verdict (IsPassed view flags w m)) (sym c.in_ok-renew.ensures.window)
     (passed_of view flags window m verdict c.requires.there c.window-window.ensures.window
-    (subst (λ (es : List Event). IsMomentVerdict (SameBytes view m) (LoadsOf view m) (IsFoundOf view (is_among window m) m) (at_moment es m) verdict) events ours)
-    (subst (λ (es : List Event). IfPassed verdict (AreFlagged (LoadsOf view m) (at_moment es m) flags)) events asked))
+    (subst (λ (es : List Event). IsMomentVerdict (same_bytes view m) (AsksOf view m) (IsFoundOf view (is_among window m) m) (at_moment es m) verdict) events ours)
+    (subst (λ (es : List Event). IfPassed verdict (AreFlagged (AsksOf view m) (at_moment es m) flags)) events asked))

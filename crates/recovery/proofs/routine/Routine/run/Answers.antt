@@ -10,6 +10,6 @@ returns-clause-ok g c =
     let stands = rw (ap (λ (r : RoutineView). r.program) c.self.view_is) at c.begin.ensures.represents in
     IfOk-weaker c.recover-found.result
     (Comes c.begin.new.self c.recover-found.new.self (g.S.Source.medium c.args.image.now) c.args.steps)
-    (Recovers c.args.self.now.program (g.S.Source.medium c.args.image.now) c.args.steps c.set_back.new.self.world.loaded)
+    (Recovers c.args.self.now.program (g.S.Source.medium c.args.image.now) c.args.steps c.set_back.new.self.world.asked)
     (λ found comes. recovers c.begin.new.self c.recover-found.new.self (g.S.Source.medium c.args.image.now) c.args.steps c.args.self.now.program
-    c.set_back.new.self.world.loaded found stands comes c.set_back.ensures.loaded) c.recover-found.ensures.ok
+    c.set_back.new.self.world.asked found stands comes c.set_back.ensures.asked) c.recover-found.ensures.ok

@@ -1,4 +1,4 @@
-use Rattle.std.proofs.Common.{ap, ◌∙◌, subst, take, List, Some}
+use Rattle.std.proofs.Common.{ap, ◌∙◌, take, Some}
 use Rattle.std.proofs.lemmas.Option.{slice_get-get_or}
 use Rattle.routine_judge.proofs.Faulting.{sound_more}
 use Rattle.routine_judge.proofs.Looping.{event_more}

@@ -1,6 +1,8 @@
-use Rattle.std.proofs.Common.{◌≡◌, ◌∙◌, ◌+◌, ◌<◌, ◌∷◌, [], ◌++◌, ◌||◌, ℕ, List, length, ap, sym, subst}
+use Rattle.std.proofs.Common.{◌≡◌, ◌∙◌, ◌+◌, ◌<◌, ◌∷◌, [], ◌++◌, ◌||◌, Bool, ℕ, List, length, ap, sym, subst}
 use Rattle.std.specs.List.{AllByRecursion}
-use Rattle.verdict.specs.Numbers.{has, is_flagged}
+use Rattle.verdict.specs.Branches.{has_line}
+use Rattle.verdict.specs.Numbers.{is_flagged}
+use Rattle.verdict.specs.declared.branches.question.Question.{Question}
 use Rattle.verdict.specs.Openings.{Node}
 use Rattle.verdict.specs.Pieces.{AreRuns}
 use Rattle.verdict.specs.Queue.{cut_at}
@@ -20,25 +22,27 @@ returns-clause-piece g c =
     let new = c.add.new.self in
     let e = c.in_ok-judged.ensures in
     let v : Node = node (cut_at (r.low s) queue c.args.place) one.asked.items in
-    let flags = subst (λ (ls : List ℕ). (l : ℕ) → is_flagged l new.asked ≡ (is_flagged l p.findings.asked || has l ls)) c.deref.ensures.value c.in_ok-piece.ensures.asked in
-    let runs = runs_one (r.asks s) (r.judged s) (r.last_alike s) (r.low s) (r.high s) (r.lines s) c.args.place queue one.found.items one.numbers one.asked.items c.in_ok-judged.judged new.asked
-    c.requires.there (c.requires.cuts.within c.args.place c.requires.there) (flagged_now p.findings.asked new.asked one.asked.items flags)
+    let marked = c.insert_asked.new.self in
+    let flags : (l : ℕ) → is_flagged l new.asked ≡ (is_flagged l p.findings.asked || has_line l one.asked.items) =
+    λ l. ap (λ (fs : List Bool). is_flagged l fs) c.add.ensures.asked ∙ subst (λ (qs : List Question). is_flagged l marked ≡ (is_flagged l p.findings.asked || has_line l qs)) c.deref.ensures.value (c.in_ok-insert_asked.ensures.after l) in
+    let runs = runs_one (r.asks s) (r.judged s) (r.alike s) (r.low s) (r.high s) (r.lines s) c.args.place queue one.found.items one.numbers one.asked.items c.in_ok-judged.judged new.asked
+    c.requires.there (c.requires.cuts.within c.args.place c.requires.there) (flagged_now p.findings.asked new.asked (λ l. has_line l one.asked.items) flags)
     (record { cut = e.cut; above = e.above; asked = e.asked; below = e.below; judges = e.judged; branches = e.found }) in
     let place : c.args.place ≡ p.first + length old.done = c.requires.next ∙ ap (λ (n : ℕ). p.first + n) (sym old.count) in
     let less = c.in_ok-piece.ensures.less (r.low s) (λ some. e.above)
     (best_above (r.judged s) (r.low s) (r.high s) p.findings.least p.cause old.done old.runs.best) in
-    let all = runs_join (r.asks s) (r.judged s) (r.last_alike s) (r.low s) (r.high s) (r.lines s) p.first queue p.findings.found.items one.found.items one.numbers p.findings.least new.least
+    let all = runs_join (r.asks s) (r.judged s) (r.alike s) (r.low s) (r.high s) (r.lines s) p.first queue p.findings.found.items one.found.items one.numbers p.findings.least new.least
     c.in_ok-judged.judged p.cause c.in_ok-piece.field-0 p.findings.asked new.asked new.asked old.done (v ∷ [])
-    (subst (λ (n : ℕ). AreRuns (r.asks s) (r.judged s) (r.last_alike s) (r.low s) (r.high s) (r.lines s) n queue one.numbers c.in_ok-judged.judged new.asked one.found.items (v ∷ [])) place runs)
-    less (flagged_still p.findings.asked new.asked one.asked.items flags) (λ l t. t) old.runs in
+    (subst (λ (n : ℕ). AreRuns (r.asks s) (r.judged s) (r.alike s) (r.low s) (r.high s) (r.lines s) n queue one.numbers c.in_ok-judged.judged new.asked one.found.items (v ∷ [])) place runs)
+    less (flagged_still p.findings.asked new.asked (λ l. has_line l one.asked.items) flags) (λ l t. t) old.runs in
     let items : new.found.items ≡ p.findings.found.items ++ one.found.items = subst (λ (es : List Entry). new.found.items ≡ p.findings.found.items ++ es) c.deref-2.ensures.value c.in_ok-piece.ensures.found in
     record {
       done = old.done ++ v ∷ [];
       count = count_last old.done v ∙ ap (λ (n : ℕ). n + 1) old.count;
       least_size = c.add.ensures.least_size ∙ old.least_size;
-      asked_size = c.add.ensures.asked_size ∙ old.asked_size;
+      asked_size = ap length c.add.ensures.asked ∙ c.insert_asked.ensures.size ∙ old.asked_size;
       only = decided_more p.findings.asked new.asked old.done (v ∷ []) (flagged_one p.findings.asked new.asked v flags) old.only;
-      runs = subst (λ (es : List Entry). AreRuns (r.asks s) (r.judged s) (r.last_alike s) (r.low s) (r.high s) (r.lines s) p.first queue new.least c.in_ok-piece.field-0 new.asked es (old.done ++ v ∷ [])) (sym {A = List Entry} items) all;
+      runs = subst (λ (es : List Entry). AreRuns (r.asks s) (r.judged s) (r.alike s) (r.low s) (r.high s) (r.lines s) p.first queue new.least c.in_ok-piece.field-0 new.asked es (old.done ++ v ∷ [])) (sym {A = List Entry} items) all;
     }
 
 pub open-requires : goal.open-requires
@@ -46,13 +50,16 @@ open-requires g c =
     let cuts = c.requires.cuts in
     (c.type_bounds.send-R-Cause, (c.type_bounds.send-R-Workspace, (c.requires.size, (c.requires.there, (cuts.tree, (cuts.raised, (cuts.within c.args.place c.requires.there, c.requires.fits)))))))
 
-pub add-requires-clause-size : goal.add-requires-clause-size
-add-requires-clause-size g c = c.open.ensures.size ∙ (c.requires.size ∙ sym c.requires.piece.least_size)
+pub add-requires : goal.add-requires
+add-requires g c = c.open.ensures.size ∙ (c.requires.size ∙ sym c.requires.piece.least_size)
 
-pub add-requires-clause-below : goal.add-requires-clause-below
-add-requires-clause-below g c =
-    subst (λ (ls : List ℕ). AllByRecursion (λ l. l < length c.args.piece.now.findings.asked) ls) (sym c.deref.ensures.value)
-    (subst (λ (n : ℕ). AllByRecursion (λ l. l < n) c.open.new.self.asked.items) (sym c.requires.piece.asked_size) c.in_ok-judged.ensures.below)
+pub insert_asked-requires : goal.insert_asked-requires
+insert_asked-requires g c =
+    subst (λ (qs : List Question). AllByRecursion (λ q. q.line < length c.args.piece.now.findings.asked) qs) (sym c.deref.ensures.value)
+    (subst (λ (n : ℕ). AllByRecursion (λ q. q.line < n) c.open.new.self.asked.items) (sym c.requires.piece.asked_size) c.in_ok-judged.ensures.below)
 
 pub invariant_of-run : goal.invariant_of-run
-invariant_of-run g c = record { same_size = c.open.new.self.same_size ∙ sym c.add.ensures.cut_size }
+invariant_of-run g c = record { same_size = c.open.new.self.same_size }
+
+pub invariant_of-run-2 : goal.invariant_of-run-2
+invariant_of-run-2 g c = record { same_size = c.open.new.self.same_size ∙ sym c.add.ensures.cut_size }

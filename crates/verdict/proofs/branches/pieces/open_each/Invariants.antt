@@ -5,7 +5,7 @@ use Rattle.verdict.proofs.branches.pieces.open_each.Given as goal
 abbrev pub invariant-loop-place : goal.invariant-loop-place
 invariant-loop-place g l =
     let r = g.R.Recovery in
-    IsPiece (r.asks l.recovery) (r.judged l.recovery) (r.last_alike l.recovery) (r.low l.recovery) (r.high l.recovery) (r.lines l.recovery) l.queue l.piece
+    IsPiece (r.asks l.recovery) (r.judged l.recovery) (r.alike l.recovery) (r.low l.recovery) (r.high l.recovery) (r.lines l.recovery) l.queue l.piece
     × (l.place ≡ l.piece.first + l.piece.count)
     × (length l.run.numbers ≡ r.lines l.recovery)
     × r.fits l.recovery l.workspace

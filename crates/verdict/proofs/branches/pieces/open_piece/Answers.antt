@@ -1,4 +1,4 @@
-use Rattle.std.proofs.Common.{◌≡◌, ◌∙◌, [], ap, length, refl}
+use Rattle.std.proofs.Common.{◌∙◌, [], ap, length, refl}
 use Rattle.std.proofs.lemmas.List.{length-replicate}
 use Rattle.verdict.proofs.Opening.{fresh_decided}
 use Rattle.verdict.proofs.branches.pieces.open_piece.Goals as goal

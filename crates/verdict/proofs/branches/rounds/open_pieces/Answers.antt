@@ -10,4 +10,4 @@ returns g c =
     let s = c.args.recovery.now in
     IfOk-then c.collect.result _ _ c.collect.ensures (λ v h.
     let chain = rw (c.map.ensures.base, c.map.ensures.f) at h.1 in
-    rw h.2 (zip_all (λ found. IfOk found (IsPiece (r.asks s) (r.judged s) (r.last_alike s) (r.low s) (r.high s) (r.lines s) c.args.queue.now)) chain.0 h.0 chain.2))
+    rw h.2 (zip_all (λ found. IfOk found (IsPiece (r.asks s) (r.judged s) (r.alike s) (r.low s) (r.high s) (r.lines s) c.args.queue.now)) chain.0 h.0 chain.2))

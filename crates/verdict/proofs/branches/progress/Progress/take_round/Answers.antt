@@ -15,7 +15,7 @@ take_piece-requires-clause-piece g c κs within =
     let i = c.loop-found.invariant in
     let there : c.loop-found.found-index < length c.loop-found.found-items =
     (let test = c.loop-found-test.true in let same = c.loop-found.auto.found-items in omega (arith, test, same)) in
-    piece_now (r.asks s) (r.judged s) (r.last_alike s) (r.low s) (r.high s) (r.lines s) c.args.self.now.findings.found.items i.2.0 c.loop-found.self.findings.found.items
+    piece_now (r.asks s) (r.judged s) (r.alike s) (r.low s) (r.high s) (r.lines s) c.args.self.now.findings.found.items i.2.0 c.loop-found.self.findings.found.items
     c.loop-found.found-items c.loop-found.found-index c.found-item.result c.in-Ok.piece c.requires.at.opening.nodes.tree i.2.1 there c.in-Ok.is i.5
 
 pub loop-found-preserved : goal.loop-found-preserved
@@ -34,7 +34,7 @@ loop-found-preserved g c =
       ),
       c.take_piece.ensures.size ∙ i.3,
       c.take_piece.ensures.least_size ∙ i.4,
-      from_next (λ found. IfOk found (IsPiece (r.asks s) (r.judged s) (r.last_alike s) (r.low s) (r.high s) (r.lines s) c.args.self.now.findings.found.items))
+      from_next (λ found. IfOk found (IsPiece (r.asks s) (r.judged s) (r.alike s) (r.low s) (r.high s) (r.lines s) c.args.self.now.findings.found.items))
           c.loop-found.found-items c.loop-found.found-index _ i.5,
     )
 

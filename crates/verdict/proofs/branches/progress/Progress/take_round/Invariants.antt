@@ -17,4 +17,4 @@ invariant-loop-found g l =
     × ((more : List Entry) × (p.findings.found.items ≡ old.found.items ++ more))
     × (length p.findings.asked ≡ length old.asked)
     × (length p.findings.least ≡ length old.least)
-    × AreFrom (λ found. IfOk found (IsPiece (r.asks s) (r.judged s) (r.last_alike s) (r.low s) (r.high s) (r.lines s) old.found.items)) l.found-index l.found-items
+    × AreFrom (λ found. IfOk found (IsPiece (r.asks s) (r.judged s) (r.alike s) (r.low s) (r.high s) (r.lines s) old.found.items)) l.found-index l.found-items
