@@ -1,3 +1,4 @@
+pub mod Codes
 pub mod Accounts
 pub mod Agreeing
 pub mod Alone

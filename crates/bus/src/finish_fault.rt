@@ -4,17 +4,31 @@ use thiserror::Error;
 
 /// Why the seats of a core can't be gathered to one run.
 #[derive(Clone, Copy, Debug, PartialEq, Eq, Error)]
+#[error("{}", self.code())]
 pub enum FinishFault {
     /// B1: a hart has no seat.
-    #[error("B1")]
     SeatMissing,
     /// B2: two seats have one number, or a seat is that of no hart.
-    #[error("B2")]
     SeatNumber,
     /// B3: a seat is another core's, or the core that of another bus.
-    #[error("B3")]
     Foreign,
     /// B4: memory was refused.
-    #[error("B4")]
     Memory,
+}
+
+impl FinishFault {
+    ghost use Rattle.std.specs.Prelude.{◌≡◌};
+    ghost use Rattle.bus.specs.Codes.{finish_code};
+
+    /// The code by which the fault is known, B1 to B4.
+    pub fn code(self) -> &'static str
+        ensures { result.now ≡ finish_code self }
+    {
+        match self {
+            FinishFault::SeatMissing => "B1",
+            FinishFault::SeatNumber => "B2",
+            FinishFault::Foreign => "B3",
+            FinishFault::Memory => "B4",
+        }
+    }
 }

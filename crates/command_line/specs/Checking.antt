@@ -3,16 +3,15 @@ use Rattle.std.specs.Prelude.{◌≡◌, IfSome, ℕ, List, [], Option, Result, 
 use Rattle.arguments.specs.Line.{IsWithin}
 use Rattle.arguments.specs.Spans.{IsUpward}
 use Rattle.arguments.specs.declared.asked.CheckCommand.{CheckCommand}
+use Rattle.image_check.specs.Codes.{cause_code}
 use Rattle.image_check.specs.Verdicts.{IsRefusal}
 use Rattle.crash_test.specs.Told.{IsAsked}
 use Rattle.image_check.specs.declared.cause.Cause.{Cause}
-use Rattle.image_check.specs.declared.cause.Cause.TheVariants as causes
 use Rattle.verdict.specs.declared.moment_verdict.verdict.Verdict.{Verdict}
 use Rattle.plan.specs.Plans.{PlanView}
 use Rattle.crash_test.specs.Checking.{HasVerdict, IsToldOf}
 use Rattle.crash_test.specs.Programs.{IsProgramOf}
 use Rattle.unfinished.specs.Causes.{numbers_of}
-use Rattle.command_line.specs.Codes.{volume_code}
 use Rattle.command_line.specs.Failures.{failure_of_check}
 use Rattle.command_line.specs.Demanding.{MeetsWhole}
 use Rattle.command_line.specs.MakingRuns.{OpensRun}
@@ -25,11 +24,6 @@ use Rattle.command_line.specs.declared.answer.Answer.{Answer}
 use Rattle.command_line.specs.declared.failure.Failure.{Failure}
 use Rattle.command_line.specs.declared.opened.OpenCheck.{OpenCheck}
 use Rattle.command_line.specs.declared.made_run.MadeRun.{MadeRun}
-
--- why an image is bad: the code of the fault that recovery finds in it, or `illegal`
-abbrev pub cause_text : Cause → List ℕ
-cause_text (causes.Fault fault) = volume_code fault
-cause_text causes.Illegal = codes "illegal"
 
 -- With `--whole` a run that is whole is judged alone: a pass then also says that each hart has exited with 0, and that each planned
 -- operation has ended.
@@ -69,4 +63,4 @@ abbrev pub JudgesCheck : {E : Type 0} → (E → Option (List ℕ)) → OpenChec
 JudgesCheck said check =
     First (Watches said check) (λ verdict.
     First (Still (Explains IsAsked check.made.run (failing check.command.why verdict))) (λ why.
-    Still (Prints (told_verdict cause_text check.command.json verdict ++ told_why check.command.json check.made why) (verdict_status verdict))))
+    Still (Prints (told_verdict cause_code check.command.json verdict ++ told_why check.command.json check.made why) (verdict_status verdict))))

@@ -1,7 +1,7 @@
 -- `--whole`: what comes of a run that was to be whole.
 use Rattle.std.specs.Prelude.{◌≡◌, ◌≢◌, ◌⊎◌, ⊤, ℕ, Bool, true, false, List, [], Result, MatchResult, string_bytes}
 use Rattle.crash_test.specs.Lines.{line_of}
-use Rattle.machine.specs.RecordingRuns.{RunView}
+use Rattle.machine.specs.RunValues.{RunView}
 use Rattle.report.specs.Causes.{unfinished_text}
 use Rattle.unfinished.specs.Causes.{AreCauses}
 use Rattle.unfinished.specs.Whole.{IsWhole}

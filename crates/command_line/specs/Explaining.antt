@@ -5,7 +5,7 @@ use Rattle.text.specs.declared.image_name.name.ImageName.{ImageName}
 use Rattle.machine.specs.declared.schedule.items.Item.{Item}
 use Rattle.crash_test.specs.Explaining.{ExplainsImage}
 use Rattle.crash_test.specs.Told.{LacksImage}
-use Rattle.machine.specs.RecordingRuns.{RunView}
+use Rattle.machine.specs.RunValues.{RunView}
 use Rattle.command_line.specs.Failures.{failure_of_image}
 use Rattle.command_line.specs.Demanding.{MeetsWhole}
 use Rattle.command_line.specs.MakingRuns.{OpensRun}

@@ -29,8 +29,16 @@ use Rattle.crash_test.specs.declared.loading.ProgramFault.{ProgramFault}
 use Rattle.crash_test.specs.declared.loading.ProgramFault.TheVariants as programs
 use Rattle.crash_test.specs.declared.runs.TogetherFault.{TogetherFault}
 use Rattle.crash_test.specs.declared.runs.TogetherFault.TheVariants as together
-use Rattle.command_line.specs.Codes.{assembly_code, load_code, mark_code, operation_code, plan_code, volume_code}
-use Rattle.debugger.specs.Codes.{step_code}
+use Rattle.assemble.specs.Codes.{assembly_code}
+use Rattle.bus.specs.Codes.{finish_code}
+use Rattle.bus.specs.declared.finish_fault.FinishFault.TheVariants as seats
+use Rattle.crash_image.specs.Codes.{image_code}
+use Rattle.image_check.specs.Codes.{operation_code}
+use Rattle.machine.specs.Codes.{schedule_code, step_code}
+use Rattle.nova_log.specs.Codes.{volume_code}
+use Rattle.plan.specs.Codes.{plan_code}
+use Rattle.program.specs.Codes.{load_code}
+use Rattle.routine_judge.specs.Codes.{mark_code}
 use Rattle.command_line.specs.Reports.{line_end}
 use Rattle.command_line.specs.declared.failure.Failure.{Failure}
 use Rattle.command_line.specs.declared.failure.Failure.TheVariants.{Line, Refused, Unfinished, Memory, File}
@@ -44,13 +52,13 @@ abbrev pub refusal_code : Refusal → List ℕ
 refusal_code (Assembly fault) = assembly_code fault.code
 refusal_code (Object fault) = load_code fault
 refusal_code (Plan fault) = plan_code fault.code
-refusal_code ScheduleText = codes "G3"
+refusal_code ScheduleText = schedule_code schedules.Text
 refusal_code Medium = codes "M3"
 refusal_code (Volume fault) = volume_code fault
 refusal_code (Step fault) = step_code fault
-refusal_code Foreign = codes "B3"
-refusal_code Moment = codes "C1"
-refusal_code Image = codes "C2"
+refusal_code Foreign = finish_code seats.Foreign
+refusal_code Moment = image_code images.NoSuchMoment
+refusal_code Image = image_code images.NotACut
 refusal_code (Operation fault) = operation_code fault
 refusal_code (Marks fault) = mark_code fault
 refusal_code (RecoverySource fault) = assembly_code fault.code

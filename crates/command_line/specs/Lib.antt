@@ -1,6 +1,5 @@
 pub mod Assembling
 pub mod Checking
-pub mod Codes
 pub mod Coding
 pub mod Debugging
 pub mod Demanding

@@ -7,7 +7,7 @@ use Rattle.report.specs.LossesJson.{event_object, unpersisted_json}
 use Rattle.report.specs.Unpersisted.{count_of, unpersisted_text}
 use Rattle.crash_test.specs.Lines.{line_of}
 use Rattle.durability.specs.Unpersisted.{AreEndLosses, AreFirstLosses, IsUnpersistedOutside}
-use Rattle.machine.specs.RecordingRuns.{RunView}
+use Rattle.machine.specs.RunValues.{RunView}
 use Rattle.store_trace.specs.declared.event.Event.{Event}
 use Rattle.command_line.specs.declared.failure.Failure.TheVariants.{Memory}
 use Rattle.machine.specs.declared.run_trace.traced_event.TracedEvent.{TracedEvent}

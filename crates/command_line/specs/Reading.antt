@@ -16,7 +16,7 @@ use Rattle.machine.specs.declared.schedule.fault.ScheduleFault.{ScheduleFault}
 use Rattle.machine.specs.declared.schedule.fault.ScheduleFault.TheVariants as schedules
 use Rattle.machine.specs.declared.schedule.items.Item.{Item}
 use Rattle.crash_test.specs.Programs.{IsLoadFault, IsProgramOf}
-use Rattle.machine.specs.RecordingRuns.{with_room}
+use Rattle.machine.specs.RunValues.{with_room}
 use Rattle.machine.specs.declared.recording.setup.Setup.{Setup}
 use Rattle.command_line.specs.Failures.{failure_of_medium, failure_of_plan, failure_of_program, failure_of_recovery, failure_of_schedule}
 use Rattle.command_line.specs.Steps.{First, Reads, ReadsFile, Step, Still, Tells}

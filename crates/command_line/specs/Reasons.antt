@@ -9,7 +9,7 @@ use Rattle.text.specs.declared.image_name.name.ImageName.{ImageName}
 use Rattle.report.specs.LossesEvents.{event_text}
 use Rattle.report.specs.LossesJson.{event_object, why_json}
 use Rattle.report.specs.Why.{why_text}
-use Rattle.machine.specs.RecordingRuns.{RunView}
+use Rattle.machine.specs.RunValues.{RunView}
 use Rattle.machine.specs.declared.run_trace.traced_event.TracedEvent.{TracedEvent}
 use Rattle.command_line.specs.Failures.{failure_of_image}
 use Rattle.command_line.specs.Steps.{Tells}

@@ -9,7 +9,7 @@ use Rattle.program.specs.Sections.{Sections}
 use Rattle.machine.specs.declared.schedule.items.Item.{Item}
 use Rattle.machine.specs.Recorded.{RecordedView}
 use Rattle.crash_test.specs.Runs.{FailsToRun, FailsTogether, HasRun, HasRunTogether, IsRunOf}
-use Rattle.machine.specs.RecordingRuns.{IsLeftOf, setup}
+use Rattle.machine.specs.RunValues.{IsLeftOf, setup}
 use Rattle.machine.specs.declared.recording.setup.Setup.{Setup}
 use Rattle.command_line.specs.Failures.{failure_of_step, failure_of_together}
 use Rattle.command_line.specs.Reading.{ReadsMedium, ReadsProgram, ReadsSchedule}

@@ -9,7 +9,7 @@ use Rattle.crash_test.specs.Lines.{line_of}
 use Rattle.durability.specs.Found.{AreNeedless, with_reasons}
 use Rattle.durability.specs.declared.redundant.reason.Needless.{Needless}
 use Rattle.durability.specs.declared.redundant.reason.Reason.{Reason}
-use Rattle.machine.specs.RecordingRuns.{RunView}
+use Rattle.machine.specs.RunValues.{RunView}
 use Rattle.store_trace.specs.declared.event.Event.{Event}
 use Rattle.command_line.specs.Demanding.{MeetsWhole}
 use Rattle.command_line.specs.MakingRuns.{OpensRun}

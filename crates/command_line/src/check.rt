@@ -2,7 +2,7 @@
 
 ghost use Rattle.arguments.specs.Line.{IsWithin};
 ghost use Rattle.arguments.specs.Spans.{IsUpward};
-ghost use Rattle.command_line.specs.Checking.{IsOpen, JudgesCheck, JudgesOpen, OpensCheck, TellsProgress, Watches, cause_text};
+ghost use Rattle.command_line.specs.Checking.{IsOpen, JudgesCheck, JudgesOpen, OpensCheck, TellsProgress, Watches};
 ghost use Rattle.command_line.specs.Progress.{IsToldIf};
 ghost use Rattle.command_line.specs.Reasons.{Explains, ExplainsOne};
 ghost use Rattle.command_line.specs.Verdicts.{failing};
@@ -11,7 +11,6 @@ ghost use Rattle.machine.specs.Grammar.{hart_steps};
 ghost use Rattle.std.specs.Prelude.{◌≡◌, ◌^◌, ◌<◌, IfOk, IfSome};
 
 use crate::answer::Answer;
-use crate::codes::volume_code;
 use crate::failure::Failure;
 use crate::files::Files;
 use crate::made_run::open_run;
@@ -134,20 +133,11 @@ fn explained(
 }
 
 impl ToldCause for Cause {
-    ghost use Rattle.command_line.specs.Checking.{cause_text};
+    ghost use Rattle.image_check.specs.Codes.{cause_code};
 
-    ghost told = { cause_text };
+    ghost told = { cause_code };
 
     fn text(self, alloc: Global) -> Result<String, AllocError> {
-        format!(in alloc; "{}", cause_text(self))
-    }
-}
-
-fn cause_text(cause: Cause) -> &'static str
-    ensures { result.now ≡ cause_text cause }
-{
-    match cause {
-        Cause::Fault(fault) => volume_code(fault),
-        Cause::Illegal => "illegal",
+        format!(in alloc; "{}", self.code())
     }
 }

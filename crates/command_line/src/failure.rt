@@ -1,10 +1,10 @@
 //! Why a command gives no answer: what is printed of it, and its status.
 
-use crate::codes::{assembly_code, load_code, mark_code, operation_code, plan_code, volume_code};
 use assemble::AsmFault;
-use debugger::step_code;
+use bus::FinishFault;
+use crash_image::ImageFault;
 use image_check::OpFault;
-use machine::StepFault;
+use machine::{ScheduleFault, StepFault};
 use nova_log::VolumeFault;
 use plan::PlanFault;
 use program::LoadFault;
@@ -53,18 +53,18 @@ impl Refusal {
         ensures { result.now ≡ refusal_code self.now }
     {
         match *self {
-            Refusal::Assembly(fault) | Refusal::RecoverySource(fault) => assembly_code(fault.code),
-            Refusal::Object(fault) | Refusal::RecoveryObject(fault) => load_code(fault),
-            Refusal::Plan(fault) => plan_code(fault.code),
-            Refusal::ScheduleText => "G3",
+            Refusal::Assembly(fault) | Refusal::RecoverySource(fault) => fault.code.name(),
+            Refusal::Object(fault) | Refusal::RecoveryObject(fault) => fault.code(),
+            Refusal::Plan(fault) => fault.code.name(),
+            Refusal::ScheduleText => ScheduleFault::Text.code(),
             Refusal::Medium => "M3",
-            Refusal::Volume(fault) => volume_code(fault),
-            Refusal::Step(fault) => step_code(fault),
-            Refusal::Foreign => "B3",
-            Refusal::Moment => "C1",
-            Refusal::Image => "C2",
-            Refusal::Operation(fault) => operation_code(fault),
-            Refusal::Marks(fault) => mark_code(fault),
+            Refusal::Volume(fault) => fault.code(),
+            Refusal::Step(fault) => fault.code(),
+            Refusal::Foreign => FinishFault::Foreign.code(),
+            Refusal::Moment => ImageFault::NoSuchMoment.code(),
+            Refusal::Image => ImageFault::NotACut.code(),
+            Refusal::Operation(fault) => fault.code(),
+            Refusal::Marks(fault) => fault.code(),
         }
     }
 }

@@ -5,7 +5,6 @@ mod answer;
 mod asm;
 mod check;
 mod code;
-mod codes;
 mod commands;
 mod debug;
 mod executing;

@@ -1,3 +1,4 @@
+pub mod Codes
 pub mod Bounds
 pub mod FloorScan
 pub mod ImageScan

@@ -40,6 +40,22 @@ pub enum ImageFault {
     Memory,
 }
 
+impl ImageFault {
+    ghost use Rattle.std.specs.Prelude.{◌≡◌};
+    ghost use Rattle.crash_image.specs.Codes.{image_code};
+
+    /// The code by which the fault is known, C1 to C3.
+    pub fn code(&self) -> &'static str
+        ensures { result.now ≡ image_code self.now }
+    {
+        match self {
+            ImageFault::NoSuchMoment => "C1",
+            ImageFault::NotACut => "C2",
+            ImageFault::Memory => "C3",
+        }
+    }
+}
+
 impl From<AllocError> for ImageFault {
     ghost use Rattle.std.specs.Prelude.{◌≡◌};
     ghost use Rattle.crash_image.specs.declared.ImageFault.TheVariants.{Memory};

@@ -26,7 +26,7 @@ use Rattle.machine.specs.declared.shared_memory.fault.StepFault.{StepFault}
 use Rattle.machine.specs.declared.shared_memory.fault.StepFault.TheVariants.{NoSuchHart, NoSuchLine, TraceFull, Memory, OutOfLimits}
 use Rattle.crash_test.proofs.Together.{hart_count_of}
 use Rattle.crash_test.specs.Runs.{FailsTogether, FillsTrace, HasRunTogether, HaveMadeAll, HaveMadeAtMost, StopsHarts}
-use Rattle.machine.specs.RecordingRuns.{IsLeftOf, start_of}
+use Rattle.machine.specs.RunValues.{IsLeftOf, start_of}
 use Rattle.machine.specs.declared.recording.setup.Setup.{Setup}
 use Rattle.crash_test.specs.declared.runs.TogetherFault.TheVariants as together
 

@@ -4,7 +4,7 @@ use Rattle.crash_test.specs.Explaining.{ExplainsImage, HasImage}
 use Rattle.witness.specs.Explains.{Explains}
 use Rattle.text.specs.declared.image_name.name.ImageName.{ImageName}
 use Rattle.machine.specs.Recorded.{RecordedView}
-use Rattle.machine.specs.RecordingRuns.{IsRecordOf, RunView}
+use Rattle.machine.specs.RunValues.{IsRecordOf, RunView}
 use Rattle.machine.specs.Steps.{all_steps}
 use Rattle.machine.specs.declared.schedule.items.Item.{Item}
 

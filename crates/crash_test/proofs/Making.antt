@@ -11,7 +11,7 @@ use Rattle.machine.specs.Steps.{all_steps}
 use Rattle.machine.specs.declared.schedule.items.Item.{Item}
 use Rattle.machine.specs.declared.schedule.items.Step.{Step}
 use Rattle.crash_test.specs.Runs.{FailsToRun, HasMade, HasRun, IsAtStart}
-use Rattle.machine.specs.RecordingRuns.{AreThere, IsLeftOf, start_of}
+use Rattle.machine.specs.RunValues.{AreThere, IsLeftOf, start_of}
 use Rattle.machine.specs.declared.recording.setup.Setup.{Setup}
 
 -- a machine at the start has as many harts as its setup says

@@ -13,7 +13,7 @@ use Rattle.machine.specs.Steps.{all_steps}
 use Rattle.machine.specs.declared.schedule.items.Item.{Item}
 use Rattle.store_trace.specs.declared.event.Event.{Event}
 use Rattle.crash_test.specs.Checking.{AlwaysPasses}
-use Rattle.machine.specs.RecordingRuns.{start_of}
+use Rattle.machine.specs.RunValues.{start_of}
 use Rattle.machine.specs.declared.recording.setup.Setup.{Setup}
 use Rattle.crash_test.proofs.Running.{HasTrace}
 

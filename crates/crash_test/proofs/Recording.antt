@@ -5,7 +5,7 @@ use Rattle.machine.specs.declared.fault.RunStop.{RunStop}
 use Rattle.machine.specs.declared.schedule.items.Item.{Item}
 use Rattle.crash_test.proofs.Making.{are_there}
 use Rattle.crash_test.specs.Runs.{FailsToRun, RefusesStep}
-use Rattle.machine.specs.RecordingRuns.{IsWithin, start_of}
+use Rattle.machine.specs.RunValues.{IsWithin, start_of}
 use Rattle.machine.specs.declared.recording.setup.Setup.{Setup}
 
 refuses_step : (s : Setup) (schedule : List Item) (stop : RunStop) → IsWithin s

@@ -19,7 +19,7 @@ use Rattle.machine.specs.declared.schedule.items.Item.{Item}
 use Rattle.store_trace.specs.History.{at_moment, history}
 use Rattle.store_trace.specs.declared.event.Event.{Event}
 use Rattle.crash_test.proofs.Surviving.{IsLeftAfter, left_after}
-use Rattle.machine.specs.RecordingRuns.{start_of}
+use Rattle.machine.specs.RunValues.{start_of}
 use Rattle.machine.specs.declared.recording.setup.Setup.{Setup}
 use Rattle.crash_test.proofs.Running.{HasTrace}
 use Rattle.crash_test.specs.Judging.{AlwaysRecovers, AnswersRightly, IsRightAt, AnswersAfterPowerCuts, view_of}

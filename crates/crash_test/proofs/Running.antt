@@ -1,7 +1,7 @@
 -- A run as a value is the machine's one run.
 use Rattle.std.proofs.Common.{◌≡◌, List}
 use Rattle.machine.specs.Run.{Config, RunsTo}
-use Rattle.machine.specs.RecordingRuns.{IsRun, RunView, start_of}
+use Rattle.machine.specs.RunValues.{IsRun, RunView, start_of}
 use Rattle.machine.specs.declared.recording.setup.Setup.{Setup}
 use Rattle.machine.proofs.Traces.{is_run}
 use Rattle.machine.specs.Steps.{all_steps}

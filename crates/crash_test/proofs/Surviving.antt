@@ -20,9 +20,9 @@ use Rattle.machine.specs.declared.schedule.items.Step.{Step}
 use Rattle.store_trace.specs.History.{history}
 use Rattle.store_trace.specs.declared.event.Event.{Event}
 use Rattle.crash_test.proofs.Running.{has_trace}
-use Rattle.machine.specs.RecordingRuns.{IsRun, RunView}
+use Rattle.machine.specs.RunValues.{IsRun, RunView}
 use Rattle.crash_test.specs.Checking.{AlwaysPasses, Recovers, SurvivesPowerCuts}
-use Rattle.machine.specs.RecordingRuns.{start_of}
+use Rattle.machine.specs.RunValues.{start_of}
 use Rattle.machine.specs.declared.recording.setup.Setup.{Setup}
 
 -- the events of a run's first hart steps are its first events

@@ -31,7 +31,7 @@ use Rattle.machine.specs.declared.schedule.items.Step.TheVariants.{Hart, Evict}
 use Rattle.machine.specs.declared.shared_memory.fault.StepFault.{StepFault}
 use Rattle.machine.specs.declared.shared_memory.fault.StepFault.TheVariants as step_faults
 use Rattle.crash_test.specs.Runs.{FailsTogether, FillsTrace, HasRun, HasRunTogether, HaveMadeAll, HaveMadeAtMost, IsRunOf, IsUnfinished, StopsHarts, unfinished_of}
-use Rattle.machine.specs.RecordingRuns.{AreThere, IsLeftOf, start_of}
+use Rattle.machine.specs.RunValues.{AreThere, IsLeftOf, start_of}
 use Rattle.machine.specs.declared.recording.setup.Setup.{Setup}
 use Rattle.crash_test.specs.declared.runs.TogetherFault.{TogetherFault}
 

@@ -19,9 +19,9 @@ use Rattle.machine.specs.declared.schedule.items.Item.{Item}
 use Rattle.machine.specs.declared.schedule.items.Step.{Step}
 use Rattle.store_trace.specs.History.{at_moment}
 use Rattle.store_trace.specs.declared.event.Event.{Event}
-use Rattle.machine.specs.RecordingRuns.{start_of}
+use Rattle.machine.specs.RunValues.{start_of}
 use Rattle.machine.specs.declared.recording.setup.Setup.{Setup}
-use Rattle.machine.specs.RecordingRuns.{RunView}
+use Rattle.machine.specs.RunValues.{RunView}
 use Rattle.nova_log.specs.declared.volume.entry.Entry.{Entry}
 
 -- the verdict on the moments of the run from `first` to `last`, or to its last one; the run's marks are right

@@ -9,7 +9,7 @@ use Rattle.text.specs.declared.image_name.name.ImageName.{ImageName}
 use Rattle.machine.specs.Represents.{MachineView, Represents}
 use Rattle.machine.specs.Run.{Config, RunsTo}
 use Rattle.machine.specs.Recorded.{RecordedView}
-use Rattle.machine.specs.RecordingRuns.{IsRecordOf, RunView, start_of}
+use Rattle.machine.specs.RunValues.{IsRecordOf, RunView, start_of}
 use Rattle.machine.specs.Steps.{all_steps}
 use Rattle.machine.specs.declared.schedule.items.Item.{Item}
 use Rattle.machine.specs.Persisted.{touched}

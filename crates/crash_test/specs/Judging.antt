@@ -22,9 +22,9 @@ use Rattle.machine.specs.declared.schedule.items.Item.{Item}
 use Rattle.store_trace.specs.History.{at_moment}
 use Rattle.store_trace.specs.declared.event.Event.{Event}
 use Rattle.crash_test.specs.Checking.{HoldsAfterPowerCuts}
-use Rattle.machine.specs.RecordingRuns.{start_of}
+use Rattle.machine.specs.RunValues.{start_of}
 use Rattle.machine.specs.declared.recording.setup.Setup.{Setup}
-use Rattle.machine.specs.RecordingRuns.{RunView}
+use Rattle.machine.specs.RunValues.{RunView}
 
 -- the routine, for so many steps at most, over these events of a run from the setup's medium
 abbrev pub view_of : Setup → Sections → ℕ → List Event → JudgeView

@@ -4,7 +4,7 @@ use Rattle.crash_test.specs.Explaining.{ExplainsImage}
 use Rattle.crash_test.specs.declared.losses.ExplainedImage.{ExplainedImage}
 use Rattle.crash_test.specs.Told.{IsToldBy}
 use Rattle.text.specs.declared.image_name.name.ImageName.{ImageName}
-use Rattle.machine.specs.RecordingRuns.{RunView}
+use Rattle.machine.specs.RunValues.{RunView}
 
 -- what the image of this name lacks and keeps, by lines that a recovery reads of it, and a schedule that leaves the image
 pub record IsExplainedBy (reads : List (List ℕ) → List ℕ → Type 0) (run : RunView) (moment : ℕ) (name : ImageName)

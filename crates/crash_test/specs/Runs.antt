@@ -10,7 +10,7 @@ use Rattle.machine.specs.Refusals.{RefusesNext}
 use Rattle.machine.specs.Run.{Config, RunsTo}
 use Rattle.machine.specs.Represents.{IsRunning, MachineView, Represents}
 use Rattle.machine.specs.Recorded.{RecordedView, Records}
-use Rattle.machine.specs.RecordingRuns.{AreThere, IsRun, IsWithin, RunView, start_of}
+use Rattle.machine.specs.RunValues.{AreThere, IsRun, IsWithin, RunView, start_of}
 use Rattle.machine.specs.declared.recording.setup.Setup.{Setup}
 use Rattle.machine.specs.Places.{steps_before, steps_of_item}
 use Rattle.machine.specs.Steps.{all_steps}

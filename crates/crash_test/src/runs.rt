@@ -7,7 +7,7 @@ ghost use Rattle.machine.specs.Grammar.{hart_steps};
 ghost use Rattle.machine.specs.Limits.{RefusesStart};
 ghost use Rattle.std.specs.Prelude.{◌≡◌, ◌≢◌, ◌^◌, ◌<◌, IfErr, IfOk};
 ghost use Rattle.crash_test.specs.Runs.{FailsToRun, FailsTogether, HasRun, HasRunTogether, IsAtStart, IsRunBy, IsRunOf, IsUnfinished, unfinished_of};
-ghost use Rattle.machine.specs.RecordingRuns.{IsLeftOf, setup, start_of};
+ghost use Rattle.machine.specs.RunValues.{IsLeftOf, setup, start_of};
 
 use bus::{Bus, FinishFault, RunFault, check_start, run_harts};
 use line_memory::Medium;
@@ -26,7 +26,7 @@ pub enum TogetherFault {
     #[error("{0}")]
     Step(StepFault),
     /// B3: what the harts have made doesn't agree with what they share.
-    #[error("B3")]
+    #[error("{}", FinishFault::Foreign)]
     Foreign,
 }
 

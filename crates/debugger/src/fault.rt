@@ -1,7 +1,7 @@
 //! Why a debugger can't do what it is asked, and the codes of its faults.
 
 ghost use Rattle.std.specs.Prelude.{◌≡◌};
-ghost use Rattle.debugger.specs.Codes.{code, step_code};
+ghost use Rattle.debugger.specs.Codes.{code};
 
 use machine::{Place, StepFault};
 use thiserror::Error;
@@ -37,20 +37,7 @@ impl DebugFault {
             DebugFault::PointsFull => "D3",
             DebugFault::Memory => "D4",
             DebugFault::InputOutput => "D5",
-            DebugFault::Step(fault) | DebugFault::Stopped { fault, .. } => step_code(fault),
+            DebugFault::Step(fault) | DebugFault::Stopped { fault, .. } => fault.code(),
         }
-    }
-}
-
-/// The code by which a fault of a step is known.
-pub fn step_code(fault: StepFault) -> &'static str
-    ensures { result.now ≡ step_code fault }
-{
-    match fault {
-        StepFault::NoSuchHart => "G1",
-        StepFault::NoSuchLine => "G2",
-        StepFault::TraceFull => "G4",
-        StepFault::Memory => "G5",
-        StepFault::OutOfLimits => "G6",
     }
 }

@@ -10,7 +10,7 @@ mod stepping;
 mod stop;
 
 pub use debugger::Debugger;
-pub use fault::{DebugFault, step_code};
+pub use fault::DebugFault;
 pub use machine::{Machine, Outcome, Place, Schedule, StepFault};
 pub use points::{MAX_POINTS, Point};
 pub use sessions::{Failed, Sink, Source, session};

@@ -9,3 +9,4 @@ pub mod Planned
 pub mod RunViews
 pub mod Standing
 pub mod Verdicts
+pub mod Codes

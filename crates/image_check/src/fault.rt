@@ -1,38 +1,67 @@
 //! Why a trace isn't checked.
 
+use crash_image::ImageFault;
 use std::alloc::AllocError;
 use thiserror::Error;
 
 /// What is wrong with the mark of an operation. The message is the fault's code; of the faults of one event the
 /// lowest is told.
 #[derive(Clone, Copy, Debug, PartialEq, Eq, Error)]
+#[error("{}", self.code())]
 pub enum OpFault {
     /// The plan has no operation of this number.
-    #[error("O1")]
     Unknown,
     /// The operation begins although it began before, even where it has ended.
-    #[error("O2")]
     BegunTwice,
     /// The operation ends, and it isn't pending on this hart.
-    #[error("O3")]
     NotPending,
     /// The operation begins, and a pending operation adds to one of its inodes.
-    #[error("O4")]
     SharesInode,
+}
+
+impl OpFault {
+    ghost use Rattle.std.specs.Prelude.{◌≡◌};
+    ghost use Rattle.image_check.specs.Codes.{operation_code};
+
+    /// The code by which the fault is known, O1 to O4.
+    pub fn code(self) -> &'static str
+        ensures { result.now ≡ operation_code self }
+    {
+        match self {
+            OpFault::Unknown => "O1",
+            OpFault::BegunTwice => "O2",
+            OpFault::NotPending => "O3",
+            OpFault::SharesInode => "O4",
+        }
+    }
 }
 
 /// Why there is no verdict. The faults of operations come first, and want of memory last.
 #[derive(Clone, Copy, Debug, PartialEq, Eq, Error)]
+#[error("{}", self.code())]
 pub enum CheckFault {
     /// A mark of the trace is wrong.
-    #[error("{0}")]
     Operation(OpFault),
     /// The trace has fewer events than the moment.
-    #[error("C1")]
     NoSuchMoment,
     /// A growth was refused.
-    #[error("C3")]
     Memory,
+}
+
+impl CheckFault {
+    ghost use Rattle.std.specs.Prelude.{◌≡◌};
+    ghost use Rattle.image_check.specs.Codes.{check_code};
+
+    /// The code by which the fault is known: that of a mark, C1 or C3.
+    pub fn code(self) -> &'static str
+        ensures { result.now ≡ check_code self }
+    {
+        match self {
+            CheckFault::Operation(fault) => fault.code(),
+            CheckFault::NoSuchMoment => ImageFault::NoSuchMoment.code(),
+            CheckFault::Memory => ImageFault::Memory.code(),
+        }
+    }
 }
 
 impl From<AllocError> for CheckFault {

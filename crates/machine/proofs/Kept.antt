@@ -8,7 +8,7 @@ use Rattle.machine.specs.Represents.{MachineView, Represents, RepresentsExactly}
 use Rattle.program.specs.Sections.{Sections}
 use Rattle.machine.proofs.Numbering.{all_among, records_all}
 use Rattle.machine.specs.Recorded.{RecordedView, Records}
-use Rattle.machine.specs.RecordingRuns.{IsRun, IsWithin, RunView, run_of, start_of}
+use Rattle.machine.specs.RunValues.{IsRun, IsWithin, RunView, run_of, start_of}
 use Rattle.machine.specs.declared.recording.setup.Setup.{Setup}
 use Rattle.machine.proofs.Traces.{has_events}
 use Rattle.machine.specs.Traced.{Traces, events_in}

@@ -1,3 +1,4 @@
+pub mod Codes
 pub mod Decoded
 pub mod Evicting
 pub mod Left
@@ -29,4 +30,4 @@ pub mod Traced
 pub mod TracerLaws
 pub mod Tracers
 pub mod Recorded
-pub mod RecordingRuns
+pub mod RunValues

@@ -1,3 +1,4 @@
+pub mod Codes
 pub mod Chains
 pub mod Entries
 pub mod Fresh

@@ -1,3 +1,4 @@
+pub mod Codes
 pub mod Drafts
 pub mod Entries
 pub mod Grammar

@@ -5,22 +5,36 @@ use thiserror::Error;
 
 /// What is wrong with a line. The message is the fault's code, L1 to L5.
 #[derive(Clone, Copy, Debug, PartialEq, Eq, Error)]
+#[error("{}", self.name())]
 pub enum PlanCode {
     /// The line isn't one that may stand there, or a count is outside its limits.
-    #[error("L1")]
     Line,
     /// An earlier operation has the same number.
-    #[error("L2")]
     Twice,
     /// An inode isn't below the count, or a name stays where it is.
-    #[error("L3")]
     Inode,
     /// A name is empty, too long for the layout, or has other bytes than letters, digits, `.`, `_` and `-`.
-    #[error("L4")]
     Name,
     /// Memory was refused.
-    #[error("L5")]
     Memory,
+}
+
+impl PlanCode {
+    ghost use Rattle.std.specs.Prelude.{◌≡◌};
+    ghost use Rattle.plan.specs.Codes.{plan_code};
+
+    /// The code's name, L1 to L5.
+    pub fn name(self) -> &'static str
+        ensures { result.now ≡ plan_code self }
+    {
+        match self {
+            PlanCode::Line => "L1",
+            PlanCode::Twice => "L2",
+            PlanCode::Inode => "L3",
+            PlanCode::Name => "L4",
+            PlanCode::Memory => "L5",
+        }
+    }
 }
 
 impl From<AllocError> for PlanCode {

@@ -1,3 +1,4 @@
+pub mod Codes
 pub mod Loading
 pub mod ObjectFile
 pub mod Sections

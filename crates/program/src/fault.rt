@@ -10,25 +10,39 @@ use thiserror::Error;
 ///
 /// The message is the fault's code, P1 to P6. The codes don't stand in the order in which the faults are looked for.
 #[derive(Clone, Copy, Debug, PartialEq, Eq, Error)]
+#[error("{}", self.code())]
 pub enum LoadFault {
     /// The bytes don't begin with the magic.
-    #[error("P1")]
     Magic,
     /// The bytes end in the header or in a section.
-    #[error("P2")]
     Truncated,
     /// A section's length passes its limit.
-    #[error("P3")]
     TooLarge,
     /// Bytes stand after the sections.
-    #[error("P4")]
     Trailing,
     /// The text's length is no multiple of four.
-    #[error("P5")]
     TextLength,
     /// Memory was refused.
-    #[error("P6")]
     Memory,
+}
+
+impl LoadFault {
+    ghost use Rattle.std.specs.Prelude.{◌≡◌};
+    ghost use Rattle.program.specs.Codes.{load_code};
+
+    /// The code by which the fault is known, P1 to P6.
+    pub fn code(self) -> &'static str
+        ensures { result.now ≡ load_code self }
+    {
+        match self {
+            LoadFault::Magic => "P1",
+            LoadFault::Truncated => "P2",
+            LoadFault::TooLarge => "P3",
+            LoadFault::Trailing => "P4",
+            LoadFault::TextLength => "P5",
+            LoadFault::Memory => "P6",
+        }
+    }
 }
 
 impl From<AllocError> for LoadFault {

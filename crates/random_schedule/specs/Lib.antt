@@ -1,3 +1,4 @@
+pub mod Codes
 pub mod Drawing
 pub mod Evictions
 pub mod Interleaves

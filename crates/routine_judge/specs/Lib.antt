@@ -9,3 +9,4 @@ pub mod MarkFaults
 pub mod Operations
 pub mod Spans
 pub mod Windows
+pub mod Codes

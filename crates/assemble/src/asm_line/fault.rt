@@ -12,37 +12,51 @@ use thiserror::Error;
 ///
 /// The message is the code's name, A1 to A10. The grammar of a line finds A1 to A5.
 #[derive(Clone, Copy, Debug, PartialEq, Eq, PartialOrd, Ord, Error)]
+#[error("{}", self.name())]
 pub enum AsmCode {
     /// A byte or a run outside comments is no token, or a label is `.`.
-    #[error("A1")]
     BadToken,
     /// The name of a statement is no mnemonic or directive.
-    #[error("A2")]
     Mnemonic,
     /// The operands have not the shape of the mnemonic's.
-    #[error("A3")]
     Operands,
     /// A name is no register where one must stand, or a label is a register's name.
-    #[error("A4")]
     Register,
     /// A number is out of the range of its place.
-    #[error("A5")]
     Range,
     /// No line defines the label.
-    #[error("A6")]
     UnknownLabel,
     /// An earlier line defines the label.
-    #[error("A7")]
     LabelTwice,
     /// The statement may not stand in this section.
-    #[error("A8")]
     WrongSection,
     /// The source or a section passes its limit here.
-    #[error("A9")]
     TooLarge,
     /// Memory was refused.
-    #[error("A10")]
     Memory,
+}
+
+impl AsmCode {
+    ghost use Rattle.std.specs.Prelude.{◌≡◌};
+    ghost use Rattle.assemble.specs.Codes.{assembly_code};
+
+    /// The code's name, A1 to A10.
+    pub fn name(self) -> &'static str
+        ensures { result.now ≡ assembly_code self }
+    {
+        match self {
+            AsmCode::BadToken => "A1",
+            AsmCode::Mnemonic => "A2",
+            AsmCode::Operands => "A3",
+            AsmCode::Register => "A4",
+            AsmCode::Range => "A5",
+            AsmCode::UnknownLabel => "A6",
+            AsmCode::LabelTwice => "A7",
+            AsmCode::WrongSection => "A8",
+            AsmCode::TooLarge => "A9",
+            AsmCode::Memory => "A10",
+        }
+    }
 }
 
 impl<T: Drop> From<AllocFailed<T>> for AsmCode {

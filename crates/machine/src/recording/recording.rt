@@ -4,7 +4,7 @@ ghost use Rattle.machine.specs.Left.{IsLeftBy};
 ghost use Rattle.machine.specs.Run.{started};
 ghost use Rattle.machine.specs.Represents.{Represents, RepresentsExactly};
 ghost use Rattle.machine.specs.Recorded.{FailsToRecord, IsAtStep, Records};
-ghost use Rattle.machine.specs.RecordingRuns.{IsWithin, start_of};
+ghost use Rattle.machine.specs.RunValues.{IsWithin, start_of};
 ghost use Rattle.machine.specs.Grammar.{hart_steps as count_of_hart_steps};
 ghost use Rattle.machine.specs.Steps.{all_steps};
 ghost use Rattle.machine.specs.Limits.{AreWithinLimits, RefusesStart};

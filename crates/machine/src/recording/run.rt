@@ -1,7 +1,7 @@
 //! A run as a value.
 
 ghost use Rattle.machine.specs.Recorded.{FailsToRecord, IsAtStep, Records};
-ghost use Rattle.machine.specs.RecordingRuns.{IsRecordOf, IsRun, run_of, start_of};
+ghost use Rattle.machine.specs.RunValues.{IsRecordOf, IsRun, run_of, start_of};
 ghost use Rattle.machine.specs.Traced.{events_in};
 ghost use Rattle.machine.specs.Grammar.{hart_steps as count_of_hart_steps};
 ghost use Rattle.std.specs.Prelude.{◌≡◌, ◌^◌, ◌<◌, ◌≤◌, All, IfErr, IfOk, length};
@@ -29,7 +29,7 @@ pub struct Run {
 
 impl Model for Run {
     ghost use Rattle.machine.specs.Recorded.{Records};
-    ghost use Rattle.machine.specs.RecordingRuns.{IsRun, RunView, run_of, start_of};
+    ghost use Rattle.machine.specs.RunValues.{IsRun, RunView, run_of, start_of};
 
     ghost Value = { RunView };
 

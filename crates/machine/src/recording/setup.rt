@@ -1,6 +1,6 @@
 //! What a run starts from.
 
-ghost use Rattle.machine.specs.RecordingRuns.{with_room};
+ghost use Rattle.machine.specs.RunValues.{with_room};
 ghost use Rattle.std.specs.Prelude.{◌≡◌};
 
 use line_memory::Medium;

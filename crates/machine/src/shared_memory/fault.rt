@@ -5,22 +5,36 @@ use thiserror::Error;
 
 /// Why a step is refused. A refused step changes nothing.
 #[derive(Clone, Copy, Debug, PartialEq, Eq, Error)]
+#[error("{}", self.code())]
 pub enum StepFault {
     /// G1: there is no hart of this number, or not one to eight harts were asked for.
-    #[error("G1")]
     NoSuchHart,
     /// G2: there is no line of this number.
-    #[error("G2")]
     NoSuchLine,
     /// G4: the step would make an event, and the trace is full.
-    #[error("G4")]
     TraceFull,
     /// G5: memory was refused.
-    #[error("G5")]
     Memory,
     /// G6: a cache of no line, or of more than 16,384.
-    #[error("G6")]
     OutOfLimits,
+}
+
+impl StepFault {
+    ghost use Rattle.std.specs.Prelude.{◌≡◌};
+    ghost use Rattle.machine.specs.Codes.{step_code};
+
+    /// The code by which the fault is known, G1, G2 and G4 to G6.
+    pub fn code(self) -> &'static str
+        ensures { result.now ≡ step_code self }
+    {
+        match self {
+            StepFault::NoSuchHart => "G1",
+            StepFault::NoSuchLine => "G2",
+            StepFault::TraceFull => "G4",
+            StepFault::Memory => "G5",
+            StepFault::OutOfLimits => "G6",
+        }
+    }
 }
 
 impl From<TraceFault> for StepFault {

@@ -1,6 +1,6 @@
 -- A schedule of so many steps at most is within what a schedule's text has.
 use Rattle.std.proofs.Common.{arith}
-use Rattle.machine.specs.RecordingRuns.{start_of}
+use Rattle.machine.specs.RunValues.{start_of}
 use Rattle.command_line.proofs.interleave.drawn.Goals as goal
 
 pub returns-clause-few : goal.returns-clause-few

@@ -1,6 +1,6 @@
 -- What the harts of a setup make that run together, or why they don't.
 use Rattle.std.proofs.Common.{inr, rules}
-use Rattle.machine.specs.RecordingRuns.{setup}
+use Rattle.machine.specs.RunValues.{setup}
 use Rattle.crash_test.proofs.Together.{fails_finish, has_run_together, is_run_of, is_unfinished, left_together, some_seats, stops_together}
 use Rattle.crash_test.proofs.runs.run_together.Goals as goal
 

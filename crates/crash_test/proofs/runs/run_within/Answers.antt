@@ -1,6 +1,6 @@
 -- What the one hart of a setup makes, or why it doesn't.
 use Rattle.std.proofs.Common.{arith, refl}
-use Rattle.machine.specs.RecordingRuns.{setup}
+use Rattle.machine.specs.RunValues.{setup}
 use Rattle.crash_test.proofs.Alone.{fails_alone, few_alone, has_run_alone, left_alone}
 use Rattle.crash_test.proofs.Together.{is_run_of}
 use Rattle.crash_test.proofs.runs.run_within.Goals as goal
