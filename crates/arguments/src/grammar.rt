@@ -63,7 +63,7 @@ macro_rules! ending {
             $example,
             "\n\n",
             $more,
-            "Statuses: 0 done or pass, 1 fail, 2 refused input or command line, 3 too many images,\n",
+            "Statuses: 0 done or pass, 1 fail, 2 refused input or command line, 3 too many or too long,\n",
             "4 out of memory, 5 a file or a standard stream that failed.\n",
             "Formats and codes: docs/FORMATS.md; `novacrash code CODE` says what a code means."
         )
@@ -200,7 +200,7 @@ const ALL_STEPS: Argument = Argument::Valued {
 const RECOVERY_STEPS: Argument = Argument::Valued {
     name: "steps",
     value: "N",
-    about: "The most steps of recovery on an image, from 1 to 500000000 [default: 100000]",
+    about: "The most steps of recovery on an image, from 1 to 500000000: more where it is too long [default: 100000]",
 };
 
 const EVICTIONS: Argument = Argument::Valued {

@@ -97,8 +97,9 @@ none_judged_line = codes "no moment is judged: all lie before the first Begin" +
 abbrev pub note_of : {Cause : Type 0} → Verdict Cause → List ℕ
 note_of (verdicts.Pass zero images) = none_judged_line
 note_of (verdicts.Pass (suc n) images) = []
-note_of (verdicts.Fail moment image cause) = []
-note_of (verdicts.TooMany moment) = []
+note_of (verdicts.Fail moment image cause of_too_many) = []
+note_of (verdicts.TooMany moment lines) = []
+note_of (verdicts.TooLong moment) = []
 
 -- standard error gets that, or a front of it where it failed, and is left alone where there is nothing to say
 pub record Notes {E Cause : Type 0} (said : E → Option (List ℕ)) (verdict : Verdict Cause) (errors errors' : E) : Type 0 where

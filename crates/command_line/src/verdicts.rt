@@ -5,7 +5,7 @@ ghost use Rattle.arguments.specs.Line.{IsWithin};
 ghost use Rattle.arguments.specs.Spans.{IsUpward};
 ghost use Rattle.command_line.specs.Reasons.{told_why};
 ghost use Rattle.command_line.specs.Steps.{Prints};
-ghost use Rattle.command_line.specs.Verdicts.{fail_json, fail_line, failing, first_of, last_of, pass_json, pass_line, told_fail, told_pass, told_too_many, told_verdict, too_many_json, too_many_line, verdict_status};
+ghost use Rattle.command_line.specs.Verdicts.{fail_json, fail_line, failing, first_of, last_of, pass_json, pass_line, told_fail, told_pass, told_too_long, told_too_many, told_verdict, too_many_json, too_many_line, verdict_status};
 ghost use Rattle.machine.specs.Grammar.{hart_steps};
 ghost use Rattle.crash_test.specs.Programs.{IsProgramOf};
 
@@ -17,7 +17,7 @@ use arguments::Moments;
 use crash_test::{ExplainedImage, Work};
 use std::alloc::{AllocError, Global};
 use text::ImageName;
-use verdict::Verdict;
+use verdict::{Verdict, WidestLines};
 
 /// Why an image is bad.
 pub(crate) trait ToldCause: Copy {
@@ -62,11 +62,13 @@ fn told_verdict<C: ToldCause>(
             moment,
             image,
             cause,
+            of_too_many,
         } => {
             let cause = cause.text(alloc)?;
-            told_fail(alloc, *moment, image, cause.as_str(), json)
+            told_fail(alloc, *moment, image, cause.as_str(), *of_too_many, json)
         }
-        Verdict::TooMany { moment } => told_too_many(alloc, *moment, json),
+        Verdict::TooMany { moment, lines } => told_too_many(alloc, *moment, lines, json),
+        Verdict::TooLong { moment } => told_too_long(alloc, *moment, json),
     }
 }
 
@@ -76,7 +78,7 @@ fn verdict_status<C>(verdict: &Verdict<C>) -> u8
     match verdict {
         Verdict::Pass { .. } => 0,
         Verdict::Fail { .. } => 1,
-        Verdict::TooMany { .. } => 3,
+        Verdict::TooMany { .. } | Verdict::TooLong { .. } => 3,
     }
 }
 
@@ -135,30 +137,47 @@ pub(crate) fn told_pass(
 }
 
 /// An image of a moment is bad.
-pub(crate) fn told_fail(
+fn told_fail(
     alloc: Global,
     moment: u32,
     image: &ImageName,
     cause: &str,
+    of_too_many: bool,
     json: bool,
 ) -> Result<String, AllocError>
-    ensures { IfOk result (λ text. string_bytes text ≡ told_fail json moment image.now cause.now) }
+    ensures { IfOk result (λ text. string_bytes text ≡ told_fail json moment image.now cause.now of_too_many) }
 {
     if json {
-        fail_json(alloc, moment, image, cause)
+        fail_json(alloc, moment, image, cause, of_too_many)
     } else {
-        fail_line(alloc, moment, image, cause)
+        fail_line(alloc, moment, image, cause, of_too_many)
     }
 }
 
 /// A moment has over 65,536 branches.
-pub(crate) fn told_too_many(alloc: Global, moment: u32, json: bool) -> Result<String, AllocError>
-    ensures { IfOk result (λ text. string_bytes text ≡ told_too_many json moment) }
+fn told_too_many(
+    alloc: Global,
+    moment: u32,
+    lines: &Option<WidestLines>,
+    json: bool,
+) -> Result<String, AllocError>
+    ensures { IfOk result (λ text. string_bytes text ≡ told_too_many json moment lines.now) }
 {
     if json {
-        too_many_json(alloc, moment)
+        too_many_json(alloc, moment, lines)
     } else {
-        too_many_line(alloc, moment)
+        too_many_line(alloc, moment, lines)
+    }
+}
+
+/// What is right at a moment can't be told within the steps that recovery has.
+fn told_too_long(alloc: Global, moment: u32, json: bool) -> Result<String, AllocError>
+    ensures { IfOk result (λ text. string_bytes text ≡ told_too_long json moment) }
+{
+    if json {
+        format!(in alloc; "{{\"kind\":\"too long\",\"moment\":{moment}}}\n")
+    } else {
+        format!(in alloc; "too long moment={moment}\n")
     }
 }
 
@@ -176,25 +195,42 @@ fn pass_json(alloc: Global, moments: u64, images: Option<u64>) -> Result<String,
     }
 }
 
-/// `{"kind":"fail","moment":M,"image":"NAME","cause":"C"}`.
+/// `{"kind":"fail","moment":M,"image":"NAME","cause":"C"}`, with `"of":"too-many"` where the moment has over 65,536 branches.
 fn fail_json(
     alloc: Global,
     moment: u32,
     image: &ImageName,
     cause: &str,
+    of_too_many: bool,
 ) -> Result<String, AllocError>
-    ensures { IfOk result (λ text. string_bytes text ≡ fail_json moment image.now cause.now) }
+    ensures { IfOk result (λ text. string_bytes text ≡ fail_json moment image.now cause.now of_too_many) }
 {
+    let end = if of_too_many {
+        "\",\"of\":\"too-many\"}"
+    } else {
+        "\"}"
+    };
     format!(in alloc;
-        "{{\"kind\":\"fail\",\"moment\":{moment},\"image\":\"{image}\",\"cause\":\"{cause}\"}}\n"
+        "{{\"kind\":\"fail\",\"moment\":{moment},\"image\":\"{image}\",\"cause\":\"{cause}{end}\n"
     )
 }
 
-/// `{"kind":"too many","moment":M}`.
-fn too_many_json(alloc: Global, moment: u32) -> Result<String, AllocError>
-    ensures { IfOk result (λ text. string_bytes text ≡ too_many_json moment) }
+/// `{"kind":"too many","moment":M}`, with `"lines":"lN:K,.."` where lines are named.
+fn too_many_json(
+    alloc: Global,
+    moment: u32,
+    lines: &Option<WidestLines>,
+) -> Result<String, AllocError>
+    ensures { IfOk result (λ text. string_bytes text ≡ too_many_json moment lines.now) }
 {
-    format!(in alloc; "{{\"kind\":\"too many\",\"moment\":{moment}}}\n")
+    match lines {
+        Some(lines) => {
+            format!(in alloc;
+                "{{\"kind\":\"too many\",\"moment\":{moment},\"lines\":\"{lines}\"}}\n"
+            )
+        }
+        None => format!(in alloc; "{{\"kind\":\"too many\",\"moment\":{moment}}}\n"),
+    }
 }
 
 /// `pass moments=N images=N`, or `images=over` where a moment has over 65,536.
@@ -207,21 +243,30 @@ fn pass_line(alloc: Global, moments: u64, images: Option<u64>) -> Result<String,
     }
 }
 
-/// `fail moment=M image=NAME cause=C`.
+/// `fail moment=M image=NAME cause=C`, with ` of=too-many` where the moment has over 65,536 branches.
 fn fail_line(
     alloc: Global,
     moment: u32,
     image: &ImageName,
     cause: &str,
+    of_too_many: bool,
 ) -> Result<String, AllocError>
-    ensures { IfOk result (λ text. string_bytes text ≡ fail_line moment image.now cause.now) }
+    ensures { IfOk result (λ text. string_bytes text ≡ fail_line moment image.now cause.now of_too_many) }
 {
-    format!(in alloc; "fail moment={moment} image={image} cause={cause}\n")
+    let of = if of_too_many { " of=too-many" } else { "" };
+    format!(in alloc; "fail moment={moment} image={image} cause={cause}{of}\n")
 }
 
-/// `too many moment=M`.
-fn too_many_line(alloc: Global, moment: u32) -> Result<String, AllocError>
-    ensures { IfOk result (λ text. string_bytes text ≡ too_many_line moment) }
+/// `too many moment=M`, with ` lines=lN:K,..` where lines are named.
+fn too_many_line(
+    alloc: Global,
+    moment: u32,
+    lines: &Option<WidestLines>,
+) -> Result<String, AllocError>
+    ensures { IfOk result (λ text. string_bytes text ≡ too_many_line moment lines.now) }
 {
-    format!(in alloc; "too many moment={moment}\n")
+    match lines {
+        Some(lines) => format!(in alloc; "too many moment={moment} lines={lines}\n"),
+        None => format!(in alloc; "too many moment={moment}\n"),
+    }
 }

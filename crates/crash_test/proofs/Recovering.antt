@@ -1,5 +1,5 @@
 -- What a pass says of the run.
-use Rattle.std.proofs.Common.{◌≡◌, ℕ, ◌+◌, ◌≤◌, List, Option, None, length, sym, ap, ◌∙◌, arith}
+use Rattle.std.proofs.Common.{◌≡◌, ℕ, ◌+◌, ◌≤◌, inl, inr, List, Option, None, length, sym, ap, ◌∙◌, arith}
 use Rattle.std.specs.Prelude.{max, min}
 use Rattle.store_trace.specs.Cut.{number_in}
 use Rattle.store_trace.specs.Image.{image}
@@ -10,6 +10,8 @@ use Rattle.machine.specs.Replies.{trace_in}
 use Rattle.machine.proofs.Determined.{runs_once}
 use Rattle.machine.specs.Run.{Config, RunsTo}
 use Rattle.verdict.specs.Verdicts.{PassBetween}
+use Rattle.verdict.specs.declared.moment_verdict.verdict.MomentVerdict.{MomentVerdict}
+use Rattle.verdict.specs.declared.moment_verdict.verdict.MomentVerdict.TheVariants as moments
 use Rattle.verdict.specs.declared.moment_verdict.verdict.Verdict.{Verdict}
 use Rattle.verdict.specs.declared.moment_verdict.verdict.Verdict.TheVariants.{Pass}
 use Rattle.program.specs.Sections.{Sections}
@@ -38,7 +40,10 @@ all_moments s schedule recovery steps trace is passes end moment cut runs from w
     let here = all moment (from_there (first_judged (trace_in end.common)) (length (trace_in end.common) + 1) moment from) (omega arith) in record {
       window = here.window;
       is_window = here.is_window;
-      right = here.judged.1 cut is_cut;
+      right = elim here.judged [
+        | inl long ↦ absurd (let never : ◌≡◌ {A = MomentVerdict Cause} moments.Pass moments.TooLong = long.0 in cc)
+        | inr passes ↦ passes.1.1 cut is_cut
+      ];
     }
 
 pub always_recovers : (s : Setup) (schedule : List Item) (recovery : Sections) (steps first : ℕ) (last : Option ℕ) (trace : List Event) (verdict : Verdict Cause)

@@ -122,5 +122,5 @@ kept_next plan start events i d flags l s k f pass =
     let legal : (v : List (List Entry)) → IsLegal plan (volume_of start) before v → IsLegal plan (volume_of start) after v =
     λ v h. subst (λ (es : List Event). IsLegal plan (volume_of start) es v) same
     (legal_event plan (volume_of start) before event flags v (sound_first plan events i (omega arith) s) twice k h) in
-    pass_kept start (history before) (history after) flags same_number same_number (asks_at start (history before)) (asks_at start (history after)) (found_at plan start before)
+    pass_kept false start (history before) (history after) flags same_number same_number (asks_at start (history before)) (asks_at start (history after)) (found_at plan start before)
     (found_at plan start after) (λ q n m x y e. e) (like_next start events i d flags l (unseen flags event k)) (by_lines plan start before after legal) f pass

@@ -31,13 +31,13 @@ found_alike plan start events p k c found same f =
 -- the verdict by the branches that were opened, over the index's lines and events
 pub opened_moment : (plan same : List Operation) (start medium : List (List ℕ)) (all events : List Event) (moment m : ℕ) (verdict : MomentVerdict Cause) →
     same ≡ plan → start ≡ medium → all ≡ events → m ≡ moment →
-    verdicts.IsMomentVerdict same_number (asks_at start (at_moment all m)) (found_at same start (take m all)) (at_moment events moment) verdict →
+    verdicts.IsMomentVerdict false same_number (asks_at start (at_moment all m)) (found_at same start (take m all)) (at_moment events moment) verdict →
     IsMomentVerdict plan medium (take moment events) verdict
 opened_moment plan same start medium all events moment m verdict o s e n h =
     subst (λ (os : List Operation). IsMomentVerdict os medium (take moment events) verdict) o
     (subst (λ (x : List (List ℕ)). IsMomentVerdict same x (take moment events) verdict) s
-    (subst (λ (es : List Event). verdicts.IsMomentVerdict same_number (asks_at start (at_moment es moment)) (found_at same start (take moment es)) (at_moment events moment) verdict) e
-    (subst (λ (k : ℕ). verdicts.IsMomentVerdict same_number (asks_at start (at_moment all k)) (found_at same start (take k all)) (at_moment events moment) verdict) n h)))
+    (subst (λ (es : List Event). verdicts.IsMomentVerdict false same_number (asks_at start (at_moment es moment)) (found_at same start (take moment es)) (at_moment events moment) verdict) e
+    (subst (λ (k : ℕ). verdicts.IsMomentVerdict false same_number (asks_at start (at_moment all k)) (found_at same start (take k all)) (at_moment events moment) verdict) n h)))
 
 -- what the images of a moment are made of
 pub images_apart : (plan : List Operation) (all events : List Event) (moment : ℕ) → all ≡ events → moment ≤ length events →

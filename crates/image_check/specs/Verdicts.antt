@@ -1,7 +1,7 @@
 -- The verdicts on a moment and on a run. Cuts of whose images recovery asks the same lines, whole ones, and finds the same numbers of
 -- stores there, share a branch; a moment with over 65,536 branches isn't judged.
 -- Source: Vinter, USENIX ATC 2022: every crash image is recovered, and the state that shows is judged.
-use Rattle.std.specs.Prelude.{◌≡◌, ℕ, ◌+◌, ◌-◌, ◌^◌, ◌<◌, ◌≤◌, Bool, List, Option, length, map, take}
+use Rattle.std.specs.Prelude.{◌≡◌, ℕ, ◌+◌, ◌-◌, ◌^◌, ◌<◌, ◌≤◌, Bool, List, Option, length, map, take, false}
 use Rattle.store_trace.specs.Image.{image}
 use Rattle.store_trace.specs.declared.crash_model.step.PersistenceStep.{PersistenceStep}
 use Rattle.verdict.specs.Branches.{question, same_number}
@@ -47,7 +47,7 @@ IsLeastBad plan start events cut cause = verdicts.IsLeastBad (found_at plan star
 -- the verdict on the moment after these events
 abbrev pub IsMomentVerdict : List Operation → List (List ℕ) → List Event → MomentVerdict Cause → Type 0
 IsMomentVerdict plan start events verdict =
-    verdicts.IsMomentVerdict same_number (asks_at start (history events)) (found_at plan start events) (history events) verdict
+    verdicts.IsMomentVerdict false same_number (asks_at start (history events)) (found_at plan start events) (history events) verdict
 
 -- the verdict on moment m of these events
 abbrev pub judged_at : List Operation → List (List ℕ) → List Event → ℕ → MomentVerdict Cause → Type 0

@@ -91,7 +91,7 @@ impl Recovery for MomentImages<'_, '_> {
     ghost use Rattle.image_check.specs.Verdicts.{asks_at};
     ghost use Rattle.image_check.specs.Alike.{adaptive, branchwise, shared};
     ghost use Rattle.store_trace.specs.History.{at_moment};
-    ghost use Rattle.std.specs.Prelude.{length, take};
+    ghost use Rattle.std.specs.Prelude.{false, length, take};
 
     type Cause = Cause;
 
@@ -104,6 +104,8 @@ impl Recovery for MomentImages<'_, '_> {
     ghost high = { λ s l. stores l (at_moment s.index.now.events s.moment) };
 
     ghost alike = { λ s. same_number };
+
+    ghost further = { λ s. false };
 
     ghost asks = { λ s k qs. asks_at s.index.now.start (at_moment s.index.now.events s.moment) k qs };
 
@@ -130,6 +132,11 @@ impl Recovery for MomentImages<'_, '_> {
 
     fn is_first(&self, asked: Question, _number: u32) -> bool {
         asked.bytes != 0
+    }
+
+    /// A plan's check names the least bad image, or none.
+    fn tries_further(&self) -> bool {
+        false
     }
 
     fn workspace(&self, alloc: Global) -> Result<Workspace, AllocError> {

@@ -1,5 +1,5 @@
 -- Right answers, one full image more, and what they say of an image.
-use Rattle.std.proofs.Common.{◌≡◌, ◌↔◌, ◌⊎◌, ◌==◌, ◌||◌, ℕ, ◌+◌, ◌<◌, ◌≤◌, Bool, true, false, inl, inr, List, [], ◌∷◌, refl, sym, ap, subst, ◌∙◌, arith, Option, Some, None, Result, Ok, Err, eqb-true, eq-eqb}
+use Rattle.std.proofs.Common.{◌≡◌, ◌↔◌, ◌⊎◌, ◌==◌, ◌||◌, ℕ, ◌+◌, ◌<◌, ◌≤◌, ◌≢◌, Bool, true, false, inl, inr, List, [], ◌∷◌, refl, sym, ap, subst, ◌∙◌, arith, Option, Some, None, Result, Ok, Err, eqb-true, eq-eqb}
 use Rattle.std.specs.List.{Contains}
 use Rattle.std.specs.Prelude.{◌&&◌, IfSome, OnOk, nat_le, nat_lt}
 use Rattle.std.proofs.lemmas.Bool.Decides.{nat_tests}
@@ -10,10 +10,11 @@ use Rattle.recovery.proofs.Limited.{ends_once}
 use Rattle.recovery.specs.Answers.{answer}
 use Rattle.recovery.specs.Recovery.{RunsFor}
 use Rattle.recovery.specs.declared.recovery_run.Cause as run
+use Rattle.recovery.specs.declared.recovery_run.Cause.TheVariants.{Running}
 use Rattle.store_trace.specs.History.{at_moment}
 use Rattle.routine_judge.specs.Gathered.{AreAnswers, AreKept}
 use Rattle.routine_judge.specs.Images.{full_cut}
-use Rattle.routine_judge.specs.RightAnswers.{HasLastCause, IsBadOf, IsFoundOf, IsRightOf, Shows, ShowsFull, is_among}
+use Rattle.routine_judge.specs.RightAnswers.{HasLastCause, IsBadOf, IsFoundOf, IsRightOf, RunsOn, Shows, ShowsFull, is_among}
 use Rattle.routine_judge.specs.Views.{JudgeView}
 use Rattle.routine_judge.specs.declared.cause.Cause.{Cause}
 use Rattle.routine_judge.specs.declared.cause.Cause.TheVariants.{Missing, Different, Full}
@@ -47,11 +48,22 @@ none_in xs bytes e c = nothing_in bytes (subst (λ (ys : List (List ℕ)). Conta
 here_too : (among : ℕ → Bool) (moment : ℕ) → (among moment || (moment == moment)) ≡ true
 here_too among moment = rw (eq-eqb moment moment refl) (or_last (among moment))
 
+-- one moment more, where the routine runs on among the others or on its full image
+runs_on_more : (view : JudgeView) (among : ℕ → Bool) (moment : ℕ) → RunsOn view among → RunsOn view (λ i. among i || (i == moment))
+runs_on_more view among moment r = (r.0, or_first (among r.0) (r.0 == moment) r.1, r.2)
+
+runs_on_cases : (view : JudgeView) (among : ℕ → Bool) (moment : ℕ) → RunsOn view (λ i. among i || (i == moment)) →
+    RunsOn view among ⊎ ShowsFull view moment (Err Running)
+runs_on_cases view among moment r = elim (or_cases (among r.0) (r.0 == moment) r.1) [
+  | inl before ↦ inl (r.0, before, r.2)
+  | inr here ↦ inr (subst (λ (i : ℕ). ShowsFull view i (Err Running)) (eqb-true r.0 moment here) r.2)
+]
+
 -- with one moment more, on whose full image the routine has an answer
 pub added_answer : (view : JudgeView) (among : ℕ → Bool) (moment : ℕ) (bytes : List ℕ) (old new : RightAnswers) → ShowsFull view moment (Ok bytes) →
-    AreAnswers view among old → ((b : List ℕ) → Contains new.answers.items b ↔ (Contains old.answers.items b ⊎ (b ≡ bytes))) →
+    AreAnswers view among old → ((b : List ℕ) → Contains new.answers.items b ↔ (Contains old.answers.items b ⊎ (b ≡ bytes))) → new.runs_on ≡ old.runs_on →
     AreAnswers view (λ i. among i || (i == moment)) new
-added_answer view among moment bytes old new shown are adds =
+added_answer view among moment bytes old new shown are adds keeps =
     let there : Contains new.answers.items bytes = (adds bytes).1 (inr refl) in
     record {
       each = λ b c. elim ((adds b).0 c) [
@@ -71,13 +83,21 @@ added_answer view among moment bytes old new shown are adds =
       ];
       cause = λ e. absurd (none_in new.answers.items bytes e there);
       none = λ e. absurd (none_in new.answers.items bytes e there);
+      on = λ t. runs_on_more view among moment (are.on (sym keeps ∙ t));
+      ends = λ f r. elim (runs_on_cases view among moment r) [
+        | inl before ↦ are.ends (sym keeps ∙ f) before
+        | inr here ↦
+            let one : ◌≡◌ {A = Result (List ℕ) run.Cause} (Err Running) (Ok bytes) = shows_once view moment (full_cut view.events moment) (Err Running) (Ok bytes) here shown in
+            cc
+      ];
     }
 
 -- with one moment more, which is the last, on whose full image it has none
 pub added_cause : (view : JudgeView) (among : ℕ → Bool) (moment : ℕ) (cause : run.Cause) (old new : RightAnswers) → ShowsFull view moment (Err cause) →
     ((i : ℕ) → among i ≡ true → i < moment) → AreAnswers view among old → new.answers.items ≡ old.answers.items → new.last_cause ≡ Some cause →
+    (new.runs_on ≡ true → (old.runs_on ≡ true) ⊎ (cause ≡ Running)) → (new.runs_on ≡ false → (old.runs_on ≡ false) × (cause ≢ Running)) →
     AreAnswers view (λ i. among i || (i == moment)) new
-added_cause view among moment cause old new shown before are same last = record {
+added_cause view among moment cause old new shown before are same last on ends = record {
   each = λ b c.
       let r = are.each b (subst (λ (xs : List (List ℕ)). Contains xs b) same c) in
       (r.0, or_first (among r.0) (r.0 == moment) r.1, r.2);
@@ -101,6 +121,16 @@ added_cause view among moment cause old new shown before are same last = record 
       } in
       subst (λ (o : Option run.Cause). IfSome o (HasLastCause view (λ i. among i || (i == moment)))) (sym last) told;
   none = λ e n. absurd (let both : ◌≡◌ {A = Option run.Cause} (Some cause) None = sym last ∙ n in cc);
+  on = λ t. elim (on t) [
+    | inl earlier ↦ runs_on_more view among moment (are.on earlier)
+    | inr is ↦ (moment, here_too among moment, subst (λ (x : run.Cause). ShowsFull view moment (Err x)) is shown)
+  ];
+  ends = λ f r. elim (runs_on_cases view among moment r) [
+    | inl earlier ↦ are.ends (ends f).0 earlier
+    | inr here ↦
+        let one : ◌≡◌ {A = Result (List ℕ) run.Cause} (Err cause) (Err Running) = shows_once view moment (full_cut view.events moment) (Err cause) (Err Running) shown here in
+        (ends f).1 cc
+  ];
 }
 
 -- what they say of an image on which the routine has an answer
@@ -135,6 +165,8 @@ same_answers view among other right same are = record {
   all = λ b r. are.all b (r.0, same r.0 ∙ r.1, r.2);
   cause = λ e. caused right.last_cause (are.cause e);
   none = λ e n i t. are.none e n i (same i ∙ t);
+  on = λ t. let r = are.on t in (r.0, sym (same r.0) ∙ r.1, r.2);
+  ends = λ f r. are.ends f (r.0, same r.0 ∙ r.1, r.2);
 } where
   caused : (o : Option run.Cause) → IfSome o (HasLastCause view among) → IfSome o (HasLastCause view other)
   caused None c = c

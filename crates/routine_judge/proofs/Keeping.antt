@@ -1,10 +1,10 @@
 -- A pass is kept from a moment to the next by an event that is no mark and that no image shows.
-use Rattle.std.proofs.Common.{◌≡◌, ℕ, ◌+◌, ◌<◌, Bool, List, [], ◌∷◌, length, get_or, slice_get, refl, sym, ap, ◌∙◌, subst, arith, Result, Ok}
+use Rattle.std.proofs.Common.{◌≡◌, ℕ, ◌+◌, ◌<◌, Bool, List, [], ◌∷◌, length, get_or, slice_get, refl, sym, ap, ◌∙◌, subst, arith, Result, Ok, true}
 use Rattle.std.specs.Prelude.{◌≢◌}
 use Rattle.store_trace.proofs.Images.{length_image}
 use Rattle.routine_judge.proofs.Gathering.{found_alike}
 use Rattle.verdict.specs.CutImages.{AreMedia, image_at}
-use Rattle.routine_judge.specs.RightAnswers.{IsFoundOf, IsRightOf, AsksOf, same_bytes, Shows, is_among}
+use Rattle.routine_judge.specs.RightAnswers.{IsFoundOf, IsRightOf, AsksOf, RunsOn, same_bytes, Shows, is_among}
 use Rattle.routine_judge.specs.Standing.{IsPassed}
 use Rattle.routine_judge.specs.Views.{JudgeView}
 use Rattle.routine_judge.specs.Windows.{IsWindow}
@@ -75,6 +75,12 @@ right_later view Itself m n bytes fixed r = absurd (fixed refl)
 right_later view (Either before after) m n bytes fixed r = r
 right_later view (Through first last) m n bytes fixed r = r
 
+-- and it runs on on their full images or on none
+runs_on_before : (view : JudgeView) (window : Window) (m n : ℕ) → window ≢ Itself → RunsOn view (is_among window n) → RunsOn view (is_among window m)
+runs_on_before view Itself m n fixed r = absurd (fixed refl)
+runs_on_before view (Either before after) m n fixed r = r
+runs_on_before view (Through first last) m n fixed r = r
+
 by_lines : (view : JudgeView) (window : Window) (m n : ℕ) → AreMedia view.start view.events m → AreMedia view.start view.events n → window ≢ Itself →
     IsByLines view.start (at_moment view.events m) (at_moment view.events n) (AsksOf view m) (AsksOf view n) (IsFoundOf view (is_among window m) m)
     (IsFoundOf view (is_among window n) n)
@@ -94,10 +100,16 @@ pub kept_next : (view : JudgeView) (m : ℕ) (d : Event) (flags : List Bool) (wi
     AreMedia view.start view.events (m + 1) → m < length view.events → window ≢ Itself → IsUnseen flags (get_or view.events m d) →
     IsWindow view.events (m + 1) window → IsPassed view flags window m → IsPassed view flags window (m + 1)
 kept_next view m d flags window whole next there fixed unseen is passed =
-    let kept = pass_kept view.start (at_moment view.events m) (at_moment view.events (m + 1)) flags (same_bytes view m) (same_bytes view (m + 1))
+    let kept = pass_kept true view.start (at_moment view.events m) (at_moment view.events (m + 1)) flags (same_bytes view m) (same_bytes view (m + 1))
     (AsksOf view m) (AsksOf view (m + 1))
     (IsFoundOf view (is_among window m) m) (IsFoundOf view (is_among window (m + 1)) (m + 1))
     (λ q n o x y e. ap (λ (xs : List ℕ). same_at q.bytes 0 xs (bytes_at view.start (at_moment view.events (m + 1)) q.line o)) (x (line_at view.start q.line))
     ∙ ap (λ (ys : List ℕ). same_at q.bytes 0 (bytes_at view.start (at_moment view.events m) q.line n) ys) (y (line_at view.start q.line)) ∙ e) (like_next view.start view.events m d flags there unseen)
     (by_lines view window m (m + 1) whole next fixed) passed.flagged passed.passes in
-    record { there = omega arith; is_window = is; flagged = kept.0; passes = kept.1 }
+    record {
+      there = omega arith;
+      is_window = is;
+      flagged = kept.0;
+      ends = λ r. passed.ends (runs_on_before view window m (m + 1) fixed r);
+      passes = kept.1;
+    }

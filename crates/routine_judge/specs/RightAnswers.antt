@@ -11,6 +11,7 @@ use Rattle.routine_judge.specs.declared.history.moments.Window.TheVariants.{Itse
 use Rattle.recovery.specs.Images.{Answers, Asks, has_same_bytes}
 use Rattle.verdict.specs.declared.branches.question.Question.{Question}
 use Rattle.recovery.specs.declared.recovery_run.Cause as run
+use Rattle.recovery.specs.declared.recovery_run.Cause.TheVariants.{Running}
 use Rattle.store_trace.specs.History.{at_moment}
 
 -- on the image of a cut of moment m the routine comes to this
@@ -45,6 +46,10 @@ pub record HasLastCause (view : JudgeView) (among : ℕ → Bool) (cause : run.C
   pub here : among last ≡ true
   pub later : (i : ℕ) → among i ≡ true → i ≤ last
   pub missing : ShowsFull view last (Err cause)
+
+-- on the full image of one of these moments it runs on after all its steps
+abbrev pub RunsOn : JudgeView → (ℕ → Bool) → Type 0
+RunsOn view among = (i : ℕ) × (among i ≡ true) × ShowsFull view i (Err Running)
 
 -- none of these full images has an answer
 abbrev pub AreMissing : JudgeView → (ℕ → Bool) → Type 0

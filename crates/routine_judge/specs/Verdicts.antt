@@ -1,10 +1,10 @@
 -- The verdict on a moment and on a row of moments, by the answers of a recovery routine.
 -- Source: Vinter, USENIX ATC 2022: every crash image is recovered, and the state that shows is judged.
-use Rattle.std.specs.Prelude.{◌≢◌, ℕ, ◌+◌, ◌<◌, Bool, List, [], length, max, min, is_some}
+use Rattle.std.specs.Prelude.{◌≡◌, ◌≢◌, ◌⊎◌, ℕ, ◌+◌, ◌<◌, Bool, List, [], length, max, min, is_some, true}
 use Rattle.std.specs.List.{position_from}
 use Rattle.std.specs.Option.{option_map_or}
 use Rattle.store_trace.specs.Marks.{begun, begun_by}
-use Rattle.routine_judge.specs.RightAnswers.{IsFoundOf, AsksOf, same_bytes, is_among}
+use Rattle.routine_judge.specs.RightAnswers.{IsFoundOf, AsksOf, RunsOn, same_bytes, is_among}
 use Rattle.routine_judge.specs.Views.{JudgeView}
 use Rattle.routine_judge.specs.declared.cause.Cause.{Cause}
 use Rattle.routine_judge.specs.declared.fault.JudgeFault.{JudgeFault}
@@ -15,16 +15,19 @@ use Rattle.routine_judge.specs.declared.history.fault.MarkFault.TheVariants as m
 use Rattle.routine_judge.specs.declared.history.moments.Window.{Window}
 use Rattle.verdict.specs.Verdicts.{IsMomentVerdict, IsVerdictBetween}
 use Rattle.verdict.specs.declared.moment_verdict.verdict.MomentVerdict.{MomentVerdict}
+use Rattle.verdict.specs.declared.moment_verdict.verdict.MomentVerdict.TheVariants as moments
 use Rattle.verdict.specs.declared.moment_verdict.verdict.Verdict.{Verdict}
 use Rattle.store_trace.specs.History.{at_moment}
 use Rattle.store_trace.specs.declared.event.Event.{Event}
 
--- the verdict on moment m: branches are opened by the bytes that the routine asks, and the answers on the full images
--- of the moment's window are the right ones
+-- The verdict on moment m: branches are opened by the bytes that the routine asks, and the answers on the full images of the moment's
+-- window are the right ones. Where the routine runs on on one of these, it is too long.
 pub record IsJudged (view : JudgeView) (m : ℕ) (verdict : MomentVerdict Cause) : Type 0 where
   pub window : Window
   pub is_window : IsWindow view.events m window
-  pub judged : IsMomentVerdict (same_bytes view m) (AsksOf view m) (IsFoundOf view (is_among window m) m) (at_moment view.events m) verdict
+  pub judged : ((verdict ≡ moments.TooLong) × RunsOn view (is_among window m))
+      ⊎ ((¬ RunsOn view (is_among window m))
+      × IsMomentVerdict true (same_bytes view m) (AsksOf view m) (IsFoundOf view (is_among window m) m) (at_moment view.events m) verdict)
 
 -- the first moment that is judged: right after the first Begin, and past the last moment where there is none
 abbrev pub first_judged : List Event → ℕ

@@ -69,6 +69,8 @@ impl Recovery for MomentImages<'_, '_> {
 
     ghost alike = { λ s. same_bytes s.run.now s.moment };
 
+    ghost further = { λ s. true };
+
     ghost asks = { λ s cut questions. AsksOf s.run.now s.moment cut questions };
 
     ghost judged = { λ s cut found. IsFoundOf s.run.now (is_among s.window s.moment) s.moment cut found };
@@ -109,6 +111,10 @@ impl Recovery for MomentImages<'_, '_> {
                 return false;
             }
         }
+        true
+    }
+
+    fn tries_further(&self) -> bool {
         true
     }
 

@@ -116,6 +116,9 @@ fn open_at<T: Threads + Sync>(
     let (medium, trace) = (run.medium, run.trace);
     let window = run.window(moment);
     answers.renew(alloc, run, routine, window, moment)?;
+    if answers.right.runs_on {
+        return Ok(MomentVerdict::TooLong);
+    }
     let images = MomentImages::new(run, moment, window, &answers.right);
     let verdict = open_moment(rt, alloc, medium, trace, moment, &images, routine, opener)?;
     Ok(verdict)

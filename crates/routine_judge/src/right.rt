@@ -3,8 +3,9 @@
 ghost use Rattle.routine_judge.specs.Gathered.{AreAnswers};
 ghost use Rattle.routine_judge.specs.RightAnswers.{IsFoundOf, ShowsFull, Shows};
 ghost use Rattle.routine_judge.specs.Views.{JudgeView};
+ghost use Rattle.recovery.specs.declared.recovery_run.Cause.TheVariants.{Running};
 ghost use Rattle.std.specs.List.{Contains};
-ghost use Rattle.std.specs.Prelude.{◌≡◌, ◌||◌, ◌==◌, ◌<◌, ◌↔◌, ◌⊎◌, ℕ, List, Ok, Bool, true, false, None, IfOk, IsTrue, OnOk};
+ghost use Rattle.std.specs.Prelude.{◌≡◌, ◌≢◌, ◌||◌, ◌==◌, ◌<◌, ◌↔◌, ◌⊎◌, ℕ, List, Ok, Bool, true, false, None, Some, IfOk, IsTrue, OnOk};
 
 use crate::Cause;
 use recovery::{Answer, Cause as RunCause};
@@ -16,6 +17,8 @@ pub struct RightAnswers {
     pub answers: Vec<Answer>,
     /// Why the routine has no answer on the last of the full images where it has none.
     pub last_cause: Option<RunCause>,
+    /// Whether on one of them it runs on after all its steps.
+    pub runs_on: bool,
 }
 
 impl RightAnswers {
@@ -26,6 +29,7 @@ impl RightAnswers {
         RightAnswers {
             answers: Vec::new(alloc),
             last_cause: None,
+            runs_on: false,
         }
     }
 
@@ -37,15 +41,27 @@ impl RightAnswers {
     {
         match found {
             Ok(answer) => self.add_answer(answer)?,
-            Err(cause) => self.last_cause = Some(cause),
+            Err(cause) => self.add_cause(cause),
         }
         Ok(())
+    }
+
+    /// Takes in why there is no answer on a further one.
+    fn add_cause(&mut self, cause: RunCause)
+        ensures answers { self.new.answers ≡ self.old.answers }
+        ensures cause { self.new.last_cause ≡ Some cause }
+        ensures on { self.new.runs_on ≡ true → (self.old.runs_on ≡ true) ⊎ (cause ≡ Running) }
+        ensures ends { self.new.runs_on ≡ false → (self.old.runs_on ≡ false) × (cause ≢ Running) }
+    {
+        self.last_cause = Some(cause);
+        self.runs_on = self.runs_on || cause == RunCause::Running;
     }
 
     /// Adds an answer, unless it is there.
     fn add_answer(&mut self, answer: Answer) -> Result<(), AllocError>
         ensures answers { OnOk result ((bytes : List ℕ) → Contains self.new.answers.items bytes ↔ (Contains self.old.answers.items bytes ⊎ (bytes ≡ answer))) }
         ensures cause { self.new.last_cause ≡ self.old.last_cause }
+        ensures on { self.new.runs_on ≡ self.old.runs_on }
     {
         if !self.has(&answer) {
             self.answers.push(answer)?;

@@ -1,5 +1,5 @@
 -- What the opened branches of a moment say of its verdict.
-use Rattle.std.proofs.Common.{◌≡◌, ℕ, Bool, true, List, Option, Some, None, map, sym, subst, ◌∙◌, arith}
+use Rattle.std.proofs.Common.{◌≡◌, ℕ, ◌<◌, Bool, true, false, List, [], ◌∷◌, Option, Some, None, map, sym, subst, ◌∙◌, arith}
 use Rattle.std.specs.List.{AllByRecursion}
 use Rattle.verdict.specs.Branches.{AreOver, IsWithin}
 use Rattle.verdict.specs.Branches as branches
@@ -13,8 +13,11 @@ use Rattle.store_trace.specs.Stores.{stores}
 use Rattle.store_trace.specs.declared.crash_model.step.PersistenceStep.{PersistenceStep}
 use Rattle.text.specs.declared.image_name.name.ImageName.{ImageName}
 use Rattle.verdict.proofs.Lists.{before_comes}
-use Rattle.verdict.specs.Verdicts.{AreFlagged, AreGood, HasManyBranches, IsLeastBad, IsMomentVerdict}
+use Rattle.verdict.specs.Contents.{AreWidest}
+use Rattle.verdict.specs.Edges.{AreOpen, AreTried, IsBadCut}
+use Rattle.verdict.specs.Verdicts.{AreFlagged, AreGood, HasManyBranches, IsBad, IsLeastBad, IsMomentVerdict}
 use Rattle.verdict.specs.declared.branches.question.Question.{Question}
+use Rattle.verdict.specs.declared.moment_verdict.contents.LineContents.{LineContents}
 use Rattle.verdict.specs.declared.moment_verdict.verdict.MomentVerdict.TheVariants as moments
 
 -- what is found of a cut is found of each that gives the lines the same numbers
@@ -62,10 +65,10 @@ pub few_moment : (alike : Question → ℕ → ℕ → Bool) (asks : (ℕ → �
 few_moment alike asks low high p f s few over =
     few (subst (λ (g : ℕ → ℕ). AreOver alike asks g high 65536) (sym f) (subst (λ (g : ℕ → ℕ). AreOver alike asks (λ l. floor l p) g 65536) (sym s) over))
 
-pub pass_moment : {Cause : Type 0} (alike : Question → ℕ → ℕ → Bool) (asks : (ℕ → ℕ) → List Question → Type 0) (found : (ℕ → ℕ) → Option Cause → Type 0) (low high : ℕ → ℕ) (p : List PersistenceStep) →
+pub pass_moment : {Cause : Type 0} (further : Bool) (alike : Question → ℕ → ℕ → Bool) (asks : (ℕ → ℕ) → List Question → Type 0) (found : (ℕ → ℕ) → Option Cause → Type 0) (low high : ℕ → ℕ) (p : List PersistenceStep) →
     low ≡ (λ l. floor l p) → high ≡ (λ l. stores l p) → ¬ AreOver alike asks low high 65536 → ((k : ℕ → ℕ) → IsWithin low high k → found k None) →
-    IsMomentVerdict alike asks found p moments.Pass
-pass_moment alike asks found low high p f s few h = (
+    IsMomentVerdict further alike asks found p moments.Pass
+pass_moment further alike asks found low high p f s few h = (
   few_moment alike asks low high p f s few,
   all_good found p (λ k w. h k
       (subst (λ (g : ℕ → ℕ). IsWithin g high k) (sym f) (subst (λ (g : ℕ → ℕ). IsWithin (λ l. floor l p) g k) (sym s) w))),
@@ -86,11 +89,11 @@ bad_within found low high p numbers cause f s least =
     subst (λ (g : ℕ → ℕ). branches.IsLeastBad (λ l. floor l p) g found (number_over (λ l. floor l p) numbers) cause) s
     (subst (λ (g : ℕ → ℕ). branches.IsLeastBad g high found (number_over g numbers) cause) f least)
 
-pub fail_moment : {Cause : Type 0} (alike : Question → ℕ → ℕ → Bool) (asks : (ℕ → ℕ) → List Question → Type 0) (found : (ℕ → ℕ) → Option Cause → Type 0) (low high : ℕ → ℕ) (p : List PersistenceStep)
+pub fail_moment : {Cause : Type 0} (further : Bool) (alike : Question → ℕ → ℕ → Bool) (asks : (ℕ → ℕ) → List Question → Type 0) (found : (ℕ → ℕ) → Option Cause → Type 0) (low high : ℕ → ℕ) (p : List PersistenceStep)
     (numbers table : List ℕ) (name : ImageName) (cause : Cause) → low ≡ (λ l. floor l p) → high ≡ (λ l. stores l p) → table ≡ numbers → IsAlike found →
     ¬ AreOver alike asks low high 65536 → branches.IsLeastBad low high found (number_over low numbers) cause →
-    IsNameOf p (numbered (number_over (λ l. floor l p) table) (stored_lines p)) name → IsMomentVerdict alike asks found p (moments.Fail name cause)
-fail_moment alike asks found low high p numbers table name cause f s t same few least named = (
+    IsNameOf p (numbered (number_over (λ l. floor l p) table) (stored_lines p)) name → IsMomentVerdict further alike asks found p (moments.Fail name cause false)
+fail_moment further alike asks found low high p numbers table name cause f s t same few least named = (
   few_moment alike asks low high p f s few,
   (
     numbered (number_over (λ l. floor l p) numbers) (stored_lines p),
@@ -98,3 +101,49 @@ fail_moment alike asks found low high p numbers table name cause f s t same few 
     least_cut found p (number_over (λ l. floor l p) numbers) cause same (bad_within found low high p numbers cause f s least),
   ),
 )
+
+-- a bad cut by line is a bad cut
+bad_cut : {Cause : Type 0} (found : (ℕ → ℕ) → Option Cause → Type 0) (p : List PersistenceStep) (numbers : List ℕ) (cause : Cause) → IsAlike found →
+    IsBadCut found (λ l. floor l p) (λ l. stores l p) numbers cause → IsBad found p (numbered (number_over (λ l. floor l p) numbers) (stored_lines p)) cause
+bad_cut found p numbers cause alike b =
+    let c : ℕ → ℕ = number_over (λ l. floor l p) numbers in
+    let inside : crash.IsWithin p c = record { low = b.within.least; high = b.within.most } in
+    let cut = numbered c (stored_lines p) in (
+      cut_from_within p c inside,
+      alike (number_in cut) c (Some cause) (number_in_within p c inside) b.bad,
+    )
+
+pub bad_moment : {Cause : Type 0} (further : Bool) (alike : Question → ℕ → ℕ → Bool) (asks : (ℕ → ℕ) → List Question → Type 0) (found : (ℕ → ℕ) → Option Cause → Type 0) (low high : ℕ → ℕ) (p : List PersistenceStep)
+    (numbers table : List ℕ) (name : ImageName) (cause : Cause) → low ≡ (λ l. floor l p) → high ≡ (λ l. stores l p) → table ≡ numbers → IsAlike found →
+    AreOver alike asks low high 65536 → further ≡ true → IsBadCut found low high numbers cause →
+    IsNameOf p (numbered (number_over (λ l. floor l p) table) (stored_lines p)) name → IsMomentVerdict further alike asks found p (moments.Fail name cause true)
+bad_moment further alike asks found low high p numbers table name cause f s t same over u bad named = (
+  over_moment alike asks low high p f s over,
+  u,
+  (
+    numbered (number_over (λ l. floor l p) numbers) (stored_lines p),
+    subst (λ (ns : List ℕ). IsNameOf p (numbered (number_over (λ l. floor l p) ns) (stored_lines p)) name) t named,
+    bad_cut found p numbers cause same (subst (λ (g : ℕ → ℕ). IsBadCut found (λ l. floor l p) g numbers cause) s (subst (λ (g : ℕ → ℕ). IsBadCut found g high numbers cause) f bad)),
+  ),
+)
+
+-- no image that was tried is bad
+pub many_moment : {Cause : Type 0} (further : Bool) (alike : Question → ℕ → ℕ → Bool) (asks : (ℕ → ℕ) → List Question → Type 0) (found : (ℕ → ℕ) → Option Cause → Type 0) (low high : ℕ → ℕ) (p : List PersistenceStep)
+    (lines table : List ℕ) (named : List LineContents) → low ≡ (λ l. floor l p) → high ≡ (λ l. stores l p) → table ≡ lines →
+    AreOver alike asks low high 65536 → further ≡ true → AreTried asks found low high lines → AreWidest alike low high table named →
+    IsMomentVerdict further alike asks found p (moments.TooMany (Some named))
+many_moment further alike asks found low high p lines table named f s t over u tried widest = (
+  over_moment alike asks low high p f s over,
+  u,
+  (
+    lines,
+    subst (λ (g : ℕ → ℕ). AreTried asks found (λ l. floor l p) g lines) s (subst (λ (g : ℕ → ℕ). AreTried asks found g high lines) f tried),
+    subst (λ (g : ℕ → ℕ). AreWidest alike (λ l. floor l p) g lines named) s
+        (subst (λ (g : ℕ → ℕ). AreWidest alike g high lines named) f (subst (λ (ls : List ℕ). AreWidest alike low high ls named) t widest)),
+  ),
+)
+
+-- a line that is past its floor is below so many
+pub below_of : (low high : ℕ → ℕ) (count : ℕ) (lines : List ℕ) → AreOpen low high count lines → AllByRecursion (λ l. l < count) lines
+below_of low high count [] past = tt
+below_of low high count (l ∷ lines) past = (past.0.0, below_of low high count lines past.1)

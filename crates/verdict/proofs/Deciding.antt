@@ -1,6 +1,6 @@
 -- A moment has one verdict where each image is found to be one thing, and so has a row of moments where each of them has one: the moment,
 -- the image's name and the cause, or the numbers of moments and images, are settled by it.
-use Rattle.std.proofs.Common.{◌≡◌, ℕ, ◌<◌, ◌⊎◌, inl, inr, Bool, List, [], ◌∷◌, get_or, refl, sym, ap, subst, ◌∙◌, arith, Option, Some, None}
+use Rattle.std.proofs.Common.{◌≡◌, ℕ, ◌<◌, ◌⊎◌, inl, inr, Bool, true, false, true≢false, List, [], ◌∷◌, get_or, refl, sym, ap, subst, ◌∙◌, arith, Option, Some, None}
 use Rattle.std.proofs.lemmas.Bool.{cases_lt}
 use Rattle.crash_image.specs.Named.{IsNameOf}
 use Rattle.crash_image.specs.Totals.{IsImageSum}
@@ -10,8 +10,9 @@ use Rattle.store_trace.specs.declared.crash_model.step.PersistenceStep.{Persiste
 use Rattle.text.specs.declared.image_name.name.ImageName.{ImageName}
 use Rattle.text.specs.declared.image_name.name.ImageName.TheVariants.{Number, Cut}
 use Rattle.store_trace.specs.declared.event.Event.{Event}
-use Rattle.verdict.specs.Verdicts.{IsLeastBad, IsLeastMoment, IsMomentVerdict, IsVerdictBetween}
+use Rattle.verdict.specs.Verdicts.{HasManyBranches, IsLeastBad, IsLeastMoment, IsMomentVerdict, IsVerdictBetween}
 use Rattle.verdict.specs.declared.branches.question.Question.{Question}
+use Rattle.verdict.specs.declared.moment_verdict.contents.LineContents.{LineContents}
 use Rattle.verdict.specs.declared.moment_verdict.verdict.MomentVerdict.{MomentVerdict}
 use Rattle.verdict.specs.declared.moment_verdict.verdict.MomentVerdict.TheVariants as moments
 use Rattle.verdict.specs.declared.moment_verdict.verdict.Verdict.{Verdict}
@@ -82,10 +83,15 @@ cause_once : {Cause : Type 0} (found : (ℕ → ℕ) → Option Cause → Type 0
     cause ≡ its
 cause_once found k cause its once a b = let e = once k (Some cause) (Some its) a b in cc
 
--- and one verdict
+has_many : {Cause : Type 0} (alike : Question → ℕ → ℕ → Bool) (asks : (ℕ → ℕ) → List Question → Type 0) (found : (ℕ → ℕ) → Option Cause → Type 0) (p : List PersistenceStep)
+    (lines : Option (List LineContents)) → IsMomentVerdict false alike asks found p (moments.TooMany lines) → HasManyBranches alike asks p
+has_many alike asks found p None a = a.0
+has_many alike asks found p (Some named) a = a.0
+
+-- and one verdict, where no further images are tried
 fail_once : {Cause : Type 0} (alike : Question → ℕ → ℕ → Bool) (asks : (ℕ → ℕ) → List Question → Type 0) (found : (ℕ → ℕ) → Option Cause → Type 0) (p : List PersistenceStep) (name other : ImageName)
-    (cause its : Cause) → IsFoundOnce found → IsMomentVerdict alike asks found p (moments.Fail name cause) → IsMomentVerdict alike asks found p (moments.Fail other its) →
-    (name ≡ other) × (cause ≡ its)
+    (cause its : Cause) → IsFoundOnce found → IsMomentVerdict false alike asks found p (moments.Fail name cause false) →
+    IsMomentVerdict false alike asks found p (moments.Fail other its false) → (name ≡ other) × (cause ≡ its)
 fail_once alike asks found p name other cause its once a b =
     let mine = a.1 in
     let theirs = b.1 in
@@ -95,20 +101,29 @@ fail_once alike asks found p name other cause its once a b =
     (name_once p mine.0 name other mine.1 named, cause_once found (number_in mine.0) cause its once mine.2.bad bad.bad)
 
 pub moment_once : {Cause : Type 0} (alike : Question → ℕ → ℕ → Bool) (asks : (ℕ → ℕ) → List Question → Type 0) (found : (ℕ → ℕ) → Option Cause → Type 0) (p : List PersistenceStep)
-    (verdict other : MomentVerdict Cause) → IsFoundOnce found → IsMomentVerdict alike asks found p verdict → IsMomentVerdict alike asks found p other → verdict ≡ other
+    (verdict other : MomentVerdict Cause) → IsFoundOnce found → IsMomentVerdict false alike asks found p verdict → IsMomentVerdict false alike asks found p other →
+    verdict ≡ other
 moment_once alike asks found p moments.Pass moments.Pass once a b = refl
-moment_once alike asks found p moments.Pass (moments.Fail other its) once a b =
+moment_once alike asks found p moments.Pass (moments.Fail other its false) once a b =
     absurd (good_unspoilt found _ its once (a.1 b.1.0 b.1.2.there) b.1.2.bad)
-moment_once alike asks found p moments.Pass moments.TooMany once a b = absurd (a.0 b)
-moment_once alike asks found p (moments.Fail name cause) moments.Pass once a b =
+moment_once alike asks found p moments.Pass (moments.Fail other its true) once a b = absurd (a.0 b.0)
+moment_once alike asks found p verdict moments.TooLong once a b = absurd b
+moment_once alike asks found p moments.TooLong other once a b = absurd a
+moment_once alike asks found p moments.Pass (moments.TooMany lines) once a b = absurd (a.0 (has_many alike asks found p lines b))
+moment_once alike asks found p (moments.Fail name cause true) other once a b = absurd (true≢false (sym a.1))
+moment_once alike asks found p (moments.Fail name cause false) moments.Pass once a b =
     absurd (good_unspoilt found _ cause once (b.1 a.1.0 a.1.2.there) a.1.2.bad)
-moment_once alike asks found p (moments.Fail name cause) (moments.Fail other its) once a b =
+moment_once alike asks found p (moments.Fail name cause false) (moments.Fail other its false) once a b =
     let same = fail_once alike asks found p name other cause its once a b in
     rw (same.0, same.1) refl
-moment_once alike asks found p (moments.Fail name cause) moments.TooMany once a b = absurd (a.0 b)
-moment_once alike asks found p moments.TooMany moments.Pass once a b = absurd (b.0 a)
-moment_once alike asks found p moments.TooMany (moments.Fail other its) once a b = absurd (b.0 a)
-moment_once alike asks found p moments.TooMany moments.TooMany once a b = refl
+moment_once alike asks found p (moments.Fail name cause false) (moments.Fail other its true) once a b = absurd (a.0 b.0)
+moment_once alike asks found p (moments.Fail name cause false) (moments.TooMany lines) once a b = absurd (a.0 (has_many alike asks found p lines b))
+moment_once alike asks found p (moments.TooMany lines) moments.Pass once a b = absurd (b.0 (has_many alike asks found p lines a))
+moment_once alike asks found p (moments.TooMany lines) (moments.Fail other its false) once a b = absurd (b.0 (has_many alike asks found p lines a))
+moment_once alike asks found p (moments.TooMany lines) (moments.Fail other its true) once a b = absurd (true≢false (sym b.1))
+moment_once alike asks found p (moments.TooMany None) (moments.TooMany None) once a b = refl
+moment_once alike asks found p (moments.TooMany None) (moments.TooMany (Some named)) once a b = absurd (true≢false (sym b.1))
+moment_once alike asks found p (moments.TooMany (Some named)) (moments.TooMany lines) once a b = absurd (true≢false (sym a.1))
 
 -- each moment has one verdict
 abbrev pub IsJudgedOnce : {Cause : Type 0} → (ℕ → MomentVerdict Cause → Type 0) → Type 0
@@ -147,15 +162,22 @@ pass_and_fail : {Cause : Type 0} (judged : ℕ → MomentVerdict Cause → Type 
 pass_and_fail judged events first end count moment images verdict once fails a b =
     moment_fails judged moment verdict once fails (a.2 moment b.from b.there) b.here
 
-not_fail : {Cause : Type 0} (name : ImageName) (cause : Cause) → ¬ (moments.Fail name cause ≡ moments.Pass)
-not_fail name cause e = cc
+not_fail : {Cause : Type 0} (name : ImageName) (cause : Cause) (of_too_many : Bool) → ¬ (moments.Fail name cause of_too_many ≡ moments.Pass)
+not_fail name cause of_too_many e = cc
 
 -- the moment has too many branches
-abbrev many : (Cause : Type 0) → MomentVerdict Cause
-many Cause = moments.TooMany
+abbrev many : (Cause : Type 0) → Option (List LineContents) → MomentVerdict Cause
+many Cause lines = moments.TooMany lines
 
-not_many : (Cause : Type 0) → ¬ (many Cause ≡ moments.Pass)
-not_many Cause e = cc
+-- what is right there can't be told
+abbrev long : (Cause : Type 0) → MomentVerdict Cause
+long Cause = moments.TooLong
+
+not_many : (Cause : Type 0) (lines : Option (List LineContents)) → ¬ (many Cause lines ≡ moments.Pass)
+not_many Cause lines e = cc
+
+not_long : (Cause : Type 0) → ¬ (long Cause ≡ moments.Pass)
+not_long Cause e = cc
 
 pub verdict_once : {Cause : Type 0} (judged : ℕ → MomentVerdict Cause → Type 0) (events : List Event) (first end : ℕ) (verdict other : Verdict Cause) →
     IsJudgedOnce judged → IsVerdictBetween judged events first end verdict → IsVerdictBetween judged events first end other → verdict ≡ other
@@ -163,28 +185,53 @@ verdict_once {Cause} judged events first end (runs.Pass count images) (runs.Pass
     let numbers : count ≡ same = omega (arith, a.0, b.0) in
     let totals : images ≡ others = total_once events first end images others a.1 b.1 in
     rw (numbers, totals) refl
-verdict_once {Cause} judged events first end (runs.Pass count images) (runs.Fail moment name cause) once a b =
-    absurd (pass_and_fail judged events first end count moment images (moments.Fail name cause) once (not_fail name cause) a b)
-verdict_once {Cause} judged events first end (runs.Pass count images) (runs.TooMany moment) once a b =
-    absurd (pass_and_fail judged events first end count moment images moments.TooMany once (not_many Cause) a b)
-verdict_once {Cause} judged events first end (runs.Fail moment name cause) (runs.Pass count images) once a b =
-    absurd (pass_and_fail judged events first end count moment images (moments.Fail name cause) once (not_fail name cause) b a)
-verdict_once {Cause} judged events first end (runs.Fail moment name cause) (runs.Fail its other theirs) once a b =
-    let same =
-    least_moment_once judged first end moment its (moments.Fail name cause) (moments.Fail other theirs) once (not_fail name cause) (not_fail other theirs) a b in
+verdict_once {Cause} judged events first end (runs.Pass count images) (runs.Fail moment name cause many) once a b =
+    absurd (pass_and_fail judged events first end count moment images (moments.Fail name cause many) once (not_fail name cause many) a b)
+verdict_once {Cause} judged events first end (runs.Pass count images) (runs.TooMany moment lines) once a b =
+    absurd (pass_and_fail judged events first end count moment images (moments.TooMany lines) once (not_many Cause lines) a b)
+verdict_once {Cause} judged events first end (runs.Fail moment name cause many) (runs.Pass count images) once a b =
+    absurd (pass_and_fail judged events first end count moment images (moments.Fail name cause many) once (not_fail name cause many) b a)
+verdict_once {Cause} judged events first end (runs.Fail moment name cause one) (runs.Fail its other theirs two) once a b =
+    let same = least_moment_once judged first end moment its (moments.Fail name cause one) (moments.Fail other theirs two) once (not_fail name cause one)
+    (not_fail other theirs two) a b in
     let moments_same = same.0 in
     let verdicts_same = same.1 in
     cc
-verdict_once {Cause} judged events first end (runs.Fail moment name cause) (runs.TooMany its) once a b =
-    let same = least_moment_once judged first end moment its (moments.Fail name cause) moments.TooMany once (not_fail name cause) (not_many Cause) a b in
+verdict_once {Cause} judged events first end (runs.Fail moment name cause one) (runs.TooMany its lines) once a b =
+    let same = least_moment_once judged first end moment its (moments.Fail name cause one) (moments.TooMany lines) once (not_fail name cause one) (not_many Cause lines) a b in
     let verdicts_same = same.1 in
     cc
-verdict_once {Cause} judged events first end (runs.TooMany moment) (runs.Pass count images) once a b =
-    absurd (pass_and_fail judged events first end count moment images moments.TooMany once (not_many Cause) b a)
-verdict_once {Cause} judged events first end (runs.TooMany moment) (runs.Fail its other theirs) once a b =
-    let same = least_moment_once judged first end moment its moments.TooMany (moments.Fail other theirs) once (not_many Cause) (not_fail other theirs) a b in
+verdict_once {Cause} judged events first end (runs.TooMany moment lines) (runs.Pass count images) once a b =
+    absurd (pass_and_fail judged events first end count moment images (moments.TooMany lines) once (not_many Cause lines) b a)
+verdict_once {Cause} judged events first end (runs.TooMany moment lines) (runs.Fail its other theirs two) once a b =
+    let same = least_moment_once judged first end moment its (moments.TooMany lines) (moments.Fail other theirs two) once (not_many Cause lines) (not_fail other theirs two) a b in
     let verdicts_same = same.1 in
     cc
-verdict_once {Cause} judged events first end (runs.TooMany moment) (runs.TooMany its) once a b =
-    let same = least_moment_once judged first end moment its moments.TooMany moments.TooMany once (not_many Cause) (not_many Cause) a b in
-    ap (λ (m : ℕ). runs.TooMany m) same.0
+verdict_once {Cause} judged events first end (runs.TooMany moment lines) (runs.TooMany its others) once a b =
+    let same = least_moment_once judged first end moment its (moments.TooMany lines) (moments.TooMany others) once (not_many Cause lines) (not_many Cause others) a b in
+    let moments_same = same.0 in
+    let verdicts_same = same.1 in
+    cc
+verdict_once {Cause} judged events first end (runs.TooLong moment) (runs.Pass count images) once a b =
+    absurd (pass_and_fail judged events first end count moment images moments.TooLong once (not_long Cause) b a)
+verdict_once {Cause} judged events first end (runs.Pass count images) (runs.TooLong moment) once a b =
+    absurd (pass_and_fail judged events first end count moment images moments.TooLong once (not_long Cause) a b)
+verdict_once {Cause} judged events first end (runs.TooLong moment) (runs.Fail its other theirs two) once a b =
+    let same = least_moment_once judged first end moment its moments.TooLong (moments.Fail other theirs two) once (not_long Cause) (not_fail other theirs two) a b in
+    let verdicts_same = same.1 in
+    cc
+verdict_once {Cause} judged events first end (runs.Fail moment name cause one) (runs.TooLong its) once a b =
+    let same = least_moment_once judged first end moment its (moments.Fail name cause one) moments.TooLong once (not_fail name cause one) (not_long Cause) a b in
+    let verdicts_same = same.1 in
+    cc
+verdict_once {Cause} judged events first end (runs.TooLong moment) (runs.TooMany its lines) once a b =
+    let same = least_moment_once judged first end moment its moments.TooLong (moments.TooMany lines) once (not_long Cause) (not_many Cause lines) a b in
+    let verdicts_same = same.1 in
+    cc
+verdict_once {Cause} judged events first end (runs.TooMany moment lines) (runs.TooLong its) once a b =
+    let same = least_moment_once judged first end moment its (moments.TooMany lines) moments.TooLong once (not_many Cause lines) (not_long Cause) a b in
+    let verdicts_same = same.1 in
+    cc
+verdict_once {Cause} judged events first end (runs.TooLong moment) (runs.TooLong its) once a b =
+    let same = least_moment_once judged first end moment its moments.TooLong moments.TooLong once (not_long Cause) (not_long Cause) a b in
+    ap (λ (m : ℕ). runs.TooLong m) same.0

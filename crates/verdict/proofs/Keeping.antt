@@ -136,12 +136,12 @@ good_numbers found p c alike good w =
     alike c (number_in cut) None (λ l. sym (number_in_within p c inside l)) (good cut (cut_from_within p c inside))
 
 -- a pass is kept, and each line that recovery asks is still flagged
-pub pass_kept : {Cause : Type 0} (start : List (List ℕ)) (p later : List PersistenceStep) (flags : List Bool) (alike alike_later : Question → ℕ → ℕ → Bool)
+pub pass_kept : {Cause : Type 0} (further : Bool) (start : List (List ℕ)) (p later : List PersistenceStep) (flags : List Bool) (alike alike_later : Question → ℕ → ℕ → Bool)
     (asks asks_later : (ℕ → ℕ) → List Question → Type 0) (found found_later : (ℕ → ℕ) → Option Cause → Type 0) → StayAlike p later alike alike_later →
     AreLike start p later flags → IsByLines start p later asks asks_later found found_later →
-    AreFlagged asks p flags → IsMomentVerdict alike asks found p moments.Pass →
-    AreFlagged asks_later later flags × IsMomentVerdict alike_later asks_later found_later later moments.Pass
-pass_kept start p later flags alike alike_later asks asks_later found found_later stay a by flagged v = (
+    AreFlagged asks p flags → IsMomentVerdict further alike asks found p moments.Pass →
+    AreFlagged asks_later later flags × IsMomentVerdict further alike_later asks_later found_later later moments.Pass
+pass_kept further start p later flags alike alike_later asks asks_later found found_later stay a by flagged v = (
   λ k w questions asked.
       let like = a.each k w in
       let c = a.of k in

@@ -16,6 +16,9 @@ pub mod Lowest
 pub mod Carrying
 pub mod Answering
 pub mod Opening
+pub mod Trying
+pub mod Widening
+pub mod Edging
 pub mod CutLines
 pub mod Bytes
 pub mod Watching

@@ -240,3 +240,11 @@ bytes_added old line bytes l less = elim (cases_eq line l) [
   | inr ne ↦ let f : eqb line l ≡ false = grind (arith, ne) in
       rw f (get_or-set_other old line l (bit_or (slice_index old line) bytes) 0 (λ e. ne (sym e)))
 ]
+
+-- a number put
+pub number_put : (old : List ℕ) (line number l : ℕ) → line < length old → slice_index (set old line number) l ≡ (if l == line then number else slice_index old l)
+number_put old line number l less = elim (cases_eq l line) [
+  | inl e ↦ let t : eqb l line ≡ true = grind (arith, e) in
+      rw t (subst (λ (m : ℕ). slice_index (set old line number) m ≡ number) (sym e) (get_or-set_same old line number 0 less))
+  | inr ne ↦ let f : eqb l line ≡ false = grind (arith, ne) in rw f (get_or-set_other old line l number 0 ne)
+]

@@ -11,6 +11,7 @@ use Rattle.verdict.specs.declared.branches.question.Question.{Question}
 use Rattle.verdict.specs.declared.branches.queue.Entry.{Entry}
 use Rattle.verdict.specs.Openings.{AreDecided, AreFlagged, AreNodes, Covers, IsAt, IsBest, IsFinished, IsPast, IsRun, Node, SomeDecides, Split, cuts_of}
 use Rattle.verdict.specs.Pieces.{AreAnswers, AreCuts, AreRuns, all_branching}
+use Rattle.verdict.proofs.Alikes.{agree_self}
 use Rattle.verdict.proofs.Answering.{answers_join, answers_later, branching_join, branching_later}
 use Rattle.verdict.proofs.Counting.{not_over}
 use Rattle.verdict.proofs.Lowest.{before_other, before_over, least_of, never_itself, pass_of}
@@ -564,3 +565,22 @@ pub at_only : {Cause : Type 0} (alike : Question → ℕ → ℕ → Bool) (asks
     (l : ℕ) → is_flagged l flags ≡ true → IsAsked asks low high l
 at_only alike asks judged low high lines at queue numbers least flags o l t =
     decided_asked alike asks low high l o.done o.opening.nodes.split.finished (o.opening.only l t)
+
+floors_asked : (alike : Question → ℕ → ℕ → Bool) (asks : (ℕ → ℕ) → List Question → Type 0) (low high : ℕ → ℕ) (flags : List Bool) (done left : List Node) → IsEquivalence alike →
+    IsAdaptive alike asks → 0 < length done → get_or (cuts_of (done ++ left)) 0 low ≡ low → AllByRecursion (IsFinished alike asks low high) done →
+    AllByRecursion (λ v. AreFlagged flags v.decided) done → (qs : List Question) → asks low qs → AreFlagged flags qs
+floors_asked alike asks low high flags [] left eq a some cut f g qs h = absurd (omega (arith, some))
+floors_asked alike asks low high flags (v ∷ vs) left eq a some cut f g qs h =
+    let agree : Agree alike low v.numbers v.decided = subst (λ (c : ℕ → ℕ). Agree alike low c v.decided) (sym cut) (agree_self alike low v.decided eq) in
+    covered_asked alike asks low high low qs flags (v ∷ vs) a f g h (inl agree)
+
+-- what is asked where every line stands at its floor, whose branch is the first
+pub at_floors : {Cause : Type 0} (alike : Question → ℕ → ℕ → Bool) (asks : (ℕ → ℕ) → List Question → Type 0) (judged : (ℕ → ℕ) → Option Cause → Type 0) (low high : ℕ → ℕ) (lines at : ℕ)
+    (queue : List Entry) (numbers : List ℕ) (least : Option Cause) (flags : List Bool) → IsEquivalence alike → IsAdaptive alike asks → 0 < at →
+    IsAt alike asks judged low high lines at queue numbers least flags → (qs : List Question) → asks low qs → AreFlagged flags qs
+at_floors alike asks judged low high lines at queue numbers least flags eq adaptive begun o =
+    let z = o.opening.nodes.size in
+    let s = o.opening.nodes.same in
+    let n = node_count o.done o.left in
+    floors_asked alike asks low high flags o.done o.left eq adaptive (omega (arith, begun, z)) (o.opening.nodes.cuts 0 (omega (arith, begun, z, s, n)))
+    o.opening.nodes.split.finished o.opening.asked

@@ -47,11 +47,15 @@ verdicts_join sums judged events first middle end (runs.Pass moments images) (ru
   sums events first middle end images others f m a.1 b.1,
   passes_join judged first middle end a.2 b.2,
 )
-verdicts_join sums judged events first middle end (runs.Pass moments images) (runs.Fail moment name cause) f m a b =
+verdicts_join sums judged events first middle end (runs.Pass moments images) (runs.Fail moment name cause of_too_many) f m a b =
     later_fails judged first middle end moment _ f a.2 b
-verdicts_join sums judged events first middle end (runs.Pass moments images) (runs.TooMany moment) f m a b =
+verdicts_join sums judged events first middle end (runs.Pass moments images) (runs.TooMany moment named) f m a b =
     later_fails judged first middle end moment _ f a.2 b
-verdicts_join sums judged events first middle end (runs.Fail moment name cause) other f m a b =
+verdicts_join sums judged events first middle end (runs.Pass moments images) (runs.TooLong moment) f m a b =
+    later_fails judged first middle end moment _ f a.2 b
+verdicts_join sums judged events first middle end (runs.Fail moment name cause of_too_many) other f m a b =
     earlier_fails judged first middle end moment _ m a
-verdicts_join sums judged events first middle end (runs.TooMany moment) other f m a b =
+verdicts_join sums judged events first middle end (runs.TooMany moment named) other f m a b =
+    earlier_fails judged first middle end moment _ m a
+verdicts_join sums judged events first middle end (runs.TooLong moment) other f m a b =
     earlier_fails judged first middle end moment _ m a

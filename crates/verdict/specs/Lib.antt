@@ -6,6 +6,8 @@ pub mod Branches
 pub mod Numbers
 pub mod Queue
 pub mod Opened
+pub mod Edges
+pub mod Contents
 pub mod Least
 pub mod Pieces
 pub mod Openings

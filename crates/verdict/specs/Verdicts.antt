@@ -4,9 +4,11 @@
 -- it after n of the line's stores as after m, and `found c cause` what is found of the image: its cause where it is bad, and None where it
 -- is good.
 -- Source: Vinter, USENIX ATC 2022: every crash image is recovered, and the state that shows is judged.
-use Rattle.std.specs.Prelude.{◌≡◌, ℕ, ◌+◌, ◌<◌, ◌≤◌, Bool, true, List, Option, Some, None}
+use Rattle.std.specs.Prelude.{◌≡◌, ℕ, ◌+◌, ◌<◌, ◌≤◌, Bool, true, false, List, Option, Some, None}
 use Rattle.std.specs.List.{AllByRecursion}
 use Rattle.verdict.specs.Branches.{AreOver, IsWithin}
+use Rattle.verdict.specs.Contents.{AreWidest}
+use Rattle.verdict.specs.Edges.{AreTried}
 use Rattle.verdict.specs.Numbers.{is_flagged}
 use Rattle.crash_image.specs.Named.{IsNameOf}
 use Rattle.crash_image.specs.Totals.{IsImageSum, sum_of}
@@ -16,6 +18,7 @@ use Rattle.store_trace.specs.Stores.{stores}
 use Rattle.store_trace.specs.declared.crash_model.step.PersistenceStep.{PersistenceStep}
 use Rattle.store_trace.specs.declared.event.Event.{Event}
 use Rattle.verdict.specs.declared.branches.question.Question.{Question}
+use Rattle.verdict.specs.declared.moment_verdict.contents.LineContents.{LineContents}
 use Rattle.verdict.specs.declared.moment_verdict.verdict.MomentVerdict.{MomentVerdict}
 use Rattle.verdict.specs.declared.moment_verdict.verdict.MomentVerdict.TheVariants as moments
 use Rattle.verdict.specs.declared.moment_verdict.verdict.Verdict.{Verdict}
@@ -34,25 +37,41 @@ AreFlagged asks p flags = (k : ℕ → ℕ) → IsWithin (λ l. floor l p) (λ l
 abbrev pub AreGood : {Cause : Type 0} → ((ℕ → ℕ) → Option Cause → Type 0) → List PersistenceStep → Type 0
 AreGood found p = (cut : List (ℕ × ℕ)) → IsCut p cut → found (number_in cut) None
 
+-- a bad cut and its cause
+abbrev pub IsBad : {Cause : Type 0} → ((ℕ → ℕ) → Option Cause → Type 0) → List PersistenceStep → List (ℕ × ℕ) → Cause → Type 0
+IsBad found p cut cause = IsCut p cut × found (number_in cut) (Some cause)
+
+-- these are the widest of lines whose edge images are good
+abbrev pub AreNamed : {Cause : Type 0} → (Question → ℕ → ℕ → Bool) → ((ℕ → ℕ) → List Question → Type 0) → ((ℕ → ℕ) → Option Cause → Type 0) →
+    List PersistenceStep → List LineContents → Type 0
+AreNamed alike asks found p named = (lines : List ℕ) × AreTried asks found (λ l. floor l p) (λ l. stores l p) lines
+    × AreWidest alike (λ l. floor l p) (λ l. stores l p) lines named
+
 -- the least bad cut, in the order of cuts, and its cause
 pub record IsLeastBad {Cause : Type 0} (found : (ℕ → ℕ) → Option Cause → Type 0) (p : List PersistenceStep) (cut : List (ℕ × ℕ)) (cause : Cause) : Type 0 where
   pub there : IsCut p cut
   pub bad : found (number_in cut) (Some cause)
   pub least : (other : List (ℕ × ℕ)) → IsCut p other → IsBefore other cut → found (number_in other) None
 
--- the verdict on the moment after these persistence steps
-abbrev pub IsMomentVerdict : {Cause : Type 0} → (Question → ℕ → ℕ → Bool) → ((ℕ → ℕ) → List Question → Type 0) → ((ℕ → ℕ) → Option Cause → Type 0) →
+-- the verdict on the moment after these persistence steps; `further` says whether further images are tried where there are too many branches
+abbrev pub IsMomentVerdict : {Cause : Type 0} → Bool → (Question → ℕ → ℕ → Bool) → ((ℕ → ℕ) → List Question → Type 0) → ((ℕ → ℕ) → Option Cause → Type 0) →
     List PersistenceStep → MomentVerdict Cause → Type 0
-IsMomentVerdict alike asks found p moments.Pass = (¬ HasManyBranches alike asks p) × AreGood found p
-IsMomentVerdict alike asks found p (moments.Fail name cause) = (¬ HasManyBranches alike asks p)
+IsMomentVerdict further alike asks found p moments.Pass = (¬ HasManyBranches alike asks p) × AreGood found p
+IsMomentVerdict further alike asks found p (moments.Fail name cause false) = (¬ HasManyBranches alike asks p)
     × ((cut : List (ℕ × ℕ)) × IsNameOf p cut name × IsLeastBad found p cut cause)
-IsMomentVerdict alike asks found p moments.TooMany = HasManyBranches alike asks p
+IsMomentVerdict further alike asks found p (moments.Fail name cause true) = HasManyBranches alike asks p × (further ≡ true)
+    × ((cut : List (ℕ × ℕ)) × IsNameOf p cut name × IsBad found p cut cause)
+IsMomentVerdict further alike asks found p (moments.TooMany None) = HasManyBranches alike asks p × (further ≡ false)
+IsMomentVerdict further alike asks found p (moments.TooMany (Some named)) = HasManyBranches alike asks p × (further ≡ true)
+    × AreNamed alike asks found p named
+IsMomentVerdict further alike asks found p moments.TooLong = ⊥
 
 -- the claim holds where the moment passes
 abbrev pub IfPassed : {Cause : Type 0} → MomentVerdict Cause → Type 0 → Type 0
 IfPassed moments.Pass claim = claim
-IfPassed (moments.Fail name cause) claim = Unit {0}
-IfPassed moments.TooMany claim = Unit {0}
+IfPassed (moments.Fail name cause of_too_many) claim = Unit {0}
+IfPassed (moments.TooMany named) claim = Unit {0}
+IfPassed moments.TooLong claim = Unit {0}
 
 -- the moments from `first` on that are below `end` pass, where `judged m` says which verdict there is on moment m
 abbrev pub PassBetween : {Cause : Type 0} → (ℕ → MomentVerdict Cause → Type 0) → ℕ → ℕ → Type 0
@@ -69,13 +88,16 @@ pub record IsLeastMoment {Cause : Type 0} (judged : ℕ → MomentVerdict Cause 
 abbrev pub IsVerdictBetween : {Cause : Type 0} → (ℕ → MomentVerdict Cause → Type 0) → List Event → ℕ → ℕ → Verdict Cause → Type 0
 IsVerdictBetween judged events first end (runs.Pass moments images) =
     (first + moments ≡ end) × IsImageSum events first end images × PassBetween judged first end
-IsVerdictBetween judged events first end (runs.Fail moment name cause) = IsLeastMoment judged first end moment (moments.Fail name cause)
-IsVerdictBetween judged events first end (runs.TooMany moment) = IsLeastMoment judged first end moment moments.TooMany
+IsVerdictBetween judged events first end (runs.Fail moment name cause of_too_many) = IsLeastMoment judged first end moment (moments.Fail name cause of_too_many)
+IsVerdictBetween judged events first end (runs.TooMany moment named) = IsLeastMoment judged first end moment (moments.TooMany named)
+IsVerdictBetween judged events first end (runs.TooLong moment) = IsLeastMoment judged first end moment moments.TooLong
 
 -- the verdict on two rows of moments, of which the second begins where the first ends
 abbrev pub joined : {Cause : Type 0} → Verdict Cause → Verdict Cause → Verdict Cause
 joined (runs.Pass moments images) (runs.Pass more others) = runs.Pass (moments + more) (sum_of images others)
-joined (runs.Pass moments images) (runs.Fail moment name cause) = runs.Fail moment name cause
-joined (runs.Pass moments images) (runs.TooMany moment) = runs.TooMany moment
-joined (runs.Fail moment name cause) other = runs.Fail moment name cause
-joined (runs.TooMany moment) other = runs.TooMany moment
+joined (runs.Pass moments images) (runs.Fail moment name cause of_too_many) = runs.Fail moment name cause of_too_many
+joined (runs.Pass moments images) (runs.TooMany moment named) = runs.TooMany moment named
+joined (runs.Pass moments images) (runs.TooLong moment) = runs.TooLong moment
+joined (runs.Fail moment name cause of_too_many) other = runs.Fail moment name cause of_too_many
+joined (runs.TooMany moment named) other = runs.TooMany moment named
+joined (runs.TooLong moment) other = runs.TooLong moment

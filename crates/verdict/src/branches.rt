@@ -7,6 +7,7 @@ pub use opener::{Opened, Opener};
 pub use question::Question;
 pub use recovery::Recovery;
 
+mod edges;
 mod findings;
 mod laws;
 mod line_bytes;

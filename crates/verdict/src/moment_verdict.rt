@@ -3,12 +3,14 @@
 //!
 //! Source: Vinter, USENIX ATC 2022: crash images are made from a trace, and the state that recovery shows in each is judged.
 
+pub use contents::{LineContents, WidestLines};
 pub use laws::{Judging, verdicts_join};
 pub use opening::open_moment;
 pub use text::ImageName;
 pub use unseen::is_unseen;
 pub use verdict::{MomentVerdict, Verdict};
 
+mod contents;
 mod laws;
 mod naming;
 mod opening;

@@ -144,11 +144,17 @@ fn judge_one<M: Moments, T: Threads + Sync>(
 {
     match run.judge_moment(rt, alloc, judge, moment)? {
         MomentVerdict::Pass => Ok(None),
-        MomentVerdict::Fail { image, cause } => Ok(Some(Verdict::Fail {
+        MomentVerdict::Fail {
+            image,
+            cause,
+            of_too_many,
+        } => Ok(Some(Verdict::Fail {
             moment,
             image,
             cause,
+            of_too_many,
         })),
-        MomentVerdict::TooMany => Ok(Some(Verdict::TooMany { moment })),
+        MomentVerdict::TooMany { lines } => Ok(Some(Verdict::TooMany { moment, lines })),
+        MomentVerdict::TooLong => Ok(Some(Verdict::TooLong { moment })),
     }
 }

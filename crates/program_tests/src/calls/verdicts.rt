@@ -108,6 +108,7 @@ fn is_verdict(alloc: Global, verdict: &Verdict<Cause>, wanted: Wanted) -> bool {
                 moment,
                 image,
                 cause,
+                of_too_many: false,
             },
             Wanted::Fail {
                 moment: m,

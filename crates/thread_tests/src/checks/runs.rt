@@ -87,6 +87,7 @@ fn plain_verdict(verdict: Result<Verdict<Cause>, CheckFault>) -> Option<Plain> {
                 moment,
                 image: ImageName::Number(image),
                 cause,
+                of_too_many: false,
             },
         ) => Some(Plain::Fail {
             moment,
@@ -94,7 +95,13 @@ fn plain_verdict(verdict: Result<Verdict<Cause>, CheckFault>) -> Option<Plain> {
             cause,
         }),
         Ok(Verdict::Fail { .. }) => None,
-        Ok(Verdict::TooMany { moment }) => Some(Plain::TooMany { moment }),
+        Ok(
+            Verdict::TooMany {
+                moment,
+                lines: None,
+            },
+        ) => Some(Plain::TooMany { moment }),
+        Ok(Verdict::TooMany { .. } | Verdict::TooLong { .. }) => None,
         Err(fault) => Some(Plain::Refused(fault)),
     }
 }

@@ -1,6 +1,6 @@
 //! Sets of lines.
 
-ghost use Rattle.std.specs.Prelude.{◌≡◌, ℕ, ◌<◌, ◌||◌, ◌==◌, false, true, not, length, replicate, IfOk, OnOk};
+ghost use Rattle.std.specs.Prelude.{◌≡◌, ℕ, ◌<◌, ◌||◌, ◌==◌, false, true, length, replicate, IfOk, OnOk};
 ghost use Rattle.std.specs.List.{AllByRecursion};
 ghost use Rattle.verdict.specs.Branches.{has_line};
 ghost use Rattle.verdict.specs.Numbers.{has, is_flagged};
@@ -56,21 +56,19 @@ impl LineSet {
         &self.lines
     }
 
-    /// Puts a line into the set. True where it wasn't in it.
+    /// Puts a line into the set.
     #[tactic(auto, using(crate::proofs::Listed::flag_set, crate::proofs::Listed::flag_kept, crate::proofs::Listed::flag_listed, crate::proofs::Listed::listed_flag))]
     #[inline(always)]
-    pub fn insert(&mut self, line: u32) -> Result<bool, AllocError>
+    fn insert(&mut self, line: u32) -> Result<(), AllocError>
         requires { line < length self.old }
-        ensures value { IfOk result (λ new. is_flagged line self.old ≡ not new) }
         ensures after { OnOk result ((l : ℕ) → is_flagged l self.new ≡ is_flagged l self.old || (line == l)) }
         ensures size { length self.new ≡ length self.old }
     {
-        if self.flags[line as usize] {
-            return Ok(false);
+        if !self.flags[line as usize] {
+            self.lines.push(line)?;
+            self.flags[line as usize] = true;
         }
-        self.lines.push(line)?;
-        self.flags[line as usize] = true;
-        Ok(true)
+        Ok(())
     }
 
     /// Puts these lines into the set.

@@ -90,6 +90,21 @@ impl Numbers {
         Ok(())
     }
 
+    /// Gives a line this number, 0 for its floor.
+    #[tactic(auto, using(crate::proofs::Listed::number_put))]
+    pub fn put(&mut self, line: u32, number: u32) -> Result<(), AllocError>
+        requires { line < length self.old }
+        ensures put { OnOk result ((l : ℕ) → slice_index self.new l ≡ (if l == line then number else slice_index self.old l)) }
+        ensures size { length self.new ≡ length self.old }
+    {
+        let before = self.by_line[line as usize];
+        if before == 0 {
+            self.raised.push(line)?;
+        }
+        self.by_line[line as usize] = number;
+        Ok(())
+    }
+
     /// Whether the cut comes before another, over the same floors.
     pub fn comes_before(&self, other: &Numbers) -> bool
         requires { length self.now ≡ length other.now }

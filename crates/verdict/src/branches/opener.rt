@@ -2,9 +2,9 @@
 
 ghost use Rattle.std.specs.Prelude.{◌≡◌, ℕ, ◌≤◌, List, None, true, false, length, replicate, IfOk};
 ghost use Rattle.std.specs.List.{AllByRecursion};
-ghost use Rattle.verdict.specs.Branches.{AreOver, IsAsked, IsLeastBad, IsWithin};
+ghost use Rattle.verdict.specs.Branches.{IsAsked, IsWithin};
 ghost use Rattle.verdict.specs.Numbers.{is_flagged, number_over};
-ghost use Rattle.verdict.specs.Opened.{IfBad, IfOver, IfPass, IfFew};
+ghost use Rattle.verdict.specs.Opened.{IfFew, IsOpened};
 ghost use Rattle.verdict.specs.declared.branches.question.Question.{Question};
 
 use crate::branches::Recovery;
@@ -17,8 +17,11 @@ use std::thread::Threads;
 /// What the branches of a moment came to.
 #[derive(Drop)]
 pub enum Opened<Cause> {
-    /// There are over so many.
-    Over,
+    /// There are over so many. Where further images are tried, none is bad: of the branches that were opened, and of the edge images of these
+    /// lines, which recovery asks and which have stores past their floors.
+    Over { lines: Option<Vec<u32>> },
+    /// There are over so many, further images are tried, and this cut is bad.
+    OverBad { numbers: Vec<u32>, cause: Cause },
     /// Each cut passes.
     Pass,
     /// The least bad cut, by line, with 0 for a line at its floor, and its cause.
@@ -76,12 +79,7 @@ impl Opener {
         requires some { 1 ≤ limit }
         requires fits { R.fits recovery.now workspace.old }
         ensures fits { R.fits recovery.now workspace.new }
-        ensures over { IfOk result (λ opened. IfOver opened (AreOver (R.alike recovery.now) (R.asks recovery.now) (R.low recovery.now) (R.high recovery.now) limit)) }
-        ensures few { IfOk result (λ opened. IfFew opened (¬ AreOver (R.alike recovery.now) (R.asks recovery.now) (R.low recovery.now) (R.high recovery.now) limit)) }
-        ensures pass { IfOk result (λ opened. IfPass opened ((k : ℕ → ℕ) → IsWithin (R.low recovery.now) (R.high recovery.now) k → R.judged recovery.now k None)) }
-        ensures bad { IfOk result (λ opened. IfBad opened (λ numbers cause.
-            IsLeastBad (R.low recovery.now) (R.high recovery.now) (R.judged recovery.now) (number_over (R.low recovery.now) numbers) cause
-            × (length numbers ≡ R.lines recovery.now))) }
+        ensures opened { IfOk result (IsOpened (R.further recovery.now) (R.alike recovery.now) (R.asks recovery.now) (R.judged recovery.now) (R.low recovery.now) (R.high recovery.now) (R.lines recovery.now) limit) }
         ensures asked { IfOk result (λ opened. IfFew opened ((k : ℕ → ℕ) → IsWithin (R.low recovery.now) (R.high recovery.now) k →
             (qs : List Question) → R.asks recovery.now k qs → AllByRecursion (λ q. is_flagged q.line self.new ≡ true) qs)) }
         ensures only { IfOk result (λ opened. (l : ℕ) → is_flagged l self.new ≡ true → IsAsked (R.asks recovery.now) (R.low recovery.now) (R.high recovery.now) l) }
@@ -90,6 +88,7 @@ impl Opener {
         let least = self
             .progress
             .open_all(rt, alloc, recovery, workspace, &mut self.run, limit)?;
-        self.progress.finish(alloc, recovery, limit, least)
+        self.progress
+            .finish(alloc, recovery, workspace, &mut self.run, limit, least)
     }
 }

@@ -2,9 +2,9 @@
 
 ghost use Rattle.std.specs.Prelude.{◌≡◌, ◌↔◌, ℕ, ◌+◌, ◌<◌, ◌≤◌, ◌∷◌, ◌++◌, [], List, Option, Some, None, true, false, length, replicate, All, IfOk, IsSome, IsTrue, OnOk};
 ghost use Rattle.std.specs.List.{AllByRecursion};
-ghost use Rattle.verdict.specs.Branches.{AreOver, ComesBefore, IsAsked, IsLeastBad, IsWithin};
+ghost use Rattle.verdict.specs.Branches.{IsAsked, IsWithin};
 ghost use Rattle.verdict.specs.Numbers.{is_flagged, number_over, AreAbove};
-ghost use Rattle.verdict.specs.Opened.{IfBad, IfFew, IfOver, IfPass};
+ghost use Rattle.verdict.specs.Opened.{AreSized, IfFew, IsOpened, IsTried};
 ghost use Rattle.verdict.specs.Pieces.{IsPiece};
 ghost use Rattle.verdict.specs.Queue.{entry};
 ghost use Rattle.verdict.specs.declared.branches.queue.Entry.{Entry as AnEntry};
@@ -84,10 +84,12 @@ impl Progress {
         requires size { length self.old.findings.asked ≡ R.lines recovery.now }
         requires least_size { length self.old.findings.least ≡ R.lines recovery.now }
         requires run_size { length run.old.numbers ≡ R.lines recovery.now }
+        requires some { 1 ≤ limit }
         requires fits { R.fits recovery.now workspace.old }
         ensures at { IfOk result (λ least. IsAt (R.alike recovery.now) (R.asks recovery.now) (R.judged recovery.now) (R.low recovery.now) (R.high recovery.now) (R.lines recovery.now)
             self.new.opened self.new.findings.found.items self.new.findings.least least self.new.findings.asked) }
         ensures whole { OnOk result (length self.new.findings.found.items ≤ limit → length self.new.findings.found.items ≤ self.new.opened) }
+        ensures begun { OnOk result (0 < self.new.opened) }
         ensures size { length self.new.findings.asked ≡ length self.old.findings.asked }
         ensures least_size { length self.new.findings.least ≡ length self.old.findings.least }
         ensures run_size { length run.new.numbers ≡ length run.old.numbers }
@@ -231,30 +233,32 @@ impl Progress {
         Ok(kept)
     }
 
-    /// What the branches came to, where all are opened or there are over `limit`.
+    /// What the branches came to, where all are opened or there are over `limit`. Where there are, and none that was opened is bad, edge images
+    /// are tried.
     pub fn finish<R: Recovery>(
         &self,
         alloc: Global,
         recovery: &R,
+        workspace: &mut R::Workspace,
+        run: &mut Run,
         limit: u32,
         least: Option<R::Cause>,
     ) -> Result<Opened<R::Cause>, AllocError>
         requires whole { length self.now.findings.found.items ≤ limit → length self.now.findings.found.items ≤ self.now.opened }
-        requires least_size { length self.now.findings.least ≡ R.lines recovery.now }
+        requires begun { 0 < self.now.opened }
+        requires sizes { AreSized (R.lines recovery.now) self.now run.old }
+        requires fits { R.fits recovery.now workspace.old }
         requires at { IsAt (R.alike recovery.now) (R.asks recovery.now) (R.judged recovery.now) (R.low recovery.now) (R.high recovery.now) (R.lines recovery.now)
             self.now.opened self.now.findings.found.items self.now.findings.least least self.now.findings.asked }
-        ensures over { IfOk result (λ opened. IfOver opened (AreOver (R.alike recovery.now) (R.asks recovery.now) (R.low recovery.now) (R.high recovery.now) limit)) }
-        ensures few { IfOk result (λ opened. IfFew opened (¬ AreOver (R.alike recovery.now) (R.asks recovery.now) (R.low recovery.now) (R.high recovery.now) limit)) }
-        ensures pass { IfOk result (λ opened. IfPass opened ((k : ℕ → ℕ) → IsWithin (R.low recovery.now) (R.high recovery.now) k → R.judged recovery.now k None)) }
-        ensures bad { IfOk result (λ opened. IfBad opened (λ numbers cause.
-            IsLeastBad (R.low recovery.now) (R.high recovery.now) (R.judged recovery.now) (number_over (R.low recovery.now) numbers) cause
-            × (length numbers ≡ R.lines recovery.now))) }
+        ensures opened { IfOk result (IsOpened (R.further recovery.now) (R.alike recovery.now) (R.asks recovery.now) (R.judged recovery.now) (R.low recovery.now) (R.high recovery.now) (R.lines recovery.now) limit) }
         ensures asked { IfOk result (λ opened. IfFew opened ((k : ℕ → ℕ) → IsWithin (R.low recovery.now) (R.high recovery.now) k →
             (qs : List Question) → R.asks recovery.now k qs → AllByRecursion (λ q. is_flagged q.line self.now.findings.asked ≡ true) qs)) }
         ensures only { (l : ℕ) → is_flagged l self.now.findings.asked ≡ true → IsAsked (R.asks recovery.now) (R.low recovery.now) (R.high recovery.now) l }
+        ensures run_size { length run.new.numbers ≡ length run.old.numbers }
+        ensures fits { R.fits recovery.now workspace.new }
     {
         if self.is_over(limit) {
-            return Ok(Opened::Over);
+            return self.finish_over(alloc, recovery, workspace, run, least);
         }
         match least {
             Some(cause) => Ok(Opened::Bad {
@@ -262,6 +266,39 @@ impl Progress {
                 cause,
             }),
             None => Ok(Opened::Pass),
+        }
+    }
+
+    /// The same where there are over so many branches.
+    fn finish_over<R: Recovery>(
+        &self,
+        alloc: Global,
+        recovery: &R,
+        workspace: &mut R::Workspace,
+        run: &mut Run,
+        least: Option<R::Cause>,
+    ) -> Result<Opened<R::Cause>, AllocError>
+        requires begun { 0 < self.now.opened }
+        requires sizes { AreSized (R.lines recovery.now) self.now run.old }
+        requires fits { R.fits recovery.now workspace.old }
+        requires at { IsAt (R.alike recovery.now) (R.asks recovery.now) (R.judged recovery.now) (R.low recovery.now) (R.high recovery.now) (R.lines recovery.now)
+            self.now.opened self.now.findings.found.items self.now.findings.least least self.now.findings.asked }
+        ensures tried { IfOk result (IsTried (R.further recovery.now) (R.asks recovery.now) (R.judged recovery.now) (R.low recovery.now) (R.high recovery.now) (R.lines recovery.now)) }
+        ensures run_size { length run.new.numbers ≡ length run.old.numbers }
+        ensures fits { R.fits recovery.now workspace.new }
+    {
+        if !recovery.tries_further() {
+            return Ok(Opened::Over { lines: None });
+        }
+        match least {
+            Some(cause) => Ok(Opened::OverBad {
+                numbers: self.findings.least.as_slice().to_vec(alloc)?,
+                cause,
+            }),
+            None => {
+                let lines = self.findings.open_lines(alloc, recovery)?;
+                run.try_edges(alloc, recovery, workspace, lines)
+            }
         }
     }
 }

@@ -32,6 +32,9 @@ pub trait Recovery {
     /// Of the image of this cut recovery asks these bytes, in this order.
     ghost asks: { Self → (ℕ → ℕ) → List AQuestion → Type 0 };
 
+    /// Whether further images are tried where there are too many branches.
+    ghost further: { Self → Bool };
+
     /// The image of this cut is bad for this cause, or passes.
     ghost judged: { Self → (ℕ → ℕ) → Option Self.Cause → Type 0 };
 
@@ -64,6 +67,10 @@ pub trait Recovery {
         requires line { asked.line < lines self.now }
         requires number { (low self.now asked.line < number) × (number ≤ high self.now asked.line) }
         ensures { result ≡ is_first (alike self.now asked) (low self.now asked.line) number };
+
+    /// Whether a bad image is told where there are too many branches, for which further ones are tried.
+    fn tries_further(&self) -> bool
+        ensures { result ≡ further self.now };
 
     /// A workspace for runs of recovery on these images, of which one is there: each thread that opens branches has one of its own.
     fn workspace(&self, alloc: Global) -> Result<Self::Workspace, AllocError>

@@ -6,7 +6,6 @@ ghost use Rattle.verdict.specs.Pieces.{AreCuts, IsPiece};
 use crate::branches::Recovery;
 use crate::branches::pieces::{Piece, open_piece};
 use crate::branches::queue::Entry;
-use rayon::current_num_threads;
 use rayon::prelude::*;
 use std::alloc::{AllocError, Global};
 use std::thread::Threads;
@@ -17,8 +16,12 @@ const LEAST_OF_ROUND: usize = 256;
 /// The most branches of a round: where it turns out that there are too many branches, at most so many were opened in vain.
 const MOST_OF_ROUND: usize = 16_384;
 
-/// The most pieces of a round, which has one for each processor: `rayon` starts no more threads.
+/// The most pieces of a round. Pieces don't go by the number of processors: where there are too many branches, the same ones are opened on
+/// each machine, so that it names the same image.
 const MOST_PIECES: usize = 32;
+
+/// How few branches are worth a piece of their own.
+const LEAST_OF_PIECE: usize = 64;
 
 /// Runs recovery at branches of the queue from place `first` on, in threads of their own where these can be started: at as many as a
 /// round has, and at none where there are few.
@@ -41,7 +44,7 @@ pub fn open_round<R: Recovery + Sync, T: Threads + Sync>(
     open_pieces(rt, alloc, recovery, queue, first, open)
 }
 
-/// Runs recovery at so many branches of the queue, in a piece for each processor.
+/// Runs recovery at so many branches of the queue, in pieces.
 fn open_pieces<R: Recovery + Sync, T: Threads + Sync>(
     rt: &T,
     alloc: Global,
@@ -55,9 +58,8 @@ fn open_pieces<R: Recovery + Sync, T: Threads + Sync>(
     ensures { IfOk result (λ pieces. All (λ found. IfOk found (IsPiece (R.asks recovery.now) (R.judged recovery.now) (R.alike recovery.now) (R.low recovery.now) (R.high recovery.now)
         (R.lines recovery.now) queue.now)) pieces.items) }
 {
-    let pieces = current_num_threads(rt).clamp(1, MOST_PIECES);
-    let size = count.div_ceil(pieces);
-    (0..pieces)
+    let size = count.div_ceil(MOST_PIECES).max(LEAST_OF_PIECE);
+    (0..count.div_ceil(size))
         .into_par_iter()
         .with_min_len(1)
         .map(

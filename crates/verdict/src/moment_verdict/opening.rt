@@ -1,8 +1,8 @@
 //! The verdict on one moment: one run of recovery for each branch of its cuts.
 
-ghost use Rattle.verdict.specs.Branches.{AreOver, IsLeastBad, IsWithin};
-ghost use Rattle.verdict.specs.Numbers.{is_flagged, number_over};
-ghost use Rattle.verdict.specs.Opened.{IfBad, IfFew, IfOver, IfPass};
+ghost use Rattle.verdict.specs.Branches.{IsWithin};
+ghost use Rattle.verdict.specs.Numbers.{is_flagged};
+ghost use Rattle.verdict.specs.Opened.{IfFew, IsOpened};
 ghost use Rattle.crash_image.specs.View.{HasLines};
 ghost use Rattle.store_trace.specs.Floor.{floor};
 ghost use Rattle.store_trace.specs.Stores.{stores};
@@ -14,6 +14,7 @@ ghost use Rattle.verdict.specs.declared.branches.question.Question.{Question};
 
 use crate::branches::{Opened, Opener, Recovery};
 use crate::moment_verdict::MomentVerdict;
+use crate::moment_verdict::contents::WidestLines;
 use crate::moment_verdict::naming::name_cut;
 use line_memory::Medium;
 use std::alloc::{AllocError, Global};
@@ -44,7 +45,7 @@ pub fn open_moment<R: Recovery + Sync, T: Threads + Sync>(
     requires high { R.high recovery.now ≡ (λ l. stores l (at_moment trace.now.events moment)) }
     requires alike { (k c : ℕ → ℕ) (found : Option R.Cause) → ((l : ℕ) → k l ≡ c l) → R.judged recovery.now c found → R.judged recovery.now k found }
     requires fits { R.fits recovery.now workspace.old }
-    ensures ok { IfOk result (IsMomentVerdict (R.alike recovery.now) (R.asks recovery.now) (R.judged recovery.now) (at_moment trace.now.events moment)) }
+    ensures ok { IfOk result (IsMomentVerdict (R.further recovery.now) (R.alike recovery.now) (R.asks recovery.now) (R.judged recovery.now) (at_moment trace.now.events moment)) }
     ensures asked { IfOk result (λ verdict. IfPassed verdict (AreFlagged (R.asks recovery.now) (at_moment trace.now.events moment) opener.new)) }
     ensures size { length opener.new ≡ length opener.old }
     ensures fits { R.fits recovery.now workspace.new }
@@ -68,22 +69,27 @@ fn verdict_of<R: Recovery>(
     requires low { R.low recovery.now ≡ (λ l. floor l (at_moment trace.now.events moment)) }
     requires high { R.high recovery.now ≡ (λ l. stores l (at_moment trace.now.events moment)) }
     requires alike { (k c : ℕ → ℕ) (found : Option R.Cause) → ((l : ℕ) → k l ≡ c l) → R.judged recovery.now c found → R.judged recovery.now k found }
-    requires over { IfOver opened (AreOver (R.alike recovery.now) (R.asks recovery.now) (R.low recovery.now) (R.high recovery.now) 65536) }
-    requires few { IfFew opened (¬ AreOver (R.alike recovery.now) (R.asks recovery.now) (R.low recovery.now) (R.high recovery.now) 65536) }
-    requires pass { IfPass opened ((k : ℕ → ℕ) → IsWithin (R.low recovery.now) (R.high recovery.now) k → R.judged recovery.now k None) }
-    requires bad { IfBad opened (λ numbers cause.
-        IsLeastBad (R.low recovery.now) (R.high recovery.now) (R.judged recovery.now) (number_over (R.low recovery.now) numbers) cause) }
+    requires opened { IsOpened (R.further recovery.now) (R.alike recovery.now) (R.asks recovery.now) (R.judged recovery.now) (R.low recovery.now) (R.high recovery.now) (R.lines recovery.now) 65536 opened }
     requires asked { IfFew opened ((k : ℕ → ℕ) → IsWithin (R.low recovery.now) (R.high recovery.now) k →
         (qs : List Question) → R.asks recovery.now k qs → AllByRecursion (λ q. is_flagged q.line opener.now ≡ true) qs) }
-    ensures ok { IfOk result (IsMomentVerdict (R.alike recovery.now) (R.asks recovery.now) (R.judged recovery.now) (at_moment trace.now.events moment)) }
+    ensures ok { IfOk result (IsMomentVerdict (R.further recovery.now) (R.alike recovery.now) (R.asks recovery.now) (R.judged recovery.now) (at_moment trace.now.events moment)) }
     ensures asked { IfOk result (λ verdict. IfPassed verdict (AreFlagged (R.asks recovery.now) (at_moment trace.now.events moment) opener.now)) }
 {
     match opened {
-        Opened::Over => Ok(MomentVerdict::TooMany),
+        Opened::Over { lines: None } => Ok(MomentVerdict::TooMany { lines: None }),
+        Opened::Over { lines: Some(lines) } => Ok(MomentVerdict::TooMany {
+            lines: Some(WidestLines::of(alloc, recovery, &lines)?),
+        }),
+        Opened::OverBad { numbers, cause } => Ok(MomentVerdict::Fail {
+            image: name_cut(alloc, medium, trace, moment, &numbers)?,
+            cause,
+            of_too_many: true,
+        }),
         Opened::Pass => Ok(MomentVerdict::Pass),
-        Opened::Bad { numbers, cause } => {
-            let image = name_cut(alloc, medium, trace, moment, &numbers)?;
-            Ok(MomentVerdict::Fail { image, cause })
-        }
+        Opened::Bad { numbers, cause } => Ok(MomentVerdict::Fail {
+            image: name_cut(alloc, medium, trace, moment, &numbers)?,
+            cause,
+            of_too_many: false,
+        }),
     }
 }

@@ -2,6 +2,7 @@
 
 ghost use Rattle.std.specs.Prelude.{◌≡◌, ◌↔◌, IsTrue};
 
+use crate::moment_verdict::contents::WidestLines;
 use text::ImageName;
 
 /// The verdict on one moment.
@@ -9,10 +10,21 @@ use text::ImageName;
 pub enum MomentVerdict<Cause> {
     /// Every image is good.
     Pass,
-    /// The image of this name is the least bad one.
-    Fail { image: ImageName, cause: Cause },
-    /// There are over 65,536 branches: 65,537 cuts of which no two share one.
-    TooMany,
+    /// The image of this name is bad.
+    Fail {
+        image: ImageName,
+        cause: Cause,
+        /// Whether there are over 65,536 branches: 65,537 cuts of which no two share one. If not, it is the least bad image. A judge that
+        /// tries no further images tells none of too many.
+        of_too_many: bool,
+    },
+    /// There are over 65,536 branches.
+    TooMany {
+        /// Where further images are tried, of which none is bad: where a fence would help.
+        lines: Option<WidestLines>,
+    },
+    /// What is right there can't be told within the steps that recovery has.
+    TooLong,
 }
 
 impl<Cause> MomentVerdict<Cause> {
@@ -34,14 +46,22 @@ pub enum Verdict<Cause> {
         /// The sum of the numbers of images of all moments. None where a moment has over 65,536.
         images: Option<u64>,
     },
-    /// This moment is the least that doesn't pass, and this image its least bad one.
+    /// This moment is the least that doesn't pass, and this image of it is bad.
     Fail {
         moment: u32,
         image: ImageName,
         cause: Cause,
+        /// Whether the moment has over 65,536 branches. If not, it is its least bad image.
+        of_too_many: bool,
     },
-    /// This moment is the least that doesn't pass, and it has over 65,536 branches.
+    /// This moment is the least that doesn't pass: it has over 65,536 branches.
     TooMany {
+        moment: u32,
+        /// Where further images are tried, of which none is bad: where a fence would help.
+        lines: Option<WidestLines>,
+    },
+    /// This moment is the least that doesn't pass: what is right there can't be told within the steps that recovery has.
+    TooLong {
         moment: u32,
     },
 }

@@ -10,12 +10,14 @@ use std::thread::Threads;
 use verdict::{Opened, Opener, Question, Recovery};
 
 /// Asks the whole of line 0, and lines 1 and 2 only where line 0 has so many stores as the key. Then the image is bad where line 1 has
-/// at least so many stores, and that number is the cause. Each line stands after none of its stores, or more.
+/// at least so many stores, and that number is the cause. Each line stands after none of its stores, or more. Where there are too many
+/// branches, further images are tried or not.
 #[derive(Clone, Copy)]
 struct Small {
     stores: [u32; 3],
     key: u32,
     bad: u32,
+    further: bool,
 }
 
 impl Recovery for Small {
@@ -36,6 +38,8 @@ impl Recovery for Small {
     ghost high = { λ s l. slice_index s.stores l };
 
     ghost alike = { λ s. same_number };
+
+    ghost further = { λ s. s.further };
 
     ghost asks = { λ s k qs. Asks s.key k qs };
 
@@ -61,6 +65,10 @@ impl Recovery for Small {
 
     fn is_first(&self, asked: Question, _number: u32) -> bool {
         asked.bytes != 0
+    }
+
+    fn tries_further(&self) -> bool {
+        self.further
     }
 
     fn workspace(&self, _alloc: Global) -> Result<(), AllocError> {
@@ -112,22 +120,30 @@ fn whole_line(line: u32) -> Question
     }
 }
 
-/// What an opening came to: over its limit, all cuts pass, or the least bad cut with its cause.
+/// What an opening came to.
 #[derive(Clone, Copy, Debug, PartialEq, Eq)]
 enum Outcome {
+    /// It is over its limit, and no further images are tried.
     Over,
+    /// It is over its limit, and no bad image was found: whether each line is one whose edge images are tried.
+    Tried([bool; 3]),
+    /// It is over its limit, and this cut is bad for this cause.
+    OverBad([u32; 3], u32),
+    /// All cuts pass.
     Pass,
+    /// The least bad cut, and its cause.
     Bad([u32; 3], u32),
 }
 
 /// Openings in turn by one opener: the recovery, the limit, what comes of it, and the lines of four that were asked.
-static OPENINGS: [(Small, u32, Outcome, [bool; 4]); 6] = [
+static OPENINGS: [(Small, u32, Outcome, [bool; 4]); 11] = [
     // seven branches: line 0 at 1, and the six cuts with line 0 at 0
     (
         Small {
             stores: [1, 2, 1],
             key: 0,
             bad: 3,
+            further: false,
         },
         7,
         Outcome::Pass,
@@ -138,6 +154,7 @@ static OPENINGS: [(Small, u32, Outcome, [bool; 4]); 6] = [
             stores: [1, 2, 1],
             key: 0,
             bad: 3,
+            further: false,
         },
         6,
         Outcome::Over,
@@ -149,6 +166,7 @@ static OPENINGS: [(Small, u32, Outcome, [bool; 4]); 6] = [
             stores: [1, 2, 1],
             key: 0,
             bad: 1,
+            further: false,
         },
         7,
         Outcome::Bad([0, 1, 0], 1),
@@ -160,6 +178,7 @@ static OPENINGS: [(Small, u32, Outcome, [bool; 4]); 6] = [
             stores: [1, 2, 1],
             key: 1,
             bad: 2,
+            further: false,
         },
         7,
         Outcome::Bad([1, 2, 0], 2),
@@ -171,6 +190,7 @@ static OPENINGS: [(Small, u32, Outcome, [bool; 4]); 6] = [
             stores: [1, 2, 1],
             key: 5,
             bad: 0,
+            further: false,
         },
         2,
         Outcome::Pass,
@@ -181,9 +201,71 @@ static OPENINGS: [(Small, u32, Outcome, [bool; 4]); 6] = [
             stores: [1, 0, 0],
             key: 5,
             bad: 0,
+            further: false,
         },
         1,
         Outcome::Over,
+        [true, false, false, false],
+    ),
+    // seven branches are too many, and no cut has three stores of line 1
+    (
+        Small {
+            stores: [1, 2, 1],
+            key: 0,
+            bad: 3,
+            further: true,
+        },
+        6,
+        Outcome::Tried([true, true, true]),
+        [true, true, true, false],
+    ),
+    // seven are found only once (0, 1, 0) is opened, which is less than the edge with all stores of line 1
+    (
+        Small {
+            stores: [1, 2, 1],
+            key: 0,
+            bad: 1,
+            further: true,
+        },
+        6,
+        Outcome::OverBad([0, 1, 0], 1),
+        [true, true, true, false],
+    ),
+    // the first branch alone is opened, and asks all lines; of the edges the first with two stores of line 1 has them alone
+    (
+        Small {
+            stores: [1, 2, 1],
+            key: 0,
+            bad: 2,
+            further: true,
+        },
+        1,
+        Outcome::OverBad([0, 2, 0], 2),
+        [true, true, true, false],
+    ),
+    // the second branch, (1, 0, 0), finds three more and is opened last; only the edge with all stores but line 2's has two of line 1 and
+    // the key
+    (
+        Small {
+            stores: [1, 2, 1],
+            key: 1,
+            bad: 2,
+            further: true,
+        },
+        4,
+        Outcome::OverBad([1, 2, 0], 2),
+        [true, true, true, false],
+    ),
+    // line 0 alone is asked, so that no edge has stores of line 1
+    (
+        Small {
+            stores: [1, 2, 1],
+            key: 1,
+            bad: 2,
+            further: true,
+        },
+        1,
+        Outcome::Tried([true, false, false]),
         [true, false, false, false],
     ),
 ];
@@ -201,7 +283,13 @@ fn outcome_of<R: Threads + Sync>(
     ensures { length opener.new ≡ 3 }
 {
     match opener.open(rt, alloc, recovery, &mut (), limit)? {
-        Opened::Over => Ok(Outcome::Over),
+        Opened::Over { lines: None } => Ok(Outcome::Over),
+        Opened::Over { lines: Some(lines) } => Ok(Outcome::Tried([
+            lines.contains(&0),
+            lines.contains(&1),
+            lines.contains(&2),
+        ])),
+        Opened::OverBad { numbers, cause } => Ok(Outcome::OverBad(three(&numbers), cause)),
         Opened::Pass => Ok(Outcome::Pass),
         Opened::Bad { numbers, cause } => Ok(Outcome::Bad(three(&numbers), cause)),
     }

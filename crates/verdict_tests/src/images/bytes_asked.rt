@@ -19,7 +19,7 @@ struct Twice {
 }
 
 impl Recovery for Twice {
-    ghost use Rattle.std.specs.Prelude.{slice_index};
+    ghost use Rattle.std.specs.Prelude.{false, slice_index};
     ghost use Rattle.std.proofs.Common.{rules};
     ghost use Rattle.verdict_tests.specs.AskedAgain.{Asks, IsJudged, adaptive, alike_both, alike_equal, alike_nothing, branchwise, shared, two_alike};
 
@@ -34,6 +34,8 @@ impl Recovery for Twice {
     ghost high = { λ s l. 3 };
 
     ghost alike = { λ s. two_alike s.first s.later };
+
+    ghost further = { λ s. false };
 
     ghost asks = { λ s k qs. Asks s.first s.key k qs };
 
@@ -67,6 +69,10 @@ impl Recovery for Twice {
             }
         }
         true
+    }
+
+    fn tries_further(&self) -> bool {
+        false
     }
 
     fn workspace(&self, _alloc: Global) -> Result<(), AllocError> {
@@ -176,7 +182,8 @@ fn outcome_of<R: Threads + Sync>(
     ensures { length opener.new ≡ 1 }
 {
     match opener.open(rt, alloc, recovery, &mut (), limit)? {
-        Opened::Over => Ok(Outcome::Over),
+        Opened::Over { .. } => Ok(Outcome::Over),
+        Opened::OverBad { .. } => Err(AllocError),
         Opened::Pass => Ok(Outcome::Pass),
         Opened::Bad { numbers, cause } => Ok(Outcome::Bad(numbers[0], cause)),
     }

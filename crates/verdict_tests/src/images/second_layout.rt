@@ -188,6 +188,7 @@ fn is_so(judged: Result<Verdict<Cause>, CheckFault>, claim: Claim) -> bool {
                 moment,
                 image,
                 cause,
+                of_too_many: false,
             },
         ) => is_failure(moment, &image, cause, claim),
         _ => false,

@@ -174,6 +174,7 @@ fn plain_verdict(
                 moment,
                 image: ImageName::Number(image),
                 cause,
+                of_too_many: false,
             },
         ) => Some(Ok(RunByImages::Fail {
             moment,
@@ -181,7 +182,13 @@ fn plain_verdict(
             cause,
         })),
         Ok(Verdict::Fail { .. }) => None,
-        Ok(Verdict::TooMany { moment }) => Some(Ok(RunByImages::TooMany { moment })),
+        Ok(
+            Verdict::TooMany {
+                moment,
+                lines: None,
+            },
+        ) => Some(Ok(RunByImages::TooMany { moment })),
+        Ok(Verdict::TooMany { .. } | Verdict::TooLong { .. }) => None,
         Err(fault) => Some(Err(fault)),
     }
 }
@@ -196,10 +203,12 @@ fn plain_moment(
             MomentVerdict::Fail {
                 image: ImageName::Number(image),
                 cause,
+                of_too_many: false,
             },
         ) => Some(Ok(MomentByImages::Fail { image, cause })),
         Ok(MomentVerdict::Fail { .. }) => None,
-        Ok(MomentVerdict::TooMany) => Some(Ok(MomentByImages::TooMany)),
+        Ok(MomentVerdict::TooMany { lines: None }) => Some(Ok(MomentByImages::TooMany)),
+        Ok(MomentVerdict::TooMany { .. } | MomentVerdict::TooLong) => None,
         Err(fault) => Some(Err(fault)),
     }
 }
@@ -252,6 +261,7 @@ fn is_failure(verdict: &Verdict<Cause>, expected: u32, lines: &[(u32, u32)], cod
             moment,
             image,
             cause,
+            of_too_many: false,
         } => *moment == expected && *cause == code && is_named(image, lines),
         _ => false,
     }

@@ -12,6 +12,7 @@ use program::Program;
 use routine_judge::{Cause, ImageName, JudgeFault, Verdict};
 use std::alloc::Global;
 use std::thread::Threads;
+use verdict::LineContents;
 
 /// A verdict that is wanted, the bad image by its name's text.
 #[derive(Clone, Copy)]
@@ -24,6 +25,10 @@ pub(crate) enum Wanted {
         moment: u32,
         image: &'static str,
         cause: Cause,
+    },
+    TooMany {
+        moment: u32,
+        lines: &'static [LineContents],
     },
 }
 
@@ -139,6 +144,7 @@ fn is_verdict(alloc: Global, verdict: &Verdict<Cause>, wanted: Wanted) -> bool {
                 moment,
                 image,
                 cause,
+                of_too_many: false,
             },
             Wanted::Fail {
                 moment: m,
@@ -146,6 +152,13 @@ fn is_verdict(alloc: Global, verdict: &Verdict<Cause>, wanted: Wanted) -> bool {
                 cause: c,
             },
         ) => *moment == m && *cause == c && is_named_so(alloc, image, i),
+        (
+            Verdict::TooMany {
+                moment,
+                lines: Some(widest),
+            },
+            Wanted::TooMany { moment: m, lines },
+        ) => *moment == m && widest.lines() == lines,
         _ => false,
     }
 }

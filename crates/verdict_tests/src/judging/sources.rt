@@ -39,3 +39,15 @@ pub(crate) const READ: &[&str] = &[WORDS, ANSWER];
 
 /// The answer has no bytes.
 pub(crate) const SILENT: &[&str] = &["li a2, 0\nli a7, 93\nli a0, 0\necall\n"];
+
+/// Stores to the lines 1 to 17, of which none is cleaned.
+pub(crate) const FILLED: &[&str] = &[
+    BEGIN,
+    "li t0, 17\naddi t1, a1, 64\nfill:\nsd t0, 0(t1)\naddi t1, t1, 64\naddi t0, t0, -1\nbnez t0, fill\nebreak\n",
+];
+
+/// Loads from these lines, and has an answer of no bytes.
+pub(crate) const LINES: &[&str] = &[
+    "li t0, 17\nnext:\naddi a1, a1, 64\nld t1, 0(a1)\naddi t0, t0, -1\nbnez t0, next\n",
+    "li a2, 0\nli a7, 93\nli a0, 0\necall\n",
+];

@@ -1,8 +1,9 @@
 //! Runs that are judged. More of them stand in the transcripts of `transcripts`.
 
 use crate::judging::cases::{CASE, Case, Wanted, differing_for_any};
-use crate::judging::sources::{BEGIN, RECORD_UNFENCED, SILENT};
+use crate::judging::sources::{BEGIN, FILLED, LINES, RECORD_UNFENCED, SILENT};
 use routine_judge::{Cause, JudgeFault, MarkFault};
+use verdict::LineContents;
 
 /// Operation 1 begins on hart 0, operation 2 on hart 1.
 const TWO_HARTS: Case = Case {
@@ -17,7 +18,43 @@ const TWO_HARTS: Case = Case {
     ..CASE
 };
 
-static CASES: [Case; 6] = [
+/// The first eight of the lines that have one store each.
+const WIDEST: &[LineContents] = &[
+    LineContents {
+        line: 1,
+        contents: 2,
+    },
+    LineContents {
+        line: 2,
+        contents: 2,
+    },
+    LineContents {
+        line: 3,
+        contents: 2,
+    },
+    LineContents {
+        line: 4,
+        contents: 2,
+    },
+    LineContents {
+        line: 5,
+        contents: 2,
+    },
+    LineContents {
+        line: 6,
+        contents: 2,
+    },
+    LineContents {
+        line: 7,
+        contents: 2,
+    },
+    LineContents {
+        line: 8,
+        contents: 2,
+    },
+];
+
+static CASES: [Case; 7] = [
     CASE,
     // moments past the last one
     Case {
@@ -57,6 +94,18 @@ static CASES: [Case; 6] = [
             images: Some(2),
         }),
         ..TWO_HARTS
+    },
+    // each of 17 lines may have its store or not, and every image is good
+    Case {
+        source: FILLED,
+        schedule: "h0*99",
+        recovery: LINES,
+        first: 18,
+        verdict: Ok(Wanted::TooMany {
+            moment: 18,
+            lines: WIDEST,
+        }),
+        ..CASE
     },
 ];
 

@@ -11,6 +11,6 @@ invariant_of-self g c =
 pub invariant_of-self-2 : goal.invariant_of-self-2
 invariant_of-self-2 g c =
     let e = c.open_all.ensures in (
-      e.run_size ∙ (c.self.invariant.0 ∙ sym e.size),
+      c.finish.ensures.run_size ∙ (e.run_size ∙ (c.self.invariant.0 ∙ sym e.size)),
       e.least_size ∙ (c.self.invariant.1 ∙ sym e.size),
     )

@@ -1,4 +1,5 @@
-use Rattle.std.proofs.Common.{◌∙◌, ℕ, None, ap, arith, length, refl, subst, sym}
+use Rattle.std.proofs.Common.{◌∙◌, ℕ, None, ap, arith, inl, inr, length, refl, subst, sym}
+use Rattle.std.proofs.lemmas.Bool.{cases_lt}
 use Rattle.verdict.specs.Openings.{IsAt}
 use Rattle.verdict.proofs.Opening.{at_first}
 use Rattle.verdict.proofs.branches.progress.Progress.open_all.Goals as goal
@@ -16,6 +17,7 @@ loop-alloc-init g c =
       ap length c.begin.ensures.least,
       refl,
       c.requires.fits,
+      λ none. ap length e.queue,
     )
 
 pub open_next-requires-clause-there : goal.open_next-requires-clause-there
@@ -46,6 +48,7 @@ loop-alloc-preserved g c =
       f.least_size ∙ (e.least_size ∙ i.2),
       e.run_size ∙ i.3,
       c.open_next.ensures.fits,
+      λ none. let one = e.one in let on = f.on in absurd (omega (arith, none, one, on)),
     )
 
 pub loop-alloc-smaller : goal.loop-alloc-smaller
@@ -70,3 +73,13 @@ returns-clause-at g c = c.loop-alloc.invariant.0
 
 pub returns-clause-whole : goal.returns-clause-whole
 returns-clause-whole g c = c.is_open.ensures.whole c.loop-alloc-test.false
+
+pub returns-clause-begun : goal.returns-clause-begun
+returns-clause-begun g c = elim (cases_lt 0 c.loop-alloc.self.opened) [
+  | inl some ↦ some
+  | inr none ↦
+      let one = c.loop-alloc.invariant.5 (omega (arith, none)) in
+      let limit = c.requires.some in
+      let all = c.is_open.ensures.whole c.loop-alloc-test.false (omega (arith, one, limit)) in
+      absurd (omega (arith, one, all, none))
+]

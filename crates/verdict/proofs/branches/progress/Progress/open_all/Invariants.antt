@@ -11,6 +11,7 @@ invariant-loop-alloc g l =
     × (length p.findings.least ≡ length l.fn.self.findings.least)
     × (length l.run.numbers ≡ length l.fn.run.numbers)
     × r.fits l.recovery l.workspace
+    × (p.opened ≡ 0 → length p.findings.found.items ≡ 1)
 
 abbrev pub decreases-loop-alloc : goal.decreases-loop-alloc
 decreases-loop-alloc g l = l.limit - l.self.opened

@@ -1,0 +1,19 @@
+# Operation 1 fills the 20 slots of a page, one a cache line, and then stores its commit word. It cleans the commit word alone.
+ li a7, 2001            # operation 1 begins
+ li a0, 1
+ ecall
+ li t0, 20              # how many slots are left
+ addi t1, a1, 64        # the next slot
+fill:
+ sd t0, 0(t1)           # slots 1 to 20, in cache lines 1 to 20
+ addi t1, t1, 64
+ addi t0, t0, -1
+ bnez t0, fill
+ sd a0, 0(a1)           # the commit word, in cache line 0
+ cbo.clean (a1)
+ fence w, w             # now the commit word is durable, and no slot is
+ li a7, 2002            # operation 1 ends
+ ecall
+ li a7, 93
+ li a0, 0
+ ecall
