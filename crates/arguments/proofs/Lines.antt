@@ -18,7 +18,7 @@ use Rattle.clap.proofs.WalkLemmas.{first_value-rows}
 use Rattle.arguments.specs.Codes.{IsMeaningOf}
 use Rattle.arguments.specs.declared.codes.table.Meaning.{Meaning}
 use Rattle.arguments.specs.Grammar.{IsGrammar, novacrash, making, running, telling, judging, showing, assemble_shape, make_volume_shape, upgrade_shape, run_shape, replay_shape, debug_shape, trace_shape, unpersisted_shape, waste_shape, images_shape, explain_shape, check_shape, judge_shape, picture_shape, interleave_shape, show_shape, listing_shape, code_shape, help_shape}
-use Rattle.arguments.specs.Line.{IsAsked, IsCommand, IsFault, IsHelp, IsHelpLine, IsKindOf, IsNoCommand, IsOf, OnFault, Refuses}
+use Rattle.arguments.specs.Line.{IsAsked, IsCommand, IsFault, IsHelp, IsKindOf, IsNoCommand, IsOf, OnFault, Refuses}
 use Rattle.arguments.specs.Values.{IsCodeWord}
 use Rattle.arguments.specs.declared.asked.Command.{Command}
 use Rattle.arguments.specs.declared.asked.LineFault.{LineFault}

@@ -112,23 +112,23 @@ explain_shape = record (new_shape (codes "explain")) {
       ∷ flag_option (codes "whole") ∷ help_option ∷ [];
 }
 
--- `check PLAN PROGRAM SCHEDULE [--medium FILE --harts N --workers N --moments A-B --whole --why --json --progress]`
+-- `check PLAN PROGRAM SCHEDULE [--medium FILE --harts N --workers N --moments A-B --go-on --whole --why --json --progress]`
 unfoldable pub check_shape : Shape
 check_shape = record (new_shape (codes "check")) {
   rules = needed_word (codes "PLAN") ∷ needed_word (codes "PROGRAM") ∷ needed_word (codes "SCHEDULE")
       ∷ valued_option (codes "medium") ∷ valued_option (codes "harts") ∷ valued_option (codes "workers")
-      ∷ valued_option (codes "moments") ∷ flag_option (codes "whole") ∷ flag_option (codes "why") ∷ flag_option (codes "json")
-      ∷ flag_option (codes "progress") ∷ help_option ∷ [];
+      ∷ valued_option (codes "moments") ∷ flag_option (codes "go-on") ∷ flag_option (codes "whole") ∷ flag_option (codes "why")
+      ∷ flag_option (codes "json") ∷ flag_option (codes "progress") ∷ help_option ∷ [];
 }
 
--- `judge PROGRAM SCHEDULE RECOVERY [--medium FILE --harts N --steps N --workers N --overlapping --moments A-B --whole --why --json --progress]`
+-- `judge PROGRAM SCHEDULE RECOVERY [--medium FILE --harts N --steps N --workers N --overlapping --moments A-B --go-on --whole --why --json --progress]`
 unfoldable pub judge_shape : Shape
 judge_shape = record (new_shape (codes "judge")) {
   rules = needed_word (codes "PROGRAM") ∷ needed_word (codes "SCHEDULE") ∷ needed_word (codes "RECOVERY")
       ∷ valued_option (codes "medium") ∷ valued_option (codes "harts") ∷ valued_option (codes "steps")
       ∷ valued_option (codes "workers") ∷ flag_option (codes "overlapping") ∷ valued_option (codes "moments")
-      ∷ flag_option (codes "whole") ∷ flag_option (codes "why") ∷ flag_option (codes "json") ∷ flag_option (codes "progress")
-      ∷ help_option ∷ [];
+      ∷ flag_option (codes "go-on") ∷ flag_option (codes "whole") ∷ flag_option (codes "why") ∷ flag_option (codes "json")
+      ∷ flag_option (codes "progress") ∷ help_option ∷ [];
 }
 
 -- `picture PROGRAM SCHEDULE MOMENT FILE [--image IMAGE --medium FILE --harts N]`

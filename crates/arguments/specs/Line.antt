@@ -1,5 +1,5 @@
 -- Which command a line asks for, by what clap's specification says of its words.
-use Rattle.std.specs.Prelude.{string_bytes, ◌≡◌, ◌≢◌, ◌≤◌, ◌<◌, ◌^◌, ◌⊎◌, ℕ, Bool, List, [], ◌∷◌, Option, Some, None, IfSome, codes, ⊤}
+use Rattle.std.specs.Prelude.{string_bytes, ◌≡◌, ◌≢◌, ◌≤◌, ◌<◌, ◌^◌, ◌⊎◌, ℕ, List, [], ◌∷◌, Option, Some, None, IfSome, codes, ⊤}
 use Rattle.clap.specs.Words.{Row, Text, fault_of, first_of, subcommand_of}
 use Rattle.clap.specs.Kinds.{IsAmong}
 use Rattle.clap.specs.declared.error.ErrorKind.{ErrorKind}
@@ -18,12 +18,12 @@ use Rattle.arguments.specs.declared.asked.ExplainCommand.{ExplainCommand}
 use Rattle.arguments.specs.declared.asked.ImagesCommand.{ImagesCommand}
 use Rattle.arguments.specs.declared.asked.InterleaveCommand.{InterleaveCommand}
 use Rattle.arguments.specs.declared.asked.JudgeCommand.{JudgeCommand}
+use Rattle.arguments.specs.declared.asked.JudgedRun.{JudgedRun}
 use Rattle.arguments.specs.declared.asked.LineFault.{LineFault}
 use Rattle.arguments.specs.declared.asked.LineFault.TheVariants.{Help, Fault, Memory}
 use Rattle.arguments.specs.declared.asked.ListingCommand.{ListingCommand}
 use Rattle.arguments.specs.declared.asked.MachineOptions.{MachineOptions}
 use Rattle.arguments.specs.declared.asked.MakeVolumeCommand.{MakeVolumeCommand}
-use Rattle.arguments.specs.declared.asked.Moments.{Moments}
 use Rattle.arguments.specs.declared.asked.PictureCommand.{PictureCommand}
 use Rattle.arguments.specs.declared.asked.ReplayCommand.{ReplayCommand}
 use Rattle.arguments.specs.declared.asked.ReportCommand.{ReportCommand}
@@ -107,27 +107,28 @@ pub record IsExplain (rows : List Row) (command : ExplainCommand) : Type 0 where
   pub moment : IsNumberWord (first_of (codes "MOMENT") rows) command.moment
   pub image : IsImageWord (first_of (codes "IMAGE") rows) command.image
 
--- what `check` and `judge` have in common: this run, by so many workers, these moments of it or all, whether a failure is explained, as text or as JSON,
--- and whether it is told how far the check has come
-pub record IsJudgedRun (rows : List Row) (run : ScheduledRun) (count : ℕ) (judged : Option Moments) (explained in_json told : Bool) : Type 0 where
-  pub scheduled : IsScheduledRun rows run
-  pub workers : IsWorkers rows count
-  pub moments : IsOptionalMoments (first_of (codes "moments") rows) judged
-  pub why : explained ≡ is_set (first_of (codes "why") rows)
-  pub json : in_json ≡ is_set (first_of (codes "json") rows)
-  pub progress : told ≡ is_set (first_of (codes "progress") rows)
+-- What `check` and `judge` have in common: this run, by so many workers, these moments of it or all, whether judging goes on behind those with
+-- too many branches, whether a failure is explained, as text or as JSON, and whether it is told how far the check has come.
+pub record IsJudgedRun (rows : List Row) (judged : JudgedRun) : Type 0 where
+  pub scheduled : IsScheduledRun rows judged.run
+  pub workers : IsWorkers rows judged.workers
+  pub moments : IsOptionalMoments (first_of (codes "moments") rows) judged.moments
+  pub goes_on : judged.goes_on ≡ is_set (first_of (codes "go-on") rows)
+  pub why : judged.why ≡ is_set (first_of (codes "why") rows)
+  pub json : judged.json ≡ is_set (first_of (codes "json") rows)
+  pub progress : judged.progress ≡ is_set (first_of (codes "progress") rows)
 
 -- `check` of this run by this plan
 pub record IsCheck (rows : List Row) (command : CheckCommand) : Type 0 where
   pub plan : IsWord (codes "PLAN") rows command.plan
-  pub judged : IsJudgedRun rows command.run command.workers command.moments command.why command.json command.progress
+  pub judged : IsJudgedRun rows command.judged
 
 -- `judge` of this run by this recovery routine, so many steps of it on an image, and whether operations may overlap
 pub record IsJudge (rows : List Row) (command : JudgeCommand) : Type 0 where
   pub recovery : IsWord (codes "RECOVERY") rows command.recovery
   pub steps : IsRecoverySteps rows command.steps
   pub overlapping : command.overlapping ≡ is_set (first_of (codes "overlapping") rows)
-  pub judged : IsJudgedRun rows command.run command.workers command.moments command.why command.json command.progress
+  pub judged : IsJudgedRun rows command.judged
 
 -- `picture` of this moment of this run, with this image of it or none, into this file
 pub record IsPicture (rows : List Row) (command : PictureCommand) : Type 0 where
@@ -222,6 +223,12 @@ pub record IsMachineWithin (machine : MachineOptions) : Type 0 where
   pub harts : IsWithin 1 8 machine.harts
   pub capacity : IfSome machine.capacity (IsWithin 1 16384)
 
+-- the numbers of a run that is judged are within their limits
+pub record IsJudgedWithin (judged : JudgedRun) : Type 0 where
+  pub machine : IsMachineWithin judged.run.machine
+  pub workers : IsWithin 1 8 judged.workers
+  pub moments : IfSome judged.moments IsUpward
+
 -- a command's numbers are within their limits
 abbrev pub IsWithinLimits : Command → Type 0
 IsWithinLimits (Assemble command) = ⊤
@@ -235,8 +242,8 @@ IsWithinLimits (Unpersisted command) = IsMachineWithin command.run.machine
 IsWithinLimits (Waste command) = IsMachineWithin command.run.machine
 IsWithinLimits (Images command) = IsMachineWithin command.run.machine × (command.moment < 2 ^ 32)
 IsWithinLimits (Explain command) = IsMachineWithin command.run.machine × (command.moment < 2 ^ 32) × IsProper command.image
-IsWithinLimits (Check command) = IsMachineWithin command.run.machine × IsWithin 1 8 command.workers × IfSome command.moments IsUpward
-IsWithinLimits (Judge command) = IsMachineWithin command.run.machine × IsWithin 1 500000000 command.steps × IsWithin 1 8 command.workers × IfSome command.moments IsUpward
+IsWithinLimits (Check command) = IsJudgedWithin command.judged
+IsWithinLimits (Judge command) = IsJudgedWithin command.judged × IsWithin 1 500000000 command.steps
 IsWithinLimits (Picture command) = IsMachineWithin command.run.machine × (command.moment < 2 ^ 32) × IfSome command.image IsProper
 IsWithinLimits (Interleave command) = IsMachineWithin command.machine × IsWithin 1 500000000 command.steps × IsWithin 0 65536 command.evictions
 IsWithinLimits (Show command) = IfSome command.line (λ line. line < 2 ^ 32)

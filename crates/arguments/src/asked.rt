@@ -30,9 +30,9 @@ pub enum Command {
     Images(ImagesCommand),
     /// `explain PROGRAM SCHEDULE MOMENT IMAGE [--medium FILE --harts N --whole]`.
     Explain(ExplainCommand),
-    /// `check PLAN PROGRAM SCHEDULE [--medium FILE --harts N --workers N --moments A-B --whole --why --json --progress]`.
+    /// `check PLAN PROGRAM SCHEDULE [--medium FILE --harts N --workers N --moments A-B --go-on --whole --why --json --progress]`.
     Check(CheckCommand),
-    /// `judge PROGRAM SCHEDULE RECOVERY [--medium FILE --harts N --steps N --workers N --overlapping --moments A-B --whole --why --json --progress]`.
+    /// `judge PROGRAM SCHEDULE RECOVERY [--medium FILE --harts N --steps N --workers N --overlapping --moments A-B --go-on --whole --why --json --progress]`.
     Judge(JudgeCommand),
     /// `picture PROGRAM SCHEDULE MOMENT FILE [--image IMAGE --medium FILE --harts N]`.
     Picture(PictureCommand),
@@ -171,16 +171,16 @@ pub struct ExplainCommand {
     pub image: ImageName,
 }
 
-/// What `check` is to do.
+/// A run that `check` or `judge` gives the verdict on.
 #[derive(Drop)]
-pub struct CheckCommand {
-    /// The name of the plan's file.
-    pub plan: String,
+pub struct JudgedRun {
     pub run: ScheduledRun,
     /// The number of workers that judge the run, from 1 to 8; 1 where the line doesn't say.
     pub workers: u32,
     /// The moments that are judged; None: all are.
     pub moments: Option<Moments>,
+    /// Whether judging goes on behind a moment with over 65,536 branches.
+    pub goes_on: bool,
     /// Whether a failure is told with the stores that its image lacks and keeps, and a schedule that leaves it.
     pub why: bool,
     /// Whether the answer is one JSON object a line.
@@ -189,26 +189,24 @@ pub struct CheckCommand {
     pub progress: bool,
 }
 
+/// What `check` is to do.
+#[derive(Drop)]
+pub struct CheckCommand {
+    /// The name of the plan's file.
+    pub plan: String,
+    pub judged: JudgedRun,
+}
+
 /// What `judge` is to do.
 #[derive(Drop)]
 pub struct JudgeCommand {
     /// The name of the file of the recovery routine.
     pub recovery: String,
-    pub run: ScheduledRun,
     /// The most steps of recovery on a crash image, from 1 to 500,000,000; 100,000 where the line doesn't say.
     pub steps: u32,
-    /// The number of workers that judge the run, from 1 to 8; 1 where the line doesn't say.
-    pub workers: u32,
     /// Whether an operation may begin while another is pending.
     pub overlapping: bool,
-    /// The moments that are judged; None: all are.
-    pub moments: Option<Moments>,
-    /// Whether a failure is told with the stores that its image lacks and keeps, and a schedule that leaves it.
-    pub why: bool,
-    /// Whether the answer is one JSON object a line.
-    pub json: bool,
-    /// Whether standard error is told how far the check has come.
-    pub progress: bool,
+    pub judged: JudgedRun,
 }
 
 /// Moments of a run, one after another.

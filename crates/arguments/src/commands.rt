@@ -1,11 +1,10 @@
 //! What each subcommand asks for, by the values found for its words and options.
 
-ghost use Rattle.std.specs.Prelude.{◌<◌, ◌^◌, ℕ, Bool, IfOk, IfErr, IfSome, Option, String, codes};
+ghost use Rattle.std.specs.Prelude.{◌<◌, ◌^◌, ℕ, IfOk, IfErr, IfSome, String, codes};
 ghost use Rattle.std.specs.declared.alloc.Global.{Global as AGlobal};
 ghost use Rattle.clap.specs.Words.{found_of, rows_of};
 ghost use Rattle.arguments.specs.Line.{IsAssemble, IsCheck, IsCode, IsDebug, IsExplain, IsImages, IsInterleave, IsJudge, IsListing, IsMakeVolume, IsPicture, IsReplay, IsReport, IsRun, IsScheduledRun, IsShow, IsUpgrade};
-ghost use Rattle.arguments.specs.Line.{IsCachedMachine, IsJudgedRun, IsMachineWithin, IsOf, IsWithin, IsWithinLimits, OnFault};
-ghost use Rattle.arguments.specs.Spans.{IsUpward};
+ghost use Rattle.arguments.specs.Line.{IsCachedMachine, IsJudgedRun, IsJudgedWithin, IsMachineWithin, IsOf, IsWithin, IsWithinLimits, OnFault};
 ghost use Rattle.arguments.specs.Started.{IsStarted};
 ghost use Rattle.arguments.specs.Values.{IsWord};
 ghost use Rattle.text.specs.Texts.{IsProper};
@@ -26,13 +25,13 @@ ghost use Rattle.arguments.specs.declared.asked.ShowCommand.{ShowCommand as ASho
 ghost use Rattle.arguments.specs.declared.asked.ListingCommand.{ListingCommand as AListingCommand};
 ghost use Rattle.arguments.specs.declared.asked.CodeCommand.{CodeCommand as ACodeCommand};
 ghost use Rattle.arguments.specs.declared.asked.MachineOptions.{MachineOptions as AMachine};
-ghost use Rattle.arguments.specs.declared.asked.Moments.{Moments as SomeMoments};
+ghost use Rattle.arguments.specs.declared.asked.JudgedRun.{JudgedRun as AJudgedRun};
 ghost use Rattle.arguments.specs.declared.asked.ScheduledRun.{ScheduledRun as AScheduledRun};
 
 use crate::asked::{
     AssembleCommand, CheckCommand, CodeCommand, Command, DebugCommand, ExplainCommand,
-    ImagesCommand, InterleaveCommand, JudgeCommand, LineFault, ListingCommand, MachineOptions,
-    MakeVolumeCommand, Moments, PictureCommand, ReplayCommand, ReportCommand, RunCommand,
+    ImagesCommand, InterleaveCommand, JudgeCommand, JudgedRun, LineFault, ListingCommand,
+    MachineOptions, MakeVolumeCommand, PictureCommand, ReplayCommand, ReportCommand, RunCommand,
     ScheduledRun, ShowCommand, UpgradeCommand,
 };
 use crate::machine::{cached_machine, whole_machine};
@@ -83,17 +82,6 @@ pub(crate) struct Started {
     machine: MachineOptions,
 }
 
-/// What `check` and `judge` have in common: a run, and how it is judged.
-#[derive(Drop)]
-struct JudgedRun {
-    run: ScheduledRun,
-    workers: u32,
-    moments: Option<Moments>,
-    why: bool,
-    json: bool,
-    progress: bool,
-}
-
 /// The program of a command with `--capacity`, and its machine.
 fn start_of(alloc: Global, found: &ArgMatches<'_>) -> Result<Started, LineFault>
     ensures ok { IfOk result (IsStarted (rows_of (found_of found.now))) }
@@ -125,14 +113,12 @@ fn scheduled_run(alloc: Global, found: &ArgMatches<'_>) -> Result<ScheduledRun, 
 
 /// The run of `check` or `judge`, and how it is judged.
 fn judged_run(alloc: Global, found: &ArgMatches<'_>) -> Result<JudgedRun, LineFault>
-    ensures ok { IfOk result (λ judged. IsJudgedRun (rows_of (found_of found.now))
-        judged.run judged.workers judged.moments judged.why judged.json judged.progress) }
-    ensures within { IfOk result (λ judged. IsMachineWithin judged.run.machine
-        × IsWithin 1 8 judged.workers × IfSome judged.moments IsUpward) }
-    ensures err { IfErr result (OnFault ((run : AScheduledRun) (workers : ℕ) (moments : Option SomeMoments) (why json progress : Bool)
-        → ¬ (IsJudgedRun (rows_of (found_of found.now)) run workers moments why json progress))) }
+    ensures ok { IfOk result (IsJudgedRun (rows_of (found_of found.now))) }
+    ensures within { IfOk result IsJudgedWithin }
+    ensures err { IfErr result (OnFault ((judged : AJudgedRun) → ¬ (IsJudgedRun (rows_of (found_of found.now)) judged))) }
 {
     Ok(JudgedRun {
+        goes_on: flag(found, "go-on"),
         why: flag(found, "why"),
         json: flag(found, "json"),
         progress: flag(found, "progress"),
@@ -317,15 +303,7 @@ pub(crate) fn check(alloc: Global, found: &ArgMatches<'_>) -> Result<Command, Li
 {
     let plan = word(alloc, found, "PLAN")?;
     let judged = judged_run(alloc, found)?;
-    Ok(Command::Check(CheckCommand {
-        plan,
-        run: judged.run,
-        workers: judged.workers,
-        moments: judged.moments,
-        why: judged.why,
-        json: judged.json,
-        progress: judged.progress,
-    }))
+    Ok(Command::Check(CheckCommand { plan, judged }))
 }
 
 /// What `judge` is to do.
@@ -341,14 +319,9 @@ pub(crate) fn judge(alloc: Global, found: &ArgMatches<'_>) -> Result<Command, Li
     let judged = judged_run(alloc, found)?;
     Ok(Command::Judge(JudgeCommand {
         recovery,
-        run: judged.run,
         steps,
-        workers: judged.workers,
         overlapping,
-        moments: judged.moments,
-        why: judged.why,
-        json: judged.json,
-        progress: judged.progress,
+        judged,
     }))
 }
 

@@ -238,6 +238,11 @@ const OUT: Argument = Argument::Valued {
     about: "The file that gets the medium of a power cut at the end",
 };
 
+const GO_ON: Argument = Argument::Flag {
+    name: "go-on",
+    about: "Count a moment with over 65,536 branches as open, and go on behind it",
+};
+
 const WHOLE: Argument = Argument::Flag {
     name: "whole",
     about: "Refuse a run in which a hart doesn't exit with 0, or an operation doesn't end",
@@ -360,7 +365,8 @@ static JUDGING: [Subcommand; 2] = [
         group: Group::Judge,
         about: "Judge every crash image of a run by a plan of operations",
         arguments: &[
-            PLAN, PROGRAM, SCHEDULE, MEDIUM, HARTS, WORKERS, MOMENTS, WHOLE, WHY, JSON, PROGRESS,
+            PLAN, PROGRAM, SCHEDULE, MEDIUM, HARTS, WORKERS, MOMENTS, GO_ON, WHOLE, WHY, JSON,
+            PROGRESS,
         ],
         ending: ending!(
             "check append.plan append.s append.schedule --medium append.medium --whole --why"
@@ -380,6 +386,7 @@ static JUDGING: [Subcommand; 2] = [
             WORKERS,
             OVERLAPPING,
             MOMENTS,
+            GO_ON,
             WHOLE,
             WHY,
             JSON,

@@ -12,9 +12,9 @@ mod values;
 
 pub use asked::{
     AssembleCommand, CheckCommand, CodeCommand, Command, DebugCommand, ExplainCommand,
-    ImagesCommand, InterleaveCommand, JudgeCommand, LineFault, ListingCommand, MachineOptions,
-    MakeVolumeCommand, Moments, PictureCommand, ReplayCommand, ReportCommand, RunCommand,
-    ScheduledRun, ShowCommand, UpgradeCommand,
+    ImagesCommand, InterleaveCommand, JudgeCommand, JudgedRun, LineFault, ListingCommand,
+    MachineOptions, MakeVolumeCommand, Moments, PictureCommand, ReplayCommand, ReportCommand,
+    RunCommand, ScheduledRun, ShowCommand, UpgradeCommand,
 };
 pub use codes::{Meaning, all_have_meanings, list, meaning_of};
 pub use line::command;

@@ -1,5 +1,5 @@
 -- What a reporter writes on the way to a verdict, line by line.
-use Rattle.std.proofs.Common.{◌≡◌, ◌∙◌, inl, inr, ℕ, ◌+◌, ◌-◌, ◌<◌, ◌≤◌, ◌++◌, List, [], Option, Bool, true, false, refl, sym, subst}
+use Rattle.std.proofs.Common.{◌≡◌, ◌∙◌, inl, inr, ℕ, ◌+◌, ◌-◌, ◌<◌, ◌≤◌, ◌++◌, List, [], Option, Bool, true, false, refl}
 use Rattle.std.specs.Io.KnownBytes.{Appends}
 use Rattle.std.proofs.lemmas.List.{append-nil}
 use Rattle.debugger.specs.StreamFailures.{AppendsFront}
@@ -8,7 +8,7 @@ use Rattle.verdict.specs.Progress.{HasHeard, IsTold}
 use Rattle.verdict.specs.Verdicts.{IsVerdictBetween}
 use Rattle.verdict.specs.declared.moment_verdict.verdict.MomentVerdict.{MomentVerdict}
 use Rattle.verdict.specs.declared.moment_verdict.verdict.Verdict.TheVariants.{Pass}
-use Rattle.command_line.specs.Progress.{IsToldIf, Progresses, WritesIf, WritesLine, gets_line, progress_line}
+use Rattle.command_line.specs.Progress.{IsToldIf, Progresses, WritesIf, gets_line, progress_line}
 use Rattle.command_line.proofs.Written.{front_more, front_nothing, joined, part_none}
 
 -- the text that moments were told in, all of it where every line got through; nothing where no line is wanted

@@ -1,7 +1,6 @@
 -- What `check` comes to.
-use Rattle.std.specs.Prelude.{◌≡◌, IfSome, ℕ, List, [], Option, Result, MatchResult, ◌++◌, codes, string_bytes}
-use Rattle.arguments.specs.Line.{IsWithin}
-use Rattle.arguments.specs.Spans.{IsUpward}
+use Rattle.std.specs.Prelude.{◌≡◌, ℕ, List, [], Option, Result, MatchResult, ◌++◌, string_bytes}
+use Rattle.arguments.specs.Line.{IsJudgedWithin}
 use Rattle.arguments.specs.declared.asked.CheckCommand.{CheckCommand}
 use Rattle.image_check.specs.Codes.{cause_code}
 use Rattle.image_check.specs.Verdicts.{IsRefusal}
@@ -19,7 +18,7 @@ use Rattle.command_line.specs.Reading.{ReadsPlan}
 use Rattle.command_line.specs.Progress.{IsToldIf, Progresses, gets_line}
 use Rattle.command_line.specs.Reasons.{Explains, told_why}
 use Rattle.command_line.specs.Steps.{First, Prints, Reads, Step, Still, Tells}
-use Rattle.command_line.specs.Verdicts.{failing, first_of, last_of, told_verdict, verdict_status}
+use Rattle.command_line.specs.Verdicts.{failing, first_of, row_asked, told_verdict, verdict_status}
 use Rattle.command_line.specs.declared.answer.Answer.{Answer}
 use Rattle.command_line.specs.declared.failure.Failure.{Failure}
 use Rattle.command_line.specs.declared.opened.OpenCheck.{OpenCheck}
@@ -33,34 +32,33 @@ pub record Opens (command : CheckCommand) (plan : PlanView) (made : MadeRun) (ou
 abbrev pub OpensCheck : {F : Type 0} → Reads F → CheckCommand → Step F OpenCheck
 OpensCheck reads command =
     First (ReadsPlan reads (string_bytes command.plan)) (λ plan.
-    First (OpensRun reads command.run) (λ made.
-    First (Still (MeetsWhole command.run.whole made (numbers_of plan.operations))) (λ _.
+    First (OpensRun reads command.judged.run) (λ made.
+    First (Still (MeetsWhole command.judged.run.whole made (numbers_of plan.operations))) (λ _.
     Still (Opens command plan made))))
 
 -- what is known of a check whose run was made
 pub record IsOpen (check : OpenCheck) : Type 0 where
-  pub workers : IsWithin 1 8 check.command.workers
-  pub moments : IfSome check.command.moments IsUpward
+  pub within : IsJudgedWithin check.command.judged
   pub program : IsProgramOf check.made.file.items check.made.run.setup.program
 
 -- the verdict on the moments that are asked for, or why there is none
 pub record JudgesOpen (check : OpenCheck) (outcome : Result (Verdict Cause) Failure) : Type 0 where
-  pub judges : MatchResult outcome (HasVerdict check.plan.operations check.made.run (first_of check.command.moments) (last_of check.command.moments))
-      (Tells (IsRefusal check.plan.operations check.made.run.events (first_of check.command.moments)) failure_of_check)
+  pub judges : MatchResult outcome (HasVerdict check.plan.operations check.made.run (row_asked check.command.judged))
+      (Tells (IsRefusal check.plan.operations check.made.run.events (first_of check.command.judged.moments)) failure_of_check)
 
 -- how far the check had come was told
 abbrev pub TellsProgress : OpenCheck → Option (List ℕ) → Option (List ℕ) → Type 0
 TellsProgress check =
-    Progresses (IsToldOf gets_line check.plan.operations check.made.run (first_of check.command.moments) (last_of check.command.moments) [])
+    Progresses (IsToldOf gets_line check.plan.operations check.made.run (row_asked check.command.judged) [])
 
 -- the verdict, and what standard error was told on the way
 pub record Watches {E : Type 0} (said : E → Option (List ℕ)) (check : OpenCheck) (errors : E) (outcome : Result (Verdict Cause) Failure) (errors' : E) : Type 0 where
   pub judges : JudgesOpen check outcome
-  pub told : IsToldIf check.command.progress (TellsProgress check (said errors) (said errors')) errors errors'
+  pub told : IsToldIf check.command.judged.progress (TellsProgress check (said errors) (said errors')) errors errors'
 
 -- what a check comes to whose run was made
 abbrev pub JudgesCheck : {E : Type 0} → (E → Option (List ℕ)) → OpenCheck → Step E Answer
 JudgesCheck said check =
     First (Watches said check) (λ verdict.
-    First (Still (Explains IsAsked check.made.run (failing check.command.why verdict))) (λ why.
-    Still (Prints (told_verdict cause_code check.command.json verdict ++ told_why check.command.json check.made why) (verdict_status verdict))))
+    First (Still (Explains IsAsked check.made.run (failing check.command.judged.why verdict))) (λ why.
+    Still (Prints (told_verdict cause_code check.command.judged.json verdict ++ told_why check.command.judged.json check.made why) (verdict_status verdict))))

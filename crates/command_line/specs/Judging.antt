@@ -1,7 +1,6 @@
 -- What `judge` comes to.
-use Rattle.std.specs.Prelude.{◌≡◌, IfSome, ℕ, zero, suc, List, [], Option, Result, Ok, MatchResult, ◌++◌, codes, decimal, string_bytes}
-use Rattle.arguments.specs.Line.{IsWithin}
-use Rattle.arguments.specs.Spans.{IsUpward}
+use Rattle.std.specs.Prelude.{◌≡◌, ℕ, zero, suc, List, [], Option, Result, Ok, MatchResult, ◌++◌, codes, decimal, string_bytes}
+use Rattle.arguments.specs.Line.{IsJudgedWithin}
 use Rattle.arguments.specs.declared.asked.JudgeCommand.{JudgeCommand}
 use Rattle.hart.specs.HartLines.{trap_number}
 use Rattle.crash_test.specs.Judging.{HasJudgement, IsToldOf}
@@ -25,7 +24,7 @@ use Rattle.command_line.specs.Reading.{ReadsRecovery, ReadsRun, setup_of}
 use Rattle.command_line.specs.Reasons.{Explains, told_why}
 use Rattle.command_line.specs.Reports.{line_end}
 use Rattle.command_line.specs.Steps.{First, Prints, Reads, Step, Still, Tells}
-use Rattle.command_line.specs.Verdicts.{failing, first_of, last_of, told_verdict, verdict_status}
+use Rattle.command_line.specs.Verdicts.{failing, first_of, row_asked, told_verdict, verdict_status}
 use Rattle.command_line.specs.declared.answer.Answer.{Answer}
 use Rattle.command_line.specs.declared.failure.Failure.{Failure}
 use Rattle.command_line.specs.declared.opened.OpenJudge.{OpenJudge}
@@ -53,41 +52,40 @@ pub record Opens (command : JudgeCommand) (made : MadeRun) (recovery : Sections)
 -- all files are read before the run is made
 abbrev pub OpensJudge : {F : Type 0} → Reads F → JudgeCommand → Step F OpenJudge
 OpensJudge reads command =
-    First (ReadsRun reads command.run) (λ files.
+    First (ReadsRun reads command.judged.run) (λ files.
     First (ReadsRecovery reads (string_bytes command.recovery)) (λ recovery.
-    First (Still (MakesRun (setup_of command.run files) files)) (λ made.
-    First (Still (MeetsWhole command.run.whole made [])) (λ _.
+    First (Still (MakesRun (setup_of command.judged.run files) files)) (λ made.
+    First (Still (MeetsWhole command.judged.run.whole made [])) (λ _.
     Still (Opens command made recovery)))))
 
 -- what is known of a run that is to be judged
 pub record IsOpen (judge : OpenJudge) : Type 0 where
-  pub workers : IsWithin 1 8 judge.command.workers
-  pub moments : IfSome judge.command.moments IsUpward
+  pub within : IsJudgedWithin judge.command.judged
   pub program : IsProgramOf judge.made.file.items judge.made.run.setup.program
 
 -- what is told of a failing image, by the lines of which the routine loads bytes that it hasn't stored itself, where that is asked for
 abbrev pub ExplainsFailing : OpenJudge → Verdict Cause → Result (Option ExplainedImage) Failure → Type 0
 ExplainsFailing judge verdict =
-    Explains (IsLoaded judge.recovery judge.command.steps) judge.made.run (failing judge.command.why verdict)
+    Explains (IsLoaded judge.recovery judge.command.steps) judge.made.run (failing judge.command.judged.why verdict)
 
 -- the verdict on what is asked for, or why there is none
 abbrev pub IsVerdictOf : OpenJudge → Verdict Cause → Type 0
-IsVerdictOf judge = HasJudgement judge.made.run judge.recovery judge.command.steps judge.command.overlapping
-    (first_of judge.command.moments) (last_of judge.command.moments)
+IsVerdictOf judge =
+    HasJudgement judge.made.run judge.recovery judge.command.steps judge.command.overlapping (row_asked judge.command.judged)
 
 pub record JudgesOpen (judge : OpenJudge) (outcome : Result (Verdict Cause) Failure) : Type 0 where
   pub judges : MatchResult outcome (IsVerdictOf judge)
-      (Tells (IsRefusal judge.command.overlapping judge.made.run.events (first_of judge.command.moments)) failure_of_judge)
+      (Tells (IsRefusal judge.command.overlapping judge.made.run.events (first_of judge.command.judged.moments)) failure_of_judge)
 
 -- how far the judging of the moments that are asked for had come was told
 abbrev pub TellsProgress : OpenJudge → Option (List ℕ) → Option (List ℕ) → Type 0
-TellsProgress judge = Progresses (IsToldOf gets_line judge.made.run judge.recovery judge.command.steps
-    (first_of judge.command.moments) (last_of judge.command.moments) [])
+TellsProgress judge =
+    Progresses (IsToldOf gets_line judge.made.run judge.recovery judge.command.steps (row_asked judge.command.judged) [])
 
 -- the verdict, and what standard error was told on the way
 pub record Watches {E : Type 0} (said : E → Option (List ℕ)) (judge : OpenJudge) (errors : E) (outcome : Result (Verdict Cause) Failure) (errors' : E) : Type 0 where
   pub judges : JudgesOpen judge outcome
-  pub told : IsToldIf judge.command.progress (TellsProgress judge (said errors) (said errors')) errors errors'
+  pub told : IsToldIf judge.command.judged.progress (TellsProgress judge (said errors) (said errors')) errors errors'
 
 -- the line that says that no moment is judged
 abbrev pub none_judged_line : List ℕ
@@ -97,6 +95,7 @@ none_judged_line = codes "no moment is judged: all lie before the first Begin" +
 abbrev pub note_of : {Cause : Type 0} → Verdict Cause → List ℕ
 note_of (verdicts.Pass zero images) = none_judged_line
 note_of (verdicts.Pass (suc n) images) = []
+note_of (verdicts.Open moments images open') = []
 note_of (verdicts.Fail moment image cause of_too_many) = []
 note_of (verdicts.TooMany moment lines) = []
 note_of (verdicts.TooLong moment) = []
@@ -116,5 +115,5 @@ abbrev pub JudgesRun : {E : Type 0} → (E → Option (List ℕ)) → OpenJudge 
 JudgesRun said judge =
     First (Watches said judge) (λ verdict.
     First (Still (ExplainsFailing judge verdict)) (λ why.
-    First (Still (Prints (told_verdict cause_text judge.command.json verdict ++ told_why judge.command.json judge.made why) (verdict_status verdict)))
+    First (Still (Prints (told_verdict cause_text judge.command.judged.json verdict ++ told_why judge.command.judged.json judge.made why) (verdict_status verdict)))
     (Answers said verdict)))

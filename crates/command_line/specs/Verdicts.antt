@@ -1,10 +1,13 @@
 -- What is told of a verdict on the moments of a run, whatever judges an image.
 use Rattle.std.specs.Prelude.{ℕ, Bool, true, false, List, [], Option, Some, None, ◌++◌, codes, decimal}
+use Rattle.arguments.specs.declared.asked.JudgedRun.{JudgedRun}
 use Rattle.arguments.specs.declared.asked.Moments.{Moments}
+use Rattle.crash_test.specs.Rows.{Row}
 use Rattle.text.specs.Texts.{image_text}
 use Rattle.text.specs.declared.image_name.name.ImageName.{ImageName}
 use Rattle.verdict.specs.Contents.{widest_text}
 use Rattle.verdict.specs.declared.moment_verdict.contents.LineContents.{LineContents}
+use Rattle.verdict.specs.declared.moment_verdict.verdict.OpenMoments.{OpenMoments}
 use Rattle.verdict.specs.declared.moment_verdict.verdict.Verdict.{Verdict}
 use Rattle.verdict.specs.declared.moment_verdict.verdict.Verdict.TheVariants as verdicts
 use Rattle.command_line.specs.Progress.{total_text}
@@ -19,9 +22,18 @@ abbrev pub last_of : Option Moments → Option ℕ
 last_of None = None
 last_of (Some moments) = moments.last
 
+-- the moments that are judged, and whether judging goes on behind those with too many branches
+abbrev pub row_asked : JudgedRun → Row
+row_asked judged = record { first = first_of judged.moments; last = last_of judged.moments; goes_on = judged.goes_on }
+
 -- `pass moments=N images=N`
 abbrev pub pass_line : ℕ → Option ℕ → List ℕ
 pass_line moments images = codes "pass moments=" ++ (decimal moments ++ (codes " images=" ++ (total_text images ++ line_end)))
+
+-- `pass moments=N images=N open=K first=M`
+abbrev pub open_line : ℕ → Option ℕ → OpenMoments → List ℕ
+open_line moments images open' = codes "pass moments=" ++ (decimal moments ++ (codes " images=" ++ (total_text images
+    ++ (codes " open=" ++ (decimal open'.count ++ (codes " first=" ++ (decimal open'.first ++ line_end)))))))
 
 -- ` of=too-many`, behind a failure of a moment with too many branches
 abbrev pub of_text : Bool → List ℕ
@@ -52,6 +64,11 @@ abbrev pub pass_json : ℕ → Option ℕ → List ℕ
 pass_json moments images =
     codes "{\"kind\":\"pass\",\"moments\":" ++ (decimal moments ++ (codes ",\"images\":" ++ (total_json images ++ (codes "}" ++ line_end))))
 
+-- `{"kind":"pass","moments":N,"images":N,"open":K,"first":M}`
+abbrev pub open_json : ℕ → Option ℕ → OpenMoments → List ℕ
+open_json moments images open' = codes "{\"kind\":\"pass\",\"moments\":" ++ (decimal moments ++ (codes ",\"images\":" ++ (total_json images
+    ++ (codes ",\"open\":" ++ (decimal open'.count ++ (codes ",\"first\":" ++ (decimal open'.first ++ (codes "}" ++ line_end))))))))
+
 -- the end of a failure, with `"of":"too-many"` where its moment has too many branches
 abbrev pub fail_end : Bool → List ℕ
 fail_end true = codes "\",\"of\":\"too-many\"}"
@@ -77,6 +94,10 @@ abbrev pub told_pass : Bool → ℕ → Option ℕ → List ℕ
 told_pass true moments images = pass_json moments images
 told_pass false moments images = pass_line moments images
 
+abbrev pub told_open : Bool → ℕ → Option ℕ → OpenMoments → List ℕ
+told_open true moments images open' = open_json moments images open'
+told_open false moments images open' = open_line moments images open'
+
 abbrev pub told_fail : Bool → ℕ → ImageName → List ℕ → Bool → List ℕ
 told_fail true moment image cause of_too_many = fail_json moment image cause of_too_many
 told_fail false moment image cause of_too_many = fail_line moment image cause of_too_many
@@ -92,12 +113,14 @@ told_too_long false moment = too_long_line moment
 -- the verdict, as text or as JSON, where this is the text of a cause
 abbrev pub told_verdict : {Cause : Type 0} → (Cause → List ℕ) → Bool → Verdict Cause → List ℕ
 told_verdict text json (verdicts.Pass moments images) = told_pass json moments images
+told_verdict text json (verdicts.Open moments images open') = told_open json moments images open'
 told_verdict text json (verdicts.Fail moment image cause of_too_many) = told_fail json moment image (text cause) of_too_many
 told_verdict text json (verdicts.TooMany moment lines) = told_too_many json moment lines
 told_verdict text json (verdicts.TooLong moment) = told_too_long json moment
 
 abbrev pub verdict_status : {Cause : Type 0} → Verdict Cause → ℕ
 verdict_status (verdicts.Pass moments images) = 0
+verdict_status (verdicts.Open moments images open') = 3
 verdict_status (verdicts.Fail moment image cause of_too_many) = 1
 verdict_status (verdicts.TooMany moment lines) = 3
 verdict_status (verdicts.TooLong moment) = 3
@@ -106,6 +129,7 @@ verdict_status (verdicts.TooLong moment) = 3
 abbrev pub failing : {Cause : Type 0} → Bool → Verdict Cause → Option (ℕ × ImageName)
 failing true (verdicts.Fail moment image cause of_too_many) = Some (moment, image)
 failing true (verdicts.Pass moments images) = None
+failing true (verdicts.Open moments images open') = None
 failing true (verdicts.TooMany moment lines) = None
 failing true (verdicts.TooLong moment) = None
 failing false verdict = None

@@ -1,7 +1,6 @@
 //! The command that checks a run.
 
-ghost use Rattle.arguments.specs.Line.{IsWithin};
-ghost use Rattle.arguments.specs.Spans.{IsUpward};
+ghost use Rattle.arguments.specs.Line.{IsJudgedWithin};
 ghost use Rattle.command_line.specs.Checking.{IsOpen, JudgesCheck, JudgesOpen, OpensCheck, TellsProgress, Watches};
 ghost use Rattle.command_line.specs.Progress.{IsToldIf};
 ghost use Rattle.command_line.specs.Reasons.{Explains, ExplainsOne};
@@ -35,14 +34,14 @@ pub(crate) fn open_check<F: Files>(
     command: CheckCommand,
     files: &mut F,
 ) -> Result<OpenCheck, Failure>
-    requires workers { IsWithin 1 8 command.workers }
-    requires moments { IfSome command.moments IsUpward }
+    requires { IsJudgedWithin command.judged }
     ensures opens { OpensCheck F.read_gives command files.old result files.new }
     ensures ready { IfOk result IsOpen }
 {
     let plan = read_plan(alloc, command.plan.as_str(), files)?;
-    let made = open_run(alloc, &command.run, files)?;
-    demand_whole(alloc, command.run.whole, &made, plan.operations())?;
+    let run = &command.judged.run;
+    let made = open_run(alloc, run, files)?;
+    demand_whole(alloc, run.whole, &made, plan.operations())?;
     Ok(OpenCheck {
         command,
         plan,
@@ -63,8 +62,9 @@ pub(crate) fn judge_check<T: Threads + Sync + Clock, E: Write>(
 {
     let OpenCheck { command, made, .. } = check;
     let verdict = verdict(rt, alloc, check, errors)?;
-    let why = why(alloc, command.why, &made.run, &verdict)?;
-    verdict_answer(alloc, made, &verdict, &why, command.json)
+    let judged = &command.judged;
+    let why = why(alloc, judged.why, &made.run, &verdict)?;
+    verdict_answer(alloc, made, &verdict, &why, judged.json)
 }
 
 /// The verdict; with `--progress` standard error gets on the way how many of the moments pass.
@@ -77,8 +77,8 @@ fn verdict<T: Threads + Sync + Clock, E: Write>(
     requires { IsOpen check.now }
     ensures { Watches E.contents check.now errors.old result errors.new }
 {
-    let command = &check.command;
-    let mut reporter = Reporter::new(alloc, rt, errors, command.progress, command.workers);
+    let judged = &check.command.judged;
+    let mut reporter = Reporter::new(alloc, rt, errors, judged.progress, judged.workers);
     told_verdict(rt, alloc, check, &mut reporter)
 }
 
@@ -100,7 +100,7 @@ fn told_verdict<T: Threads + Sync + Clock, E: Write>(
         plan,
         made,
     } = check;
-    let work = work(command.moments, command.workers);
+    let work = work(&command.judged);
     Ok(check_program(rt, alloc, plan, &made.run, work, reporter)?)
 }
 

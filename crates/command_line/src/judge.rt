@@ -1,7 +1,6 @@
 //! The command that judges a run by a recovery routine.
 
-ghost use Rattle.arguments.specs.Line.{IsWithin};
-ghost use Rattle.arguments.specs.Spans.{IsUpward};
+ghost use Rattle.arguments.specs.Line.{IsJudgedWithin};
 ghost use Rattle.command_line.specs.Judging.{ExplainsFailing, IsOpen, JudgesOpen, JudgesRun, Notes, OpensJudge, TellsProgress, Watches, cause_text, missing_text, note_of};
 ghost use Rattle.command_line.specs.Progress.{IsToldIf};
 ghost use Rattle.command_line.specs.Reasons.{ExplainsOne};
@@ -41,15 +40,15 @@ pub(crate) fn open_judge<F: Files>(
     command: JudgeCommand,
     files: &mut F,
 ) -> Result<OpenJudge, Failure>
-    requires workers { IsWithin 1 8 command.workers }
-    requires moments { IfSome command.moments IsUpward }
+    requires { IsJudgedWithin command.judged }
     ensures opens { OpensJudge F.read_gives command files.old result files.new }
     ensures ready { IfOk result IsOpen }
 {
-    let read = read_run(alloc, &command.run, files)?;
+    let run = &command.judged.run;
+    let read = read_run(alloc, run, files)?;
     let recovery = read_recovery(alloc, command.recovery.as_str(), files)?;
-    let made = make_run(alloc, &command.run, read)?;
-    demand_whole(alloc, command.run.whole, &made, &[])?;
+    let made = make_run(alloc, run, read)?;
+    demand_whole(alloc, run.whole, &made, &[])?;
     Ok(OpenJudge {
         command,
         made,
@@ -70,7 +69,13 @@ pub(crate) fn judge_run<T: Threads + Sync + Clock, E: Write>(
 {
     let verdict = verdict(rt, alloc, judge, errors)?;
     let why = why(alloc, judge, &verdict)?;
-    let answer = verdict_answer(alloc, &judge.made, &verdict, &why, judge.command.json)?;
+    let answer = verdict_answer(
+        alloc,
+        &judge.made,
+        &verdict,
+        &why,
+        judge.command.judged.json,
+    )?;
     let _ = note_none(&verdict, errors);
     Ok(answer)
 }
@@ -85,8 +90,8 @@ fn verdict<T: Threads + Sync + Clock, E: Write>(
     requires { IsOpen judge.now }
     ensures { Watches E.contents judge.now errors.old result errors.new }
 {
-    let command = &judge.command;
-    let mut reporter = Reporter::new(alloc, rt, errors, command.progress, command.workers);
+    let judged = &judge.command.judged;
+    let mut reporter = Reporter::new(alloc, rt, errors, judged.progress, judged.workers);
     told_verdict(rt, alloc, judge, &mut reporter)
 }
 
@@ -104,7 +109,7 @@ fn told_verdict<T: Threads + Sync + Clock, E: Write>(
         reporter.old.errors.now reporter.new.errors.now }
 {
     let OpenJudge { command, made, .. } = judge;
-    let work = work(command.moments, command.workers);
+    let work = work(&command.judged);
     Ok(judge_program(rt, alloc, &made.run, judgement(judge), work, reporter)?)
 }
 
@@ -142,7 +147,7 @@ fn why(
     ensures told { ExplainsFailing judge.now verdict.now result }
     ensures few { IfOk result (λ why. IfSome why (λ explained. hart_steps explained.schedule < 2 ^ 32)) }
 {
-    match failing(judge.command.why, verdict) {
+    match failing(judge.command.judged.why, verdict) {
         Some((moment, image)) => Ok(Some(explained(alloc, judge, moment, image)?)),
         None => Ok(None),
     }

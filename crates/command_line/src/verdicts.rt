@@ -1,11 +1,11 @@
 //! What is told of a verdict on the moments of a run, whatever judges an image.
 
 ghost use Rattle.std.specs.Prelude.{◌≡◌, ◌++◌, ◌^◌, ◌<◌, ◌≤◌, IfOk, IfSome, MatchOption, None, Some, string_bytes};
-ghost use Rattle.arguments.specs.Line.{IsWithin};
+ghost use Rattle.arguments.specs.Line.{IsJudgedWithin};
 ghost use Rattle.arguments.specs.Spans.{IsUpward};
 ghost use Rattle.command_line.specs.Reasons.{told_why};
 ghost use Rattle.command_line.specs.Steps.{Prints};
-ghost use Rattle.command_line.specs.Verdicts.{fail_json, fail_line, failing, first_of, last_of, pass_json, pass_line, told_fail, told_pass, told_too_long, told_too_many, told_verdict, too_many_json, too_many_line, verdict_status};
+ghost use Rattle.command_line.specs.Verdicts.{fail_json, fail_line, failing, first_of, last_of, open_json, open_line, pass_json, pass_line, told_fail, told_open, told_pass, told_too_long, told_too_many, told_verdict, too_many_json, too_many_line, total_json, verdict_status};
 ghost use Rattle.machine.specs.Grammar.{hart_steps};
 ghost use Rattle.crash_test.specs.Programs.{IsProgramOf};
 
@@ -13,11 +13,11 @@ use crate::answer::Answer;
 use crate::failure::Failure;
 use crate::made_run::MadeRun;
 use crate::reasons::told_why;
-use arguments::Moments;
+use arguments::{JudgedRun, Moments};
 use crash_test::{ExplainedImage, Work};
 use std::alloc::{AllocError, Global};
 use text::ImageName;
-use verdict::{Verdict, WidestLines};
+use verdict::{OpenMoments, Verdict, WidestLines};
 
 /// Why an image is bad.
 pub(crate) trait ToldCause: Copy {
@@ -58,6 +58,11 @@ fn told_verdict<C: ToldCause>(
 {
     match verdict {
         Verdict::Pass { moments, images } => told_pass(alloc, *moments, *images, json),
+        Verdict::Open {
+            moments,
+            images,
+            open,
+        } => told_open(alloc, *moments, *images, *open, json),
         Verdict::Fail {
             moment,
             image,
@@ -78,7 +83,7 @@ fn verdict_status<C>(verdict: &Verdict<C>) -> u8
     match verdict {
         Verdict::Pass { .. } => 0,
         Verdict::Fail { .. } => 1,
-        Verdict::TooMany { .. } | Verdict::TooLong { .. } => 3,
+        Verdict::Open { .. } | Verdict::TooMany { .. } | Verdict::TooLong { .. } => 3,
     }
 }
 
@@ -93,17 +98,18 @@ pub(crate) fn failing<C>(why: bool, verdict: &Verdict<C>) -> Option<(u32, &Image
 }
 
 /// What is judged of a run, and by how many workers.
-pub(crate) fn work(moments: Option<Moments>, workers: u32) -> Work
-    requires moments { IfSome moments IsUpward }
-    requires workers { IsWithin 1 8 workers }
-    ensures first { result.first ≡ first_of moments }
-    ensures last { result.last ≡ last_of moments }
+pub(crate) fn work(judged: &JudgedRun) -> Work
+    requires { IsJudgedWithin judged.now }
+    ensures first { result.first ≡ first_of judged.now.moments }
+    ensures last { result.last ≡ last_of judged.now.moments }
+    ensures goes_on { result.goes_on ≡ judged.now.goes_on }
 {
-    let (first, last) = bounds(moments);
+    let (first, last) = bounds(judged.moments);
     Work {
         first,
         last,
-        workers,
+        workers: judged.workers,
+        goes_on: judged.goes_on,
     }
 }
 
@@ -133,6 +139,23 @@ pub(crate) fn told_pass(
         pass_json(alloc, moments, images)
     } else {
         pass_line(alloc, moments, images)
+    }
+}
+
+/// The moments pass but those that are open.
+fn told_open(
+    alloc: Global,
+    moments: u64,
+    images: Option<u64>,
+    undecided: OpenMoments,
+    json: bool,
+) -> Result<String, AllocError>
+    ensures { IfOk result (λ text. string_bytes text ≡ told_open json moments images undecided) }
+{
+    if json {
+        open_json(alloc, moments, images, undecided)
+    } else {
+        open_line(alloc, moments, images, undecided)
     }
 }
 
@@ -181,18 +204,38 @@ fn told_too_long(alloc: Global, moment: u32, json: bool) -> Result<String, Alloc
     }
 }
 
-/// `{"kind":"pass","moments":N,"images":N}`, with `null` in place of the images where a moment has over 65,536.
+/// The sum of the numbers of images in JSON; `null` where a moment has over 65,536.
+fn total_json(alloc: Global, images: Option<u64>) -> Result<String, AllocError>
+    ensures { IfOk result (λ text. string_bytes text ≡ total_json images) }
+{
+    match images {
+        Some(images) => format!(in alloc; "{images}"),
+        None => format!(in alloc; "null"),
+    }
+}
+
+/// `{"kind":"pass","moments":N,"images":N}`.
 fn pass_json(alloc: Global, moments: u64, images: Option<u64>) -> Result<String, AllocError>
     ensures { IfOk result (λ text. string_bytes text ≡ pass_json moments images) }
 {
-    match images {
-        Some(images) => {
-            format!(in alloc; "{{\"kind\":\"pass\",\"moments\":{moments},\"images\":{images}}}\n")
-        }
-        None => {
-            format!(in alloc; "{{\"kind\":\"pass\",\"moments\":{moments},\"images\":null}}\n")
-        }
-    }
+    let images = total_json(alloc, images)?;
+    format!(in alloc; "{{\"kind\":\"pass\",\"moments\":{moments},\"images\":{images}}}\n")
+}
+
+/// The same with `"open":K,"first":M` for the moments that are open.
+fn open_json(
+    alloc: Global,
+    moments: u64,
+    images: Option<u64>,
+    undecided: OpenMoments,
+) -> Result<String, AllocError>
+    ensures { IfOk result (λ text. string_bytes text ≡ open_json moments images undecided) }
+{
+    let OpenMoments { count, first } = undecided;
+    let images = total_json(alloc, images)?;
+    format!(in alloc;
+        "{{\"kind\":\"pass\",\"moments\":{moments},\"images\":{images},\"open\":{count},\"first\":{first}}}\n"
+    )
 }
 
 /// `{"kind":"fail","moment":M,"image":"NAME","cause":"C"}`, with `"of":"too-many"` where the moment has over 65,536 branches.
@@ -240,6 +283,26 @@ fn pass_line(alloc: Global, moments: u64, images: Option<u64>) -> Result<String,
     match images {
         Some(images) => format!(in alloc; "pass moments={moments} images={images}\n"),
         None => format!(in alloc; "pass moments={moments} images=over\n"),
+    }
+}
+
+/// The same with ` open=K first=M` for the moments that are open.
+fn open_line(
+    alloc: Global,
+    moments: u64,
+    images: Option<u64>,
+    undecided: OpenMoments,
+) -> Result<String, AllocError>
+    ensures { IfOk result (λ text. string_bytes text ≡ open_line moments images undecided) }
+{
+    let OpenMoments { count, first } = undecided;
+    match images {
+        Some(images) => format!(in alloc;
+            "pass moments={moments} images={images} open={count} first={first}\n"
+        ),
+        None => format!(in alloc;
+            "pass moments={moments} images=over open={count} first={first}\n"
+        ),
     }
 }
 

@@ -1,6 +1,7 @@
 -- What a pass says of the run.
-use Rattle.std.proofs.Common.{◌≡◌, ℕ, ◌+◌, List, Option, None, length, ap, ◌∙◌, arith}
-use Rattle.image_check.specs.Verdicts.{IsVerdictBetween, PassBetween}
+use Rattle.std.proofs.Common.{◌≡◌, ℕ, ◌+◌, Bool, List, Option, None, length, ap, ◌∙◌, arith}
+use Rattle.image_check.specs.Verdicts.{PassBetween, judged_at}
+use Rattle.verdict.specs.GoingOn.{IsVerdictOn}
 use Rattle.verdict.specs.Rows.{end_of}
 use Rattle.image_check.specs.declared.cause.Cause.{Cause}
 use Rattle.verdict.specs.declared.moment_verdict.verdict.Verdict.{Verdict}
@@ -27,8 +28,9 @@ all_moments plan s schedule trace is passes end moment cut runs within is_cut =
     (all moment (omega arith) (omega arith)).1 cut is_cut
 
 pub always_passes : (plan : List Operation) (s : Setup) (schedule : List Item) (first : ℕ) (last : Option ℕ) (trace : List Event)
-    (verdict : Verdict Cause) → HasTrace s schedule trace → IsVerdictBetween plan s.medium trace first (end_of trace last) verdict
+    (goes_on : Bool) (verdict : Verdict Cause) → HasTrace s schedule trace
+    → IsVerdictOn goes_on (judged_at plan s.medium trace) trace first (end_of trace last) verdict
     → (moments : ℕ) (images : Option ℕ) → verdict ≡ Pass moments images → first ≡ 0 → last ≡ None → AlwaysPasses plan s schedule
-always_passes plan s schedule first last trace verdict is judged moments images passed zero all =
-    let pass : IsVerdictBetween plan s.medium trace 0 (length trace + 1) (Pass moments images) = rw (passed, zero, all) at judged in
+always_passes plan s schedule first last trace goes_on verdict is judged moments images passed zero all =
+    let pass : IsVerdictOn goes_on (judged_at plan s.medium trace) trace 0 (length trace + 1) (Pass moments images) = rw (passed, zero, all) at judged in
     all_moments plan s schedule trace is pass.2

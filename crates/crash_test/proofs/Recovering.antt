@@ -1,14 +1,15 @@
 -- What a pass says of the run.
-use Rattle.std.proofs.Common.{◌≡◌, ℕ, ◌+◌, ◌≤◌, inl, inr, List, Option, None, length, sym, ap, ◌∙◌, arith}
+use Rattle.std.proofs.Common.{◌≡◌, ℕ, ◌+◌, ◌≤◌, Bool, inl, inr, List, Option, None, length, sym, ap, ◌∙◌, arith}
 use Rattle.std.specs.Prelude.{max, min}
 use Rattle.store_trace.specs.Cut.{number_in}
 use Rattle.store_trace.specs.Image.{image}
-use Rattle.routine_judge.specs.Verdicts.{IsJudged, IsVerdict, first_judged, judged_from}
+use Rattle.routine_judge.specs.Verdicts.{IsJudged, first_judged, judged_from}
 use Rattle.routine_judge.specs.Views.{JudgeView}
 use Rattle.routine_judge.specs.declared.cause.Cause.{Cause}
 use Rattle.machine.specs.Replies.{trace_in}
 use Rattle.machine.proofs.Determined.{runs_once}
 use Rattle.machine.specs.Run.{Config, RunsTo}
+use Rattle.verdict.specs.GoingOn.{IsVerdictOn}
 use Rattle.verdict.specs.Verdicts.{PassBetween}
 use Rattle.verdict.specs.declared.moment_verdict.verdict.MomentVerdict.{MomentVerdict}
 use Rattle.verdict.specs.declared.moment_verdict.verdict.MomentVerdict.TheVariants as moments
@@ -46,11 +47,13 @@ all_moments s schedule recovery steps trace is passes end moment cut runs from w
       ];
     }
 
-pub always_recovers : (s : Setup) (schedule : List Item) (recovery : Sections) (steps first : ℕ) (last : Option ℕ) (trace : List Event) (verdict : Verdict Cause)
-    → HasTrace s schedule trace → IsVerdict (view_of s recovery steps trace) first (end_of trace last) verdict
+pub always_recovers : (s : Setup) (schedule : List Item) (recovery : Sections) (steps first : ℕ) (last : Option ℕ) (trace : List Event) (goes_on : Bool)
+    (verdict : Verdict Cause) → HasTrace s schedule trace
+    → IsVerdictOn goes_on (IsJudged (view_of s recovery steps trace)) trace (judged_from trace first (end_of trace last)) (end_of trace last) verdict
     → (moments : ℕ) (images : Option ℕ) → verdict ≡ Pass moments images → first ≡ 0 → last ≡ None → AlwaysRecovers s schedule recovery steps
-always_recovers s schedule recovery steps first last trace verdict is judged moments images passed zero all =
-    let whole : IsVerdict (view_of s recovery steps trace) 0 (length trace + 1) (Pass moments images) = rw (passed, zero, all) at judged in
+always_recovers s schedule recovery steps first last trace goes_on verdict is judged moments images passed zero all =
+    let whole : IsVerdictOn goes_on (IsJudged (view_of s recovery steps trace)) trace (judged_from trace 0 (length trace + 1)) (length trace + 1)
+    (Pass moments images) = rw (passed, zero, all) at judged in
     all_moments s schedule recovery steps trace is whole.2
 
 -- the image of a cut on which the routine is right

@@ -3,12 +3,13 @@ use Rattle.std.specs.Prelude.{◌≡◌, ℕ, ◌≤◌, ◌++◌, List, Option,
 use Rattle.store_trace.specs.Cut.{IsCut}
 use Rattle.image_check.specs.Legal.{IsLegal}
 use Rattle.image_check.specs.OrderFaults.{AreSound}
-use Rattle.image_check.specs.Verdicts.{IsVerdictBetween, Passes, judged_at}
+use Rattle.image_check.specs.Verdicts.{Passes, judged_at}
 use Rattle.image_check.specs.declared.cause.Cause.{Cause}
 use Rattle.machine.specs.Replies.{trace_in}
 use Rattle.machine.specs.Evicting.{hart_steps}
 use Rattle.machine.specs.Run.{Config, RunsTo}
 use Rattle.machine.specs.Represents.{MachineView, Represents}
+use Rattle.verdict.specs.GoingOn.{IsVerdictOn, settled}
 use Rattle.verdict.specs.Progress.{IsTold}
 use Rattle.verdict.specs.declared.moment_verdict.verdict.Verdict.{Verdict}
 use Rattle.nova_log.specs.Volumes.{volume_of}
@@ -23,15 +24,17 @@ use Rattle.machine.specs.RunValues.{start_of}
 use Rattle.machine.specs.declared.recording.setup.Setup.{Setup}
 use Rattle.machine.specs.RunValues.{RunView}
 use Rattle.nova_log.specs.declared.volume.entry.Entry.{Entry}
+use Rattle.crash_test.specs.Rows.{Row}
 
--- the verdict on the moments of the run from `first` to `last`, or to its last one; the run's marks are right
-pub record HasVerdict (plan : List Operation) (run : RunView) (first : ℕ) (last : Option ℕ) (verdict : Verdict Cause) : Type 0 where
+-- the verdict on these moments of the run, whose marks are right
+pub record HasVerdict (plan : List Operation) (run : RunView) (row : Row) (verdict : Verdict Cause) : Type 0 where
   pub sound : AreSound plan run.events (length run.events)
-  pub verdict_is : IsVerdictBetween plan run.setup.medium run.events first (end_of run.events last) verdict
+  pub verdict_is : IsVerdictOn row.goes_on (judged_at plan run.setup.medium run.events) run.events row.first (end_of run.events row.last) verdict
 
--- on the way to that verdict somebody is told of moments that pass; `hears` says what becomes of the hearer each time
-abbrev pub IsToldOf : {Hearer : Type 0} → (Hearer → ℕ → ℕ → Option ℕ → Hearer → Type 0) → List Operation → RunView → ℕ → Option ℕ → Hearer → Hearer → Type 0
-IsToldOf hears plan run first last = IsTold hears (judged_at plan run.setup.medium run.events) run.events first (end_of run.events last)
+-- on the way to that verdict somebody is told of moments behind which judging goes on; `hears` says what becomes of the hearer each time
+abbrev pub IsToldOf : {Hearer : Type 0} → (Hearer → ℕ → ℕ → Option ℕ → Hearer → Type 0) → List Operation → RunView → Row → Hearer → Hearer → Type 0
+IsToldOf hears plan run row =
+    IsTold hears (settled row.goes_on (judged_at plan run.setup.medium run.events)) run.events row.first (end_of run.events row.last)
 
 -- whatever a power cut leaves at whatever moment of the run recovers to a legal volume
 abbrev pub AlwaysPasses : List Operation → Setup → List Item → Type 0

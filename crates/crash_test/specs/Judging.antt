@@ -3,7 +3,7 @@ use Rattle.std.specs.Prelude.{◌≡◌, ◌≢◌, ℕ, ◌≤◌, Bool, List, 
 use Rattle.store_trace.specs.Cut.{IsCut, number_in}
 use Rattle.store_trace.specs.Marks.{begun}
 use Rattle.routine_judge.specs.RightAnswers.{IsFoundOf, IsRightOf, is_among}
-use Rattle.routine_judge.specs.Verdicts.{IsJudged, IsVerdict, first_judged, judged_from}
+use Rattle.routine_judge.specs.Verdicts.{IsJudged, first_judged, judged_from}
 use Rattle.routine_judge.specs.Views.{JudgeView}
 use Rattle.routine_judge.specs.declared.cause.Cause.{Cause}
 use Rattle.routine_judge.specs.MarkFaults.{AreSound}
@@ -11,6 +11,7 @@ use Rattle.routine_judge.specs.Windows.{IsWindow}
 use Rattle.routine_judge.specs.declared.history.moments.Window.{Window}
 use Rattle.machine.specs.Replies.{trace_in}
 use Rattle.machine.specs.Run.{Config, RunsTo, started}
+use Rattle.verdict.specs.GoingOn.{IsVerdictOn, settled}
 use Rattle.verdict.specs.Progress.{IsTold}
 use Rattle.verdict.specs.declared.moment_verdict.verdict.Verdict.{Verdict}
 use Rattle.program.specs.Sections.{Sections}
@@ -22,6 +23,7 @@ use Rattle.machine.specs.declared.schedule.items.Item.{Item}
 use Rattle.store_trace.specs.History.{at_moment}
 use Rattle.store_trace.specs.declared.event.Event.{Event}
 use Rattle.crash_test.specs.Checking.{HoldsAfterPowerCuts}
+use Rattle.crash_test.specs.Rows.{Row}
 use Rattle.machine.specs.RunValues.{start_of}
 use Rattle.machine.specs.declared.recording.setup.Setup.{Setup}
 use Rattle.machine.specs.RunValues.{RunView}
@@ -30,17 +32,17 @@ use Rattle.machine.specs.RunValues.{RunView}
 abbrev pub view_of : Setup → Sections → ℕ → List Event → JudgeView
 view_of s recovery steps events = record { routine = recovery; steps = steps; start = s.medium; events = events }
 
--- the verdict on those of the moments of the run from `first` to `last`, or to its last one, that are judged; the run's marks are right
-pub record HasJudgement (run : RunView) (recovery : Sections) (steps : ℕ) (overlapping : Bool) (first : ℕ) (last : Option ℕ)
-    (verdict : Verdict Cause) : Type 0 where
+-- the verdict on those of these moments of the run that are judged; the run's marks are right
+pub record HasJudgement (run : RunView) (recovery : Sections) (steps : ℕ) (overlapping : Bool) (row : Row) (verdict : Verdict Cause) : Type 0 where
   pub sound : AreSound overlapping run.events (length run.events)
   pub begins : begun run.events ≢ []
-  pub verdict_is : IsVerdict (view_of run.setup recovery steps run.events) first (end_of run.events last) verdict
+  pub verdict_is : IsVerdictOn row.goes_on (IsJudged (view_of run.setup recovery steps run.events)) run.events
+      (judged_from run.events row.first (end_of run.events row.last)) (end_of run.events row.last) verdict
 
--- on the way to that verdict somebody is told of moments that pass; `hears` says what becomes of the hearer each time
-abbrev pub IsToldOf : {Hearer : Type 0} → (Hearer → ℕ → ℕ → Option ℕ → Hearer → Type 0) → RunView → Sections → ℕ → ℕ → Option ℕ → Hearer → Hearer → Type 0
-IsToldOf hears run recovery steps first last = IsTold hears (IsJudged (view_of run.setup recovery steps run.events)) run.events
-    (judged_from run.events first (end_of run.events last)) (end_of run.events last)
+-- on the way to that verdict somebody is told of moments behind which judging goes on; `hears` says what becomes of the hearer each time
+abbrev pub IsToldOf : {Hearer : Type 0} → (Hearer → ℕ → ℕ → Option ℕ → Hearer → Type 0) → RunView → Sections → ℕ → Row → Hearer → Hearer → Type 0
+IsToldOf hears run recovery steps row = IsTold hears (settled row.goes_on (IsJudged (view_of run.setup recovery steps run.events))) run.events
+    (judged_from run.events row.first (end_of run.events row.last)) (end_of run.events row.last)
 
 -- whatever a power cut leaves at a moment of the run from its first Begin on: the routine has an answer, and a right one
 pub record IsRightAt (view : JudgeView) (moment : ℕ) (cut : ℕ → ℕ) : Type 0 where

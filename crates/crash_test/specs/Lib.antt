@@ -6,6 +6,7 @@ pub mod Images
 pub mod Explaining
 pub mod Loading
 pub mod Losses
+pub mod Rows
 pub mod Checking
 pub mod Judging
 pub mod Told

@@ -2,6 +2,7 @@
 
 ghost use Rattle.std.specs.Prelude.{◌≡◌, ℕ, IfErr, IfOk, None, Ok, Option};
 ghost use Rattle.crash_test.specs.Checking.{AlwaysPasses, HasVerdict, IsToldOf, SurvivesPowerCuts};
+ghost use Rattle.crash_test.specs.Rows.{row_of};
 ghost use Rattle.image_check.specs.Verdicts.{IsRefusal};
 
 use crate::work::Work;
@@ -27,7 +28,7 @@ pub fn check_program<T: Threads + Sync, P: Progress>(
     work: Work,
     progress: &mut P,
 ) -> Result<Verdict<Cause>, CheckFault>
-    ensures ok { IfOk result (HasVerdict plan.now.operations run.now work.first work.last) }
+    ensures ok { IfOk result (HasVerdict plan.now.operations run.now (row_of work)) }
 
     // Pass of the whole: every image of every moment of the run recovers to a legal volume; and so does what a power cut leaves of any
     // machine, with a cache of any size, that has made the first hart steps of the run with evictions anywhere.
@@ -36,13 +37,14 @@ pub fn check_program<T: Threads + Sync, P: Progress>(
     ensures survives { (moments : ℕ) (images : Option ℕ) → result ≡ Ok (Verdict.Pass moments images) → work.first ≡ 0 → work.last ≡ None →
         SurvivesPowerCuts plan.now.operations run.now.setup run.now.schedule }
     ensures err { IfErr result (IsRefusal plan.now.operations run.now.events work.first) }
-    ensures told { IsToldOf P.hears plan.now.operations run.now work.first work.last progress.old progress.new }
+    ensures told { IsToldOf P.hears plan.now.operations run.now (row_of work) progress.old progress.new }
 {
     let Work {
         first,
         last,
         workers,
+        goes_on,
     } = work;
     let part = checked_part(alloc, plan, run.start(), run.trace(), first, last)?;
-    Ok(part.judge_watched(rt, alloc, workers, progress)?)
+    Ok(part.judge_watched(rt, alloc, workers, goes_on, progress)?)
 }

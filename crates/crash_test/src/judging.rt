@@ -1,6 +1,7 @@
 //! The verdict on a run, by a recovery routine.
 
 ghost use Rattle.crash_test.specs.Judging.{AlwaysRecovers, AnswersAfterPowerCuts, HasJudgement, IsToldOf};
+ghost use Rattle.crash_test.specs.Rows.{row_of};
 ghost use Rattle.routine_judge.specs.Verdicts.{IsRefusal};
 ghost use Rattle.std.specs.Prelude.{◌≡◌, ℕ, IfErr, IfOk, Ok, None, Option};
 
@@ -27,7 +28,7 @@ pub fn judge_program<T: Threads + Sync, P: Progress>(
     work: Work,
     progress: &mut P,
 ) -> Result<Verdict<Cause>, JudgeFault>
-    ensures ok { IfOk result (HasJudgement run.now judgement.entry.recovery.now judgement.entry.steps judgement.entry.overlapping work.first work.last) }
+    ensures ok { IfOk result (HasJudgement run.now judgement.entry.recovery.now judgement.entry.steps judgement.entry.overlapping (row_of work)) }
 
     // Pass of the whole: on every image of every judged moment the routine has an answer, and a right one; and so it has on what a power
     // cut leaves of any machine, with a cache of any size, that has made the first hart steps of the run with evictions anywhere.
@@ -36,13 +37,14 @@ pub fn judge_program<T: Threads + Sync, P: Progress>(
     ensures survives { (moments : ℕ) (images : Option ℕ) → result ≡ Ok (Verdict.Pass moments images) → work.first ≡ 0 → work.last ≡ None →
         AnswersAfterPowerCuts run.now.setup run.now.schedule judgement.entry.recovery.now judgement.entry.steps }
     ensures err { IfErr result (IsRefusal judgement.entry.overlapping run.now.events work.first) }
-    ensures told { IsToldOf P.hears run.now judgement.entry.recovery.now judgement.entry.steps work.first work.last progress.old progress.new }
+    ensures told { IsToldOf P.hears run.now judgement.entry.recovery.now judgement.entry.steps (row_of work) progress.old progress.new }
 {
     let Work {
         first,
         last,
         workers,
+        goes_on,
     } = work;
     let part = judged_part(alloc, run.start(), run.trace(), judgement, first, last)?;
-    Ok(part.judge_watched(rt, alloc, workers, progress)?)
+    Ok(part.judge_watched(rt, alloc, workers, goes_on, progress)?)
 }

@@ -3,7 +3,7 @@
 ghost use Rattle.std.proofs.Props.{props};
 ghost use Rattle.std.specs.Prelude.{◌<◌, ◌≤◌, IfSome};
 
-/// The moments of a run that are judged, and how many workers share them.
+/// The moments of a run that are judged, how many workers share them, and what ends the verdict.
 #[derive(Clone, Copy, Debug)]
 pub struct Work {
     /// The first of the moments.
@@ -12,6 +12,8 @@ pub struct Work {
     pub last: Option<u32>,
     /// One to eight.
     pub workers: u32,
+    /// Whether judging goes on behind a moment with over 65,536 branches, which is counted and left open.
+    pub goes_on: bool,
     ghost order: { IfSome last (λ moment. first ≤ moment) } by { Prim.hlevel props },
     ghost some: { 0 < workers },
     ghost few: { workers ≤ 8 },

@@ -1,8 +1,10 @@
 -- A run has one verdict: each image is found to be one thing.
-use Rattle.std.proofs.Common.{◌≡◌, ℕ, List, refl, ap, subst, Option, Some, None, take}
+use Rattle.std.proofs.Common.{◌≡◌, ℕ, Bool, List, refl, ap, subst, Option, Some, None, take}
 use Rattle.store_trace.specs.Image.{image}
 use Rattle.verdict.specs.Branches.{same_number}
 use Rattle.verdict.proofs.Deciding as verdicts
+use Rattle.verdict.proofs.GoingOn as going_on
+use Rattle.verdict.specs.GoingOn.{IsVerdictOn}
 use Rattle.verdict.specs.declared.moment_verdict.verdict.MomentVerdict.{MomentVerdict}
 use Rattle.verdict.specs.declared.moment_verdict.verdict.Verdict.{Verdict}
 use Rattle.nova_log.specs.Volumes.{volume_of}
@@ -50,3 +52,9 @@ pub verdict_once : (plan : List Operation) (start : List (List ℕ)) (events : L
     IsVerdictBetween plan start events first end verdict → IsVerdictBetween plan start events first end other → verdict ≡ other
 verdict_once plan start events first end verdict other a b =
     verdicts.verdict_once (judged_at plan start events) events first end verdict other (λ m one its f h. moment_once plan start (take m events) one its f h) a b
+
+pub verdict_on_once : (goes_on : Bool) (plan : List Operation) (start : List (List ℕ)) (events : List Event) (first end : ℕ) (verdict other : Verdict Cause) →
+    IsVerdictOn goes_on (judged_at plan start events) events first end verdict →
+    IsVerdictOn goes_on (judged_at plan start events) events first end other → verdict ≡ other
+verdict_on_once goes_on plan start events first end verdict other a b =
+    going_on.verdict_on_once goes_on (judged_at plan start events) events first end (λ m one its f h. moment_once plan start (take m events) one its f h) verdict other a b

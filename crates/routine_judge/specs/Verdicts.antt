@@ -13,10 +13,9 @@ use Rattle.routine_judge.specs.MarkFaults.{AreSound, HasSoundBegin, IsFault}
 use Rattle.routine_judge.specs.Windows.{IsWindow}
 use Rattle.routine_judge.specs.declared.history.fault.MarkFault.TheVariants as marks
 use Rattle.routine_judge.specs.declared.history.moments.Window.{Window}
-use Rattle.verdict.specs.Verdicts.{IsMomentVerdict, IsVerdictBetween}
+use Rattle.verdict.specs.Verdicts.{IsMomentVerdict}
 use Rattle.verdict.specs.declared.moment_verdict.verdict.MomentVerdict.{MomentVerdict}
 use Rattle.verdict.specs.declared.moment_verdict.verdict.MomentVerdict.TheVariants as moments
-use Rattle.verdict.specs.declared.moment_verdict.verdict.Verdict.{Verdict}
 use Rattle.store_trace.specs.History.{at_moment}
 use Rattle.store_trace.specs.declared.event.Event.{Event}
 
@@ -36,10 +35,6 @@ first_judged events = option_map_or (λ at. at + 1) (position_from (λ event. is
 -- of the moments from `first` on that are below `end`, the first that is judged, and `end` where none is
 abbrev pub judged_from : List Event → ℕ → ℕ → ℕ
 judged_from events first end = min (max first (first_judged events)) end
-
--- the verdict on those of these moments that are judged
-abbrev pub IsVerdict : JudgeView → ℕ → ℕ → Verdict Cause → Type 0
-IsVerdict view first end verdict = IsVerdictBetween (IsJudged view) view.events (judged_from view.events first end) end verdict
 
 -- Why there is no verdict on the moments from this one on: a wrong mark or that there is none, then that the moment isn't one of the run.
 -- A growth is refused behind marks that are right, one of which begins an operation.

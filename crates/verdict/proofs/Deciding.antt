@@ -185,6 +185,11 @@ verdict_once {Cause} judged events first end (runs.Pass count images) (runs.Pass
     let numbers : count ≡ same = omega (arith, a.0, b.0) in
     let totals : images ≡ others = total_once events first end images others a.1 b.1 in
     rw (numbers, totals) refl
+verdict_once {Cause} judged events first end (runs.Open count images told) other once a b = absurd a
+verdict_once {Cause} judged events first end (runs.Pass count images) (runs.Open more others told) once a b = absurd b
+verdict_once {Cause} judged events first end (runs.Fail moment name cause one) (runs.Open more others told) once a b = absurd b
+verdict_once {Cause} judged events first end (runs.TooMany moment lines) (runs.Open more others told) once a b = absurd b
+verdict_once {Cause} judged events first end (runs.TooLong moment) (runs.Open more others told) once a b = absurd b
 verdict_once {Cause} judged events first end (runs.Pass count images) (runs.Fail moment name cause many) once a b =
     absurd (pass_and_fail judged events first end count moment images (moments.Fail name cause many) once (not_fail name cause many) a b)
 verdict_once {Cause} judged events first end (runs.Pass count images) (runs.TooMany moment lines) once a b =

@@ -4,6 +4,7 @@ pub mod Branching
 pub mod Deciding
 pub mod Keeping
 pub mod Parts
+pub mod GoingOn
 pub mod Listed
 pub mod Tables
 pub mod BranchesBranching

@@ -15,7 +15,7 @@ passes_join judged first middle end one other m f h = elim (cases_lt m middle) [
   | inr after ↦ other m after h
 ]
 
-later_fails : {Cause : Type 0} (judged : ℕ → MomentVerdict Cause → Type 0) (first middle end moment : ℕ) (verdict : MomentVerdict Cause) → first ≤ middle →
+pub later_fails : {Cause : Type 0} (judged : ℕ → MomentVerdict Cause → Type 0) (first middle end moment : ℕ) (verdict : MomentVerdict Cause) → first ≤ middle →
     PassBetween judged first middle → IsLeastMoment judged middle end moment verdict →
     IsLeastMoment judged first end moment verdict
 later_fails judged first middle end moment verdict f one least = record {
@@ -25,7 +25,7 @@ later_fails judged first middle end moment verdict f one least = record {
   here = least.here;
 }
 
-earlier_fails : {Cause : Type 0} (judged : ℕ → MomentVerdict Cause → Type 0) (first middle end moment : ℕ) (verdict : MomentVerdict Cause) → middle ≤ end →
+pub earlier_fails : {Cause : Type 0} (judged : ℕ → MomentVerdict Cause → Type 0) (first middle end moment : ℕ) (verdict : MomentVerdict Cause) → middle ≤ end →
     IsLeastMoment judged first middle moment verdict → IsLeastMoment judged first end moment verdict
 earlier_fails judged first middle end moment verdict m least = record {
   from = least.from;
@@ -53,6 +53,8 @@ verdicts_join sums judged events first middle end (runs.Pass moments images) (ru
     later_fails judged first middle end moment _ f a.2 b
 verdicts_join sums judged events first middle end (runs.Pass moments images) (runs.TooLong moment) f m a b =
     later_fails judged first middle end moment _ f a.2 b
+verdicts_join sums judged events first middle end (runs.Pass moments images) (runs.Open more others told) f m a b = absurd b
+verdicts_join sums judged events first middle end (runs.Open moments images told) other f m a b = absurd a
 verdicts_join sums judged events first middle end (runs.Fail moment name cause of_too_many) other f m a b =
     earlier_fails judged first middle end moment _ m a
 verdicts_join sums judged events first middle end (runs.TooMany moment named) other f m a b =

@@ -1,5 +1,5 @@
 -- What comes of an opening with over so many branches.
-use Rattle.std.proofs.Common.{◌≡◌, ℕ, ◌<◌, Bool, true, Option, Some, None, List, [], ◌∷◌, Result, Ok, Err, length, subst, sym}
+use Rattle.std.proofs.Common.{◌≡◌, ℕ, ◌<◌, Bool, true, Option, Some, None, List, [], ◌∷◌, Result, Ok, Err, subst, sym}
 use Rattle.std.specs.Prelude.{IfOk}
 use Rattle.std.specs.List.{AllByRecursion}
 use Rattle.verdict.specs.Branches.{AreOver, IsAsked}
@@ -35,33 +35,33 @@ module _ {Cause : Type 0} (asks : (ℕ → ℕ) → List Question → Type 0) (j
     good = good;
   }
 
-  pub tried_of : {E : Type 0} (further : Bool) (flags : List Bool) (lines : List ℕ) (r : Result (Opened Cause) E) → further ≡ true → AreOpen low high count lines →
+  pub tried_of : {E : Type 0} (further : Bool) (least : Option Cause) (flags : List Bool) (lines : List ℕ) (r : Result (Opened Cause) E) → further ≡ true → least ≡ None → AreOpen low high count lines →
       AllByRecursion (λ l. is_flagged l flags ≡ true) lines → ((l : ℕ) → is_flagged l flags ≡ true → low l < high l → has l lines ≡ true) →
       ((l : ℕ) → is_flagged l flags ≡ true → IsAsked asks low high l) → ((qs : List Question) → asks low qs → AreFlagged flags qs) →
-      IfOk r (ComesOf judged low high count lines) → IfOk r (IsTried further asks judged low high count)
-  tried_of further flags lines (Ok (Over None)) u past flagged all only floors c = absurd c
-  tried_of further flags lines (Ok (Over (Some theirs))) u past flagged all only floors c =
-      subst (λ (ls : List ℕ). (further ≡ true) × AreTried asks judged low high ls × AreOpen low high count ls) (sym c.0)
-      (u, tried flags lines past flagged all only floors c.1, past)
-  tried_of further flags lines (Ok (OverBad numbers cause)) u past flagged all only floors c = (u, c.0, c.1)
-  tried_of further flags lines (Ok Pass) u past flagged all only floors c = absurd c
-  tried_of further flags lines (Ok (Bad numbers cause)) u past flagged all only floors c = absurd c
-  tried_of further flags lines (Err e) u past flagged all only floors c = tt
+      IfOk r (ComesOf judged low high count lines) → IfOk r (IsTried further asks judged low high count least)
+  tried_of further least flags lines (Ok (Over None)) u none past flagged all only floors c = absurd c
+  tried_of further least flags lines (Ok (Over (Some theirs))) u none past flagged all only floors c =
+      subst (λ (ls : List ℕ). (further ≡ true) × AreTried asks judged low high ls × AreOpen low high count ls × (least ≡ None)) (sym c.0)
+      (u, tried flags lines past flagged all only floors c.1, past, none)
+  tried_of further least flags lines (Ok (OverBad numbers cause)) u none past flagged all only floors c = (u, c.0, c.1, rw none tt)
+  tried_of further least flags lines (Ok Pass) u none past flagged all only floors c = absurd c
+  tried_of further least flags lines (Ok (Bad numbers cause)) u none past flagged all only floors c = absurd c
+  tried_of further least flags lines (Err e) u none past flagged all only floors c = tt
 
   -- that there are over so many branches
-  pub opened_of : {E : Type 0} (further : Bool) (alike : Question → ℕ → ℕ → Bool) (limit : ℕ) (r : Result (Opened Cause) E) → AreOver alike asks low high limit →
-      IfOk r (IsTried further asks judged low high count) → IfOk r (IsOpened further alike asks judged low high count limit)
-  opened_of further alike limit (Ok (Over None)) over t = (over, t)
-  opened_of further alike limit (Ok (Over (Some lines))) over t = (over, t.0, t.1, t.2)
-  opened_of further alike limit (Ok (OverBad numbers cause)) over t = (over, t.0, t.1, t.2)
-  opened_of further alike limit (Ok Pass) over t = absurd t
-  opened_of further alike limit (Ok (Bad numbers cause)) over t = absurd t
-  opened_of further alike limit (Err e) over t = tt
+  pub opened_of : {E : Type 0} (further : Bool) (least : Option Cause) (alike : Question → ℕ → ℕ → Bool) (limit : ℕ) (r : Result (Opened Cause) E) → AreOver alike asks low high limit →
+      IfOk r (IsTried further asks judged low high count least) → IfOk r (IsOpened further alike asks judged low high count limit)
+  opened_of further least alike limit (Ok (Over None)) over t = (over, t)
+  opened_of further least alike limit (Ok (Over (Some lines))) over t = (over, t.0, t.1, t.2)
+  opened_of further least alike limit (Ok (OverBad numbers cause)) over t = (over, t.0, t.1, t.2)
+  opened_of further least alike limit (Ok Pass) over t = absurd t
+  opened_of further least alike limit (Ok (Bad numbers cause)) over t = absurd t
+  opened_of further least alike limit (Err e) over t = tt
 
-  pub few_of_none : {E : Type 0} (further : Bool) (claim : Type 0) (r : Result (Opened Cause) E) → IfOk r (IsTried further asks judged low high count) →
+  pub few_of_none : {E : Type 0} (further : Bool) (least : Option Cause) (claim : Type 0) (r : Result (Opened Cause) E) → IfOk r (IsTried further asks judged low high count least) →
       IfOk r (λ opened. IfFew opened claim)
-  few_of_none further claim (Ok (Over lines)) t = tt
-  few_of_none further claim (Ok (OverBad numbers cause)) t = tt
-  few_of_none further claim (Ok Pass) t = absurd t
-  few_of_none further claim (Ok (Bad numbers cause)) t = absurd t
-  few_of_none further claim (Err e) t = tt
+  few_of_none further least claim (Ok (Over lines)) t = tt
+  few_of_none further least claim (Ok (OverBad numbers cause)) t = tt
+  few_of_none further least claim (Ok Pass) t = absurd t
+  few_of_none further least claim (Ok (Bad numbers cause)) t = absurd t
+  few_of_none further least claim (Err e) t = tt

@@ -1,5 +1,5 @@
 -- The moments of a part, judged in turn, and what is told of them on the way.
-use Rattle.std.proofs.Common.{◌≡◌, ℕ, zero, suc, ◌+◌, ◌-◌, ◌*◌, ◌^◌, ◌<◌, ◌≤◌, true, false, nat_le, List, Option, Some, None, inl, inr, refl, subst, sym, arith}
+use Rattle.std.proofs.Common.{◌≡◌, ℕ, zero, suc, ◌+◌, ◌-◌, ◌*◌, ◌^◌, ◌<◌, ◌≤◌, Bool, true, false, nat_le, List, Option, Some, None, inl, inr, refl, subst, sym, arith}
 use Rattle.std.specs.Prelude.{IfSome}
 use Rattle.std.proofs.lemmas.Bool.{cases_lt}
 use Rattle.std.proofs.lemmas.Bool.Decides.{nat_tests}
@@ -12,15 +12,20 @@ use Rattle.verdict.specs.Progress.{HasHeard}
 use Rattle.verdict.specs.Verdicts.{IsVerdictBetween}
 use Rattle.verdict.specs.declared.moment_verdict.verdict.MomentVerdict.{MomentVerdict}
 use Rattle.verdict.specs.declared.moment_verdict.verdict.Verdict.TheVariants as runs
+use Rattle.verdict.proofs.GoingOn.{none_told, told_join}
 use Rattle.verdict.proofs.Parts.{verdicts_join}
+use Rattle.verdict.specs.GoingOn.{IsOpenOf, IsRow, settled, with_open}
+use Rattle.verdict.specs.declared.moment_verdict.verdict.OpenMoments.{OpenMoments}
+use Rattle.verdict.specs.declared.progress.Row.TheVariants as rows
 
--- the moments below `next` pass, and have so many images; and the hearer was told of moments that pass
-pub record IsAt {Hearer Cause : Type 0} (hears : Hearer → ℕ → ℕ → Option ℕ → Hearer → Type 0) (judged : ℕ → MomentVerdict Cause → Type 0)
-    (events : List Event) (first end next : ℕ) (images : Option ℕ) (hearer hearer' : Hearer) : Type 0 where
+-- the moments below `next` pass or are open, and have so many images; and the hearer was told of such moments
+pub record IsAt {Hearer Cause : Type 0} (hears : Hearer → ℕ → ℕ → Option ℕ → Hearer → Type 0) (goes_on : Bool) (judged : ℕ → MomentVerdict Cause → Type 0)
+    (events : List Event) (first end next : ℕ) (images : Option ℕ) (told : Option OpenMoments) (hearer hearer' : Hearer) : Type 0 where
   pub from : first ≤ next
   pub within : next ≤ end
-  pub passes : IsVerdictBetween judged events first next (runs.Pass (next - first) images)
-  pub heard : HasHeard hears judged events first end hearer (next - first) hearer'
+  pub passes : IsVerdictBetween (settled goes_on judged) events first next (runs.Pass (next - first) images)
+  pub left_open : IsOpenOf judged first next told
+  pub heard : HasHeard hears (settled goes_on judged) events first end hearer (next - first) hearer'
 
 no_images : (events : List Event) (first : ℕ) → IsImageSum events first first (Some 0)
 no_images events zero = (refl, λ m f l. absurd (omega (arith, l)))
@@ -28,38 +33,44 @@ no_images events (suc first) =
     let none : nat_le (suc first) first ≡ false = grind (arith, nat_tests) in
     (rw none refl, λ m f l. absurd (omega (arith, f, l)))
 
-pub at_first : {Hearer Cause : Type 0} (hears : Hearer → ℕ → ℕ → Option ℕ → Hearer → Type 0) (judged : ℕ → MomentVerdict Cause → Type 0)
-    (events : List Event) (first end : ℕ) (hearer : Hearer) → first ≤ end → IsAt hears judged events first end first (Some 0) hearer hearer
-at_first hears judged events first end hearer order =
+pub at_first : {Hearer Cause : Type 0} (hears : Hearer → ℕ → ℕ → Option ℕ → Hearer → Type 0) (goes_on : Bool) (judged : ℕ → MomentVerdict Cause → Type 0)
+    (events : List Event) (first end : ℕ) (hearer : Hearer) → first ≤ end →
+    IsAt hears goes_on judged events first end first (Some 0) None hearer hearer
+at_first hears goes_on judged events first end hearer order =
     let none : first - first ≡ 0 = omega arith in
     record {
       from = omega arith;
       within = order;
       passes = (omega arith, no_images events first, λ m f l. absurd (omega (arith, f, l)));
+      left_open = none_told judged first first (omega arith) (λ m f l. absurd (omega (arith, f, l)));
       heard = rw none HasHeard.nothing;
     }
 
--- further moments pass, and the hearer is told
-pub at_next : {Hearer Cause : Type 0} (hears : Hearer → ℕ → ℕ → Option ℕ → Hearer → Type 0) (judged : ℕ → MomentVerdict Cause → Type 0)
-    (events : List Event) (first end next further count : ℕ) (images more : Option ℕ) (hearer before after : Hearer) →
-    IsAt hears judged events first end next images hearer before → next < further → further ≤ end →
-    IsVerdictBetween judged events next further (runs.Pass count more) → hears before (further - first) (end - first) (sum_of images more) after →
-    IsAt hears judged events first end further (sum_of images more) hearer after
-at_next hears judged events first end next further count images more hearer before after at later there row heard =
+-- further moments pass or are open, and the hearer is told
+pub at_next : {Hearer Cause : Type 0} (hears : Hearer → ℕ → ℕ → Option ℕ → Hearer → Type 0) (goes_on : Bool) (judged : ℕ → MomentVerdict Cause → Type 0)
+    (events : List Event) (first end next until further : ℕ) (images more : Option ℕ) (told others : Option OpenMoments) (hearer before after : Hearer) →
+    IsAt hears goes_on judged events first end next images told hearer before → until ≤ end →
+    IsRow goes_on judged events next until (rows.Settled further more others) → hears before (further - first) (end - first) (sum_of images more) after →
+    IsAt hears goes_on judged events first end further (sum_of images more) (with_open told others) hearer after
+at_next hears goes_on judged events first end next until further images more told others hearer before after at there row heard =
+    let later : next < further = row.0 in
+    let within : further ≤ end = omega (arith, row.1, there) in
     let from : first ≤ further = omega (arith, at.from, later) in
-    let both : IsVerdictBetween judged events first further (runs.Pass ((next - first) + count) (sum_of images more)) =
-    verdicts_join sums_join judged events first next further (runs.Pass (next - first) images) (runs.Pass count more) at.from (omega (arith, later)) at.passes row in
-    let number : (next - first) + count ≡ further - first = omega (arith, both.0, from) in
-    let passes : IsVerdictBetween judged events first further (runs.Pass (further - first) (sum_of images more)) = rw number at both in
+    let both : IsVerdictBetween (settled goes_on judged) events first further (runs.Pass ((next - first) + (further - next)) (sum_of images more)) =
+    verdicts_join sums_join (settled goes_on judged) events first next further (runs.Pass (next - first) images) (runs.Pass (further - next) more) at.from
+    (omega (arith, later)) at.passes row.2 in
+    let number : (next - first) + (further - next) ≡ further - first = omega (arith, at.from, later) in
+    let passes : IsVerdictBetween (settled goes_on judged) events first further (runs.Pass (further - first) (sum_of images more)) = rw number at both in
     let same : first + (further - first) ≡ further = omega (arith, from) in
-    let told : IsVerdictBetween judged events first (first + (further - first)) (runs.Pass (further - first) (sum_of images more)) =
-    subst (λ (n : ℕ). IsVerdictBetween judged events first n (runs.Pass (further - first) (sum_of images more))) (sym same) passes in
+    let settled' : IsVerdictBetween (settled goes_on judged) events first (first + (further - first)) (runs.Pass (further - first) (sum_of images more)) =
+    subst (λ (n : ℕ). IsVerdictBetween (settled goes_on judged) events first n (runs.Pass (further - first) (sum_of images more))) (sym same) passes in
     record {
       from = from;
-      within = there;
+      within = within;
       passes = passes;
+      left_open = told_join judged first next further told others at.left_open row.3;
       heard = HasHeard.more (next - first) (further - first) (sum_of images more) before after at.heard (omega (arith, at.from, later))
-          (omega (arith, same, there)) told heard;
+          (omega (arith, same, within)) settled' heard;
     }
 
 at_most : (events : List Event) (first end : ℕ) → ((m : ℕ) → first ≤ m → m < end → cut_count (at_moment events m) ≤ 65536) →

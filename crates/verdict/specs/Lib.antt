@@ -2,6 +2,7 @@ pub mod Stretches
 pub mod Rows
 pub mod Keeping
 pub mod Verdicts
+pub mod GoingOn
 pub mod Branches
 pub mod Numbers
 pub mod Queue

@@ -1,5 +1,5 @@
 -- What the branches of a moment come to, by cases.
-use Rattle.std.specs.Prelude.{◌≡◌, ℕ, Bool, true, false, Option, Some, None, List, length}
+use Rattle.std.specs.Prelude.{◌≡◌, ℕ, Bool, true, false, Option, Some, None, List, length, IfSome}
 use Rattle.verdict.specs.Branches.{AreOver, IsLeastBad, IsWithin}
 use Rattle.verdict.specs.Edges.{AreAllGood, AreOpen, AreTried, IsBadCut, edges}
 use Rattle.verdict.specs.Numbers.{number_over}
@@ -30,15 +30,16 @@ IsOpened further alike asks judged low high count limit Pass =
 IsOpened further alike asks judged low high count limit (Bad numbers cause) =
     (¬ AreOver alike asks low high limit) × IsLeastBad low high judged (number_over low numbers.items) cause × (length numbers.items ≡ count)
 
--- the same where there are over so many
-abbrev pub IsTried : {Cause : Type 0} → Bool → ((ℕ → ℕ) → List Question → Type 0) → ((ℕ → ℕ) → Option Cause → Type 0) → (ℕ → ℕ) → (ℕ → ℕ) → ℕ → Opened Cause → Type 0
-IsTried further asks judged low high count (Over None) = further ≡ false
-IsTried further asks judged low high count (Over (Some lines)) =
-    (further ≡ true) × AreTried asks judged low high lines.items × AreOpen low high count lines.items
-IsTried further asks judged low high count (OverBad numbers cause) =
-    (further ≡ true) × IsBadCut judged low high numbers.items cause × (length numbers.items ≡ count)
-IsTried further asks judged low high count Pass = ⊥
-IsTried further asks judged low high count (Bad numbers cause) = ⊥
+-- The same where there are over so many, by why the least bad one of those that were opened is bad: if there is one, it is told.
+abbrev pub IsTried : {Cause : Type 0} → Bool → ((ℕ → ℕ) → List Question → Type 0) → ((ℕ → ℕ) → Option Cause → Type 0) → (ℕ → ℕ) → (ℕ → ℕ) → ℕ →
+    Option Cause → Opened Cause → Type 0
+IsTried further asks judged low high count least (Over None) = further ≡ false
+IsTried further asks judged low high count least (Over (Some lines)) =
+    (further ≡ true) × AreTried asks judged low high lines.items × AreOpen low high count lines.items × (least ≡ None)
+IsTried further asks judged low high count least (OverBad numbers cause) =
+    (further ≡ true) × IsBadCut judged low high numbers.items cause × (length numbers.items ≡ count) × IfSome least (λ its. its ≡ cause)
+IsTried further asks judged low high count least Pass = ⊥
+IsTried further asks judged low high count least (Bad numbers cause) = ⊥
 
 -- what comes of the edge images of these lines
 abbrev pub ComesOf : {Cause : Type 0} → ((ℕ → ℕ) → Option Cause → Type 0) → (ℕ → ℕ) → (ℕ → ℕ) → ℕ → List ℕ → Opened Cause → Type 0

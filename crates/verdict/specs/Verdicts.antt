@@ -21,6 +21,7 @@ use Rattle.verdict.specs.declared.branches.question.Question.{Question}
 use Rattle.verdict.specs.declared.moment_verdict.contents.LineContents.{LineContents}
 use Rattle.verdict.specs.declared.moment_verdict.verdict.MomentVerdict.{MomentVerdict}
 use Rattle.verdict.specs.declared.moment_verdict.verdict.MomentVerdict.TheVariants as moments
+use Rattle.verdict.specs.declared.moment_verdict.verdict.OpenMoments.{OpenMoments}
 use Rattle.verdict.specs.declared.moment_verdict.verdict.Verdict.{Verdict}
 use Rattle.verdict.specs.declared.moment_verdict.verdict.Verdict.TheVariants as runs
 
@@ -88,16 +89,27 @@ pub record IsLeastMoment {Cause : Type 0} (judged : ℕ → MomentVerdict Cause 
 abbrev pub IsVerdictBetween : {Cause : Type 0} → (ℕ → MomentVerdict Cause → Type 0) → List Event → ℕ → ℕ → Verdict Cause → Type 0
 IsVerdictBetween judged events first end (runs.Pass moments images) =
     (first + moments ≡ end) × IsImageSum events first end images × PassBetween judged first end
+IsVerdictBetween judged events first end (runs.Open moments images told) = ⊥
 IsVerdictBetween judged events first end (runs.Fail moment name cause of_too_many) = IsLeastMoment judged first end moment (moments.Fail name cause of_too_many)
 IsVerdictBetween judged events first end (runs.TooMany moment named) = IsLeastMoment judged first end moment (moments.TooMany named)
 IsVerdictBetween judged events first end (runs.TooLong moment) = IsLeastMoment judged first end moment moments.TooLong
 
+-- the open moments of two rows
+abbrev pub both_open : OpenMoments → OpenMoments → OpenMoments
+both_open one other = record { count = one.count + other.count; first = one.first }
+
 -- the verdict on two rows of moments, of which the second begins where the first ends
 abbrev pub joined : {Cause : Type 0} → Verdict Cause → Verdict Cause → Verdict Cause
 joined (runs.Pass moments images) (runs.Pass more others) = runs.Pass (moments + more) (sum_of images others)
+joined (runs.Pass moments images) (runs.Open more others told) = runs.Open (moments + more) (sum_of images others) told
 joined (runs.Pass moments images) (runs.Fail moment name cause of_too_many) = runs.Fail moment name cause of_too_many
 joined (runs.Pass moments images) (runs.TooMany moment named) = runs.TooMany moment named
 joined (runs.Pass moments images) (runs.TooLong moment) = runs.TooLong moment
+joined (runs.Open moments images told) (runs.Pass more others) = runs.Open (moments + more) (sum_of images others) told
+joined (runs.Open moments images told) (runs.Open more others further) = runs.Open (moments + more) (sum_of images others) (both_open told further)
+joined (runs.Open moments images told) (runs.Fail moment name cause of_too_many) = runs.Fail moment name cause of_too_many
+joined (runs.Open moments images told) (runs.TooMany moment named) = runs.TooMany moment named
+joined (runs.Open moments images told) (runs.TooLong moment) = runs.TooLong moment
 joined (runs.Fail moment name cause of_too_many) other = runs.Fail moment name cause of_too_many
 joined (runs.TooMany moment named) other = runs.TooMany moment named
 joined (runs.TooLong moment) other = runs.TooLong moment

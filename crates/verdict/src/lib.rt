@@ -19,8 +19,8 @@ pub use branches::{
 };
 pub use cut_image::CutImage;
 pub use moment_verdict::{
-    ImageName, Judging, LineContents, MomentVerdict, Verdict, WidestLines, is_unseen, open_moment,
-    verdicts_join,
+    ImageName, Judging, LineContents, MomentVerdict, OpenMoments, Verdict, WidestLines, is_unseen,
+    open_moment, verdicts_join,
 };
 pub use moments::Moments;
 pub use part::Part;

@@ -8,7 +8,7 @@ pub use laws::{Judging, verdicts_join};
 pub use opening::open_moment;
 pub use text::ImageName;
 pub use unseen::is_unseen;
-pub use verdict::{MomentVerdict, Verdict};
+pub use verdict::{MomentVerdict, OpenMoments, Verdict};
 
 mod contents;
 mod laws;

@@ -83,6 +83,7 @@ fn verdict_of<R: Threads + Sync + AllocGlobal>(
         first: 0,
         last: None,
         workers,
+        goes_on: false,
     };
     Some(check_program(rt, alloc, &plan, &run, work, &mut Unwatched))
 }
@@ -210,6 +211,7 @@ fn verdict_on_part<R: Threads + Sync + AllocGlobal>(
         first: part.first,
         last: last_of(part),
         workers,
+        goes_on: false,
     };
     Some(check_program(rt, alloc, &plan, &run, work, &mut Unwatched))
 }

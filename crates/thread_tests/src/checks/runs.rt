@@ -101,7 +101,7 @@ fn plain_verdict(verdict: Result<Verdict<Cause>, CheckFault>) -> Option<Plain> {
                 lines: None,
             },
         ) => Some(Plain::TooMany { moment }),
-        Ok(Verdict::TooMany { .. } | Verdict::TooLong { .. }) => None,
+        Ok(Verdict::Open { .. } | Verdict::TooMany { .. } | Verdict::TooLong { .. }) => None,
         Err(fault) => Some(Plain::Refused(fault)),
     }
 }

@@ -283,7 +283,7 @@ impl Progress {
         requires fits { R.fits recovery.now workspace.old }
         requires at { IsAt (R.alike recovery.now) (R.asks recovery.now) (R.judged recovery.now) (R.low recovery.now) (R.high recovery.now) (R.lines recovery.now)
             self.now.opened self.now.findings.found.items self.now.findings.least least self.now.findings.asked }
-        ensures tried { IfOk result (IsTried (R.further recovery.now) (R.asks recovery.now) (R.judged recovery.now) (R.low recovery.now) (R.high recovery.now) (R.lines recovery.now)) }
+        ensures tried { IfOk result (IsTried (R.further recovery.now) (R.asks recovery.now) (R.judged recovery.now) (R.low recovery.now) (R.high recovery.now) (R.lines recovery.now) least) }
         ensures run_size { length run.new.numbers ≡ length run.old.numbers }
         ensures fits { R.fits recovery.now workspace.new }
     {

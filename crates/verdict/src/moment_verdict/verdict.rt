@@ -36,6 +36,15 @@ impl<Cause> MomentVerdict<Cause> {
     }
 }
 
+/// The moments of a row that have over 65,536 branches, behind which judging went on.
+#[derive(Clone, Copy, Debug, PartialEq, Eq)]
+pub struct OpenMoments {
+    /// How many they are, at least one.
+    pub count: u32,
+    /// The least of them.
+    pub first: u32,
+}
+
 /// The verdict on a row of moments.
 #[derive(Debug, Drop)]
 pub enum Verdict<Cause> {
@@ -46,7 +55,15 @@ pub enum Verdict<Cause> {
         /// The sum of the numbers of images of all moments. None where a moment has over 65,536.
         images: Option<u64>,
     },
-    /// This moment is the least that doesn't pass, and this image of it is bad.
+    /// Every moment passes but these, of which nothing is decided.
+    Open {
+        /// The number of moments, with those that are open.
+        moments: u64,
+        /// The sum of the numbers of images of all moments. None where a moment has over 65,536.
+        images: Option<u64>,
+        open: OpenMoments,
+    },
+    /// This moment is the least that doesn't pass, and this image of it is bad. Moments that are open don't count.
     Fail {
         moment: u32,
         image: ImageName,
@@ -60,7 +77,8 @@ pub enum Verdict<Cause> {
         /// Where further images are tried, of which none is bad: where a fence would help.
         lines: Option<WidestLines>,
     },
-    /// This moment is the least that doesn't pass: what is right there can't be told within the steps that recovery has.
+    /// This moment is the least that doesn't pass: what is right there can't be told within the steps that recovery has. Moments that are
+    /// open don't count.
     TooLong {
         moment: u32,
     },

@@ -188,7 +188,7 @@ fn plain_verdict(
                 lines: None,
             },
         ) => Some(Ok(RunByImages::TooMany { moment })),
-        Ok(Verdict::TooMany { .. } | Verdict::TooLong { .. }) => None,
+        Ok(Verdict::Open { .. } | Verdict::TooMany { .. } | Verdict::TooLong { .. }) => None,
         Err(fault) => Some(Err(fault)),
     }
 }

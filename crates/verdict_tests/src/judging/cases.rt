@@ -12,7 +12,7 @@ use program::Program;
 use routine_judge::{Cause, ImageName, JudgeFault, Verdict};
 use std::alloc::Global;
 use std::thread::Threads;
-use verdict::LineContents;
+use verdict::{LineContents, OpenMoments};
 
 /// A verdict that is wanted, the bad image by its name's text.
 #[derive(Clone, Copy)]
@@ -30,10 +30,15 @@ pub(crate) enum Wanted {
         moment: u32,
         lines: &'static [LineContents],
     },
+    Open {
+        moments: u64,
+        images: Option<u64>,
+        open: OpenMoments,
+    },
 }
 
 /// A source and a recovery routine, both of several pieces, how the source is run and how its moments are judged, from one to another
-/// or to the last one; and the verdict.
+/// or to the last one, and whether judging goes on behind those with too many branches; and the verdict.
 #[derive(Clone, Copy)]
 pub(crate) struct Case {
     pub(crate) source: &'static [&'static str],
@@ -44,6 +49,7 @@ pub(crate) struct Case {
     pub(crate) overlapping: bool,
     pub(crate) first: u32,
     pub(crate) last: Option<u32>,
+    pub(crate) goes_on: bool,
     pub(crate) verdict: Result<Wanted, JudgeFault>,
 }
 
@@ -57,6 +63,7 @@ pub(crate) const CASE: Case = Case {
     overlapping: false,
     first: 0,
     last: None,
+    goes_on: false,
     verdict: Ok(Wanted::Pass {
         moments: 9,
         images: Some(16),
@@ -119,6 +126,7 @@ fn verdict_over<R: Threads + Sync + AllocGlobal>(
         first: case.first,
         last: case.last.filter(|last| case.first <= *last),
         workers,
+        goes_on: case.goes_on,
     };
     Some(judge_program(rt, alloc, &run, judgement, work, &mut Unwatched))
 }
@@ -159,6 +167,18 @@ fn is_verdict(alloc: Global, verdict: &Verdict<Cause>, wanted: Wanted) -> bool {
             },
             Wanted::TooMany { moment: m, lines },
         ) => *moment == m && widest.lines() == lines,
+        (
+            Verdict::Open {
+                moments,
+                images,
+                open,
+            },
+            Wanted::Open {
+                moments: m,
+                images: i,
+                open: o,
+            },
+        ) => *moments == m && *images == i && *open == o,
         _ => false,
     }
 }

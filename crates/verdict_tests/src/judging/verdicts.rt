@@ -3,7 +3,7 @@
 use crate::judging::cases::{CASE, Case, Wanted, differing_for_any};
 use crate::judging::sources::{BEGIN, FILLED, LINES, RECORD_UNFENCED, SILENT};
 use routine_judge::{Cause, JudgeFault, MarkFault};
-use verdict::LineContents;
+use verdict::{LineContents, OpenMoments};
 
 /// Operation 1 begins on hart 0, operation 2 on hart 1.
 const TWO_HARTS: Case = Case {
@@ -54,7 +54,7 @@ const WIDEST: &[LineContents] = &[
     },
 ];
 
-static CASES: [Case; 7] = [
+static CASES: [Case; 8] = [
     CASE,
     // moments past the last one
     Case {
@@ -104,6 +104,22 @@ static CASES: [Case; 7] = [
         verdict: Ok(Wanted::TooMany {
             moment: 18,
             lines: WIDEST,
+        }),
+        ..CASE
+    },
+    // which leaves that moment open, the last of the run
+    Case {
+        source: FILLED,
+        schedule: "h0*99",
+        recovery: LINES,
+        goes_on: true,
+        verdict: Ok(Wanted::Open {
+            moments: 18,
+            images: None,
+            open: OpenMoments {
+                count: 1,
+                first: 18,
+            },
         }),
         ..CASE
     },

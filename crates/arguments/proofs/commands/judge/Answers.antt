@@ -11,6 +11,6 @@ pub returns-in_err-judged-clause-err : goal.returns-in_err-judged-clause-err
 returns-in_err-judged-clause-err c =
     let fault : LineFault = c.in_err-judged.field-0.0 in
     let none : OnFault ((command : JudgeCommand) → ¬ (IsJudge (rows_of (found_of c.args.found.now)) command)) fault =
-    says_more fault (λ unjudged command is. unjudged command.run command.workers command.moments command.why command.json command.progress is.judged)
+    says_more fault (λ unjudged command is. unjudged command.judged is.judged)
     c.in_err-judged.ensures.err in
     search (rules, none)

@@ -6,10 +6,10 @@ pub returns-clause-same : goal.returns-clause-same
 returns-clause-same g c = same_stream _ _ _ _ _ _ _ _ _ _ c.check_program.ensures.told
 
 pub returns-clause-told : goal.returns-clause-told
-returns-clause-told g c = told_lines _ _ _ _ _ _ _ _ _ _ (rw (c.work-work.ensures.first, c.work-work.ensures.last) at c.check_program.ensures.told)
+returns-clause-told g c = told_lines _ _ _ _ _ _ _ _ _ _ (rw (c.work-work.ensures.first, c.work-work.ensures.last, c.work-work.ensures.goes_on) at c.check_program.ensures.told)
 
 pub returns-in_err-check_program-clause-same : goal.returns-in_err-check_program-clause-same
 returns-in_err-check_program-clause-same g c = same_stream _ _ _ _ _ _ _ _ _ _ c.check_program.ensures.told
 
 pub returns-in_err-check_program-clause-told : goal.returns-in_err-check_program-clause-told
-returns-in_err-check_program-clause-told g c = told_lines _ _ _ _ _ _ _ _ _ _ (rw (c.work-work.ensures.first, c.work-work.ensures.last) at c.check_program.ensures.told)
+returns-in_err-check_program-clause-told g c = told_lines _ _ _ _ _ _ _ _ _ _ (rw (c.work-work.ensures.first, c.work-work.ensures.last, c.work-work.ensures.goes_on) at c.check_program.ensures.told)

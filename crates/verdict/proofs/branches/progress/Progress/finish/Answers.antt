@@ -22,13 +22,13 @@ returns-then-is_over-clause-opened g c =
     let p = c.args.self.now in
     let over = at_over (r.alike s) (r.asks s) (r.judged s) (r.low s) (r.high s) (r.lines s) p.opened c.args.limit p.findings.found.items p.findings.least c.args.least p.findings.asked
     (g.met.R.Recovery.equivalent s) (g.met.R.Recovery.adaptive s) (c.is_over.ensures.0 c.if-is_over.true) c.requires.at in
-    opened_of (r.asks s) (r.judged s) (r.low s) (r.high s) (r.lines s) (r.further s) (r.alike s) c.args.limit c.finish_over.result over c.finish_over.ensures.tried
+    opened_of (r.asks s) (r.judged s) (r.low s) (r.high s) (r.lines s) (r.further s) c.args.least (r.alike s) c.args.limit c.finish_over.result over c.finish_over.ensures.tried
 
 pub returns-then-is_over-clause-asked : goal.returns-then-is_over-clause-asked
 returns-then-is_over-clause-asked g c =
     let r = g.R.Recovery in
     let s = c.args.recovery.now in
-    few_of_none (r.asks s) (r.judged s) (r.low s) (r.high s) (r.lines s) (r.further s) _ c.finish_over.result c.finish_over.ensures.tried
+    few_of_none (r.asks s) (r.judged s) (r.low s) (r.high s) (r.lines s) (r.further s) c.args.least _ c.finish_over.result c.finish_over.ensures.tried
 
 pub returns-in_ok-to_vec-in-Some-clause-opened : goal.returns-in_ok-to_vec-in-Some-clause-opened
 returns-in_ok-to_vec-in-Some-clause-opened g c =
