@@ -12,5 +12,6 @@ mod loading;
 mod messages;
 mod runs;
 mod starts;
+mod states;
 mod verdicts;
 mod volumes;

@@ -1,0 +1,61 @@
+-- The lines of a region have its bytes.
+use Rattle.std.proofs.Common.{◌≡◌, ℕ, zero, suc, ◌+◌, ◌-◌, ◌*◌, ◌/◌, ◌%◌, ◌<◌, ◌≤◌, List, [], ◌∷◌, ◌++◌, Option, Some, None, length, slice_get, slice_index_or, refl, sym, ap, ◌∙◌, inl, inr, arith}
+use Rattle.std.proofs.lemmas.Bool.{cases_lt}
+use Rattle.std.proofs.lemmas.List.{length-append}
+use Rattle.std.specs.List.{concat}
+use Rattle.line_memory.specs.Lines.{AreLines, IsMedium, line_bytes}
+use Rattle.line_memory.specs.Regions.{padded}
+use Rattle.schedule_states.specs.StartLines.{AreOf}
+
+get_left : (xs ys : List ℕ) (i : ℕ) → i < length xs → slice_get (xs ++ ys) i ≡ slice_get xs i
+get_left [] ys i h = absurd (omega arith)
+get_left (x ∷ xs) ys zero h = refl
+get_left (x ∷ xs) ys (suc i) h = get_left xs ys i (omega arith)
+
+get_right : (xs ys : List ℕ) (i : ℕ) → slice_get (xs ++ ys) (length xs + i) ≡ slice_get ys i
+get_right [] ys i = let e : 0 + i ≡ i = omega arith in rw e refl
+get_right (x ∷ xs) ys i =
+    let e : suc (length xs) + i ≡ suc (length xs + i) = omega arith in
+    rw e (get_right xs ys i)
+
+-- the lines after the first
+rest_whole : (first : List ℕ) (lines : List (List ℕ)) → AreLines (first ∷ lines) → AreLines lines
+rest_whole first lines each = record { whole = λ line h. each.whole (suc line) (omega arith) }
+
+pub length_joined : (lines : List (List ℕ)) → AreLines lines → length (concat lines) ≡ 64 * length lines
+length_joined [] each = refl
+length_joined (first ∷ lines) each =
+    let long : length first ≡ 64 = each.whole zero (omega arith) in
+    let rest = length_joined lines (rest_whole first lines each) in
+    let all = length-append first (concat lines) in
+    omega arith
+
+-- the bytes of lines are those of all lines one after the other
+pub joined_bytes : (lines : List (List ℕ)) → AreLines lines → (offset : ℕ) → line_bytes lines offset ≡ slice_get (concat lines) offset
+unfolding line_bytes
+joined_bytes [] each offset = refl
+joined_bytes (first ∷ lines) each offset =
+    let long : length first ≡ 64 = each.whole zero (omega arith) in
+    elim (cases_lt offset 64) [
+      | inl low ↦
+          let line : offset / 64 ≡ 0 = omega arith in
+          let place : offset % 64 ≡ offset = omega arith in
+          rw (line, place) (sym (get_left first (concat lines) offset (omega arith)))
+      | inr high ↦
+          let line : offset / 64 ≡ suc ((offset - 64) / 64) = omega arith in
+          let place : offset % 64 ≡ (offset - 64) % 64 = omega arith in
+          let at : offset ≡ length first + (offset - 64) = omega arith in
+          let rest = joined_bytes lines (rest_whole first lines each) (offset - 64) in
+          let there = get_right first (concat lines) (offset - 64) in
+          rw (line, place) (rest ∙ sym there ∙ ap (λ (i : ℕ). slice_get (first ++ concat lines) i) (sym at))
+    ]
+
+pub lines_are : (lines : List (List ℕ)) (bytes all : List ℕ) (count : ℕ) → IsMedium lines → concat lines ≡ all → all ≡ padded bytes (64 * count) →
+    length all ≡ 64 * count → AreOf bytes count lines
+lines_are lines bytes all count medium joined is long =
+    let whole = length_joined lines medium.each in
+    let same = ap (λ (b : List ℕ). length b) joined in record {
+      medium = medium;
+      count = omega arith;
+      shown = λ offset. joined_bytes lines medium.each offset ∙ ap (λ (b : List ℕ). slice_get b offset) (joined ∙ is);
+    }

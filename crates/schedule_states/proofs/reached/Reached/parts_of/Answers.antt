@@ -1,0 +1,13 @@
+use Rattle.std.proofs.Common.{◌≡◌, ◌++◌, ◌∷◌, [], length, rules, arith}
+use Rattle.schedule_states.proofs.Numbering.{parts_more, within}
+use Rattle.schedule_states.proofs.reached.Reached.parts_of.Goals as goal
+
+pub loop-hart-preserved : goal.loop-hart-preserved
+loop-hart-preserved c =
+    let pushed : c.push.new.self.items ≡ c.loop-hart.parts.items ++ c.part-part.result ∷ [] = search rules in
+    rw pushed (parts_more c.args.self.now c.args.numbers.now c.loop-hart.hart c.loop-hart.parts.items c.part-part.result c.loop-hart.invariant (search rules))
+
+pub part-part-requires : goal.part-part-requires
+part-part-requires c =
+    let part = c.requires.harts c.loop-hart.hart (search rules) in
+    within c.args.self.now.hart_parts _ part.0 part.1

@@ -1,0 +1,21 @@
+-- The lines of the address space that aren't as they were at the start, each with the number of its state.
+use Rattle.std.specs.Prelude.{ℕ, ◌==◌, ◌<◌, not, nat_lt, Bool, List, [], ◌∷◌, Option, Some, None, if◌then◌else◌}
+use Rattle.std.specs.List.{AllByRecursion}
+use Rattle.schedule_states.specs.declared.held_lines.HeldLine.{HeldLine}
+
+-- the number of the state of line l, if it has one
+abbrev pub number_of : List HeldLine → ℕ → Option ℕ
+number_of [] l = None
+number_of (h ∷ held) l = if h.line == l then Some h.state else number_of held l
+
+-- it is of another line
+abbrev pub is_apart : ℕ → HeldLine → Bool
+is_apart l h = not (h.line == l)
+
+-- it is of a line below the end of the text region
+abbrev pub is_low : HeldLine → Bool
+is_low h = nat_lt h.line 2048
+
+-- each number is below this one
+abbrev pub AreBelow : ℕ → List HeldLine → Type 0
+AreBelow count held = AllByRecursion (λ h. h.state < count) held

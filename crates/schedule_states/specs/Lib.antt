@@ -1,0 +1,14 @@
+pub mod Ahead
+pub mod Contents
+pub mod Covering
+pub mod Exploring
+pub mod HeldLines
+pub mod LineStates
+pub mod Lists
+pub mod Memories
+pub mod Numbers
+pub mod Reaching
+pub mod Requests
+pub mod StartLines
+pub mod States
+pub mod Successors

@@ -1,0 +1,175 @@
+//! A line of persistent memory, without its past.
+
+ghost use Rattle.std.specs.Prelude.{◌≡◌, ◌≢◌, ◌↔◌, ◌⊎◌, ◌+◌, ◌<◌, ◌≤◌, ℕ, List, ◌∷◌, [], filter, length, map, Contains, IfOk, IsTrue};
+ghost use Rattle.schedule_states.specs.LineStates.{IsLineState, gone_with, stays_after, unfenced};
+ghost use Rattle.schedule_states.specs.declared.line_state.Content.{Content as AContent};
+ghost use Rattle.store_trace.specs.declared.crash_model.step.PersistenceStep.TheVariants as step;
+ghost use Rattle.store_trace.specs.declared.crash_model.step.PersistenceStep.{PersistenceStep};
+ghost use Rattle.word_bits.specs.Bytes.{stored};
+
+use line_memory::{LINE_SIZE, store_bytes};
+use std::alloc::{AllocError, Global};
+
+/// How many harts there are at most.
+const HARTS: usize = 8;
+
+/// A content that a power cut may leave of a line.
+#[derive(Clone, Copy, Debug, PartialEq, Eq, PartialOrd, Ord, Hash)]
+pub struct Content {
+    pub bytes: [u8; LINE_SIZE],
+    /// Of each hart, whether it might be left still if that hart made a fence now.
+    pub stays: [bool; HARTS],
+}
+
+/// A line as it is: what loads find, and what else a power cut may leave of it.
+#[derive(Drop, PartialEq, Eq, Hash)]
+pub struct LineState {
+    pub bytes: [u8; LINE_SIZE],
+    /// None has the bytes that loads find, which may be left too, and no two have the same. They go up by their bytes.
+    pub others: Vec<Content>,
+}
+
+impl LineState {
+    /// A line of which the medium holds just what loads find.
+    #[tactic(auto, using(crate::proofs::Stepping::at_start))]
+    pub fn certain(alloc: Global, bytes: [u8; LINE_SIZE]) -> LineState
+        ensures line { (l : ℕ) → IsLineState bytes l [] result }
+        ensures bytes { result.bytes ≡ bytes }
+        ensures others { result.others.items ≡ [] }
+    {
+        LineState {
+            bytes,
+            others: Vec::new(alloc),
+        }
+    }
+
+    /// What loads find.
+    pub fn bytes(&self) -> &[u8; LINE_SIZE]
+        ensures value { result.now ≡ self.now.bytes }
+        ensures whole { length result.now ≡ 64 }
+    {
+        &self.bytes
+    }
+
+    /// Whether a power cut leaves just what loads find.
+    pub fn is_certain(&self) -> bool
+        ensures { IsTrue result ↔ (self.now.others.items ≡ []) }
+    {
+        self.others.is_empty()
+    }
+
+    /// Another one that is the same.
+    pub fn copy(&self, alloc: Global) -> Result<LineState, AllocError>
+        ensures bytes { IfOk result (λ copy. copy.bytes ≡ self.now.bytes) }
+        ensures others { IfOk result (λ copy. copy.others.items ≡ self.now.others.items) }
+    {
+        let others = Vec::from_slice(alloc, &self.others)?;
+        Ok(LineState {
+            bytes: self.bytes,
+            others,
+        })
+    }
+
+    /// After a store to it of the low `width` bytes of a value: what loads found may be left, whichever hart makes a fence.
+    #[tactic(auto, using(crate::proofs::Stepping::after_store))]
+    pub fn stored(
+        &self,
+        alloc: Global,
+        offset: u32,
+        width: u32,
+        value: u64,
+    ) -> Result<LineState, AllocError>
+        requires width { width ≤ 8 }
+        requires within { offset + width ≤ 64 }
+        ensures bytes { IfOk result (λ after. after.bytes ≡ stored self.now.bytes offset width value) }
+        ensures line { IfOk result (λ after. (start : List ℕ) (l : ℕ) (p : List PersistenceStep) → IsLineState start l p self.now →
+            IsLineState start l (step.Store l offset width value ∷ p) after) }
+    {
+        let mut bytes = self.bytes;
+        store_bytes(&mut bytes, offset as usize, width as usize, value);
+        let others = self.others_beside(alloc, &bytes)?;
+        Ok(LineState { bytes, others })
+    }
+
+    /// What a power cut may leave of it, but for these bytes.
+    fn others_beside(
+        &self,
+        alloc: Global,
+        bytes: &[u8; LINE_SIZE],
+    ) -> Result<Vec<Content>, AllocError>
+        ensures { IfOk result (λ others. (content : AContent) → Contains others.items content
+            ↔ ((content.bytes ≢ bytes.now) × (Contains self.now.others.items content ⊎ (content ≡ unfenced self.now.bytes)))) }
+    {
+        let mut others = Vec::from_slice(alloc, &self.others)?;
+        others.push(Content {
+            bytes: self.bytes,
+            stays: [true; HARTS],
+        })?;
+        others.retain(|other| other.bytes != *bytes);
+        others.sort()?;
+        Ok(others)
+    }
+
+    /// After a clean of it by a hart: a fence of that hart would leave what loads find.
+    #[tactic(auto, using(crate::proofs::Stepping::after_clean))]
+    pub fn cleaned(&self, alloc: Global, hart: u32) -> Result<LineState, AllocError>
+        requires { hart < 8 }
+        ensures bytes { IfOk result (λ after. after.bytes ≡ self.now.bytes) }
+        ensures line { IfOk result (λ after. (start : List ℕ) (l : ℕ) (p : List PersistenceStep) → IsLineState start l p self.now →
+            IsLineState start l (step.Clean hart l ∷ p) after) }
+    {
+        let others = after_clean(alloc, &self.others, hart)?;
+        Ok(LineState {
+            bytes: self.bytes,
+            others,
+        })
+    }
+
+    /// After a fence of a hart.
+    #[tactic(auto, using(crate::proofs::Stepping::after_fence))]
+    pub fn fenced(&self, alloc: Global, hart: u32) -> Result<LineState, AllocError>
+        requires { hart < 8 }
+        ensures bytes { IfOk result (λ after. after.bytes ≡ self.now.bytes) }
+        ensures line { IfOk result (λ after. (start : List ℕ) (l : ℕ) (p : List PersistenceStep) → IsLineState start l p self.now →
+            IsLineState start l (step.Fence hart ∷ p) after) }
+    {
+        let others = staying(alloc, &self.others, hart)?;
+        Ok(LineState {
+            bytes: self.bytes,
+            others,
+        })
+    }
+}
+
+/// Those of the contents that stay after a fence of a hart.
+fn staying(alloc: Global, contents: &[Content], hart: u32) -> Result<Vec<Content>, AllocError>
+    requires { hart < 8 }
+    ensures { IfOk result (λ others. others.items ≡ filter (stays_after hart) contents.now) }
+{
+    let mut others = Vec::from_slice(alloc, contents)?;
+    others.retain(|other| other.stays[hart as usize]);
+    Ok(others)
+}
+
+/// The contents after a clean by a hart.
+fn after_clean(alloc: Global, contents: &[Content], hart: u32) -> Result<Vec<Content>, AllocError>
+    requires { hart < 8 }
+    ensures { IfOk result (λ others. others.items ≡ map (gone_with hart) contents.now) }
+{
+    let mut others = Vec::with_capacity(alloc, contents.len())?;
+    for content in contents {
+        others.push(content.after_clean(hart))?;
+    }
+    Ok(others)
+}
+
+impl Content {
+    /// It goes with a fence of the hart, which has cleaned the line.
+    fn after_clean(mut self, hart: u32) -> Content
+        requires { hart < 8 }
+        ensures { result ≡ gone_with hart self }
+    {
+        self.stays[hart as usize] = false;
+        self
+    }
+}

@@ -1,0 +1,56 @@
+//! Lists of held lines, each by its number.
+
+ghost use Rattle.std.specs.Prelude.{◌≡◌, ◌⊎◌, ◌++◌, ◌∷◌, ◌<◌, ℕ, List, Some, [], length, slice_get, IfOk};
+ghost use Rattle.schedule_states.specs.Lists.{IsExtended};
+
+use crate::held_lines::HeldLine;
+use indexmap::IndexSet;
+use std::alloc::{AllocError, Global};
+use std::marker::Model;
+
+/// Lists of held lines, each once, by its number. A number stays that of its list.
+#[derive(Drop)]
+pub struct MemoryLists {
+    lists: IndexSet<Vec<HeldLine>>,
+}
+
+impl Model for MemoryLists {
+    ghost use Rattle.std.specs.Prelude.{List, map};
+    ghost use Rattle.schedule_states.specs.declared.held_lines.HeldLine.{HeldLine as AHeldLine};
+
+    ghost Value = { List (List AHeldLine) };
+
+    ghost view = { λ m. map (λ list. list.items) m.lists.keys };
+}
+
+impl MemoryLists {
+    /// None.
+    pub fn new(alloc: Global) -> MemoryLists
+        ensures { result ≡ [] }
+    {
+        MemoryLists {
+            lists: IndexSet::new(alloc),
+        }
+    }
+
+    /// The list of a number.
+    pub fn list(&self, number: u32) -> &[HeldLine]
+        requires { number < length self.now }
+        ensures { slice_get self.now number ≡ Some result.now }
+    {
+        self.lists.as_slice()[number as usize].as_slice()
+    }
+
+    /// The number of a list, which is a new one where it has none yet. Over 2^32 lists count as out of memory.
+    pub fn number_of(&mut self, list: Vec<HeldLine>) -> Result<u32, AllocError>
+        ensures extended { IsExtended self.old self.new }
+        ensures appended { (self.new ≡ self.old) ⊎ (self.new ≡ self.old ++ list.items ∷ []) }
+        ensures number { IfOk result (λ number. slice_get self.new number ≡ Some list.items) }
+    {
+        let (number, _) = self.lists.insert_full(list)?;
+        if number > u32::MAX as usize {
+            return Err(AllocError);
+        }
+        Ok(number as u32)
+    }
+}

@@ -1,0 +1,367 @@
+//! What the states of a program have in common.
+
+ghost use Rattle.std.specs.Prelude.{◌≡◌, ◌≤◌, ◌<◌, ◌+◌, ◌*◌, Some, [], length, slice_get, slice_index_or, IfOk, IfSome};
+ghost use Rattle.line_memory.specs.declared.TheConstants.{TEXT_BASE, TEXT_SIZE};
+ghost use Rattle.hart.specs.Needs.{IsInstruction};
+ghost use Rattle.hart.specs.Requests.{IsRequest};
+ghost use Rattle.machine.specs.Replies.{replied};
+ghost use Rattle.schedule_states.specs.Ahead.{ComesAlone, IsNext};
+ghost use Rattle.schedule_states.specs.HeldLines.{AreBelow};
+ghost use Rattle.schedule_states.specs.Requests.{is_reserved};
+ghost use Rattle.schedule_states.specs.States.{AreGrown, AreLists, StandsFor};
+ghost use Rattle.schedule_states.specs.Successors.{AreServed, HasLists, IfState, IsAskingOf, IsStartPart, IsSuccessor, IsTextAfter, memory_held};
+ghost use Rattle.machine.specs.Histories.{text_of};
+ghost use Rattle.machine.specs.Run.{fetched, started};
+ghost use Rattle.schedule_states.specs.Memories.{memory_over};
+ghost use Rattle.schedule_states.specs.StartLines.{memory_at};
+
+use crate::ahead::{Next, Text, next_of, run_ahead};
+use crate::held_lines::HeldLine;
+use crate::line_table::LineTable;
+use crate::memory_lists::MemoryLists;
+use crate::program_state::{HartPart, ProgramState};
+use crate::request::reply_to;
+use crate::reserving::reserved_after;
+use crate::start_lines::StartLines;
+use crate::state_memory::StateMemory;
+use crate::successor::{Successor, harts_after, text_lines};
+use hart::{HartState, Reply, Request, Trap, instruction, resume};
+use isa_table::Instr;
+use line_memory::{Medium, TEXT_BASE, TEXT_SIZE};
+use machine::TextCopy;
+use program::Program;
+use std::alloc::{AllocError, Global};
+use std::marker::Model;
+
+/// What the states of a program have in common: the lines, each state of one by its number, and lists of held lines by their numbers. The
+/// list of number 0 holds none.
+#[derive(Drop)]
+pub struct Parts<'a> {
+    lines: LineTable<'a>,
+    lists: MemoryLists,
+    /// The text at the start, decoded.
+    text: TextCopy,
+}
+
+impl<'a> Model for Parts<'a> {
+    ghost use Rattle.std.specs.Prelude.{◌≡◌};
+    ghost use Rattle.machine.specs.Histories.{text_of};
+    ghost use Rattle.machine.specs.Represents.{text_bytes};
+    ghost use Rattle.schedule_states.specs.StartLines.{memory_at};
+    ghost use Rattle.schedule_states.specs.States.{AreLists, PartsView};
+
+    ghost Value = { PartsView };
+
+    ghost view = { λ p. record { table = p.lines; lists = p.lists } };
+
+    ghost invariant = { λ p. AreLists p.lines.states p.lists × (text_bytes p.text ≡ text_of (memory_at p.lines.start)) };
+}
+
+impl<'a> Parts<'a> {
+    /// Of no state yet.
+    pub fn new(
+        alloc: Global,
+        program: &'a Program,
+        medium: &'a Medium,
+    ) -> Result<Parts<'a>, AllocError>
+        ensures program { IfOk result (λ parts. parts.table.start.program ≡ program.now) }
+        ensures medium { IfOk result (λ parts. parts.table.start.medium ≡ medium.now) }
+        ensures empty { IfOk result (λ parts. slice_get parts.lists 0 ≡ Some []) }
+    {
+        let Ok(start) = StartLines::new(alloc, program, medium) else {
+            return Err(AllocError);
+        };
+        let Ok(text) = TextCopy::new(alloc, program.text_bytes()) else {
+            return Err(AllocError);
+        };
+        let mut lists = MemoryLists::new(alloc);
+        lists.number_of(Vec::new(alloc))?;
+        Ok(Parts {
+            lines: LineTable::new(alloc, start),
+            lists,
+            text,
+        })
+    }
+
+    /// The state at the start of a run of one to eight harts; None where one of them makes too many steps up to its first request.
+    pub fn start(&self, alloc: Global, harts: u32) -> Result<Option<ProgramState>, AllocError>
+        requires { harts ≤ 8 }
+        ensures stands { IfOk result (λ found. IfSome found (λ state.
+            StandsFor self.now state (started self.now.table.start.program self.now.table.start.medium harts))) }
+        ensures lists { IfOk result (λ found. IfSome found (HasLists self.now)) }
+        ensures count { IfOk result (λ found. IfSome found (λ state. length state.harts.items ≡ harts)) }
+    {
+        let memory = self.first();
+        let mut parts = Vec::with_capacity(alloc, harts as usize)?;
+        for hart in 0..harts {
+            let Some(part) = self.start_part(hart) else {
+                return Ok(None);
+            };
+            parts.push(part)?;
+        }
+        Ok(Some(ProgramState {
+            harts: parts,
+            memory,
+        }))
+    }
+
+    /// The part of a hart at the start; None where it makes too many steps up to its first request.
+    fn start_part(&self, hart: u32) -> Option<HartPart>
+        requires { hart < 8 }
+        ensures { IfSome result (IsStartPart self.now hart) }
+    {
+        let mut state = HartState::start(hart);
+        if let Next::TooLong = self.run_ahead(self.first(), &mut state) {
+            return None;
+        }
+        Some(HartPart {
+            state,
+            reserved: None,
+            text: 0,
+        })
+    }
+
+    /// The number of the list that holds no line.
+    fn first(&self) -> u32
+        ensures number { result ≡ 0 }
+        ensures list { slice_get self.now.lists 0 ≡ Some [] }
+        ensures there { 0 < length self.now.lists }
+    {
+        // a look at the lists, for the first to be known
+        let _ = &self.lists;
+        0
+    }
+
+    /// The lists hold lines by the numbers of states that are there.
+    pub(crate) fn lists_are_there(&self)
+        ensures { AreLists self.now.table.states self.now.lists }
+    {
+        // a look at the lists, for what holds of them to be known
+        let _ = &self.lists;
+    }
+
+    /// What comes of a state by the next request of a hart.
+    pub fn after_request(
+        &mut self,
+        alloc: Global,
+        state: &ProgramState,
+        hart: u32,
+    ) -> Result<Successor, AllocError>
+        requires there { hart < length state.now.harts.items }
+        requires few { length state.now.harts.items ≤ 8 }
+        requires lists { HasLists self.old state.now }
+        ensures successor { IfOk result (IsSuccessor self.old self.new state.now hart) }
+        ensures lists { IfOk result (λ found. IfState found (HasLists self.new)) }
+        ensures count { IfOk result (λ found. IfState found (λ next. length next.harts.items ≡ length state.now.harts.items)) }
+        ensures grown { AreGrown self.old self.new }
+    {
+        let part = state.harts[hart as usize];
+        let Some(next) = self.next_of(part.text, part.state) else {
+            return Ok(Successor::TooLong);
+        };
+        match next {
+            Next::Asks(instr, request) => {
+                let asking = Asking {
+                    hart,
+                    part,
+                    instr,
+                    request,
+                };
+                self.serve(alloc, state, &asking)
+            }
+            Next::Stopped => Ok(Successor::Stopped),
+            Next::TooLong => Ok(Successor::TooLong),
+        }
+    }
+
+    /// What comes of a state by a request.
+    #[tactic(auto, using(crate::proofs::Growing::grown_then, crate::proofs::Growing::there_still))]
+    fn serve(
+        &mut self,
+        alloc: Global,
+        state: &ProgramState,
+        asking: &Asking,
+    ) -> Result<Successor, AllocError>
+        requires few { length state.now.harts.items ≤ 8 }
+        requires lists { HasLists self.old state.now }
+        requires asking { IsAskingOf self.old state.now asking.now }
+        ensures successor { IfOk result (IsSuccessor self.old self.new state.now asking.now.hart) }
+        ensures lists { IfOk result (λ found. IfState found (HasLists self.new)) }
+        ensures count { IfOk result (λ found. IfState found (λ next. length next.harts.items ≡ length state.now.harts.items)) }
+        ensures grown { AreGrown self.old self.new }
+    {
+        let (part, request) = (asking.part, asking.request);
+        let (reply, lines) = self.memory_after(
+            alloc,
+            state.memory,
+            asking.hart,
+            part.reserved,
+            request,
+        )?;
+        let text = self.text_after(alloc, part.text, request, &lines)?;
+        let memory = self.number_of(lines)?;
+        let mut own = part.state;
+        resume(&mut own, asking.instr, reply);
+        if let Next::TooLong = self.run_ahead(text, &mut own) {
+            return Ok(Successor::TooLong);
+        }
+        let own = HartPart {
+            state: own,
+            reserved: reserved_after(part.reserved, true, request, reply),
+            text,
+        };
+        let harts = harts_after(alloc, &state.harts, asking.hart, &own, request, reply)?;
+        Ok(Successor::State(ProgramState { harts, memory }))
+    }
+
+    /// The number of a list of lines.
+    fn number_of(&mut self, lines: Vec<HeldLine>) -> Result<u32, AllocError>
+        requires below { AreBelow (length self.old.table.states) lines.items }
+        ensures number { IfOk result (λ number. slice_get self.new.lists number ≡ Some lines.items) }
+        ensures there { IfOk result (λ number. number < length self.new.lists) }
+        ensures lists { AreLists self.new.table.states self.new.lists }
+        ensures grown { AreGrown self.old self.new }
+        ensures table { self.new.table ≡ self.old.table }
+    {
+        self.lists.number_of(lines)
+    }
+
+    /// What is next of a hart, which fetches from the text of the list of a number; None where it is a step of its registers alone.
+    fn next_of(&self, text: u32, hart: HartState) -> Option<Next>
+        requires { text < length self.now.lists }
+        ensures { IfSome result (IsNext (text_of (memory_held self.now (slice_index_or self.now.lists text []))) hart) }
+    {
+        let text = HartText {
+            parts: self,
+            number: text,
+        };
+        next_of(&text, hart)
+    }
+
+    /// Runs a hart ahead, which fetches from the text of the list of a number.
+    fn run_ahead(&self, text: u32, hart: &mut HartState) -> Next
+        requires { text < length self.now.lists }
+        ensures alone { ComesAlone (text_of (memory_held self.now (slice_index_or self.now.lists text []))) hart.old hart.new }
+        ensures next { IsNext (text_of (memory_held self.now (slice_index_or self.now.lists text []))) hart.new result }
+    {
+        let text = HartText {
+            parts: self,
+            number: text,
+        };
+        run_ahead(&text, hart)
+    }
+
+    /// The reply to a request over the memory of a list, and the lines that are held after it.
+    fn memory_after(
+        &mut self,
+        alloc: Global,
+        memory: u32,
+        hart: u32,
+        reserved: Option<u64>,
+        request: Request,
+    ) -> Result<(Reply, Vec<HeldLine>), AllocError>
+        requires there { memory < length self.old.lists }
+        requires hart { hart < 8 }
+        requires request { IsRequest request }
+        ensures reply { IfOk result (λ found. found.0 ≡ replied (memory_held self.old (slice_index_or self.old.lists memory [])) (is_reserved reserved) request) }
+        ensures lines { IfOk result (λ found. AreServed self.old self.new hart request found.0 (slice_index_or self.old.lists memory []) found.1.items) }
+        ensures grown { AreGrown self.old self.new }
+    {
+        let held = self.lists.list(memory);
+        let reply = reply_to(&self.lines.memory(held), reserved, request);
+        let lines = self.lines.serve(alloc, held, hart, request, reply)?;
+        Ok((reply, lines))
+    }
+
+    /// The number of the list with the text that a hart fetches after a request, where these lines are held.
+    fn text_after(
+        &mut self,
+        alloc: Global,
+        text: u32,
+        request: Request,
+        lines: &[HeldLine],
+    ) -> Result<u32, AllocError>
+        requires there { text < length self.old.lists }
+        requires below { AreBelow (length self.old.table.states) lines.now }
+        ensures text { IfOk result (IsTextAfter self.new request lines.now text) }
+        ensures there { IfOk result (λ number. number < length self.new.lists) }
+        ensures grown { AreGrown self.old self.new }
+        ensures table { self.new.table ≡ self.old.table }
+    {
+        match request {
+            Request::FenceI => {
+                let low = text_lines(alloc, lines)?;
+                self.lists.number_of(low)
+            }
+            _ => Ok(text),
+        }
+    }
+
+    /// The memory of the list of a number.
+    fn memory(&self, number: u32) -> StateMemory<'_, 'a>
+        requires { number < length self.now.lists }
+        ensures { result ≡ record { start = self.now.table.start; states = self.now.table.states; held = slice_index_or self.now.lists number [] } }
+    {
+        self.lines.memory(self.lists.list(number))
+    }
+
+    /// The instruction that the word at `pc` spells at the start, or the trap where there is none.
+    fn starting_instruction(&self, pc: u64) -> Result<Instr, Trap>
+        ensures instruction { IsInstruction (fetched (text_of (memory_at self.now.table.start)) pc) result }
+        ensures first { slice_get self.now.lists 0 ≡ Some [] }
+    {
+        self.text.instruction(pc)
+    }
+
+    /// The word at `pc` of the text of the list of a number; None where it doesn't lie in the text region.
+    #[tactic(auto, using(crate::proofs::Fetching::fetched_is))]
+    fn word(&self, number: u32, pc: u64) -> Option<u32>
+        requires { number < length self.now.lists }
+        ensures { result ≡ fetched (text_of (memory_over self.now.table.states (slice_index_or self.now.lists number []) (memory_at self.now.table.start))) pc }
+    {
+        if pc < TEXT_BASE || pc > TEXT_BASE + TEXT_SIZE - 4 {
+            return None;
+        }
+        let memory = self.memory(number);
+        let first = u32::from(memory.byte(pc)?);
+        let second = u32::from(memory.byte(pc + 1)?);
+        let third = u32::from(memory.byte(pc + 2)?);
+        let fourth = u32::from(memory.byte(pc + 3)?);
+        Some(first + 256 * (second + 256 * (third + 256 * fourth)))
+    }
+}
+
+/// A hart of a state at its next request.
+#[derive(Clone, Copy, Debug, PartialEq, Eq)]
+pub struct Asking {
+    pub hart: u32,
+    /// Its part of the state.
+    pub part: HartPart,
+    pub instr: Instr,
+    pub request: Request,
+}
+
+/// The text of the list of a number, from which a hart fetches.
+#[derive(Drop)]
+pub struct HartText<'b, 'a> {
+    parts: &'b Parts<'a>,
+    number: u32,
+    ghost there: { number < length parts.now.lists },
+}
+
+impl Text for HartText<'_, '_> {
+    ghost use Rattle.machine.specs.Histories.{text_of};
+    ghost use Rattle.schedule_states.specs.Memories.{memory_over};
+    ghost use Rattle.schedule_states.specs.StartLines.{memory_at};
+    ghost use Rattle.std.specs.Prelude.{slice_index_or, []};
+
+    ghost bytes = { λ t. text_of (memory_over t.parts.now.table.states (slice_index_or t.parts.now.lists t.number []) (memory_at t.parts.now.table.start)) };
+
+    fn instruction(&self, pc: u64) -> Result<Instr, Trap> {
+        if self.number == 0 {
+            self.parts.starting_instruction(pc)
+        } else {
+            instruction(self.parts.word(self.number, pc))
+        }
+    }
+}

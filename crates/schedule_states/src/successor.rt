@@ -1,0 +1,95 @@
+//! What comes of a state by a request of one of its harts.
+
+ghost use Rattle.std.specs.Prelude.{◌≡◌, ◌==◌, ◌<◌, ◌≤◌, ℕ, All, true, false, Some, filter, length, slice_get, IfOk};
+ghost use Rattle.hart.specs.Requests.{IsRequest};
+ghost use Rattle.schedule_states.specs.HeldLines.{AreBelow, is_low, number_of};
+ghost use Rattle.schedule_states.specs.States.{AreGrown};
+ghost use Rattle.schedule_states.specs.Successors.{AreHartsAfter, HasLists, IfState, IsOtherAfter, IsPartAfter, IsSuccessor};
+
+use crate::held_lines::HeldLine;
+use crate::program_state::{HartPart, ProgramState};
+use crate::reserving::reserved_after;
+use hart::{Reply, Request};
+use std::alloc::{AllocError, Global};
+
+/// What comes of a state by a request of one of its harts.
+#[derive(Drop)]
+pub enum Successor {
+    /// This state.
+    State(ProgramState),
+    /// Nothing: the hart has stopped.
+    Stopped,
+    /// Unknown: the hart makes too many steps up to a further request.
+    TooLong,
+}
+
+/// The parts of the harts after a request of one, whose own part is given.
+#[tactic(auto, using(crate::proofs::Succeeding::parts_more))]
+pub(crate) fn harts_after(
+    alloc: Global,
+    harts: &[HartPart],
+    hart: u32,
+    own: &HartPart,
+    request: Request,
+    reply: Reply,
+) -> Result<Vec<HartPart>, AllocError>
+    requires request { IsRequest request }
+    requires few { length harts.now ≤ 8 }
+    ensures { IfOk result (λ after. AreHartsAfter hart own.now request reply harts.now after.items) }
+{
+    let mut after = Vec::with_capacity(alloc, harts.len())?;
+    for at in 0..harts.len() {
+        after.push(part_after(harts, at, hart, own, request, reply))?;
+    }
+    Ok(after)
+}
+
+/// The part of hart `at` after it.
+#[tactic(auto, using(crate::proofs::Succeeding::part_there))]
+fn part_after(
+    harts: &[HartPart],
+    at: usize,
+    hart: u32,
+    own: &HartPart,
+    request: Request,
+    reply: Reply,
+) -> HartPart
+    requires request { IsRequest request }
+    requires there { at < length harts.now }
+    ensures { IsPartAfter hart own.now request reply harts.now at result }
+{
+    if at == hart as usize {
+        *own
+    } else {
+        other_after(harts[at], request, reply)
+    }
+}
+
+/// Another hart's part after a request.
+fn other_after(part: HartPart, request: Request, reply: Reply) -> HartPart
+    requires { IsRequest request }
+    ensures { IsOtherAfter request reply part result }
+{
+    HartPart {
+        state: part.state,
+        reserved: reserved_after(part.reserved, false, request, reply),
+        text: part.text,
+    }
+}
+
+/// Those of the lines that lie in the text region, or below it.
+#[tactic(auto, using(crate::proofs::Held::below_filtered, crate::proofs::Held::number_low))]
+pub(crate) fn text_lines(alloc: Global, lines: &[HeldLine]) -> Result<Vec<HeldLine>, AllocError>
+    ensures found { IfOk result (λ low. (l : ℕ) → l < 2048 → number_of low.items l ≡ number_of lines.now l) }
+    ensures below { IfOk result (λ low. (count : ℕ) → AreBelow count lines.now → AreBelow count low.items) }
+{
+    let mut low = Vec::from_slice(alloc, lines)?;
+    retain_low(&mut low);
+    Ok(low)
+}
+
+fn retain_low(lines: &mut Vec<HeldLine>)
+    ensures { lines.new.items ≡ filter is_low lines.old.items }
+{
+    lines.retain(|one| one.line < 2_048);
+}
