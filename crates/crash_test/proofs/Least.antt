@@ -1,16 +1,19 @@
 -- In the least failing cut a line that recovery doesn't read stands at its floor: else the cut in which it does fails too.
-use Rattle.std.proofs.Common.{◌≡◌, ℕ, ◌<◌, ◌≤◌, true, false, ◌==◌, List, [], ◌∷◌, get_or, refl, sym, ap, ◌∙◌, arith, inl, inr}
+use Rattle.std.proofs.Common.{◌≡◌, ℕ, ◌<◌, ◌≤◌, true, false, ◌==◌, List, [], ◌∷◌, get_or, length, refl, sym, ap, ◌∙◌, arith, inl, inr}
 use Rattle.std.specs.Prelude.{if◌then◌else◌, map, Some}
 use Rattle.std.proofs.lemmas.Bool.{cases_Bool}
 use Rattle.std.proofs.lemmas.Bool.Decides.{nat_tests}
 use Rattle.verdict.specs.Branches.{Agree, same_number}
+use Rattle.verdict.specs.ByLine.{line_decides}
 use Rattle.store_trace.proofs.Bounds.{floor_le_stores}
+use Rattle.store_trace.proofs.Images.{length_image}
 use Rattle.std.proofs.lemmas.List.Elements.{All-map}
 use Rattle.store_trace.specs.Cut.{IsBefore, IsCut, number_in}
 use Rattle.store_trace.specs.Floor.{floor}
+use Rattle.store_trace.specs.Image.{image}
 use Rattle.store_trace.specs.Stores.{stores}
 use Rattle.store_trace.specs.declared.crash_model.step.PersistenceStep.{PersistenceStep}
-use Rattle.image_check.specs.Alike.{branchwise}
+use Rattle.image_check.specs.Alike.{AreByLine, found_alike}
 use Rattle.image_check.specs.Images.{IsGood, IsSpoilt, Passes, image_after}
 use Rattle.image_check.specs.Verdicts.{IsLeastBad, whole_line}
 use Rattle.image_check.specs.declared.cause.Cause.{Cause}
@@ -75,6 +78,9 @@ agree p line cut (l ∷ ls) none = elim (cases_Bool (l == line)) [
   )
 ]
 
+images_by_line : (start : List (List ℕ)) (p : List PersistenceStep) → AreByLine (length start) (λ (k : ℕ → ℕ). image start k p)
+images_by_line start p = record { count = λ k. length_image start k p; decides = λ c k l same. line_decides start c k p l same }
+
 -- no image is both good and bad
 one_judgement : (plan : List Operation) (start : List (List ℕ)) (events : List Event) (medium : List (List ℕ)) (cause : Cause)
     → IsGood plan start events medium → IsSpoilt plan start events medium cause → ⊥
@@ -96,5 +102,6 @@ kept_is_read plan start events cut cause line bad above =
       | inr unasked ↦
           let good : Passes plan start events other = bad.least other (lowered_cut p line cut bad.there) (before p line cut above) in
           absurd (one_judgement plan start events (image_after start events other) cause good
-          (branchwise plan start events p (number_in cut) (number_in other) (map whole_line ls) (Some cause) refl (agree p line cut ls unasked) bad.bad))
+          (found_alike plan start events (length start) (λ (k : ℕ → ℕ). image start k p) (images_by_line start p) (number_in cut) (number_in other) (map whole_line ls)
+          (Some cause) refl (agree p line cut ls unasked) bad.bad))
     ]

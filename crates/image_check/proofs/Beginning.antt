@@ -34,12 +34,19 @@ pub sound_first : (plan : List Operation) (events : List Event) (i : ℕ) → i 
     AreSound plan (take i events) (length (take i events))
 sound_first plan events i h s = sound_front plan events i h (λ j event fault l. s j event fault (omega arith))
 
-twice_from : (before : List Event) (event : Event) (op : ℕ) → begun_by event ≡ Some op → Contains (begun before) op → IsBegunTwice before event
+pub twice_from : (before : List Event) (event : Event) (op : ℕ) → begun_by event ≡ Some op → Contains (begun before) op → IsBegunTwice before event
 twice_from before (Store hart line offset width value) op e c = absurd cc
 twice_from before (Clean hart line) op e c = absurd cc
 twice_from before (Fence hart) op e c = absurd cc
 twice_from before (Begin hart begins) op e c = let same : op ≡ begins = cc in subst (λ (o : ℕ). Contains (begun before) o) same c
 twice_from before (End hart ends) op e c = absurd cc
+
+pub ends_twice : (before : List Event) (event : Event) (op : ℕ) → ended_by event ≡ Some op → Contains (ended before) op → IsNotPending before event
+ends_twice before (Store hart line offset width value) op e c = absurd cc
+ends_twice before (Clean hart line) op e c = absurd cc
+ends_twice before (Fence hart) op e c = absurd cc
+ends_twice before (Begin hart begins) op e c = absurd cc
+ends_twice before (End hart ends) op e c = λ both. let same : op ≡ ends = cc in both.1 (subst (λ (o : ℕ). Contains (ended before) o) same c)
 
 unbegun_ends : (before : List Event) (event : Event) (op : ℕ) → ended_by event ≡ Some op → ¬ Contains (begun before) op → IsNotPending before event
 unbegun_ends before (Store hart line offset width value) op e n = absurd cc

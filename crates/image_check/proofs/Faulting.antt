@@ -95,6 +95,10 @@ begin_faultless plan before hart op p n s = faultless plan before (Begin hart op
 pub end_unknown : (plan : List Operation) (before : List Event) (hart op : ℕ) → ¬ IsPlanned plan op → IsLowestFault plan before (End hart op) Unknown
 end_unknown plan before hart op h = unknown_lowest plan before (End hart op) h
 
+pub end_not_pending : (plan : List Operation) (before : List Event) (hart op : ℕ) → IsPlanned plan op →
+    ¬ (Contains before (Begin hart op) × ¬ Contains (ended before) op) → IsLowestFault plan before (End hart op) NotPending
+end_not_pending plan before hart op p n = not_pending_lowest plan before (End hart op) (λ u. u p) (λ f. f) n
+
 pub end_unbegun : (plan : List Operation) (before : List Event) (hart op : ℕ) → IsPlanned plan op → ¬ Contains before (Begin hart op) →
     IsLowestFault plan before (End hart op) NotPending
 end_unbegun plan before hart op p n = not_pending_lowest plan before (End hart op) (λ u. u p) (λ f. f) (λ h. n h.0)

@@ -1,23 +1,29 @@
 -- A volume is legal exactly where it is what the operations that it shows make of the settled one: a pending operation
 -- has inodes of its own, so their logs tell whether it is in.
-use Rattle.std.proofs.Common.{◌≡◌, ℕ, ◌<◌, Bool, true, false, cond, ◌&&◌, inl, inr, List, [], ◌∷◌, ◌++◌, map, length, refl, sym, ap, ◌∙◌, subst, arith, Option, Some, None, ◌↔◌, lt-ltb, ltb-true, eq-eqb, true≢false}
+use Rattle.std.proofs.Common.{◌≡◌, ℕ, ◌<◌, Bool, true, false, cond, ◌&&◌, inl, inr, List, [], ◌∷◌, ◌++◌, map, length, refl, sym, ap, ◌∙◌, subst, arith, Option, Some, None, ◌↔◌, lt-ltb, ltb-true, eq-eqb, true≢false, IsPermutation}
 use Rattle.std.specs.Prelude.{◌==◌, nat_lt, filter, option_and_then, IsTrue, Result, Ok, Err}
-use Rattle.std.specs.List.{Contains, flat_map}
+use Rattle.std.specs.List.{AllByRecursion, Contains, flat_map}
 use Rattle.std.specs.Result.{result_ok}
 use Rattle.std.proofs.lemmas.Bool.{cases_Bool}
 use Rattle.std.proofs.lemmas.Grind.{flat_map-append}
+use Rattle.std.proofs.lemmas.List.Elements.{All-contains_itself, recursion_from_All}
+use Rattle.std.proofs.lemmas.List.Sorted.{All-permutation, IsPermutation-map, IsPermutation-sym}
 use Rattle.nova_log.specs.declared.fault.VolumeFault.{VolumeFault}
 use Rattle.plan.specs.declared.operation.Operation.{Operation}
 use Rattle.plan.specs.declared.operation.PlannedEntry.{PlannedEntry}
 use Rattle.store_trace.specs.declared.event.Event.{Event}
 use Rattle.nova_log.specs.Logs.{log_of}
 use Rattle.nova_log.specs.declared.volume.entry.Entry.{Entry}
-use Rattle.image_check.specs.Growth.{AreApart, AreOutcomes, are_within, is_longer, is_shown}
+use Rattle.image_check.specs.Growth.{AreApart, AreOutcomes, are_within, is_longer, is_shown, pending_harts}
 use Rattle.image_check.specs.Legal.{IsLegal, with_entries}
 use Rattle.store_trace.specs.Marks.{ended, pending}
 use Rattle.image_check.specs.Planned.{planned}
+use Rattle.image_check.specs.declared.legal.UnderWay.{UnderWay}
+use Rattle.image_check.proofs.Commuting.{permuted_grown}
+use Rattle.image_check.proofs.Counting.{permuted}
+use Rattle.image_check.proofs.Pending.{all_pending}
 use Rattle.image_check.proofs.Growing.{Grown, count_none, count_of, count_on, grown, not_on, with_append, within_of}
-use Rattle.store_trace.proofs.Members.{contains_first, contains_later, from_filter, in_filter}
+use Rattle.store_trace.proofs.Members.{contains_first, contains_later, from_filter, in_filter, no_members}
 
 -- what one operation adds to those that follow
 pub flat_cond : {X : Type 0} (b : Bool) (f : X → List PlannedEntry) (x : X) (xs : List X) →
@@ -110,29 +116,60 @@ no_start v e = absurd cc
 some_same : (v w : List (List Entry)) → Some v ≡ Some w → v ≡ w
 some_same v w e = cc
 
+-- the operations that are shown, in another order
+flat_filtered : (f : ℕ → List PlannedEntry) (s : ℕ → Bool) (ops : List ℕ) → flat_map f (filter s ops) ≡ flat_map (λ op. cond (s op) (f op) []) ops
+flat_filtered f s [] = refl
+flat_filtered f s (op ∷ ops) =
+    flat_cond (s op) f op (filter s ops) ∙ ap (λ (es : List PlannedEntry). cond (s op) (f op) [] ++ es) (flat_filtered f s ops)
+
+of_shown : (b : Bool) (es : List PlannedEntry) (i : ℕ) → Contains (map (λ e. e.inode) (cond b es [])) i → Contains (map (λ e. e.inode) es) i
+of_shown true es i c = c
+of_shown false es i c = absurd (no_members i c)
+
+shown_permuted : (plan : List Operation) (events : List Event) (s : ℕ → Bool) (ops : List ℕ) → AreApart plan events → IsPermutation ops (pending events) →
+    (v : List (List Entry)) → with_entries v (flat_map (planned plan) (filter s ops)) ≡ with_entries v (flat_map (planned plan) (filter s (pending events)))
+shown_permuted plan events s ops apart p v =
+    let all : AllByRecursion (λ op. Contains (pending events) op) ops =
+    recursion_from_All (λ op. Contains (pending events) op) ops
+    (All-permutation (λ op. Contains (pending events) op) (pending events) ops (IsPermutation-sym ops (pending events) p) (All-contains_itself (pending events))) in
+    let same =
+    permuted_grown (λ op. Contains (pending events) op) (λ op. cond (s op) (planned plan op) [])
+    (λ a b m n d i of_a of_b. apart a b m n d
+    (record { inode = i; of_one = of_shown (s a) (planned plan a) i of_a; of_other = of_shown (s b) (planned plan b) i of_b })) ops (pending events) p all in
+    ap (λ (es : List PlannedEntry). with_entries v es) (flat_filtered (planned plan) s ops)
+    ∙ same.1 v
+    ∙ ap (λ (es : List PlannedEntry). with_entries v es) (sym (flat_filtered (planned plan) s (pending events)))
+
+pub pending_permuted : (plan : List Operation) (start : Option (List (List Entry))) (events : List Event) (settled : Option (List (List Entry))) (under : List UnderWay) →
+    AreOutcomes plan start events settled under → IsPermutation (map (λ u. u.op) under) (pending events)
+pending_permuted plan start events settled under s =
+    subst (λ (ops : List ℕ). IsPermutation (map (λ u. u.op) under) ops) (all_pending events)
+    (IsPermutation-map (λ (u : UnderWay). u.op) under (pending_harts events) (permuted under (pending_harts events) s.under_way_is))
+
 abbrev shown_entries : List Operation → List (List Entry) → List (List Entry) → List ℕ → List PlannedEntry
 shown_entries plan v w ops = flat_map (planned plan) (filter (λ op. is_shown v w (planned plan op)) ops)
 
 -- what the shown operations make of the settled volume is legal
-shown_legal : (plan : List Operation) (start : Result (List (List Entry)) VolumeFault) (events : List Event) (settled w : List (List Entry)) (ops : List ℕ) →
-    AreOutcomes plan (result_ok start) events (Some settled) ops →
-    with_entries settled (shown_entries plan settled w ops) ≡ Some w → IsLegal plan start events w
-shown_legal plan (Err fault) events settled w ops s h = absurd (no_start settled s.settled_is)
-shown_legal plan (Ok before) events settled w ops s h = record {
+shown_legal : (plan : List Operation) (start : Result (List (List Entry)) VolumeFault) (events : List Event) (settled w : List (List Entry)) (under : List UnderWay) →
+    AreOutcomes plan (result_ok start) events (Some settled) under → AreApart plan events →
+    with_entries settled (shown_entries plan settled w (map (λ u. u.op) under)) ≡ Some w → IsLegal plan start events w
+shown_legal plan (Err fault) events settled w under s apart h = absurd (no_start settled s.settled_is)
+shown_legal plan (Ok before) events settled w under s apart h = record {
   before = before;
   started = refl;
   chosen = λ op. is_shown settled w (planned plan op);
   grown =
       joined (planned plan) before (Some settled) (ended events) (filter (λ op. is_shown settled w (planned plan op)) (pending events)) (sym s.settled_is)
-      ∙ ap (λ (ps : List ℕ). with_entries settled (shown_entries plan settled w ps)) (sym s.under_way_is)
+      ∙ sym (shown_permuted plan events (λ op. is_shown settled w (planned plan op)) (map (λ u. u.op) under) apart
+      (pending_permuted plan (result_ok {E = VolumeFault} (Ok before)) events (Some settled) under s) settled)
       ∙ h;
 }
 
 -- a legal volume is what the operations that it shows make of the settled one
-legal_shown : (plan : List Operation) (start : Result (List (List Entry)) VolumeFault) (events : List Event) (settled w : List (List Entry)) (ops : List ℕ) →
-    AreOutcomes plan (result_ok start) events (Some settled) ops → AreApart plan events → IsLegal plan start events w →
-    with_entries settled (shown_entries plan settled w ops) ≡ Some w
-legal_shown plan start events settled w ops s apart l =
+legal_shown : (plan : List Operation) (start : Result (List (List Entry)) VolumeFault) (events : List Event) (settled w : List (List Entry)) (under : List UnderWay) →
+    AreOutcomes plan (result_ok start) events (Some settled) under → AreApart plan events → IsLegal plan start events w →
+    with_entries settled (shown_entries plan settled w (map (λ u. u.op) under)) ≡ Some w
+legal_shown plan start events settled w under s apart l =
     let at : Some settled ≡ option_and_then (λ before. with_entries before (flat_map (planned plan) (ended events))) (result_ok {E = VolumeFault} (Ok l.before)) =
     subst (λ (r : Result (List (List Entry)) VolumeFault). Some settled ≡ option_and_then (λ before. with_entries before (flat_map (planned plan) (ended events))) (result_ok r)) l.started s.settled_is in
     let more : with_entries settled (flat_map (planned plan) (filter l.chosen (pending events))) ≡ Some w =
@@ -140,24 +177,24 @@ legal_shown plan start events settled w ops s apart l =
     let same : flat_map (planned plan) (filter l.chosen (pending events)) ≡ flat_map (planned plan) (filter (λ op. is_shown settled w (planned plan op)) (pending events)) =
     shown_same (planned plan) (pending events) l.chosen settled w
     (λ a b m n d i of_a of_b. apart a b m n d (record { inode = i; of_one = of_a; of_other = of_b })) more in
-    ap (λ (ps : List ℕ). with_entries settled (shown_entries plan settled w ps)) s.under_way_is
+    shown_permuted plan events (λ op. is_shown settled w (planned plan op)) (map (λ u. u.op) under) apart (pending_permuted plan (result_ok start) events (Some settled) under s) settled
     ∙ ap (λ (es : List PlannedEntry). with_entries settled es) (sym same)
     ∙ more
 
 -- the code's comparison decides it
-pub compared_legal : (plan : List Operation) (start : Result (List (List Entry)) VolumeFault) (events : List Event) (settled w expected : List (List Entry)) (ops : List ℕ) (b : Bool) →
-    AreOutcomes plan (result_ok start) events (Some settled) ops → AreApart plan events →
-    with_entries settled (flat_map (planned plan) (filter (λ op. is_shown settled w (planned plan op)) ops)) ≡ Some expected →
+pub compared_legal : (plan : List Operation) (start : Result (List (List Entry)) VolumeFault) (events : List Event) (settled w expected : List (List Entry)) (under : List UnderWay) (b : Bool) →
+    AreOutcomes plan (result_ok start) events (Some settled) under → AreApart plan events →
+    with_entries settled (flat_map (planned plan) (filter (λ op. is_shown settled w (planned plan op)) (map (λ u. u.op) under))) ≡ Some expected →
     (IsTrue b ↔ (expected ≡ w)) → IsTrue b ↔ IsLegal plan start events w
-compared_legal plan start events settled w expected ops b s apart x d = (
-  λ t. shown_legal plan start events settled w ops s (x ∙ ap (λ (v : List (List Entry)). Some v) (d.0 t)),
-  λ l. d.1 (some_same expected w (sym x ∙ legal_shown plan start events settled w ops s apart l)),
+compared_legal plan start events settled w expected under b s apart x d = (
+  λ t. shown_legal plan start events settled w under s apart (x ∙ ap (λ (v : List (List Entry)). Some v) (d.0 t)),
+  λ l. d.1 (some_same expected w (sym x ∙ legal_shown plan start events settled w under s apart l)),
 )
 
 -- where there is no settled volume, nothing is legal
-pub none_legal : (plan : List Operation) (start : Result (List (List Entry)) VolumeFault) (events : List Event) (w : List (List Entry)) (ops : List ℕ) →
-    AreOutcomes plan (result_ok start) events None ops → ¬ IsLegal plan start events w
-none_legal plan start events w ops s l =
+pub none_legal : (plan : List Operation) (start : Result (List (List Entry)) VolumeFault) (events : List Event) (w : List (List Entry)) (under : List UnderWay) →
+    AreOutcomes plan (result_ok start) events None under → ¬ IsLegal plan start events w
+none_legal plan start events w under s l =
     let at : None ≡ option_and_then (λ before. with_entries before (flat_map (planned plan) (ended events))) (result_ok {E = VolumeFault} (Ok l.before)) =
     subst (λ (r : Result (List (List Entry)) VolumeFault). None ≡ option_and_then (λ before. with_entries before (flat_map (planned plan) (ended events))) (result_ok r)) l.started s.settled_is in
     no_start w (sym l.grown ∙ joined (planned plan) l.before None (ended events) (filter l.chosen (pending events)) (sym at))

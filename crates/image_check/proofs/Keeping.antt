@@ -12,10 +12,11 @@ use Rattle.store_trace.specs.History.{history}
 use Rattle.store_trace.specs.declared.event.Event.{Event}
 use Rattle.store_trace.specs.declared.event.Event.TheVariants.{Store, Clean, Fence, Begin, End}
 use Rattle.nova_log.specs.declared.volume.entry.Entry.{Entry}
+use Rattle.image_check.specs.Images.{IsFound}
 use Rattle.image_check.specs.Keeping.{KeepsPass}
 use Rattle.image_check.specs.Legal.{IsLegal}
 use Rattle.image_check.specs.Verdicts.{asks_at, found_at, whole_line}
-use Rattle.image_check.proofs.Opening.{found_alike}
+use Rattle.image_check.proofs.Opening.{of_same_numbers}
 
 -- images that agree on what recovery asks of one of them have the same questions and the same volume
 agrees_in : (lines others : List (List ℕ)) (ls : List ℕ) → AgreeIn lines others (map whole_line ls) → Agrees lines others ls
@@ -45,7 +46,7 @@ by_lines plan start before after legal = record {
   good = λ c k questions asks agree good.
       let same = (same_asked start before after c k questions asks agree).1 in
       record { volume = good.volume; recovers = same ∙ good.recovers; legal = legal good.volume good.legal };
-  alike = λ k c found same f. found_alike plan start before (history before) k c found same f;
+  alike = λ k c found same f. of_same_numbers (λ medium. IsFound plan start before medium found) start (history before) k c same f;
 }
 
 pub unseen : (flags : List Bool) (event : Event) → KeepsPass flags event → IsUnseen flags event

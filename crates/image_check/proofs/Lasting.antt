@@ -13,7 +13,6 @@ use Rattle.store_trace.specs.History.{at_moment, history}
 use Rattle.store_trace.specs.declared.event.Event.{Event}
 use Rattle.store_trace.specs.declared.event.Event.TheVariants.{Store, Clean, Fence, Begin, End}
 use Rattle.nova_log.specs.declared.volume.entry.Entry.{Entry}
-use Rattle.image_check.specs.Growth.{AreOutcomes}
 use Rattle.image_check.specs.Keeping.{KeepsPass}
 use Rattle.image_check.specs.Legal.{IsLegal, with_entries}
 use Rattle.store_trace.specs.Marks.{begun, begun_by, ended, ended_by, is_open, pending}
@@ -27,7 +26,7 @@ use Rattle.verdict.specs.declared.moment_verdict.verdict.MomentVerdict.TheVarian
 use Rattle.image_check.proofs.Beginning.{sound_first, unended}
 use Rattle.image_check.proofs.Keeping.{by_lines, unseen}
 use Rattle.store_trace.proofs.Members.{contains_first, contains_later, from_filter}
-use Rattle.image_check.proofs.Noting.{begin_noted, other_noted}
+use Rattle.image_check.proofs.Pending.{pending_kept, pending_more}
 use Rattle.store_trace.proofs.Marking.{ended_kept}
 
 -- where no operation begins or ends, the same is legal
@@ -46,9 +45,7 @@ legal_same plan r before after v e p l = record {
 legal_other : (plan : List Operation) (r : Result (List (List Entry)) VolumeFault) (before : List Event) (event : Event) (v : List (List Entry)) →
     begun_by event ≡ None → ended_by event ≡ None → IsLegal plan r before v → IsLegal plan r (before ++ event ∷ []) v
 legal_other plan r before event v b e l =
-    let noted : AreOutcomes plan None (before ++ event ∷ []) None (pending before) =
-    other_noted plan None None before event (pending before) b e (record { settled_is = refl; under_way_is = refl }) in
-    legal_same plan r before (before ++ event ∷ []) v (ended_kept before event e) (sym noted.under_way_is) l
+    legal_same plan r before (before ++ event ∷ []) v (ended_kept before event e) (pending_kept before event b e) l
 
 -- where one begins, each legal volume is legal without it
 and_true : (b : Bool) → (b && true) ≡ b
@@ -78,12 +75,10 @@ legal_begun : (plan : List Operation) (r : Result (List (List Entry)) VolumeFaul
     ¬ Contains (begun before) op → ¬ Contains (ended before) op → IsLegal plan r before v → IsLegal plan r (before ++ Begin hart op ∷ []) v
 legal_begun plan r before hart op v n m l =
     let after = before ++ Begin hart op ∷ [] in
-    let noted : AreOutcomes plan None after None (pending before ++ op ∷ []) =
-    begin_noted plan None None None before hart op (pending before) (pending before ++ op ∷ []) m refl refl (record { settled_is = refl; under_way_is = refl }) in
     let test : ℕ → Bool = λ x. l.chosen x && not (op == x) in
     let open_now : ¬ Contains (pending before) op = λ c. n (from_filter (is_open before) (begun before) op c).0 in
     let same : filter (λ x. l.chosen x && not (op == x)) (pending after) ≡ filter l.chosen (pending before) =
-    ap (λ (ops : List ℕ). filter (λ x. l.chosen x && not (op == x)) ops) (sym noted.under_way_is)
+    ap (λ (ops : List ℕ). filter (λ x. l.chosen x && not (op == x)) ops) (pending_more before hart op m)
     ∙ filter-append (λ x. l.chosen x && not (op == x)) (pending before) (op ∷ [])
     ∙ ap (λ (last : List ℕ). filter (λ x. l.chosen x && not (op == x)) (pending before) ++ last) (filter_last l.chosen op)
     ∙ append-nil (filter (λ x. l.chosen x && not (op == x)) (pending before))

@@ -1,6 +1,10 @@
 pub mod Apart
 pub mod Beginning
+pub mod Commuting
+pub mod Comparing
+pub mod Counting
 pub mod Faulting
+pub mod Following
 pub mod Growing
 pub mod Judging
 pub mod Keeping
@@ -9,9 +13,13 @@ pub mod Looping
 pub mod Noting
 pub mod Opening
 pub mod Passing
+pub mod Pending
+pub mod Permuting
 pub mod Planning
 pub mod Reading
 pub mod Refusing
+pub mod Rising
 pub mod Sharing
 pub mod Single
 pub mod Standing
+pub mod Stating

@@ -1,10 +1,10 @@
 -- One step further in the loops over events and operations.
-use Rattle.std.proofs.Common.{◌≡◌, ℕ, ◌+◌, ◌<◌, Bool, true, false, cond, ◌&&◌, List, [], ◌∷◌, ◌++◌, length, get_or, take, refl, sym, ap, ◌∙◌, subst, Option, Some, None, append-nil}
+use Rattle.std.proofs.Common.{◌≡◌, ℕ, ◌+◌, ◌<◌, ◌≤◌, Bool, true, false, cond, ◌&&◌, List, [], ◌∷◌, ◌++◌, map, length, get_or, take, refl, sym, ap, ◌∙◌, subst, Option, Some, None, append-nil}
 use Rattle.std.specs.Prelude.{filter, option_and_then, IsTrue}
 use Rattle.std.specs.List.{flat_map}
 use Rattle.std.specs.Option.{option_map_or}
 use Rattle.std.proofs.lemmas.Grind.{flat_map-append}
-use Rattle.std.proofs.lemmas.List.{take_more}
+use Rattle.std.proofs.lemmas.List.{get_or-map, length-map, take_all, take_more}
 use Rattle.std.proofs.lemmas.List.Elements.{filter-append}
 use Rattle.plan.specs.Entries.{entries_of}
 use Rattle.plan.specs.declared.operation.Operation.{Operation}
@@ -13,6 +13,7 @@ use Rattle.nova_log.specs.declared.volume.entry.Entry.{Entry}
 use Rattle.image_check.specs.Growth.{are_within, is_longer, is_shown}
 use Rattle.image_check.specs.Legal.{with_entries}
 use Rattle.image_check.specs.Planned.{operation_of, planned}
+use Rattle.image_check.specs.declared.legal.UnderWay.{UnderWay}
 use Rattle.image_check.proofs.Growing.{grown, none_fits, with_append}
 use Rattle.image_check.proofs.Judging.{flat_cond}
 
@@ -54,6 +55,23 @@ shown_more plan v w m n ops i d h s g =
     (cond (is_shown v w (planned plan (get_or ops i d))) (planned plan (get_or ops i d)) [])
     ∙ ap (λ (p : Option (List (List Entry))). option_and_then (λ x. with_entries x (cond (is_shown v w (planned plan (get_or ops i d))) (planned plan (get_or ops i d)) [])) p) s
     ∙ g
+
+-- the same over pending operations
+pub shown_next : (plan : List Operation) (v w m n : List (List Entry)) (under : List UnderWay) (i : ℕ) (d : UnderWay) → i < length under →
+    with_entries v (flat_map (planned plan) (filter (λ op. is_shown v w (planned plan op)) (take i (map (λ u. u.op) under)))) ≡ Some m →
+    with_entries m (cond (is_shown v w (planned plan (get_or under i d).op)) (planned plan (get_or under i d).op) []) ≡ Some n →
+    with_entries v (flat_map (planned plan) (filter (λ op. is_shown v w (planned plan op)) (take (i + 1) (map (λ u. u.op) under)))) ≡ Some n
+shown_next plan v w m n under i d h s g =
+    let here : get_or (map (λ u. u.op) under) i d.op ≡ (get_or under i d).op = get_or-map (λ (u : UnderWay). u.op) under i d d.op h in
+    shown_more plan v w m n (map (λ u. u.op) under) i d.op (subst (λ (k : ℕ). i < k) (sym (length-map under (λ (u : UnderWay). u.op))) h) s
+    (subst (λ (op : ℕ). with_entries m (cond (is_shown v w (planned plan op)) (planned plan op) []) ≡ Some n) (sym here) g)
+
+pub shown_last : (plan : List Operation) (v w m : List (List Entry)) (under : List UnderWay) (i : ℕ) → length under ≤ i →
+    with_entries v (flat_map (planned plan) (filter (λ op. is_shown v w (planned plan op)) (take i (map (λ u. u.op) under)))) ≡ Some m →
+    with_entries v (flat_map (planned plan) (filter (λ op. is_shown v w (planned plan op)) (map (λ u. u.op) under))) ≡ Some m
+shown_last plan v w m under i h s =
+    subst (λ (ops : List ℕ). with_entries v (flat_map (planned plan) (filter (λ op. is_shown v w (planned plan op)) ops)) ≡ Some m)
+    (take_all i (map (λ u. u.op) under) (subst (λ (k : ℕ). k ≤ i) (sym (length-map under (λ (u : UnderWay). u.op))) h)) s
 
 pub same_inodes : (v m : List (List Entry)) (es : List PlannedEntry) → with_entries v es ≡ Some m → length m ≡ length v
 same_inodes v m es g = (grown v m es g).inodes

@@ -1,7 +1,8 @@
 -- The inodes of an operation's one or two entries, and whether the plan has an operation.
-use Rattle.std.proofs.Common.{◌≡◌, ◌⊎◌, ℕ, ◌+◌, ◌<◌, Bool, true, false, cond, inl, inr, List, [], ◌∷◌, map, length, get_or, drop, refl, sym, ap, ◌∙◌, subst, Some, None, ◌↔◌, eqb-true, eq-eqb}
+use Rattle.std.proofs.Common.{◌≡◌, ◌⊎◌, ℕ, ◌+◌, ◌<◌, Bool, true, false, cond, inl, inr, List, [], ◌∷◌, map, length, get_or, drop, refl, sym, ap, ◌∙◌, subst, Option, Some, None, ◌↔◌, eqb-true, eq-eqb}
 use Rattle.std.specs.Prelude.{◌==◌}
 use Rattle.std.specs.List.{Contains}
+use Rattle.std.specs.Option.{is_some}
 use Rattle.std.proofs.lemmas.Bool.{cases_Bool}
 use Rattle.std.proofs.lemmas.List.{drop_more}
 use Rattle.plan.specs.declared.operation.Operation.{Operation}
@@ -57,6 +58,15 @@ lost_unplanned (o ∷ plan) op e c = elim (cases_Bool (o.number == op)) [
     | inr d ↦ lost_unplanned plan op (sym (ap (λ (b : Bool). cond b (Some o) (operation_of plan op)) f) ∙ e) d
   ]
 ]
+
+-- the same by what was found
+pub told_planned : (plan : List Operation) (op : ℕ) (found : Option Operation) → found ≡ operation_of plan op → is_some found ≡ true → IsPlanned plan op
+told_planned plan op None e is = absurd (false_true is)
+told_planned plan op (Some operation) e is = found_planned plan op operation (sym e)
+
+pub told_unplanned : (plan : List Operation) (op : ℕ) (found : Option Operation) → found ≡ operation_of plan op → is_some found ≡ false → ¬ IsPlanned plan op
+told_unplanned plan op None e is = lost_unplanned plan op (sym e)
+told_unplanned plan op (Some operation) e is = absurd (false_true (sym is))
 
 -- an inode of one list of entries that is an inode of another
 pub share_one : (es os : List PlannedEntry) (first : PlannedEntry) → es ≡ first ∷ [] →

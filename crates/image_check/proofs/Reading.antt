@@ -3,17 +3,11 @@ use Rattle.std.proofs.Common.{◌≡◌, ℕ, zero, suc, ◌+◌, ◌<◌, ◌�
 use Rattle.std.proofs.lemmas.List.{append-nil, map-append, take_more}
 use Rattle.std.specs.Prelude.{◌⊎◌, Err, IfErr, Ok, OnOk, Result}
 use Rattle.std.specs.List.{AllByRecursion}
-use Rattle.store_trace.proofs.Images.{length_image}
-use Rattle.store_trace.specs.Floor.{floor}
-use Rattle.store_trace.specs.Image.{image}
-use Rattle.store_trace.specs.Stores.{stores}
 use Rattle.nova_log.specs.Kept.{AreAlikeAt, AreKept}
 use Rattle.nova_log.specs.Sources.{Source}
 use Rattle.nova_log.specs.declared.kept.KeptVolume.{KeptVolume}
-use Rattle.store_trace.specs.History.{at_moment}
-use Rattle.store_trace.specs.declared.event.Event.{Event}
-use Rattle.image_check.specs.Alike.{line_decides}
-use Rattle.verdict.specs.CutImages.{IsWithinAt, cut_of, image_of}
+use Rattle.image_check.specs.Alike.{AreByLine, same_size}
+use Rattle.verdict.specs.Branches.{IsWithin}
 use Rattle.verdict.specs.declared.branches.question.Question.{Question}
 use Rattle.image_check.specs.Verdicts.{whole_line}
 
@@ -23,9 +17,6 @@ source_of lines = record { lines = lines; asked = [] }
 
 pub below_length : (m n : ℕ) (xs : List ℕ) → m ≡ n → AllByRecursion (λ l. l < m) xs → AllByRecursion (λ l. l < n) xs
 below_length m n xs e h = subst (λ (k : ℕ). AllByRecursion (λ l. l < k) xs) e h
-
-pub image_of_length : (start : List (List ℕ)) (events : List Event) (moment : ℕ) (numbers : List ℕ) → length (image_of start events moment numbers) ≡ length start
-image_of_length start events moment numbers = length_image start (cut_of events moment numbers) (at_moment events moment)
 
 pub extend_below : (bound : ℕ) (xs ys : List ℕ) → AllByRecursion (λ l. l < bound) xs → AllByRecursion (λ l. l < bound) ys → AllByRecursion (λ l. l < bound) (xs ++ ys)
 extend_below bound [] ys h k = k
@@ -37,28 +28,24 @@ extend_below_or_not true bound xs ys h k = extend_below bound xs ys h k
 extend_below_or_not false bound xs ys h k = h
 
 -- the source, by what it was made of
-pub source_kept : (start : List (List ℕ)) (events : List Event) (moment : ℕ) (numbers : List ℕ) (source : Source) (kept : KeptVolume) →
-    ◌≡◌ {A = Source} source (record { lines = image_of start events moment numbers; asked = [] }) →
-    AreKept (image_of start events moment numbers) kept → AreKept source.lines kept
-source_kept start events moment numbers source kept e h = subst (λ (s : Source). AreKept s.lines kept) (sym e) h
+pub source_kept : (medium : List (List ℕ)) (source : Source) (kept : KeptVolume) → ◌≡◌ {A = Source} source (record { lines = medium; asked = [] }) →
+    AreKept medium kept → AreKept source.lines kept
+source_kept medium source kept e h = subst (λ (s : Source). AreKept s.lines kept) (sym e) h
 
--- the images of two cuts have the same bytes in a line of which every store is in the medium for certain
-pub source_alike : (start : List (List ℕ)) (events : List Event) (moment : ℕ) (numbers : List ℕ) (k : ℕ → ℕ) (source : Source) →
-    ◌≡◌ {A = Source} source (record { lines = image_of start events moment numbers; asked = [] }) →
-    IsWithinAt events moment (cut_of events moment numbers) → IsWithinAt events moment k →
-    AreAlikeAt (λ l. floor l (at_moment events moment) ≡ stores l (at_moment events moment)) source.lines (image start k (at_moment events moment))
-source_alike start events moment numbers k source e within other =
-    let p = at_moment events moment in
-    let c = cut_of events moment numbers in
-    subst (λ (s : Source). AreAlikeAt (λ l. floor l p ≡ stores l p) s.lines (image start k p)) (sym e)
+-- the images of two cuts have the same bytes in a line that has one number alone
+pub source_alike : (lines : ℕ) (image : (ℕ → ℕ) → List (List ℕ)) → AreByLine lines image → (low high c k : ℕ → ℕ) (source : Source) →
+    ◌≡◌ {A = Source} source (record { lines = image c; asked = [] }) → IsWithin low high c → IsWithin low high k →
+    AreAlikeAt (λ l. low l ≡ high l) source.lines (image k)
+source_alike lines image by low high c k source e within other =
+    subst (λ (s : Source). AreAlikeAt (λ l. low l ≡ high l) s.lines (image k)) (sym e)
     (record {
-      size = length_image start k p ∙ sym (length_image start c p);
+      size = same_size lines image by c k;
       lines = λ l same.
-          let low = within.least l in
-          let high = within.most l in
+          let floor = within.least l in
+          let top = within.most l in
           let least = other.least l in
           let most = other.most l in
-          line_decides start c k p l (omega (arith, low, high, least, most, same));
+          by.decides c k l (omega (arith, floor, top, least, most, same));
     })
 
 -- the first lines, each asked as a whole

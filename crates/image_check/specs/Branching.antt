@@ -1,10 +1,9 @@
--- What recovery of the images of a moment keeps from one to the next.
+-- What recovery of the images of a source keeps from one to the next.
 use Rattle.std.specs.Prelude.{ℕ, List}
 use Rattle.nova_log.specs.Kept.{AreKept}
 use Rattle.nova_log.specs.declared.kept.KeptVolume.{KeptVolume}
-use Rattle.store_trace.specs.declared.event.Event.{Event}
-use Rattle.verdict.specs.CutImages.{IsWithinAt, image_at}
+use Rattle.verdict.specs.Branches.{IsWithin}
 
--- recovery of each image of the moment finds the logs that are kept
-abbrev pub AreKeptAt : List (List ℕ) → List Event → ℕ → KeptVolume → Type 0
-AreKeptAt start events moment kept = (k : ℕ → ℕ) → IsWithinAt events moment k → AreKept (image_at start events moment k) kept
+-- recovery of each image within these bounds finds the logs that are kept
+abbrev pub AreKeptWithin : ((ℕ → ℕ) → List (List ℕ)) → (ℕ → ℕ) → (ℕ → ℕ) → KeptVolume → Type 0
+AreKeptWithin image low high kept = (k : ℕ → ℕ) → IsWithin low high k → AreKept (image k) kept

@@ -8,9 +8,12 @@ use Rattle.plan.specs.declared.operation.Operation.{Operation}
 use Rattle.store_trace.specs.History.{history}
 use Rattle.store_trace.specs.declared.event.Event.{Event}
 use Rattle.nova_log.specs.declared.volume.entry.Entry.{Entry}
+use Rattle.std.specs.Result.{result_ok}
+use Rattle.image_check.specs.Growth.{AreApart, AreOutcomes}
 use Rattle.image_check.specs.Legal.{IsLegal}
 use Rattle.image_check.specs.declared.cause.Cause.{Cause}
 use Rattle.image_check.specs.declared.cause.Cause.TheVariants.{Fault, Illegal}
+use Rattle.image_check.specs.declared.legal.Outcomes.{Outcomes}
 
 -- the image recovers to a volume that is legal after these events
 pub record IsGood (plan : List Operation) (start : List (List ℕ)) (events : List Event) (medium : List (List ℕ)) : Type 0 where
@@ -28,6 +31,12 @@ IsSpoilt plan start events medium Illegal =
 abbrev pub IsFound : List Operation → List (List ℕ) → List Event → List (List ℕ) → Option Cause → Type 0
 IsFound plan start events medium None = IsGood plan start events medium
 IsFound plan start events medium (Some cause) = IsSpoilt plan start events medium cause
+
+-- what was found of the image, in each run that has come to these outcomes and in which no two pending operations share an inode
+abbrev pub IsFoundBy : List Operation → Outcomes → List (List ℕ) → Option Cause → Type 0
+IsFoundBy plan outcomes medium found = (start : List (List ℕ)) (events : List Event) →
+    AreOutcomes plan (result_ok (volume_of start)) events outcomes.settled outcomes.under_way.items → AreApart plan events →
+    IsFound plan start events medium found
 
 -- what was found of a volume: that it is legal, or that it isn't
 abbrev pub IsVolumeJudged : List Operation → List (List ℕ) → List Event → List (List Entry) → Option Cause → Type 0

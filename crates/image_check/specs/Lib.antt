@@ -5,8 +5,11 @@ pub mod Images
 pub mod Keeping
 pub mod Legal
 pub mod OrderFaults
+pub mod PlanStates
 pub mod Planned
 pub mod RunViews
+pub mod SameOutcomes
 pub mod Standing
 pub mod Verdicts
+pub mod ImagesVerdicts
 pub mod Codes

@@ -24,9 +24,13 @@ use Rattle.image_check.specs.declared.cause.Cause.{Cause}
 abbrev pub whole_line : ℕ → Question
 whole_line l = question l (2 ^ 64 - 1)
 
--- of the image of the cut k recovery asks these lines, in this order
+-- of the image recovery asks these lines, in this order
+abbrev pub are_asked : List (List ℕ) → List Question → Type 0
+are_asked medium questions = questions ≡ map whole_line (asked_lines medium)
+
+-- the same of the image of the cut k
 abbrev pub asks_at : List (List ℕ) → List PersistenceStep → (ℕ → ℕ) → List Question → Type 0
-asks_at start p k questions = questions ≡ map whole_line (asked_lines (image start k p))
+asks_at start p k questions = are_asked (image start k p) questions
 
 -- what is found of it: that it is good, or why it isn't
 abbrev pub found_at : List Operation → List (List ℕ) → List Event → (ℕ → ℕ) → Option Cause → Type 0

@@ -1,31 +1,68 @@
 //! Which volumes are legal at a moment.
 
-ghost use Rattle.image_check.specs.Growth.{AreApart, AreOutcomes, is_shown};
+ghost use Rattle.image_check.specs.Growth.{AreApart, AreInOrder, AreOutcomes, begun_on, is_shown};
 ghost use Rattle.image_check.specs.Legal.{IsLegal, with_entries};
 ghost use Rattle.store_trace.specs.Marks.{begun_by, ended};
-ghost use Rattle.image_check.specs.OrderFaults.{AreSound};
-ghost use Rattle.image_check.specs.Planned.{planned};
+ghost use Rattle.image_check.specs.OrderFaults.{ShareInode};
+ghost use Rattle.image_check.specs.Planned.{operation_of, planned};
+ghost use Rattle.image_check.specs.SameOutcomes.{mark_input, outcomes_alike, outcomes_equivalent, same_outcomes, same_settled};
 ghost use Rattle.nova_log.specs.declared.fault.VolumeFault.{VolumeFault as AFault};
 ghost use Rattle.store_trace.specs.declared.event.Event.{Event as AnEvent};
 ghost use Rattle.nova_log.specs.declared.volume.entry.Entry.{Entry as AnEntry};
 ghost use Rattle.plan.specs.declared.operation.Operation.{Operation as AnOperation};
-ghost use Rattle.std.specs.List.{Contains, flat_map};
-ghost use Rattle.std.specs.Prelude.{◌≡◌, ◌↔◌, ◌==◌, ℕ, not, List, [], ◌∷◌, ◌++◌, Option, Some, Result, filter, length, option_and_then, IfOk, IsTrue, OnOk, if◌then◌else◌};
+ghost use Rattle.std.specs.Cmp.{partial_equiv_from_equiv};
+ghost use Rattle.std.specs.Hash as fed;
+ghost use Rattle.std.specs.List.{Contains, flat_map, list_any};
+ghost use Rattle.std.specs.Prelude.{◌≡◌, ◌↔◌, ◌==◌, ◌&&◌, ℕ, not, List, [], ◌∷◌, ◌++◌, Option, Some, Result, filter, length, map, option_and_then, IfOk, IsPermutation, IsTrue, OnOk, if◌then◌else◌};
 ghost use Rattle.std.specs.Result.{result_ok};
 
-use crate::operations::{append, find_operation, fits, shows};
+use crate::operations::{append, find_operation, fits, shares_with, shows};
 use nova_log::Volume;
-use plan::Plan;
+use plan::{Operation, Plan};
 use std::alloc::{AllocError, Global};
+use std::hash::{Hash, Hasher};
 use store_trace::Event;
+
+/// A pending operation.
+#[derive(Clone, Copy, Debug, PartialEq, Eq, Hash)]
+pub struct UnderWay {
+    pub op: u64,
+    /// The hart that began it.
+    pub hart: u32,
+}
 
 /// What the legal volumes of a moment are made of.
 #[derive(Drop)]
 pub struct Outcomes {
     /// The starting volume with the entries of the ended operations, where it has all their inodes.
     settled: Option<Volume>,
-    /// The pending operations, each of which may be in a legal volume or not.
-    under_way: Vec<u64>,
+    /// The pending operations in the order of their numbers, each of which may be in a legal volume or not.
+    under_way: Vec<UnderWay>,
+}
+
+impl PartialEq for Outcomes {
+    ghost eq = { same_outcomes };
+
+    ghost laws = { partial_equiv_from_equiv outcomes_equivalent };
+
+    fn eq(&self, other: &Outcomes) -> bool {
+        same_settled(&self.settled, &other.settled) && self.under_way == other.under_way
+    }
+}
+
+impl Eq for Outcomes {
+    ghost laws = { outcomes_equivalent };
+}
+
+/// By the pending operations: a hash need tell no more apart.
+impl Hash for Outcomes {
+    ghost hash_input = { λ o. fed.slice mark_input o.under_way.items };
+
+    ghost respects_eq = { outcomes_alike.fed };
+
+    fn hash<H: Hasher>(&self, state: &mut H) {
+        self.under_way.hash(state);
+    }
 }
 
 impl Outcomes {
@@ -41,36 +78,77 @@ impl Outcomes {
 
     /// Takes in the event after those so far. An operation that begins in it hasn't ended.
     pub fn note(&mut self, plan: &Plan, event: Event) -> Result<(), AllocError>
-        ensures { OnOk result ((start : Option (List (List AnEntry))) (before : List AnEvent) →
+        ensures outcomes { OnOk result ((start : Option (List (List AnEntry))) (before : List AnEvent) →
             AreOutcomes plan.now.operations start before self.old.settled self.old.under_way.items →
             ((op : ℕ) → begun_by event ≡ Some op → ¬ Contains (ended before) op) →
             AreOutcomes plan.now.operations start (before ++ event ∷ []) self.new.settled self.new.under_way.items) }
+        ensures in_order { OnOk result (AreInOrder self.old.under_way.items →
+            ((op : ℕ) → begun_by event ≡ Some op → ¬ Contains (map (λ u. u.op) self.old.under_way.items) op) →
+            AreInOrder self.new.under_way.items) }
     {
         match event {
-            Event::Begin { op, .. } => self.begin(op),
+            Event::Begin { hart, op } => self.begin(hart, op),
             Event::End { op, .. } => self.end(plan, op),
             Event::Store { .. } | Event::Clean { .. } | Event::Fence { .. } => Ok(()),
         }
     }
 
-    fn begin(&mut self, op: u64) -> Result<(), AllocError>
+    fn begin(&mut self, hart: u32, op: u64) -> Result<(), AllocError>
         ensures settled { self.new.settled ≡ self.old.settled }
-        ensures under_way { OnOk result (self.new.under_way.items ≡ self.old.under_way.items ++ op ∷ []) }
+        ensures under_way { OnOk result (IsPermutation (begun_on hart op ∷ self.old.under_way.items) self.new.under_way.items) }
+        ensures in_order { OnOk result (AreInOrder self.old.under_way.items → ¬ Contains (map (λ u. u.op) self.old.under_way.items) op →
+            AreInOrder self.new.under_way.items) }
     {
-        self.under_way.push(op)?;
+        let place = self.under_way.partition_point(|other| other.op < op);
+        self.under_way.insert(place, UnderWay { op, hart })?;
         Ok(())
     }
 
     fn end(&mut self, plan: &Plan, op: u64) -> Result<(), AllocError>
         ensures settled { OnOk result (self.new.settled
             ≡ option_and_then (λ volume. with_entries volume (planned plan.now.operations op)) self.old.settled) }
-        ensures under_way { self.new.under_way.items ≡ filter (λ other. not (op == other)) self.old.under_way.items }
+        ensures under_way { self.new.under_way.items ≡ filter (λ other. not (op == other.op)) self.old.under_way.items }
     {
         remove(&mut self.under_way, op);
         if let Some(volume) = self.settled.take() {
             self.settled = settled(volume, plan, op)?;
         }
         Ok(())
+    }
+
+    /// Another that is the same.
+    pub fn copy(&self, alloc: Global) -> Result<Outcomes, AllocError>
+        ensures settled { IfOk result (λ copy. copy.settled ≡ self.now.settled) }
+        ensures under_way { IfOk result (λ copy. copy.under_way.items ≡ self.now.under_way.items) }
+    {
+        Ok(Outcomes {
+            settled: copy_of(alloc, &self.settled)?,
+            under_way: Vec::from_slice(alloc, &self.under_way)?,
+        })
+    }
+
+    /// Whether the operation is pending.
+    pub fn is_pending(&self, op: u64) -> bool
+        ensures { result ≡ list_any (λ u. u.op == op) self.now.under_way.items }
+    {
+        self.under_way.iter().any(|other| other.op == op)
+    }
+
+    /// Whether the operation is pending, and this hart began it.
+    pub fn is_pending_on(&self, hart: u32, op: u64) -> bool
+        ensures { result ≡ list_any (λ u. u.hart == hart && u.op == op) self.now.under_way.items }
+    {
+        self.under_way
+            .iter()
+            .any(|other| other.hart == hart && other.op == op)
+    }
+
+    /// Whether a pending operation adds to an inode of this one, which the plan has.
+    pub fn shares_inode(&self, plan: &Plan, op: u64, operation: &Operation) -> bool
+        requires { operation_of plan.now.operations op ≡ Some operation.now }
+        ensures { IsTrue result ↔ ((other : ℕ) × Contains (map (λ u. u.op) self.now.under_way.items) other × ShareInode plan.now.operations other op) }
+    {
+        one_shares(&self.under_way, plan, op, operation)
     }
 
     /// Whether the volume is legal. No two pending operations add to one inode, so the logs of its inodes tell of each
@@ -93,10 +171,43 @@ impl Outcomes {
     }
 }
 
-fn remove(ops: &mut Vec<u64>, op: u64)
-    ensures { ops.new.items ≡ filter (λ other. not (op == other)) ops.old.items }
+/// Whether both are the same volume, or neither is one.
+fn same_settled(one: &Option<Volume>, other: &Option<Volume>) -> bool
+    ensures { result ≡ same_settled one.now other.now }
 {
-    ops.retain(|other| op != *other);
+    match (one, other) {
+        (Some(one), Some(other)) => one.equals(other),
+        (None, None) => true,
+        _ => false,
+    }
+}
+
+/// Another volume with the same logs, where there is one.
+pub fn copy_of(alloc: Global, volume: &Option<Volume>) -> Result<Option<Volume>, AllocError>
+    ensures { IfOk result (λ copy. copy ≡ volume.now) }
+{
+    match volume {
+        Some(volume) => Ok(Some(volume.copy(alloc)?)),
+        None => Ok(None),
+    }
+}
+
+fn one_shares(under_way: &[UnderWay], plan: &Plan, op: u64, operation: &Operation) -> bool
+    requires { operation_of plan.now.operations op ≡ Some operation.now }
+    ensures { IsTrue result ↔ ((other : ℕ) × Contains (map (λ u. u.op) under_way.now) other × ShareInode plan.now.operations other op) }
+{
+    for other in under_way {
+        if shares_with(plan, other.op, op, operation) {
+            return true;
+        }
+    }
+    false
+}
+
+fn remove(under_way: &mut Vec<UnderWay>, op: u64)
+    ensures { under_way.new.items ≡ filter (λ other. not (op == other.op)) under_way.old.items }
+{
+    under_way.retain(|other| op != other.op);
 }
 
 /// The volume with the entries of the operation. None where it lacks one of its inodes.
@@ -120,15 +231,15 @@ fn as_shown(
     alloc: Global,
     plan: &Plan,
     settled: &Volume,
-    under_way: &[u64],
+    under_way: &[UnderWay],
     shown: &Volume,
 ) -> Result<Volume, AllocError>
     ensures { IfOk result (λ expected. with_entries settled.now (flat_map (planned plan.now.operations)
-        (filter (λ op. is_shown settled.now shown.now (planned plan.now.operations op)) under_way.now)) ≡ Some expected) }
+        (filter (λ op. is_shown settled.now shown.now (planned plan.now.operations op)) (map (λ u. u.op) under_way.now))) ≡ Some expected) }
 {
     let mut expected = settled.copy(alloc)?;
-    for op in under_way {
-        add_shown(&mut expected, plan, settled, *op, shown)?;
+    for operation in under_way {
+        add_shown(&mut expected, plan, settled, operation.op, shown)?;
     }
     Ok(expected)
 }

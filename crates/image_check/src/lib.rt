@@ -7,20 +7,24 @@
 pub use cause::Cause;
 pub use checking::{check_moment, check_parallel, check_run, checked_part};
 pub use fault::{CheckFault, OpFault};
-pub use laws::{one_verdict, verdicts_join};
+pub use images_judge::{ImagesVerdict, judge_images};
+pub use laws::{one_verdict, plan_states_stand, verdicts_join};
 pub use moment_judge::{MomentJudge, SoundRun};
 pub use order::check_trace;
+pub use plan_state::PlanState;
 pub use verdict::{ImageName, MomentVerdict, Verdict};
 
 mod cause;
 mod checking;
 mod fault;
-mod index_lines;
+mod image_lines;
+mod images_judge;
 mod judge;
 mod laws;
 mod legal;
 mod marks;
-mod moment_images;
 mod moment_judge;
 mod operations;
 mod order;
+mod plan_images;
+mod plan_state;

@@ -14,9 +14,9 @@ ghost use Rattle.std.specs.Prelude.{◌≡◌, ◌↔◌, ◌+◌, ◌^◌, ◌<
 ghost use Rattle.std.specs.Result.{result_ok};
 
 use crate::judge::{note_next, starting_volume};
-use crate::legal::Outcomes;
-use crate::moment_images::{MomentImages, Workspace};
+use crate::legal::{Outcomes, copy_of};
 use crate::order::check_trace;
+use crate::plan_images::{PlanImages, Workspace};
 use crate::{Cause, CheckFault};
 use crash_image::{TraceIndex, images_between};
 use line_memory::Medium;
@@ -26,7 +26,7 @@ use std::alloc::{AllocError, Global};
 use std::marker::Model;
 use std::thread::Threads;
 use store_trace::{Event, Trace};
-use verdict::{MomentVerdict, Moments, Opener, is_unseen, open_moment};
+use verdict::{MomentCuts, MomentVerdict, Moments, Opener, is_unseen, open_moment};
 
 /// The most moments that are worth one worker alone: a further one takes some time to start.
 const MOMENTS_OF_ONE: u32 = 8;
@@ -254,15 +254,6 @@ impl Standing {
     }
 }
 
-fn copy_of(alloc: Global, volume: &Option<Volume>) -> Result<Option<Volume>, AllocError>
-    ensures { IfOk result (λ copy. copy ≡ volume.now) }
-{
-    match volume {
-        Some(volume) => Ok(Some(volume.copy(alloc)?)),
-        None => Ok(None),
-    }
-}
-
 /// Opens the branches of a moment of the run, whose legal volumes are made of these.
 fn open_at<T: Threads + Sync>(
     rt: &T,
@@ -279,8 +270,13 @@ fn open_at<T: Threads + Sync>(
     ensures asked { IfOk result (λ verdict. IfPassed verdict (AreFlagged run.now.start (at_moment run.now.events moment) opener.new)) }
     ensures size { length opener.new ≡ length opener.old }
 {
-    let images = MomentImages::new(&run.index, run.plan, outcomes, moment);
     let (medium, trace) = (run.medium, run.trace);
+    let cuts = MomentCuts::new(&run.index, moment);
+    let images = PlanImages {
+        images: &cuts,
+        plan: run.plan,
+        outcomes,
+    };
     let mut workspace = Workspace::new(alloc);
     let verdict = open_moment(
         rt,

@@ -2,11 +2,12 @@
 
 ghost use Rattle.image_check.specs.Growth.{are_within, is_shown};
 ghost use Rattle.image_check.specs.Legal.{with_entries};
+ghost use Rattle.image_check.specs.OrderFaults.{ShareInode};
 ghost use Rattle.image_check.specs.Planned.{operation_of};
 ghost use Rattle.plan.specs.Entries.{entries_of};
 ghost use Rattle.nova_log.specs.Logs.{log_of};
 ghost use Rattle.std.specs.List.{Contains};
-ghost use Rattle.std.specs.Prelude.{◌≡◌, ◌↔◌, ℕ, length, map, IsTrue, OnOk};
+ghost use Rattle.std.specs.Prelude.{◌≡◌, ◌↔◌, ℕ, length, map, IsTrue, OnOk, Some};
 
 use nova_log::Volume;
 use plan::{Operation, Plan, PlannedEntries};
@@ -37,6 +38,17 @@ pub fn share_inode(one: &Operation, other: &Operation) -> bool
     match second {
         Some(second) => adds_to(other, first.inode) || adds_to(other, second.inode),
         None => adds_to(other, first.inode),
+    }
+}
+
+/// Whether the operation of this number adds to an inode of the other one, which the plan has.
+pub fn shares_with(plan: &Plan, one: u64, other: u64, operation: &Operation) -> bool
+    requires { operation_of plan.now.operations other ≡ Some operation.now }
+    ensures { IsTrue result ↔ ShareInode plan.now.operations one other }
+{
+    match find_operation(plan, one) {
+        Some(one) => share_inode(&one, operation),
+        None => false,
     }
 }
 

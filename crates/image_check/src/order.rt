@@ -9,7 +9,7 @@ ghost use Rattle.std.specs.Prelude.{◌≡◌, ◌↔◌, ℕ, length, IfErr, Is
 
 use crate::OpFault;
 use crate::marks::{has_begun, has_begun_by, has_ended};
-use crate::operations::{find_operation, share_inode};
+use crate::operations::{find_operation, shares_with};
 use plan::{Operation, Plan};
 use store_trace::{Event, Trace};
 
@@ -100,8 +100,5 @@ fn opens_sharer(plan: &Plan, events: &[Event], event: Event, op: u64, operation:
     if has_ended(events, other) {
         return false;
     }
-    match find_operation(plan, other) {
-        Some(other) => share_inode(&other, operation),
-        None => false,
-    }
+    shares_with(plan, other, op, operation)
 }

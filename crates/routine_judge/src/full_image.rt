@@ -1,50 +1,43 @@
-//! The full image of a moment as a routine loads from it: each line comes from the index of the trace.
+//! The full image of a source as a routine loads from it: that with each line at its highest number.
 
-ghost use Rattle.routine_judge.specs.Images.{full_cut};
-ghost use Rattle.verdict.specs.CutImages.{AreMedia, image_at};
-ghost use Rattle.std.specs.Prelude.{◌≡◌, ◌≤◌, length};
+ghost use Rattle.std.specs.Prelude.{◌≡◌};
 
-use crash_image::TraceIndex;
 use recovery::Source;
 use std::marker::Model;
+use verdict::Images;
 
-/// The full image of a moment: that with all stores.
+/// The full image: of a moment it is that with all stores.
+///
+/// A contract sees its lines.
 #[derive(Drop)]
-pub struct FullImage<'a, 'b> {
-    index: &'a TraceIndex<'b>,
-    moment: u32,
+pub struct FullImage<'a, I: Images> {
+    images: &'a I,
 }
 
-impl<'a, 'b> Model for FullImage<'a, 'b> {
-    ghost use Rattle.std.specs.Prelude.{ℕ, ◌≤◌, List, length};
-    ghost use Rattle.routine_judge.specs.Images.{full_cut};
-    ghost use Rattle.verdict.specs.CutImages.{AreMedia, image_at};
+impl<'a, I: Images> Model for FullImage<'a, I> {
+    ghost use Rattle.std.specs.Prelude.{ℕ, List};
 
     ghost Value = { List (List ℕ) };
 
-    ghost view = { λ i. image_at i.index.now.start i.index.now.events i.moment (full_cut i.index.now.events i.moment) };
-
-    ghost invariant = { λ i. (i.moment ≤ length i.index.now.events) × AreMedia i.index.now.start i.index.now.events i.moment };
+    ghost view = { λ i. I.image i.images.now (I.high i.images.now) };
 }
 
-impl<'a, 'b> FullImage<'a, 'b> {
-    pub fn new(index: &'a TraceIndex<'b>, moment: u32) -> FullImage<'a, 'b>
-        requires there { moment ≤ length index.now.events }
-        requires whole { AreMedia index.now.start index.now.events moment }
-        ensures { result ≡ image_at index.now.start index.now.events moment (full_cut index.now.events moment) }
+impl<'a, I: Images> FullImage<'a, I> {
+    pub fn new(images: &'a I) -> FullImage<'a, I>
+        ensures { result ≡ I.image images.now (I.high images.now) }
     {
-        FullImage { index, moment }
+        FullImage { images }
     }
 }
 
-impl Source for FullImage<'_, '_> {
+impl<I: Images> Source for FullImage<'_, I> {
     ghost medium = { λ i. i };
 
     fn lines(&self) -> u32 {
-        self.index.lines()
+        self.images.lines()
     }
 
     fn line(&self, line: u32) -> &[u8; 64] {
-        self.index.line(line, self.index.stores(line, self.moment))
+        self.images.line(line, self.images.highest(line))
     }
 }

@@ -10,7 +10,7 @@ use crate::right::RightAnswers;
 use crate::run::MarkedRun;
 use recovery::Routine;
 use std::alloc::{AllocError, Global};
-use verdict::{CutImage, Question, Recovery};
+use verdict::{CutImage, MomentCuts, Question, Recovery};
 
 /// The images of a moment, and the answers that are right there.
 #[derive(Drop)]
@@ -130,7 +130,8 @@ impl Recovery for MomentImages<'_, '_> {
         asked: &mut Vec<Question>,
     ) -> Result<Option<Cause>, AllocError> {
         let run = self.run;
-        let image = CutImage::new(&run.index, self.moment, numbers);
+        let cuts = MomentCuts::new(&run.index, self.moment);
+        let image = CutImage::new(&cuts, numbers);
         let found = routine.run(alloc, &image, run.steps)?;
         asked.extend_from_slice(routine.asked())?;
         Ok(self.right.judge(&found))

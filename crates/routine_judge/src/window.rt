@@ -12,6 +12,7 @@ use crate::right::RightAnswers;
 use crate::run::MarkedRun;
 use recovery::{Answer, Cause as RunCause, Routine};
 use std::alloc::{AllocError, Global};
+use verdict::MomentCuts;
 
 /// The answers on the full images of the window that was last looked at.
 #[derive(Drop)]
@@ -175,6 +176,7 @@ fn run_full(
     ensures program { routine.new.program ≡ run.now.routine }
     ensures lines { routine.new.lines ≡ length run.now.start }
 {
-    let image = FullImage::new(&run.index, moment as u32);
+    let cuts = MomentCuts::new(&run.index, moment as u32);
+    let image = FullImage::new(&cuts);
     routine.run(alloc, &image, run.steps)
 }

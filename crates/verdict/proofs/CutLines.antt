@@ -5,7 +5,7 @@ use Rattle.std.proofs.lemmas.Bool.Decides.{nat_tests}
 use Rattle.std.proofs.lemmas.List.{take-append-drop}
 use Rattle.std.proofs.lemmas.List.Elements.{All-take}
 use Rattle.crash_image.proofs.Lined.{image_is_medium}
-use Rattle.store_trace.proofs.Images.{image_line, length_image}
+use Rattle.store_trace.proofs.Images.{image_line}
 use Rattle.store_trace.specs.Image.{line_after}
 use Rattle.store_trace.specs.Stores.{stores}
 use Rattle.store_trace.specs.declared.crash_model.step.PersistenceStep.{PersistenceStep}
@@ -21,29 +21,13 @@ use Rattle.store_trace.specs.declared.event.Event.{Event}
 pub images_whole : (start : List (List ℕ)) (events : List Event) (moment : ℕ) → IsMedium start → All IsEvent events → AreMedia start events moment
 images_whole start events moment m a = λ cut. image_is_medium start cut (take moment events) m (All-take IsEvent moment events a)
 
--- an image has as many lines as the medium
-pub image_length : (start : List (List ℕ)) (events : List Event) (moment : ℕ) (cut : ℕ → ℕ) → length (image_at start events moment cut) ≡ length start
-image_length start events moment cut = length_image start cut (at_moment events moment)
-
-pub shown_length : (start : List (List ℕ)) (events : List Event) (moment : ℕ) (cut : ℕ → ℕ) (lines : List (List ℕ)) → image_at start events moment cut ≡ lines →
-    length start ≡ length lines
-shown_length start events moment cut lines e = sym (image_length start events moment cut) ∙ ap (λ (m : List (List ℕ)). length m) e
-
--- a line of it
-pub shown_line : (start : List (List ℕ)) (events : List Event) (moment : ℕ) (cut : ℕ → ℕ) (lines : List (List ℕ)) (n number : ℕ) (bytes : List ℕ) →
-    image_at start events moment cut ≡ lines → n < length start → number ≡ cut n →
-    bytes ≡ line_after (line_at start n) n number (at_moment events moment) → bytes ≡ line_at lines n
-shown_line start events moment cut lines n number bytes e h k b =
-    b ∙ ap (λ (i : ℕ). line_after (line_at start n) n i (at_moment events moment)) k
+-- a line of an image of a moment
+pub shown_line : (start : List (List ℕ)) (events : List Event) (moment : ℕ) (cut : ℕ → ℕ) (n number : ℕ) (bytes : List ℕ) →
+    n < length start → cut n ≡ number →
+    bytes ≡ line_after (line_at start n) n number (at_moment events moment) → bytes ≡ line_at (image_at start events moment cut) n
+shown_line start events moment cut n number bytes h k b =
+    b ∙ ap (λ (i : ℕ). line_after (line_at start n) n i (at_moment events moment)) (sym k)
     ∙ sym (image_line start cut (at_moment events moment) n [] [] h)
-    ∙ ap (λ (m : List (List ℕ)). line_at m n) e
-
--- its bytes are 64
-pub shown_whole : (start : List (List ℕ)) (events : List Event) (moment : ℕ) (cut : ℕ → ℕ) (lines : List (List ℕ)) (n : ℕ) (bytes : List ℕ) →
-    image_at start events moment cut ≡ lines → AreMedia start events moment → n < length lines → bytes ≡ line_at lines n → length bytes ≡ 64
-shown_whole start events moment cut lines n bytes e whole h b =
-    let medium : IsMedium lines = subst (λ (m : List (List ℕ)). IsMedium m) e (whole cut) in
-    ap (λ (xs : List ℕ). length xs) b ∙ medium.each.whole n h
 
 -- the same by the lines and events of the index of a trace
 pub images_of : (start medium : List (List ℕ)) (all events : List Event) (moment : ℕ) → start ≡ medium → all ≡ events → IsMedium medium → All IsEvent events →

@@ -13,5 +13,6 @@ pub mod Least
 pub mod Pieces
 pub mod Openings
 pub mod CutImages
+pub mod ByLine
 pub mod Bytes
 pub mod Progress

@@ -6,6 +6,8 @@
 
 mod branches;
 mod cut_image;
+mod images;
+mod moment_cuts;
 mod moment_verdict;
 mod moments;
 mod part;
@@ -18,6 +20,8 @@ pub use branches::{
     store_adds_no_branches,
 };
 pub use cut_image::CutImage;
+pub use images::Images;
+pub use moment_cuts::MomentCuts;
 pub use moment_verdict::{
     ImageName, Judging, LineContents, MomentVerdict, OpenMoments, Verdict, WidestLines, is_unseen,
     open_moment, verdicts_join,

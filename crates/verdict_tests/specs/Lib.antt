@@ -1,2 +1,3 @@
 pub mod Asked
 pub mod AskedAgain
+pub mod Mixed

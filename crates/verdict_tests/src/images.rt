@@ -4,6 +4,7 @@
 
 mod branches_opened;
 mod bytes_asked;
+mod either_medium;
 mod events;
 mod image_names;
 mod images;

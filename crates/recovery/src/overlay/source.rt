@@ -4,7 +4,7 @@ ghost use Rattle.std.specs.Prelude.{◌≡◌, ◌<◌, length};
 ghost use Rattle.line_memory.specs.Lines.{line_at, IsMedium};
 
 use line_memory::{LINE_SIZE, Medium};
-use verdict::CutImage;
+use verdict::{CutImage, Images};
 
 /// The lines of a medium, which no call changes.
 pub trait Source {
@@ -37,7 +37,7 @@ impl Source for Medium {
     }
 }
 
-impl Source for CutImage<'_, '_, '_> {
+impl<I: Images> Source for CutImage<'_, '_, I> {
     ghost medium = { λ i. i };
 
     fn lines(&self) -> u32 {

@@ -1,11 +1,12 @@
-use Rattle.std.proofs.Common.{◌∙◌, ap, sym, List, ℕ, length}
+use Rattle.std.proofs.Common.{◌∙◌, ap, sym}
 use Rattle.routine_judge.specs.Images.{full_cut}
 use Rattle.routine_judge.specs.Views.{JudgeView}
-use Rattle.verdict.proofs.CutLines.{image_length, images_of}
+use Rattle.verdict.proofs.CutLines.{images_of}
+use Rattle.routine_judge.proofs.Running.{imaged, imaged_length}
 use Rattle.routine_judge.proofs.window.run_full.Goals as goal
 
-pub new-image-requires-clause-whole : goal.new-image-requires-clause-whole
-new-image-requires-clause-whole c =
+pub new-cuts-requires-clause-whole : goal.new-cuts-requires-clause-whole
+new-cuts-requires-clause-whole c =
     let i = c.run.inside in
     let v = c.run.invariant in
     images_of i.index.start i.medium.now i.index.events i.trace.now.events c.args.moment v.1 v.2 v.4 v.5
@@ -13,10 +14,11 @@ new-image-requires-clause-whole c =
 pub run-requires : goal.run-requires
 run-requires c =
     let i = c.run.inside in
-    let v = c.run.invariant in record {
-      lines = ap (λ (m : List (List ℕ)). length m) c.new-image.ensures
-          ∙ image_length i.index.start i.index.events c.args.moment (full_cut i.index.events c.args.moment)
-          ∙ ap (λ (m : List (List ℕ)). length m) v.1
-          ∙ ap (λ (view : JudgeView). length view.start) c.run.view_is
+    let v = c.run.invariant in
+    let cuts = c.new-cuts.result in
+    let view = c.args.run.now in record {
+      lines = imaged_length view c.args.moment full_cut c.new-image.result
+          (imaged cuts.index.now i.index view cuts.moment c.args.moment full_cut c.new-image.result c.new-cuts.ensures.index c.new-cuts.ensures.moment
+          (v.1 ∙ ap (λ (w : JudgeView). w.start) c.run.view_is) (v.2 ∙ ap (λ (w : JudgeView). w.events) c.run.view_is) c.new-image.ensures)
           ∙ sym c.requires.lines;
     }

@@ -1,4 +1,4 @@
-use Rattle.std.proofs.Common.{◌≡◌, ℕ, List, [], ◌∷◌, Bool, true, Option, Some, length, refl, sym, ◌∙◌, subst, true≢false, arith}
+use Rattle.std.proofs.Common.{◌≡◌, List, [], ◌∷◌, Bool, true, Option, Some, map, length, refl, sym, ◌∙◌, subst, true≢false, arith}
 use Rattle.std.specs.Prelude.{◌==◌}
 use Rattle.std.specs.Prelude.{filter}
 use Rattle.std.specs.List.{flat_map}
@@ -7,11 +7,12 @@ use Rattle.nova_log.specs.declared.volume.entry.Entry.{Entry}
 use Rattle.image_check.specs.Growth.{AreOutcomes, is_shown}
 use Rattle.image_check.specs.Legal.{with_entries}
 use Rattle.image_check.specs.Planned.{planned}
+use Rattle.image_check.specs.declared.legal.UnderWay.{UnderWay}
 use Rattle.image_check.proofs.Judging.{compared_legal, none_legal}
 use Rattle.image_check.proofs.legal.Outcomes.has.Goals as goal
 
 -- a list that is told to be empty
-empty_items : (xs ys : List ℕ) (b : Bool) → xs ≡ ys → b ≡ (length xs == 0) → b ≡ true → ys ≡ []
+empty_items : (xs ys : List UnderWay) (b : Bool) → xs ≡ ys → b ≡ (length xs == 0) → b ≡ true → ys ≡ []
 empty_items [] ys b same is told = sym same
 empty_items (x ∷ xs) ys b same is told = absurd (true≢false (sym told ∙ is ∙ grind (arith)))
 
@@ -27,15 +28,15 @@ returns c = λ start events o a.
     compared_legal c.args.plan.now.operations start events c.in-Some.settled c.args.volume.now c.in_ok-expected.expected c.args.self.now.under_way.items c.equals-2.result
     (subst (λ (s : Option (List (List Entry))). AreOutcomes c.args.plan.now.operations (result_ok start) events s c.args.self.now.under_way.items) c.in-Some.is o)
     a
-    (subst (λ (ops : List ℕ). with_entries c.in-Some.settled (flat_map (planned c.args.plan.now.operations)
-    (filter (λ op. is_shown c.in-Some.settled c.args.volume.now (planned c.args.plan.now.operations op)) ops)) ≡ Some c.in_ok-expected.expected)
+    (subst (λ (ops : List UnderWay). with_entries c.in-Some.settled (flat_map (planned c.args.plan.now.operations)
+    (filter (λ op. is_shown c.in-Some.settled c.args.volume.now (planned c.args.plan.now.operations op)) (map (λ u. u.op) ops))) ≡ Some c.in_ok-expected.expected)
     c.as_slice-under_way.ensures.value c.in_ok-expected.ensures)
     c.equals-2.ensures
 
 pub returns-then-is_empty : goal.returns-then-is_empty
 returns-then-is_empty c = λ start events o a.
     compared_legal c.args.plan.now.operations start events c.in-Some.settled c.args.volume.now c.in-Some.settled [] c.equals.result
-    (subst (λ (ops : List ℕ). AreOutcomes c.args.plan.now.operations (result_ok start) events (Some c.in-Some.settled) ops)
+    (subst (λ (ops : List UnderWay). AreOutcomes c.args.plan.now.operations (result_ok start) events (Some c.in-Some.settled) ops)
     (empty_items c.as_slice-under_way.result.now c.args.self.now.under_way.items c.is_empty.result c.as_slice-under_way.ensures.value c.is_empty.ensures c.if-is_empty.true)
     (subst (λ (s : Option (List (List Entry))). AreOutcomes c.args.plan.now.operations (result_ok start) events s c.args.self.now.under_way.items) c.in-Some.is o))
     a refl c.equals.ensures

@@ -1,0 +1,39 @@
+-- Lists with the same elements in another order.
+use Rattle.std.proofs.Common.{◌≡◌, ℕ, zero, suc, ◌<◌, Bool, true, false, cond, List, [], ◌∷◌, map, length, get_or, set, swap, refl, ap, arith, IsPermutation}
+use Rattle.std.specs.Prelude.{filter}
+use Rattle.std.proofs.lemmas.List.Sorted.{IsPermutation-keeps}
+
+-- A relation holds along each permutation if it is reflexive and transitive, and goes under a head and over an exchange of two heads.
+module _ {X : Type 0} (R : List X → List X → Type 0) (same : (xs : List X) → R xs xs)
+    (skip : (x : X) (xs ys : List X) → R xs ys → R (x ∷ xs) (x ∷ ys))
+    (turn : (x y : X) (xs : List X) → R (x ∷ y ∷ xs) (y ∷ x ∷ xs))
+    (chain : (xs ys zs : List X) → R xs ys → R ys zs → R xs zs) where
+  to_head : (l : List X) (j : ℕ) (x d : X) → j < length l → R (x ∷ l) (get_or l j d ∷ set l j x)
+  to_head [] j x d h = absurd (omega arith)
+  to_head (y ∷ l) zero x d h = turn x y l
+  to_head (y ∷ l) (suc j) x d h =
+      chain _ _ _ (turn x y l) (chain _ _ _ (skip y _ _ (to_head l j x d (omega arith))) (turn y (get_or l j d) (set l j x)))
+
+  exchanged : (l : List X) (i j : ℕ) (d : X) → i < length l → j < length l → R l (set (set l i (get_or l j d)) j (get_or l i d))
+  exchanged [] i j d p q = absurd (omega arith)
+  exchanged (x ∷ l) zero zero d p q = same (x ∷ l)
+  exchanged (x ∷ l) zero (suc j) d p q = to_head l j x d (omega arith)
+  exchanged (x ∷ l) (suc i) zero d p q = to_head l i x d (omega arith)
+  exchanged (x ∷ l) (suc i) (suc j) d p q = skip x _ _ (exchanged l i j d (omega arith) (omega arith))
+
+  swapped : (l : List X) (i j : ℕ) → i < length l → j < length l → R l (swap l i j)
+  swapped [] i j p q = same []
+  swapped (x ∷ l) i j p q = exchanged (x ∷ l) i j x p q
+
+  pub along_permutation : (xs ys : List X) → IsPermutation xs ys → R xs ys
+  along_permutation xs = IsPermutation-keeps xs (R xs) (same xs) (λ l i j p q h. chain xs l _ h (swapped l i j p q))
+
+-- a test of what each element gives
+kept_mapped : {X Y : Type 0} (b : Bool) (g : X → Y) (x : X) (xs : List X) (ys : List Y) → map g xs ≡ ys →
+    map g (cond b (x ∷ xs) xs) ≡ cond b (g x ∷ ys) ys
+kept_mapped {Y = Y} true g x xs ys e = ap (λ (zs : List Y). g x ∷ zs) e
+kept_mapped false g x xs ys e = e
+
+pub map_filtered : {X Y : Type 0} (p : Y → Bool) (g : X → Y) (xs : List X) → map g (filter (λ x. p (g x)) xs) ≡ filter p (map g xs)
+map_filtered p g [] = refl
+map_filtered p g (x ∷ xs) = kept_mapped (p (g x)) g x (filter (λ y. p (g y)) xs) (filter p (map g xs)) (map_filtered p g xs)
