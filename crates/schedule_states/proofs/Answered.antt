@@ -1,10 +1,12 @@
 -- A request leads to what the successor of a state stands for.
-use Rattle.std.proofs.Common.{◌≡◌, ◌≢◌, ◌⊎◌, inl, inr, ℕ, ◌<◌, ◌≤◌, ◌==◌, ◌&&◌, Bool, true, false, List, [], ◌∷◌, ◌++◌, Option, Some, None, length, reverse, slice_get, slice_set, slice_index_or, refl, sym, ap, ◌∙◌, subst, arith}
+use Rattle.std.proofs.Common.{◌≡◌, ◌≢◌, ◌⊎◌, inl, inr, ℕ, ◌≤◌, Bool, true, false, List, [], ◌∷◌, ◌++◌, Option, Some, reverse, slice_get, slice_set, slice_index_or, refl, sym, ap, ◌∙◌, subst, arith}
 use Rattle.std.specs.List.{flat_map}
-use Rattle.std.proofs.lemmas.Bool.{cases_Bool, cases_eq}
+use Rattle.std.proofs.lemmas.Bool.{cases_Bool}
 use Rattle.std.proofs.lemmas.Bool.Decides.{nat_tests}
-use Rattle.std.proofs.lemmas.List.{reverse-append}
+use Rattle.std.proofs.lemmas.List.{length-set, reverse-append}
 use Rattle.std.proofs.lemmas.List.Concat.{flat_map-append}
+use Rattle.std.proofs.lemmas.Option.{get_or_from_slice_get, same_Some, slice_get_within}
+use Rattle.bus.proofs.Places.{got_else, got_set}
 use Rattle.bus.specs.Alone.{Asks}
 use Rattle.hart.specs.Effect.{answered}
 use Rattle.hart.specs.Needs.{IsSpelledBy}
@@ -16,25 +18,24 @@ use Rattle.hart.specs.declared.state.Status.{Status}
 use Rattle.hart.specs.declared.state.Status.TheVariants.{Running}
 use Rattle.isa_table.specs.declared.instruction.Instr.{Instr}
 use Rattle.line_memory.specs.Memory.{Memory}
-use Rattle.machine.proofs.Determined.{needs_once, steps_once}
+use Rattle.machine.proofs.Determined.{steps_once}
 use Rattle.machine.specs.Histories.{calls_of, has_reserved, is_renewal, is_renewing, memory_after, text_of}
-use Rattle.machine.specs.Replies.{SharedState, events_of, memory_in, replied, reply_after, shared_after, trace_in}
+use Rattle.machine.specs.Replies.{events_of, memory_in, replied, reply_after, shared_after, trace_in}
 use Rattle.machine.specs.Run.{Config, HartSteps, HartStepsIfThere, StepsTo, after_request, fetched}
 use Rattle.machine.specs.declared.schedule.items.Step.TheVariants.{Hart}
 use Rattle.machine.specs.declared.shared_memory.history.Entry.TheVariants.{Asked}
 use Rattle.store_trace.specs.History.{history, steps_of}
 use Rattle.store_trace.specs.declared.event.Event.{Event}
 use Rattle.store_trace.specs.declared.crash_model.step.PersistenceStep.{PersistenceStep}
-use Rattle.schedule_states.proofs.Listing.{read_or}
 use Rattle.schedule_states.proofs.Putting.{below_grows, memory_kept}
-use Rattle.schedule_states.proofs.Standing.{asks_itself, length_set, set_here, set_there, some_same}
+use Rattle.schedule_states.proofs.Standing.{asks_itself}
 use Rattle.schedule_states.specs.Ahead.{ComesAlone}
-use Rattle.schedule_states.specs.HeldLines.{AreBelow}
+use Rattle.schedule_states.specs.Marks.{IsMarkedBy}
 use Rattle.schedule_states.specs.Memories.{IsMemoryOf, memory_over}
 use Rattle.schedule_states.specs.Requests.{is_reserved}
 use Rattle.schedule_states.specs.StartLines.{StartView, memory_at}
-use Rattle.schedule_states.specs.States.{AreGrown, AreLists, AsksTo, IsHartOf, IsReady, IsText, PartsView, StandsFor, text_for}
-use Rattle.schedule_states.specs.Successors.{AreHartsAfter, IsOtherAfter, IsPartAfter, IsServedFor, IsTextAfter, memory_held}
+use Rattle.schedule_states.specs.States.{AreGrown, AsksTo, IsHartOf, IsReady, IsText, PartsView, StandsFor, text_for}
+use Rattle.schedule_states.specs.Successors.{IsOtherAfter, IsServedFor, memory_held}
 use Rattle.schedule_states.specs.declared.held_lines.HeldLine.{HeldLine}
 use Rattle.schedule_states.specs.declared.program_state.HartPart.{HartPart}
 use Rattle.schedule_states.specs.declared.program_state.ProgramState.{ProgramState}
@@ -68,14 +69,14 @@ text_grown old new n text grown is = record {
 }
 
 text_read : (parts : PartsView) (n : ℕ) (text : Memory) → IsText parts n text → text ≡ text_of (memory_held parts (slice_index_or parts.lists n []))
-text_read parts n text is = is.is ∙ ap (λ (held : List HeldLine). text_of (memory_held parts held)) (sym (read_or parts.lists n is.held is.found))
+text_read parts n text is = is.is ∙ ap (λ (held : List HeldLine). text_of (memory_held parts held)) (sym (get_or_from_slice_get parts.lists n is.held [] is.found))
 
 -- the reply to the request
 same_reply : (old new : PartsView) (s next : ProgramState) (c : Config) (h : ℕ) (part own : HartPart) (of : HartState) (instr : Instr) (request : Request) (reply : Reply)
     (lines : List HeldLine) → StandsFor old s c → IsHartOf old c.common h part of → IsServedFor old new s next h part own instr request reply lines →
     reply ≡ reply_after c.common h request
 same_reply old new s next c h part own of instr request reply lines stands is served =
-    let held : slice_index_or old.lists s.memory [] ≡ stands.held = read_or old.lists s.memory stands.held stands.found in
+    let held : slice_index_or old.lists s.memory [] ≡ stands.held = get_or_from_slice_get old.lists s.memory stands.held [] stands.found in
     let memory : memory_held old (slice_index_or old.lists s.memory []) ≡ memory_in c.common =
     ap (λ (xs : List HeldLine). memory_held old xs) held ∙ sym stands.memory.flat in
     let lines_reserved : is_reserved part.reserved ≡ has_reserved c.common.history h = λ i l. is.reserved l i in
@@ -87,7 +88,7 @@ memory_served : (old new : PartsView) (s next : ProgramState) (c : Config) (h : 
     (lines : List HeldLine) → StandsFor old s c → IsServedFor old new s next h part own instr request reply lines → reply ≡ reply_after c.common h request →
     IsMemoryOf new.table.start new.table.states lines (memory_in (shared_after c.common h request)) (history (trace_in (shared_after c.common h request)))
 memory_served old new s next c h part own instr request reply lines stands served same =
-    let held : slice_index_or old.lists s.memory [] ≡ stands.held = read_or old.lists s.memory stands.held stands.found in
+    let held : slice_index_or old.lists s.memory [] ≡ stands.held = get_or_from_slice_get old.lists s.memory stands.held [] stands.found in
     let before : IsMemoryOf old.table.start old.table.states (slice_index_or old.lists s.memory []) (memory_in c.common) (history (trace_in c.common)) =
     subst (λ (xs : List HeldLine). IsMemoryOf old.table.start old.table.states xs (memory_in c.common) (history (trace_in c.common))) (sym held) stands.memory in
     let after : IsMemoryOf new.table.start new.table.states lines (memory_after (memory_in c.common) request reply)
@@ -172,14 +173,14 @@ harts_served old new s next c h part own of instr request reply lines stands her
     elim (served.harts.each g p mine) [
       | inl own_part ↦
           let at : slice_get (slice_set c.harts h after) h ≡ Some o = subst (λ (n : ℕ). slice_get (slice_set c.harts h after) n ≡ Some o) own_part.0 there in
-          let is_after : after ≡ o = some_same (slice_set c.harts h after) h after o (set_here c.harts h after of here) at in
+          let is_after : after ≡ o = same_Some after o (sym (got_set c.harts h after (slice_get_within c.harts h of here)) ∙ at) in
           let made : IsHartOf new (shared_after c.common h request) h own after = own_hart old new s next c h part own of instr request reply lines stands is served same in
           subst (λ (n : ℕ). IsHartOf new (shared_after c.common h request) n p o) (sym own_part.0)
           (subst (λ (q : HartPart). IsHartOf new (shared_after c.common h request) h q o) (sym own_part.1)
           (subst (λ (t : HartState). IsHartOf new (shared_after c.common h request) h own t) is_after made))
       | inr other ↦
           let apart : h ≢ g = λ e. other.0 (sym e) in
-          let before : slice_get c.harts g ≡ Some o = sym (set_there c.harts h g after apart) ∙ there in
+          let before : slice_get c.harts g ≡ Some o = sym (got_else c.harts h g after other.0) ∙ there in
           let was : IsHartOf old c.common g other.1.0 o = stands.harts g other.1.0 o other.1.1 before in
           other_hart old new c h g request reply other.1.0 p o served.grown apart same was other.1.2
     ]
@@ -191,19 +192,22 @@ served_stands : (old new : PartsView) (s next : ProgramState) (c : Config) (h : 
 served_stands old new s next c h part own of instr request reply lines stands here is served =
     let same : reply ≡ reply_after c.common h request = same_reply old new s next c h part own of instr request reply lines stands is served in
     let after : HartState = answered part.state instr (reply_after c.common h request) in record {
-      count = served.harts.count ∙ stands.count ∙ sym (length_set c.harts h after);
-      few = subst (λ (n : ℕ). n ≤ 8) (sym (length_set c.harts h after)) stands.few;
+      count = served.harts.count ∙ stands.count ∙ sym (length-set c.harts h after);
+      few = subst (λ (n : ℕ). n ≤ 8) (sym (length-set c.harts h after)) stands.few;
       harts = harts_served old new s next c h part own of instr request reply lines stands here is served same;
       held = lines;
       found = served.memory;
       memory = memory_served old new s next c h part own instr request reply lines stands served same;
     }
 
-pub stands_served : (old new : PartsView) (s next : ProgramState) (c d : Config) (h : ℕ) (part own : HartPart) (instr : Instr) (request : Request) (reply : Reply)
-    (lines : List HeldLine) → IsServedFor old new s next h part own instr request reply lines →
+-- the next state stands for what comes by the request, and its mark is that of the request
+pub stands_served : (old new : PartsView) (s next : ProgramState) (mark : Option Event) (c d : Config) (h : ℕ) (part own : HartPart) (instr : Instr) (request : Request)
+    (reply : Reply) (lines : List HeldLine) → IsServedFor old new s next h part own instr request reply lines →
+    ((memory : Memory) (lines_reserved : ℕ → Bool) (before : List Event) → IsMarkedBy mark before (before ++ events_of h request (replied memory lines_reserved request))) →
     Asks (text_of (memory_held old (slice_index_or old.lists part.text []))) part.state request →
-    IsSpelledBy (fetched (text_of (memory_held old (slice_index_or old.lists part.text []))) part.state.pc) instr → StandsFor old s c → AsksTo c h d → StandsFor new next d
-stands_served old new s next c d h part own instr request reply lines served asks spelled stands to =
+    IsSpelledBy (fetched (text_of (memory_held old (slice_index_or old.lists part.text []))) part.state.pc) instr → StandsFor old s c → AsksTo c h d →
+    StandsFor new next d × IsMarkedBy mark (trace_in c.common) (trace_in d.common)
+stands_served old new s next mark c d h part own instr request reply lines served marked asks spelled stands to =
     let is : IsHartOf old c.common h part to.own = stands.harts h part to.own served.part_is to.here in
     let read : text_of (memory_held old (slice_index_or old.lists part.text [])) ≡ text_for c.common h = sym (text_read old part.text (text_for c.common h) is.text) in
     let mine : part.state ≡ to.own = asks_itself old c.common h part to.own to.request is to.asks in
@@ -212,7 +216,10 @@ stands_served old new s next c d h part own instr request reply lines served ask
     let spelled_here : IsSpelledBy (fetched (text_for c.common h) part.state.pc) instr =
     subst (λ (m : Memory). IsSpelledBy (fetched m part.state.pc) instr) read spelled in
     let one : d ≡ after_request c h part.state instr request = same_request c d h part.state instr request here asks_here spelled_here to in
-    subst (λ (e : Config). StandsFor new next e) (sym one) (served_stands old new s next c h part own to.own instr request reply lines stands to.here is served)
+    subst (λ (e : Config). StandsFor new next e × IsMarkedBy mark (trace_in c.common) (trace_in e.common)) (sym one) (
+      served_stands old new s next c h part own to.own instr request reply lines stands to.here is served,
+      marked (memory_in c.common) (has_reserved c.common.history h) (trace_in c.common),
+    )
 
 -- a hart that has stopped asks nothing
 pub stopped_asks_not : (old : PartsView) (s : ProgramState) (c d : Config) (h : ℕ) (part : HartPart) → slice_get s.harts.items h ≡ Some part →

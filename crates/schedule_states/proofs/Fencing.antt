@@ -1,39 +1,36 @@
 -- A clean of a line, and a fence of all.
-use Rattle.std.proofs.Common.{◌≡◌, ◌≢◌, ◌⊎◌, inl, inr, ℕ, zero, suc, ◌+◌, ◌-◌, ◌*◌, ◌/◌, ◌%◌, ◌<◌, ◌≤◌, ◌==◌, nat_le, true, false, cond, List, [], ◌∷◌, ◌++◌, Option, Some, None, take, length, slice_get, slice_index_or, refl, sym, ap, ◌∙◌, subst, arith}
+use Rattle.std.proofs.Common.{◌≡◌, ◌≢◌, ◌⊎◌, inl, inr, ℕ, zero, suc, ◌+◌, ◌-◌, ◌*◌, ◌/◌, ◌%◌, ◌<◌, ◌≤◌, ◌==◌, nat_le, true, false, List, [], ◌∷◌, ◌++◌, Option, Some, None, take, length, slice_get, slice_index_or, refl, sym, ap, ◌∙◌, subst, arith}
 use Rattle.std.specs.Prelude.{filter, map}
-use Rattle.std.proofs.lemmas.Bool.{cases_Bool, cases_eq, cases_lt, le-leb, lt-leb}
+use Rattle.std.proofs.lemmas.Bool.{cases_Bool, cases_eq, le-leb, lt-leb}
 use Rattle.std.proofs.lemmas.Bool.Decides.{nat_tests}
-use Rattle.std.proofs.lemmas.List.{take_more}
+use Rattle.std.proofs.lemmas.List.{take_all}
 use Rattle.line_memory.specs.Lines.{line_at}
 use Rattle.line_memory.specs.Memory.{Memory}
 use Rattle.line_memory.specs.declared.TheConstants.{PERSISTENT_BASE}
 use Rattle.store_trace.specs.declared.crash_model.step.PersistenceStep.{PersistenceStep}
-use Rattle.store_trace.specs.declared.crash_model.step.PersistenceStep.TheVariants.{Store, Clean, Fence, Evict}
+use Rattle.store_trace.specs.declared.crash_model.step.PersistenceStep.TheVariants.{Clean, Fence}
 use Rattle.schedule_states.proofs.Putting.{state_kept}
 use Rattle.schedule_states.proofs.Showing.{line_held}
-use Rattle.schedule_states.proofs.Stepping.{after_clean, after_fence}
+use Rattle.schedule_states.proofs.Stepping.{line_cleaned, line_fenced, line_of}
 use Rattle.schedule_states.proofs.Writing.{elsewhere_clean, put_leaves, put_shows, shown_put, state_put}
 use Rattle.schedule_states.specs.HeldLines.{AreBelow, number_of}
-use Rattle.schedule_states.specs.LineStates.{IsLine, IsLineState, gone_with, stays_after}
-use Rattle.schedule_states.specs.Memories.{AreLinesAfter, AreLinesSoFar, Grows, IsFencedAt, IsLineAfter, IsLineOf, IsMemoryOf, IsPut, IsStateOf, TableView, byte_in, memory_over, state_in, steps_of_clean}
+use Rattle.schedule_states.specs.LineStates.{IsLineState, gone_with, stays_after}
+use Rattle.schedule_states.specs.Memories.{AreLinesAfter, AreLinesSoFar, IsFencedAt, IsLineAfter, IsLineOf, IsMemoryOf, IsPut, IsStateOf, TableView, byte_in, memory_over, state_in, steps_of_clean}
+use Rattle.schedule_states.specs.Numbers.{AreKept}
 use Rattle.schedule_states.specs.StartLines.{StartView, memory_at}
 use Rattle.schedule_states.specs.declared.held_lines.HeldLine.{HeldLine}
 use Rattle.schedule_states.specs.declared.line_state.LineState.{LineState}
 
 -- a line that is as it was at the start
 pub none_cleaned : (start : List ℕ) (l g : ℕ) (p : List PersistenceStep) → IsLineOf start l p None → IsLineOf start l (Clean g l ∷ p) None
-none_cleaned start l g p is = λ s bytes none.
-    let gone : s.others.items ≡ map (gone_with g) s.others.items = rw none refl in
-    after_clean start l g p s s (is s bytes none) refl gone
+none_cleaned start l g p is = line_cleaned start l g p (record { bytes = start; others = [] }) (record { bytes = start; others = [] }) is refl refl
 
 pub none_fenced : (start : List ℕ) (l g : ℕ) (p : List PersistenceStep) → g < 8 → IsLineOf start l p None → IsLineOf start l (Fence g ∷ p) None
-none_fenced start l g p few is = λ s bytes none.
-    let left : s.others.items ≡ filter (stays_after g) s.others.items = rw none refl in
-    after_fence start l g p s s few (is s bytes none) refl left
+none_fenced start l g p few is = line_fenced start l g p (record { bytes = start; others = [] }) (record { bytes = start; others = [] }) few is refl refl
 
 clean_of : (start : List ℕ) (l g m : ℕ) (p : List PersistenceStep) (held : Option LineState) → m ≢ l → IsLineOf start l p held → IsLineOf start l (Clean g m ∷ p) held
 clean_of start l g m p (Some s) other is = elsewhere_clean start l g m p s.bytes s.others.items other is
-clean_of start l g m p None other is = λ s bytes none. elsewhere_clean start l g m p s.bytes s.others.items other (is s bytes none)
+clean_of start l g m p None other is = elsewhere_clean start l g m p start [] other is
 
 -- a clean
 clean_line : (old new : TableView) (held lines : List HeldLine) (hart address : ℕ) (state after : LineState) (p : List PersistenceStep) (l : ℕ) →
@@ -131,7 +128,7 @@ pub fence_certain : (start : StartView) (g line : ℕ) (s : LineState) → g < 8
 fence_certain start g line s few none =
     let left : s.others.items ≡ filter (stays_after g) s.others.items = rw none refl in record {
       bytes = λ offset h. refl;
-      medium = λ l at p is. after_fence (line_at start.medium l) l g p s s few is refl left;
+      medium = λ l at p is. line_fenced (line_at start.medium l) l g p (line_of s) (line_of s) few is refl left;
     }
 
 pub fence_state : (start : StartView) (g line : ℕ) (state after : LineState) (new : Option LineState) → after.bytes ≡ state.bytes →
@@ -174,11 +171,6 @@ so_far_none table g held lines same below = rw same (record {
   each = λ line. inr (refl, refl);
 })
 
-pub same_or : (held : List HeldLine) (at : ℕ) (one other : HeldLine) → at < length held → slice_index_or held at one ≡ slice_index_or held at other
-same_or [] at one other there = absurd (omega arith)
-same_or (x ∷ held) zero one other there = refl
-same_or (x ∷ held) (suc at) one other there = same_or held at one other (omega arith)
-
 number_more : (held : List HeldLine) (at : ℕ) (one : HeldLine) (l : ℕ) → at < length held → slice_index_or held at one ≡ one → one.line ≢ l →
     number_of (take (at + 1) held) l ≡ number_of (take at held) l
 number_more [] at one l there is other = absurd (omega arith)
@@ -194,7 +186,7 @@ number_more (x ∷ held) (suc at) one l there is other =
 
 pub so_far_more : (old middle new : TableView) (g : ℕ) (held lines after : List HeldLine) (at : ℕ) (one : HeldLine) → at < length held →
     slice_index_or held at one ≡ one → AreBelow (length old.states) held → AreLinesSoFar old middle (λ l. Fence g ∷ []) held at lines →
-    new.start ≡ middle.start → Grows middle.states new.states →
+    new.start ≡ middle.start → AreKept middle.states new.states →
     IsFencedAt middle new g held lines one.line after → AreLinesSoFar old new (λ l. Fence g ∷ []) held (at + 1) after
 so_far_more old middle new g held lines after at one there is below far start grows fenced =
     let kept : (l : ℕ) → state_in middle.states held l ≡ state_in old.states held l = λ l. state_kept old.states middle.states held l far.grows below in record {
@@ -223,10 +215,6 @@ so_far_more old middle new g held lines after at one there is below far start gr
       ];
     }
 
-take_all : (held : List HeldLine) → take (length held) held ≡ held
-take_all [] = refl
-take_all (x ∷ held) = ap (λ (rest : List HeldLine). x ∷ rest) (take_all held)
-
 pub so_far_all : (old new : TableView) (g : ℕ) (held lines : List HeldLine) → g < 8 → AreLinesSoFar old new (λ l. Fence g ∷ []) held (length held) lines →
     AreLinesAfter old new (λ l. Fence g ∷ []) held lines
 so_far_all old new g held lines few far = record {
@@ -234,7 +222,7 @@ so_far_all old new g held lines few far = record {
   each = λ l. elim (far.each l) [
     | inl made ↦ made
     | inr same ↦
-        let none : number_of held l ≡ None = rw (take_all held) at same.1 in
+        let none : number_of held l ≡ None = rw (take_all (length held) held (omega arith)) at same.1 in
         let before : state_in old.states held l ≡ None = rw none refl in
         let after : state_in new.states lines l ≡ None = same.0 ∙ before in
         rw (before, after) (fence_none old.start g l few)

@@ -1,17 +1,16 @@
 -- What holds of parts holds as they grow.
-use Rattle.std.proofs.Common.{◌≡◌, ◌≢◌, inl, inr, ℕ, zero, suc, ◌<◌, ◌≤◌, ◌++◌, Bool, true, List, [], ◌∷◌, Some, length, slice_get, slice_index_or, refl, sym, ap, ◌∙◌, subst, arith}
-use Rattle.std.specs.List.{All}
+use Rattle.std.proofs.Common.{◌≡◌, inl, inr, ℕ, ◌<◌, List, Some, length, slice_get, slice_index_or, refl, sym, ap, ◌∙◌, subst, arith}
+use Rattle.std.proofs.lemmas.Option.{get_or_from_slice_get, slice_get-get_or}
 use Rattle.hart.specs.declared.need.Request.{Request}
 use Rattle.hart.specs.declared.need.Reply.{Reply}
 use Rattle.hart.specs.declared.state.HartState.{HartState}
 use Rattle.line_memory.specs.Memory.{Memory}
 use Rattle.machine.specs.Histories.{text_of}
-use Rattle.schedule_states.proofs.Listing.{within_lists}
-use Rattle.schedule_states.proofs.Succeeding.{part_there}
+use Rattle.schedule_states.proofs.Looking.{within_kept}
 use Rattle.schedule_states.specs.Ahead.{IsNext}
-use Rattle.schedule_states.specs.Memories.{TableView, memory_over}
+use Rattle.schedule_states.specs.Memories.{TableView}
 use Rattle.schedule_states.specs.States.{AreGrown, IsReady, PartsView}
-use Rattle.schedule_states.specs.Successors.{AreHartsAfter, AreServed, HasLists, IsPartAfter, IsTextAfter, memory_held}
+use Rattle.schedule_states.specs.Successors.{AreHartsAfter, AreServed, HasLists, IsTextAfter, memory_held}
 use Rattle.schedule_states.specs.declared.ahead.Next.{Next}
 use Rattle.schedule_states.specs.declared.ahead.Next.TheVariants as nexts
 use Rattle.schedule_states.specs.declared.held_lines.HeldLine.{HeldLine}
@@ -24,15 +23,8 @@ grown_then old middle new a b = record {
   lists = λ n held found. b.lists n held (a.lists n held found);
 }
 
-pub list_there : (lists : List (List HeldLine)) (n : ℕ) → n < length lists → (held : List HeldLine) × (slice_get lists n ≡ Some held)
-list_there [] n h = absurd (omega arith)
-list_there (x ∷ lists) zero h = (x, refl)
-list_there (x ∷ lists) (suc n) h = list_there lists n (omega arith)
-
 pub there_still : (old new : PartsView) (n : ℕ) → AreGrown old new → n < length old.lists → n < length new.lists
-there_still old new n grown h =
-    let at : (held : List HeldLine) × (slice_get old.lists n ≡ Some held) = list_there old.lists n h in
-    within_lists new.lists n at.0 (grown.lists n at.0 at.1)
+there_still old new n grown h = within_kept old.lists new.lists n grown.lists h
 
 pub text_still : (middle new : PartsView) (request : Request) (lines : List HeldLine) (before after : ℕ) → AreGrown middle new → new.table ≡ middle.table →
     IsTextAfter middle request lines before after → IsTextAfter new request lines before after
@@ -53,23 +45,18 @@ pub served_still : (old middle new : PartsView) (h : ℕ) (request : Request) (r
 served_still old middle new h request reply held lines same served = subst (λ (t : TableView). AreServed old (record { table = t; lists = new.lists }) h request reply held lines)
     (sym same) (record { below = served.below; served = served.served })
 
-same_part : (xs : List HartPart) (k : ℕ) (part : HartPart) → slice_get xs k ≡ Some part → slice_index_or xs k part ≡ part
-same_part [] k part h = refl
-same_part (x ∷ xs) zero part h = let both : Some x ≡ Some part = h in cc
-same_part (x ∷ xs) (suc k) part h = same_part xs k part h
-
 pub has_lists_after : (old new : PartsView) (s next : ProgramState) (h : ℕ) (own : HartPart) (request : Request) (reply : Reply) → AreGrown old new → HasLists old s →
     next.memory < length new.lists → own.text < length new.lists → AreHartsAfter h own request reply s.harts.items next.harts.items → HasLists new next
 has_lists_after old new s next h own request reply grown lists memory text harts = record {
   memory = memory;
   texts = λ k d there.
       let part : HartPart = slice_index_or next.harts.items k d in
-      elim (harts.each k part (part_there next.harts.items k d there)) [
+      elim (harts.each k part (slice_get-get_or next.harts.items k d there)) [
         | inl mine ↦ subst (λ (p : HartPart). p.text < length new.lists) (sym mine.1) text
         | inr other ↦
             let was : HartPart = other.1.0 in
             let at : k < length s.harts.items = omega (arith, harts.count, there) in
-            let same : slice_index_or s.harts.items k was ≡ was = same_part s.harts.items k was other.1.1 in
+            let same : slice_index_or s.harts.items k was ≡ was = get_or_from_slice_get s.harts.items k was was other.1.1 in
             let few : was.text < length old.lists = subst (λ (p : HartPart). p.text < length old.lists) same (lists.texts k was at) in
             subst (λ (n : ℕ). n < length new.lists) (sym other.1.2.text) (there_still old new was.text grown few)
       ];

@@ -1,7 +1,7 @@
 -- What each persistence step makes of the contents that a power cut may leave of a line.
-use Rattle.std.proofs.Common.{◌≡◌, ℕ, ◌+◌, ◌≤◌, ◌⊎◌, inl, inr, false, List, [], ◌∷◌, ◌==◌, ◌&&◌, nat_lt, max, arith, refl, ◌∙◌, sym}
+use Rattle.std.proofs.Common.{◌≡◌, ℕ, ◌+◌, ◌≤◌, ◌⊎◌, inl, inr, false, List, [], ◌∷◌, ◌==◌, ◌&&◌, nat_lt, max, arith}
 use Rattle.std.specs.Prelude.{◌↔◌, ◌≢◌}
-use Rattle.std.proofs.lemmas.Bool.{cases_Bool}
+use Rattle.std.proofs.lemmas.Bool.{cases_Bool, ne_eqb}
 use Rattle.std.proofs.lemmas.Bool.Decides.{nat_tests}
 use Rattle.word_bits.specs.Bytes.{stored}
 use Rattle.store_trace.proofs.Bounds.{cleaned_le_stores, floor_le_stores}
@@ -170,20 +170,17 @@ store_adds_fenced start l h o w v p bytes =
     )
 
 -- a store to another line
-is_other : (l m : ℕ) → m ≢ l → (m == l) ≡ false
-is_other l m h = grind (arith, nat_tests, h)
-
 pub store_elsewhere : (start : List ℕ) (l m o w v : ℕ) (p : List PersistenceStep) (bytes : List ℕ) → m ≢ l →
     MayHold start l (Store m o w v ∷ p) bytes ↔ MayHold start l p bytes
 store_elsewhere start l m o w v p bytes h = (
-  λ c. content_other start l (floor l p) m o w v p bytes (is_other l m h) c,
+  λ c. content_other start l (floor l p) m o w v p bytes (ne_eqb m l h) c,
   λ c. content_kept start l (floor l p) m o w v p bytes c,
 )
 
 pub store_elsewhere_fenced : (start : List ℕ) (l m h o w v : ℕ) (p : List PersistenceStep) (bytes : List ℕ) → m ≢ l →
     MayHoldFenced start l h (Store m o w v ∷ p) bytes ↔ MayHoldFenced start l h p bytes
 store_elsewhere_fenced start l m h o w v p bytes other = (
-  λ c. content_other start l (max (floor l p) (cleaned l h p)) m o w v p bytes (is_other l m other) c,
+  λ c. content_other start l (max (floor l p) (cleaned l h p)) m o w v p bytes (ne_eqb m l other) c,
   λ c. content_kept start l (max (floor l p) (cleaned l h p)) m o w v p bytes c,
 )
 

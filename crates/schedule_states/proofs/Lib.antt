@@ -5,9 +5,11 @@ pub mod Covering
 pub mod Fencing
 pub mod Fetching
 pub mod Growing
+pub mod Imaging
+pub mod Judging
 pub mod Held
 pub mod Leaving
-pub mod Listing
+pub mod Looking
 pub mod Numbering
 pub mod Putting
 pub mod Reaching
@@ -19,4 +21,3 @@ pub mod Standing
 pub mod Starting
 pub mod Writing
 pub mod Stepping
-pub mod Succeeding

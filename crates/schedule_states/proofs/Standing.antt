@@ -1,10 +1,12 @@
 -- A state goes on standing for what a schedule leads to.
-use Rattle.std.proofs.Common.{◌≡◌, ◌≢◌, ◌⊎◌, inl, inr, ℕ, zero, suc, ◌+◌, ◌<◌, ◌≤◌, ◌==◌, Bool, true, false, List, [], ◌∷◌, Option, Some, None, length, slice_get, slice_set, refl, sym, ap, ◌∙◌, subst, arith}
-use Rattle.std.proofs.lemmas.Bool.{cases_Bool, cases_eq}
-use Rattle.std.proofs.lemmas.Bool.Decides.{nat_tests}
+use Rattle.std.proofs.Common.{◌≡◌, ◌⊎◌, inl, inr, ℕ, zero, suc, ◌≤◌, Option, Some, None, slice_get, slice_set, refl, sym, ap, ◌∙◌, subst}
+use Rattle.std.proofs.lemmas.Bool.{cases_eq}
+use Rattle.std.proofs.lemmas.List.{length-set}
+use Rattle.std.proofs.lemmas.Option.{same_Some, slice_get_within}
 use Rattle.bus.proofs.Following.{asking_stays, stopped_stays}
-use Rattle.bus.specs.Alone.{Asks, GoesAlone, IsAsking, LeavesAlone, StepsAlone}
-use Rattle.hart.specs.Needs.{IsSpelledBy, Needs}
+use Rattle.bus.proofs.Places.{got_else, got_set}
+use Rattle.bus.specs.Alone.{Asks, GoesAlone, LeavesAlone, StepsAlone}
+use Rattle.hart.specs.Needs.{Needs}
 use Rattle.hart.specs.declared.need.Need.{Need}
 use Rattle.hart.specs.declared.need.Need.TheVariants.{Local, Ask, Stop}
 use Rattle.hart.specs.declared.need.Request.{Request}
@@ -13,8 +15,8 @@ use Rattle.hart.specs.declared.state.Status.{Status}
 use Rattle.hart.specs.declared.state.Status.TheVariants.{Running, Exited, Trapped}
 use Rattle.line_memory.specs.Memory.{Memory}
 use Rattle.machine.proofs.Determined.{needs_once}
-use Rattle.machine.specs.Replies.{SharedState}
-use Rattle.machine.specs.Run.{Config, Executes, HartSteps, HartStepsIfThere, Meets, StepsTo, fetched, with_hart}
+use Rattle.machine.specs.Replies.{SharedState, trace_in}
+use Rattle.machine.specs.Run.{Config, HartSteps, HartStepsIfThere, Meets, StepsTo, fetched, with_hart}
 use Rattle.machine.specs.declared.schedule.items.Step.{Step}
 use Rattle.machine.specs.declared.schedule.items.Step.TheVariants.{Hart, Evict}
 use Rattle.schedule_states.specs.Ahead.{ComesAlone}
@@ -53,65 +55,54 @@ still_ahead text (suc n) own next ahead ready step goes =
     let same : first.0 ≡ next = alone_once text own first.0 next first.1 step in
     (n, subst (λ (s : HartState). GoesAlone text n s ahead) same first.2)
 
--- a hart of its own
-pub set_here : (xs : List HartState) (h : ℕ) (s own : HartState) → slice_get xs h ≡ Some own → slice_get (slice_set xs h s) h ≡ Some s
-set_here [] h s own there = cc
-set_here (x ∷ xs) zero s own there = refl
-set_here (x ∷ xs) (suc h) s own there = set_here xs h s own there
-
-pub set_there : (xs : List HartState) (h g : ℕ) (s : HartState) → h ≢ g → slice_get (slice_set xs h s) g ≡ slice_get xs g
-set_there [] h g s other = refl
-set_there (x ∷ xs) zero zero s other = absurd (other refl)
-set_there (x ∷ xs) zero (suc g) s other = refl
-set_there (x ∷ xs) (suc h) zero s other = refl
-set_there (x ∷ xs) (suc h) (suc g) s other = set_there xs h g s (λ e. other (ap suc e))
-
-pub length_set : (xs : List HartState) (h : ℕ) (s : HartState) → length (slice_set xs h s) ≡ length xs
-length_set [] h s = refl
-length_set (x ∷ xs) zero s = refl
-length_set (x ∷ xs) (suc h) s = ap suc (length_set xs h s)
-
-pub some_same : (xs : List HartState) (h : ℕ) (a b : HartState) → slice_get xs h ≡ Some a → slice_get xs h ≡ Some b → a ≡ b
-some_same xs h a b p q = let both : Some a ≡ Some b = sym p ∙ q in cc
-
 alone_harts : (parts : PartsView) (s : ProgramState) (c : Config) (h : ℕ) (own next : HartState) → StandsFor parts s c → slice_get c.harts h ≡ Some own →
     StepsAlone (text_for c.common h) own next → (g : ℕ) (part : HartPart) (of : HartState) → slice_get s.harts.items g ≡ Some part →
     slice_get (slice_set c.harts h next) g ≡ Some of → IsHartOf parts c.common g part of
 alone_harts parts s c h own next stands here step g part of mine there = elim (cases_eq h g) [
   | inl same ↦
       let at : slice_get (slice_set c.harts h next) h ≡ Some of = subst (λ (n : ℕ). slice_get (slice_set c.harts h next) n ≡ Some of) (sym same) there in
-      let is : next ≡ of = some_same (slice_set c.harts h next) h next of (set_here c.harts h next own here) at in
+      let is : next ≡ of = same_Some next of (sym (got_set c.harts h next (slice_get_within c.harts h own here)) ∙ at) in
       let part_here : slice_get s.harts.items h ≡ Some part = subst (λ (n : ℕ). slice_get s.harts.items n ≡ Some part) (sym same) mine in
       let before : IsHartOf parts c.common h part own = stands.harts h part own part_here here in
       let ahead : ComesAlone (text_for c.common h) next part.state =
       still_ahead (text_for c.common h) before.ahead.0 own next part.state before.ready step before.ahead.1 in
       let after : IsHartOf parts c.common h part next = record { text = before.text; ahead = ahead; ready = before.ready; reserved = before.reserved } in
       subst (λ (n : ℕ). IsHartOf parts c.common n part of) same (subst (λ (t : HartState). IsHartOf parts c.common h part t) is after)
-  | inr other ↦ stands.harts g part of mine (sym (set_there c.harts h g next other) ∙ there)
+  | inr other ↦ stands.harts g part of mine (sym (got_else c.harts h g next (λ e. other (sym e))) ∙ there)
 ]
 
 -- a step of a hart's registers alone, and one that changes nothing
 pub stands_alone : (parts : PartsView) (s : ProgramState) (c : Config) (h : ℕ) (own next : HartState) → StandsFor parts s c → slice_get c.harts h ≡ Some own →
     StepsAlone (text_for c.common h) own next → StandsFor parts s (with_hart c h next)
 stands_alone parts s c h own next stands here step = record {
-  count = stands.count ∙ sym (length_set c.harts h next);
-  few = subst (λ (n : ℕ). n ≤ 8) (sym (length_set c.harts h next)) stands.few;
+  count = stands.count ∙ sym (length-set c.harts h next);
+  few = subst (λ (n : ℕ). n ≤ 8) (sym (length-set c.harts h next)) stands.few;
   harts = alone_harts parts s c h own next stands here step;
   held = stands.held;
   found = stands.found;
   memory = stands.memory;
 }
 
+-- the state stands for d still, and no event came
+abbrev StandsOn : PartsView → ProgramState → Config → Config → Type 0
+StandsOn parts s c d = StandsFor parts s d × (trace_in d.common ≡ trace_in c.common)
+
+on_alone : (parts : PartsView) (s : ProgramState) (c d : Config) (h : ℕ) (own next : HartState) → StandsFor parts s c → slice_get c.harts h ≡ Some own →
+    StepsAlone (text_for c.common h) own next → d ≡ with_hart c h next → StandsOn parts s c d
+on_alone parts s c d h own next stands here step is =
+    (subst (λ (e : Config). StandsFor parts s e) (sym is) (stands_alone parts s c h own next stands here step), ap (λ (e : Config). trace_in e.common) is)
+
+on_still : (parts : PartsView) (s : ProgramState) (c d : Config) → StandsFor parts s c → d ≡ c → StandsOn parts s c d
+on_still parts s c d stands is = (subst (λ (e : Config). StandsFor parts s e) (sym is) stands, ap (λ (e : Config). trace_in e.common) is)
+
 hart_step : (parts : PartsView) (s : ProgramState) (c d : Config) (h : ℕ) (own : HartState) (need : Need) → StandsFor parts s c → slice_get c.harts h ≡ Some own →
     own.status ≡ Running → Needs own (fetched (text_for c.common h) own.pc) need → Meets c h own (fetched (text_for c.common h) own.pc) need d →
-    StandsFor parts s d ⊎ AsksTo c h d
+    StandsOn parts s c d ⊎ AsksTo c h d
 hart_step parts s c d h own (Local after) stands here running needs meets =
-    let step : StepsAlone (text_for c.common h) own after = record { need = Local after; running = running; needs = needs; leaves = refl } in
-    inl (subst (λ (e : Config). StandsFor parts s e) (sym meets) (stands_alone parts s c h own after stands here step))
+    inl (on_alone parts s c d h own after stands here (record { need = Local after; running = running; needs = needs; leaves = refl }) meets)
 hart_step parts s c d h own (Stop trap) stands here running needs meets =
-    let step : StepsAlone (text_for c.common h) own (record own { status = Trapped trap }) =
-    record { need = Stop trap; running = running; needs = needs; leaves = refl } in
-    inl (subst (λ (e : Config). StandsFor parts s e) (sym meets) (stands_alone parts s c h own (record own { status = Trapped trap }) stands here step))
+    inl (on_alone parts s c d h own (record own { status = Trapped trap }) stands here
+    (record { need = Stop trap; running = running; needs = needs; leaves = refl }) meets)
 hart_step parts s c d h own (Ask request) stands here running needs meets = inr (record {
   own = own;
   instr = meets.0;
@@ -123,13 +114,13 @@ hart_step parts s c d h own (Ask request) stands here running needs meets = inr 
 })
 
 hart_steps : (parts : PartsView) (s : ProgramState) (c d : Config) (h : ℕ) (own : HartState) (status : Status) → StandsFor parts s c → slice_get c.harts h ≡ Some own →
-    own.status ≡ status → HartSteps c h own status d → StandsFor parts s d ⊎ AsksTo c h d
+    own.status ≡ status → HartSteps c h own status d → StandsOn parts s c d ⊎ AsksTo c h d
 hart_steps parts s c d h own Running stands here is steps = hart_step parts s c d h own steps.0 stands here is steps.1 steps.2
-hart_steps parts s c d h own (Exited code) stands here is steps = inl (subst (λ (e : Config). StandsFor parts s e) (sym steps) stands)
-hart_steps parts s c d h own (Trapped trap) stands here is steps = inl (subst (λ (e : Config). StandsFor parts s e) (sym steps) stands)
+hart_steps parts s c d h own (Exited code) stands here is steps = inl (on_still parts s c d stands steps)
+hart_steps parts s c d h own (Trapped trap) stands here is steps = inl (on_still parts s c d stands steps)
 
 hart_there : (parts : PartsView) (s : ProgramState) (c d : Config) (h : ℕ) (there : Option HartState) → StandsFor parts s c → slice_get c.harts h ≡ there →
-    HartStepsIfThere c h there d → StandsFor parts s d ⊎ AsksTo c h d
+    HartStepsIfThere c h there d → StandsOn parts s c d ⊎ AsksTo c h d
 hart_there parts s c d h None stands here steps = absurd steps
 hart_there parts s c d h (Some own) stands here steps = hart_steps parts s c d h own own.status stands here refl steps
 
@@ -146,14 +137,14 @@ stands_evicted parts s c d line stands step = rw step (record {
   memory = stands.memory;
 })
 
--- a step leads to what the state stands for still, or is a request
+-- a step leads to what the state stands for still, with no event, or is a request
 pub stands_or_asks : (parts : PartsView) (s : ProgramState) (c d : Config) (step : Step) → StandsFor parts s c → StepsTo c step d →
-    StandsFor parts s d ⊎ ((h : ℕ) × AsksTo c h d)
+    StandsOn parts s c d ⊎ ((h : ℕ) × AsksTo c h d)
 stands_or_asks parts s c d (Hart h) stands steps = elim (hart_there parts s c d h (slice_get c.harts h) stands refl steps) [
   | inl still ↦ inl still
   | inr asks ↦ inr (h, asks)
 ]
-stands_or_asks parts s c d (Evict line) stands steps = inl (stands_evicted parts s c d line stands steps)
+stands_or_asks parts s c d (Evict line) stands steps = inl (stands_evicted parts s c d line stands steps, rw steps refl)
 
 not_moved : (text : Memory) (n : ℕ) (s t : HartState) (request : Request) → Asks text s request → GoesAlone text n s t → t ≡ s
 not_moved text zero s t request asks goes = goes

@@ -1,16 +1,12 @@
 -- The lines of a region have its bytes.
-use Rattle.std.proofs.Common.{◌≡◌, ℕ, zero, suc, ◌+◌, ◌-◌, ◌*◌, ◌/◌, ◌%◌, ◌<◌, ◌≤◌, List, [], ◌∷◌, ◌++◌, Option, Some, None, length, slice_get, slice_index_or, refl, sym, ap, ◌∙◌, inl, inr, arith}
+use Rattle.std.proofs.Common.{◌≡◌, ℕ, zero, suc, ◌+◌, ◌-◌, ◌*◌, ◌/◌, ◌%◌, List, [], ◌∷◌, ◌++◌, length, slice_get, refl, sym, ap, ◌∙◌, inl, inr, arith}
 use Rattle.std.proofs.lemmas.Bool.{cases_lt}
 use Rattle.std.proofs.lemmas.List.{length-append}
 use Rattle.std.specs.List.{concat}
 use Rattle.line_memory.specs.Lines.{AreLines, IsMedium, line_bytes}
 use Rattle.line_memory.specs.Regions.{padded}
+use Rattle.schedule_states.proofs.Looking.{got_left}
 use Rattle.schedule_states.specs.StartLines.{AreOf}
-
-get_left : (xs ys : List ℕ) (i : ℕ) → i < length xs → slice_get (xs ++ ys) i ≡ slice_get xs i
-get_left [] ys i h = absurd (omega arith)
-get_left (x ∷ xs) ys zero h = refl
-get_left (x ∷ xs) ys (suc i) h = get_left xs ys i (omega arith)
 
 get_right : (xs ys : List ℕ) (i : ℕ) → slice_get (xs ++ ys) (length xs + i) ≡ slice_get ys i
 get_right [] ys i = let e : 0 + i ≡ i = omega arith in rw e refl
@@ -40,7 +36,7 @@ joined_bytes (first ∷ lines) each offset =
       | inl low ↦
           let line : offset / 64 ≡ 0 = omega arith in
           let place : offset % 64 ≡ offset = omega arith in
-          rw (line, place) (sym (get_left first (concat lines) offset (omega arith)))
+          rw (line, place) (sym (got_left first (concat lines) offset (omega arith)))
       | inr high ↦
           let line : offset / 64 ≡ suc ((offset - 64) / 64) = omega arith in
           let place : offset % 64 ≡ (offset - 64) % 64 = omega arith in

@@ -19,7 +19,7 @@ use Rattle.store_trace.specs.declared.crash_model.step.PersistenceStep.{Persiste
 use Rattle.store_trace.specs.declared.crash_model.step.PersistenceStep.TheVariants.{Store, Clean, Fence, Evict}
 use Rattle.schedule_states.proofs.Leaving.{clean_adds, clean_elsewhere, clean_leaves, fence_cuts, fence_takes, nothing_stored, nothing_stored_fenced, store_adds, store_adds_fenced}
 use Rattle.schedule_states.specs.Contents.{MayHold, MayHoldFenced}
-use Rattle.schedule_states.specs.LineStates.{Has, IsKept, IsLineState, differs_from, each, gone_with, stays_after, unfenced}
+use Rattle.schedule_states.specs.LineStates.{Has, IsKept, IsLine, IsLineState, differs_from, each, gone_with, stays_after, unfenced}
 use Rattle.schedule_states.specs.declared.line_state.Content.{Content}
 use Rattle.schedule_states.specs.declared.line_state.LineState.{LineState}
 
@@ -44,38 +44,46 @@ same_or_other xs ys = elim (cases_Bool (bytes_eq xs ys)) [
   | inr other ↦ inr (not_from_Decides (bytes_eq xs ys) (bytes_eq-Decides xs ys) other)
 ]
 
+-- what loads find in a line, and what else a power cut may leave of it
+pub record Line : Type 0 where
+  pub bytes : List ℕ
+  pub others : List Content
+
+abbrev pub line_of : LineState → Line
+line_of s = record { bytes = s.bytes; others = s.others.items }
+
 -- A store: the bytes that loads found join the contents, and those that loads find now leave them.
-abbrev pub ComeOf : LineState → LineState → Type 0
-ComeOf s after = (content : Content) → Contains after.others.items content
-    ↔ ((content.bytes ≢ after.bytes) × (Contains s.others.items content ⊎ (content ≡ unfenced s.bytes)))
+abbrev pub ComeOf : Line → Line → Type 0
+ComeOf s after = (content : Content) → Contains after.others content
+    ↔ ((content.bytes ≢ after.bytes) × (Contains s.others content ⊎ (content ≡ unfenced s.bytes)))
 
 differs : (bytes : List ℕ) (content : Content) → Decides (differs_from bytes content) (content.bytes ≢ bytes)
 differs bytes content = Decides-not (bytes_eq content.bytes bytes) (bytes_eq-Decides content.bytes bytes)
 
-pub left_apart : (s after : LineState) (kept : List Content) → kept ≡ filter (differs_from after.bytes) (s.others.items ++ unfenced s.bytes ∷ []) →
-    IsPermutation kept after.others.items → ComeOf s after
+pub left_apart : (s after : Line) (kept : List Content) → kept ≡ filter (differs_from after.bytes) (s.others ++ unfenced s.bytes ∷ []) →
+    IsPermutation kept after.others → ComeOf s after
 left_apart s after kept is sorted content = (
   λ c.
-      let from : Contains (s.others.items ++ unfenced s.bytes ∷ []) content × (differs_from after.bytes content ≡ true) =
-      from_filter (differs_from after.bytes) (s.others.items ++ unfenced s.bytes ∷ []) content
-      (rw is at (Contains-permutation after.others.items kept content (IsPermutation-sym kept after.others.items sorted) c)) in (
+      let from : Contains (s.others ++ unfenced s.bytes ∷ []) content × (differs_from after.bytes content ≡ true) =
+      from_filter (differs_from after.bytes) (s.others ++ unfenced s.bytes ∷ []) content
+      (rw is at (Contains-permutation after.others kept content (IsPermutation-sym kept after.others sorted) c)) in (
         (differs after.bytes content).0 from.1,
-        elim (Contains-push_cases s.others.items (unfenced s.bytes) content from.0) [
+        elim (Contains-push_cases s.others (unfenced s.bytes) content from.0) [
           | inl before ↦ inl before
           | inr was ↦ inr (sym was)
         ],
       ),
   λ both.
-      let there : Contains (s.others.items ++ unfenced s.bytes ∷ []) content = elim both.1 [
-        | inl before ↦ Contains-append_left s.others.items (unfenced s.bytes ∷ []) content before
-        | inr was ↦ Contains-append_right s.others.items (unfenced s.bytes ∷ []) content (contains_first (unfenced s.bytes) [] content (sym was))
+      let there : Contains (s.others ++ unfenced s.bytes ∷ []) content = elim both.1 [
+        | inl before ↦ Contains-append_left s.others (unfenced s.bytes ∷ []) content before
+        | inr was ↦ Contains-append_right s.others (unfenced s.bytes ∷ []) content (contains_first (unfenced s.bytes) [] content (sym was))
       ] in
-      Contains-permutation kept after.others.items content sorted
-      (rw is (in_filter (differs_from after.bytes) (s.others.items ++ unfenced s.bytes ∷ []) content there ((differs after.bytes content).1 both.0))),
+      Contains-permutation kept after.others content sorted
+      (rw is (in_filter (differs_from after.bytes) (s.others ++ unfenced s.bytes ∷ []) content there ((differs after.bytes content).1 both.0))),
 )
 
-has_more : (keeps : Content → Bool) (s after : LineState) (bytes : List ℕ) → keeps (unfenced s.bytes) ≡ true → ComeOf s after →
-    Has keeps s.bytes s.others.items bytes → Has keeps after.bytes after.others.items bytes
+has_more : (keeps : Content → Bool) (s after : Line) (bytes : List ℕ) → keeps (unfenced s.bytes) ≡ true → ComeOf s after →
+    Has keeps s.bytes s.others bytes → Has keeps after.bytes after.others bytes
 has_more keeps s after bytes old come has = elim (same_or_other bytes after.bytes) [
   | inl is ↦ inl is
   | inr other ↦ elim has [
@@ -94,8 +102,8 @@ has_more keeps s after bytes old come has = elim (same_or_other bytes after.byte
   ]
 ]
 
-has_no_more : (keeps : Content → Bool) (s after : LineState) (bytes : List ℕ) → ComeOf s after →
-    Has keeps after.bytes after.others.items bytes → Has keeps s.bytes s.others.items bytes ⊎ (bytes ≡ after.bytes)
+has_no_more : (keeps : Content → Bool) (s after : Line) (bytes : List ℕ) → ComeOf s after →
+    Has keeps after.bytes after.others bytes → Has keeps s.bytes s.others bytes ⊎ (bytes ≡ after.bytes)
 has_no_more keeps s after bytes come has = elim has [
   | inl is ↦ inr is
   | inr kept ↦ elim ((come kept.content).0 kept.among).1 [
@@ -107,9 +115,9 @@ has_no_more keeps s after bytes come has = elim has [
 stays_unfenced : (h : ℕ) (bytes : List ℕ) → h < 8 → stays_after h (unfenced bytes) ≡ true
 stays_unfenced h bytes few = get_or-replicate 8 h true false few
 
-one_of_each : (s after : LineState) → ComeOf s after → ((content : Content) → Contains s.others.items content → content.bytes ≢ s.bytes) →
-    ((one other : Content) → Contains s.others.items one → Contains s.others.items other → one.bytes ≡ other.bytes → one ≡ other) →
-    (one other : Content) → Contains after.others.items one → Contains after.others.items other → one.bytes ≡ other.bytes → one ≡ other
+one_of_each : (s after : Line) → ComeOf s after → ((content : Content) → Contains s.others content → content.bytes ≢ s.bytes) →
+    ((one other : Content) → Contains s.others one → Contains s.others other → one.bytes ≡ other.bytes → one ≡ other) →
+    (one other : Content) → Contains after.others one → Contains after.others other → one.bytes ≡ other.bytes → one ≡ other
 one_of_each s after come apart distinct one other c d same = elim ((come one).0 c).1 [
   | inl before ↦ elim ((come other).0 d).1 [
     | inl too ↦ distinct one other before too same
@@ -124,9 +132,9 @@ one_of_each s after come apart distinct one other c d same = elim ((come one).0 
 own_count : (l o w v : ℕ) (p : List PersistenceStep) → stores l p + 1 ≡ stores l (Store l o w v ∷ p)
 own_count l o w v p = grind (arith, nat_tests)
 
-pub after_store : (start : List ℕ) (l o w v : ℕ) (p : List PersistenceStep) (s after : LineState) → IsLineState start l p s →
-    after.bytes ≡ stored s.bytes o w v → ComeOf s after → IsLineState start l (Store l o w v ∷ p) after
-after_store start l o w v p s after is made come =
+pub line_stored : (start : List ℕ) (l o w v : ℕ) (p : List PersistenceStep) (s after : Line) → IsLine start l p s.bytes s.others →
+    after.bytes ≡ stored s.bytes o w v → ComeOf s after → IsLine start l (Store l o w v ∷ p) after.bytes after.others
+line_stored start l o w v p s after is made come =
     let loads : after.bytes ≡ stored (line_after start l (stores l p) p) o w v = made ∙ ap (λ (xs : List ℕ). stored xs o w v) is.bytes in record {
       bytes = loads ∙ sym (line_after_store start l o w v p) ∙ ap (λ (n : ℕ). line_after start l n (Store l o w v ∷ p)) (own_count l o w v p);
       apart = λ content among. ((come content).0 among).0;
@@ -164,14 +172,14 @@ gone_other : (g h : ℕ) (content : Content) → h ≢ g → stays_after h (gone
 gone_other g h content other = get_or-set_other content.stays g h false false other
 
 -- what is kept of contents by a test that the clean doesn't change is kept of those after it
-has_gone : (keeps : Content → Bool) (g : ℕ) (s after : LineState) (bytes : List ℕ) → ((content : Content) → keeps (gone_with g content) ≡ keeps content) →
-    after.bytes ≡ s.bytes → after.others.items ≡ map (gone_with g) s.others.items → Has keeps s.bytes s.others.items bytes ↔ Has keeps after.bytes after.others.items bytes
+has_gone : (keeps : Content → Bool) (g : ℕ) (s after : Line) (bytes : List ℕ) → ((content : Content) → keeps (gone_with g content) ≡ keeps content) →
+    after.bytes ≡ s.bytes → after.others ≡ map (gone_with g) s.others → Has keeps s.bytes s.others bytes ↔ Has keeps after.bytes after.others bytes
 has_gone keeps g s after bytes same loads gone = (
   λ has. elim has [
     | inl is ↦ inl (is ∙ sym loads)
     | inr kept ↦ inr (record {
       content = gone_with g kept.content;
-      among = rw gone (in_map (gone_with g) s.others.items kept.content kept.among);
+      among = rw gone (in_map (gone_with g) s.others kept.content kept.among);
       kept = same kept.content ∙ kept.kept;
       is = kept.is;
     })
@@ -179,8 +187,8 @@ has_gone keeps g s after bytes same loads gone = (
   λ has. elim has [
     | inl is ↦ inl (is ∙ loads)
     | inr kept ↦
-        let from : (x : Content) × Contains s.others.items x × (gone_with g x ≡ kept.content) =
-        from_map (gone_with g) s.others.items kept.content (rw gone at kept.among) in
+        let from : (x : Content) × Contains s.others x × (gone_with g x ≡ kept.content) =
+        from_map (gone_with g) s.others kept.content (rw gone at kept.among) in
         inr (record {
           content = from.0;
           among = from.1;
@@ -190,16 +198,16 @@ has_gone keeps g s after bytes same loads gone = (
   ],
 )
 
-none_kept : (g : ℕ) (s after : LineState) (bytes : List ℕ) → after.others.items ≡ map (gone_with g) s.others.items →
-    ¬ IsKept (stays_after g) after.others.items bytes
+none_kept : (g : ℕ) (s after : Line) (bytes : List ℕ) → after.others ≡ map (gone_with g) s.others →
+    ¬ IsKept (stays_after g) after.others bytes
 none_kept g s after bytes gone kept =
-    let from : (x : Content) × Contains s.others.items x × (gone_with g x ≡ kept.content) =
-    from_map (gone_with g) s.others.items kept.content (rw gone at kept.among) in
+    let from : (x : Content) × Contains s.others x × (gone_with g x ≡ kept.content) =
+    from_map (gone_with g) s.others kept.content (rw gone at kept.among) in
     let both : false ≡ true = sym (gone_own g from.0) ∙ ap (stays_after g) from.2 ∙ kept.kept in
     cc
 
-only_loads : (g : ℕ) (s after : LineState) (bytes : List ℕ) → after.bytes ≡ s.bytes → after.others.items ≡ map (gone_with g) s.others.items →
-    (bytes ≡ s.bytes) ↔ Has (stays_after g) after.bytes after.others.items bytes
+only_loads : (g : ℕ) (s after : Line) (bytes : List ℕ) → after.bytes ≡ s.bytes → after.others ≡ map (gone_with g) s.others →
+    (bytes ≡ s.bytes) ↔ Has (stays_after g) after.bytes after.others bytes
 only_loads g s after bytes loads gone = (
   λ is. inl (is ∙ sym loads),
   λ has. elim has [
@@ -214,19 +222,19 @@ same_hart h g = elim (cases_Bool (h == g)) [
   | inr other ↦ inr (grind (arith, nat_tests, other))
 ]
 
-own_clean : (start : List ℕ) (l g : ℕ) (p : List PersistenceStep) (s after : LineState) (bytes : List ℕ) → IsLineState start l p s →
-    after.bytes ≡ s.bytes → after.others.items ≡ map (gone_with g) s.others.items →
-    MayHoldFenced start l g (Clean g l ∷ p) bytes ↔ Has (stays_after g) after.bytes after.others.items bytes
+own_clean : (start : List ℕ) (l g : ℕ) (p : List PersistenceStep) (s after : Line) (bytes : List ℕ) → IsLine start l p s.bytes s.others →
+    after.bytes ≡ s.bytes → after.others ≡ map (gone_with g) s.others →
+    MayHoldFenced start l g (Clean g l ∷ p) bytes ↔ Has (stays_after g) after.bytes after.others bytes
 own_clean start l g p s after bytes is loads gone = (
   λ c. (only_loads g s after bytes loads gone).0 ((clean_leaves start l g p bytes).0 c ∙ sym is.bytes),
   λ has. (clean_leaves start l g p bytes).1 ((only_loads g s after bytes loads gone).1 has ∙ is.bytes),
 )
 
-fenced_clean : (start : List ℕ) (l g h : ℕ) (p : List PersistenceStep) (s after : LineState) (bytes : List ℕ) → IsLineState start l p s → h < 8 →
-    after.bytes ≡ s.bytes → after.others.items ≡ map (gone_with g) s.others.items →
-    MayHoldFenced start l h (Clean g l ∷ p) bytes ↔ Has (stays_after h) after.bytes after.others.items bytes
+fenced_clean : (start : List ℕ) (l g h : ℕ) (p : List PersistenceStep) (s after : Line) (bytes : List ℕ) → IsLine start l p s.bytes s.others → h < 8 →
+    after.bytes ≡ s.bytes → after.others ≡ map (gone_with g) s.others →
+    MayHoldFenced start l h (Clean g l ∷ p) bytes ↔ Has (stays_after h) after.bytes after.others bytes
 fenced_clean start l g h p s after bytes is few loads gone = elim (same_hart h g) [
-  | inl same ↦ subst (λ (k : ℕ). MayHoldFenced start l k (Clean g l ∷ p) bytes ↔ Has (stays_after k) after.bytes after.others.items bytes) (sym same)
+  | inl same ↦ subst (λ (k : ℕ). MayHoldFenced start l k (Clean g l ∷ p) bytes ↔ Has (stays_after k) after.bytes after.others bytes) (sym same)
       (own_clean start l g p s after bytes is loads gone)
   | inr other ↦ (
     λ c. (has_gone (stays_after h) g s after bytes (λ x. gone_other g h x other) loads gone).0
@@ -236,16 +244,16 @@ fenced_clean start l g h p s after bytes is few loads gone = elim (same_hart h g
   )
 ]
 
-pub after_clean : (start : List ℕ) (l g : ℕ) (p : List PersistenceStep) (s after : LineState) → IsLineState start l p s →
-    after.bytes ≡ s.bytes → after.others.items ≡ map (gone_with g) s.others.items → IsLineState start l (Clean g l ∷ p) after
-after_clean start l g p s after is loads gone = record {
+pub line_cleaned : (start : List ℕ) (l g : ℕ) (p : List PersistenceStep) (s after : Line) → IsLine start l p s.bytes s.others →
+    after.bytes ≡ s.bytes → after.others ≡ map (gone_with g) s.others → IsLine start l (Clean g l ∷ p) after.bytes after.others
+line_cleaned start l g p s after is loads gone = record {
   bytes = loads ∙ is.bytes;
   apart = λ content among.
-      let from : (x : Content) × Contains s.others.items x × (gone_with g x ≡ content) = from_map (gone_with g) s.others.items content (rw gone at among) in
+      let from : (x : Content) × Contains s.others x × (gone_with g x ≡ content) = from_map (gone_with g) s.others content (rw gone at among) in
       λ e. is.apart from.0 from.1 (ap (λ (x : Content). x.bytes) from.2 ∙ e ∙ loads);
   distinct = λ one other c d same.
-      let a : (x : Content) × Contains s.others.items x × (gone_with g x ≡ one) = from_map (gone_with g) s.others.items one (rw gone at c) in
-      let b : (x : Content) × Contains s.others.items x × (gone_with g x ≡ other) = from_map (gone_with g) s.others.items other (rw gone at d) in
+      let a : (x : Content) × Contains s.others x × (gone_with g x ≡ one) = from_map (gone_with g) s.others one (rw gone at c) in
+      let b : (x : Content) × Contains s.others x × (gone_with g x ≡ other) = from_map (gone_with g) s.others other (rw gone at d) in
       let e : a.0 ≡ b.0 = is.distinct a.0 b.0 a.1 b.1 (ap (λ (x : Content). x.bytes) a.2 ∙ same ∙ sym (ap (λ (x : Content). x.bytes) b.2)) in
       sym a.2 ∙ ap (gone_with g) e ∙ b.2;
   now = λ bytes. (
@@ -256,19 +264,19 @@ after_clean start l g p s after is loads gone = record {
 }
 
 -- A fence: the contents that stay after it, and no others.
-kept_by_both : (g h : ℕ) (s after : LineState) (bytes : List ℕ) → (content : Content) (other : Content) → Contains s.others.items content →
-    Contains s.others.items other → stays_after g content ≡ true → stays_after h other ≡ true → content ≡ other →
-    after.others.items ≡ filter (stays_after g) s.others.items → content.bytes ≡ bytes → IsKept (stays_after h) after.others.items bytes
+kept_by_both : (g h : ℕ) (s after : Line) (bytes : List ℕ) → (content : Content) (other : Content) → Contains s.others content →
+    Contains s.others other → stays_after g content ≡ true → stays_after h other ≡ true → content ≡ other →
+    after.others ≡ filter (stays_after g) s.others → content.bytes ≡ bytes → IsKept (stays_after h) after.others bytes
 kept_by_both g h s after bytes content other c d one two same left is = record {
   content = content;
-  among = rw left (in_filter (stays_after g) s.others.items content c one);
+  among = rw left (in_filter (stays_after g) s.others content c one);
   kept = ap (stays_after h) same ∙ two;
   is = is;
 }
 
-fenced_fence : (start : List ℕ) (l g h : ℕ) (p : List PersistenceStep) (s after : LineState) (bytes : List ℕ) → IsLineState start l p s →
-    after.bytes ≡ s.bytes → after.others.items ≡ filter (stays_after g) s.others.items →
-    (Has (stays_after g) s.bytes s.others.items bytes × Has (stays_after h) s.bytes s.others.items bytes) ↔ Has (stays_after h) after.bytes after.others.items bytes
+fenced_fence : (start : List ℕ) (l g h : ℕ) (p : List PersistenceStep) (s after : Line) (bytes : List ℕ) → IsLine start l p s.bytes s.others →
+    after.bytes ≡ s.bytes → after.others ≡ filter (stays_after g) s.others →
+    (Has (stays_after g) s.bytes s.others bytes × Has (stays_after h) s.bytes s.others bytes) ↔ Has (stays_after h) after.bytes after.others bytes
 fenced_fence start l g h p s after bytes is loads left = (
   λ both. elim both.0 [
     | inl found ↦ inl (found ∙ sym loads)
@@ -281,22 +289,22 @@ fenced_fence start l g h p s after bytes is loads left = (
   λ has. elim has [
     | inl found ↦ (inl (found ∙ loads), inl (found ∙ loads))
     | inr kept ↦
-        let from : Contains s.others.items kept.content × (stays_after g kept.content ≡ true) =
-        from_filter (stays_after g) s.others.items kept.content (rw left at kept.among) in (
+        let from : Contains s.others kept.content × (stays_after g kept.content ≡ true) =
+        from_filter (stays_after g) s.others kept.content (rw left at kept.among) in (
           inr (record { content = kept.content; among = from.0; kept = from.1; is = kept.is }),
           inr (record { content = kept.content; among = from.0; kept = kept.kept; is = kept.is }),
         )
   ],
 )
 
-now_fence : (g : ℕ) (s after : LineState) (bytes : List ℕ) → after.bytes ≡ s.bytes → after.others.items ≡ filter (stays_after g) s.others.items →
-    Has (stays_after g) s.bytes s.others.items bytes ↔ Has each after.bytes after.others.items bytes
+now_fence : (g : ℕ) (s after : Line) (bytes : List ℕ) → after.bytes ≡ s.bytes → after.others ≡ filter (stays_after g) s.others →
+    Has (stays_after g) s.bytes s.others bytes ↔ Has each after.bytes after.others bytes
 now_fence g s after bytes loads left = (
   λ has. elim has [
     | inl found ↦ inl (found ∙ sym loads)
     | inr kept ↦ inr (record {
       content = kept.content;
-      among = rw left (in_filter (stays_after g) s.others.items kept.content kept.among kept.kept);
+      among = rw left (in_filter (stays_after g) s.others kept.content kept.among kept.kept);
       kept = refl;
       is = kept.is;
     })
@@ -304,21 +312,21 @@ now_fence g s after bytes loads left = (
   λ has. elim has [
     | inl found ↦ inl (found ∙ loads)
     | inr kept ↦
-        let from : Contains s.others.items kept.content × (stays_after g kept.content ≡ true) =
-        from_filter (stays_after g) s.others.items kept.content (rw left at kept.among) in
+        let from : Contains s.others kept.content × (stays_after g kept.content ≡ true) =
+        from_filter (stays_after g) s.others kept.content (rw left at kept.among) in
         inr (record { content = kept.content; among = from.0; kept = from.1; is = kept.is })
   ],
 )
 
-pub after_fence : (start : List ℕ) (l g : ℕ) (p : List PersistenceStep) (s after : LineState) → g < 8 → IsLineState start l p s →
-    after.bytes ≡ s.bytes → after.others.items ≡ filter (stays_after g) s.others.items → IsLineState start l (Fence g ∷ p) after
-after_fence start l g p s after few is loads left = record {
+pub line_fenced : (start : List ℕ) (l g : ℕ) (p : List PersistenceStep) (s after : Line) → g < 8 → IsLine start l p s.bytes s.others →
+    after.bytes ≡ s.bytes → after.others ≡ filter (stays_after g) s.others → IsLine start l (Fence g ∷ p) after.bytes after.others
+line_fenced start l g p s after few is loads left = record {
   bytes = loads ∙ is.bytes;
   apart = λ content among.
-      let from : Contains s.others.items content × (stays_after g content ≡ true) = from_filter (stays_after g) s.others.items content (rw left at among) in
+      let from : Contains s.others content × (stays_after g content ≡ true) = from_filter (stays_after g) s.others content (rw left at among) in
       λ e. is.apart content from.0 (e ∙ loads);
   distinct = λ one other c d same. is.distinct one other
-      (from_filter (stays_after g) s.others.items one (rw left at c)).0 (from_filter (stays_after g) s.others.items other (rw left at d)).0 same;
+      (from_filter (stays_after g) s.others one (rw left at c)).0 (from_filter (stays_after g) s.others other (rw left at d)).0 same;
   now = λ bytes. (
     λ c. (now_fence g s after bytes loads left).0 ((is.fenced g bytes few).0 ((fence_takes start l g p bytes).0 c)),
     λ has. (fence_takes start l g p bytes).1 ((is.fenced g bytes few).1 ((now_fence g s after bytes loads left).1 has)),
@@ -328,15 +336,15 @@ after_fence start l g p s after few is loads left = record {
         let both : MayHoldFenced start l g p bytes × MayHoldFenced start l h p bytes = (fence_cuts start l g h p bytes).0 c in
         (fenced_fence start l g h p s after bytes is loads left).0 ((is.fenced g bytes few).0 both.0, (is.fenced h bytes some).0 both.1),
     λ has.
-        let both : Has (stays_after g) s.bytes s.others.items bytes × Has (stays_after h) s.bytes s.others.items bytes = (fenced_fence start l g h p s after bytes is loads left).1 has in
+        let both : Has (stays_after g) s.bytes s.others bytes × Has (stays_after h) s.bytes s.others bytes = (fenced_fence start l g h p s after bytes is loads left).1 has in
         (fence_cuts start l g h p bytes).1 ((is.fenced g bytes few).1 both.0, (is.fenced h bytes some).1 both.1),
   );
 }
 
 -- before any step
-pub at_start : (l : ℕ) (s : LineState) → s.others.items ≡ [] → IsLineState s.bytes l [] s
-at_start l s none =
-    let nothing : (keeps : Content → Bool) (bytes : List ℕ) → (bytes ≡ s.bytes) ↔ Has keeps s.bytes s.others.items bytes = λ keeps bytes. (
+pub line_at_start : (l : ℕ) (s : Line) → s.others ≡ [] → IsLine s.bytes l [] s.bytes s.others
+line_at_start l s none =
+    let nothing : (keeps : Content → Bool) (bytes : List ℕ) → (bytes ≡ s.bytes) ↔ Has keeps s.bytes s.others bytes = λ keeps bytes. (
       λ is. inl is,
       λ has. elim has [ inl is ↦ is | inr kept ↦ absurd (no_members kept.content (rw none at kept.among)) ],
     ) in record {
@@ -352,3 +360,6 @@ at_start l s none =
         λ has. (nothing_stored_fenced s.bytes l h bytes).1 ((nothing (stays_after h) bytes).1 has),
       );
     }
+
+pub at_start : (l : ℕ) (s : LineState) → s.others.items ≡ [] → IsLineState s.bytes l [] s
+at_start l s none = line_at_start l (line_of s) none

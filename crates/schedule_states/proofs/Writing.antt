@@ -64,19 +64,21 @@ elsewhere_clean start l g m p current others other is = record {
 pub elsewhere_of : (start : List ℕ) (l m o w v : ℕ) (p : List PersistenceStep) (held : Option LineState) → m ≢ l →
     IsLineOf start l p held → IsLineOf start l (Store m o w v ∷ p) held
 elsewhere_of start l m o w v p (Some s) other is = elsewhere_store start l m o w v p s.bytes s.others.items other is
-elsewhere_of start l m o w v p None other is = λ s bytes none. elsewhere_store start l m o w v p s.bytes s.others.items other (is s bytes none)
+elsewhere_of start l m o w v p None other is = elsewhere_store start l m o w v p start [] other is
+
+line_same : (start : List ℕ) (l : ℕ) (p : List PersistenceStep) (one other : List ℕ) (ones others : List Content) → one ≡ other → ones ≡ others →
+    IsLine start l p one ones → IsLine start l p other others
+line_same start l p one other ones others bytes same is =
+    subst (λ (xs : List ℕ). IsLine start l p xs others) bytes (subst (λ (cs : List Content). IsLine start l p one cs) same is)
 
 -- a line that has a state by what is held
 pub same_state : (start : List ℕ) (l : ℕ) (p : List PersistenceStep) (one other : LineState) → AreSame one other → IsLineState start l p one → IsLineState start l p other
-same_state start l p one other same is =
-    subst (λ (bytes : List ℕ). IsLine start l p bytes other.others.items) (sym same.bytes)
-    (subst (λ (others : List Content). IsLine start l p one.bytes others) (sym same.others) is)
+same_state start l p one other same is = line_same start l p one.bytes other.bytes one.others.items other.others.items (sym same.bytes) (sym same.others) is
 
 pub state_put : (start : StartView) (l : ℕ) (p : List PersistenceStep) (state : LineState) (held : Option LineState) → IsStateOf start (16777216 + l) state held →
     IsLineState (line_at start.medium l) l p state → IsLineOf (line_at start.medium l) l p held
 state_put start l p state (Some s) same is = same_state (line_at start.medium l) l p state s same is
-state_put start l p state None same is = λ s bytes none.
-    same_state (line_at start.medium l) l p state s (record { bytes = bytes ∙ sym (same.medium l refl); others = none ∙ sym same.certain }) is
+state_put start l p state None same is = line_same (line_at start.medium l) l p state.bytes (line_at start.medium l) state.others.items [] (same.medium l refl) same.certain is
 
 pub shown_put : (start : StartView) (line : ℕ) (state : LineState) (held : Option LineState) (offset : ℕ) → offset < 64 → IsStateOf start line state held →
     byte_in held (memory_at start) (64 * line + offset) ≡ slice_get state.bytes offset
@@ -168,7 +170,7 @@ state_started table held line bytes state none long shown medium is certain = re
   whole = rw is long;
   is = λ l at p of.
       let start : IsLineOf (line_at table.start.medium l) l p None = subst (λ (held : Option LineState). IsLineOf (line_at table.start.medium l) l p held) none of in
-      start state (is ∙ medium l at) certain;
+      line_same (line_at table.start.medium l) l p (line_at table.start.medium l) state.bytes [] state.others.items (sym (is ∙ medium l at)) (sym certain) start;
 }
 
 -- the write as a whole

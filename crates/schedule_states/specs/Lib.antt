@@ -3,8 +3,10 @@ pub mod Contents
 pub mod Covering
 pub mod Exploring
 pub mod HeldLines
+pub mod Images
+pub mod Judging
 pub mod LineStates
-pub mod Lists
+pub mod Marks
 pub mod Memories
 pub mod Numbers
 pub mod Reaching

@@ -6,7 +6,8 @@ use Rattle.line_memory.specs.declared.TheConstants.{PERSISTENT_BASE}
 use Rattle.store_trace.specs.declared.crash_model.step.PersistenceStep.{PersistenceStep}
 use Rattle.store_trace.specs.declared.crash_model.step.PersistenceStep.TheVariants.{Clean, Fence, Store}
 use Rattle.schedule_states.specs.HeldLines.{AreBelow, number_of}
-use Rattle.schedule_states.specs.LineStates.{IsLineState}
+use Rattle.schedule_states.specs.LineStates.{IsLine, IsLineState}
+use Rattle.schedule_states.specs.Numbers.{AreKept}
 use Rattle.schedule_states.specs.StartLines.{ShowsLine, StartView, memory_at}
 use Rattle.schedule_states.specs.declared.held_lines.HeldLine.{HeldLine}
 use Rattle.schedule_states.specs.declared.line_state.LineState.{LineState}
@@ -36,7 +37,7 @@ memory_of m = memory_over m.states m.held (memory_at m.start)
 -- line l of the medium after these persistence steps has this state, or just what it began with
 abbrev pub IsLineOf : List ℕ → ℕ → List PersistenceStep → Option LineState → Type 0
 IsLineOf start l p (Some s) = IsLineState start l p s
-IsLineOf start l p None = (s : LineState) → s.bytes ≡ start → s.others.items ≡ [] → IsLineState start l p s
+IsLineOf start l p None = IsLine start l p start []
 
 -- The lines that are held, over what a run starts from: they leave this flat memory, and each line of the medium as it is after these
 -- persistence steps.
@@ -49,16 +50,6 @@ pub record IsMemoryOf (start : StartView) (states : List LineState) (held : List
 pub record AreSame (one other : LineState) : Type 0 where
   pub bytes : other.bytes ≡ one.bytes
   pub others : other.others.items ≡ one.others.items
-
--- each number stays that of its state
-abbrev pub Grows : List LineState → List LineState → Type 0
-Grows old new = (n : ℕ) (s : LineState) → slice_get old n ≡ Some s → slice_get new n ≡ Some s
-
--- the number is that of a state which is the same as this one
-pub record HasState (states : List LineState) (number : ℕ) (state : LineState) : Type 0 where
-  pub found : LineState
-  pub here : slice_get states number ≡ Some found
-  pub same : AreSame state found
 
 -- what a contract sees of a table of lines: what a run starts from, and the states by their numbers
 pub record TableView : Type 0 where
@@ -123,7 +114,7 @@ pub record IsFencedAt (old new : TableView) (hart : ℕ) (held before : List Hel
 -- so of the lines that stand among the first ones held, where the others are as they were
 pub record AreLinesSoFar (old new : TableView) (steps : ℕ → List PersistenceStep) (held : List HeldLine) (count : ℕ) (lines : List HeldLine) : Type 0 where
   pub start : new.start ≡ old.start
-  pub grows : Grows old.states new.states
+  pub grows : AreKept old.states new.states
   pub below : AreBelow (length new.states) lines
   pub each : (line : ℕ) → IsLineAfter old.start steps line (state_in old.states held line) (state_in new.states lines line)
       ⊎ ((state_in new.states lines line ≡ state_in old.states held line) × (number_of (take count held) line ≡ None))
@@ -131,4 +122,4 @@ pub record AreLinesSoFar (old new : TableView) (steps : ℕ → List Persistence
 -- a table that grew: it starts from the same, and each number stays that of its state
 pub record IsKept (old new : TableView) : Type 0 where
   pub start : new.start ≡ old.start
-  pub grows : Grows old.states new.states
+  pub grows : AreKept old.states new.states

@@ -15,9 +15,10 @@ use Rattle.schedule_states.specs.Ahead.{ComesAlone}
 use Rattle.schedule_states.specs.HeldLines.{AreBelow}
 use Rattle.line_memory.specs.Memory.{Memory}
 use Rattle.machine.specs.Histories.{memory_after}
-use Rattle.machine.specs.Replies.{events_of, replied}
+use Rattle.machine.specs.Replies.{events_of, replied, trace_in}
 use Rattle.store_trace.specs.History.{history}
 use Rattle.store_trace.specs.declared.crash_model.step.PersistenceStep.{PersistenceStep}
+use Rattle.schedule_states.specs.Marks.{IsMarkedBy}
 use Rattle.schedule_states.specs.Memories.{IsMemoryOf, memory_over}
 use Rattle.schedule_states.specs.Requests.{is_reserved}
 use Rattle.schedule_states.specs.StartLines.{memory_at}
@@ -59,14 +60,15 @@ pub record IsTextAfter (parts : PartsView) (request : Request) (lines : List Hel
 
 -- the claim holds of the state that comes, if one does
 abbrev pub IfState : Successor → (ProgramState → Type 0) → Type 0
-IfState (successors.State next) claim = claim next
+IfState (successors.State next mark) claim = claim next
 IfState successors.Stopped claim = Unit {0}
 IfState successors.TooLong claim = Unit {0}
 
--- what comes of a state by the request of a hart: what the state stands for comes to what the next state stands for; a hart that has
--- stopped makes none
+-- what comes of a state by the request of a hart: what the state stands for comes to what the next state stands for, with this mark, if it
+-- sets one; a hart that has stopped makes none
 abbrev pub IsSuccessor : PartsView → PartsView → ProgramState → ℕ → Successor → Type 0
-IsSuccessor old new s h (successors.State next) = (c d : Config) → StandsFor old s c → AsksTo c h d → StandsFor new next d
+IsSuccessor old new s h (successors.State next mark) = (c d : Config) → StandsFor old s c → AsksTo c h d →
+    StandsFor new next d × IsMarkedBy mark (trace_in c.common) (trace_in d.common)
 IsSuccessor old new s h successors.Stopped = (c d : Config) → StandsFor old s c → ¬ AsksTo c h d
 IsSuccessor old new s h successors.TooLong = Unit {0}
 

@@ -71,7 +71,6 @@ impl LineState {
     }
 
     /// After a store to it of the low `width` bytes of a value: what loads found may be left, whichever hart makes a fence.
-    #[tactic(auto, using(crate::proofs::Stepping::after_store))]
     pub fn stored(
         &self,
         alloc: Global,
@@ -111,7 +110,6 @@ impl LineState {
     }
 
     /// After a clean of it by a hart: a fence of that hart would leave what loads find.
-    #[tactic(auto, using(crate::proofs::Stepping::after_clean))]
     pub fn cleaned(&self, alloc: Global, hart: u32) -> Result<LineState, AllocError>
         requires { hart < 8 }
         ensures bytes { IfOk result (λ after. after.bytes ≡ self.now.bytes) }
@@ -126,7 +124,6 @@ impl LineState {
     }
 
     /// After a fence of a hart.
-    #[tactic(auto, using(crate::proofs::Stepping::after_fence))]
     pub fn fenced(&self, alloc: Global, hart: u32) -> Result<LineState, AllocError>
         requires { hart < 8 }
         ensures bytes { IfOk result (λ after. after.bytes ≡ self.now.bytes) }

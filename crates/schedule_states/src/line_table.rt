@@ -7,8 +7,9 @@ ghost use Rattle.machine.specs.Replies.{events_of, replied};
 ghost use Rattle.store_trace.specs.History.{history};
 ghost use Rattle.line_memory.specs.Memory.{IsWidth, Memory, fault_of, stored_to};
 ghost use Rattle.schedule_states.specs.HeldLines.{AreBelow};
-ghost use Rattle.schedule_states.specs.Memories.{Grows, IsAsAtStart, IsKept, IsFencedAt, IsLineAfter, IsMemoryOf, IsPut, IsStateNow, IsStateOf, memory_over, state_in, steps_of_clean, steps_of_write};
+ghost use Rattle.schedule_states.specs.Memories.{IsAsAtStart, IsKept, IsFencedAt, IsLineAfter, IsMemoryOf, IsPut, IsStateNow, IsStateOf, memory_over, state_in, steps_of_clean, steps_of_write};
 ghost use Rattle.schedule_states.specs.LineStates.{IsLineState};
+ghost use Rattle.schedule_states.specs.Numbers.{AreKept};
 ghost use Rattle.schedule_states.specs.declared.line_state.LineState.{LineState as AState};
 ghost use Rattle.schedule_states.specs.StartLines.{LacksLine, memory_at};
 ghost use Rattle.store_trace.specs.declared.crash_model.step.PersistenceStep.TheVariants as step;
@@ -16,13 +17,14 @@ ghost use Rattle.store_trace.specs.declared.crash_model.step.PersistenceStep.{Pe
 ghost use Rattle.word_bits.specs.Bytes.{stored};
 
 use crate::held_lines::{HeldLine, with_state, without};
+use crate::laws::equal_lines_are_same;
 use crate::line_state::LineState;
-use crate::line_states::LineStates;
+use crate::numbers::Numbers;
 use crate::request::written;
 use crate::start_lines::StartLines;
 use crate::state_memory::StateMemory;
 use hart::{Reply, Request};
-use line_memory::{LINE_SIZE, PERSISTENT_BASE, store_bytes};
+use line_memory::{LINE_SIZE, Medium, PERSISTENT_BASE, store_bytes};
 use std::alloc::{AllocError, Global};
 use std::marker::Model;
 
@@ -30,7 +32,7 @@ use std::marker::Model;
 #[derive(Drop)]
 pub struct LineTable<'a> {
     start: StartLines<'a>,
-    states: LineStates,
+    states: Numbers<LineState>,
 }
 
 impl<'a> Model for LineTable<'a> {
@@ -48,8 +50,14 @@ impl<'a> LineTable<'a> {
     {
         LineTable {
             start,
-            states: LineStates::new(alloc),
+            states: Numbers::new(alloc),
         }
+    }
+
+    pub fn medium(&self) -> &'a Medium
+        ensures { result.now ≡ self.now.start.medium }
+    {
+        self.start.medium()
     }
 
     /// The memory of a state that holds these lines.
@@ -104,7 +112,7 @@ impl<'a> LineTable<'a> {
             IsMemoryOf self.new.start self.new.states lines.items (stored_to memory address width value) (steps_of_write address width value ++ p)) }
         ensures below { IfOk result (λ lines. AreBelow (length self.new.states) lines.items) }
         ensures start { self.new.start ≡ self.old.start }
-        ensures grows { Grows self.old.states self.new.states }
+        ensures grows { AreKept self.old.states self.new.states }
     {
         let line = address / LINE_SIZE as u64;
         let before = self.state_of(alloc, held, line)?;
@@ -126,7 +134,7 @@ impl<'a> LineTable<'a> {
             IsMemoryOf self.new.start self.new.states lines.items memory (steps_of_clean hart address ++ p)) }
         ensures below { IfOk result (λ lines. AreBelow (length self.new.states) lines.items) }
         ensures start { self.new.start ≡ self.old.start }
-        ensures grows { Grows self.old.states self.new.states }
+        ensures grows { AreKept self.old.states self.new.states }
     {
         if address < PERSISTENT_BASE {
             return Vec::from_slice(alloc, held);
@@ -154,7 +162,7 @@ impl<'a> LineTable<'a> {
             IsMemoryOf self.new.start self.new.states lines.items memory (step.Fence hart ∷ p)) }
         ensures below { IfOk result (λ lines. AreBelow (length self.new.states) lines.items) }
         ensures start { self.new.start ≡ self.old.start }
-        ensures grows { Grows self.old.states self.new.states }
+        ensures grows { AreKept self.old.states self.new.states }
     {
         let mut lines = Vec::from_slice(alloc, held)?;
         for at in 0..held.len() {
@@ -178,7 +186,7 @@ impl<'a> LineTable<'a> {
         requires hart { hart < 8 }
         ensures put { IfOk result (λ after. IsFencedAt self.old self.new hart held.now lines.items line after.items) }
         ensures start { self.new.start ≡ self.old.start }
-        ensures grows { Grows self.old.states self.new.states }
+        ensures grows { AreKept self.old.states self.new.states }
     {
         match self.after_fence(alloc, held, line, hart)? {
             Some(after) => self.put(alloc, &lines, line, after),
@@ -238,11 +246,12 @@ impl<'a> LineTable<'a> {
         requires low { line < 2 ^ 32 }
         ensures put { IfOk result (λ lines. IsPut self.old self.new held.now line state lines.items) }
         ensures start { self.new.start ≡ self.old.start }
-        ensures grows { Grows self.old.states self.new.states }
+        ensures grows { AreKept self.old.states self.new.states }
     {
         if self.is_as_at_start(line, &state) {
             return without(alloc, held, line as u32);
         }
+        equal_lines_are_same();
         let number = self.states.number_of(state)?;
         with_state(alloc, held, line as u32, number)
     }

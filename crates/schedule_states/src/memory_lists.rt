@@ -1,17 +1,18 @@
 //! Lists of held lines, each by its number.
 
-ghost use Rattle.std.specs.Prelude.{◌≡◌, ◌⊎◌, ◌++◌, ◌∷◌, ◌<◌, ℕ, List, Some, [], length, slice_get, IfOk};
-ghost use Rattle.schedule_states.specs.Lists.{IsExtended};
+ghost use Rattle.std.specs.Prelude.{◌≡◌, ◌⊎◌, ◌++◌, ◌∷◌, ◌<◌, Some, [], length, slice_get, IfOk};
+ghost use Rattle.schedule_states.specs.Numbers.{AreKept};
 
 use crate::held_lines::HeldLine;
-use indexmap::IndexSet;
+use crate::laws::equal_lists_are_same;
+use crate::numbers::Numbers;
 use std::alloc::{AllocError, Global};
 use std::marker::Model;
 
 /// Lists of held lines, each once, by its number. A number stays that of its list.
 #[derive(Drop)]
 pub struct MemoryLists {
-    lists: IndexSet<Vec<HeldLine>>,
+    lists: Numbers<Vec<HeldLine>>,
 }
 
 impl Model for MemoryLists {
@@ -20,7 +21,7 @@ impl Model for MemoryLists {
 
     ghost Value = { List (List AHeldLine) };
 
-    ghost view = { λ m. map (λ list. list.items) m.lists.keys };
+    ghost view = { λ m. map (λ list. list.items) m.lists };
 }
 
 impl MemoryLists {
@@ -29,7 +30,7 @@ impl MemoryLists {
         ensures { result ≡ [] }
     {
         MemoryLists {
-            lists: IndexSet::new(alloc),
+            lists: Numbers::new(alloc),
         }
     }
 
@@ -43,14 +44,11 @@ impl MemoryLists {
 
     /// The number of a list, which is a new one where it has none yet. Over 2^32 lists count as out of memory.
     pub fn number_of(&mut self, list: Vec<HeldLine>) -> Result<u32, AllocError>
-        ensures extended { IsExtended self.old self.new }
+        ensures kept { AreKept self.old self.new }
         ensures appended { (self.new ≡ self.old) ⊎ (self.new ≡ self.old ++ list.items ∷ []) }
         ensures number { IfOk result (λ number. slice_get self.new number ≡ Some list.items) }
     {
-        let (number, _) = self.lists.insert_full(list)?;
-        if number > u32::MAX as usize {
-            return Err(AllocError);
-        }
-        Ok(number as u32)
+        equal_lists_are_same();
+        self.lists.number_of(list)
     }
 }

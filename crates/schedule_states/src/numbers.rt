@@ -40,7 +40,7 @@ impl<T: Eq + Hash + Drop> Numbers<T> {
     }
 
     /// The number of a value, which is a new one where it has none yet. Over 2^32 values count as out of memory.
-    #[tactic(auto, using(crate::proofs::Listing::inserted, crate::proofs::Listing::kept_inserted))]
+    #[tactic(auto, using(crate::proofs::Looking::inserted, crate::proofs::Looking::kept_inserted))]
     pub fn number_of(&mut self, value: T) -> Result<u32, AllocError>
         ensures kept { AreKept self.old self.new }
         ensures appended { (self.new ≡ self.old) ⊎ (self.new ≡ self.old ++ value ∷ []) }

@@ -20,7 +20,7 @@ use crate::held_lines::HeldLine;
 use crate::line_table::LineTable;
 use crate::memory_lists::MemoryLists;
 use crate::program_state::{HartPart, ProgramState};
-use crate::request::reply_to;
+use crate::request::{mark_of, reply_to};
 use crate::reserving::reserved_after;
 use crate::start_lines::StartLines;
 use crate::state_memory::StateMemory;
@@ -81,6 +81,13 @@ impl<'a> Parts<'a> {
             lists,
             text,
         })
+    }
+
+    /// How many lines the medium has.
+    pub fn lines(&self) -> u32
+        ensures { result ≡ length self.now.table.start.medium }
+    {
+        self.lines.medium().lines()
     }
 
     /// The state at the start of a run of one to eight harts; None where one of them makes too many steps up to its first request.
@@ -211,7 +218,8 @@ impl<'a> Parts<'a> {
             text,
         };
         let harts = harts_after(alloc, &state.harts, asking.hart, &own, request, reply)?;
-        Ok(Successor::State(ProgramState { harts, memory }))
+        let mark = mark_of(asking.hart, request);
+        Ok(Successor::State(ProgramState { harts, memory }, mark))
     }
 
     /// The number of a list of lines.
@@ -298,7 +306,7 @@ impl<'a> Parts<'a> {
     }
 
     /// The memory of the list of a number.
-    fn memory(&self, number: u32) -> StateMemory<'_, 'a>
+    pub fn memory(&self, number: u32) -> StateMemory<'_, 'a>
         requires { number < length self.now.lists }
         ensures { result ≡ record { start = self.now.table.start; states = self.now.table.states; held = slice_index_or self.now.lists number [] } }
     {

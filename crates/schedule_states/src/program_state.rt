@@ -53,4 +53,6 @@ pub struct StateNumbers {
     /// Those of its harts, and zero behind them.
     pub harts: [u32; 8],
     pub memory: u32,
+    /// Of what is kept of the operations.
+    pub standing: u32,
 }

@@ -1,77 +1,104 @@
 //! States that schedules lead to.
 
-ghost use Rattle.std.specs.Prelude.{◌≡◌, ◌<◌, ◌≤◌, ℕ, length, slice_get, Some, true, IfOk, IfSome};
+ghost use Rattle.std.specs.Prelude.{◌≡◌, ◌<◌, ◌≤◌, ℕ, [], true, length, slice_get, None, Some, IfOk, IfSome};
 ghost use Rattle.machine.specs.Run.{started};
 ghost use Rattle.schedule_states.specs.Covering.{Covers, IsClosedAt, IsMet};
 ghost use Rattle.schedule_states.specs.Numbers.{AreKept};
-ghost use Rattle.schedule_states.specs.Reaching.{AreNumbered, AreNumbersOf, ArePartsOf, AreThere, HaveGrown, IsTurn, WereBefore};
+ghost use Rattle.schedule_states.specs.Judging.{IsGoodMoment};
+ghost use Rattle.schedule_states.specs.Reaching.{AreNumbered, AreNumbersOf, ArePartsOf, AreThere, HaveGrown, IsClosedBy, IsFirst, IsClosedFor, IsKeptOn, WereBefore};
+ghost use Rattle.schedule_states.specs.States.{AreLists};
 ghost use Rattle.schedule_states.specs.Successors.{HasLists};
 
-use crate::laws::{equal_numbers_are_same, equal_parts_are_same, states_stand_on};
+use crate::laws::{equal_numbers_are_same, equal_parts_are_same};
+use crate::moments::Moment;
 use crate::numbers::Numbers;
 use crate::parts::Parts;
 use crate::program_state::{HartPart, ProgramState, StateNumbers};
+use crate::state_images::StateImages;
+use crate::state_judge::StateJudge;
 use crate::successor::Successor;
-use line_memory::Medium;
-use program::Program;
 use std::alloc::{AllocError, Global};
 use std::marker::Model;
+use std::thread::Threads;
+use store_trace::Event;
 
 /// States that schedules of one to eight harts lead to, each once, by its number. That of the start has the number 0.
 #[derive(Drop)]
-pub struct Reached<'a> {
+pub struct Reached<'a, J: StateJudge> {
     parts: Parts<'a>,
     hart_parts: Numbers<HartPart>,
+    /// What is kept of the operations.
+    standings: Numbers<J::Standing>,
     states: Numbers<StateNumbers>,
     harts: u32,
 }
 
-impl<'a> Model for Reached<'a> {
+impl<'a, J: StateJudge> Model for Reached<'a, J> {
     ghost use Rattle.schedule_states.specs.Covering.{ReachedView};
     ghost use Rattle.schedule_states.specs.Reaching.{AreNumbered};
 
-    ghost Value = { ReachedView };
+    ghost Value = { ReachedView J.Standing };
 
-    ghost view = { λ r. record { parts = r.parts; hart_parts = r.hart_parts; states = r.states; harts = r.harts } };
+    ghost view = { λ r. record { parts = r.parts; hart_parts = r.hart_parts; standings = r.standings; states = r.states; harts = r.harts } };
 
-    ghost invariant = { λ r. AreNumbered (record { parts = r.parts; hart_parts = r.hart_parts; states = r.states; harts = r.harts }) };
+    ghost invariant = { λ r. AreNumbered (record { parts = r.parts; hart_parts = r.hart_parts; standings = r.standings; states = r.states; harts = r.harts }) };
 }
 
-/// Where the next request of a hart leads to.
+/// Why a search goes no further from a state.
 #[derive(Clone, Copy, Debug, PartialEq, Eq)]
-pub enum Turn {
-    /// The state of this number.
-    Met(u32),
-    /// Nowhere: the hart has stopped.
-    Stopped,
-    /// Unknown: the hart makes too many steps up to a further request.
-    TooLong,
+pub enum Stop {
+    /// The next request of this hart sets a mark of an operation that is at fault.
+    Refused(u32),
+    /// This hart makes too many steps up to the request behind its next one.
+    TooLong(u32),
 }
 
-impl<'a> Reached<'a> {
-    /// The state at the start alone; None where a hart makes too many steps up to its first request.
-    pub fn new(
+impl<'a, J: StateJudge> Reached<'a, J> {
+    /// No state yet.
+    pub fn with_none(
         alloc: Global,
-        program: &'a Program,
-        medium: &'a Medium,
+        parts: Parts<'a>,
+        standings: Numbers<J::Standing>,
         harts: u32,
-    ) -> Result<Option<Reached<'a>>, AllocError>
+    ) -> Reached<'a, J>
         requires { harts ≤ 8 }
-        ensures start { IfOk result (λ found. IfSome found (λ reached. Covers reached (started program.now medium.now harts))) }
-        ensures harts { IfOk result (λ found. IfSome found (λ reached. reached.harts ≡ harts)) }
+        ensures { result ≡ record { parts = parts.entry; hart_parts = []; standings = standings; states = []; harts = harts } }
     {
-        let parts = Parts::new(alloc, program, medium)?;
-        let Some(start) = parts.start(alloc, harts)? else {
-            return Ok(None);
-        };
-        let mut reached = Reached {
+        Reached {
             parts,
             hart_parts: Numbers::new(alloc),
+            standings,
             states: Numbers::new(alloc),
             harts,
+        }
+    }
+
+    /// Meets the state at the start, where what has this number is kept; false where a hart makes too many steps up to its first request.
+    pub fn meet_start(
+        &mut self,
+        alloc: Global,
+        judge: &J,
+        standing: u32,
+    ) -> Result<bool, AllocError>
+        requires first { IsFirst (J.stands judge.now) self.old.standings standing }
+        ensures start { IfOk result (λ met. met ≡ true → Covers (J.stands judge.now) self.new
+            (started self.old.parts.table.start.program self.old.parts.table.start.medium self.old.harts)) }
+        ensures parts { self.new.parts ≡ self.old.parts }
+        ensures harts { self.new.harts ≡ self.old.harts }
+    {
+        self.are_numbered();
+        let Some(start) = self.parts.start(alloc, self.harts)? else {
+            return Ok(false);
         };
-        reached.number_of(&start)?;
-        Ok(Some(reached))
+        self.number_of(&start, standing)?;
+        Ok(true)
+    }
+
+    /// How many lines the medium has.
+    pub fn lines(&self) -> u32
+        ensures { result ≡ length self.now.parts.table.start.medium }
+    {
+        self.parts.lines()
     }
 
     /// How many states were reached.
@@ -81,22 +108,8 @@ impl<'a> Reached<'a> {
         self.states.as_slice().len()
     }
 
-    /// The state of a number.
-    pub fn state(&self, alloc: Global, number: u32) -> Result<ProgramState, AllocError>
-        requires { number < length self.now.states }
-        ensures met { IfOk result (IsMet self.now number) }
-        ensures lists { IfOk result (HasLists self.now.parts) }
-    {
-        let numbers = self.numbers(number);
-        let harts = self.parts_of(alloc, &numbers)?;
-        Ok(ProgramState {
-            harts,
-            memory: numbers.memory,
-        })
-    }
-
     /// The numbers of the parts of a state.
-    fn numbers(&self, number: u32) -> StateNumbers
+    pub fn numbers(&self, number: u32) -> StateNumbers
         requires { number < length self.now.states }
         ensures found { slice_get self.now.states number ≡ Some result }
         ensures there { AreThere self.now result }
@@ -104,17 +117,21 @@ impl<'a> Reached<'a> {
         self.states.as_slice()[number as usize]
     }
 
-    /// The parts of the harts of a state.
-    fn parts_of(&self, alloc: Global, numbers: &StateNumbers) -> Result<Vec<HartPart>, AllocError>
+    /// The state with parts of these numbers.
+    fn state(&self, alloc: Global, numbers: &StateNumbers) -> Result<ProgramState, AllocError>
         requires { AreThere self.now numbers.now }
-        ensures { IfOk result (λ parts. ArePartsOf self.now numbers.now self.now.harts parts.items) }
+        ensures parts { IfOk result (λ state. ArePartsOf self.now numbers.now self.now.harts state.harts.items) }
+        ensures memory { IfOk result (λ state. state.memory ≡ numbers.now.memory) }
     {
-        let mut parts = Vec::with_capacity(alloc, self.harts as usize)?;
+        let mut harts = Vec::with_capacity(alloc, self.harts as usize)?;
         for hart in 0..self.harts {
             let part = self.part(numbers.harts[hart as usize]);
-            parts.push(part)?;
+            harts.push(part)?;
         }
-        Ok(parts)
+        Ok(ProgramState {
+            harts,
+            memory: numbers.memory,
+        })
     }
 
     /// The part of a number.
@@ -125,42 +142,47 @@ impl<'a> Reached<'a> {
         self.hart_parts.as_slice()[number as usize]
     }
 
-    /// Where the next request of a hart leads to from a state.
-    pub fn go_on(
-        &mut self,
+    /// Whether each image of the memory of a number is good, where what has the other number is kept.
+    pub fn passes<T: Threads + Sync>(
+        &self,
+        rt: &T,
         alloc: Global,
-        state: &ProgramState,
-        hart: u32,
-    ) -> Result<Turn, AllocError>
-        requires there { hart < self.old.harts }
-        requires count { length state.now.harts.items ≡ self.old.harts }
-        requires lists { HasLists self.old.parts state.now }
-        ensures turn { IfOk result (IsTurn self.new state.now hart) }
-        ensures grown { HaveGrown self.old self.new }
-        ensures before { WereBefore self.old self.new }
+        judge: &J,
+        workspace: &mut J::Workspace,
+        moment: Moment,
+    ) -> Result<bool, AllocError>
+        requires memory { moment.memory < length self.now.parts.lists }
+        requires standing { moment.standing < length self.now.standings }
+        requires fits { J.fits judge.now (length self.now.parts.table.start.medium) workspace.old }
+        ensures fits { J.fits judge.now (length self.now.parts.table.start.medium) workspace.new }
+        ensures good { IfOk result (λ all. all ≡ true →
+            IsGoodMoment (J.stands judge.now) (J.good judge.now) self.now moment.memory moment.standing) }
     {
-        self.parts.lists_are_there();
-        match self.parts.after_request(alloc, state, hart)? {
-            Successor::State(next) => {
-                let number = self.number_of(&next)?;
-                Ok(Turn::Met(number))
-            }
-            Successor::Stopped => Ok(Turn::Stopped),
-            Successor::TooLong => Ok(Turn::TooLong),
-        }
+        let Some(images) = StateImages::new(self.parts.memory(moment.memory)) else {
+            return Ok(false);
+        };
+        let standing = &self.standings.as_slice()[moment.standing as usize];
+        judge.passes(rt, alloc, workspace, &images, standing)
     }
 
-    /// Goes on from a state by the next request of each hart; false where one of them makes too many steps up to a further request.
-    pub fn go_on_all(&mut self, alloc: Global, number: u32) -> Result<bool, AllocError>
+    /// Goes on from a state by the next request of each hart, up to one at which it stops.
+    pub fn go_on_all(
+        &mut self,
+        alloc: Global,
+        judge: &J,
+        number: u32,
+    ) -> Result<Option<Stop>, AllocError>
         requires { number < length self.old.states }
-        ensures closed { IfOk result (λ all. all ≡ true → IsClosedAt self.new number) }
-        ensures still { (n : ℕ) → n < length self.old.states → IsClosedAt self.old n → IsClosedAt self.new n }
+        ensures closed { IfOk result (λ stop. stop ≡ None → IsClosedAt (J.stands judge.now) self.new number) }
+        ensures still { (n : ℕ) → n < length self.old.states → IsClosedAt (J.stands judge.now) self.old n → IsClosedAt (J.stands judge.now) self.new n }
         ensures grown { HaveGrown self.old self.new }
+        ensures before { AreNumbered self.old × AreLists self.old.parts.table.states self.old.parts.lists }
     {
         self.are_numbered();
-        let state = self.state(alloc, number)?;
-        let all = self.turns(alloc, number, &state)?;
-        Ok(all)
+        self.parts.lists_are_there();
+        let numbers = self.numbers(number);
+        let state = self.state(alloc, &numbers)?;
+        self.turns(alloc, judge, &state, numbers.standing)
     }
 
     /// Each state has the numbers of parts that are there.
@@ -171,44 +193,119 @@ impl<'a> Reached<'a> {
         let _ = &self.states;
     }
 
-    /// The next request of each hart from a state; false where one of them makes too many steps up to a further one.
+    /// Goes on by the next request of each hart from a state, where what has this number is kept of the operations.
     fn turns(
         &mut self,
         alloc: Global,
-        number: u32,
+        judge: &J,
         state: &ProgramState,
-    ) -> Result<bool, AllocError>
-        requires met { IsMet self.old number state.now }
+        standing: u32,
+    ) -> Result<Option<Stop>, AllocError>
+        requires count { length state.now.harts.items ≡ self.old.harts }
         requires lists { HasLists self.old.parts state.now }
-        ensures closed { IfOk result (λ all. all ≡ true → IsClosedAt self.new number) }
+        requires standing { standing < length self.old.standings }
+        ensures closed { IfOk result (λ stop. stop ≡ None → (t : J.Standing) → slice_get self.old.standings standing ≡ Some t →
+            IsClosedFor (J.stands judge.now) self.new state.now t self.new.harts) }
         ensures grown { HaveGrown self.old self.new }
-        ensures before { WereBefore self.old self.new }
+        ensures before { WereBefore self.old.parts self.new.parts }
     {
         let harts = self.harts;
         for hart in 0..harts {
-            if let Turn::TooLong = self.go_on(alloc, state, hart)? {
-                return Ok(false);
+            let stop = self.go_on(alloc, judge, state, standing, hart)?;
+            if stop.is_some() {
+                return Ok(stop);
             }
         }
-        Ok(true)
+        Ok(None)
+    }
+
+    /// Goes on by the next request of a hart.
+    fn go_on(
+        &mut self,
+        alloc: Global,
+        judge: &J,
+        state: &ProgramState,
+        standing: u32,
+        hart: u32,
+    ) -> Result<Option<Stop>, AllocError>
+        requires there { hart < self.old.harts }
+        requires count { length state.now.harts.items ≡ self.old.harts }
+        requires lists { HasLists self.old.parts state.now }
+        requires standing { standing < length self.old.standings }
+        ensures closed { IfOk result (λ stop. stop ≡ None → (t : J.Standing) → slice_get self.old.standings standing ≡ Some t →
+            IsClosedBy (J.stands judge.now) self.new state.now t hart) }
+        ensures grown { HaveGrown self.old self.new }
+        ensures before { WereBefore self.old.parts self.new.parts }
+    {
+        self.parts.lists_are_there();
+        match self.parts.after_request(alloc, state, hart)? {
+            Successor::State(next, mark) => {
+                let known = &mut self.standings;
+                let Some(standing) = standing_after(alloc, judge, known, standing, mark)? else {
+                    return Ok(Some(Stop::Refused(hart)));
+                };
+                self.number_of(&next, standing)?;
+                Ok(None)
+            }
+            Successor::Stopped => Ok(None),
+            Successor::TooLong => Ok(Some(Stop::TooLong(hart))),
+        }
     }
 
     /// The number of a state, which is a new one where it wasn't reached yet.
-    fn number_of(&mut self, state: &ProgramState) -> Result<u32, AllocError>
+    fn number_of(&mut self, state: &ProgramState, standing: u32) -> Result<u32, AllocError>
         requires count { length state.now.harts.items ≡ self.old.harts }
         requires lists { HasLists self.old.parts state.now }
-        ensures met { IfOk result (λ number. IsMet self.new number state.now) }
+        requires standing { standing < length self.old.standings }
+        ensures met { IfOk result (λ number. (t : J.Standing) → slice_get self.old.standings standing ≡ Some t → IsMet self.new number state.now t) }
         ensures grown { HaveGrown self.old self.new }
         ensures parts { self.new.parts ≡ self.old.parts }
+        ensures standings { self.new.standings ≡ self.old.standings }
     {
         let harts = numbers_of(&mut self.hart_parts, &state.harts)?;
         let numbers = StateNumbers {
             harts,
             memory: state.memory,
+            standing,
         };
         equal_numbers_are_same();
         let number = self.states.number_of(numbers)?;
         Ok(number)
+    }
+}
+
+/// What is kept of the operations before any event, with its number.
+pub fn first_standing<J: StateJudge>(
+    alloc: Global,
+    judge: &J,
+) -> Result<(Numbers<J::Standing>, u32), AllocError>
+    ensures { IfOk result (λ first. IsFirst (J.stands judge.now) first.0 first.1) }
+{
+    let standing = judge.start(alloc)?;
+    let mut standings = Numbers::new(alloc);
+    let number = standings.number_of(standing)?;
+    Ok((standings, number))
+}
+
+/// The number of what is kept of the operations after a mark, if one was set; None where the mark is at fault.
+fn standing_after<J: StateJudge>(
+    alloc: Global,
+    judge: &J,
+    known: &mut Numbers<J::Standing>,
+    standing: u32,
+    mark: Option<Event>,
+) -> Result<Option<u32>, AllocError>
+    requires { standing < length known.old }
+    ensures kept { AreKept known.old known.new }
+    ensures after { IfOk result (λ found. IfSome found (IsKeptOn (J.stands judge.now) known.old known.new standing mark)) }
+    ensures there { IfOk result (λ found. IfSome found (λ number. number < length known.new)) }
+{
+    let Some(mark) = mark else {
+        return Ok(Some(standing));
+    };
+    match judge.after(alloc, &known.as_slice()[standing as usize], mark)? {
+        Some(next) => Ok(Some(known.number_of(next)?)),
+        None => Ok(None),
     }
 }
 

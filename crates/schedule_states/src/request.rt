@@ -1,16 +1,19 @@
 //! Requests of harts over the memory of a state: the reply to one, and what it writes.
 
-ghost use Rattle.std.specs.Prelude.{◌≡◌, ◌/◌, is_some, option_map, if◌then◌else◌};
+ghost use Rattle.std.specs.Prelude.{◌≡◌, ◌/◌, ◌++◌, ℕ, Bool, List, is_some, option_map, if◌then◌else◌};
 ghost use Rattle.hart.specs.Requests.{IsRequest};
-ghost use Rattle.line_memory.specs.Memory.{IsWidth, fault_of, loaded_from};
+ghost use Rattle.line_memory.specs.Memory.{IsWidth, Memory, fault_of, loaded_from};
 ghost use Rattle.machine.specs.Histories.{written as written_by};
-ghost use Rattle.machine.specs.Replies.{access_fault, replied, value_unless};
+ghost use Rattle.machine.specs.Replies.{access_fault, events_of, replied, value_unless};
+ghost use Rattle.schedule_states.specs.Marks.{IsMarkedBy};
 ghost use Rattle.schedule_states.specs.Memories.{memory_of};
 ghost use Rattle.schedule_states.specs.Requests.{is_reserved, write_of};
+ghost use Rattle.store_trace.specs.declared.event.Event.{Event as AnEvent};
 
 use crate::state_memory::StateMemory;
 use hart::{AccessFault, Reply, Request, amo_result};
 use line_memory::{LINE_SIZE, MemFault};
+use store_trace::Event;
 
 /// What a request writes: the low `width` bytes of a value, from an address on.
 #[derive(Clone, Copy, Debug, PartialEq, Eq)]
@@ -127,6 +130,18 @@ pub fn written(request: Request, reply: Reply) -> Option<Write>
             width,
             value: amo_result(op, width, old, operand),
         }),
+        _ => None,
+    }
+}
+
+/// The mark of an operation that a hart sets by a request.
+pub fn mark_of(hart: u32, request: Request) -> Option<Event>
+    ensures { (memory : Memory) (reserved : ℕ → Bool) (before : List AnEvent) →
+        IsMarkedBy result before (before ++ events_of hart request (replied memory reserved request)) }
+{
+    match request {
+        Request::Begin { op } => Some(Event::Begin { hart, op }),
+        Request::End { op } => Some(Event::End { hart, op }),
         _ => None,
     }
 }

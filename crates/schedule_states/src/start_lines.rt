@@ -18,7 +18,7 @@ const TEXT_LINE: u64 = 1_024;
 
 const DATA_LINE: u64 = 16_384;
 
-const PERSISTENT_LINE: u64 = 16_777_216;
+pub const PERSISTENT_LINE: u64 = 16_777_216;
 
 /// The lines of text and of data.
 const TEXT_LINES: u64 = 1_024;

@@ -1,15 +1,17 @@
 //! The flat memory of a state.
 
-ghost use Rattle.std.specs.Prelude.{◌≡◌, ◌^◌, ◌<◌, None, Some, length, IfErr, IfNone, IfOk, IfSome, OnOk};
+ghost use Rattle.std.specs.Prelude.{◌≡◌, ◌^◌, ◌<◌, slice_get, None, Some, length, IfErr, IfNone, IfOk, IfSome, OnOk};
 ghost use Rattle.line_memory.specs.Memory.{IsWidth, fault_of, loaded_from};
 ghost use Rattle.schedule_states.specs.HeldLines.{AreBelow};
+ghost use Rattle.line_memory.specs.Lines.{IsMedium};
+ghost use Rattle.schedule_states.specs.Images.{line_in};
 ghost use Rattle.schedule_states.specs.Memories.{memory_of, state_in};
 ghost use Rattle.schedule_states.specs.StartLines.{LacksLine, ShowsLine};
 
 use crate::held_lines::{HeldLine, state_of};
 use crate::line_state::LineState;
-use crate::start_lines::StartLines;
-use line_memory::{LINE_SIZE, MemFault, is_aligned, load_bytes};
+use crate::start_lines::{PERSISTENT_LINE, StartLines};
+use line_memory::{LINE_SIZE, Medium, MemFault, is_aligned, load_bytes};
 use std::marker::Model;
 
 /// The flat memory of a state: lines that aren't as they were, over those of the start.
@@ -74,6 +76,38 @@ impl<'a, 'b> StateMemory<'a, 'b> {
             Some(number) => Some(whole(&self.states[number as usize])),
             None => None,
         }
+    }
+
+    /// The medium that a run starts from.
+    pub(crate) fn medium(&self) -> &'b Medium
+        ensures value { result.now ≡ self.now.start.medium }
+        ensures whole { IsMedium self.now.start.medium }
+    {
+        self.start.medium()
+    }
+
+    /// The lines that are held.
+    pub(crate) fn held(&self) -> &'a [HeldLine]
+        ensures value { result.now ≡ self.now.held }
+        ensures below { AreBelow (length self.now.states) self.now.held }
+    {
+        self.held
+    }
+
+    /// The state of a number.
+    pub(crate) fn line_state(&self, number: u32) -> &'a LineState
+        requires { number < length self.now.states }
+        ensures { slice_get self.now.states number ≡ Some result.now }
+    {
+        &self.states[number as usize]
+    }
+
+    /// The state of a line of the medium; None where it is as it was at the start.
+    pub(crate) fn state_of_medium(&self, line: u32) -> Option<&'a LineState>
+        ensures some { IfSome result (λ state. line_in self.now line ≡ Some state.now) }
+        ensures none { IfNone result (line_in self.now line ≡ None) }
+    {
+        self.state(PERSISTENT_LINE + u64::from(line))
     }
 
     /// The byte at an address; None where it lies in no region.

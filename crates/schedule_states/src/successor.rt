@@ -11,12 +11,13 @@ use crate::program_state::{HartPart, ProgramState};
 use crate::reserving::reserved_after;
 use hart::{Reply, Request};
 use std::alloc::{AllocError, Global};
+use store_trace::Event;
 
 /// What comes of a state by a request of one of its harts.
 #[derive(Drop)]
 pub enum Successor {
-    /// This state.
-    State(ProgramState),
+    /// This state, and the mark of an operation that the request set.
+    State(ProgramState, Option<Event>),
     /// Nothing: the hart has stopped.
     Stopped,
     /// Unknown: the hart makes too many steps up to a further request.
@@ -24,7 +25,6 @@ pub enum Successor {
 }
 
 /// The parts of the harts after a request of one, whose own part is given.
-#[tactic(auto, using(crate::proofs::Succeeding::parts_more))]
 pub(crate) fn harts_after(
     alloc: Global,
     harts: &[HartPart],
@@ -45,7 +45,7 @@ pub(crate) fn harts_after(
 }
 
 /// The part of hart `at` after it.
-#[tactic(auto, using(crate::proofs::Succeeding::part_there))]
+#[tactic(auto, using(bus::proofs::Places::get_of))]
 fn part_after(
     harts: &[HartPart],
     at: usize,

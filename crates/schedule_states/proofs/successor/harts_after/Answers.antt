@@ -1,6 +1,6 @@
 use Rattle.std.proofs.Common.{◌≡◌, ◌+◌, ◌++◌, ◌∷◌, [], length, rules, arith}
 use Rattle.std.proofs.lemmas.List.{length-append}
-use Rattle.schedule_states.proofs.Succeeding.{parts_more}
+use Rattle.schedule_states.proofs.Looking.{each_pushed}
 use Rattle.schedule_states.specs.Successors.{IsPartAfter}
 use Rattle.schedule_states.proofs.successor.harts_after.Goals as goal
 
@@ -13,6 +13,6 @@ loop-at-preserved c =
     let is : IsPartAfter c.args.hart c.args.own.now c.args.request c.args.reply c.args.harts.now c.loop-at.at c.part_after.result = c.part_after.ensures in
     rw pushed (
       omega arith,
-      parts_more c.args.hart c.args.own.now c.args.request c.args.reply c.args.harts.now c.loop-at.after.items c.loop-at.at
-          c.part_after.result long is c.loop-at.invariant.1,
+      each_pushed (IsPartAfter c.args.hart c.args.own.now c.args.request c.args.reply c.args.harts.now) c.loop-at.after.items c.part_after.result
+          c.loop-at.invariant.1 (rw long is),
     )

@@ -64,9 +64,9 @@ returns c =
       harts = harts;
     } in
     record {
-      successor = λ k d stands asks. stands_served c.args.self.now c.number_of.new.self c.args.state.now next k d c.args.asking.now.hart part own
-          c.args.asking.now.instr c.args.asking.now.request c.in_ok-reply.reply c.in_ok-reply.lines.items served c.requires.asking.asks c.requires.asking.spelled
-          stands asks;
+      successor = λ k d stands asks. stands_served c.args.self.now c.number_of.new.self c.args.state.now next c.mark_of-mark.result k d c.args.asking.now.hart part own
+          c.args.asking.now.instr c.args.asking.now.request c.in_ok-reply.reply c.in_ok-reply.lines.items served c.mark_of-mark.ensures c.requires.asking.asks
+          c.requires.asking.spelled stands asks;
       lists = has_lists_after c.args.self.now c.number_of.new.self c.args.state.now next c.args.asking.now.hart own c.args.asking.now.request c.in_ok-reply.reply
           grown c.requires.lists c.in_ok-memory.ensures.there
           (there_still c.text_after.new.self c.number_of.new.self c.in_ok-text.text c.number_of.ensures.grown c.in_ok-text.ensures.there) harts;

@@ -1,8 +1,8 @@
-use Rattle.std.proofs.Common.{◌≡◌, ◌<◌, [], true, false, length, refl, sym, ◌∙◌}
+use Rattle.std.proofs.Common.{◌≡◌, true, false, length, refl, sym, ◌∙◌}
+use Rattle.std.proofs.lemmas.Option.{slice_get_within}
 use Rattle.std.proofs.lemmas.Result.{IfOk-weaker}
 use Rattle.machine.specs.Histories.{is_renewing}
 use Rattle.schedule_states.proofs.Fetching.{text_same}
-use Rattle.schedule_states.proofs.Listing.{within_lists}
 use Rattle.schedule_states.proofs.Putting.{lists_more}
 use Rattle.schedule_states.specs.HeldLines.{AreBelow}
 use Rattle.schedule_states.proofs.parts.Parts.text_after.Goals as goal
@@ -13,7 +13,7 @@ invariant_of-self c =
     let below : AreBelow (length c.self.inside.lines.states) c.in_ok-low-in-FenceI.low.items =
     c.in_ok-low-in-FenceI.ensures.below (length c.self.inside.lines.states) lines in (
       lists_more c.self.inside.lines.states c.self.inside.lists c.number_of.new.self c.in_ok-low-in-FenceI.low.items c.number_of.ensures.appended
-          c.number_of.ensures.extended below c.self.invariant.0,
+          c.number_of.ensures.kept below c.self.invariant.0,
       c.self.invariant.1,
     )
 
@@ -31,4 +31,4 @@ returns-in_ok-low-in-FenceI-clause-text c = IfOk-weaker c.number_of.result _ _
 
 pub returns-in_ok-low-in-FenceI-clause-there : goal.returns-in_ok-low-in-FenceI-clause-there
 returns-in_ok-low-in-FenceI-clause-there c = IfOk-weaker c.number_of.result _ _
-    (λ number found. within_lists c.number_of.new.self number c.in_ok-low-in-FenceI.low.items found) c.number_of.ensures.number
+    (λ number found. slice_get_within c.number_of.new.self number c.in_ok-low-in-FenceI.low.items found) c.number_of.ensures.number

@@ -1,84 +1,100 @@
-use Rattle.std.proofs.Common.{◌≡◌, refl, subst, sym, rules}
-use Rattle.schedule_states.proofs.Numbering.{numbered_kept}
-use Rattle.schedule_states.proofs.Returning.{before_of, stands_before}
-use Rattle.schedule_states.specs.Covering.{ReachedView}
+use Rattle.std.proofs.Common.{◌≡◌, Some, length, slice_get, refl, subst, sym, ap, ◌∙◌, rules}
+use Rattle.machine.specs.Replies.{trace_in}
+use Rattle.schedule_states.proofs.Numbering.{numbered_grown}
+use Rattle.schedule_states.proofs.Returning.{stands_before}
+use Rattle.schedule_states.specs.Marks.{IsMarkedBy}
+use Rattle.schedule_states.specs.Reaching.{IsKeptOn}
 use Rattle.schedule_states.specs.States.{StandsFor}
 use Rattle.schedule_states.specs.Successors.{HasLists, IsSuccessor}
-use Rattle.schedule_states.specs.declared.successor.Successor.TheVariants as Answer
+use Rattle.schedule_states.specs.declared.successor.Successor.TheVariants as answer
 use Rattle.schedule_states.proofs.reached.Reached.go_on.Goals as goal
 
 pub invariant_of-self : goal.invariant_of-self
-invariant_of-self c = numbered_kept
-    (record { parts = c.self.inside.parts; hart_parts = c.self.inside.hart_parts; states = c.self.inside.states; harts = c.self.inside.harts })
-    (record { parts = c.after_request.new.self; hart_parts = c.self.inside.hart_parts; states = c.self.inside.states; harts = c.self.inside.harts })
-    (record { parts = c.after_request.ensures.grown; hart_parts = λ n value found. found; states = λ n value found. found; harts = refl })
-    refl c.self.invariant
-
-pub invariant_of-self-in-State : goal.invariant_of-self-in-State
-invariant_of-self-in-State c = numbered_kept
-    (record { parts = c.self.inside.parts; hart_parts = c.self.inside.hart_parts; states = c.self.inside.states; harts = c.self.inside.harts })
-    (record { parts = c.after_request.new.self; hart_parts = c.self.inside.hart_parts; states = c.self.inside.states; harts = c.self.inside.harts })
-    (record { parts = c.after_request.ensures.grown; hart_parts = λ n value found. found; states = λ n value found. found; harts = refl })
-    refl c.self.invariant
-
-pub invariant_of-self-in-Stopped : goal.invariant_of-self-in-Stopped
-invariant_of-self-in-Stopped c = numbered_kept
-    (record { parts = c.self.inside.parts; hart_parts = c.self.inside.hart_parts; states = c.self.inside.states; harts = c.self.inside.harts })
-    (record { parts = c.after_request.new.self; hart_parts = c.self.inside.hart_parts; states = c.self.inside.states; harts = c.self.inside.harts })
-    (record { parts = c.after_request.ensures.grown; hart_parts = λ n value found. found; states = λ n value found. found; harts = refl })
-    refl c.self.invariant
-
-pub invariant_of-self-in-TooLong : goal.invariant_of-self-in-TooLong
-invariant_of-self-in-TooLong c = numbered_kept
-    (record { parts = c.self.inside.parts; hart_parts = c.self.inside.hart_parts; states = c.self.inside.states; harts = c.self.inside.harts })
-    (record { parts = c.after_request.new.self; hart_parts = c.self.inside.hart_parts; states = c.self.inside.states; harts = c.self.inside.harts })
-    (record { parts = c.after_request.ensures.grown; hart_parts = λ n value found. found; states = λ n value found. found; harts = refl })
-    refl c.self.invariant
-
-pub returns-in_ok-number-in-State-clause-turn : goal.returns-in_ok-number-in-State-clause-turn
-returns-in_ok-number-in-State-clause-turn c = (
-  c.in-State.next,
-  c.in_ok-number-in-State.ensures.met,
-  λ k d stands asks.
-      let lists : HasLists c.self.inside.parts c.args.state.now = rw (sym c.self.view_is) at c.requires.lists in
-      let successor : IsSuccessor c.self.inside.parts c.after_request.new.self c.args.state.now c.args.hart (Answer.State c.in-State.next) =
-      rw c.in-State.is at c.in_ok-next.ensures.successor in
-      let before : StandsFor c.self.inside.parts c.args.state.now k =
-      stands_before c.self.inside.parts c.after_request.new.self c.args.state.now k c.after_request.ensures.grown c.lists_are_there.ensures lists
-      (rw c.number_of.ensures.parts at stands) in
-      rw c.number_of.ensures.parts (successor k d before asks),
-)
-
-pub returns-in-Stopped-clause-turn : goal.returns-in-Stopped-clause-turn
-returns-in-Stopped-clause-turn c = λ k d stands asks.
-    let lists : HasLists c.self.inside.parts c.args.state.now = rw (sym c.self.view_is) at c.requires.lists in
-    let none : IsSuccessor c.self.inside.parts c.after_request.new.self c.args.state.now c.args.hart Answer.Stopped =
-    rw c.in-Stopped.is at c.in_ok-next.ensures.successor in
-    let before : StandsFor c.self.inside.parts c.args.state.now k =
-    stands_before c.self.inside.parts c.after_request.new.self c.args.state.now k c.after_request.ensures.grown c.lists_are_there.ensures lists stands in
-    none k d before asks
+invariant_of-self g c = numbered_grown
+    (record { parts = c.self.inside.parts; hart_parts = c.self.inside.hart_parts; standings = c.self.inside.standings; states = c.self.inside.states; harts = c.self.inside.harts })
+    c.after_request.new.self c.self.inside.standings c.after_request.ensures.grown (λ n value found. found) c.self.invariant
 
 pub returns-in_err-next-clause-before : goal.returns-in_err-next-clause-before
-returns-in_err-next-clause-before c =
-    let r : ReachedView = record { parts = c.self.inside.parts; hart_parts = c.self.inside.hart_parts; states = c.self.inside.states; harts = c.self.inside.harts } in
-    rw (sym c.self.view_is) (before_of r c.after_request.new.self c.self.invariant c.lists_are_there.ensures c.after_request.ensures.grown)
+returns-in_err-next-clause-before g c =
+    rw (sym c.self.view_is) (λ s k lists stands. stands_before c.self.inside.parts c.after_request.new.self s k c.after_request.ensures.grown c.lists_are_there.ensures lists stands)
 
-pub returns-in_err-number-in-State-clause-before : goal.returns-in_err-number-in-State-clause-before
-returns-in_err-number-in-State-clause-before c =
-    let r : ReachedView = record { parts = c.self.inside.parts; hart_parts = c.self.inside.hart_parts; states = c.self.inside.states; harts = c.self.inside.harts } in
-    rw (sym c.self.view_is) (before_of r c.number_of.new.self.parts c.self.invariant c.lists_are_there.ensures (rw c.number_of.ensures.parts c.after_request.ensures.grown))
+pub invariant_of-self-in_err-standing-in-State : goal.invariant_of-self-in_err-standing-in-State
+invariant_of-self-in_err-standing-in-State g c = numbered_grown
+    (record { parts = c.self.inside.parts; hart_parts = c.self.inside.hart_parts; standings = c.self.inside.standings; states = c.self.inside.states; harts = c.self.inside.harts })
+    c.after_request.new.self c.standing_after.new.known c.after_request.ensures.grown c.standing_after.ensures.kept c.self.invariant
 
-pub returns-in_ok-number-in-State-clause-before : goal.returns-in_ok-number-in-State-clause-before
-returns-in_ok-number-in-State-clause-before c =
-    let r : ReachedView = record { parts = c.self.inside.parts; hart_parts = c.self.inside.hart_parts; states = c.self.inside.states; harts = c.self.inside.harts } in
-    rw (sym c.self.view_is) (before_of r c.number_of.new.self.parts c.self.invariant c.lists_are_there.ensures (rw c.number_of.ensures.parts c.after_request.ensures.grown))
+pub returns-in_err-standing-in-State-clause-before : goal.returns-in_err-standing-in-State-clause-before
+returns-in_err-standing-in-State-clause-before g c =
+    rw (sym c.self.view_is) (λ s k lists stands. stands_before c.self.inside.parts c.after_request.new.self s k c.after_request.ensures.grown c.lists_are_there.ensures lists stands)
+
+pub invariant_of-self-in_default : goal.invariant_of-self-in_default
+invariant_of-self-in_default g c = numbered_grown
+    (record { parts = c.self.inside.parts; hart_parts = c.self.inside.hart_parts; standings = c.self.inside.standings; states = c.self.inside.states; harts = c.self.inside.harts })
+    c.after_request.new.self c.standing_after.new.known c.after_request.ensures.grown c.standing_after.ensures.kept c.self.invariant
+
+pub returns-in_default-clause-before : goal.returns-in_default-clause-before
+returns-in_default-clause-before g c =
+    rw (sym c.self.view_is) (λ s k lists stands. stands_before c.self.inside.parts c.after_request.new.self s k c.after_request.ensures.grown c.lists_are_there.ensures lists stands)
+
+pub invariant_of-self-in-State : goal.invariant_of-self-in-State
+invariant_of-self-in-State g c = numbered_grown
+    (record { parts = c.self.inside.parts; hart_parts = c.self.inside.hart_parts; standings = c.self.inside.standings; states = c.self.inside.states; harts = c.self.inside.harts })
+    c.after_request.new.self c.standing_after.new.known c.after_request.ensures.grown c.standing_after.ensures.kept c.self.invariant
+
+pub returns-in_err-number_of-in-State-clause-before : goal.returns-in_err-number_of-in-State-clause-before
+returns-in_err-number_of-in-State-clause-before g c =
+    rw (sym c.self.view_is) (λ s k lists stands. stands_before c.self.inside.parts c.number_of.new.self.parts s k
+    (rw c.number_of.ensures.parts c.after_request.ensures.grown) c.lists_are_there.ensures lists stands)
+
+pub invariant_of-self-in-Stopped : goal.invariant_of-self-in-Stopped
+invariant_of-self-in-Stopped g c = numbered_grown
+    (record { parts = c.self.inside.parts; hart_parts = c.self.inside.hart_parts; standings = c.self.inside.standings; states = c.self.inside.states; harts = c.self.inside.harts })
+    c.after_request.new.self c.self.inside.standings c.after_request.ensures.grown (λ n value found. found) c.self.invariant
+
+pub invariant_of-self-in-TooLong : goal.invariant_of-self-in-TooLong
+invariant_of-self-in-TooLong g c = numbered_grown
+    (record { parts = c.self.inside.parts; hart_parts = c.self.inside.hart_parts; standings = c.self.inside.standings; states = c.self.inside.states; harts = c.self.inside.harts })
+    c.after_request.new.self c.self.inside.standings c.after_request.ensures.grown (λ n value found. found) c.self.invariant
+
+pub returns-in_ok-number_of-in-State-clause-before : goal.returns-in_ok-number_of-in-State-clause-before
+returns-in_ok-number_of-in-State-clause-before g c =
+    rw (sym c.self.view_is) (λ s k lists stands. stands_before c.self.inside.parts c.number_of.new.self.parts s k
+    (rw c.number_of.ensures.parts c.after_request.ensures.grown) c.lists_are_there.ensures lists stands)
 
 pub returns-in-Stopped-clause-before : goal.returns-in-Stopped-clause-before
-returns-in-Stopped-clause-before c =
-    let r : ReachedView = record { parts = c.self.inside.parts; hart_parts = c.self.inside.hart_parts; states = c.self.inside.states; harts = c.self.inside.harts } in
-    rw (sym c.self.view_is) (before_of r c.after_request.new.self c.self.invariant c.lists_are_there.ensures c.after_request.ensures.grown)
+returns-in-Stopped-clause-before g c =
+    rw (sym c.self.view_is) (λ s k lists stands. stands_before c.self.inside.parts c.after_request.new.self s k c.after_request.ensures.grown c.lists_are_there.ensures lists stands)
 
 pub returns-in-TooLong-clause-before : goal.returns-in-TooLong-clause-before
-returns-in-TooLong-clause-before c =
-    let r : ReachedView = record { parts = c.self.inside.parts; hart_parts = c.self.inside.hart_parts; states = c.self.inside.states; harts = c.self.inside.harts } in
-    rw (sym c.self.view_is) (before_of r c.after_request.new.self c.self.invariant c.lists_are_there.ensures c.after_request.ensures.grown)
+returns-in-TooLong-clause-before g c =
+    rw (sym c.self.view_is) (λ s k lists stands. stands_before c.self.inside.parts c.after_request.new.self s k c.after_request.ensures.grown c.lists_are_there.ensures lists stands)
+
+pub returns-in_ok-number_of-in-State-clause-closed : goal.returns-in_ok-number_of-in-State-clause-closed
+returns-in_ok-number_of-in-State-clause-closed g c = λ told t kept k d stands_as asks.
+    let lists : HasLists c.self.inside.parts c.args.state.now = rw (sym c.self.view_is) at c.requires.lists in
+    let successor : IsSuccessor c.self.inside.parts c.after_request.new.self c.args.state.now c.args.hart (answer.State c.in-State.next c.in-State.mark) =
+    rw c.in-State.is at c.in_ok-next.ensures.successor in
+    let before : StandsFor c.self.inside.parts c.args.state.now k =
+    stands_before c.self.inside.parts c.after_request.new.self c.args.state.now k c.after_request.ensures.grown c.lists_are_there.ensures lists
+    (rw c.number_of.ensures.parts at stands_as.0) in
+    let comes : StandsFor c.after_request.new.self c.in-State.next d × IsMarkedBy c.in-State.mark (trace_in k.common) (trace_in d.common) = successor k d before asks in
+    let was : slice_get c.self.inside.standings c.args.standing ≡ Some t = rw (sym c.self.view_is) at kept in
+    let on : IsKeptOn (g.J.StateJudge.stands c.args.judge.now) c.self.inside.standings c.standing_after.new.known c.args.standing c.in-State.mark c.in-Some.standing =
+    search rules in
+    let next = on t was in
+    record {
+      state = c.in-State.next;
+      standing = next.0;
+      number = c.in_ok-number_of-in-State.field-0;
+      met = c.in_ok-number_of-in-State.ensures.met next.0 next.1;
+      stands_as = (rw c.number_of.ensures.parts comes.0, next.2 (trace_in k.common) (trace_in d.common) comes.1 stands_as.1);
+    }
+
+pub returns-in-Stopped-clause-closed : goal.returns-in-Stopped-clause-closed
+returns-in-Stopped-clause-closed g c = λ told t kept k d stands_as asks.
+    let lists : HasLists c.self.inside.parts c.args.state.now = rw (sym c.self.view_is) at c.requires.lists in
+    let none : IsSuccessor c.self.inside.parts c.after_request.new.self c.args.state.now c.args.hart answer.Stopped =
+    rw c.in-Stopped.is at c.in_ok-next.ensures.successor in
+    let before : StandsFor c.self.inside.parts c.args.state.now k =
+    stands_before c.self.inside.parts c.after_request.new.self c.args.state.now k c.after_request.ensures.grown c.lists_are_there.ensures lists stands_as.0 in
+    absurd (none k d before asks)

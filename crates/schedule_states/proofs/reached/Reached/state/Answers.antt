@@ -1,27 +1,14 @@
-use Rattle.std.proofs.Common.{◌≡◌, rules}
-use Rattle.schedule_states.proofs.Numbering.{lists_of_met}
-use Rattle.schedule_states.specs.Covering.{IsMet}
-use Rattle.schedule_states.specs.Reaching.{AreNumbered}
-use Rattle.schedule_states.specs.declared.program_state.ProgramState.{ProgramState}
+use Rattle.std.proofs.Common.{◌≡◌, ◌++◌, ◌∷◌, [], length, rules, arith}
+use Rattle.std.proofs.lemmas.Option.{slice_get_within}
+use Rattle.schedule_states.proofs.Numbering.{parts_more}
 use Rattle.schedule_states.proofs.reached.Reached.state.Goals as goal
 
-pub returns-clause-met : goal.returns-clause-met
-returns-clause-met c = record {
-  numbers = c.numbers-numbers.result;
-  found = c.numbers-numbers.ensures.found;
-  memory = search rules;
-  count = search rules;
-  each = search rules;
-}
+pub loop-hart-preserved : goal.loop-hart-preserved
+loop-hart-preserved g c =
+    let pushed : c.push.new.self.items ≡ c.loop-hart.harts.items ++ c.part-part.result ∷ [] = search rules in
+    rw pushed (parts_more c.args.self.now c.args.numbers.now c.loop-hart.hart c.loop-hart.harts.items c.part-part.result c.loop-hart.invariant (search rules))
 
-pub returns-clause-lists : goal.returns-clause-lists
-returns-clause-lists c =
-    let state : ProgramState = record { harts = c.in_ok-harts.harts; memory = c.numbers-numbers.result.memory } in
-    let met : IsMet c.args.self.now c.args.number state = record {
-      numbers = c.numbers-numbers.result;
-      found = c.numbers-numbers.ensures.found;
-      memory = search rules;
-      count = search rules;
-      each = search rules;
-    } in
-    lists_of_met c.args.self.now c.args.number state met c.numbers-numbers.ensures.there
+pub part-part-requires : goal.part-part-requires
+part-part-requires g c =
+    let part = c.requires.harts c.loop-hart.hart (search rules) in
+    slice_get_within c.args.self.now.hart_parts _ part.0 part.1

@@ -1,0 +1,66 @@
+//! The images of a state of a search as those of cuts.
+
+ghost use Rattle.line_memory.specs.Lines.{IsMedium, line_at};
+ghost use Rattle.schedule_states.specs.Images.{image_in};
+ghost use Rattle.std.specs.Prelude.{◌≡◌, ℕ, length};
+
+use schedule_states::StateImages;
+use verdict::Images;
+
+/// The images of a state of a search. A cut gives each line the number of its content.
+#[derive(Drop)]
+pub struct StateCuts<'a, 'b, 'c> {
+    images: &'a StateImages<'b, 'c>,
+    ghost whole: { (k : ℕ → ℕ) → IsMedium (image_in images.now k) },
+    ghost count: { (k : ℕ → ℕ) → length (image_in images.now k) ≡ length images.now.start.medium },
+    ghost by_line: { (k other : ℕ → ℕ) (l : ℕ) → other l ≡ k l → line_at (image_in images.now other) l ≡ line_at (image_in images.now k) l },
+}
+
+impl<'a, 'b, 'c> StateCuts<'a, 'b, 'c> {
+    #[tactic(auto, using(crate::proofs::Cutting::image_long, crate::proofs::Cutting::line_decides))]
+    pub fn new(images: &'a StateImages<'b, 'c>) -> StateCuts<'a, 'b, 'c>
+        ensures { result.images.now ≡ images.now }
+    {
+        images.are_media();
+        StateCuts { images }
+    }
+}
+
+impl Images for StateCuts<'_, '_, '_> {
+    ghost use Rattle.schedule_states.specs.Images.{highest_in, image_in};
+    ghost use Rattle.std.proofs.Common.{arith};
+    ghost use Rattle.std.specs.Prelude.{length};
+
+    ghost lines = { λ s. length s.images.now.start.medium };
+
+    ghost low = { λ s l. 0 };
+
+    ghost high = { λ s l. highest_in s.images.now l };
+
+    ghost image = { λ s k. image_in s.images.now k };
+
+    fn lines(&self) -> u32 {
+        self.images.lines()
+    }
+
+    fn lowest(&self, _line: u32) -> u32 {
+        0
+    }
+
+    fn highest(&self, line: u32) -> u32 {
+        self.images.highest(line)
+    }
+
+    #[tactic(auto, using(crate::proofs::Cutting::line_is))]
+    fn line(&self, line: u32, number: u32) -> &[u8; 64] {
+        self.images.content(line, number)
+    }
+
+    ghost ordered = { λ s l. Prim.omega arith };
+
+    ghost whole = { λ s k. s.whole k };
+
+    ghost count = { λ s k. s.count k };
+
+    ghost by_line = { λ s k other l same. s.by_line k other l same };
+}

@@ -1,0 +1,191 @@
+-- Whatever a power cut leaves is an image of a state.
+use Rattle.std.proofs.Common.{◌≡◌, ◌⊎◌, inl, inr, ℕ, zero, suc, ◌+◌, ◌<◌, ◌≤◌, List, [], ◌∷◌, ◌++◌, Option, Some, None, length, slice_get, slice_index_or, refl, sym, ap, ◌∙◌, subst, arith}
+use Rattle.std.specs.Prelude.{get_or}
+use Rattle.std.specs.List.{Contains}
+use Rattle.std.proofs.lemmas.Bool.{cases_lt}
+use Rattle.std.proofs.lemmas.Option.{slice_get_within}
+use Rattle.line_memory.specs.Lines.{line_at}
+use Rattle.line_memory.specs.Memory.{Memory}
+use Rattle.machine.specs.Replies.{memory_in, trace_in}
+use Rattle.machine.specs.Run.{Config, RunsTo, started}
+use Rattle.machine.specs.declared.schedule.items.Step.{Step}
+use Rattle.program.specs.Sections.{Sections}
+use Rattle.store_trace.proofs.Members.{contains_cases, no_members}
+use Rattle.store_trace.specs.Cut.{IsWithin}
+use Rattle.store_trace.specs.History.{history}
+use Rattle.store_trace.specs.Image.{image, line_after, lines_after}
+use Rattle.store_trace.specs.declared.event.Event.{Event}
+use Rattle.store_trace.specs.declared.crash_model.step.PersistenceStep.{PersistenceStep}
+use Rattle.schedule_states.proofs.Covering.{covers_run}
+use Rattle.schedule_states.proofs.Looking.{got_appended, got_kept, within_kept}
+use Rattle.schedule_states.proofs.Putting.{state_kept}
+use Rattle.schedule_states.specs.Contents.{MayHold}
+use Rattle.schedule_states.specs.Covering.{Covers, IsClosed, ReachedView}
+use Rattle.schedule_states.specs.Exploring.{IfAll, IsAll}
+use Rattle.schedule_states.specs.HeldLines.{AreBelow}
+use Rattle.schedule_states.specs.Images.{IsChoice, content_of, highest_in, image_from, image_in, line_in, others_of}
+use Rattle.schedule_states.specs.Judging.{AlwaysGood, AreGoodBelow, AreGoodImages, AreGoodMoments, IsGoodMoment, IsGoodState, LeavesGood}
+use Rattle.schedule_states.specs.LineStates.{unfenced}
+use Rattle.schedule_states.specs.Memories.{IsLineOf, IsMemoryOf, MemoryView}
+use Rattle.schedule_states.specs.Numbers.{AreKept}
+use Rattle.schedule_states.specs.Reaching.{AreNumbered, AreThere, HaveGrown}
+use Rattle.schedule_states.specs.StartLines.{StartView}
+use Rattle.schedule_states.specs.States.{AreGrown, AreLists, PartsView}
+use Rattle.schedule_states.specs.declared.exploring.Explored.{Explored}
+use Rattle.schedule_states.specs.declared.held_lines.HeldLine.{HeldLine}
+use Rattle.schedule_states.specs.declared.line_state.Content.{Content}
+use Rattle.schedule_states.specs.declared.line_state.LineState.{LineState}
+use Rattle.schedule_states.specs.declared.moments.Moment.{Moment}
+use Rattle.schedule_states.specs.declared.program_state.StateNumbers.{StateNumbers}
+
+-- a content has a number among the others
+place_of : (others : List Content) (content d : Content) → Contains others content → (n : ℕ) × (n < length others) × (slice_index_or others n d ≡ content)
+place_of [] content d among = absurd (no_members content among)
+place_of (c ∷ others) content d among = elim (contains_cases c others content among) [
+  | inl first ↦ (0, omega arith, first)
+  | inr later ↦ let rest : (n : ℕ) × (n < length others) × (slice_index_or others n d ≡ content) = place_of others content d later in
+      (suc rest.0, omega (arith, rest.1), rest.2)
+]
+
+-- what the medium may hold in a line is one of its contents
+content_held : (start : List ℕ) (l : ℕ) (p : List PersistenceStep) (held : Option LineState) (bytes : List ℕ) → IsLineOf start l p held → MayHold start l p bytes →
+    (n : ℕ) × (n ≤ length (others_of held)) × (bytes ≡ content_of start held n)
+content_held start l p (Some s) bytes is may = elim ((is.now bytes).0 may) [
+  | inl current ↦ (0, omega arith, current)
+  | inr kept ↦
+      let place : (n : ℕ) × (n < length s.others.items) × (slice_index_or s.others.items n (unfenced s.bytes) ≡ kept.content) =
+      place_of s.others.items kept.content (unfenced s.bytes) kept.among in
+      (suc place.0, omega (arith, place.1), sym kept.is ∙ ap (λ (c : Content). c.bytes) (sym place.2))
+]
+content_held start l p None bytes is may = elim ((is.now bytes).0 may) [
+  | inl current ↦ (0, omega arith, current)
+  | inr kept ↦ absurd (no_members kept.content kept.among)
+]
+
+-- so is what a power cut leaves of it
+content_left : (m : MemoryView) (memory : Memory) (p : List PersistenceStep) (k : ℕ → ℕ) → IsMemoryOf m.start m.states m.held memory p → IsWithin p k → (l : ℕ) →
+    (n : ℕ) × (n ≤ highest_in m l) × (l < length m.start.medium → line_after (line_at m.start.medium l) l (k l) p ≡ content_of (line_at m.start.medium l) (line_in m l) n)
+content_left m memory p k of bounds l = elim (cases_lt l (length m.start.medium)) [
+  | inl there ↦
+      let found : (n : ℕ) × (n ≤ length (others_of (line_in m l))) × (line_after (line_at m.start.medium l) l (k l) p ≡ content_of (line_at m.start.medium l) (line_in m l) n) =
+      content_held (line_at m.start.medium l) l p (line_in m l) (line_after (line_at m.start.medium l) l (k l) p) (of.lines l there)
+      (record { count = k l; low = bounds.low l; high = bounds.high l; bytes = refl }) in
+      (found.0, found.1, λ h. found.2)
+  | inr past ↦ (0, omega arith, λ h. absurd (omega (arith, h, past)))
+]
+
+same_lines : (m : MemoryView) (k n : ℕ → ℕ) (p : List PersistenceStep) (i : ℕ) (lines : List (List ℕ)) →
+    ((l : ℕ) → l < length lines → line_after (get_or lines l []) (i + l) (k (i + l)) p ≡ content_of (get_or lines l []) (line_in m (i + l)) (n (i + l))) →
+    lines_after i lines k p ≡ image_from m n i lines
+same_lines m k n p i [] same = refl
+same_lines m k n p i (line ∷ lines) same =
+    let here : i + 0 ≡ i = omega arith in
+    let first : line_after line i (k i) p ≡ content_of line (line_in m i) (n i) = rw here at (same 0 (omega arith)) in
+    let rest : lines_after (suc i) lines k p ≡ image_from m n (suc i) lines = same_lines m k n p (suc i) lines (λ l there.
+    let next : i + suc l ≡ suc i + l = omega arith in
+    rw next at (same (suc l) (omega (arith, there)))) in
+    ap (λ (x : List ℕ). x ∷ lines_after (suc i) lines k p) first ∙ ap (λ (xs : List (List ℕ)). content_of line (line_in m i) (n i) ∷ xs) rest
+
+-- what a power cut leaves of the memory is good where each image is
+pub leaves_good : {T : Type 0} (stands : T → List Event → Type 0) (good : List Event → List (List ℕ) → Type 0) (m : MemoryView) (memory : Memory) (t : T) (events : List Event) →
+    IsMemoryOf m.start m.states m.held memory (history events) → AreGoodImages stands good m t → stands t events → LeavesGood good m.start.medium events
+leaves_good stands good m memory t events of are kept k bounds =
+    let choice : (l : ℕ) → (n : ℕ) × (n ≤ highest_in m l)
+    × (l < length m.start.medium → line_after (line_at m.start.medium l) l (k l) (history events) ≡ content_of (line_at m.start.medium l) (line_in m l) n) =
+    content_left m memory (history events) k of bounds in
+    let same : image m.start.medium k (history events) ≡ image_in m (λ l. (choice l).0) =
+    same_lines m k (λ l. (choice l).0) (history events) 0 m.start.medium (λ l there.
+    let same : 0 + l ≡ l = omega arith in
+    rw same ((choice l).2 there)) in
+    subst (λ (left : List (List ℕ)). good events left) (sym same) (are events (λ l. (choice l).0) kept (λ l. (choice l).1))
+
+-- a moment stays good as the parts grow
+abbrev view_of : PartsView → List HeldLine → MemoryView
+view_of parts held = record { start = parts.table.start; states = parts.table.states; held = held }
+
+same_images : (m n : MemoryView) (k : ℕ → ℕ) (i : ℕ) (lines : List (List ℕ)) → ((l : ℕ) → line_in n l ≡ line_in m l) → image_from n k i lines ≡ image_from m k i lines
+same_images m n k i [] same = refl
+same_images m n k i (line ∷ lines) same =
+    ap (λ (s : Option LineState). content_of line s (k i) ∷ image_from n k (suc i) lines) (same i)
+    ∙ ap (λ (xs : List (List ℕ)). content_of line (line_in m i) (k i) ∷ xs) (same_images m n k (suc i) lines same)
+
+images_kept : {T : Type 0} (stands : T → List Event → Type 0) (good : List Event → List (List ℕ) → Type 0) (old new : PartsView) (held : List HeldLine) (t : T) → AreGrown old new →
+    AreBelow (length old.table.states) held → AreGoodImages stands good (view_of old held) t → AreGoodImages stands good (view_of new held) t
+images_kept stands good old new held t grown below are events k kept choice =
+    let same : (l : ℕ) → line_in (view_of new held) l ≡ line_in (view_of old held) l =
+    λ l. state_kept old.table.states new.table.states held (16777216 + l) grown.table.grows below in
+    let image_is : image_in (view_of new held) k ≡ image_in (view_of old held) k =
+    ap (λ (s : StartView). image_from (view_of new held) k 0 s.medium) grown.table.start
+    ∙ same_images (view_of old held) (view_of new held) k 0 old.table.start.medium same in
+    subst (λ (left : List (List ℕ)). good events left) (sym image_is)
+    (are events k kept (λ l. subst (λ (s : Option LineState). k l ≤ length (others_of s)) (same l) (choice l)))
+
+moment_kept : {T : Type 0} (stands : T → List Event → Type 0) (good : List Event → List (List ℕ) → Type 0) (old new : ReachedView T) (memory standing : ℕ) → HaveGrown old new →
+    AreLists old.parts.table.states old.parts.lists → memory < length old.parts.lists → standing < length old.standings →
+    IsGoodMoment stands good old memory standing → IsGoodMoment stands good new memory standing
+moment_kept stands good old new memory standing grown lists there known is held t found kept =
+    let was : slice_get old.parts.lists memory ≡ Some held = got_kept old.parts.lists new.parts.lists memory held grown.parts.lists there found in
+    images_kept stands good old.parts new.parts held t grown.parts (lists.below memory held was)
+    (is held t was (got_kept old.standings new.standings standing t grown.standings known kept))
+
+pub moments_kept : {T : Type 0} (stands : T → List Event → Type 0) (good : List Event → List (List ℕ) → Type 0) (old new : ReachedView T) (moments : List Moment) →
+    HaveGrown old new → AreLists old.parts.table.states old.parts.lists → AreGoodMoments stands good old moments → AreGoodMoments stands good new moments
+moments_kept stands good old new moments grown lists are n moment found =
+    let was : (moment.memory < length old.parts.lists) × (moment.standing < length old.standings) × IsGoodMoment stands good old moment.memory moment.standing =
+    are n moment found in (
+      within_kept old.parts.lists new.parts.lists moment.memory grown.parts.lists was.0,
+      within_kept old.standings new.standings moment.standing grown.standings was.1,
+      moment_kept stands good old new moment.memory moment.standing grown lists was.0 was.1 was.2,
+    )
+
+state_still : {T : Type 0} (stands : T → List Event → Type 0) (good : List Event → List (List ℕ) → Type 0) (old new : ReachedView T) (n : ℕ) → HaveGrown old new →
+    AreNumbered old → AreLists old.parts.table.states old.parts.lists → n < length old.states → IsGoodState stands good old n → IsGoodState stands good new n
+state_still stands good old new n grown numbered lists there is numbers found =
+    let was : slice_get old.states n ≡ Some numbers = got_kept old.states new.states n numbers grown.states there found in
+    let parts : AreThere old numbers = numbered.each n numbers was in
+    moment_kept stands good old new numbers.memory numbers.standing grown lists parts.memory parts.standing (is numbers was)
+
+pub good_next : {T : Type 0} (stands : T → List Event → Type 0) (good : List Event → List (List ℕ) → Type 0) (old new : ReachedView T) (count : ℕ) → HaveGrown old new →
+    AreNumbered old → AreLists old.parts.table.states old.parts.lists → count < length old.states → AreGoodBelow stands good old count → IsGoodState stands good old count →
+    AreGoodBelow stands good new (count + 1)
+good_next stands good old new count grown numbered lists there below here n few = elim (cases_lt n count) [
+  | inl earlier ↦ state_still stands good old new n grown numbered lists (omega (arith, earlier, there)) (below n earlier)
+  | inr last ↦
+      let same : n ≡ count = omega (arith, few, last) in
+      state_still stands good old new n grown numbered lists (omega (arith, same, there)) (subst (λ (m : ℕ). IsGoodState stands good old m) (sym same) here)
+]
+
+-- the moment of the state joins those that are good
+pub moments_more : {T : Type 0} (stands : T → List Event → Type 0) (good : List Event → List (List ℕ) → Type 0) (r : ReachedView T) (moments more : List Moment) (moment : Moment) →
+    (more ≡ moments) ⊎ (more ≡ moments ++ moment ∷ []) → AreGoodMoments stands good r moments → moment.memory < length r.parts.lists → moment.standing < length r.standings →
+    IsGoodMoment stands good r moment.memory moment.standing → AreGoodMoments stands good r more
+moments_more stands good r moments more moment appended are memory standing is n one found = elim (got_appended moments more moment appended n one found) [
+  | inl before ↦ are n one before
+  | inr same ↦ subst (λ (x : Moment). (x.memory < length r.parts.lists) × (x.standing < length r.standings) × IsGoodMoment stands good r x.memory x.standing)
+      (sym same) (memory, standing, is)
+]
+
+-- a moment that was judged before
+pub known_moment : {T : Type 0} (stands : T → List Event → Type 0) (good : List Event → List (List ℕ) → Type 0) (r : ReachedView T) (moments more : List Moment) (place : ℕ)
+    (moment : Moment) → AreKept moments more → place < length moments → slice_get more place ≡ Some moment → AreGoodMoments stands good r moments →
+    IsGoodMoment stands good r moment.memory moment.standing
+known_moment stands good r moments more place moment kept there found are = (are place moment (got_kept moments more place moment kept there found)).2
+
+-- whatever a schedule leads to
+pub all_good : {T : Type 0} (stands : T → List Event → Type 0) (good : List Event → List (List ℕ) → Type 0) (r : ReachedView T) (program : Sections) (medium : List (List ℕ)) (harts : ℕ) →
+    r.parts.table.start.medium ≡ medium → Covers stands r (started program medium harts) → IsClosed stands r → AreGoodBelow stands good r (length r.states) →
+    AlwaysGood stands good program medium harts
+all_good stands good r program medium harts same start closed are steps end runs =
+    let covers : Covers stands r end = covers_run stands r (started program medium harts) end steps closed start runs in
+    let numbers : StateNumbers = covers.met.numbers in
+    let held : List HeldLine = covers.stands_as.0.held in
+    let found : slice_get r.parts.lists numbers.memory ≡ Some held = ap (λ (n : ℕ). slice_get r.parts.lists n) (sym covers.met.memory) ∙ covers.stands_as.0.found in
+    let images : AreGoodImages stands good (view_of r.parts held) covers.standing =
+    are covers.number (slice_get_within r.states covers.number numbers covers.met.found) numbers covers.met.found held covers.standing found covers.met.standing in (
+      (covers.standing, covers.stands_as.1),
+      subst (λ (lines : List (List ℕ)). LeavesGood good lines (trace_in end.common)) same
+          (leaves_good stands good (view_of r.parts held) (memory_in end.common) covers.standing (trace_in end.common) covers.stands_as.0.memory images covers.stands_as.1),
+    )
+
+pub told_all : (explored : Explored) (claim : Type 0) → IsAll explored → claim → IfAll explored claim
+told_all explored claim all is = subst (λ (e : Explored). IfAll e claim) (sym all.2) is

@@ -1,5 +1,0 @@
-use Rattle.schedule_states.specs.Reaching.{ArePartsOf}
-use Rattle.schedule_states.proofs.reached.Reached.parts_of.Given as goal
-
-abbrev pub invariant-loop-hart : goal.invariant-loop-hart
-invariant-loop-hart l = ArePartsOf l.self l.numbers l.hart l.parts.items
