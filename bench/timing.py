@@ -42,15 +42,21 @@ def in_new_folder():
             os.chdir(before)
 
 
-def run(words):
-    """The processor seconds of a run, those by the clock, its status, and what it prints."""
+def use_of(words):
+    """What a run uses, its seconds by the clock, its status, and what it prints."""
     to_answer = (os.POSIX_SPAWN_OPEN, 1, "answer", os.O_WRONLY | os.O_CREAT | os.O_TRUNC, 0o600)
     start = time.perf_counter()
     pid = os.posix_spawnp(words[0], words, os.environ, file_actions=[to_answer])
     _, status, used = os.wait4(pid, 0)
     clock = time.perf_counter() - start
     with open("answer") as file:
-        return used.ru_utime + used.ru_stime, clock, os.waitstatus_to_exitcode(status), file.read()
+        return used, clock, os.waitstatus_to_exitcode(status), file.read()
+
+
+def run(words):
+    """The processor seconds of a run, those by the clock, its status, and what it prints."""
+    used, clock, status, answer = use_of(words)
+    return used.ru_utime + used.ru_stime, clock, status, answer
 
 
 def answer_of(words, statuses=(0,)):

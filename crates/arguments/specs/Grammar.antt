@@ -131,6 +131,14 @@ judge_shape = record (new_shape (codes "judge")) {
       ∷ flag_option (codes "progress") ∷ help_option ∷ [];
 }
 
+-- `check-all PLAN PROGRAM [--medium FILE --harts N --states N --any-end --why --json --progress]`
+unfoldable pub check_all_shape : Shape
+check_all_shape = record (new_shape (codes "check-all")) {
+  rules = needed_word (codes "PLAN") ∷ needed_word (codes "PROGRAM") ∷ valued_option (codes "medium")
+      ∷ valued_option (codes "harts") ∷ valued_option (codes "states") ∷ flag_option (codes "any-end")
+      ∷ flag_option (codes "why") ∷ flag_option (codes "json") ∷ flag_option (codes "progress") ∷ help_option ∷ [];
+}
+
 -- `picture PROGRAM SCHEDULE MOMENT FILE [--image IMAGE --medium FILE --harts N]`
 unfoldable pub picture_shape : Shape
 picture_shape = record (new_shape (codes "picture")) {
@@ -186,8 +194,8 @@ is_none (s ∷ shapes) = false
 abbrev pub line : List Shape → App
 line shapes = record { top = record bare { is_leaf = is_none shapes }; subs = shapes }
 
--- the subcommands that make files, those that run programs, those that tell of a run by a schedule, those that judge it, and those that draw a run,
--- show files, and tell of what is printed
+-- the subcommands that make files, those that run programs, those that tell of a run by a schedule, those that judge it or every run of a program,
+-- and those that draw a run, show files, and tell of what is printed
 unfoldable pub making : List Shape
 making = assemble_shape ∷ make_volume_shape ∷ upgrade_shape ∷ []
 
@@ -198,7 +206,7 @@ unfoldable pub telling : List Shape
 telling = trace_shape ∷ unpersisted_shape ∷ waste_shape ∷ images_shape ∷ explain_shape ∷ []
 
 unfoldable pub judging : List Shape
-judging = check_shape ∷ judge_shape ∷ []
+judging = check_shape ∷ judge_shape ∷ check_all_shape ∷ []
 
 unfoldable pub showing : List Shape
 showing = picture_shape ∷ interleave_shape ∷ show_shape ∷ listing_shape ∷ code_shape ∷ help_shape ∷ []

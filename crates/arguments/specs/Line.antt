@@ -7,12 +7,13 @@ use Rattle.clap.specs.declared.error.ErrorKind.TheVariants as kinds
 use Rattle.text.specs.Texts.{IsProper}
 use Rattle.arguments.specs.Grammar.{novacrash}
 use Rattle.arguments.specs.Spans.{IsOptionalMoments, IsUpward}
-use Rattle.arguments.specs.Values.{IsCapacity, IsCodeWord, IsEvictions, IsHarts, IsImageWord, IsNumberWord, IsOptional, IsOptionalImage, IsOptionalNumber, IsRecoverySteps, IsSeed, IsSteps, IsWord, IsWorkers, is_set}
+use Rattle.arguments.specs.Values.{IsCapacity, IsCodeWord, IsEvictions, IsHarts, IsImageWord, IsNumberWord, IsOptional, IsOptionalImage, IsOptionalNumber, IsRecoverySteps, IsSeed, IsStates, IsSteps, IsWord, IsWorkers, is_set}
 use Rattle.arguments.specs.declared.asked.AssembleCommand.{AssembleCommand}
+use Rattle.arguments.specs.declared.asked.CheckAllCommand.{CheckAllCommand}
 use Rattle.arguments.specs.declared.asked.CheckCommand.{CheckCommand}
 use Rattle.arguments.specs.declared.asked.CodeCommand.{CodeCommand}
 use Rattle.arguments.specs.declared.asked.Command.{Command}
-use Rattle.arguments.specs.declared.asked.Command.TheVariants.{Assemble, Check, Code, Debug, Explain, Images, Interleave, Judge, Listing, MakeVolume, Picture, Replay, Run, Show, Trace, Unpersisted, Upgrade, Waste}
+use Rattle.arguments.specs.declared.asked.Command.TheVariants.{Assemble, Check, CheckAll, Code, Debug, Explain, Images, Interleave, Judge, Listing, MakeVolume, Picture, Replay, Run, Show, Trace, Unpersisted, Upgrade, Waste}
 use Rattle.arguments.specs.declared.asked.DebugCommand.{DebugCommand}
 use Rattle.arguments.specs.declared.asked.ExplainCommand.{ExplainCommand}
 use Rattle.arguments.specs.declared.asked.ImagesCommand.{ImagesCommand}
@@ -130,6 +131,18 @@ pub record IsJudge (rows : List Row) (command : JudgeCommand) : Type 0 where
   pub overlapping : command.overlapping ≡ is_set (first_of (codes "overlapping") rows)
   pub judged : IsJudgedRun rows command.judged
 
+-- `check-all` of this program by this plan with these options: at most so many states, whether harts may stop in any way, whether a failure is
+-- explained, as text or as JSON, and whether it is reported how far the search has come.
+pub record IsCheckAll (rows : List Row) (command : CheckAllCommand) : Type 0 where
+  pub plan : IsWord (codes "PLAN") rows command.plan
+  pub program : IsWord (codes "PROGRAM") rows command.program
+  pub machine : IsWholeMachine rows command.machine
+  pub states : IsStates rows command.states
+  pub any_end : command.any_end ≡ is_set (first_of (codes "any-end") rows)
+  pub why : command.why ≡ is_set (first_of (codes "why") rows)
+  pub json : command.json ≡ is_set (first_of (codes "json") rows)
+  pub progress : command.progress ≡ is_set (first_of (codes "progress") rows)
+
 -- `picture` of this moment of this run, with this image of it or none, into this file
 pub record IsPicture (rows : List Row) (command : PictureCommand) : Type 0 where
   pub run : IsScheduledRun rows command.run
@@ -173,6 +186,7 @@ IsOf name rows (Images command) = (name ≡ codes "images") × IsImages rows com
 IsOf name rows (Explain command) = (name ≡ codes "explain") × IsExplain rows command
 IsOf name rows (Check command) = (name ≡ codes "check") × IsCheck rows command
 IsOf name rows (Judge command) = (name ≡ codes "judge") × IsJudge rows command
+IsOf name rows (CheckAll command) = (name ≡ codes "check-all") × IsCheckAll rows command
 IsOf name rows (Picture command) = (name ≡ codes "picture") × IsPicture rows command
 IsOf name rows (Interleave command) = (name ≡ codes "interleave") × IsInterleave rows command
 IsOf name rows (Show command) = (name ≡ codes "show") × IsShow rows command
@@ -199,10 +213,11 @@ pub record TellsNone (name : Text) : Type 0 where
   pub images : name ≢ codes "images"
   pub explain : name ≢ codes "explain"
 
--- the name of no subcommand that judges a run by a schedule
+-- the name of no subcommand that judges a run by a schedule, or every one of a program
 pub record JudgesNone (name : Text) : Type 0 where
   pub check : name ≢ codes "check"
   pub judge : name ≢ codes "judge"
+  pub check_all : name ≢ codes "check-all"
 
 -- the command that the subcommand of a line asks for
 abbrev pub IsAsked : Option (Text × List Row) → Command → Type 0
@@ -244,6 +259,7 @@ IsWithinLimits (Images command) = IsMachineWithin command.run.machine × (comman
 IsWithinLimits (Explain command) = IsMachineWithin command.run.machine × (command.moment < 2 ^ 32) × IsProper command.image
 IsWithinLimits (Check command) = IsJudgedWithin command.judged
 IsWithinLimits (Judge command) = IsJudgedWithin command.judged × IsWithin 1 500000000 command.steps
+IsWithinLimits (CheckAll command) = IsMachineWithin command.machine × IsWithin 1 4294967295 command.states
 IsWithinLimits (Picture command) = IsMachineWithin command.run.machine × (command.moment < 2 ^ 32) × IfSome command.image IsProper
 IsWithinLimits (Interleave command) = IsMachineWithin command.machine × IsWithin 1 500000000 command.steps × IsWithin 0 65536 command.evictions
 IsWithinLimits (Show command) = IfSome command.line (λ line. line < 2 ^ 32)

@@ -85,6 +85,10 @@ IsHarts rows harts = IsNumber 1 1 8 (first_of (codes "harts") rows) harts
 abbrev pub IsWorkers : List Row → ℕ → Type 0
 IsWorkers rows workers = IsNumber 1 1 8 (first_of (codes "workers") rows) workers
 
+-- the most states of a search: 1,000,000 where the line doesn't say
+abbrev pub IsStates : List Row → ℕ → Type 0
+IsStates rows states = IsNumber 1000000 1 4294967295 (first_of (codes "states") rows) states
+
 -- the most lines of a cache: 16 where the line doesn't say
 abbrev pub IsCapacity : List Row → ℕ → Type 0
 IsCapacity rows capacity = IsNumber 16 1 16384 (first_of (codes "capacity") rows) capacity

@@ -34,6 +34,8 @@ pub enum Command {
     Check(CheckCommand),
     /// `judge PROGRAM SCHEDULE RECOVERY [--medium FILE --harts N --steps N --workers N --overlapping --moments A-B --go-on --whole --why --json --progress]`.
     Judge(JudgeCommand),
+    /// `check-all PLAN PROGRAM [--medium FILE --harts N --states N --any-end --why --json --progress]`.
+    CheckAll(CheckAllCommand),
     /// `picture PROGRAM SCHEDULE MOMENT FILE [--image IMAGE --medium FILE --harts N]`.
     Picture(PictureCommand),
     /// `interleave PROGRAM --seed N [--medium FILE --harts N --steps N --evictions N]`.
@@ -207,6 +209,27 @@ pub struct JudgeCommand {
     /// Whether an operation may begin while another is pending.
     pub overlapping: bool,
     pub judged: JudgedRun,
+}
+
+/// What `check-all` is to do.
+#[derive(Drop)]
+pub struct CheckAllCommand {
+    /// The name of the plan's file.
+    pub plan: String,
+    /// The name of the program's file.
+    pub program: String,
+    /// The machine, whose capacity is None.
+    pub machine: MachineOptions,
+    /// The most states that are met, from 1 to 4,294,967,295; 1,000,000 where the line doesn't say.
+    pub states: u32,
+    /// Whether harts may stop in any way: trap, or exit with another code than 0.
+    pub any_end: bool,
+    /// Whether a failure is explained: by the stores that its image lacks and keeps, and a schedule that leaves it.
+    pub why: bool,
+    /// Whether the answer is one JSON object a line.
+    pub json: bool,
+    /// Whether standard error reports how far the search has come.
+    pub progress: bool,
 }
 
 /// Moments of a run, one after another.

@@ -3,7 +3,7 @@
 ghost use Rattle.std.specs.Prelude.{◌<◌, ◌^◌, ℕ, IfOk, IfErr, IfSome, String, codes};
 ghost use Rattle.std.specs.declared.alloc.Global.{Global as AGlobal};
 ghost use Rattle.clap.specs.Words.{found_of, rows_of};
-ghost use Rattle.arguments.specs.Line.{IsAssemble, IsCheck, IsCode, IsDebug, IsExplain, IsImages, IsInterleave, IsJudge, IsListing, IsMakeVolume, IsPicture, IsReplay, IsReport, IsRun, IsScheduledRun, IsShow, IsUpgrade};
+ghost use Rattle.arguments.specs.Line.{IsAssemble, IsCheck, IsCheckAll, IsCode, IsDebug, IsExplain, IsImages, IsInterleave, IsJudge, IsListing, IsMakeVolume, IsPicture, IsReplay, IsReport, IsRun, IsScheduledRun, IsShow, IsUpgrade};
 ghost use Rattle.arguments.specs.Line.{IsCachedMachine, IsJudgedRun, IsJudgedWithin, IsMachineWithin, IsOf, IsWithin, IsWithinLimits, OnFault};
 ghost use Rattle.arguments.specs.Started.{IsStarted};
 ghost use Rattle.arguments.specs.Values.{IsWord};
@@ -17,6 +17,7 @@ ghost use Rattle.arguments.specs.declared.asked.DebugCommand.{DebugCommand as AD
 ghost use Rattle.arguments.specs.declared.asked.ImagesCommand.{ImagesCommand as AImagesCommand};
 ghost use Rattle.arguments.specs.declared.asked.ExplainCommand.{ExplainCommand as AExplainCommand};
 ghost use Rattle.arguments.specs.declared.asked.CheckCommand.{CheckCommand as ACheckCommand};
+ghost use Rattle.arguments.specs.declared.asked.CheckAllCommand.{CheckAllCommand as ACheckAllCommand};
 ghost use Rattle.arguments.specs.declared.asked.JudgeCommand.{JudgeCommand as AJudgeCommand};
 ghost use Rattle.arguments.specs.declared.asked.InterleaveCommand.{InterleaveCommand as AnInterleaveCommand};
 ghost use Rattle.arguments.specs.declared.asked.PictureCommand.{PictureCommand as APictureCommand};
@@ -29,10 +30,10 @@ ghost use Rattle.arguments.specs.declared.asked.JudgedRun.{JudgedRun as AJudgedR
 ghost use Rattle.arguments.specs.declared.asked.ScheduledRun.{ScheduledRun as AScheduledRun};
 
 use crate::asked::{
-    AssembleCommand, CheckCommand, CodeCommand, Command, DebugCommand, ExplainCommand,
-    ImagesCommand, InterleaveCommand, JudgeCommand, JudgedRun, LineFault, ListingCommand,
-    MachineOptions, MakeVolumeCommand, PictureCommand, ReplayCommand, ReportCommand, RunCommand,
-    ScheduledRun, ShowCommand, UpgradeCommand,
+    AssembleCommand, CheckAllCommand, CheckCommand, CodeCommand, Command, DebugCommand,
+    ExplainCommand, ImagesCommand, InterleaveCommand, JudgeCommand, JudgedRun, LineFault,
+    ListingCommand, MachineOptions, MakeVolumeCommand, PictureCommand, ReplayCommand,
+    ReportCommand, RunCommand, ScheduledRun, ShowCommand, UpgradeCommand,
 };
 use crate::machine::{cached_machine, whole_machine};
 use crate::moments::optional_moments;
@@ -73,6 +74,14 @@ const WORKERS: NumberOption = NumberOption {
     default: 1,
     low: 1,
     high: 8,
+};
+
+/// The most states that `check-all` meets.
+const STATES: NumberOption = NumberOption {
+    name: "states",
+    default: 1_000_000,
+    low: 1,
+    high: 4_294_967_295,
 };
 
 /// A program and the machine that it starts on, whose cache is limited.
@@ -322,6 +331,25 @@ pub(crate) fn judge(alloc: Global, found: &ArgMatches<'_>) -> Result<Command, Li
         steps,
         overlapping,
         judged,
+    }))
+}
+
+/// What `check-all` is to do.
+pub(crate) fn check_all(alloc: Global, found: &ArgMatches<'_>) -> Result<Command, LineFault>
+    ensures ok { IfOk result (IsOf (codes "check-all") (rows_of (found_of found.now))) }
+    ensures within { IfOk result IsWithinLimits }
+    ensures err { IfErr result (OnFault ((command : ACheckAllCommand)
+        → ¬ (IsCheckAll (rows_of (found_of found.now)) command))) }
+{
+    Ok(Command::CheckAll(CheckAllCommand {
+        any_end: flag(found, "any-end"),
+        why: flag(found, "why"),
+        json: flag(found, "json"),
+        progress: flag(found, "progress"),
+        states: number(alloc, found, &STATES)?,
+        machine: whole_machine(alloc, found)?,
+        plan: word(alloc, found, "PLAN")?,
+        program: word(alloc, found, "PROGRAM")?,
     }))
 }
 

@@ -226,6 +226,17 @@ const OVERLAPPING: Argument = Argument::Flag {
     about: "Let an operation begin while another is pending",
 };
 
+const STATES: Argument = Argument::Valued {
+    name: "states",
+    value: "N",
+    about: "The most states that are met, from 1 to 4294967295 [default: 1000000]",
+};
+
+const ANY_END: Argument = Argument::Flag {
+    name: "any-end",
+    about: "Let harts stop in any way: trap, or exit with another code than 0",
+};
+
 const RECORD: Argument = Argument::Valued {
     name: "record",
     value: "FILE",
@@ -358,8 +369,8 @@ static TELLING: [Subcommand; 5] = [
     },
 ];
 
-/// The subcommands that judge a run, behind those.
-static JUDGING: [Subcommand; 2] = [
+/// The subcommands that judge a run or every one of a program, behind those.
+static JUDGING: [Subcommand; 3] = [
     Subcommand {
         name: "check",
         group: Group::Judge,
@@ -393,6 +404,15 @@ static JUDGING: [Subcommand; 2] = [
             PROGRESS,
         ],
         ending: ending!("judge ring.s ring.schedule ring-recovery.s --whole --why"),
+    },
+    Subcommand {
+        name: "check-all",
+        group: Group::Judge,
+        about: "Judge every crash image of every schedule of a program by a plan of operations",
+        arguments: &[
+            PLAN, PROGRAM, MEDIUM, HARTS, STATES, ANY_END, WHY, JSON, PROGRESS,
+        ],
+        ending: ending!("check-all append.plan append.s --medium append.medium --why"),
     },
 ];
 

@@ -1,6 +1,10 @@
+pub mod Concluding
 mod Held
 mod Kept
+pub mod ImageLines
 mod Loops
 pub mod Written
 mod ObjectPrograms
+pub mod OfFile
 pub mod OnTheWay
+pub mod StatesTold

@@ -1,5 +1,6 @@
 pub mod Assembling
 pub mod Checking
+pub mod CheckingAll
 pub mod Coding
 pub mod Debugging
 pub mod Demanding
@@ -10,6 +11,7 @@ pub mod Imaging
 pub mod Judging
 pub mod Listing
 pub mod Making
+pub mod Naming
 pub mod Outcomes
 pub mod Picturing
 pub mod Progress

@@ -4,12 +4,13 @@ use Rattle.std.specs.Io.KnownBytes.{Appends}
 use Rattle.std.specs.Result.{result_map_both}
 use Rattle.arguments.specs.Line.{IsCommand, Refuses}
 use Rattle.arguments.specs.declared.asked.Command.{Command}
-use Rattle.arguments.specs.declared.asked.Command.TheVariants.{Assemble, Check, Code, Debug, Explain, Images, Interleave, Judge, Listing, MakeVolume, Picture, Replay, Run, Show, Trace, Unpersisted, Upgrade, Waste}
+use Rattle.arguments.specs.declared.asked.Command.TheVariants.{Assemble, Check, CheckAll, Code, Debug, Explain, Images, Interleave, Judge, Listing, MakeVolume, Picture, Replay, Run, Show, Trace, Unpersisted, Upgrade, Waste}
 use Rattle.arguments.specs.declared.asked.LineFault.{LineFault}
 use Rattle.arguments.specs.declared.asked.LineFault.TheVariants as line_faults
 use Rattle.debugger.specs.StreamFailures.{AppendsFront}
 use Rattle.command_line.specs.Assembling.{AssemblesFile}
 use Rattle.command_line.specs.Checking.{IsOpen, JudgesCheck, OpensCheck}
+use Rattle.command_line.specs.CheckingAll.{FailsBehind, IsOpen as IsOpenCheckAll, JudgesAll, OpensCheckAll}
 use Rattle.command_line.specs.Coding.{code_text}
 use Rattle.command_line.specs.Debugging.{HoldsSession, OpensFile}
 use Rattle.command_line.specs.Drawing.{InterleavesFile}
@@ -30,8 +31,11 @@ use Rattle.command_line.specs.Upgrading.{UpgradesFile}
 use Rattle.command_line.specs.declared.answer.Action.{Action}
 use Rattle.command_line.specs.declared.answer.Action.TheVariants as actions
 use Rattle.command_line.specs.declared.answer.Answer.{Answer}
+use Rattle.command_line.specs.declared.answer.Conclusion.{Conclusion}
+use Rattle.command_line.specs.declared.answer.Conclusion.TheVariants.{Answered, Refused}
 use Rattle.command_line.specs.declared.failure.Failure.{Failure}
 use Rattle.command_line.specs.declared.opened.OpenCheck.{OpenCheck}
+use Rattle.command_line.specs.declared.opened.OpenCheckAll.{OpenCheckAll}
 use Rattle.command_line.specs.declared.opened.OpenJudge.{OpenJudge}
 use Rattle.command_line.specs.declared.failure.Failure.TheVariants.{Line, Memory, File}
 
@@ -56,6 +60,7 @@ CarriesOut reads writes (Images command) = LeadsTo (CountsFile reads command) ac
 CarriesOut reads writes (Explain command) = LeadsTo (ExplainsFile reads command) actions.Print
 CarriesOut reads writes (Check command) = LeadsTo (OpensCheck reads command) actions.Check
 CarriesOut reads writes (Judge command) = LeadsTo (OpensJudge reads command) actions.Judge
+CarriesOut reads writes (CheckAll command) = LeadsTo (OpensCheckAll reads command) actions.CheckAll
 CarriesOut reads writes (Picture command) = LeadsTo (PicturesFile reads writes command) actions.Print
 CarriesOut reads writes (Interleave command) = LeadsTo (InterleavesFile reads command) actions.Print
 CarriesOut reads writes (Show command) = LeadsTo (ShowsFile reads command) actions.Print
@@ -67,6 +72,7 @@ abbrev pub IsReady : Action → Type 0
 IsReady (actions.Print answer) = Unit {0}
 IsReady (actions.Check check) = IsOpen check
 IsReady (actions.Judge judge) = IsOpenJudge judge
+IsReady (actions.CheckAll check) = IsOpenCheckAll check
 IsReady (actions.Debug machine) = Unit {0}
 
 -- the text is to be printed with status 0
@@ -124,6 +130,20 @@ pub record DeliversJudge {W E : Type 0} (contents : W → Option (List ℕ)) (sa
   pub judges : JudgesRun said judge errors found errors'
   pub printed : IsPrintedIf contents old new found ended
 
+-- what is concluded is printed: an answer, or a schedule and behind it the failure of its run; of a failure nothing is
+abbrev pub IsConcluded : {W : Type 0} → (W → Option (List ℕ)) → W → W → Result Conclusion Failure → Result ℕ Failure → Type 0
+IsConcluded contents old new (Ok (Answered answer)) ended = IsPrinted contents old new answer ended
+IsConcluded contents old new (Ok (Refused schedule failure)) (Ok status) = ⊥
+IsConcluded contents old new (Ok (Refused schedule failure)) (Err told) = FailsBehind contents old new (string_bytes schedule) failure told
+IsConcluded contents old new (Err failure) ended = (ended ≡ Err failure) × (new ≡ old)
+
+-- what is found of every schedule of a program whose files have been read, printed
+pub record DeliversCheckAll {W E : Type 0} (contents : W → Option (List ℕ)) (said : E → Option (List ℕ)) (check : OpenCheckAll) (old new : W)
+    (errors errors' : E) (ended : Result ℕ Failure) : Type 0 where
+  pub found : Result Conclusion Failure
+  pub judges : JudgesAll said check errors found errors'
+  pub printed : IsConcluded contents old new found ended
+
 -- what is done on standard input and standard output, a pair, and on standard error before a failure is told: an answer is printed, a run
 -- is judged, or a session is held; nothing else reads standard input, and a failure of a command leaves all as they are. `remaining` is
 -- what is known of the bytes that a reader will still give
@@ -135,6 +155,8 @@ Delivers remaining contents said old new errors errors' (Ok (actions.Check check
     (new.0 ≡ old.0) × DeliversCheck contents said check old.1 new.1 errors errors' ended
 Delivers remaining contents said old new errors errors' (Ok (actions.Judge judge)) ended =
     (new.0 ≡ old.0) × DeliversJudge contents said judge old.1 new.1 errors errors' ended
+Delivers remaining contents said old new errors errors' (Ok (actions.CheckAll check)) ended =
+    (new.0 ≡ old.0) × DeliversCheckAll contents said check old.1 new.1 errors errors' ended
 Delivers remaining contents said old new errors errors' (Ok (actions.Debug machine)) ended =
     HoldsSession machine (remaining old.0) (remaining new.0) (contents old.1) (contents new.1) ended × (errors' ≡ errors)
 Delivers remaining contents said old new errors errors' (Err failure) ended = (ended ≡ Err failure) × (new ≡ old) × (errors' ≡ errors)

@@ -1,5 +1,6 @@
 -- `--why`: what is told of a failing image.
-use Rattle.std.specs.Prelude.{◌≡◌, ℕ, Bool, true, false, List, [], Option, Some, None, Result, MatchResult}
+use Rattle.std.specs.Prelude.{◌≡◌, ◌++◌, ℕ, Bool, true, false, List, [], Option, Some, None, Result, MatchResult, codes}
+use Rattle.std.specs.List.{flat_map}
 use Rattle.crash_image.specs.declared.ImageFault.{ImageFault}
 use Rattle.crash_test.specs.Lines.{line_of}
 use Rattle.crash_test.specs.Losses.{IsExplainedBy}
@@ -7,11 +8,14 @@ use Rattle.crash_test.specs.declared.losses.ExplainedImage.{ExplainedImage}
 use Rattle.crash_test.specs.Told.{LacksImage}
 use Rattle.text.specs.declared.image_name.name.ImageName.{ImageName}
 use Rattle.report.specs.LossesEvents.{event_text}
-use Rattle.report.specs.LossesJson.{event_object, why_json}
-use Rattle.report.specs.Why.{why_text}
+use Rattle.durability.specs.declared.cut.ToldCut.{ToldCut}
+use Rattle.report.specs.LossesJson.{event_object, kept_object, lost_object, unread_object, why_json}
+use Rattle.report.specs.Why.{kept_line, lost_line, unread_line, why_text}
 use Rattle.machine.specs.RunValues.{RunView}
+use Rattle.machine.specs.declared.schedule.items.Item.{Item}
 use Rattle.machine.specs.declared.run_trace.traced_event.TracedEvent.{TracedEvent}
 use Rattle.command_line.specs.Failures.{failure_of_image}
+use Rattle.command_line.specs.Naming.{named_schedule}
 use Rattle.command_line.specs.Steps.{Tells}
 use Rattle.command_line.specs.declared.failure.Failure.{Failure}
 use Rattle.command_line.specs.declared.made_run.MadeRun.{MadeRun}
@@ -40,7 +44,26 @@ told_losses true lines traced explained =
 told_losses false lines traced explained =
     why_text (event_text lines traced) explained.told.read explained.told.unread explained.schedule
 
--- by the lines of the program's source, where there is such an image
+-- The same of a run that was found, whose own schedule is printed: the one that leaves the image is called `image`.
+abbrev pub image_text : (ℕ → List ℕ) → ToldCut → ℕ → List Item → List ℕ
+image_text event told unread schedule = flat_map (lost_line event) told.lost.items
+    ++ (flat_map (kept_line event) told.kept.items ++ (unread_line unread ++ named_schedule false (codes "image") schedule))
+
+abbrev pub image_json : (ℕ → List ℕ) → ToldCut → ℕ → List Item → List ℕ
+image_json event told unread schedule = flat_map (lost_object [] event) told.lost.items
+    ++ (flat_map (kept_object event) told.kept.items ++ (unread_object unread ++ named_schedule true (codes "image") schedule))
+
+abbrev pub image_losses : Bool → (ℕ → Option ℕ) → List TracedEvent → ExplainedImage → List ℕ
+image_losses true lines traced explained =
+    image_json (event_object lines traced) explained.told.read explained.told.unread explained.schedule
+image_losses false lines traced explained =
+    image_text (event_text lines traced) explained.told.read explained.told.unread explained.schedule
+
+-- each by the lines of the program's source, where there is such an image
 abbrev pub told_why : Bool → MadeRun → Option ExplainedImage → List ℕ
 told_why json made None = []
 told_why json made (Some explained) = told_losses json (line_of made.file.items) made.run.traced explained
+
+abbrev pub told_image : Bool → MadeRun → Option ExplainedImage → List ℕ
+told_image json made None = []
+told_image json made (Some explained) = image_losses json (line_of made.file.items) made.run.traced explained

@@ -2,7 +2,8 @@
 
 ghost use Rattle.std.specs.Prelude.{◌≡◌, string_bytes};
 
-use crate::opened::{OpenCheck, OpenJudge};
+use crate::failure::Failure;
+use crate::opened::{OpenCheck, OpenCheckAll, OpenJudge};
 use machine::Machine;
 
 /// What a command prints on standard output, of whole lines, and the status that the program then ends with.
@@ -25,6 +26,15 @@ impl Answer {
     }
 }
 
+/// What is found of every schedule of a program.
+#[derive(Drop)]
+pub(crate) enum Conclusion {
+    /// An answer is to be printed.
+    Answered(Answer),
+    /// A schedule is to be printed, as a whole line, and then the failure of its run is to be reported.
+    Refused { schedule: String, failure: Failure },
+}
+
 /// What is left to be done on the standard streams once a command has read and written its files.
 #[derive(Drop)]
 pub enum Action {
@@ -34,6 +44,8 @@ pub enum Action {
     Check(OpenCheck),
     /// The same by a recovery routine.
     Judge(OpenJudge),
+    /// Every schedule of a program is to be judged.
+    CheckAll(OpenCheckAll),
     /// A session is to be held on a machine that has made no step.
     Debug(Machine),
 }

@@ -105,7 +105,7 @@ fn told_verdict<T: Threads + Sync + Clock, E: Write>(
 }
 
 /// `--why`: of a failing image what it lacks and keeps, and how it comes about.
-fn why(
+pub(crate) fn why(
     alloc: Global,
     asked: bool,
     run: &Run,

@@ -4,13 +4,15 @@ ghost use Rattle.std.specs.Prelude.{◌≡◌, IfOk, map, string_bytes};
 ghost use Rattle.std.specs.Result.{result_map_both};
 ghost use Rattle.arguments.specs.Line.{IsWithinLimits};
 ghost use Rattle.command_line.specs.Checking.{IsOpen};
+ghost use Rattle.command_line.specs.CheckingAll.{IsOpen as IsOpenCheckAll};
 ghost use Rattle.command_line.specs.Judging.{IsOpen as IsOpenJudge};
 ghost use Rattle.command_line.specs.Outcomes.{AnswersFault, CarriesOut, ComesTo, IsReady};
-ghost use Rattle.command_line.specs.declared.answer.Action.TheVariants.{Check, Debug, Judge, Print};
+ghost use Rattle.command_line.specs.declared.answer.Action.TheVariants.{Check, CheckAll, Debug, Judge, Print};
 
 use crate::answer::{Action, Answer};
 use crate::asm::assemble_file;
 use crate::check::open_check;
+use crate::check_all::open_check_all;
 use crate::code::tell_code;
 use crate::debug::open_file;
 use crate::explain::explain_file;
@@ -21,7 +23,7 @@ use crate::interleave::interleave_file;
 use crate::judge::open_judge;
 use crate::listing::list_file;
 use crate::mkfs::make_file;
-use crate::opened::{OpenCheck, OpenJudge};
+use crate::opened::{OpenCheck, OpenCheckAll, OpenJudge};
 use crate::picture::picture_file;
 use crate::run::{replay_file, run_file};
 use crate::show::show_file;
@@ -76,6 +78,7 @@ fn carry_out<T: Threads + Wait + Sync, F: Files>(
         Command::Explain(command) => printed(explain_file(alloc, &command, files)),
         Command::Check(command) => opened(open_check(alloc, command, files)),
         Command::Judge(command) => judged(open_judge(alloc, command, files)),
+        Command::CheckAll(command) => all_opened(open_check_all(alloc, command, files)),
         Command::Picture(command) => printed(picture_file(alloc, &command, files)),
         Command::Interleave(command) => printed(interleave_file(alloc, &command, files)),
         Command::Show(command) => printed(show_file(alloc, &command, files)),
@@ -108,6 +111,15 @@ fn judged(judge: Result<OpenJudge, Failure>) -> Result<Action, Failure>
     ensures ready { IfOk result IsReady }
 {
     Ok(Action::Judge(judge?))
+}
+
+/// Every schedule of a program is judged.
+fn all_opened(check: Result<OpenCheckAll, Failure>) -> Result<Action, Failure>
+    requires { IfOk check IsOpenCheckAll }
+    ensures is { result ≡ result_map_both CheckAll (λ failure. failure) check }
+    ensures ready { IfOk result IsReady }
+{
+    Ok(Action::CheckAll(check?))
 }
 
 /// A session is held on a machine.

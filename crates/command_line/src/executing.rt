@@ -1,18 +1,20 @@
 //! A whole run of the program.
 
-ghost use Rattle.std.specs.Prelude.{IfOk, map, string_bytes};
+ghost use Rattle.std.specs.Prelude.{IfOk, Ok, map, string_bytes};
 ghost use Rattle.command_line.specs.Checking.{IsOpen};
+ghost use Rattle.command_line.specs.CheckingAll.{FailsBehind, IsOpen as IsOpenCheckAll};
 ghost use Rattle.command_line.specs.Judging.{IsOpen as IsOpenJudge};
-ghost use Rattle.command_line.specs.Outcomes.{Delivers, DeliversCheck, DeliversJudge, Ends, EndsWith, IsPrinted, IsReady};
+ghost use Rattle.command_line.specs.Outcomes.{Delivers, DeliversCheck, DeliversCheckAll, DeliversJudge, Ends, EndsWith, IsConcluded, IsPrinted, IsReady};
 
-use crate::answer::{Action, Answer};
+use crate::answer::{Action, Answer, Conclusion};
 use crate::check::judge_check;
+use crate::check_all::judge_all;
 use crate::commands::outcome;
 use crate::debug::hold_session;
 use crate::failure::Failure;
 use crate::files::Files;
 use crate::judge::judge_run;
-use crate::opened::{OpenCheck, OpenJudge};
+use crate::opened::{OpenCheck, OpenCheckAll, OpenJudge};
 use crate::streams::print;
 use crate::telling::report_failure;
 use std::alloc::Global;
@@ -23,13 +25,14 @@ use std::time::Clock;
 
 /// Carries out what a command line asks for, over files, standard input, standard output and standard error, and gives the
 /// status that the program ends with: 0 done or a verdict that passes, 1 one that fails, 2 refused input or command line,
-/// 3 a verdict with too many branches, 4 want of memory, 5 a file, standard input or standard output that couldn't be read or
-/// written. `words` begins with the program's name.
+/// 3 a verdict with too many branches or a search that passes a bound, 4 want of memory, 5 a file, standard input or standard output that
+/// couldn't be read or written. `words` begins with the program's name.
 ///
-/// An answer goes to standard output, and nothing of a failure does; the lines of a failure go to standard error,
-/// and where they can't be written the status still stands. With `--progress` `check` and `judge` tell there, before that, how far they have come. Only the session of `debug` reads standard input, once its
-/// files have been read and its machine made. `run` of several harts, `check` and `judge` start threads, of `rt`; what `check` and `judge` print doesn't depend on how
-/// many, and what `run` prints is the run that its harts made.
+/// An answer goes to standard output, and nothing of a failure does, but the schedule that `check-all` found of a run which is refused. The lines
+/// of a failure go to standard error, and where they can't be written the status still stands. With `--progress` `check`, `judge` and `check-all`
+/// tell there, before that, how far they have come. Only the session of `debug` reads standard input, once its files have been read and its
+/// machine made. `run` of several harts, `check`, `judge` and `check-all` start threads, of `rt`; what the last three print doesn't depend on
+/// how many, and what `run` prints is the run that its harts made.
 pub fn execute<T: Threads + Wait + Sync + Clock, F: Files, R: Read, W: Write, E: Write>(
     rt: &T,
     alloc: Global,
@@ -81,6 +84,7 @@ fn deliver<T: Threads + Sync + Clock, R: Read, W: Write, E: Write>(
         Action::Print(answer) => print_answer(answer, output),
         Action::Check(check) => deliver_check(rt, alloc, &check, output, errors),
         Action::Judge(judge) => deliver_judge(rt, alloc, &judge, output, errors),
+        Action::CheckAll(check) => deliver_check_all(rt, alloc, check, output, errors),
         Action::Debug(machine) => hold_session(alloc, machine, input, output),
     }
 }
@@ -111,6 +115,39 @@ fn deliver_judge<T: Threads + Sync + Clock, W: Write, E: Write>(
 {
     let answer = judge_run(rt, alloc, judge, errors)?;
     print_answer(answer, output)
+}
+
+fn deliver_check_all<T: Threads + Sync + Clock, W: Write, E: Write>(
+    rt: &T,
+    alloc: Global,
+    check: OpenCheckAll,
+    output: &mut W,
+    errors: &mut E,
+) -> Result<u8, Failure>
+    requires { IsOpenCheckAll check }
+    ensures { DeliversCheckAll W.contents E.contents check output.old output.new errors.old errors.new result }
+{
+    let conclusion = judge_all(rt, alloc, check, errors)?;
+    print_conclusion(conclusion, output)
+}
+
+fn print_conclusion<W: Write>(conclusion: Conclusion, output: &mut W) -> Result<u8, Failure>
+    ensures { IsConcluded W.contents output.old output.new (Ok conclusion) result }
+{
+    match conclusion {
+        Conclusion::Answered(answer) => print_answer(answer, output),
+        Conclusion::Refused { schedule, failure } => Err(fail_behind(&schedule, failure, output)),
+    }
+}
+
+/// Prints a text, and gives the failure that is then to be reported.
+fn fail_behind<W: Write>(text: &str, failure: Failure, output: &mut W) -> Failure
+    ensures { FailsBehind W.contents output.old output.new text.now failure result }
+{
+    match print(text.as_bytes(), output) {
+        Ok(()) => failure,
+        Err(_) => Failure::File,
+    }
 }
 
 fn print_answer<W: Write>(answer: Answer, output: &mut W) -> Result<u8, Failure>

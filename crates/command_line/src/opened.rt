@@ -1,7 +1,8 @@
 //! Runs that are to be judged.
 
 use crate::made_run::MadeRun;
-use arguments::{CheckCommand, JudgeCommand};
+use arguments::{CheckAllCommand, CheckCommand, JudgeCommand};
+use machine::Setup;
 use plan::Plan;
 use program::Program;
 
@@ -19,4 +20,15 @@ pub struct OpenJudge {
     pub(crate) command: JudgeCommand,
     pub(crate) made: MadeRun,
     pub(crate) recovery: Program,
+}
+
+/// A program of which every schedule is to be judged by a plan. Its files have been read.
+#[derive(Drop)]
+pub struct OpenCheckAll {
+    pub(crate) command: CheckAllCommand,
+    pub(crate) plan: Plan,
+    /// The bytes of the program's file.
+    pub(crate) file: Vec<u8>,
+    /// What every schedule starts from.
+    pub(crate) setup: Setup,
 }

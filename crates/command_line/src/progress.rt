@@ -1,12 +1,13 @@
 //! Standard error, which gets on the way how far a verdict has come.
 
-ghost use Rattle.command_line.specs.Progress.{WritesLine, progress_line};
-ghost use Rattle.std.specs.Prelude.{◌≡◌, ◌<◌, IfOk, string_bytes};
+ghost use Rattle.command_line.specs.Progress.{WritesLine, progress_line, states_line};
+ghost use Rattle.std.specs.Prelude.{◌≡◌, ◌<◌, ℕ, List, IfOk, string_bytes};
 ghost use Rattle.std.specs.Result.{is_ok};
 
 use crate::streams::print;
 use crash_test::Progress;
 use debugger::Failed;
+use every_schedule::Watcher;
 use std::alloc::{AllocError, Global};
 use std::io::Write;
 use std::time::{Clock, Duration, Instant};
@@ -63,22 +64,32 @@ impl<C: Clock, E: Write> Progress for Reporter<'_, C, E> {
 
     fn hear(&mut self, moment: u32, moments: u32, images: Option<u64>) {
         if self.is_wanted && self.pace.is_due(self.clock) {
-            self.is_wanted = tell(self.alloc, moment, moments, images, self.errors).is_ok();
+            let line = progress_line(self.alloc, moment, moments, images);
+            self.is_wanted = tell(line, self.errors).is_ok();
         }
     }
 }
 
-/// Writes the line of so many moments. Where memory is refused nothing is written.
-fn tell<E: Write>(
-    alloc: Global,
-    moment: u32,
-    moments: u32,
-    images: Option<u64>,
-    errors: &mut E,
-) -> Result<(), Failed>
-    ensures { WritesLine (progress_line moment moments images) (E.contents errors.old) (E.contents errors.new) (is_ok result) }
+impl<C: Clock, E: Write> Watcher for Reporter<'_, C, E> {
+    ghost use Rattle.command_line.specs.Progress.{WritesIf, states_line};
+    ghost use Rattle.std.specs.Prelude.{◌≡◌};
+
+    ghost hears = { λ before met waiting after. (after.errors.ghost_name ≡ before.errors.ghost_name)
+        × WritesIf E.contents (states_line met waiting) before.is_wanted before.errors.now after.is_wanted after.errors.now };
+
+    fn hear(&mut self, met: usize, waiting: usize) {
+        if self.is_wanted && self.pace.is_due_in_its_stride(self.clock) {
+            let line = states_line(self.alloc, met, waiting);
+            self.is_wanted = tell(line, self.errors).is_ok();
+        }
+    }
+}
+
+/// Writes a line. Where memory for it was refused nothing is written.
+fn tell<E: Write>(line: Result<String, AllocError>, errors: &mut E) -> Result<(), Failed>
+    ensures { (text : List ℕ) → IfOk line (λ line. string_bytes line ≡ text) → WritesLine text (E.contents errors.old) (E.contents errors.new) (is_ok result) }
 {
-    match progress_line(alloc, moment, moments, images) {
+    match line {
         Ok(line) => print(line.as_bytes(), errors),
         Err(_) => Ok(()),
     }
@@ -99,16 +110,23 @@ fn progress_line(
     }
 }
 
+/// `states N, waiting N`: how many were met, and how many of those the search hasn't come to yet.
+fn states_line(alloc: Global, met: usize, waiting: usize) -> Result<String, AllocError>
+    ensures { IfOk result (λ line. string_bytes line ≡ states_line met waiting) }
+{
+    format!(in alloc; "states {met}, waiting {waiting}\n")
+}
+
 /// The least time from a line to the next, in milliseconds.
 const PAUSE: u128 = 500;
 
-/// Where moments take longer than that, fewer of them are judged before the clock is looked at again, and else more: in milliseconds.
+/// Where moments or states take longer than that, fewer of them are judged before the clock is looked at again, and else more: in milliseconds.
 const LONG: u128 = 100;
 
-/// The most moments that are judged before the clock is looked at.
+/// The most moments or states that are judged before the clock is looked at.
 const LONGEST_STRIDE: u32 = 65_536;
 
-/// When the next line is due, and how many moments are judged before the clock is looked at.
+/// When the next line is due, and how many moments or states are judged before the clock is looked at.
 #[derive(Clone, Copy)]
 struct Pace {
     /// The time of the last line, or that of the beginning; None where the clock failed, and then no line is ever due.
@@ -116,6 +134,8 @@ struct Pace {
     /// The time of the last look.
     looked: Option<Instant>,
     stride: u32,
+    /// How many states were judged since then.
+    judged: u32,
     /// The number of workers: with fewer moments at once one of them would have none.
     workers: u32,
     ghost some: { 0 < stride },
@@ -132,8 +152,19 @@ impl Pace {
             told: now,
             looked: now,
             stride: workers,
+            judged: 0,
             workers,
         }
+    }
+
+    /// Counts a state that was judged, and looks at the clock where a stride of them is made.
+    fn is_due_in_its_stride<T: Clock>(&mut self, clock: &T) -> bool {
+        self.judged = self.judged.saturating_add(1);
+        if self.judged < self.stride {
+            return false;
+        }
+        self.judged = 0;
+        self.is_due(clock)
     }
 
     /// Looks at the clock.

@@ -70,7 +70,8 @@ pub(crate) fn read_program<F: Files>(
     program_of(alloc, &file)
 }
 
-fn program_of(alloc: Global, file: &[u8]) -> Result<Program, Failure>
+/// The program that a file's bytes give.
+pub(crate) fn program_of(alloc: Global, file: &[u8]) -> Result<Program, Failure>
     ensures says { SaysProgram file.now result }
     ensures program { IfOk result (IsProgramOf file.now) }
 {

@@ -1,12 +1,13 @@
 //! What is told of a failing image.
 
-ghost use Rattle.command_line.specs.Reasons.{told_losses, told_why};
+ghost use Rattle.command_line.specs.Reasons.{image_losses, told_image, told_losses, told_why};
 ghost use Rattle.crash_test.specs.Programs.{IsProgramOf};
 ghost use Rattle.report.specs.Places.{line_in};
 ghost use Rattle.machine.specs.Grammar.{hart_steps};
-ghost use Rattle.std.specs.Prelude.{◌≡◌, ◌^◌, ◌<◌, IfOk, IfSome, string_bytes};
+ghost use Rattle.std.specs.Prelude.{◌≡◌, ◌++◌, ◌^◌, ◌<◌, ℕ, List, IfOk, IfSome, string_bytes};
 
 use crate::made_run::MadeRun;
+use crate::naming::named_schedule;
 use crash_test::{ExplainedImage, places_of};
 use machine::TracedEvent;
 use report::{Places, why_json, why_text};
@@ -30,6 +31,60 @@ pub(crate) fn told_why(
         }
         None => Ok(String::new(alloc)),
     }
+}
+
+/// The same of a run that was found, whose own schedule is printed: the one that leaves the image is called `image`.
+pub(crate) fn told_image(
+    alloc: Global,
+    made: &MadeRun,
+    why: &Option<ExplainedImage>,
+    json: bool,
+) -> Result<String, AllocError>
+    requires program { IsProgramOf made.now.file.items made.now.run.setup.program }
+    requires few { IfSome why.now (λ explained. hart_steps explained.schedule < 2 ^ 32) }
+    ensures { IfOk result (λ text. string_bytes text ≡ told_image json made.now why.now) }
+{
+    match why {
+        Some(explained) => {
+            let places = places_of(alloc, &made.file)?;
+            image_losses(alloc, made.run.traced(), explained, &places, json)
+        }
+        None => Ok(String::new(alloc)),
+    }
+}
+
+/// The lines of `told_losses` with another word in the last one.
+fn image_losses(
+    alloc: Global,
+    traced: &[TracedEvent],
+    explained: &ExplainedImage,
+    places: &Places,
+    json: bool,
+) -> Result<String, AllocError>
+    requires few { hart_steps explained.now.schedule < 2 ^ 32 }
+    ensures { IfOk result (λ text. string_bytes text ≡ image_losses json (line_in places.now) traced.now explained.now) }
+{
+    let text = told_losses(alloc, traced, explained, places, json)?;
+    let last = named_schedule(alloc, "schedule", &explained.schedule, json)?;
+    let image = named_schedule(alloc, "image", &explained.schedule, json)?;
+    with_end(alloc, text.as_str(), last.as_str(), image.as_str())
+}
+
+/// A text with another end in place of this one.
+fn with_end(alloc: Global, text: &str, end: &str, other: &str) -> Result<String, AllocError>
+    requires { (front : List ℕ) × (text.now ≡ front ++ end.now) }
+    ensures { IfOk result (λ changed. (front : List ℕ) → text.now ≡ front ++ end.now → string_bytes changed ≡ front ++ other.now) }
+{
+    match text.strip_suffix(end) {
+        Some(front) => joined(alloc, front, other),
+        None => unreachable!(),
+    }
+}
+
+fn joined(alloc: Global, front: &str, end: &str) -> Result<String, AllocError>
+    ensures { IfOk result (λ text. string_bytes text ≡ front.now ++ end.now) }
+{
+    format!(in alloc; "{front}{end}")
 }
 
 fn told_losses(

@@ -49,7 +49,7 @@ pub(crate) fn verdict_answer<C: ToldCause>(
 }
 
 /// The verdict, as text or as JSON.
-fn told_verdict<C: ToldCause>(
+pub(crate) fn told_verdict<C: ToldCause>(
     alloc: Global,
     verdict: &Verdict<C>,
     json: bool,
@@ -77,7 +77,8 @@ fn told_verdict<C: ToldCause>(
     }
 }
 
-fn verdict_status<C>(verdict: &Verdict<C>) -> u8
+/// The status on which a verdict ends.
+pub(crate) fn verdict_status<C>(verdict: &Verdict<C>) -> u8
     ensures { result ≡ verdict_status verdict.now }
 {
     match verdict {

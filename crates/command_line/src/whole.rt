@@ -56,7 +56,12 @@ fn told(alloc: Global, file: &[u8], causes: &[Unfinished]) -> Failure
     }
 }
 
-fn causes_text(alloc: Global, file: &[u8], causes: &[Unfinished]) -> Result<String, AllocError>
+/// A line for each of these.
+pub(crate) fn causes_text(
+    alloc: Global,
+    file: &[u8],
+    causes: &[Unfinished],
+) -> Result<String, AllocError>
     requires { (program : Sections) × IsProgramOf file.now program }
     ensures { IfOk result (λ text. string_bytes text ≡ unfinished_text (line_of file.now) causes.now) }
 {

@@ -1,15 +1,16 @@
 //! The files that commands write.
 
-ghost use Rattle.std.specs.Prelude.{◌≡◌, ◌≤◌, ◌<◌, ◌^◌, IfErr, IfOk, option_map, string_bytes};
+ghost use Rattle.std.specs.Prelude.{◌<◌, ◌^◌, option_map, string_bytes};
 ghost use Rattle.std.specs.Result.{result_map_both};
-ghost use Rattle.machine.specs.Grammar.{OnText, hart_steps};
+ghost use Rattle.machine.specs.Grammar.{hart_steps};
 ghost use Rattle.command_line.specs.Steps.{WritesFile};
-ghost use Rattle.command_line.specs.Writing.{GivesBytes, GivesLine, Leaves, Records, WritesMedium, WritesSchedule, schedule_line};
+ghost use Rattle.command_line.specs.Writing.{GivesBytes, GivesLine, Leaves, Records, WritesMedium, WritesSchedule};
 
 use crate::failure::Failure;
 use crate::files::Files;
+use crate::naming::items_text;
 use line_memory::Medium;
-use machine::{Schedule, ScheduleFault};
+use machine::Schedule;
 use std::alloc::Global;
 
 /// Writes the bytes of a file.
@@ -87,18 +88,7 @@ pub(crate) fn schedule_line(alloc: Global, schedule: &Schedule) -> Result<String
     requires { hart_steps schedule.now < 2 ^ 32 }
     ensures { GivesLine schedule.now (result_map_both string_bytes (λ failure. failure) result) }
 {
-    match line_of(alloc, schedule) {
-        Ok(line) => Ok(line),
-        Err(ScheduleFault::Memory) => Err(Failure::Memory),
-        Err(ScheduleFault::Text) => unreachable!(),
-    }
-}
-
-fn line_of(alloc: Global, schedule: &Schedule) -> Result<String, ScheduleFault>
-    ensures ok { IfOk result (λ line. string_bytes line ≡ schedule_line schedule.now) }
-    ensures err { IfErr result (OnText (2 ^ 32 ≤ hart_steps schedule.now)) }
-{
-    let mut line = schedule.write(alloc)?;
+    let mut line = items_text(alloc, schedule)?;
     line.push('\n')?;
     Ok(line)
 }

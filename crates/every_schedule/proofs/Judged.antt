@@ -1,37 +1,75 @@
 -- What holds of every schedule where all states are good.
-use Rattle.std.proofs.Common.{◌≡◌, ℕ, List, length, subst, sym}
-use Rattle.image_check.specs.Images.{IsGood}
+use Rattle.std.proofs.Common.{◌≡◌, ◌≢◌, ℕ, Bool, false, List, length, Some, slice_get, subst, sym}
+use Rattle.crash_test.specs.Checking.{Recovers}
+use Rattle.hart.specs.declared.state.HartState.{HartState}
+use Rattle.hart.specs.declared.state.Status.{Status}
+use Rattle.hart.specs.declared.state.Status.TheVariants.{Exited, Running}
+use Rattle.image_check.specs.Images.{IsGood, Passes}
 use Rattle.image_check.specs.PlanStates.{IsPlanState}
 use Rattle.image_check.specs.declared.plan_state.PlanState.{PlanState}
 use Rattle.machine.specs.Replies.{trace_in}
-use Rattle.machine.specs.Run.{Config}
+use Rattle.machine.specs.Represents.{MachineView, Represents}
+use Rattle.machine.specs.Run.{Config, RunsTo}
+use Rattle.machine.specs.RunValues.{start_of}
+use Rattle.machine.specs.declared.recording.setup.Setup.{Setup}
+use Rattle.machine.specs.declared.schedule.items.Step.{Step}
 use Rattle.nova_log.specs.Volumes.{volume_of}
 use Rattle.plan.specs.declared.operation.Operation.{Operation}
-use Rattle.program.specs.Sections.{Sections}
 use Rattle.schedule_states.specs.Exploring.{IfAll}
 use Rattle.schedule_states.specs.Judging.{AlwaysGood}
 use Rattle.schedule_states.specs.declared.exploring.Explored.{Explored}
 use Rattle.schedule_states.specs.declared.exploring.Explored.TheVariants as known
 use Rattle.std.specs.Result.{result_ok}
 use Rattle.store_trace.proofs.Lines.{within_from_cut}
-use Rattle.store_trace.specs.Cut.{IsCut, number_in}
+use Rattle.store_trace.specs.Cut.{IsCut, IsCutImage, number_in}
 use Rattle.store_trace.specs.History.{history}
 use Rattle.store_trace.specs.declared.event.Event.{Event}
-use Rattle.every_schedule.specs.EverySchedule.{AllPass}
+use Rattle.witness.proofs.HartRuns.{run_start}
+use Rattle.witness.proofs.Leaving.{leaves_a_cut}
+use Rattle.every_schedule.specs.EverySchedule.{AllEndWell, AllPass, AllSurvive, IfPass}
+use Rattle.every_schedule.specs.Showing.{PassesNot}
+use Rattle.every_schedule.specs.declared.outcome.Outcome.{Outcome}
+use Rattle.every_schedule.specs.declared.outcome.Outcome.TheVariants as outcomes
 
-pub all_pass : (plan : List Operation) (program : Sections) (medium : List (List ℕ)) (harts : ℕ) →
-    AlwaysGood (λ (state : PlanState) (events : List Event). IsPlanState plan (result_ok (volume_of medium)) events state)
-    (λ (events : List Event) (image : List (List ℕ)). IsGood plan medium events image) program medium harts →
-    AllPass plan program medium harts
-all_pass plan program medium harts good steps end runs =
+-- all states are good by a plan
+abbrev pub AreAllGood : List Operation → Setup → Bool → Type 0
+AreAllGood plan s any_end = AlwaysGood (λ (state : PlanState) (events : List Event). IsPlanState plan (result_ok (volume_of s.medium)) events state)
+    (λ (events : List Event) (image : List (List ℕ)). IsGood plan s.medium events image)
+    (λ (status : Status). any_end ≡ false → status ≡ Exited 0) s.program s.medium s.harts
+
+pub all_pass : (plan : List Operation) (s : Setup) (any_end : Bool) → AreAllGood plan s any_end → AllPass plan s
+all_pass plan s any_end good steps end runs =
     let all = good steps end runs in (
       all.0.1.sound,
       λ cut is. all.1 (number_in cut) (within_from_cut (history (trace_in end.common)) cut is),
     )
 
+pub all_end_well : (plan : List Operation) (s : Setup) (any_end : Bool) → AreAllGood plan s any_end → any_end ≡ false → AllEndWell s
+all_end_well plan s any_end good asked steps end h hart runs here stopped = (good steps end runs).2 h hart here stopped asked
+
+-- the image of a cut recovers where each cut passes
+cut_recovers : (plan : List Operation) (start : List (List ℕ)) (events : List Event) (left : List (List ℕ)) → IsCutImage start (history events) left →
+    ((cut : List (ℕ × ℕ)) → IsCut (history events) cut → Passes plan start events cut) → Recovers plan start events left
+cut_recovers plan start events left image passes =
+    let passed : Passes plan start events image.cut = passes image.cut image.bounds in
+    record { volume = passed.volume; recovers = rw image.bytes passed.recovers; legal = passed.legal }
+
+-- what a power cut leaves of a machine is the image of a cut
+pub all_survive : (plan : List Operation) (s : Setup) → AllPass plan s → AllSurvive plan s
+all_survive plan s passes machine steps end runs stands =
+    let left : IsCutImage end.common.start (history (trace_in end.common)) machine.shared.cache.lines = leaves_a_cut machine end stands in
+    let start : end.common.start ≡ s.medium = run_start (start_of s) end steps runs in
+    let image : IsCutImage s.medium (history (trace_in end.common)) machine.shared.cache.lines =
+    subst (λ (lines : List (List ℕ)). IsCutImage lines (history (trace_in end.common)) machine.shared.cache.lines) start left in
+    cut_recovers plan s.medium (trace_in end.common) machine.shared.cache.lines image (passes steps end runs).1
+
 pub all_told : (explored : Explored) (one other : Type 0) → (one → other) → IfAll explored one → IfAll explored other
 all_told (known.All states moments) one other so is = so is
-all_told (known.Bad number) one other so is = tt
-all_told (known.Stopped number stop) one other so is = tt
-all_told known.TooLong one other so is = tt
+all_told (known.Found stop requests) one other so is = tt
 all_told known.TooMany one other so is = tt
+
+-- an outcome that is no pass claims nothing of all schedules
+pub no_pass : (outcome : Outcome) (claim : Type 0) → PassesNot outcome → IfPass outcome claim
+no_pass (outcomes.Pass states moments) claim other = absurd other
+no_pass (outcomes.Found run finding) claim other = tt
+no_pass (outcomes.TooMany bound) claim other = tt

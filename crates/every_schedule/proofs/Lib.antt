@@ -1,2 +1,3 @@
 pub mod Cutting
+pub mod Counting
 pub mod Judged

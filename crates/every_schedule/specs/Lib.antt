@@ -1,1 +1,2 @@
 pub mod EverySchedule
+pub mod Showing

@@ -1,31 +1,89 @@
 //! The verdict over every schedule, by a plan.
 
-ghost use Rattle.every_schedule.specs.EverySchedule.{AllPass};
+ghost use Rattle.every_schedule.specs.EverySchedule.{AllEndWell, AllPass, AllSurvive, IfPass, IsFoundOf};
 ghost use Rattle.schedule_states.specs.Exploring.{IfAll};
-ghost use Rattle.std.specs.Prelude.{IfOk};
+ghost use Rattle.schedule_states.specs.Watching.{HasHeard};
+ghost use Rattle.std.specs.Prelude.{◌≡◌, ◌≤◌, false, IfOk};
 
+use crate::outcome::{Bound, Outcome};
 use crate::plan_judge::PlanJudge;
+use crate::showing::{Sought, show};
+use machine::Setup;
 use plan::Plan;
-use schedule_states::{Explored, Start, explore};
+use schedule_states::{Explored, Start, Watcher, explore};
 use std::alloc::{AllocError, Global};
 use std::thread::Threads;
 
-/// Judges by a plan all states to which schedules lead, if they aren't more than so many.
+/// What bounds the search, and what it lets pass.
+#[derive(Clone, Copy, Debug, PartialEq, Eq)]
+pub struct Limits {
+    /// The most states that are met.
+    pub states: u32,
+    /// Whether harts may stop in any way: trap, or exit with another code than 0.
+    pub any_end: bool,
+}
+
+/// Judges by a plan every schedule of a program on one to eight harts: of any length, with evictions anywhere, over a cache of any size.
 ///
-/// Where all are good, every schedule of any length, with evictions anywhere, leaves at every moment what recovers to a volume that the
-/// plan's operations allow.
-pub fn check_states<T: Threads + Sync>(
+/// A pass speaks of all of them, and their number has no bound. What is found comes with a run, of which `check_program` or
+/// `find_unfinished` says the same; its schedule has the fewest requests up to where that shows. The search meets at most `states` states.
+/// Whoever watches hears on the way how many it has met, and how many of them wait.
+#[tactic(auto, using(crate::proofs::Judged::all_survive))]
+pub fn check_all<T: Threads + Sync, W: Watcher>(
     rt: &T,
     alloc: Global,
     plan: &Plan,
-    start: Start<'_>,
-    most: u32,
+    setup: Setup,
+    limits: Limits,
+    watcher: &mut W,
+) -> Result<Outcome, AllocError>
+    requires few { setup.harts ≤ 8 }
+    // whatever schedule was run: right marks, and all that a power cut may leave recovers to a legal volume
+    ensures pass { IfOk result (λ outcome. IfPass outcome (AllPass plan.now.operations setup)) }
+    // so does what it leaves of any machine, with a cache of any size
+    ensures survives { IfOk result (λ outcome. IfPass outcome (AllSurvive plan.now.operations setup)) }
+    // no hart has trapped, or exited with another code than 0
+    ensures whole { limits.any_end ≡ false → IfOk result (λ outcome. IfPass outcome (AllEndWell setup)) }
+    // what was found is what is said of one run alone
+    ensures found { IfOk result (IsFoundOf plan.now.operations setup) }
+    ensures told { HasHeard W.hears watcher.old watcher.new }
+{
+    match explore_all(rt, alloc, plan, &setup, limits, watcher)? {
+        Explored::All { states, moments } => Ok(Outcome::Pass { states, moments }),
+        Explored::Found { stop, requests } => {
+            let sought = Sought {
+                stop,
+                requests: &requests,
+            };
+            show(rt, alloc, plan, setup, sought)
+        }
+        Explored::TooMany => Ok(Outcome::TooMany(Bound::States)),
+    }
+}
+
+/// Searches through the states of all schedules.
+fn explore_all<T: Threads + Sync, W: Watcher>(
+    rt: &T,
+    alloc: Global,
+    plan: &Plan,
+    setup: &Setup,
+    limits: Limits,
+    watcher: &mut W,
 ) -> Result<Explored, AllocError>
-    ensures pass { IfOk result (λ explored. IfAll explored (AllPass plan.now.operations start.entry.program.now start.entry.medium.now start.entry.harts)) }
+    requires few { setup.now.harts ≤ 8 }
+    ensures pass { IfOk result (λ explored. IfAll explored (AllPass plan.now.operations setup.now)) }
+    ensures whole { limits.any_end ≡ false → IfOk result (λ explored. IfAll explored (AllEndWell setup.now)) }
+    ensures told { HasHeard W.hears watcher.old watcher.new }
 {
     let judge = PlanJudge {
         plan,
-        medium: start.medium,
+        medium: &setup.medium,
+        any_end: limits.any_end,
     };
-    explore(rt, alloc, &judge, start, most)
+    let start = Start {
+        program: &setup.program,
+        medium: &setup.medium,
+        harts: setup.harts,
+    };
+    explore(rt, alloc, &judge, start, limits.states, watcher)
 }

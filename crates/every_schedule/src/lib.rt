@@ -5,8 +5,12 @@
 #![tactic(auto)]
 
 mod checking;
+mod following;
+mod outcome;
 mod plan_judge;
+mod showing;
 mod state_cuts;
 
-pub use checking::check_states;
-pub use schedule_states::{Explored, Start, Stop};
+pub use checking::{Limits, check_all};
+pub use outcome::{Bound, Finding, Outcome};
+pub use schedule_states::{Unwatched, Watcher};

@@ -1,19 +1,18 @@
 //! A plan judges the states of a search.
 
-ghost use Rattle.nova_log.specs.Volumes.{volume_of};
-ghost use Rattle.std.specs.Prelude.{◌≡◌, true, IfOk};
-ghost use Rattle.std.specs.Result.{result_ok};
+ghost use Rattle.std.specs.Prelude.{◌≡◌};
 
 use crate::state_cuts::StateCuts;
-use image_check::{CheckFault, ImagesVerdict, PlanState, judge_images};
+use hart::Status;
+use image_check::{
+    CheckFault, ImagesVerdict, ImagesWorkspace, PlanState, judge_images, starting_volume,
+};
 use line_memory::Medium;
-use nova_log::{Volume, VolumeFault, recover};
 use plan::Plan;
-use schedule_states::{StateImages, StateJudge};
+use schedule_states::{StateImages, StateJudge, StateVerdict};
 use std::alloc::{AllocError, Global};
 use std::thread::Threads;
 use store_trace::Event;
-use verdict::Opener;
 
 /// A plan, by which the states of a search are judged: each image recovers to a volume that the operations allow.
 #[derive(Drop)]
@@ -21,6 +20,8 @@ pub struct PlanJudge<'a> {
     pub plan: &'a Plan,
     /// The medium that a run starts from.
     pub medium: &'a Medium,
+    /// Whether harts may stop in any way.
+    pub any_end: bool,
 }
 
 impl StateJudge for PlanJudge<'_> {
@@ -28,18 +29,21 @@ impl StateJudge for PlanJudge<'_> {
     ghost use Rattle.image_check.specs.PlanStates.{IsPlanState};
     ghost use Rattle.image_check.proofs.Following.{state_kept, state_same};
     ghost use Rattle.nova_log.specs.Volumes.{volume_of};
-    ghost use Rattle.std.specs.Prelude.{◌≡◌, length};
+    ghost use Rattle.std.specs.Prelude.{◌≡◌, false, length};
     ghost use Rattle.std.specs.Result.{result_ok};
+    ghost use Rattle.hart.specs.declared.state.Status.{Status};
 
     type Standing = PlanState;
 
-    type Workspace = Opener;
+    type Workspace = ImagesWorkspace;
 
     ghost stands = { λ s state events. IsPlanState s.plan.now.operations (result_ok (volume_of s.medium.now)) events state };
 
     ghost good = { λ s events image. IsGood s.plan.now.operations s.medium.now events image };
 
-    ghost fits = { λ s lines opener. length opener ≡ lines };
+    ghost ends = { λ s status. s.any_end ≡ false → status ≡ Status.Exited 0 };
+
+    ghost fits = { λ s lines workspace. workspace ≡ lines };
 
     fn start(&self, alloc: Global) -> Result<PlanState, AllocError> {
         let before = starting_volume(alloc, self.medium)?;
@@ -59,21 +63,25 @@ impl StateJudge for PlanJudge<'_> {
         }
     }
 
-    fn workspace(&self, alloc: Global, lines: u32) -> Result<Opener, AllocError> {
-        Opener::new(alloc, lines)
+    fn workspace(&self, alloc: Global, lines: u32) -> Result<ImagesWorkspace, AllocError> {
+        ImagesWorkspace::new(alloc, lines)
     }
 
-    fn passes<T: Threads + Sync>(
+    fn may_end(&self, status: Status) -> bool {
+        self.any_end || status == Status::Exited(0)
+    }
+
+    fn judge<T: Threads + Sync>(
         &self,
         rt: &T,
         alloc: Global,
-        workspace: &mut Opener,
+        workspace: &mut ImagesWorkspace,
         images: &StateImages<'_, '_>,
         standing: &PlanState,
-    ) -> Result<bool, AllocError> {
+    ) -> Result<StateVerdict, AllocError> {
         let cuts = StateCuts::new(images);
         let verdict = judge_images(rt, alloc, &cuts, self.plan, standing, workspace)?;
-        Ok(is_pass(&verdict))
+        Ok(verdict_of(&verdict))
     }
 
     ghost unmarked = { λ s state events event plain kept.
@@ -83,22 +91,13 @@ impl StateJudge for PlanJudge<'_> {
         state_same s.plan.now.operations (result_ok (volume_of s.medium.now)) events state other same kept };
 }
 
-fn is_pass(verdict: &ImagesVerdict) -> bool
-    ensures { result ≡ true → verdict.now ≡ ImagesVerdict.Pass }
+/// The verdict on a state, by that on its images.
+fn verdict_of(verdict: &ImagesVerdict) -> StateVerdict
+    ensures { result ≡ StateVerdict.Good → verdict.now ≡ ImagesVerdict.Pass }
 {
     match verdict {
-        ImagesVerdict::Pass => true,
-        _ => false,
-    }
-}
-
-/// The volume of the starting medium, if it has one.
-fn starting_volume(alloc: Global, medium: &Medium) -> Result<Option<Volume>, AllocError>
-    ensures { IfOk result (λ start. start ≡ result_ok (volume_of medium.now)) }
-{
-    match recover(alloc, medium) {
-        Ok(volume) => Ok(Some(volume)),
-        Err(VolumeFault::Memory) => Err(AllocError),
-        Err(_fault) => Ok(None),
+        ImagesVerdict::Pass => StateVerdict::Good,
+        ImagesVerdict::Bad { .. } => StateVerdict::Bad,
+        ImagesVerdict::TooMany => StateVerdict::TooManyBranches,
     }
 }

@@ -28,7 +28,7 @@ use Rattle.image_check.specs.declared.plan_state.PlanState.{PlanState}
 use Rattle.image_check.proofs.Apart.{sound_apart}
 use Rattle.image_check.proofs.Beginning.{ends_twice, twice_from, unended}
 use Rattle.image_check.proofs.Comparing.{both_true, mark_decides, settled_decides}
-use Rattle.image_check.proofs.Counting.{counted, found_counted, is_on, on_itself, same_mark}
+use Rattle.image_check.proofs.Counting.{counted, found_counted}
 use Rattle.image_check.proofs.Faulting.{clean_faultless, fence_faultless, store_faultless}
 use Rattle.image_check.proofs.Judging.{pending_permuted}
 use Rattle.image_check.proofs.Noting.{other_noted}
@@ -46,8 +46,8 @@ or_cases : (a b : Bool) → (a || b) ≡ true → (a ≡ true) ⊎ (b ≡ true)
 or_cases true b e = inl refl
 or_cases false b e = inr e
 
--- a test that finds a number, or an operation under way
-pub number_found : (xs : List ℕ) (op : ℕ) → IsTrue (list_any (λ y. y == op) xs) ↔ Contains xs op
+-- a test that finds a number
+number_found : (xs : List ℕ) (op : ℕ) → IsTrue (list_any (λ y. y == op) xs) ↔ Contains xs op
 number_found [] op = (λ e. absurd (true≢false (sym e)), λ c. absurd (no_members op c))
 number_found (x ∷ xs) op = (
   λ e. elim (or_cases (x == op) (list_any (λ y. y == op) xs) e) [
@@ -57,26 +57,6 @@ number_found (x ∷ xs) op = (
   λ c. elim (contains_cases x xs op c) [
     | inl s ↦ or_first (x == op) (list_any (λ y. y == op) xs) (eq-eqb x op s)
     | inr d ↦ or_second (x == op) (list_any (λ y. y == op) xs) ((number_found xs op).1 d)
-  ],
-)
-
-any_mapped : (us : List UnderWay) (op : ℕ) → list_any (λ u. u.op == op) us ≡ list_any (λ y. y == op) (map (λ u. u.op) us)
-any_mapped [] op = refl
-any_mapped (u ∷ us) op = ap (λ (b : Bool). (u.op == op) || b) (any_mapped us op)
-
-pub operation_found : (us : List UnderWay) (op : ℕ) → IsTrue (list_any (λ u. u.op == op) us) ↔ Contains (map (λ u. u.op) us) op
-operation_found us op = subst (λ (b : Bool). IsTrue b ↔ Contains (map (λ u. u.op) us) op) (sym (any_mapped us op)) (number_found (map (λ u. u.op) us) op)
-
-pub mark_found : (us : List UnderWay) (hart op : ℕ) → IsTrue (list_any (λ u. u.hart == hart && u.op == op) us) ↔ Contains us (begun_on hart op)
-mark_found [] hart op = (λ e. absurd (true≢false (sym e)), λ c. absurd (no_members (begun_on hart op) c))
-mark_found (u ∷ us) hart op = (
-  λ e. elim (or_cases (is_on hart op u) (list_any (is_on hart op) us) e) [
-    | inl a ↦ contains_first u us (begun_on hart op) (same_mark hart op u a)
-    | inr b ↦ contains_later u us (begun_on hart op) ((mark_found us hart op).0 b)
-  ],
-  λ c. elim (contains_cases u us (begun_on hart op) c) [
-    | inl s ↦ or_first (is_on hart op u) (list_any (is_on hart op) us) (ap (λ (x : UnderWay). is_on hart op x) s ∙ on_itself (begun_on hart op))
-    | inr d ↦ or_second (is_on hart op u) (list_any (is_on hart op) us) ((mark_found us hart op).1 d)
   ],
 )
 

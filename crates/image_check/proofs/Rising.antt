@@ -1,14 +1,19 @@
 -- Lists in the order of their elements' numbers, each number at most once.
-use Rattle.std.proofs.Common.{◌≡◌, ℕ, suc, ◌+◌, ◌-◌, ◌<◌, ◌≤◌, inl, inr, true, false, not, List, [], ◌∷◌, map, length, get_or, refl, sym, ap, ◌∙◌, subst, arith, ltb, ltb-true, ltb-false}
-use Rattle.std.specs.Prelude.{◌==◌, filter}
+use Rattle.std.proofs.Common.{◌≡◌, ℕ, suc, ◌+◌, ◌-◌, ◌<◌, ◌≤◌, inl, inr, true, false, not, List, [], ◌∷◌, map, length, get_or, refl, sym, ap, ◌∙◌, subst, true≢false, arith, ltb, ltb-true, ltb-false, eqb-true, eq-eqb, Bool, Option, Some, None}
+use Rattle.std.specs.Prelude.{◌==◌, ◌↔◌, filter, is_some, nat_eq, slice_get, IsTrue, Result, Ok, Err}
 use Rattle.std.specs.List.{AllPairs, Contains, insert}
-use Rattle.std.specs.List.Sorted.{IsNonDecreasingBy, IsPartitionPoint, IsPartitionedBy}
+use Rattle.std.specs.List.Sorted.{IsBinarySearchResult, IsNonDecreasingBy, IsPartitionPoint, IsPartitionedBy}
+use Rattle.std.specs.Option.{option_eq}
+use Rattle.std.specs.Ordering.{nat_cmp}
+use Rattle.std.specs.Result.{is_ok, MatchResult}
 use Rattle.std.proofs.lemmas.Bool.{cases_lt}
-use Rattle.std.proofs.lemmas.List.{get_or-map, length-map}
+use Rattle.std.proofs.lemmas.List.{get_or-map, get_or_default, length-map}
+use Rattle.std.proofs.lemmas.List.Elements.{Contains-get_or}
 use Rattle.std.proofs.lemmas.List.Edits.{get_or-insert_above, get_or-insert_at, get_or-insert_below, length-insert}
 use Rattle.std.proofs.lemmas.List.Kept.{AllPairs-filter}
-use Rattle.std.proofs.lemmas.List.Sorted.{IsPartitionedBy-ltb}
-use Rattle.image_check.specs.Growth.{AreInOrder, times}
+use Rattle.std.proofs.lemmas.List.Sorted.{IsPartitionedBy-ltb, searched}
+use Rattle.std.proofs.lemmas.Option.{get_or_from_slice_get, slice_get-get_or, slice_get_read, slice_get_within}
+use Rattle.image_check.specs.Growth.{AreInOrder, begun_on, times}
 use Rattle.image_check.specs.declared.legal.UnderWay.{UnderWay}
 use Rattle.image_check.proofs.Counting.{counted}
 use Rattle.store_trace.proofs.Members.{contains_cases, contains_first, contains_later, no_members}
@@ -65,31 +70,48 @@ module _ {X : Type 0} (n : X → ℕ) where
         ]
       ]
 
-  pub put_in_order : (xs : List X) (p : ℕ) (x : X) → p ≤ length xs → Rises n xs → ¬ Contains (map n xs) (n x) →
-      IsPartitionPoint (λ y. ltb (n y) (n x) ≡ true) (λ y. ltb (n y) (n x) ≡ false) xs p → Rises n (insert xs p x)
-  put_in_order xs p x le h new point =
-      put xs p x le h (λ k d l. ltb-true (n (get_or xs k d)) (n x) (point.0 k d (omega arith) l))
-      (λ k d l m.
-      let most : n x ≤ n (get_or xs k d) = let f = ltb-false (n (get_or xs k d)) (n x) (point.1 k d l m) in omega arith in
-      elim (cases_lt (n x) (n (get_or xs k d))) [
-        | inl less ↦ less
-        | inr not_less ↦
-            let same : n (get_or xs k d) ≡ n x = omega arith in
-            absurd (new (k, let long = length-map xs n in omega arith, get_or-map n xs k d (n x) m ∙ same))
-      ])
-
   -- as a search finds its place in a slice of the list
   pub parted_as : (xs ys : List X) (t : ℕ) → xs ≡ ys → Rises n ys → IsPartitionedBy (λ y. ltb (n y) t) xs
   parted_as xs ys t same h = parted xs t (subst (λ (zs : List X). Rises n zs) (sym same) h)
 
-  pub placed : (xs ys new : List X) (p : ℕ) (x : X) → xs ≡ ys → p ≤ length xs →
-      IsPartitionPoint (λ y. ltb (n y) (n x) ≡ true) (λ y. ltb (n y) (n x) ≡ false) xs p → new ≡ insert ys p x → Rises n ys →
-      ¬ Contains (map n ys) (n x) → Rises n new
-  placed xs ys new p x same le point made h fresh =
+  pub place_in : (xs ys : List X) (p t : ℕ) → xs ≡ ys → IsPartitionPoint (λ y. ltb (n y) t ≡ true) (λ y. ltb (n y) t ≡ false) xs p →
+      IsPartitionPoint (λ y. n y < t) (λ y. t ≤ n y) ys p
+  place_in xs ys p t same point = subst (λ (zs : List X). IsPartitionPoint (λ y. n y < t) (λ y. t ≤ n y) zs p) same (
+    λ k d l m. ltb-true (n (get_or xs k d)) t (point.0 k d l m),
+    λ k d l m. let not_less = ltb-false (n (get_or xs k d)) t (point.1 k d l m) in omega arith,
+  )
+
+  pub placed : (xs new : List X) (p : ℕ) (x : X) → p ≤ length xs → IsPartitionPoint (λ y. n y < n x) (λ y. n x ≤ n y) xs p → new ≡ insert xs p x →
+      Rises n xs → ¬ Contains (map n xs) (n x) → Rises n new
+  placed xs new p x le point made h fresh =
       subst (λ (zs : List X). Rises n zs) (sym made)
-      (subst (λ (zs : List X). Rises n (insert zs p x)) same
-      (put_in_order xs p x le (subst (λ (zs : List X). Rises n zs) (sym same) h)
-      (λ c. fresh (subst (λ (zs : List X). Contains (map n zs) (n x)) same c)) point))
+      (put xs p x le h (λ k d l. point.0 k d (omega arith) l)
+      (λ k d l m.
+      let most : n x ≤ n (get_or xs k d) = point.1 k d l m in
+      elim (cases_lt (n x) (n (get_or xs k d))) [
+        | inl less ↦ less
+        | inr not_less ↦
+            let same : n (get_or xs k d) ≡ n x = omega arith in
+            absurd (fresh (k, let long = length-map xs n in omega arith, get_or-map n xs k d (n x) m ∙ same))
+      ]))
+
+  -- at its place stands the element of the number that is sought, if there is one
+  pub found_at : (xs : List X) (p t : ℕ) → Rises n xs → IsPartitionPoint (λ y. n y < t) (λ y. t ≤ n y) xs p → (x : X) → n x ≡ t → Contains xs x →
+      slice_get xs p ≡ Some x
+  found_at xs p t h point x e c =
+      let here : n (get_or xs c.0 x) ≡ t = ap n c.2 ∙ e in
+      elim (cases_lt c.0 p) [
+        | inl before ↦ let less = point.0 c.0 x (omega arith) before in absurd (omega arith)
+        | inr late ↦ elim (cases_lt p c.0) [
+          | inl after ↦
+              let most = point.1 p x (omega arith) (omega (arith, c.1)) in
+              let less = h p c.0 x after c.1 in
+              absurd (omega arith)
+          | inr now ↦
+              let same : c.0 ≡ p = omega arith in
+              subst (λ (k : ℕ). slice_get xs k ≡ Some x) same (slice_get-get_or xs c.0 x c.1 ∙ ap (λ (y : X). Some y) c.2)
+        ]
+      ]
 
   -- two such lists with the same elements are one
   later : (x : X) (xs : List X) (y : X) → Rises n (x ∷ xs) → Contains xs y → n x < n y
@@ -139,3 +161,98 @@ none_in_order (u ∷ us) h =
     let some : 0 < times u.hart u.op (u ∷ us) = counted u (u ∷ us) (contains_first u us u refl) in
     let none : times u.hart u.op (u ∷ us) ≡ 0 = h u.hart u.op in
     absurd (omega arith)
+
+-- the operation under way that stands at its place in a slice of the list
+pub hart_found : (us seen : List UnderWay) (p op hart : ℕ) (u : UnderWay) → seen ≡ us → p < length seen → u ≡ get_or seen p u → u.op ≡ op →
+    (AreInOrder us → IsPartitionPoint (λ v. v.op < op) (λ v. op ≤ v.op) us p) → AreInOrder us →
+    (Some u.hart ≡ Some hart) ↔ Contains us (begun_on hart op)
+hart_found us seen p op hart u same inside at is place h =
+    let there : slice_get us p ≡ Some u = subst (λ (vs : List UnderWay). slice_get vs p ≡ Some u) same (slice_get_read seen (length seen) p u refl inside at) in (
+      λ e.
+          let its : u.hart ≡ hart = cc in
+          let one : u ≡ begun_on hart op = ap (λ (m : ℕ). begun_on m u.op) its ∙ ap (λ (m : ℕ). begun_on hart m) is in
+          (p, slice_get_within us p u there, get_or_from_slice_get us p u (begun_on hart op) there ∙ one),
+      λ c.
+          let begun : slice_get us p ≡ Some (begun_on hart op) = found_at (λ (v : UnderWay). v.op) us p op h (place h) (begun_on hart op) refl c in
+          let one : u ≡ begun_on hart op = cc in
+          ap (λ (v : UnderWay). Some v.hart) one,
+    )
+
+-- another one stands there
+pub hart_other : (us seen : List UnderWay) (p op hart : ℕ) (u : UnderWay) → seen ≡ us → p < length seen → u ≡ get_or seen p u → ¬ (u.op ≡ op) →
+    (AreInOrder us → IsPartitionPoint (λ v. v.op < op) (λ v. op ≤ v.op) us p) → AreInOrder us → (None ≡ Some hart) ↔ Contains us (begun_on hart op)
+hart_other us seen p op hart u same inside at other place h =
+    let there : slice_get us p ≡ Some u = subst (λ (vs : List UnderWay). slice_get vs p ≡ Some u) same (slice_get_read seen (length seen) p u refl inside at) in (
+      λ e. absurd cc,
+      λ c.
+          let begun : slice_get us p ≡ Some (begun_on hart op) = found_at (λ (v : UnderWay). v.op) us p op h (place h) (begun_on hart op) refl c in
+          let one : u ≡ begun_on hart op = cc in
+          absurd (other (ap (λ (v : UnderWay). v.op) one)),
+    )
+
+-- nothing stands there
+pub hart_none : (us seen : List UnderWay) (p op hart : ℕ) → seen ≡ us → length seen ≤ p →
+    (AreInOrder us → IsPartitionPoint (λ v. v.op < op) (λ v. op ≤ v.op) us p) → AreInOrder us → (None ≡ Some hart) ↔ Contains us (begun_on hart op)
+hart_none us seen p op hart same past place h = (
+  λ e. absurd cc,
+  λ c.
+      let begun : slice_get us p ≡ Some (begun_on hart op) = found_at (λ (v : UnderWay). v.op) us p op h (place h) (begun_on hart op) refl c in
+      let within : p < length us = slice_get_within us p (begun_on hart op) begun in
+      absurd (omega (arith, subst (λ (vs : List UnderWay). length vs ≤ p) same past)),
+)
+
+-- where the hart that began an operation is known, so it is whether the operation is under way
+pub hart_begun : (us : List UnderWay) (op : ℕ) (found : Option ℕ) → ((hart : ℕ) → (found ≡ Some hart) ↔ Contains us (begun_on hart op)) →
+    IsTrue (is_some found) ↔ Contains (map (λ u. u.op) us) op
+hart_begun us op None h = (
+  λ t. absurd (true≢false (sym t)),
+  λ c.
+      let inside : c.0 < length us = omega (arith, c.1, length-map us (λ (u : UnderWay). u.op)) in
+      let u : UnderWay = get_or us c.0 (begun_on 0 op) in
+      let its : u.op ≡ op = sym (get_or-map (λ (v : UnderWay). v.op) us c.0 (begun_on 0 op) op inside) ∙ c.2 in
+      let one : u ≡ begun_on u.hart op = ap (λ (o : ℕ). begun_on u.hart o) its in
+      let none : ◌≡◌ {A = Option ℕ} None (Some u.hart) = (h u.hart).1 (subst (λ (v : UnderWay). Contains us v) one (Contains-get_or us c.0 (begun_on 0 op) inside)) in
+      absurd cc,
+)
+hart_begun us op (Some hart) h = (
+  λ t.
+      let c : Contains us (begun_on hart op) = (h hart).0 refl in (
+        c.0,
+        omega (arith, c.1, length-map us (λ (u : UnderWay). u.op)),
+        get_or-map (λ (v : UnderWay). v.op) us c.0 (begun_on hart op) op c.1 ∙ ap (λ (v : UnderWay). v.op) c.2,
+      ),
+  λ c. refl,
+)
+
+-- a comparison with the hart that began an operation
+pub hart_same : (found : Option ℕ) (hart : ℕ) (differs : Bool) → differs ≡ not (option_eq nat_eq found (Some hart)) → differs ≡ false → found ≡ Some hart
+hart_same None hart differs e f = absurd cc
+hart_same (Some its) hart differs e f = ap (λ (h : ℕ). Some h) (eqb-true its hart (both_not (its == hart) (sym e ∙ f)))
+  where
+    both_not : (b : Bool) → not b ≡ false → b ≡ true
+    both_not true n = refl
+    both_not false n = absurd cc
+
+pub hart_differs : (found : Option ℕ) (hart : ℕ) (differs : Bool) → differs ≡ not (option_eq nat_eq found (Some hart)) → differs ≡ true → ¬ (found ≡ Some hart)
+hart_differs found hart differs e t same =
+    let alike : (hart == hart) ≡ true = eq-eqb hart hart refl in
+    let here : differs ≡ not (hart == hart) = e ∙ ap (λ (o : Option ℕ). not (option_eq nat_eq o (Some hart))) same in
+    absurd cc
+
+-- a number that is sought
+pub number_searched : (xs : List ℕ) (x : ℕ) (r : Result ℕ ℕ) → Rises (λ y. y) xs → IsBinarySearchResult (λ y. nat_cmp y x) xs r → IsTrue (is_ok r) ↔ Contains xs x
+number_searched xs x r h is = by_result r (searched xs x r is (λ i j. not_falling (λ (y : ℕ). y) xs h i j 0))
+  where
+    by_result : (r : Result ℕ ℕ) → MatchResult r (λ i. (i < length xs) × (get_or xs i 0 ≡ x))
+        (λ i. (i ≤ length xs) × ((k : ℕ) → k < i → get_or xs k 0 < x) × ((k : ℕ) → i ≤ k → k < length xs → x < get_or xs k 0)) →
+        IsTrue (is_ok r) ↔ Contains xs x
+    by_result (Ok i) found = (λ t. subst (λ (y : ℕ). Contains xs y) found.1 (Contains-get_or xs i 0 found.0), λ c. refl)
+    by_result (Err i) found = (
+      λ t. absurd (true≢false (sym t)),
+      λ c.
+          let here : get_or xs c.0 0 ≡ x = get_or_default xs c.0 0 x c.1 ∙ c.2 in
+          elim (cases_lt c.0 i) [
+            | inl before ↦ let less = found.1 c.0 before in absurd (omega arith)
+            | inr late ↦ let more = found.2 c.0 late c.1 in absurd (omega arith)
+          ],
+    )

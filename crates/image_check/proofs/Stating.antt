@@ -15,15 +15,16 @@ in_state : (plan : List Operation) (state : PlanState) (medium : List (List ℕ)
     IsFoundInState plan state medium found
 in_state plan state medium found f = λ start events is. f start events is.outcomes_are (apart_state plan (result_ok (volume_of start)) events state is)
 
-pub stated : (plan : List Operation) (state : PlanState) (image : (ℕ → ℕ) → List (List ℕ)) (low high : ℕ → ℕ) (verdict : ImagesVerdict) →
-    IsImagesVerdict (IsFoundBy plan state.outcomes) image low high verdict → IsImagesVerdict (IsFoundInState plan state) image low high verdict
-stated plan state image low high images.Pass v = (v.0, λ k within. in_state plan state (image k) None (v.1 k within))
-stated plan state image low high (images.Bad numbers cause) v = (
+pub stated : (plan : List Operation) (state : PlanState) (lines : ℕ) (image : (ℕ → ℕ) → List (List ℕ)) (low high : ℕ → ℕ) (verdict : ImagesVerdict) →
+    IsImagesVerdict (IsFoundBy plan state.outcomes) lines image low high verdict → IsImagesVerdict (IsFoundInState plan state) lines image low high verdict
+stated plan state lines image low high images.Pass v = (v.0, λ k within. in_state plan state (image k) None (v.1 k within))
+stated plan state lines image low high (images.Bad numbers cause) v = (
   v.0,
   record {
     within = v.1.within;
     bad = in_state plan state (image _) (Some cause) v.1.bad;
     least = λ k within before. in_state plan state (image k) None (v.1.least k within before);
   },
+  v.2,
 )
-stated plan state image low high images.TooMany v = v
+stated plan state lines image low high images.TooMany v = v

@@ -2,14 +2,14 @@
 
 ghost use Rattle.image_check.specs.Images.{IsFoundBy};
 ghost use Rattle.image_check.specs.ImagesVerdicts.{IsFoundInState, IsImagesVerdict};
-ghost use Rattle.std.specs.Prelude.{◌≡◌, length, IfOk};
+ghost use Rattle.std.specs.Prelude.{◌≡◌, IfOk};
 
 use crate::Cause;
-use crate::legal::Outcomes;
 use crate::plan_images::{PlanImages, Workspace};
 use crate::plan_state::PlanState;
 use plan::Plan;
 use std::alloc::{AllocError, Global};
+use std::marker::Model;
 use std::thread::Threads;
 use verdict::{Images, Opened, Opener};
 
@@ -21,50 +21,79 @@ const MAX_BRANCHES: u32 = 65_536;
 pub enum ImagesVerdict {
     /// Each image is good.
     Pass,
-    /// The least bad cut, by line, with 0 for a line at its lowest number, and why its image is bad.
+    /// The least bad cut, a number for each line, with 0 for a line at its lowest one, and why its image is bad.
     Bad { numbers: Vec<u32>, cause: Cause },
     /// There are over 65,536 branches.
     TooMany,
 }
 
+/// What the images of one source after another are judged in. It is made once, for media of so many lines.
+///
+/// A contract sees the number of lines.
+#[derive(Drop)]
+pub struct ImagesWorkspace {
+    opener: Opener,
+    recovery: Workspace,
+}
+
+impl Model for ImagesWorkspace {
+    ghost use Rattle.std.specs.Prelude.{ℕ, length};
+
+    ghost Value = { ℕ };
+
+    ghost view = { λ w. length w.opener };
+}
+
+impl ImagesWorkspace {
+    /// For media of so many lines.
+    pub fn new(alloc: Global, lines: u32) -> Result<ImagesWorkspace, AllocError>
+        ensures { IfOk result (λ workspace. workspace ≡ lines) }
+    {
+        Ok(ImagesWorkspace {
+            opener: Opener::new(alloc, lines)?,
+            recovery: Workspace::new(alloc),
+        })
+    }
+}
+
 /// The verdict on all images of a source, where a state of a run keeps what decides which volumes are legal: by one run of recovery for
-/// each branch of their cuts, in threads of their own where there are many. The opener can be used again after an error too.
+/// each branch of their cuts, in threads of their own where there are many. The workspace can be used again after an error too.
 pub fn judge_images<I: Images + Sync, T: Threads + Sync>(
     rt: &T,
     alloc: Global,
     images: &I,
     plan: &Plan,
     state: &PlanState,
-    opener: &mut Opener,
+    workspace: &mut ImagesWorkspace,
 ) -> Result<ImagesVerdict, AllocError>
-    requires { length opener.old ≡ I.lines images.now }
-    ensures ok { IfOk result (IsImagesVerdict (IsFoundInState plan.now.operations state.now) (I.image images.now) (I.low images.now) (I.high images.now)) }
-    ensures size { length opener.new ≡ length opener.old }
-{
-    judge_by(rt, alloc, images, plan, &state.outcomes, opener)
-}
-
-/// The same, where the legal volumes are made of these.
-fn judge_by<I: Images + Sync, T: Threads + Sync>(
-    rt: &T,
-    alloc: Global,
-    images: &I,
-    plan: &Plan,
-    outcomes: &Outcomes,
-    opener: &mut Opener,
-) -> Result<ImagesVerdict, AllocError>
-    requires { length opener.old ≡ I.lines images.now }
-    ensures ok { IfOk result (IsImagesVerdict (IsFoundBy plan.now.operations outcomes.now)
-        (I.image images.now) (I.low images.now) (I.high images.now)) }
-    ensures size { length opener.new ≡ length opener.old }
+    requires { workspace.old ≡ I.lines images.now }
+    ensures ok { IfOk result (IsImagesVerdict (IsFoundInState plan.now.operations state.now)
+        (I.lines images.now) (I.image images.now) (I.low images.now) (I.high images.now)) }
+    ensures size { workspace.new ≡ workspace.old }
 {
     let judged = PlanImages {
         images,
         plan,
-        outcomes,
+        outcomes: &state.outcomes,
     };
-    let mut workspace = Workspace::new(alloc);
-    let opened = opener.open(rt, alloc, &judged, &mut workspace, MAX_BRANCHES)?;
+    judge_by(rt, alloc, &judged, workspace)
+}
+
+/// The same, where it is known what the legal volumes are made of.
+fn judge_by<I: Images + Sync, T: Threads + Sync>(
+    rt: &T,
+    alloc: Global,
+    judged: &PlanImages<'_, I>,
+    workspace: &mut ImagesWorkspace,
+) -> Result<ImagesVerdict, AllocError>
+    requires { workspace.old ≡ I.lines judged.now.images.now }
+    ensures ok { IfOk result (IsImagesVerdict (IsFoundBy judged.now.plan.now.operations judged.now.outcomes.now)
+        (I.lines judged.now.images.now) (I.image judged.now.images.now) (I.low judged.now.images.now) (I.high judged.now.images.now)) }
+    ensures size { workspace.new ≡ workspace.old }
+{
+    let ImagesWorkspace { opener, recovery } = workspace;
+    recovery.forget();
+    let opened = opener.open(rt, alloc, judged, recovery, MAX_BRANCHES)?;
     Ok(match opened {
         Opened::Pass => ImagesVerdict::Pass,
         Opened::Bad { numbers, cause } => ImagesVerdict::Bad { numbers, cause },

@@ -6,25 +6,24 @@ ghost use Rattle.image_check.specs.OrderFaults.{AreSound};
 ghost use Rattle.nova_log.specs.Volumes.{volume_of};
 ghost use Rattle.store_trace.specs.declared.event.Event.{Event as AnEvent};
 ghost use Rattle.nova_log.specs.declared.volume.entry.Entry.{Entry as AnEntry};
-ghost use Rattle.std.specs.Prelude.{◌≡◌, ℕ, ◌+◌, List, Option, length, take, IfErr, IfOk, OnOk};
+ghost use Rattle.std.specs.Prelude.{◌≡◌, ℕ, ◌+◌, List, Option, length, take, IfOk, OnOk};
 ghost use Rattle.std.specs.Result.{result_ok};
 
+use crate::Cause;
 use crate::legal::Outcomes;
-use crate::{Cause, CheckFault};
 use line_memory::Medium;
 use nova_log::{Volume, VolumeFault, recover};
 use plan::Plan;
 use std::alloc::{AllocError, Global};
 use store_trace::Trace;
 
-/// The volume of the starting medium, if it has one.
-pub fn starting_volume(alloc: Global, medium: &Medium) -> Result<Option<Volume>, CheckFault>
-    ensures ok { IfOk result (λ start. start ≡ result_ok (volume_of medium.now)) }
-    ensures err { IfErr result (λ fault. fault ≡ CheckFault.Memory) }
+/// The volume that a run starts from: that of its starting medium, or None where recovery of the medium finds a fault.
+pub fn starting_volume(alloc: Global, medium: &Medium) -> Result<Option<Volume>, AllocError>
+    ensures { IfOk result (λ start. start ≡ result_ok (volume_of medium.now)) }
 {
     match recover(alloc, medium) {
         Ok(volume) => Ok(Some(volume)),
-        Err(VolumeFault::Memory) => Err(CheckFault::Memory),
+        Err(VolumeFault::Memory) => Err(AllocError),
         Err(_fault) => Ok(None),
     }
 }

@@ -12,8 +12,9 @@ ghost use Rattle.nova_log.specs.declared.volume.entry.Entry.{Entry as AnEntry};
 ghost use Rattle.plan.specs.declared.operation.Operation.{Operation as AnOperation};
 ghost use Rattle.std.specs.Cmp.{partial_equiv_from_equiv};
 ghost use Rattle.std.specs.Hash as fed;
-ghost use Rattle.std.specs.List.{Contains, flat_map, list_any};
-ghost use Rattle.std.specs.Prelude.{◌≡◌, ◌↔◌, ◌==◌, ◌&&◌, ℕ, not, List, [], ◌∷◌, ◌++◌, Option, Some, Result, filter, length, map, option_and_then, IfOk, IsPermutation, IsTrue, OnOk, if◌then◌else◌};
+ghost use Rattle.std.specs.List.{Contains, flat_map};
+ghost use Rattle.std.specs.List.Sorted.{IsPartitionPoint};
+ghost use Rattle.std.specs.Prelude.{◌≡◌, ◌↔◌, ◌==◌, ◌<◌, ◌≤◌, ℕ, not, List, [], ◌∷◌, ◌++◌, Option, Some, Result, filter, length, map, option_and_then, IfOk, IsPermutation, IsTrue, OnOk, if◌then◌else◌};
 ghost use Rattle.std.specs.Result.{result_ok};
 
 use crate::operations::{append, find_operation, fits, shares_with, shows};
@@ -99,7 +100,7 @@ impl Outcomes {
         ensures in_order { OnOk result (AreInOrder self.old.under_way.items → ¬ Contains (map (λ u. u.op) self.old.under_way.items) op →
             AreInOrder self.new.under_way.items) }
     {
-        let place = self.under_way.partition_point(|other| other.op < op);
+        let place = self.place_of(op);
         self.under_way.insert(place, UnderWay { op, hart })?;
         Ok(())
     }
@@ -127,20 +128,23 @@ impl Outcomes {
         })
     }
 
-    /// Whether the operation is pending.
-    pub fn is_pending(&self, op: u64) -> bool
-        ensures { result ≡ list_any (λ u. u.op == op) self.now.under_way.items }
+    /// The hart that began the operation, where it is pending.
+    pub fn hart_of(&self, op: u64) -> Option<u32>
+        ensures { AreInOrder self.now.under_way.items → (hart : ℕ) → (result ≡ Some hart) ↔ Contains self.now.under_way.items (begun_on hart op) }
     {
-        self.under_way.iter().any(|other| other.op == op)
+        match self.under_way.get(self.place_of(op)) {
+            Some(found) if found.op == op => Some(found.hart),
+            _ => None,
+        }
     }
 
-    /// Whether the operation is pending, and this hart began it.
-    pub fn is_pending_on(&self, hart: u32, op: u64) -> bool
-        ensures { result ≡ list_any (λ u. u.hart == hart && u.op == op) self.now.under_way.items }
+    /// Where the operation stands among the pending ones, or would stand.
+    fn place_of(&self, op: u64) -> usize
+        ensures bound { result ≤ length self.now.under_way.items }
+        ensures place { AreInOrder self.now.under_way.items →
+            IsPartitionPoint (λ u. u.op < op) (λ u. op ≤ u.op) self.now.under_way.items result }
     {
-        self.under_way
-            .iter()
-            .any(|other| other.hart == hart && other.op == op)
+        self.under_way.partition_point(|other| other.op < op)
     }
 
     /// Whether a pending operation adds to an inode of this one, which the plan has.

@@ -7,7 +7,8 @@
 pub use cause::Cause;
 pub use checking::{check_moment, check_parallel, check_run, checked_part};
 pub use fault::{CheckFault, OpFault};
-pub use images_judge::{ImagesVerdict, judge_images};
+pub use images_judge::{ImagesVerdict, ImagesWorkspace, judge_images};
+pub use judge::starting_volume;
 pub use laws::{one_verdict, plan_states_stand, verdicts_join};
 pub use moment_judge::{MomentJudge, SoundRun};
 pub use order::check_trace;

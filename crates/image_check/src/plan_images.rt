@@ -36,6 +36,16 @@ impl Workspace {
             lines: Vec::new(alloc),
         }
     }
+
+    /// Makes it one for the images of any source again: no log is kept any more. Its memory stays.
+    pub fn forget(&mut self)
+        ensures { (medium : List (List ℕ)) → AreKept medium self.new.kept }
+    {
+        for reading in self.kept.readings.iter_mut() {
+            reading.is_kept = false;
+            reading.was_read = false;
+        }
+    }
 }
 
 /// Images, and what the legal volumes are made of where they come from.

@@ -43,7 +43,7 @@ impl PlanState {
         }
     }
 
-    /// The state after one event more. A wrong mark is told before memory is asked for.
+    /// The state after one event more. A wrong mark is reported before memory is asked for.
     #[tactic(auto, using(crate::proofs::Refusing::refused_after, crate::proofs::Refusing::refused_memory))]
     pub fn after(&self, alloc: Global, plan: &Plan, event: Event) -> Result<PlanState, CheckFault>
         ensures ok { IfOk result (λ next. (start : Option (List (List AnEntry))) (events : List AnEvent) →
@@ -150,7 +150,7 @@ impl PlanState {
         if find_operation(plan, op).is_none() {
             return Err(OpFault::Unknown);
         }
-        if !self.outcomes.is_pending_on(hart, op) {
+        if self.outcomes.hart_of(op) != Some(hart) {
             return Err(OpFault::NotPending);
         }
         Ok(())
@@ -161,6 +161,6 @@ impl PlanState {
         ensures { (plan : List AnOperation) (start : Option (List (List AnEntry))) (events : List AnEvent) →
             IsPlanState plan start events self.now → IsTrue result ↔ Contains (begun events) op }
     {
-        self.outcomes.is_pending(op) || self.ended.contains(&op)
+        self.outcomes.hart_of(op).is_some() || self.ended.binary_search(&op).is_ok()
     }
 }

@@ -10,6 +10,7 @@ mod images;
 mod library_messages;
 mod loading;
 mod messages;
+mod orders;
 mod runs;
 mod starts;
 mod states;

@@ -3,6 +3,7 @@ use Rattle.std.proofs.Common.{◌≡◌, inl, inr, ℕ, ◌+◌, ◌<◌, ◌≤
 use Rattle.std.proofs.lemmas.Bool.{cases_eq}
 use Rattle.std.proofs.lemmas.List.{same_lists}
 use Rattle.std.proofs.lemmas.Option.{same_Some, slice_get-get_or, slice_get_within}
+use Rattle.hart.specs.declared.state.Status.{Status}
 use Rattle.machine.specs.Replies.{trace_in}
 use Rattle.machine.specs.Run.{Config}
 use Rattle.store_trace.specs.declared.event.Event.{Event}
@@ -10,9 +11,9 @@ use Rattle.schedule_states.proofs.Covering.{stands_grown, stands_same}
 use Rattle.schedule_states.proofs.Growing.{grown_then}
 use Rattle.schedule_states.proofs.Looking.{got_kept}
 use Rattle.schedule_states.proofs.Numbering.{lists_kept, lists_of_met, met_kept}
-use Rattle.schedule_states.specs.Covering.{Covers, IsClosed, IsClosedAt, IsClosedBelow, IsMet, ReachedView, StandsAs}
+use Rattle.schedule_states.specs.Covering.{Covers, IsClosed, IsClosedAt, IsClosedBelow, IsMet, PartsEndWell, ReachedView}
 use Rattle.schedule_states.specs.Reaching.{AreNumbered, AreThere, HaveGrown, IsClosedBy, IsClosedFor, WereBefore}
-use Rattle.schedule_states.specs.States.{AreGrown, AsksTo, PartsView, StandsFor}
+use Rattle.schedule_states.specs.States.{AreGrown, PartsView}
 use Rattle.schedule_states.specs.Successors.{HasLists}
 use Rattle.schedule_states.specs.declared.program_state.HartPart.{HartPart}
 use Rattle.schedule_states.specs.declared.program_state.ProgramState.{ProgramState}
@@ -69,13 +70,16 @@ same_standing r n s u t v a b =
     ap (λ (x : StateNumbers). slice_get r.standings x.standing) (numbers_once r n s u t v a b) ∙ b.standing in
     same_Some v t (sym one ∙ a.standing)
 
-pub closed_at : {T : Type 0} (stands : T → List Event → Type 0) (r : ReachedView T) (n : ℕ) (s : ProgramState) (t : T) → IsMet r n s t →
-    IsClosedFor stands r s t r.harts → IsClosedAt stands r n
-closed_at {T} stands r n s t met closed h u v c d other few stands_as asks =
-    closed h few c d (
-      stands_same r.parts u s c (same_harts r n u s v t other met) (same_memory r n u s v t other met) stands_as.0,
-      subst (λ (x : T). stands x (trace_in c.common)) (sym (same_standing r n u s v t other met)) stands_as.1,
-    ) asks
+pub closed_at : {T : Type 0} (stands : T → List Event → Type 0) (ends : Status → Type 0) (r : ReachedView T) (n : ℕ) (s : ProgramState) (t : T) → IsMet r n s t →
+    IsClosedFor stands r s t r.harts → PartsEndWell ends s.harts.items → IsClosedAt stands ends r n
+closed_at {T} stands ends r n s t met closed well = record {
+  covered = λ h u v c d other few stands_as asks.
+      closed h few c d (
+        stands_same r.parts u s c (same_harts r n u s v t other met) (same_memory r n u s v t other met) stands_as.0,
+        subst (λ (x : T). stands x (trace_in c.common)) (sym (same_standing r n u s v t other met)) stands_as.1,
+      ) asks;
+  ended = λ u v other. subst (λ (parts : List HartPart). PartsEndWell ends parts) (sym (same_harts r n s u t v met other)) well;
+}
 
 pub met_before : {T : Type 0} (old new : ReachedView T) (n : ℕ) (s : ProgramState) (t : T) → AreNumbered old → HaveGrown old new → n < length old.states →
     IsMet new n s t → IsMet old n s t
@@ -95,20 +99,25 @@ met_before old new n s t are grown there met =
           known.1 ∙ sym mine ∙ met.each h part here;
     }
 
-pub closed_still : {T : Type 0} (stands : T → List Event → Type 0) (old new : ReachedView T) (n : ℕ) → AreNumbered old → HaveGrown old new → WereBefore old.parts new.parts →
-    n < length old.states → IsClosedAt stands old n → IsClosedAt stands new n
-closed_still stands old new n are grown before there closed h s t c d met few stands_as asks =
-    let was : IsMet old n s t = met_before old new n s t are grown there met in
-    let lists : HasLists old.parts s = lists_of_met old n s t was (are.each n was.numbers was.found) in
-    let near : h < old.harts = omega (arith, few, grown.harts) in
-    covers_kept stands old new d grown (closed h s t c d was near (before s c lists stands_as.0, stands_as.1) asks)
+pub closed_still : {T : Type 0} (stands : T → List Event → Type 0) (ends : Status → Type 0) (old new : ReachedView T) (n : ℕ) → AreNumbered old → HaveGrown old new →
+    WereBefore old.parts new.parts → n < length old.states → IsClosedAt stands ends old n → IsClosedAt stands ends new n
+closed_still stands ends old new n are grown before there closed = record {
+  covered = λ h s t c d met few stands_as asks.
+      let was : IsMet old n s t = met_before old new n s t are grown there met in
+      let lists : HasLists old.parts s = lists_of_met old n s t was (are.each n was.numbers was.found) in
+      let near : h < old.harts = omega (arith, few, grown.harts) in
+      covers_kept stands old new d grown (closed.covered h s t c d was near (before s c lists stands_as.0, stands_as.1) asks);
+  ended = λ s t met. closed.ended s t (met_before old new n s t are grown there met);
+}
 
-pub closed_next : {T : Type 0} (stands : T → List Event → Type 0) (old new : ReachedView T) (count : ℕ) → IsClosedBelow stands old count → count < length old.states →
-    IsClosedAt stands new count → ((n : ℕ) → n < length old.states → IsClosedAt stands old n → IsClosedAt stands new n) → IsClosedBelow stands new (count + 1)
-closed_next stands old new count closed there here still n few = elim (cases_eq n count) [
-  | inl same ↦ subst (λ (k : ℕ). IsClosedAt stands new k) (sym same) here
+pub closed_next : {T : Type 0} (stands : T → List Event → Type 0) (ends : Status → Type 0) (old new : ReachedView T) (count : ℕ) → IsClosedBelow stands ends old count →
+    count < length old.states → IsClosedAt stands ends new count →
+    ((n : ℕ) → n < length old.states → IsClosedAt stands ends old n → IsClosedAt stands ends new n) → IsClosedBelow stands ends new (count + 1)
+closed_next stands ends old new count closed there here still n few = elim (cases_eq n count) [
+  | inl same ↦ subst (λ (k : ℕ). IsClosedAt stands ends new k) (sym same) here
   | inr other ↦ still n (omega (arith, few, there)) (closed n (omega (arith, few, other)))
 ]
 
-pub closed_all : {T : Type 0} (stands : T → List Event → Type 0) (r : ReachedView T) (count : ℕ) → IsClosedBelow stands r count → length r.states ≤ count → IsClosed stands r
-closed_all stands r count closed few n there = closed n (omega (arith, few, there))
+pub closed_all : {T : Type 0} (stands : T → List Event → Type 0) (ends : Status → Type 0) (r : ReachedView T) (count : ℕ) → IsClosedBelow stands ends r count →
+    length r.states ≤ count → IsClosed stands ends r
+closed_all stands ends r count closed few n there = closed n (omega (arith, few, there))

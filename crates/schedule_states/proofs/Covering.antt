@@ -1,6 +1,9 @@
 -- Closed states cover whatever a schedule leads to.
 use Rattle.std.proofs.Common.{◌≡◌, inl, inr, ℕ, ◌<◌, List, [], ◌∷◌, Some, length, slice_get, sym, ap, ◌∙◌, subst}
 use Rattle.std.proofs.lemmas.Option.{slice_get_within}
+use Rattle.bus.proofs.Places.{there_is}
+use Rattle.hart.specs.declared.state.HartState.{HartState}
+use Rattle.hart.specs.declared.state.Status.{Status}
 use Rattle.machine.specs.Run.{Config, RunsTo, StepsTo}
 use Rattle.machine.specs.Replies.{memory_in, trace_in}
 use Rattle.machine.specs.declared.schedule.items.Step.{Step}
@@ -8,17 +11,18 @@ use Rattle.store_trace.specs.History.{history}
 use Rattle.store_trace.specs.declared.event.Event.{Event}
 use Rattle.schedule_states.proofs.Answered.{text_grown}
 use Rattle.schedule_states.proofs.Putting.{memory_of_grown}
-use Rattle.schedule_states.proofs.Standing.{stands_or_asks}
-use Rattle.schedule_states.specs.Covering.{Covers, IsClosed, ReachedView}
+use Rattle.schedule_states.proofs.Standing.{stands_or_asks, stopped_itself}
+use Rattle.schedule_states.specs.Covering.{Covers, IsClosed, PartsEndWell, ReachedView}
+use Rattle.schedule_states.specs.Judging.{HaveEndedWell}
 use Rattle.schedule_states.specs.Memories.{IsMemoryOf}
 use Rattle.schedule_states.specs.StartLines.{StartView}
 use Rattle.schedule_states.specs.States.{AreGrown, IsHartOf, PartsView, StandsFor, text_for}
 use Rattle.schedule_states.specs.declared.program_state.HartPart.{HartPart}
 use Rattle.schedule_states.specs.declared.program_state.ProgramState.{ProgramState}
 
-covers_step : {T : Type 0} (stands : T → List Event → Type 0) (r : ReachedView T) (c d : Config) (step : Step) → IsClosed stands r → Covers stands r c →
-    StepsTo c step d → Covers stands r d
-covers_step stands r c d step closed covers steps = elim (stands_or_asks r.parts covers.state c d step covers.stands_as.0 steps) [
+covers_step : {T : Type 0} (stands : T → List Event → Type 0) (ends : Status → Type 0) (r : ReachedView T) (c d : Config) (step : Step) → IsClosed stands ends r →
+    Covers stands r c → StepsTo c step d → Covers stands r d
+covers_step stands ends r c d step closed covers steps = elim (stands_or_asks r.parts covers.state c d step covers.stands_as.0 steps) [
   | inl still ↦ record {
     state = covers.state;
     standing = covers.standing;
@@ -29,15 +33,25 @@ covers_step stands r c d step closed covers steps = elim (stands_or_asks r.parts
   | inr asks ↦
       let there : asks.0 < length c.harts = slice_get_within c.harts asks.0 asks.1.own asks.1.here in
       let few : asks.0 < r.harts = subst (λ (n : ℕ). asks.0 < n) (sym covers.stands_as.0.count ∙ covers.met.count) there in
-      closed covers.number (slice_get_within r.states covers.number covers.met.numbers covers.met.found) asks.0 covers.state covers.standing c d covers.met few
-      covers.stands_as asks.1
+      (closed covers.number (slice_get_within r.states covers.number covers.met.numbers covers.met.found)).covered asks.0 covers.state covers.standing c d
+      covers.met few covers.stands_as asks.1
 ]
 
-pub covers_run : {T : Type 0} (stands : T → List Event → Type 0) (r : ReachedView T) (c d : Config) (steps : List Step) → IsClosed stands r → Covers stands r c →
-    RunsTo c steps d → Covers stands r d
-covers_run stands r c d [] closed covers runs = subst (λ (e : Config). Covers stands r e) (sym runs) covers
-covers_run stands r c d (step ∷ steps) closed covers runs =
-    covers_run stands r runs.0 d steps closed (covers_step stands r c runs.0 step closed covers runs.1) runs.2
+pub covers_run : {T : Type 0} (stands : T → List Event → Type 0) (ends : Status → Type 0) (r : ReachedView T) (c d : Config) (steps : List Step) → IsClosed stands ends r →
+    Covers stands r c → RunsTo c steps d → Covers stands r d
+covers_run stands ends r c d [] closed covers runs = subst (λ (e : Config). Covers stands r e) (sym runs) covers
+covers_run stands ends r c d (step ∷ steps) closed covers runs =
+    covers_run stands ends r runs.0 d steps closed (covers_step stands ends r c runs.0 step closed covers runs.1) runs.2
+
+-- harts have stopped as they may where those of the state have
+pub ended_well : (ends : Status → Type 0) (parts : PartsView) (s : ProgramState) (c : Config) → StandsFor parts s c → PartsEndWell ends s.harts.items →
+    HaveEndedWell ends c.harts
+ended_well ends parts s c stands well h own here stopped =
+    let there : h < length s.harts.items = subst (λ (n : ℕ). h < n) (sym stands.count) (slice_get_within c.harts h own here) in
+    let mine : (part : HartPart) × (slice_get s.harts.items h ≡ Some part) = there_is s.harts.items h there in
+    let same : mine.0.state ≡ own = stopped_itself parts c.common h mine.0 own (stands.harts h mine.0 own mine.1 here) stopped in
+    subst (λ (t : HartState). ends t.status) same
+    (well h mine.0 mine.1 (λ running. stopped (sym (ap (λ (t : HartState). t.status) same) ∙ running)))
 
 -- a state stands for the same as the parts grow, and so does one with the same parts
 pub stands_grown : (old new : PartsView) (s : ProgramState) (c : Config) → AreGrown old new → StandsFor old s c → StandsFor new s c

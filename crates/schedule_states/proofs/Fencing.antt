@@ -1,6 +1,6 @@
 -- A clean of a line, and a fence of all.
 use Rattle.std.proofs.Common.{◌≡◌, ◌≢◌, ◌⊎◌, inl, inr, ℕ, zero, suc, ◌+◌, ◌-◌, ◌*◌, ◌/◌, ◌%◌, ◌<◌, ◌≤◌, ◌==◌, nat_le, true, false, List, [], ◌∷◌, ◌++◌, Option, Some, None, take, length, slice_get, slice_index_or, refl, sym, ap, ◌∙◌, subst, arith}
-use Rattle.std.specs.Prelude.{filter, map}
+use Rattle.std.specs.Prelude.{filter}
 use Rattle.std.proofs.lemmas.Bool.{cases_Bool, cases_eq, le-leb, lt-leb}
 use Rattle.std.proofs.lemmas.Bool.Decides.{nat_tests}
 use Rattle.std.proofs.lemmas.List.{take_all}
@@ -14,7 +14,7 @@ use Rattle.schedule_states.proofs.Showing.{line_held}
 use Rattle.schedule_states.proofs.Stepping.{line_cleaned, line_fenced, line_of}
 use Rattle.schedule_states.proofs.Writing.{elsewhere_clean, put_leaves, put_shows, shown_put, state_put}
 use Rattle.schedule_states.specs.HeldLines.{AreBelow, number_of}
-use Rattle.schedule_states.specs.LineStates.{IsLineState, gone_with, stays_after}
+use Rattle.schedule_states.specs.LineStates.{IsLineState, stays_after}
 use Rattle.schedule_states.specs.Memories.{AreLinesAfter, AreLinesSoFar, IsFencedAt, IsLineAfter, IsLineOf, IsMemoryOf, IsPut, IsStateOf, TableView, byte_in, memory_over, state_in, steps_of_clean}
 use Rattle.schedule_states.specs.Numbers.{AreKept}
 use Rattle.schedule_states.specs.StartLines.{StartView, memory_at}

@@ -1,12 +1,11 @@
 -- Lists of held lines from which one is taken, and into which one is put.
-use Rattle.std.proofs.Common.{◌≡◌, inl, inr, ℕ, zero, suc, ◌==◌, ◌<◌, ◌≤◌, Bool, true, false, not, nat_lt, cond, List, [], ◌∷◌, ◌++◌, Option, Some, None, take, drop, length, insert, arith, refl, ◌∙◌, sym, ap}
-use Rattle.std.specs.List.{AllByRecursion}
+use Rattle.std.proofs.Common.{◌≡◌, inl, inr, ℕ, ◌+◌, ◌==◌, ◌<◌, Bool, true, false, nat_le, nat_lt, cond, List, [], ◌∷◌, ◌++◌, Some, None, take, drop, insert, arith, refl, ◌∙◌}
 use Rattle.std.specs.Prelude.{filter}
 use Rattle.std.specs.Option.{option_or}
 use Rattle.std.proofs.lemmas.Bool.{cases_Bool}
 use Rattle.std.proofs.lemmas.Bool.Decides.{nat_tests}
 use Rattle.std.proofs.lemmas.List.{take-append-drop}
-use Rattle.schedule_states.specs.HeldLines.{AreBelow, is_apart, is_low, number_of}
+use Rattle.schedule_states.specs.HeldLines.{AreBelow, is_apart, is_low, number_of, on_medium}
 use Rattle.schedule_states.specs.declared.held_lines.HeldLine.{HeldLine}
 
 number_appended : (xs ys : List HeldLine) (l : ℕ) → number_of (xs ++ ys) l ≡ option_or (number_of xs l) (number_of ys l)
@@ -87,5 +86,17 @@ number_low (x ∷ xs) l h = elim (cases_Bool (x.line == l)) [
   | inr other ↦ elim (cases_Bool (nat_lt x.line 2048)) [
     | inl kept ↦ rw (kept, other) (number_low xs l h)
     | inr gone ↦ rw (gone, other) (number_low xs l h)
+  ]
+]
+
+pub number_on_medium : (xs : List HeldLine) (l : ℕ) → number_of (on_medium xs) (16777216 + l) ≡ number_of xs (16777216 + l)
+number_on_medium [] l = refl
+number_on_medium (x ∷ xs) l = elim (cases_Bool (x.line == 16777216 + l)) [
+  | inl mine ↦
+      let high : nat_le 16777216 x.line ≡ true = grind (arith, nat_tests, mine) in
+      rw (high, mine) refl
+  | inr other ↦ elim (cases_Bool (nat_le 16777216 x.line)) [
+    | inl kept ↦ rw (kept, other) (number_on_medium xs l)
+    | inr gone ↦ rw (gone, other) (number_on_medium xs l)
   ]
 ]

@@ -1,13 +1,13 @@
 -- The images of a state are media.
-use Rattle.std.proofs.Common.{◌≡◌, ◌⊎◌, inl, inr, ℕ, zero, suc, ◌+◌, ◌<◌, ◌≤◌, ◌==◌, Bool, true, false, cond, List, [], ◌∷◌, Option, Some, None, option_and_then, length, slice_get, slice_index_or, refl, sym, ap, ◌∙◌, subst, arith}
+use Rattle.std.proofs.Common.{◌≡◌, inl, inr, ℕ, zero, suc, ◌+◌, ◌<◌, ◌==◌, List, [], ◌∷◌, Option, Some, None, option_and_then, length, slice_get, slice_index_or, refl, ap, ◌∙◌, arith}
 use Rattle.std.proofs.lemmas.Bool.{cases_Bool, cases_lt}
 use Rattle.std.proofs.lemmas.List.{get_or_past}
 use Rattle.std.proofs.lemmas.Option.{same_Some}
-use Rattle.line_memory.specs.Lines.{AreLines, IsMedium, line_at}
+use Rattle.line_memory.specs.Lines.{IsMedium, line_at}
 use Rattle.schedule_states.specs.HeldLines.{number_of}
 use Rattle.schedule_states.specs.Images.{AreFair, IsFair, content_of, image_from, image_in, line_in}
 use Rattle.schedule_states.specs.LineStates.{unfenced}
-use Rattle.schedule_states.specs.Memories.{MemoryView, state_in}
+use Rattle.schedule_states.specs.Memories.{MemoryView}
 use Rattle.schedule_states.specs.declared.held_lines.HeldLine.{HeldLine}
 use Rattle.schedule_states.specs.declared.line_state.Content.{Content}
 use Rattle.schedule_states.specs.declared.line_state.LineState.{LineState}

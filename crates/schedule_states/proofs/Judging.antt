@@ -1,14 +1,14 @@
 -- Whatever a power cut leaves is an image of a state.
-use Rattle.std.proofs.Common.{◌≡◌, ◌⊎◌, inl, inr, ℕ, zero, suc, ◌+◌, ◌<◌, ◌≤◌, List, [], ◌∷◌, ◌++◌, Option, Some, None, length, slice_get, slice_index_or, refl, sym, ap, ◌∙◌, subst, arith}
+use Rattle.std.proofs.Common.{◌≡◌, ◌⊎◌, inl, inr, ℕ, suc, ◌+◌, ◌<◌, ◌≤◌, List, [], ◌∷◌, ◌++◌, Option, Some, None, option_and_then, length, slice_get, slice_index_or, refl, sym, ap, ◌∙◌, subst, arith}
 use Rattle.std.specs.Prelude.{get_or}
 use Rattle.std.specs.List.{Contains}
 use Rattle.std.proofs.lemmas.Bool.{cases_lt}
-use Rattle.std.proofs.lemmas.Option.{slice_get_within}
+use Rattle.std.proofs.lemmas.Option.{same_Some, slice_get_within}
+use Rattle.hart.specs.declared.state.Status.{Status}
 use Rattle.line_memory.specs.Lines.{line_at}
 use Rattle.line_memory.specs.Memory.{Memory}
 use Rattle.machine.specs.Replies.{memory_in, trace_in}
-use Rattle.machine.specs.Run.{Config, RunsTo, started}
-use Rattle.machine.specs.declared.schedule.items.Step.{Step}
+use Rattle.machine.specs.Run.{started}
 use Rattle.program.specs.Sections.{Sections}
 use Rattle.store_trace.proofs.Members.{contains_cases, no_members}
 use Rattle.store_trace.specs.Cut.{IsWithin}
@@ -16,16 +16,19 @@ use Rattle.store_trace.specs.History.{history}
 use Rattle.store_trace.specs.Image.{image, line_after, lines_after}
 use Rattle.store_trace.specs.declared.event.Event.{Event}
 use Rattle.store_trace.specs.declared.crash_model.step.PersistenceStep.{PersistenceStep}
-use Rattle.schedule_states.proofs.Covering.{covers_run}
+use Rattle.schedule_states.proofs.Covering.{covers_run, ended_well}
 use Rattle.schedule_states.proofs.Looking.{got_appended, got_kept, within_kept}
+use Rattle.schedule_states.proofs.Held.{number_on_medium}
+use Rattle.schedule_states.proofs.Media.{media_kept}
 use Rattle.schedule_states.proofs.Putting.{state_kept}
 use Rattle.schedule_states.specs.Contents.{MayHold}
 use Rattle.schedule_states.specs.Covering.{Covers, IsClosed, ReachedView}
-use Rattle.schedule_states.specs.Exploring.{IfAll, IsAll}
-use Rattle.schedule_states.specs.HeldLines.{AreBelow}
-use Rattle.schedule_states.specs.Images.{IsChoice, content_of, highest_in, image_from, image_in, line_in, others_of}
+use Rattle.schedule_states.specs.Exploring.{IfAll, IsAll, IsFound, LeadByHarts}
+use Rattle.schedule_states.specs.HeldLines.{AreBelow, on_medium}
+use Rattle.schedule_states.specs.Images.{content_of, highest_in, image_from, image_in, line_in, others_of}
 use Rattle.schedule_states.specs.Judging.{AlwaysGood, AreGoodBelow, AreGoodImages, AreGoodMoments, IsGoodMoment, IsGoodState, LeavesGood}
 use Rattle.schedule_states.specs.LineStates.{unfenced}
+use Rattle.schedule_states.specs.Media.{AreOnMedium, IsOnMedium, MediaView}
 use Rattle.schedule_states.specs.Memories.{IsLineOf, IsMemoryOf, MemoryView}
 use Rattle.schedule_states.specs.Numbers.{AreKept}
 use Rattle.schedule_states.specs.Reaching.{AreNumbered, AreThere, HaveGrown}
@@ -120,30 +123,51 @@ images_kept stands good old new held t grown below are events k kept choice =
     subst (λ (left : List (List ℕ)). good events left) (sym image_is)
     (are events k kept (λ l. subst (λ (s : Option LineState). k l ≤ length (others_of s)) (same l) (choice l)))
 
-moment_kept : {T : Type 0} (stands : T → List Event → Type 0) (good : List Event → List (List ℕ) → Type 0) (old new : ReachedView T) (memory standing : ℕ) → HaveGrown old new →
-    AreLists old.parts.table.states old.parts.lists → memory < length old.parts.lists → standing < length old.standings →
-    IsGoodMoment stands good old memory standing → IsGoodMoment stands good new memory standing
-moment_kept stands good old new memory standing grown lists there known is held t found kept =
-    let was : slice_get old.parts.lists memory ≡ Some held = got_kept old.parts.lists new.parts.lists memory held grown.parts.lists there found in
-    images_kept stands good old.parts new.parts held t grown.parts (lists.below memory held was)
+moment_kept : {T : Type 0} (stands : T → List Event → Type 0) (good : List Event → List (List ℕ) → Type 0) (old new : ReachedView T) (before after : List (List HeldLine))
+    (memory standing : ℕ) → HaveGrown old new → AreKept before after → ((n : ℕ) (held : List HeldLine) → slice_get before n ≡ Some held → AreBelow (length old.parts.table.states) held) →
+    memory < length before → standing < length old.standings → IsGoodMoment stands good old before memory standing → IsGoodMoment stands good new after memory standing
+moment_kept stands good old new before after memory standing grown more below there known is held t found kept =
+    let was : slice_get before memory ≡ Some held = got_kept before after memory held more there found in
+    images_kept stands good old.parts new.parts held t grown.parts (below memory held was)
     (is held t was (got_kept old.standings new.standings standing t grown.standings known kept))
 
-pub moments_kept : {T : Type 0} (stands : T → List Event → Type 0) (good : List Event → List (List ℕ) → Type 0) (old new : ReachedView T) (moments : List Moment) →
-    HaveGrown old new → AreLists old.parts.table.states old.parts.lists → AreGoodMoments stands good old moments → AreGoodMoments stands good new moments
-moments_kept stands good old new moments grown lists are n moment found =
-    let was : (moment.memory < length old.parts.lists) × (moment.standing < length old.standings) × IsGoodMoment stands good old moment.memory moment.standing =
-    are n moment found in (
-      within_kept old.parts.lists new.parts.lists moment.memory grown.parts.lists was.0,
-      within_kept old.standings new.standings moment.standing grown.standings was.1,
-      moment_kept stands good old new moment.memory moment.standing grown lists was.0 was.1 was.2,
-    )
+pub moments_kept : {T : Type 0} (stands : T → List Event → Type 0) (good : List Event → List (List ℕ) → Type 0) (old new : ReachedView T) (media : MediaView) (moments : List Moment) →
+    HaveGrown old new → AreGoodMoments stands good old media moments → AreGoodMoments stands good new media moments
+moments_kept stands good old new media moments grown are = record {
+  held = media_kept old.parts new.parts media grown.parts are.held;
+  each = λ n moment found.
+      let was : (moment.memory < length media.lists) × (moment.standing < length old.standings) × IsGoodMoment stands good old media.lists moment.memory moment.standing =
+      are.each n moment found in (
+        was.0,
+        within_kept old.standings new.standings moment.standing grown.standings was.1,
+        moment_kept stands good old new media.lists media.lists moment.memory moment.standing grown (λ n held found. found) are.held.below was.0 was.1 was.2,
+      );
+}
+
+-- the images of what is held of the medium are those of all that is held
+images_of_medium : {T : Type 0} (stands : T → List Event → Type 0) (good : List Event → List (List ℕ) → Type 0) (parts : PartsView) (held : List HeldLine) (t : T) →
+    AreGoodImages stands good (view_of parts (on_medium held)) t → AreGoodImages stands good (view_of parts held) t
+images_of_medium stands good parts held t are events k kept choice =
+    let same : (l : ℕ) → line_in (view_of parts held) l ≡ line_in (view_of parts (on_medium held)) l =
+    λ l. ap (λ (number : Option ℕ). option_and_then (slice_get parts.table.states) number) (sym (number_on_medium held l)) in
+    let image_is : image_in (view_of parts held) k ≡ image_in (view_of parts (on_medium held)) k =
+    same_images (view_of parts (on_medium held)) (view_of parts held) k 0 parts.table.start.medium same in
+    subst (λ (left : List (List ℕ)). good events left) (sym image_is)
+    (are events k kept (λ l. subst (λ (s : Option LineState). k l ≤ length (others_of s)) (same l) (choice l)))
+
+pub moment_of_medium : {T : Type 0} (stands : T → List Event → Type 0) (good : List Event → List (List ℕ) → Type 0) (r : ReachedView T) (lists : List (List HeldLine))
+    (memory number standing : ℕ) → IsOnMedium r.parts lists memory number → IsGoodMoment stands good r lists number standing → IsGoodMoment stands good r r.parts.lists memory standing
+moment_of_medium stands good r lists memory number standing on is held t found kept =
+    let same : on.held ≡ held = same_Some on.held held (sym on.found ∙ found) in
+    images_of_medium stands good r.parts held t
+    (is (on_medium held) t (subst (λ (one : List HeldLine). slice_get lists number ≡ Some (on_medium one)) same on.here) kept)
 
 state_still : {T : Type 0} (stands : T → List Event → Type 0) (good : List Event → List (List ℕ) → Type 0) (old new : ReachedView T) (n : ℕ) → HaveGrown old new →
     AreNumbered old → AreLists old.parts.table.states old.parts.lists → n < length old.states → IsGoodState stands good old n → IsGoodState stands good new n
 state_still stands good old new n grown numbered lists there is numbers found =
     let was : slice_get old.states n ≡ Some numbers = got_kept old.states new.states n numbers grown.states there found in
     let parts : AreThere old numbers = numbered.each n numbers was in
-    moment_kept stands good old new numbers.memory numbers.standing grown lists parts.memory parts.standing (is numbers was)
+    moment_kept stands good old new old.parts.lists new.parts.lists numbers.memory numbers.standing grown grown.parts.lists lists.below parts.memory parts.standing (is numbers was)
 
 pub good_next : {T : Type 0} (stands : T → List Event → Type 0) (good : List Event → List (List ℕ) → Type 0) (old new : ReachedView T) (count : ℕ) → HaveGrown old new →
     AreNumbered old → AreLists old.parts.table.states old.parts.lists → count < length old.states → AreGoodBelow stands good old count → IsGoodState stands good old count →
@@ -156,36 +180,62 @@ good_next stands good old new count grown numbered lists there below here n few 
 ]
 
 -- the moment of the state joins those that are good
-pub moments_more : {T : Type 0} (stands : T → List Event → Type 0) (good : List Event → List (List ℕ) → Type 0) (r : ReachedView T) (moments more : List Moment) (moment : Moment) →
-    (more ≡ moments) ⊎ (more ≡ moments ++ moment ∷ []) → AreGoodMoments stands good r moments → moment.memory < length r.parts.lists → moment.standing < length r.standings →
-    IsGoodMoment stands good r moment.memory moment.standing → AreGoodMoments stands good r more
-moments_more stands good r moments more moment appended are memory standing is n one found = elim (got_appended moments more moment appended n one found) [
-  | inl before ↦ are n one before
-  | inr same ↦ subst (λ (x : Moment). (x.memory < length r.parts.lists) × (x.standing < length r.standings) × IsGoodMoment stands good r x.memory x.standing)
-      (sym same) (memory, standing, is)
-]
+pub moments_more : {T : Type 0} (stands : T → List Event → Type 0) (good : List Event → List (List ℕ) → Type 0) (r : ReachedView T) (media : MediaView) (moments more : List Moment)
+    (moment : Moment) → (more ≡ moments) ⊎ (more ≡ moments ++ moment ∷ []) → AreGoodMoments stands good r media moments → moment.memory < length media.lists →
+    moment.standing < length r.standings → IsGoodMoment stands good r media.lists moment.memory moment.standing → AreGoodMoments stands good r media more
+moments_more stands good r media moments more moment appended are memory standing is = record {
+  held = are.held;
+  each = λ n one found. elim (got_appended moments more moment appended n one found) [
+    | inl before ↦ are.each n one before
+    | inr same ↦ subst (λ (x : Moment). (x.memory < length media.lists) × (x.standing < length r.standings) × IsGoodMoment stands good r media.lists x.memory x.standing)
+        (sym same) (memory, standing, is)
+  ];
+}
+
+-- moments stay good as further lists of lines of the medium are numbered
+pub moments_among : {T : Type 0} (stands : T → List Event → Type 0) (good : List Event → List (List ℕ) → Type 0) (r : ReachedView T) (media more : MediaView) (moments : List Moment) →
+    AreKept media.lists more.lists → AreOnMedium r.parts more → AreGoodMoments stands good r media moments → AreGoodMoments stands good r more moments
+moments_among stands good r media more moments kept on are = record {
+  held = on;
+  each = λ n moment found.
+      let was : (moment.memory < length media.lists) × (moment.standing < length r.standings) × IsGoodMoment stands good r media.lists moment.memory moment.standing =
+      are.each n moment found in
+      (within_kept media.lists more.lists moment.memory kept was.0, was.1, λ held t here. was.2 held t (got_kept media.lists more.lists moment.memory held kept was.0 here));
+}
 
 -- a moment that was judged before
-pub known_moment : {T : Type 0} (stands : T → List Event → Type 0) (good : List Event → List (List ℕ) → Type 0) (r : ReachedView T) (moments more : List Moment) (place : ℕ)
-    (moment : Moment) → AreKept moments more → place < length moments → slice_get more place ≡ Some moment → AreGoodMoments stands good r moments →
-    IsGoodMoment stands good r moment.memory moment.standing
-known_moment stands good r moments more place moment kept there found are = (are place moment (got_kept moments more place moment kept there found)).2
+pub known_moment : {T : Type 0} (stands : T → List Event → Type 0) (good : List Event → List (List ℕ) → Type 0) (r : ReachedView T) (media : MediaView) (moments more : List Moment)
+    (place : ℕ) (moment : Moment) → AreKept moments more → place < length moments → slice_get more place ≡ Some moment → AreGoodMoments stands good r media moments →
+    IsGoodMoment stands good r media.lists moment.memory moment.standing
+known_moment stands good r media moments more place moment kept there found are = (are.each place moment (got_kept moments more place moment kept there found)).2
 
 -- whatever a schedule leads to
-pub all_good : {T : Type 0} (stands : T → List Event → Type 0) (good : List Event → List (List ℕ) → Type 0) (r : ReachedView T) (program : Sections) (medium : List (List ℕ)) (harts : ℕ) →
-    r.parts.table.start.medium ≡ medium → Covers stands r (started program medium harts) → IsClosed stands r → AreGoodBelow stands good r (length r.states) →
-    AlwaysGood stands good program medium harts
-all_good stands good r program medium harts same start closed are steps end runs =
-    let covers : Covers stands r end = covers_run stands r (started program medium harts) end steps closed start runs in
+pub all_good : {T : Type 0} (stands : T → List Event → Type 0) (good : List Event → List (List ℕ) → Type 0) (ends : Status → Type 0) (r : ReachedView T) (program : Sections)
+    (medium : List (List ℕ)) (harts : ℕ) → r.parts.table.start.medium ≡ medium → Covers stands r (started program medium harts) → IsClosed stands ends r →
+    AreGoodBelow stands good r (length r.states) → AlwaysGood stands good ends program medium harts
+all_good stands good ends r program medium harts same start closed are steps end runs =
+    let covers : Covers stands r end = covers_run stands ends r (started program medium harts) end steps closed start runs in
     let numbers : StateNumbers = covers.met.numbers in
+    let within : covers.number < length r.states = slice_get_within r.states covers.number numbers covers.met.found in
     let held : List HeldLine = covers.stands_as.0.held in
     let found : slice_get r.parts.lists numbers.memory ≡ Some held = ap (λ (n : ℕ). slice_get r.parts.lists n) (sym covers.met.memory) ∙ covers.stands_as.0.found in
     let images : AreGoodImages stands good (view_of r.parts held) covers.standing =
-    are covers.number (slice_get_within r.states covers.number numbers covers.met.found) numbers covers.met.found held covers.standing found covers.met.standing in (
+    are covers.number within numbers covers.met.found held covers.standing found covers.met.standing in (
       (covers.standing, covers.stands_as.1),
       subst (λ (lines : List (List ℕ)). LeavesGood good lines (trace_in end.common)) same
           (leaves_good stands good (view_of r.parts held) (memory_in end.common) covers.standing (trace_in end.common) covers.stands_as.0.memory images covers.stands_as.1),
+      ended_well ends r.parts covers.state end covers.stands_as.0 ((closed covers.number within).ended covers.state covers.standing covers.met),
     )
 
+-- what is said where all states were judged, and where the search goes no further
 pub told_all : (explored : Explored) (claim : Type 0) → IsAll explored → claim → IfAll explored claim
 told_all explored claim all is = subst (λ (e : Explored). IfAll e claim) (sym all.2) is
+
+pub told_found : (explored : Explored) (claim : Type 0) (harts : ℕ) → IsFound harts explored → IfAll explored claim
+told_found explored claim harts found = subst (λ (e : Explored). IfAll e claim) (sym found.2) tt
+
+pub leads_all : (explored : Explored) (harts : ℕ) → IsAll explored → LeadByHarts harts explored
+leads_all explored harts all = subst (λ (e : Explored). LeadByHarts harts e) (sym all.2) tt
+
+pub leads_found : (explored : Explored) (harts : ℕ) → IsFound harts explored → LeadByHarts harts explored
+leads_found explored harts found = subst (λ (e : Explored). LeadByHarts harts e) (sym found.2) found.3

@@ -10,6 +10,7 @@ pub mod Judging
 pub mod Held
 pub mod Leaving
 pub mod Looking
+pub mod Media
 pub mod Numbering
 pub mod Putting
 pub mod Reaching

@@ -35,6 +35,13 @@ met_kept old new n s t grown met = record {
   each = λ h part here. grown.hart_parts (slice_index_or met.numbers.harts h 0) part (met.each h part here);
 }
 
+pub parts_kept : {T : Type 0} (old new : ReachedView T) (numbers : StateNumbers) (parts : List HartPart) → HaveGrown old new → ArePartsOf old numbers old.harts parts →
+    ArePartsOf new numbers new.harts parts
+parts_kept old new numbers parts grown are = record {
+  count_is = are.count_is ∙ sym grown.harts;
+  each = λ h part here. grown.hart_parts (slice_index_or numbers.harts h 0) part (are.each h part here);
+}
+
 pub parts_more : {T : Type 0} (r : ReachedView T) (numbers : StateNumbers) (count : ℕ) (parts : List HartPart) (part : HartPart) → ArePartsOf r numbers count parts →
     slice_get r.hart_parts (slice_index_or numbers.harts count 0) ≡ Some part → ArePartsOf r numbers (count + 1) (parts ++ part ∷ [])
 parts_more r numbers count parts part are here = record {

@@ -1,13 +1,11 @@
 -- Memory at the start, line by line.
-use Rattle.std.proofs.Common.{◌≡◌, ◌⊎◌, ℕ, ◌+◌, ◌-◌, ◌*◌, ◌/◌, ◌%◌, ◌<◌, ◌≤◌, List, [], None, length, slice_get, slice_index_or, inl, inr, refl, sym, ap, ◌∙◌, arith}
-use Rattle.std.proofs.lemmas.Bool.{cases_lt, le-ltb, lt-ltb}
+use Rattle.std.proofs.Common.{◌≡◌, ◌⊎◌, ℕ, ◌+◌, ◌*◌, ◌/◌, ◌%◌, ◌<◌, ◌≤◌, List, [], length, slice_get, inl, inr, refl, sym, ap, ◌∙◌, arith}
 use Rattle.std.proofs.lemmas.List.{get_or_past}
 use Rattle.line_memory.proofs.Accesses.{data_byte, no_byte, text_byte}
 use Rattle.line_memory.proofs.Flat.{flat_persistent, flat_ram}
 use Rattle.line_memory.specs.Lines.{line_at, line_bytes}
-use Rattle.line_memory.specs.Memory.{Memory}
 use Rattle.line_memory.specs.Places.{IsOutside}
-use Rattle.line_memory.specs.Regions.{RamView, flat, padded, ram_bytes}
+use Rattle.line_memory.specs.Regions.{RamView, padded, ram_bytes}
 use Rattle.line_memory.specs.declared.TheConstants.{DATA_BASE, DATA_SIZE, PERSISTENT_BASE, TEXT_BASE, TEXT_SIZE}
 use Rattle.schedule_states.specs.StartLines.{AreOf, LacksLine, ShowsLine, StartView, memory_at}
 

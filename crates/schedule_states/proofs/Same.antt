@@ -1,5 +1,5 @@
 -- Values that the code finds equal.
-use Rattle.std.proofs.Common.{◌≡◌, ◌&&◌, ◌==◌, Bool, true, false, List, bytes_eq, refl, ap, sym, ◌∙◌}
+use Rattle.std.proofs.Common.{◌≡◌, ◌&&◌, ◌==◌, Bool, true, false, bytes_eq, refl, ap}
 use Rattle.std.specs.Bool.{Decides}
 use lib.Pointwise.{pointwise}
 use mathlib.Core.Bool.{beq}

@@ -1,17 +1,16 @@
 -- What a request does to a state's memory.
-use Rattle.std.proofs.Common.{◌≡◌, ℕ, zero, suc, ◌-◌, ◌/◌, ◌%◌, nat_le, Bool, true, false, cond, List, [], ◌∷◌, ◌++◌, Option, Some, None, refl, sym, ap, ◌∙◌, inl, inr}
+use Rattle.std.proofs.Common.{◌≡◌, ℕ, ◌-◌, ◌/◌, ◌%◌, nat_le, Bool, true, false, cond, List, [], ◌∷◌, ◌++◌, Some, refl, ap, ◌∙◌}
 use Rattle.hart.specs.declared.need.Request.{Request}
 use Rattle.hart.specs.declared.need.Request.TheVariants.{Load, Store, Lr, Sc, Amo, Cbo, Fence, FenceI, Begin, End}
 use Rattle.hart.specs.declared.need.Reply.{Reply}
-use Rattle.hart.specs.declared.need.Reply.TheVariants.{Value, Done, Fault}
+use Rattle.hart.specs.declared.need.Reply.TheVariants.{Done}
 use Rattle.isa_table.specs.declared.instruction.CacheOp.{CacheOp}
 use Rattle.line_memory.specs.declared.TheConstants.{PERSISTENT_BASE}
 use Rattle.machine.specs.Histories.{Write as HistoryWrite, written}
-use Rattle.machine.specs.Replies.{events_of, events_of_write, if_persistent}
+use Rattle.machine.specs.Replies.{events_of, events_of_write}
 use Rattle.store_trace.specs.History.{history, steps_of}
 use Rattle.store_trace.specs.declared.event.Event.{Event}
 use Rattle.store_trace.specs.declared.event.Event.TheVariants as events
-use Rattle.store_trace.specs.declared.crash_model.step.PersistenceStep.TheVariants as step
 use Rattle.schedule_states.specs.Memories.{steps_of_clean, steps_of_write}
 use Rattle.schedule_states.specs.Requests.{write_of}
 use Rattle.schedule_states.specs.declared.request.Write.{Write}

@@ -1,13 +1,12 @@
 -- A line of a state's memory, and a load from it.
-use Rattle.std.proofs.Common.{◌≡◌, ◌≢◌, inl, inr, ℕ, ◌+◌, ◌*◌, ◌/◌, ◌%◌, ◌<◌, ◌≤◌, List, None, Some, length, slice_get, slice_index, refl, sym, ap, ◌∙◌, arith}
+use Rattle.std.proofs.Common.{◌≡◌, ◌≢◌, inl, inr, ℕ, ◌+◌, ◌*◌, ◌/◌, ◌%◌, ◌<◌, List, None, Some, length, refl, sym, ◌∙◌, arith}
 use Rattle.std.proofs.lemmas.Option.{slice_get-get_or}
 use Rattle.word_bits.specs.Bytes.{loaded}
 use Rattle.line_memory.proofs.Accesses.{fault_misaligned, fault_none, fault_outside, some_width}
 use Rattle.line_memory.proofs.Maps.{loaded_none, loaded_shown}
 use Rattle.line_memory.specs.Memory.{IsWidth, Memory, fault_of, loaded_from}
 use Rattle.line_memory.specs.declared.MemFault.TheVariants.{Misaligned, Outside}
-use Rattle.schedule_states.specs.HeldLines.{number_of}
-use Rattle.schedule_states.specs.Memories.{byte_in, memory_over, state_in}
+use Rattle.schedule_states.specs.Memories.{memory_over, state_in}
 use Rattle.schedule_states.specs.StartLines.{LacksLine, ShowsLine}
 use Rattle.schedule_states.specs.declared.held_lines.HeldLine.{HeldLine}
 use Rattle.schedule_states.specs.declared.line_state.LineState.{LineState}

@@ -1,5 +1,5 @@
 -- A state goes on standing for what a schedule leads to.
-use Rattle.std.proofs.Common.{◌≡◌, ◌⊎◌, inl, inr, ℕ, zero, suc, ◌≤◌, Option, Some, None, slice_get, slice_set, refl, sym, ap, ◌∙◌, subst}
+use Rattle.std.proofs.Common.{◌≡◌, ◌≢◌, ◌⊎◌, inl, inr, ℕ, zero, suc, ◌≤◌, Option, Some, None, slice_get, slice_set, refl, sym, ap, ◌∙◌, subst}
 use Rattle.std.proofs.lemmas.Bool.{cases_eq}
 use Rattle.std.proofs.lemmas.List.{length-set}
 use Rattle.std.proofs.lemmas.Option.{same_Some, slice_get_within}
@@ -156,3 +156,14 @@ not_moved text (suc n) s t request asks goes =
 pub asks_itself : (parts : PartsView) (common : SharedState) (h : ℕ) (part : HartPart) (own : HartState) (request : Request) → IsHartOf parts common h part own →
     Asks (text_for common h) own request → part.state ≡ own
 asks_itself parts common h part own request of asks = not_moved (text_for common h) of.ahead.0 own part.state request asks of.ahead.1
+
+stopped_not_moved : (text : Memory) (n : ℕ) (s t : HartState) → s.status ≢ Running → GoesAlone text n s t → t ≡ s
+stopped_not_moved text zero s t stopped goes = goes
+stopped_not_moved text (suc n) s t stopped goes =
+    let first : (f : HartState) × StepsAlone text s f × GoesAlone text n f t = first_alone text n s t goes in
+    absurd (stopped_stays text s first.0 stopped first.1)
+
+-- so does one that has stopped
+pub stopped_itself : (parts : PartsView) (common : SharedState) (h : ℕ) (part : HartPart) (own : HartState) → IsHartOf parts common h part own →
+    own.status ≢ Running → part.state ≡ own
+stopped_itself parts common h part own of stopped = stopped_not_moved (text_for common h) of.ahead.0 own part.state stopped of.ahead.1

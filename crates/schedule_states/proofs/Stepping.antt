@@ -1,5 +1,5 @@
 -- What a store, a clean and a fence make of a line without its past.
-use Rattle.std.proofs.Common.{◌≡◌, ◌≢◌, ◌⊎◌, inl, inr, ℕ, zero, suc, ◌+◌, ◌<◌, ◌≤◌, ◌==◌, nat_lt, length, Bool, true, false, not, List, [], ◌∷◌, ◌++◌, map, replicate, bytes_eq, arith, refl, ◌∙◌, sym, ap, subst, slice_index_or, slice_set}
+use Rattle.std.proofs.Common.{◌≡◌, ◌≢◌, ◌⊎◌, inl, inr, ℕ, ◌+◌, ◌<◌, ◌==◌, nat_lt, length, Bool, true, false, List, [], ◌∷◌, ◌++◌, map, bytes_eq, arith, refl, ◌∙◌, sym, ap, subst, slice_set}
 use Rattle.std.specs.Prelude.{◌↔◌, filter}
 use Rattle.std.specs.Bool.{Decides}
 use Rattle.std.specs.List.{Contains}
@@ -16,9 +16,9 @@ use Rattle.store_trace.proofs.Members.{contains_cases, contains_first, contains_
 use Rattle.store_trace.specs.Image.{line_after}
 use Rattle.store_trace.specs.Stores.{stores}
 use Rattle.store_trace.specs.declared.crash_model.step.PersistenceStep.{PersistenceStep}
-use Rattle.store_trace.specs.declared.crash_model.step.PersistenceStep.TheVariants.{Store, Clean, Fence, Evict}
+use Rattle.store_trace.specs.declared.crash_model.step.PersistenceStep.TheVariants.{Store, Clean, Fence}
 use Rattle.schedule_states.proofs.Leaving.{clean_adds, clean_elsewhere, clean_leaves, fence_cuts, fence_takes, nothing_stored, nothing_stored_fenced, store_adds, store_adds_fenced}
-use Rattle.schedule_states.specs.Contents.{MayHold, MayHoldFenced}
+use Rattle.schedule_states.specs.Contents.{MayHoldFenced}
 use Rattle.schedule_states.specs.LineStates.{Has, IsKept, IsLine, IsLineState, differs_from, each, gone_with, stays_after, unfenced}
 use Rattle.schedule_states.specs.declared.line_state.Content.{Content}
 use Rattle.schedule_states.specs.declared.line_state.LineState.{LineState}

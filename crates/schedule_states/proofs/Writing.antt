@@ -1,7 +1,7 @@
 -- A write to a line that is held, or comes to be.
-use Rattle.std.proofs.Common.{◌≡◌, ◌≢◌, ◌⊎◌, inl, inr, ℕ, ◌+◌, ◌-◌, ◌*◌, ◌/◌, ◌%◌, ◌<◌, ◌≤◌, ◌==◌, nat_le, true, false, cond, List, [], ◌∷◌, ◌++◌, Option, Some, None, length, slice_get, refl, sym, ap, ◌∙◌, subst, arith}
-use Rattle.std.specs.Prelude.{◌↔◌, IfNone, IsSome, filter, option_and_then}
-use Rattle.std.proofs.lemmas.Bool.{cases_Bool, cases_eq, cases_lt, le-leb, lt-leb}
+use Rattle.std.proofs.Common.{◌≡◌, ◌≢◌, inl, inr, ℕ, ◌+◌, ◌-◌, ◌*◌, ◌/◌, ◌%◌, ◌<◌, ◌≤◌, nat_le, true, false, List, [], ◌∷◌, ◌++◌, Option, Some, None, length, slice_get, refl, sym, ap, ◌∙◌, subst, arith}
+use Rattle.std.specs.Prelude.{IfNone, IsSome}
+use Rattle.std.proofs.lemmas.Bool.{cases_eq, cases_lt, le-leb, lt-leb}
 use Rattle.std.proofs.lemmas.Bool.Decides.{nat_tests}
 use Rattle.word_bits.specs.Bytes.{stored}
 use Rattle.line_memory.proofs.Accesses.{cases_store, fault_misaligned, some_width, stored_to_above, stored_to_below, stored_to_in}
@@ -13,12 +13,11 @@ use Rattle.line_memory.specs.declared.TheConstants.{PERSISTENT_BASE}
 use Rattle.store_trace.specs.Image.{line_after}
 use Rattle.store_trace.specs.Stores.{stores}
 use Rattle.store_trace.specs.declared.crash_model.step.PersistenceStep.{PersistenceStep}
-use Rattle.store_trace.specs.declared.crash_model.step.PersistenceStep.TheVariants.{Store, Clean, Fence, Evict}
+use Rattle.store_trace.specs.declared.crash_model.step.PersistenceStep.TheVariants.{Store, Clean}
 use Rattle.schedule_states.proofs.Leaving.{clean_adds, clean_elsewhere, store_elsewhere, store_elsewhere_fenced}
 use Rattle.schedule_states.proofs.Showing.{line_held, line_not_held, loads_none, within_line}
-use Rattle.schedule_states.specs.HeldLines.{AreBelow, number_of}
 use Rattle.schedule_states.specs.LineStates.{IsLine, IsLineState}
-use Rattle.schedule_states.specs.Memories.{AreSame, IsAsAtStart, IsLineOf, IsMemoryOf, IsPut, IsStateNow, IsStateOf, TableView, byte_in, memory_over, state_in, steps_of_write}
+use Rattle.schedule_states.specs.Memories.{AreSame, IsLineOf, IsMemoryOf, IsPut, IsStateNow, IsStateOf, TableView, byte_in, memory_over, state_in, steps_of_write}
 use Rattle.schedule_states.specs.StartLines.{LacksLine, ShowsLine, StartView, memory_at}
 use Rattle.schedule_states.specs.declared.line_state.Content.{Content}
 use Rattle.schedule_states.specs.declared.held_lines.HeldLine.{HeldLine}

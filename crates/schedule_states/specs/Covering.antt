@@ -1,5 +1,7 @@
 -- States that stand for all that schedules lead to.
-use Rattle.std.specs.Prelude.{◌≡◌, ◌<◌, ℕ, List, Some, length, slice_get, slice_index_or}
+use Rattle.std.specs.Prelude.{◌≡◌, ◌≢◌, ◌<◌, ℕ, List, Some, length, slice_get, slice_index_or}
+use Rattle.hart.specs.declared.state.Status.{Status}
+use Rattle.hart.specs.declared.state.Status.TheVariants.{Running}
 use Rattle.machine.specs.Replies.{trace_in}
 use Rattle.machine.specs.Run.{Config}
 use Rattle.store_trace.specs.declared.event.Event.{Event}
@@ -38,15 +40,20 @@ pub record Covers {T : Type 0} (stands : T → List Event → Type 0) (r : Reach
   pub met : IsMet r number state standing
   pub stands_as : StandsAs stands r.parts state standing c
 
--- what a request of one of its harts leads to from a state is covered
-abbrev pub IsClosedAt : {T : Type 0} → (T → List Event → Type 0) → ReachedView T → ℕ → Type 0
-IsClosedAt stands r number = (h : ℕ) (s : ProgramState) (t : _) (c d : Config) → IsMet r number s t → h < r.harts → StandsAs stands r.parts s t c →
-    AsksTo c h d → Covers stands r d
+-- each of these harts that has stopped may stop as it did
+abbrev pub PartsEndWell : (Status → Type 0) → List HartPart → Type 0
+PartsEndWell ends parts = (h : ℕ) (part : HartPart) → slice_get parts h ≡ Some part → part.state.status ≢ Running → ends part.state.status
+
+-- what a request of one of its harts leads to from a state is covered, and its harts that have stopped have done so as they may
+pub record IsClosedAt {T : Type 0} (stands : T → List Event → Type 0) (ends : Status → Type 0) (r : ReachedView T) (number : ℕ) : Type 0 where
+  pub covered : (h : ℕ) (s : ProgramState) (t : T) (c d : Config) → IsMet r number s t → h < r.harts → StandsAs stands r.parts s t c → AsksTo c h d →
+      Covers stands r d
+  pub ended : (s : ProgramState) (t : T) → IsMet r number s t → PartsEndWell ends s.harts.items
 
 -- so from each of the first states
-abbrev pub IsClosedBelow : {T : Type 0} → (T → List Event → Type 0) → ReachedView T → ℕ → Type 0
-IsClosedBelow stands r count = (number : ℕ) → number < count → IsClosedAt stands r number
+abbrev pub IsClosedBelow : {T : Type 0} → (T → List Event → Type 0) → (Status → Type 0) → ReachedView T → ℕ → Type 0
+IsClosedBelow stands ends r count = (number : ℕ) → number < count → IsClosedAt stands ends r number
 
 -- so from each state
-abbrev pub IsClosed : {T : Type 0} → (T → List Event → Type 0) → ReachedView T → Type 0
-IsClosed stands r = IsClosedBelow stands r (length r.states)
+abbrev pub IsClosed : {T : Type 0} → (T → List Event → Type 0) → (Status → Type 0) → ReachedView T → Type 0
+IsClosed stands ends r = IsClosedBelow stands ends r (length r.states)

@@ -1,16 +1,27 @@
 -- What is known of the states of a program.
 use Rattle.std.specs.Prelude.{◌≡◌, ℕ}
+use Rattle.std.specs.Global.{Vec}
+use Rattle.schedule_states.specs.Leads.{AreOfHarts}
 use Rattle.schedule_states.specs.declared.exploring.Explored.{Explored}
 use Rattle.schedule_states.specs.declared.exploring.Explored.TheVariants as known
+use Rattle.schedule_states.specs.declared.reached.Stop.{Stop}
 
 -- the claim holds where all states were judged, and are good
 abbrev pub IfAll : Explored → Type 0 → Type 0
 IfAll (known.All states moments) claim = claim
-IfAll (known.Bad number) claim = Unit {0}
-IfAll (known.Stopped number stop) claim = Unit {0}
-IfAll known.TooLong claim = Unit {0}
+IfAll (known.Found stop requests) claim = Unit {0}
 IfAll known.TooMany claim = Unit {0}
 
 -- all states were judged, and are good
 abbrev pub IsAll : Explored → Type 0
 IsAll explored = (states : ℕ) × (moments : ℕ) × (explored ≡ known.All states moments)
+
+-- the requests that lead to the state from which the search goes no further, if it found one, are of so many harts
+abbrev pub LeadByHarts : ℕ → Explored → Type 0
+LeadByHarts harts (known.All states moments) = Unit {0}
+LeadByHarts harts (known.Found stop requests) = AreOfHarts harts requests.items
+LeadByHarts harts known.TooMany = Unit {0}
+
+-- the search goes no further from a state to which such requests lead
+abbrev pub IsFound : ℕ → Explored → Type 0
+IsFound harts explored = (stop : Stop) × (requests : Vec ℕ) × (explored ≡ known.Found stop requests) × AreOfHarts harts requests.items

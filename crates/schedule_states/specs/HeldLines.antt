@@ -1,5 +1,5 @@
 -- The lines of the address space that aren't as they were at the start, each with the number of its state.
-use Rattle.std.specs.Prelude.{ℕ, ◌==◌, ◌<◌, not, nat_lt, Bool, List, [], ◌∷◌, Option, Some, None, if◌then◌else◌}
+use Rattle.std.specs.Prelude.{ℕ, ◌==◌, ◌<◌, not, nat_le, nat_lt, Bool, List, [], ◌∷◌, Option, Some, None, filter, if◌then◌else◌}
 use Rattle.std.specs.List.{AllByRecursion}
 use Rattle.schedule_states.specs.declared.held_lines.HeldLine.{HeldLine}
 
@@ -15,6 +15,14 @@ is_apart l h = not (h.line == l)
 -- it is of a line below the end of the text region
 abbrev pub is_low : HeldLine → Bool
 is_low h = nat_lt h.line 2048
+
+-- it is of a line of the medium
+abbrev pub is_of_medium : HeldLine → Bool
+is_of_medium h = nat_le 16777216 h.line
+
+-- those that are of lines of the medium
+abbrev pub on_medium : List HeldLine → List HeldLine
+on_medium held = filter is_of_medium held
 
 -- each number is below this one
 abbrev pub AreBelow : ℕ → List HeldLine → Type 0

@@ -5,8 +5,10 @@ pub mod Exploring
 pub mod HeldLines
 pub mod Images
 pub mod Judging
+pub mod Leads
 pub mod LineStates
 pub mod Marks
+pub mod Media
 pub mod Memories
 pub mod Numbers
 pub mod Reaching
@@ -14,3 +16,4 @@ pub mod Requests
 pub mod StartLines
 pub mod States
 pub mod Successors
+pub mod Watching

@@ -2,7 +2,7 @@
 use Rattle.std.specs.Prelude.{◌≡◌, ◌<◌, ◌≤◌, ℕ, List, [], Option, Some, length, slice_get, slice_index_or}
 use Rattle.machine.specs.Run.{Config}
 use Rattle.store_trace.specs.declared.event.Event.{Event}
-use Rattle.schedule_states.specs.Covering.{Covers, IsMet, ReachedView, StandsAs}
+use Rattle.schedule_states.specs.Covering.{Covers, ReachedView, StandsAs}
 use Rattle.schedule_states.specs.Marks.{IsMarkedBy}
 use Rattle.schedule_states.specs.Numbers.{AreKept}
 use Rattle.schedule_states.specs.States.{AreGrown, AsksTo, PartsView, StandsFor}

@@ -1,6 +1,6 @@
 -- When a state stands for what a schedule leads to.
 -- Source: this project's own; a hart's register steps touch its own state alone, so that it may be ahead of the schedule by some.
-use Rattle.std.specs.Prelude.{◌≡◌, ◌≢◌, ◌⊎◌, ℕ, ◌≤◌, List, [], Option, Some, length, slice_get}
+use Rattle.std.specs.Prelude.{◌≡◌, ◌≢◌, ◌⊎◌, ℕ, ◌≤◌, List, [], Some, length, slice_get}
 use Rattle.bus.specs.Alone.{Asks, IsAsking}
 use Rattle.hart.specs.Needs.{IsSpelledBy}
 use Rattle.hart.specs.declared.need.Request.{Request}

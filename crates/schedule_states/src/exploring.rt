@@ -3,22 +3,24 @@
 ghost use Rattle.std.specs.Prelude.{◌≡◌, ◌≤◌, [], length, IfOk};
 ghost use Rattle.machine.specs.Run.{started};
 ghost use Rattle.schedule_states.specs.Covering.{Covers};
-ghost use Rattle.schedule_states.specs.Exploring.{IfAll, IsAll};
+ghost use Rattle.schedule_states.specs.Exploring.{IfAll, IsAll, IsFound, LeadByHarts};
 ghost use Rattle.schedule_states.specs.Judging.{AlwaysGood};
-ghost use Rattle.schedule_states.specs.Reaching.{IsFirst};
+ghost use Rattle.schedule_states.specs.Watching.{HasHeard};
 
-use crate::moments::{Judged, Moment, is_good};
+use crate::medium_lists::MediumLists;
+use crate::moments::{Judged, Moment, judge_state};
 use crate::numbers::Numbers;
 use crate::parts::Parts;
-use crate::reached::{Reached, Stop, first_standing};
+use crate::reached::{Reached, Stop};
 use crate::state_judge::StateJudge;
+use crate::watcher::Watcher;
 use line_memory::Medium;
 use program::Program;
 use std::alloc::{AllocError, Global};
 use std::thread::Threads;
 
 /// What is known of the states of a program.
-#[derive(Clone, Copy, Debug, PartialEq, Eq)]
+#[derive(Debug, PartialEq, Eq, Drop)]
 pub enum Explored {
     /// All that any schedule leads to are good.
     All {
@@ -26,12 +28,13 @@ pub enum Explored {
         /// How many of them differ in what a power cut may leave, or in what is kept of the operations.
         moments: usize,
     },
-    /// The state of this number isn't good.
-    Bad(u32),
-    /// From the state of this number the search goes no further.
-    Stopped(u32, Stop),
-    /// A hart makes too many steps up to its first request.
-    TooLong,
+    /// The search goes no further from a state.
+    Found {
+        /// Why.
+        stop: Stop,
+        /// The harts whose requests lead to the state, in order.
+        requests: Vec<u32>,
+    },
     /// There are more states than were asked for.
     TooMany,
 }
@@ -46,95 +49,100 @@ pub struct Start<'a> {
 }
 
 /// Judges all states to which schedules lead, if they aren't more than so many, those first that fewer requests lead to, if need be by
-/// further threads.
-pub fn explore<T: Threads + Sync, J: StateJudge>(
+/// further threads. The watcher hears of each state before it is judged.
+pub fn explore<T: Threads + Sync, J: StateJudge, W: Watcher>(
     rt: &T,
     alloc: Global,
     judge: &J,
     start: Start<'_>,
     most: u32,
+    watcher: &mut W,
 ) -> Result<Explored, AllocError>
-    ensures { IfOk result (λ explored. IfAll explored (AlwaysGood (J.stands judge.now) (J.good judge.now)
+    ensures good { IfOk result (λ explored. IfAll explored (AlwaysGood (J.stands judge.now) (J.good judge.now) (J.ends judge.now)
         start.entry.program.now start.entry.medium.now start.entry.harts)) }
+    ensures requests { IfOk result (LeadByHarts start.entry.harts) }
+    ensures told { HasHeard W.hears watcher.old watcher.new }
 {
     let parts = Parts::new(alloc, start.program, start.medium)?;
-    explore_by(rt, alloc, judge, parts, start.harts, most)
+    let mut reached = Reached::with_none(alloc, parts, start.harts, most);
+    explore_from(rt, alloc, judge, &mut reached, watcher)
 }
 
-/// Judges all states, of which there are no parts yet.
-fn explore_by<T: Threads + Sync, J: StateJudge>(
-    rt: &T,
-    alloc: Global,
-    judge: &J,
-    parts: Parts<'_>,
-    harts: u32,
-    most: u32,
-) -> Result<Explored, AllocError>
-    requires { harts ≤ 8 }
-    ensures { IfOk result (λ explored. IfAll explored (AlwaysGood (J.stands judge.now) (J.good judge.now) parts.entry.table.start.program parts.entry.table.start.medium harts)) }
-{
-    let (standings, standing) = first_standing(alloc, judge)?;
-    let mut reached = Reached::with_none(alloc, parts, standings, harts);
-    explore_from(rt, alloc, judge, &mut reached, standing, most)
-}
-
-/// Judges all states, of which none is reached yet, and this is kept at the start.
-fn explore_from<T: Threads + Sync, J: StateJudge>(
+/// Judges all states, of which none is reached yet.
+fn explore_from<T: Threads + Sync, J: StateJudge, W: Watcher>(
     rt: &T,
     alloc: Global,
     judge: &J,
     reached: &mut Reached<'_, J>,
-    standing: u32,
-    most: u32,
+    watcher: &mut W,
 ) -> Result<Explored, AllocError>
     requires none { reached.old.states ≡ [] }
-    requires first { IsFirst (J.stands judge.now) reached.old.standings standing }
-    ensures { IfOk result (λ explored. IfAll explored (AlwaysGood (J.stands judge.now) (J.good judge.now)
+    ensures good { IfOk result (λ explored. IfAll explored (AlwaysGood (J.stands judge.now) (J.good judge.now) (J.ends judge.now)
         reached.old.parts.table.start.program reached.old.parts.table.start.medium reached.old.harts)) }
+    ensures requests { IfOk result (LeadByHarts reached.old.harts) }
+    ensures told { HasHeard W.hears watcher.old watcher.new }
 {
-    if !reached.meet_start(alloc, judge, standing)? {
-        return Ok(Explored::TooLong);
+    if let Some(stop) = reached.meet_start(alloc, judge)? {
+        return Ok(Explored::Found {
+            stop,
+            requests: Vec::new(alloc),
+        });
     }
     let mut judged = Judged {
         workspace: judge.workspace(alloc, reached.lines())?,
+        media: MediumLists::new(alloc),
         moments: Numbers::new(alloc),
     };
-    search(rt, alloc, judge, reached, &mut judged, most)
+    search(rt, alloc, judge, reached, &mut judged, watcher)
 }
 
 /// Judges the states that are reached, and goes on from them.
-fn search<T: Threads + Sync, J: StateJudge>(
+fn search<T: Threads + Sync, J: StateJudge, W: Watcher>(
     rt: &T,
     alloc: Global,
     judge: &J,
     reached: &mut Reached<'_, J>,
     judged: &mut Judged<J>,
-    most: u32,
+    watcher: &mut W,
 ) -> Result<Explored, AllocError>
     requires start { Covers (J.stands judge.now) reached.old (started reached.old.parts.table.start.program reached.old.parts.table.start.medium reached.old.harts) }
     requires fits { J.fits judge.now (length reached.old.parts.table.start.medium) judged.old.workspace }
     requires none { judged.old.moments ≡ [] }
-    ensures { IfOk result (λ explored. IfAll explored (AlwaysGood (J.stands judge.now) (J.good judge.now)
+    requires empty { judged.old.media ≡ record { lists = []; numbers = [] } }
+    ensures good { IfOk result (λ explored. IfAll explored (AlwaysGood (J.stands judge.now) (J.good judge.now) (J.ends judge.now)
         reached.old.parts.table.start.program reached.old.parts.table.start.medium reached.old.harts)) }
+    ensures requests { IfOk result (LeadByHarts reached.old.harts) }
+    ensures told { HasHeard W.hears watcher.old watcher.new }
 {
+    let most = reached.most();
     for number in 0..most {
-        if reached.count() > most as usize {
+        let met = reached.count();
+        if met > most as usize {
             return Ok(Explored::TooMany);
         }
-        if number as usize >= reached.count() {
+        if number as usize >= met {
             return Ok(all_of(reached, &judged.moments));
         }
-        if !is_good(rt, alloc, judge, reached, judged, number)? {
-            return Ok(Explored::Bad(number));
+        tell(watcher, met, number);
+        if let Some(stop) = judge_state(rt, alloc, judge, reached, judged, number)? {
+            return found(alloc, reached, number, stop);
         }
         if let Some(stop) = reached.go_on_all(alloc, judge, number)? {
-            return Ok(Explored::Stopped(number, stop));
+            return found(alloc, reached, number, stop);
         }
     }
     if reached.count() > most as usize {
         return Ok(Explored::TooMany);
     }
     Ok(all_of(reached, &judged.moments))
+}
+
+/// Tells a watcher that so many states were met, of which those from this number on wait.
+fn tell<W: Watcher>(watcher: &mut W, met: usize, number: u32)
+    requires { number ≤ met }
+    ensures { (first : W) → HasHeard W.hears first watcher.old → HasHeard W.hears first watcher.new }
+{
+    watcher.hear(met, met - number as usize);
 }
 
 /// So many states and moments were judged.
@@ -145,4 +153,17 @@ fn all_of<J: StateJudge>(reached: &Reached<'_, J>, moments: &Numbers<Moment>) ->
         states: reached.count(),
         moments: moments.as_slice().len(),
     }
+}
+
+/// The search goes no further from the state of a number.
+fn found<J: StateJudge>(
+    alloc: Global,
+    reached: &Reached<'_, J>,
+    number: u32,
+    stop: Stop,
+) -> Result<Explored, AllocError>
+    ensures { IfOk result (IsFound reached.now.harts) }
+{
+    let requests = reached.requests_to(alloc, number)?;
+    Ok(Explored::Found { stop, requests })
 }

@@ -1,8 +1,9 @@
 //! Which lines of the address space aren't as they were at the start. A line of the address space is an address divided by 64.
 
 ghost use Rattle.std.specs.Prelude.{◌≡◌, ◌==◌, ◌^◌, ◌<◌, ◌≤◌, ◌∷◌, ℕ, None, Some, filter, insert, length, IfOk, IfSome, if◌then◌else◌};
-ghost use Rattle.schedule_states.specs.HeldLines.{AreBelow, is_apart, number_of};
+ghost use Rattle.schedule_states.specs.HeldLines.{AreBelow, is_apart, is_of_medium, number_of, on_medium};
 
+use crate::start_lines::PERSISTENT_LINE;
 use std::alloc::{AllocError, Global};
 
 /// A line that isn't as it was at the start, and the number of its state. A list of them goes up by lines.
@@ -57,6 +58,21 @@ fn retain_apart(lines: &mut Vec<HeldLine>, line: u32)
     ensures { lines.new.items ≡ filter (is_apart line) lines.old.items }
 {
     lines.retain(|one| one.line != line);
+}
+
+/// Those of the lines that are the medium's.
+pub fn medium_lines(alloc: Global, held: &[HeldLine]) -> Result<Vec<HeldLine>, AllocError>
+    ensures { IfOk result (λ lines. lines.items ≡ on_medium held.now) }
+{
+    let mut lines = Vec::from_slice(alloc, held)?;
+    retain_of_medium(&mut lines);
+    Ok(lines)
+}
+
+fn retain_of_medium(lines: &mut Vec<HeldLine>)
+    ensures { lines.new.items ≡ filter is_of_medium lines.old.items }
+{
+    lines.retain(|one| u64::from(one.line) >= PERSISTENT_LINE);
 }
 
 /// How many lines at the front lie below this one.

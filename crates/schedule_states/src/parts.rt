@@ -90,23 +90,27 @@ impl<'a> Parts<'a> {
         self.lines.medium().lines()
     }
 
-    /// The state at the start of a run of one to eight harts; None where one of them makes too many steps up to its first request.
-    pub fn start(&self, alloc: Global, harts: u32) -> Result<Option<ProgramState>, AllocError>
+    /// The state at the start of a run of one to eight harts, unless one of them makes too many steps up to its first request.
+    pub fn start(
+        &self,
+        alloc: Global,
+        harts: u32,
+    ) -> Result<Result<ProgramState, SlowHart>, AllocError>
         requires { harts ≤ 8 }
-        ensures stands { IfOk result (λ found. IfSome found (λ state.
+        ensures stands { IfOk result (λ found. IfOk found (λ state.
             StandsFor self.now state (started self.now.table.start.program self.now.table.start.medium harts))) }
-        ensures lists { IfOk result (λ found. IfSome found (HasLists self.now)) }
-        ensures count { IfOk result (λ found. IfSome found (λ state. length state.harts.items ≡ harts)) }
+        ensures lists { IfOk result (λ found. IfOk found (HasLists self.now)) }
+        ensures count { IfOk result (λ found. IfOk found (λ state. length state.harts.items ≡ harts)) }
     {
         let memory = self.first();
         let mut parts = Vec::with_capacity(alloc, harts as usize)?;
         for hart in 0..harts {
             let Some(part) = self.start_part(hart) else {
-                return Ok(None);
+                return Ok(Err(SlowHart { hart }));
             };
             parts.push(part)?;
         }
-        Ok(Some(ProgramState {
+        Ok(Ok(ProgramState {
             harts: parts,
             memory,
         }))
@@ -306,11 +310,28 @@ impl<'a> Parts<'a> {
     }
 
     /// The memory of the list of a number.
-    pub fn memory(&self, number: u32) -> StateMemory<'_, 'a>
+    fn memory(&self, number: u32) -> StateMemory<'_, 'a>
         requires { number < length self.now.lists }
         ensures { result ≡ record { start = self.now.table.start; states = self.now.table.states; held = slice_index_or self.now.lists number [] } }
     {
-        self.lines.memory(self.lists.list(number))
+        self.lines.memory(self.held(number))
+    }
+
+    /// The memory that holds these lines.
+    pub fn memory_of<'b>(&'b self, held: &'b [HeldLine]) -> StateMemory<'b, 'a>
+        requires { AreBelow (length self.now.table.states) held.now }
+        ensures { result ≡ record { start = self.now.table.start; states = self.now.table.states; held = held.now } }
+    {
+        self.lines.memory(held)
+    }
+
+    /// The list of a number.
+    pub fn held(&self, number: u32) -> &[HeldLine]
+        requires { number < length self.now.lists }
+        ensures found { slice_get self.now.lists number ≡ Some result.now }
+        ensures below { AreBelow (length self.now.table.states) result.now }
+    {
+        self.lists.list(number)
     }
 
     /// The instruction that the word at `pc` spells at the start, or the trap where there is none.
@@ -337,6 +358,12 @@ impl<'a> Parts<'a> {
         let fourth = u32::from(memory.byte(pc + 3)?);
         Some(first + 256 * (second + 256 * (third + 256 * fourth)))
     }
+}
+
+/// This hart makes too many steps up to its first request.
+#[derive(Clone, Copy, Debug, PartialEq, Eq)]
+pub struct SlowHart {
+    pub hart: u32,
 }
 
 /// A hart of a state at its next request.

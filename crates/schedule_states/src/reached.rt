@@ -1,22 +1,27 @@
 //! States that schedules lead to.
 
-ghost use Rattle.std.specs.Prelude.{◌≡◌, ◌<◌, ◌≤◌, ℕ, [], true, length, slice_get, None, Some, IfOk, IfSome};
+ghost use Rattle.std.specs.Prelude.{◌≡◌, ◌≢◌, ◌<◌, ◌≤◌, ℕ, [], true, length, slice_get, None, Some, IfNone, IfOk, IfSome};
+ghost use Rattle.hart.specs.declared.state.Status.TheVariants.{Running};
 ghost use Rattle.machine.specs.Run.{started};
-ghost use Rattle.schedule_states.specs.Covering.{Covers, IsClosedAt, IsMet};
+ghost use Rattle.schedule_states.specs.Covering.{Covers, IsClosedAt, IsMet, PartsEndWell};
 ghost use Rattle.schedule_states.specs.Numbers.{AreKept};
 ghost use Rattle.schedule_states.specs.Judging.{IsGoodMoment};
+ghost use Rattle.schedule_states.specs.Leads.{AreOfHarts};
+ghost use Rattle.schedule_states.specs.Media.{AreOnMedium};
 ghost use Rattle.schedule_states.specs.Reaching.{AreNumbered, AreNumbersOf, ArePartsOf, AreThere, HaveGrown, IsClosedBy, IsFirst, IsClosedFor, IsKeptOn, WereBefore};
 ghost use Rattle.schedule_states.specs.States.{AreLists};
 ghost use Rattle.schedule_states.specs.Successors.{HasLists};
 
 use crate::laws::{equal_numbers_are_same, equal_parts_are_same};
-use crate::moments::Moment;
+use crate::leads::{Lead, Leads};
+use crate::moments::{Judged, Moment};
 use crate::numbers::Numbers;
-use crate::parts::Parts;
+use crate::parts::{Parts, SlowHart};
 use crate::program_state::{HartPart, ProgramState, StateNumbers};
 use crate::state_images::StateImages;
-use crate::state_judge::StateJudge;
+use crate::state_judge::{StateJudge, StateVerdict};
 use crate::successor::Successor;
+use hart::Status;
 use std::alloc::{AllocError, Global};
 use std::marker::Model;
 use std::thread::Threads;
@@ -30,7 +35,9 @@ pub struct Reached<'a, J: StateJudge> {
     /// What is kept of the operations.
     standings: Numbers<J::Standing>,
     states: Numbers<StateNumbers>,
-    harts: u32,
+    leads: Leads,
+    /// A search ends where there are more states.
+    most: u32,
 }
 
 impl<'a, J: StateJudge> Model for Reached<'a, J> {
@@ -39,59 +46,61 @@ impl<'a, J: StateJudge> Model for Reached<'a, J> {
 
     ghost Value = { ReachedView J.Standing };
 
-    ghost view = { λ r. record { parts = r.parts; hart_parts = r.hart_parts; standings = r.standings; states = r.states; harts = r.harts } };
+    ghost view = { λ r. record { parts = r.parts; hart_parts = r.hart_parts; standings = r.standings; states = r.states; harts = r.leads } };
 
-    ghost invariant = { λ r. AreNumbered (record { parts = r.parts; hart_parts = r.hart_parts; standings = r.standings; states = r.states; harts = r.harts }) };
+    ghost invariant = { λ r. AreNumbered (record { parts = r.parts; hart_parts = r.hart_parts; standings = r.standings; states = r.states; harts = r.leads }) };
 }
 
 /// Why a search goes no further from a state.
 #[derive(Clone, Copy, Debug, PartialEq, Eq)]
 pub enum Stop {
+    /// An image of the state is bad.
+    Bad,
+    /// The images of the state can't be judged: recovery distinguishes too many of them, or a line has over 65,536 contents.
+    TooManyBranches,
     /// The next request of this hart sets a mark of an operation that is at fault.
     Refused(u32),
-    /// This hart makes too many steps up to the request behind its next one.
+    /// This hart has stopped as it may not.
+    Ended(u32),
+    /// This hart makes too many steps: at the start up to its first request, else up to the request behind its next one.
     TooLong(u32),
 }
 
 impl<'a, J: StateJudge> Reached<'a, J> {
-    /// No state yet.
-    pub fn with_none(
-        alloc: Global,
-        parts: Parts<'a>,
-        standings: Numbers<J::Standing>,
-        harts: u32,
-    ) -> Reached<'a, J>
+    /// No state yet, of up to eight harts and so many states.
+    pub fn with_none(alloc: Global, parts: Parts<'a>, harts: u32, most: u32) -> Reached<'a, J>
         requires { harts ≤ 8 }
-        ensures { result ≡ record { parts = parts.entry; hart_parts = []; standings = standings; states = []; harts = harts } }
+        ensures { result ≡ record { parts = parts.entry; hart_parts = []; standings = []; states = []; harts = harts } }
     {
         Reached {
             parts,
             hart_parts: Numbers::new(alloc),
-            standings,
+            standings: Numbers::new(alloc),
             states: Numbers::new(alloc),
-            harts,
+            leads: Leads::new(alloc, harts),
+            most,
         }
     }
 
-    /// Meets the state at the start, where what has this number is kept; false where a hart makes too many steps up to its first request.
-    pub fn meet_start(
-        &mut self,
-        alloc: Global,
-        judge: &J,
-        standing: u32,
-    ) -> Result<bool, AllocError>
-        requires first { IsFirst (J.stands judge.now) self.old.standings standing }
-        ensures start { IfOk result (λ met. met ≡ true → Covers (J.stands judge.now) self.new
+    /// Meets the state at the start, unless a hart makes too many steps up to its first request.
+    pub fn meet_start(&mut self, alloc: Global, judge: &J) -> Result<Option<Stop>, AllocError>
+        ensures start { IfOk result (λ stop. stop ≡ None → Covers (J.stands judge.now) self.new
             (started self.old.parts.table.start.program self.old.parts.table.start.medium self.old.harts)) }
         ensures parts { self.new.parts ≡ self.old.parts }
         ensures harts { self.new.harts ≡ self.old.harts }
     {
         self.are_numbered();
-        let Some(start) = self.parts.start(alloc, self.harts)? else {
-            return Ok(false);
+        let start = match self.parts.start(alloc, self.leads.harts())? {
+            Ok(start) => start,
+            Err(SlowHart { hart }) => return Ok(Some(Stop::TooLong(hart))),
         };
-        self.number_of(&start, standing)?;
-        Ok(true)
+        let standing = first_standing(alloc, judge, &mut self.standings)?;
+        let none = Before {
+            parts: &[],
+            numbers: &[0; 8],
+        };
+        self.number_of(&start, standing, none)?;
+        Ok(None)
     }
 
     /// How many lines the medium has.
@@ -99,6 +108,11 @@ impl<'a, J: StateJudge> Reached<'a, J> {
         ensures { result ≡ length self.now.parts.table.start.medium }
     {
         self.parts.lines()
+    }
+
+    /// A search ends where there are more states.
+    pub fn most(&self) -> u32 {
+        self.most
     }
 
     /// How many states were reached.
@@ -123,8 +137,9 @@ impl<'a, J: StateJudge> Reached<'a, J> {
         ensures parts { IfOk result (λ state. ArePartsOf self.now numbers.now self.now.harts state.harts.items) }
         ensures memory { IfOk result (λ state. state.memory ≡ numbers.now.memory) }
     {
-        let mut harts = Vec::with_capacity(alloc, self.harts as usize)?;
-        for hart in 0..self.harts {
+        let count = self.leads.harts();
+        let mut harts = Vec::with_capacity(alloc, count as usize)?;
+        for hart in 0..count {
             let part = self.part(numbers.harts[hart as usize]);
             harts.push(part)?;
         }
@@ -142,30 +157,48 @@ impl<'a, J: StateJudge> Reached<'a, J> {
         self.hart_parts.as_slice()[number as usize]
     }
 
-    /// Whether each image of the memory of a number is good, where what has the other number is kept.
-    pub fn passes<T: Threads + Sync>(
+    /// What the states have in common.
+    pub(crate) fn parts(&self) -> &Parts<'a>
+        ensures { result.now ≡ self.now.parts }
+    {
+        &self.parts
+    }
+
+    /// Why the search goes no further by the images of a moment, whose memory is one of those that are judged; None where each is good.
+    pub fn judge<T: Threads + Sync>(
         &self,
         rt: &T,
         alloc: Global,
         judge: &J,
-        workspace: &mut J::Workspace,
+        judged: &mut Judged<J>,
         moment: Moment,
-    ) -> Result<bool, AllocError>
-        requires memory { moment.memory < length self.now.parts.lists }
+    ) -> Result<Option<Stop>, AllocError>
+        requires memory { moment.memory < length judged.old.media.lists }
+        requires below { AreOnMedium self.now.parts judged.old.media }
         requires standing { moment.standing < length self.now.standings }
-        requires fits { J.fits judge.now (length self.now.parts.table.start.medium) workspace.old }
-        ensures fits { J.fits judge.now (length self.now.parts.table.start.medium) workspace.new }
-        ensures good { IfOk result (λ all. all ≡ true →
-            IsGoodMoment (J.stands judge.now) (J.good judge.now) self.now moment.memory moment.standing) }
+        requires fits { J.fits judge.now (length self.now.parts.table.start.medium) judged.old.workspace }
+        ensures fits { J.fits judge.now (length self.now.parts.table.start.medium) judged.new.workspace }
+        ensures same { (judged.new.media ≡ judged.old.media) × (judged.new.moments ≡ judged.old.moments) }
+        ensures good { IfOk result (λ stop. stop ≡ None →
+            IsGoodMoment (J.stands judge.now) (J.good judge.now) self.now judged.old.media.lists moment.memory moment.standing) }
     {
-        let Some(images) = StateImages::new(self.parts.memory(moment.memory)) else {
-            return Ok(false);
+        let held = judged.media.list(moment.memory);
+        let Some(images) = StateImages::new(self.parts.memory_of(held)) else {
+            return Ok(Some(Stop::TooManyBranches));
         };
         let standing = &self.standings.as_slice()[moment.standing as usize];
-        judge.passes(rt, alloc, workspace, &images, standing)
+        let verdict = judge.judge(rt, alloc, &mut judged.workspace, &images, standing)?;
+        Ok(stop_by(verdict))
     }
 
-    /// Goes on from a state by the next request of each hart, up to one at which it stops.
+    /// The harts whose requests first led to the state of a number, in order.
+    pub fn requests_to(&self, alloc: Global, number: u32) -> Result<Vec<u32>, AllocError>
+        ensures { IfOk result (λ requests. AreOfHarts self.now.harts requests.items) }
+    {
+        self.leads.requests_to(alloc, number)
+    }
+
+    /// Goes on from a state, whose harts run or have stopped as they may, by the next request of each hart, up to one at which it stops.
     pub fn go_on_all(
         &mut self,
         alloc: Global,
@@ -173,8 +206,9 @@ impl<'a, J: StateJudge> Reached<'a, J> {
         number: u32,
     ) -> Result<Option<Stop>, AllocError>
         requires { number < length self.old.states }
-        ensures closed { IfOk result (λ stop. stop ≡ None → IsClosedAt (J.stands judge.now) self.new number) }
-        ensures still { (n : ℕ) → n < length self.old.states → IsClosedAt (J.stands judge.now) self.old n → IsClosedAt (J.stands judge.now) self.new n }
+        ensures closed { IfOk result (λ stop. stop ≡ None → IsClosedAt (J.stands judge.now) (J.ends judge.now) self.new number) }
+        ensures still { (n : ℕ) → n < length self.old.states → IsClosedAt (J.stands judge.now) (J.ends judge.now) self.old n →
+            IsClosedAt (J.stands judge.now) (J.ends judge.now) self.new n }
         ensures grown { HaveGrown self.old self.new }
         ensures before { AreNumbered self.old × AreLists self.old.parts.table.states self.old.parts.lists }
     {
@@ -182,7 +216,10 @@ impl<'a, J: StateJudge> Reached<'a, J> {
         self.parts.lists_are_there();
         let numbers = self.numbers(number);
         let state = self.state(alloc, &numbers)?;
-        self.turns(alloc, judge, &state, numbers.standing)
+        if let Some(hart) = ended_badly(judge, &state.harts) {
+            return Ok(Some(Stop::Ended(hart)));
+        }
+        self.turns(alloc, judge, number, &state, &numbers)
     }
 
     /// Each state has the numbers of parts that are there.
@@ -193,46 +230,48 @@ impl<'a, J: StateJudge> Reached<'a, J> {
         let _ = &self.states;
     }
 
-    /// Goes on by the next request of each hart from a state, where what has this number is kept of the operations.
+    /// Goes on by the next request of each hart from the state of a number, whose parts have these numbers.
     fn turns(
         &mut self,
         alloc: Global,
         judge: &J,
+        number: u32,
         state: &ProgramState,
-        standing: u32,
+        numbers: &StateNumbers,
     ) -> Result<Option<Stop>, AllocError>
-        requires count { length state.now.harts.items ≡ self.old.harts }
+        requires parts { ArePartsOf self.old numbers.now self.old.harts state.now.harts.items }
         requires lists { HasLists self.old.parts state.now }
-        requires standing { standing < length self.old.standings }
-        ensures closed { IfOk result (λ stop. stop ≡ None → (t : J.Standing) → slice_get self.old.standings standing ≡ Some t →
+        requires standing { numbers.now.standing < length self.old.standings }
+        ensures closed { IfOk result (λ stop. stop ≡ None → (t : J.Standing) → slice_get self.old.standings numbers.now.standing ≡ Some t →
             IsClosedFor (J.stands judge.now) self.new state.now t self.new.harts) }
         ensures grown { HaveGrown self.old self.new }
         ensures before { WereBefore self.old.parts self.new.parts }
     {
-        let harts = self.harts;
+        let harts = self.leads.harts();
         for hart in 0..harts {
-            let stop = self.go_on(alloc, judge, state, standing, hart)?;
+            let stop = self.go_on(alloc, judge, state, numbers, hart)?;
             if stop.is_some() {
                 return Ok(stop);
             }
+            self.note(Lead { from: number, hart })?;
         }
         Ok(None)
     }
 
-    /// Goes on by the next request of a hart.
+    /// Goes on by the next request of a hart from a state, whose parts have these numbers.
     fn go_on(
         &mut self,
         alloc: Global,
         judge: &J,
         state: &ProgramState,
-        standing: u32,
+        numbers: &StateNumbers,
         hart: u32,
     ) -> Result<Option<Stop>, AllocError>
         requires there { hart < self.old.harts }
-        requires count { length state.now.harts.items ≡ self.old.harts }
+        requires parts { ArePartsOf self.old numbers.now self.old.harts state.now.harts.items }
         requires lists { HasLists self.old.parts state.now }
-        requires standing { standing < length self.old.standings }
-        ensures closed { IfOk result (λ stop. stop ≡ None → (t : J.Standing) → slice_get self.old.standings standing ≡ Some t →
+        requires standing { numbers.now.standing < length self.old.standings }
+        ensures closed { IfOk result (λ stop. stop ≡ None → (t : J.Standing) → slice_get self.old.standings numbers.now.standing ≡ Some t →
             IsClosedBy (J.stands judge.now) self.new state.now t hart) }
         ensures grown { HaveGrown self.old self.new }
         ensures before { WereBefore self.old.parts self.new.parts }
@@ -241,10 +280,15 @@ impl<'a, J: StateJudge> Reached<'a, J> {
         match self.parts.after_request(alloc, state, hart)? {
             Successor::State(next, mark) => {
                 let known = &mut self.standings;
-                let Some(standing) = standing_after(alloc, judge, known, standing, mark)? else {
+                let kept = numbers.standing;
+                let Some(standing) = standing_after(alloc, judge, known, kept, mark)? else {
                     return Ok(Some(Stop::Refused(hart)));
                 };
-                self.number_of(&next, standing)?;
+                let before = Before {
+                    parts: &state.harts,
+                    numbers: &numbers.harts,
+                };
+                self.number_of(&next, standing, before)?;
                 Ok(None)
             }
             Successor::Stopped => Ok(None),
@@ -252,17 +296,31 @@ impl<'a, J: StateJudge> Reached<'a, J> {
         }
     }
 
+    /// Notes what led to the last state, unless that was met before.
+    fn note(&mut self, lead: Lead) -> Result<(), AllocError>
+        requires { lead.hart < self.old.harts }
+        ensures { self.new ≡ self.old }
+    {
+        self.leads.note(self.states.as_slice().len(), lead)
+    }
+
     /// The number of a state, which is a new one where it wasn't reached yet.
-    fn number_of(&mut self, state: &ProgramState, standing: u32) -> Result<u32, AllocError>
+    fn number_of(
+        &mut self,
+        state: &ProgramState,
+        standing: u32,
+        before: Before<'_>,
+    ) -> Result<u32, AllocError>
         requires count { length state.now.harts.items ≡ self.old.harts }
         requires lists { HasLists self.old.parts state.now }
         requires standing { standing < length self.old.standings }
+        requires before { AreNumbersOf self.old.hart_parts before.parts.now (length before.parts.now) before.numbers.now }
         ensures met { IfOk result (λ number. (t : J.Standing) → slice_get self.old.standings standing ≡ Some t → IsMet self.new number state.now t) }
         ensures grown { HaveGrown self.old self.new }
         ensures parts { self.new.parts ≡ self.old.parts }
         ensures standings { self.new.standings ≡ self.old.standings }
     {
-        let harts = numbers_of(&mut self.hart_parts, &state.harts)?;
+        let harts = numbers_of(&mut self.hart_parts, &state.harts, before)?;
         let numbers = StateNumbers {
             harts,
             memory: state.memory,
@@ -274,17 +332,51 @@ impl<'a, J: StateJudge> Reached<'a, J> {
     }
 }
 
-/// What is kept of the operations before any event, with its number.
-pub fn first_standing<J: StateJudge>(
+/// Why the search goes no further from a state by what a judge says of it.
+fn stop_by(verdict: StateVerdict) -> Option<Stop>
+    ensures { IfNone result (verdict ≡ StateVerdict.Good) }
+{
+    match verdict {
+        StateVerdict::Good => None,
+        StateVerdict::Bad => Some(Stop::Bad),
+        StateVerdict::TooManyBranches => Some(Stop::TooManyBranches),
+    }
+}
+
+/// The first hart that has stopped as it may not.
+fn ended_badly<J: StateJudge>(judge: &J, parts: &[HartPart]) -> Option<u32>
+    requires { length parts.now ≤ 8 }
+    ensures { IfNone result (PartsEndWell (J.ends judge.now) parts.now) }
+{
+    for hart in 0..parts.len() {
+        if !is_well(judge, parts[hart].state.status) {
+            return Some(hart as u32);
+        }
+    }
+    None
+}
+
+/// Whether a hart runs, or has stopped as it may.
+fn is_well<J: StateJudge>(judge: &J, status: Status) -> bool
+    ensures { result ≡ true → status ≢ Running → J.ends judge.now status }
+{
+    match status {
+        Status::Running => true,
+        Status::Exited(_) | Status::Trapped(_) => judge.may_end(status),
+    }
+}
+
+/// The number of what is kept of the operations before any event.
+fn first_standing<J: StateJudge>(
     alloc: Global,
     judge: &J,
-) -> Result<(Numbers<J::Standing>, u32), AllocError>
-    ensures { IfOk result (λ first. IsFirst (J.stands judge.now) first.0 first.1) }
+    known: &mut Numbers<J::Standing>,
+) -> Result<u32, AllocError>
+    ensures kept { AreKept known.old known.new }
+    ensures first { IfOk result (IsFirst (J.stands judge.now) known.new) }
 {
     let standing = judge.start(alloc)?;
-    let mut standings = Numbers::new(alloc);
-    let number = standings.number_of(standing)?;
-    Ok((standings, number))
+    known.number_of(standing)
 }
 
 /// The number of what is kept of the operations after a mark, if one was set; None where the mark is at fault.
@@ -309,17 +401,46 @@ fn standing_after<J: StateJudge>(
     }
 }
 
+/// The parts of harts in the state of before, and their numbers.
+#[derive(Clone, Copy)]
+struct Before<'b> {
+    parts: &'b [HartPart],
+    numbers: &'b [u32; 8],
+}
+
 /// The numbers of parts of harts, and zero behind them.
-fn numbers_of(known: &mut Numbers<HartPart>, parts: &[HartPart]) -> Result<[u32; 8], AllocError>
-    requires { length parts.now ≤ 8 }
+fn numbers_of(
+    known: &mut Numbers<HartPart>,
+    parts: &[HartPart],
+    before: Before<'_>,
+) -> Result<[u32; 8], AllocError>
+    requires few { length parts.now ≤ 8 }
+    requires before { AreNumbersOf known.old before.parts.now (length before.parts.now) before.numbers.now }
     ensures kept { AreKept known.old known.new }
     ensures numbers { IfOk result (λ numbers. AreNumbersOf known.new parts.now (length parts.now) numbers) }
 {
     let mut numbers = [0; 8];
-    equal_parts_are_same();
     for hart in 0..parts.len() {
-        let part = parts[hart];
-        numbers[hart] = known.number_of(part)?;
+        numbers[hart] = number_at(known, parts[hart], before, hart)?;
     }
     Ok(numbers)
+}
+
+/// The number of a hart's part, which is that of before where the part is as it was.
+fn number_at(
+    known: &mut Numbers<HartPart>,
+    part: HartPart,
+    before: Before<'_>,
+    hart: usize,
+) -> Result<u32, AllocError>
+    requires few { hart < 8 }
+    requires before { AreNumbersOf known.old before.parts.now (length before.parts.now) before.numbers.now }
+    ensures kept { AreKept known.old known.new }
+    ensures number { IfOk result (λ number. slice_get known.new number ≡ Some part) }
+{
+    equal_parts_are_same();
+    if hart < before.parts.len() && before.parts[hart] == part {
+        return Ok(before.numbers[hart]);
+    }
+    known.number_of(part)
 }

@@ -1,6 +1,6 @@
 //! Lines that are read, and what they ask for.
 
-use arguments::{Command, LineFault, RunCommand, command};
+use arguments::{CheckAllCommand, Command, LineFault, RunCommand, command};
 use std::alloc::{AllocError, Global};
 use std::test::Fail;
 
@@ -21,7 +21,18 @@ fn run_of(alloc: Global, run: &RunCommand) -> Result<String, AllocError> {
     format!(in alloc; "{program} {medium} {harts} {capacity} {steps} {record} {out}")
 }
 
-/// What a line is read as: the run that it asks for, another command, or which fault it is.
+/// The words and options of a check of all schedules.
+fn check_all_of(alloc: Global, asked: &CheckAllCommand) -> Result<String, AllocError> {
+    let (plan, program) = (asked.plan.as_str(), asked.program.as_str());
+    let (medium, harts) = (value_of(&asked.machine.medium), asked.machine.harts);
+    let (states, any_end, why) = (asked.states, asked.any_end, asked.why);
+    let (json, progress) = (asked.json, asked.progress);
+    format!(in alloc;
+        "{plan} {program} {medium} {harts} {states} {any_end} {why} {json} {progress}"
+    )
+}
+
+/// What a line is read as: the run or the check that it asks for, another command, or which fault it is.
 fn read(alloc: Global, line: &str) -> Result<String, AllocError> {
     let words: Vec<String> = line
         .split(' ')
@@ -29,6 +40,7 @@ fn read(alloc: Global, line: &str) -> Result<String, AllocError> {
         .try_collect(alloc)?;
     match command(alloc, words.as_slice()) {
         Ok(Command::Run(run)) => run_of(alloc, &run),
+        Ok(Command::CheckAll(asked)) => check_all_of(alloc, &asked),
         Ok(_) => String::from_str(alloc, "another"),
         Err(LineFault::Help(_)) => String::from_str(alloc, "help"),
         Err(LineFault::Fault(_)) => String::from_str(alloc, "fault"),
@@ -37,12 +49,30 @@ fn read(alloc: Global, line: &str) -> Result<String, AllocError> {
 }
 
 /// Lines, and what they are read as.
-const LINES: [(&str, &str); 5] = [
+const LINES: [(&str, &str); 14] = [
     ("novacrash run a.s", "a.s - 1 16 1000000 - -"),
     (
         "novacrash run --out=o --record=r --steps=4 a.s --capacity=3 --harts=2 --medium=m",
         "a.s m 2 3 4 r o",
     ),
+    (
+        "novacrash check-all p a.s",
+        "p a.s - 1 1000000 false false false false",
+    ),
+    (
+        "novacrash check-all --why --states=7 p --any-end a.s --json --harts 2 --progress --medium m",
+        "p a.s m 2 7 true true true true",
+    ),
+    (
+        "novacrash check-all p a.s --states 0004294967295 --any-end",
+        "p a.s - 1 4294967295 true false false false",
+    ),
+    ("novacrash check-all p a.s --states 4294967296", "fault"),
+    ("novacrash check-all p a.s --states 0", "fault"),
+    ("novacrash check-all p a.s --harts 9", "fault"),
+    ("novacrash check-all p a.s s", "fault"),
+    ("novacrash check-all p", "fault"),
+    ("novacrash check-all --help", "help"),
     ("novacrash listing a.s", "another"),
     ("novacrash run a.s --harts 9", "fault"),
     ("novacrash run --help", "help"),

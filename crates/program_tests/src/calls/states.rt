@@ -1,11 +1,17 @@
-//! How many states stand for all schedules of a routine. The numbers are those of a search by a program of its own, in plain Rust.
+//! What is found out about every schedule of a routine. The numbers of states and of moments are those of a search by a program of its
+//! own; so is the first moment that fails.
 
-use crash_test::load_program;
-use every_schedule::{Explored, Start, Stop, check_states};
-use nova_log::mkfs;
+use crate::calls::starts::loaded;
+use crash_test::{Work, check_program, record_run};
+use every_schedule::{Bound, Finding, Limits, Outcome, Unwatched, check_all};
+use image_check::{Cause, CheckFault, OpFault, Verdict};
+use machine::{Run, Schedule, Setup};
+use nova_log::VolumeFault;
 use plan::Plan;
 use std::alloc::Global;
 use std::thread::Threads;
+use text::ImageName;
+use unfinished::{Unfinished, find_unfinished};
 
 /// Each hart appends to an inode of its own.
 const OWN: &str =
@@ -57,147 +63,371 @@ const UNCLEANED: &str =
 /// Sets a flag, and then makes steps for ever that ask for nothing.
 const ENDLESS: &str = "sd a0, 0(a1)\nturn: addi t0, t0, 1\nj turn\n";
 
-/// What is known of the states of a routine.
+/// Hart h exits with h, and asks for nothing before.
+const NUMBERED: &str = "li a7, 93\necall\n";
+
+/// A routine, the plan by which it is judged, and how many harts run it.
+#[derive(Clone, Copy)]
+pub(crate) struct Routine {
+    pub(crate) source: &'static str,
+    pub(crate) plan: &'static str,
+    pub(crate) harts: u32,
+}
+
+/// What is known of all schedules of a routine.
 #[derive(Clone, Copy, Debug, PartialEq, Eq)]
 enum Known {
-    /// So many are good.
-    States(usize),
-    /// One isn't.
-    Bad,
+    /// These are good.
+    Pass { states: usize, moments: usize },
+    /// The first run that is bad fails at this moment.
+    Fail { moment: u32, cause: Cause },
     /// A mark of an operation is wrong.
-    Refused,
-    TooMany,
-    TooLong,
+    Refused(OpFault),
+    /// A run isn't whole, for so many causes.
+    NotWhole(usize),
+    TooMany(Bound),
 }
 
 struct Case {
-    source: &'static str,
-    plan: &'static str,
-    harts: u32,
-    most: u32,
+    routine: Routine,
+    limits: Limits,
     known: Known,
 }
 
-static CASES: [Case; 12] = [
+static CASES: [Case; 14] = [
     Case {
-        source: OWN_LOGS,
-        plan: OWN,
-        harts: 1,
-        most: 1_000,
-        known: Known::States(12),
+        routine: Routine {
+            source: OWN_LOGS,
+            plan: OWN,
+            harts: 1,
+        },
+        limits: Limits {
+            states: 1_000,
+            any_end: false,
+        },
+        known: Known::Pass {
+            states: 12,
+            moments: 11,
+        },
     },
     Case {
-        source: OWN_LOGS,
-        plan: OWN,
-        harts: 2,
-        most: 1_000,
-        known: Known::States(144),
+        routine: Routine {
+            source: OWN_LOGS,
+            plan: OWN,
+            harts: 2,
+        },
+        limits: Limits {
+            states: 1_000,
+            any_end: false,
+        },
+        known: Known::Pass {
+            states: 144,
+            moments: 121,
+        },
     },
     Case {
-        source: OWN_LOGS,
-        plan: OWN,
-        harts: 3,
-        most: 1_728,
-        known: Known::States(1_728),
+        routine: Routine {
+            source: OWN_LOGS,
+            plan: OWN,
+            harts: 3,
+        },
+        limits: Limits {
+            states: 1_728,
+            any_end: false,
+        },
+        known: Known::Pass {
+            states: 1_728,
+            moments: 1_331,
+        },
     },
     Case {
-        source: OWN_LOGS,
-        plan: OWN,
-        harts: 3,
-        most: 1_727,
-        known: Known::TooMany,
+        routine: Routine {
+            source: OWN_LOGS,
+            plan: OWN,
+            harts: 3,
+        },
+        limits: Limits {
+            states: 1_727,
+            any_end: false,
+        },
+        known: Known::TooMany(Bound::States),
     },
     Case {
-        source: SPIN_LOCK,
-        plan: ONE,
-        harts: 2,
-        most: 79,
-        known: Known::States(79),
+        routine: Routine {
+            source: SPIN_LOCK,
+            plan: ONE,
+            harts: 2,
+        },
+        limits: Limits {
+            states: 79,
+            any_end: false,
+        },
+        known: Known::Pass {
+            states: 79,
+            moments: 41,
+        },
     },
     Case {
-        source: SPIN_LOCK,
-        plan: ONE,
-        harts: 3,
-        most: 1_000,
-        known: Known::States(391),
+        routine: Routine {
+            source: SPIN_LOCK,
+            plan: ONE,
+            harts: 3,
+        },
+        limits: Limits {
+            states: 1_000,
+            any_end: false,
+        },
+        known: Known::Pass {
+            states: 391,
+            moments: 151,
+        },
     },
     Case {
-        source: SPIN_LOCK,
-        plan: ONE,
-        harts: 2,
-        most: 0,
-        known: Known::TooMany,
+        routine: Routine {
+            source: SPIN_LOCK,
+            plan: ONE,
+            harts: 2,
+        },
+        limits: Limits {
+            states: 0,
+            any_end: false,
+        },
+        known: Known::TooMany(Bound::States),
     },
     Case {
-        source: LASTING_LOCK,
-        plan: ONE,
-        harts: 2,
-        most: 1_000,
-        known: Known::States(79),
+        routine: Routine {
+            source: LASTING_LOCK,
+            plan: ONE,
+            harts: 2,
+        },
+        limits: Limits {
+            states: 1_000,
+            any_end: false,
+        },
+        known: Known::Pass {
+            states: 79,
+            moments: 46,
+        },
     },
     Case {
-        source: TICKETS,
-        plan: ONE,
-        harts: 3,
-        most: 1_000,
-        known: Known::States(568),
+        routine: Routine {
+            source: TICKETS,
+            plan: ONE,
+            harts: 3,
+        },
+        limits: Limits {
+            states: 1_000,
+            any_end: false,
+        },
+        known: Known::Pass {
+            states: 568,
+            moments: 151,
+        },
     },
     Case {
-        source: LOCKLESS,
-        plan: ONE,
-        harts: 2,
-        most: 1_000,
-        known: Known::Refused,
+        routine: Routine {
+            source: LOCKLESS,
+            plan: ONE,
+            harts: 2,
+        },
+        limits: Limits {
+            states: 1_000,
+            any_end: false,
+        },
+        known: Known::Refused(OpFault::SharesInode),
     },
     Case {
-        source: UNCLEANED,
-        plan: OWN,
-        harts: 2,
-        most: 1_000,
-        known: Known::Bad,
+        routine: Routine {
+            source: UNCLEANED,
+            plan: OWN,
+            harts: 2,
+        },
+        limits: Limits {
+            states: 1_000,
+            any_end: false,
+        },
+        known: Known::Fail {
+            moment: 5,
+            cause: Cause::Fault(VolumeFault::Kind),
+        },
     },
     Case {
-        source: ENDLESS,
-        plan: ONE,
-        harts: 1,
-        most: 1_000,
-        known: Known::TooLong,
+        routine: Routine {
+            source: ENDLESS,
+            plan: ONE,
+            harts: 1,
+        },
+        limits: Limits {
+            states: 1_000,
+            any_end: false,
+        },
+        known: Known::TooMany(Bound::Steps),
+    },
+    // hart 1 exits with 1, and none of three operations begins
+    Case {
+        routine: Routine {
+            source: NUMBERED,
+            plan: ONE,
+            harts: 2,
+        },
+        limits: Limits {
+            states: 1_000,
+            any_end: false,
+        },
+        known: Known::NotWhole(4),
+    },
+    Case {
+        routine: Routine {
+            source: NUMBERED,
+            plan: ONE,
+            harts: 2,
+        },
+        limits: Limits {
+            states: 1,
+            any_end: true,
+        },
+        known: Known::Pass {
+            states: 1,
+            moments: 1,
+        },
     },
 ];
 
-fn states_of<T: Threads + Sync>(rt: &T, alloc: Global, case: &Case) -> Option<Known> {
-    if case.harts > 8 {
-        return None;
+impl Routine {
+    /// What its runs start from: it, and a new volume of 512 lines for its plan.
+    pub(crate) fn setup(self, alloc: Global) -> Option<Setup> {
+        let (program, medium) = loaded(alloc, Some(self.plan), &[self.source])?;
+        Some(Setup::with_room(program, medium, self.harts))
     }
-    let plan = Plan::read(alloc, case.plan.as_bytes()).ok()?;
-    let program = load_program(alloc, case.source.as_bytes()).ok()?;
-    let medium = mkfs(
-        alloc,
-        plan.layout(),
-        plan.inodes(),
-        plan.pages(),
-        plan.journals(),
-        512,
-    )
-    .ok()?;
-    let start = Start {
-        program: &program,
-        medium: &medium,
-        harts: case.harts,
+
+    /// Its plan.
+    pub(crate) fn plan(self, alloc: Global) -> Option<Plan> {
+        Plan::read(alloc, self.plan.as_bytes()).ok()
+    }
+
+    /// Its run by the text of a schedule.
+    pub(crate) fn run(self, alloc: Global, schedule: &str) -> Option<Run> {
+        let schedule = Schedule::read(alloc, schedule.as_bytes()).ok()?;
+        let setup = self.setup(alloc)?;
+        record_run(alloc, setup, &schedule).ok()
+    }
+
+    /// What is found out about its schedules.
+    pub(crate) fn outcome<T: Threads + Sync>(
+        self,
+        rt: &T,
+        alloc: Global,
+        plan: &Plan,
+        limits: Limits,
+    ) -> Option<Outcome> {
+        let setup = self.setup(alloc)?;
+        if setup.harts > 8 {
+            return None;
+        }
+        check_all(rt, alloc, plan, setup, limits, &mut Unwatched).ok()
+    }
+}
+
+/// The verdict on the whole of a run.
+pub(crate) fn verdict_on<T: Threads + Sync>(
+    rt: &T,
+    alloc: Global,
+    plan: &Plan,
+    run: &Run,
+) -> Result<Verdict<Cause>, CheckFault> {
+    let work = Work {
+        first: 0,
+        last: None,
+        workers: 1,
+        goes_on: false,
     };
-    match check_states(rt, alloc, &plan, start, case.most).ok()? {
-        Explored::All { states, .. } => Some(Known::States(states)),
-        Explored::Bad(_) => Some(Known::Bad),
-        Explored::Stopped(_, Stop::Refused(_)) => Some(Known::Refused),
-        Explored::Stopped(_, Stop::TooLong(_)) | Explored::TooLong => Some(Known::TooLong),
-        Explored::TooMany => Some(Known::TooMany),
+    check_program(rt, alloc, plan, run, work, &mut crash_test::Unwatched)
+}
+
+/// What is found out in a case; None where a run that shows it doesn't do so by itself.
+fn found_in<T: Threads + Sync>(rt: &T, alloc: Global, case: &Case) -> Option<Known> {
+    let plan = case.routine.plan(alloc)?;
+    match case.routine.outcome(rt, alloc, &plan, case.limits)? {
+        Outcome::Pass { states, moments } => Some(Known::Pass { states, moments }),
+        Outcome::Found { run, finding } => {
+            let again = made_again(alloc, case.routine, &run)?;
+            shown_by(rt, alloc, &plan, &again, &finding)
+        }
+        Outcome::TooMany(bound) => Some(Known::TooMany(bound)),
+    }
+}
+
+/// The run of a routine by the schedule of another run, as it is printed.
+fn made_again(alloc: Global, routine: Routine, run: &Run) -> Option<Run> {
+    let schedule = run.recorded().schedule().write(alloc).ok()?;
+    routine.run(alloc, schedule.as_str())
+}
+
+/// What a finding says, if the run by itself shows it.
+fn shown_by<T: Threads + Sync>(
+    rt: &T,
+    alloc: Global,
+    plan: &Plan,
+    run: &Run,
+    finding: &Finding,
+) -> Option<Known> {
+    match finding {
+        Finding::NotWhole(causes) => unfinished_by(alloc, plan, run, causes),
+        Finding::Verdict(verdict) => match verdict_on(rt, alloc, plan, run) {
+            Ok(other) => failed_by(alloc, verdict, &other),
+            Err(_) => None,
+        },
+        Finding::Refused(fault) => match verdict_on(rt, alloc, plan, run) {
+            Err(CheckFault::Operation(other)) if other == *fault => Some(Known::Refused(other)),
+            _ => None,
+        },
+    }
+}
+
+/// That the run isn't whole, if it is so for these causes.
+fn unfinished_by(alloc: Global, plan: &Plan, run: &Run, causes: &[Unfinished]) -> Option<Known> {
+    let others = find_unfinished(alloc, run, plan.operations()).ok()?;
+    if others.as_slice() == causes {
+        Some(Known::NotWhole(causes.len()))
+    } else {
+        None
+    }
+}
+
+/// The failure of a verdict, if the other verdict is the same.
+fn failed_by(alloc: Global, verdict: &Verdict<Cause>, other: &Verdict<Cause>) -> Option<Known> {
+    let (moment, image, cause) = failure_of(verdict)?;
+    let (other_moment, other_image, other_cause) = failure_of(other)?;
+    if moment == other_moment && cause == other_cause && is_one_name(alloc, image, other_image) {
+        Some(Known::Fail { moment, cause })
+    } else {
+        None
+    }
+}
+
+fn failure_of(verdict: &Verdict<Cause>) -> Option<(u32, &ImageName, Cause)> {
+    match verdict {
+        Verdict::Fail {
+            moment,
+            image,
+            cause,
+            ..
+        } => Some((*moment, image, *cause)),
+        _ => None,
+    }
+}
+
+fn is_one_name(alloc: Global, one: &ImageName, other: &ImageName) -> bool {
+    match (format!(in alloc; "{one}"), format!(in alloc; "{other}")) {
+        (Ok(one), Ok(other)) => one.as_str() == other.as_str(),
+        _ => false,
     }
 }
 
 #[test]
-fn states_are_as_many_as_a_plain_search_finds(rt: HostRuntime) {
+fn schedules_are_judged_as_by_a_plain_search(rt: HostRuntime) {
     for case in &CASES {
-        let found = states_of(&rt, rt.alloc(), case);
+        let found = found_in(&rt, rt.alloc(), case);
         assert!(rt; found == Some(case.known), "{found:?} {:?}", case.known);
     }
 }

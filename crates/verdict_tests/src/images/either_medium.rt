@@ -3,7 +3,7 @@
 ghost use Rattle.line_memory.specs.Lines.{IsMedium};
 ghost use Rattle.std.specs.Prelude.{◌≡◌, length};
 
-use image_check::{Cause, ImagesVerdict, PlanState, judge_images};
+use image_check::{Cause, ImagesVerdict, ImagesWorkspace, PlanState, judge_images};
 use line_memory::Medium;
 use nova_log::{VolumeFault, mkfs, recover};
 use plan::Plan;
@@ -12,7 +12,7 @@ use std::process::Abort;
 use std::test::Fail;
 use std::thread::Threads;
 use store_trace::Event;
-use verdict::{Images, Opener};
+use verdict::Images;
 
 /// Each line is of the first medium, by number 0, or of the second, by number 1.
 #[derive(Drop)]
@@ -97,9 +97,9 @@ fn found_of<R: Threads + Sync>(
     if first.lines() != second.lines() {
         return Ok(Found::Unlike);
     }
-    let mut opener = Opener::new(alloc, first.lines())?;
+    let mut workspace = ImagesWorkspace::new(alloc, first.lines())?;
     let images = EitherMedium { first, second };
-    match judge_images(rt, alloc, &images, plan, state, &mut opener)? {
+    match judge_images(rt, alloc, &images, plan, state, &mut workspace)? {
         ImagesVerdict::Pass => Ok(Found::Pass),
         ImagesVerdict::Bad { numbers, cause } => Ok(Found::Bad(
             number_in(&numbers, 1),

@@ -2,6 +2,7 @@ use Rattle.std.proofs.Common.{◌≡◌, ℕ, sym, ap, subst, ◌∙◌, rules}
 use Rattle.machine.specs.Run.{Config, started}
 use Rattle.schedule_states.specs.Covering.{Covers}
 use Rattle.schedule_states.specs.States.{PartsView}
+use Rattle.schedule_states.specs.Watching.{nothing}
 use Rattle.schedule_states.proofs.exploring.explore_from.Goals as goal
 
 pub search-requires-clause-start : goal.search-requires-clause-start
@@ -14,5 +15,17 @@ search-requires-clause-start g c κs within =
     ∙ ap (λ (harts : ℕ). started c.args.reached.now.parts.table.start.program c.args.reached.now.parts.table.start.medium harts) c.meet_start.ensures.harts in
     subst (λ (d : Config). Covers (g.J.StateJudge.stands c.args.judge.now) c.meet_start.new.self d) (sym same) start
 
-pub returns : goal.returns
-returns g c = rw (c.meet_start.ensures.parts, c.meet_start.ensures.harts) at c.search.ensures
+pub returns-clause-good : goal.returns-clause-good
+returns-clause-good g c = rw (c.meet_start.ensures.parts, c.meet_start.ensures.harts) at c.search.ensures.good
+
+pub returns-clause-requests : goal.returns-clause-requests
+returns-clause-requests g c = rw c.meet_start.ensures.harts at c.search.ensures.requests
+
+pub returns-in_err-stop-clause-told : goal.returns-in_err-stop-clause-told
+returns-in_err-stop-clause-told g c = nothing
+
+pub returns-in-Some-clause-told : goal.returns-in-Some-clause-told
+returns-in-Some-clause-told g c = nothing
+
+pub returns-in_err-workspace-clause-told : goal.returns-in_err-workspace-clause-told
+returns-in_err-workspace-clause-told g c = nothing

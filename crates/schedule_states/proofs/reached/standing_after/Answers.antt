@@ -1,7 +1,6 @@
-use Rattle.std.proofs.Common.{◌≡◌, ◌<◌, ◌++◌, ◌∷◌, [], List, Some, length, slice_get, slice_index_or, sym, ap, ◌∙◌, subst, rules}
+use Rattle.std.proofs.Common.{◌≡◌, ◌++◌, ◌∷◌, [], List, Some, sym, ◌∙◌, subst, rules}
 use Rattle.std.proofs.lemmas.Option.{get_or_from_slice_get, slice_get_within}
 use Rattle.store_trace.specs.declared.event.Event.{Event}
-use Rattle.schedule_states.specs.Marks.{IsMarkedBy}
 use Rattle.schedule_states.proofs.reached.standing_after.Goals as goal
 
 pub returns-in_ok-number_of-in-Some-2-clause-after : goal.returns-in_ok-number_of-in-Some-2-clause-after
@@ -15,7 +14,7 @@ returns-in_ok-number_of-in-Some-2-clause-after g c t kept =
       number.found,
       number.here,
       λ events more marked stands.
-          let one : more ≡ events ++ c.in-Some.mark ∷ [] = rw is at marked in
+          let one : more ≡ events ++ c.in-Some.mark ∷ [] = (rw is at marked).1 in
           let on : g.J.StateJudge.stands c.args.judge.now c.in-Some-2.next (events ++ c.in-Some.mark ∷ []) =
           after events (subst (λ (x : _). g.J.StateJudge.stands c.args.judge.now x events) (sym index) stands) in
           g.met.J.StateJudge.equal c.args.judge.now c.in-Some-2.next number.found more number.equal

@@ -1,5 +1,4 @@
 use Rattle.std.proofs.Common.{rules, ◌≡◌, ◌++◌, ◌∷◌, []}
-use Rattle.std.specs.Prelude.{filter}
 use Rattle.std.proofs.lemmas.Fn.{filter_same}
 use Rattle.schedule_states.proofs.Stepping.{left_apart, line_of}
 use Rattle.schedule_states.specs.LineStates.{differs_from, unfenced}

@@ -1,7 +1,7 @@
 use Rattle.std.proofs.Common.{◌≡◌, ◌/◌, ◌≤◌, Some, None, rules}
 use Rattle.std.proofs.lemmas.Result.{IfOk-weaker}
 use Rattle.line_memory.specs.declared.TheConstants.{PERSISTENT_BASE}
-use Rattle.schedule_states.proofs.Fencing.{clean_elsewhere_made, clean_made, clean_of_none}
+use Rattle.schedule_states.proofs.Fencing.{clean_made, clean_of_none}
 use Rattle.schedule_states.specs.Memories.{state_in}
 use Rattle.schedule_states.proofs.line_table.LineTable.clean.Goals as goal
 

@@ -1,10 +1,6 @@
-use Rattle.std.proofs.Common.{◌≡◌, ◌++◌, ◌∷◌, [], List, Some, subst, sym, ap, rules}
-use Rattle.std.proofs.lemmas.Result.{IfOk-weaker}
+use Rattle.std.proofs.Common.{◌≡◌, Some, rules}
 use Rattle.hart.specs.declared.need.Reply.TheVariants.{Done}
-use Rattle.line_memory.specs.Memory.{Memory, stored_to}
-use Rattle.machine.specs.Histories.{memory_after, written}
-use Rattle.machine.specs.Replies.{events_of}
-use Rattle.store_trace.specs.History.{history}
+use Rattle.machine.specs.Histories.{written}
 use Rattle.schedule_states.proofs.Serving.{cleaned_steps, written_steps}
 use Rattle.schedule_states.specs.Requests.{write_of}
 use Rattle.schedule_states.proofs.line_table.LineTable.serve.Goals as goal

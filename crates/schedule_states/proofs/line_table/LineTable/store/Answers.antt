@@ -1,9 +1,5 @@
-use Rattle.std.proofs.Common.{◌≡◌, rules, arith}
 use Rattle.std.proofs.lemmas.Result.{IfOk-weaker}
-use Rattle.line_memory.specs.Memory.{fault_of}
 use Rattle.schedule_states.proofs.Writing.{aligned_access, line_there, write_made}
-use Rattle.schedule_states.specs.Memories.{memory_over}
-use Rattle.schedule_states.specs.StartLines.{memory_at}
 use Rattle.schedule_states.proofs.line_table.LineTable.store.Goals as goal
 
 pub state_of-requires-clause-there : goal.state_of-requires-clause-there

@@ -1,15 +1,9 @@
 use Rattle.std.proofs.Common.{◌≡◌, ◌==◌, true, [], slice_index_or, ◌∙◌, arith, rules}
 use Rattle.std.proofs.lemmas.Bool.Decides.{nat_tests}
-use Rattle.hart.specs.Effect.{answered}
-use Rattle.machine.specs.Histories.{calls_of, text_of}
-use Rattle.machine.specs.declared.shared_memory.history.Entry.TheVariants.{Asked}
-use Rattle.reservation.specs.Reserved.{Call, is_reserved as is_reserved_by}
 use Rattle.schedule_states.proofs.Answered.{stands_served}
 use Rattle.schedule_states.proofs.Growing.{grown_then, has_lists_after, ready_of_next, served_still, text_still, there_still}
-use Rattle.schedule_states.specs.Ahead.{ComesAlone}
-use Rattle.schedule_states.specs.Requests.{is_reserved}
-use Rattle.schedule_states.specs.States.{AreGrown, IsReady}
-use Rattle.schedule_states.specs.Successors.{AreHartsAfter, AreServed, IsServedFor, IsTextAfter, memory_held}
+use Rattle.schedule_states.specs.States.{AreGrown}
+use Rattle.schedule_states.specs.Successors.{AreHartsAfter, AreServed, IsServedFor, IsTextAfter}
 use Rattle.schedule_states.specs.declared.program_state.HartPart.{HartPart}
 use Rattle.schedule_states.specs.declared.program_state.ProgramState.{ProgramState}
 use Rattle.schedule_states.proofs.parts.Parts.serve.Goals as goal

@@ -1,4 +1,4 @@
-use Rattle.std.proofs.Common.{◌≡◌, ◌++◌, ◌∷◌, [], ℕ, Some, slice_get, subst, rules, arith}
+use Rattle.std.proofs.Common.{◌≡◌, ◌++◌, ◌∷◌, [], ℕ, subst, rules}
 use Rattle.schedule_states.proofs.Begun.{part_pushed, start_lists, start_stands}
 use Rattle.schedule_states.specs.Successors.{AreStartParts, IsStartPart}
 use Rattle.schedule_states.proofs.parts.Parts.start.Goals as goal

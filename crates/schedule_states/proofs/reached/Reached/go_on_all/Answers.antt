@@ -3,7 +3,7 @@ use Rattle.std.proofs.lemmas.Result.{IfOk-weaker}
 use Rattle.bus.proofs.Places.{there_is}
 use Rattle.schedule_states.proofs.Closing.{closed_at, closed_still}
 use Rattle.schedule_states.proofs.Numbering.{lists_of_parts, met_kept, met_of_parts}
-use Rattle.schedule_states.specs.Covering.{IsMet}
+use Rattle.schedule_states.specs.Covering.{IsMet, PartsEndWell}
 use Rattle.schedule_states.proofs.reached.Reached.go_on_all.Goals as goal
 
 pub turns-requires-clause-lists : goal.turns-requires-clause-lists
@@ -11,14 +11,16 @@ turns-requires-clause-lists g c = lists_of_parts c.args.self.now c.args.number c
     c.in_ok-state.ensures.memory c.in_ok-state.ensures.parts c.numbers-numbers.ensures.there
 
 pub returns-clause-closed : goal.returns-clause-closed
-returns-clause-closed g c = IfOk-weaker c.turns.result _ _ (λ stop closed none.
+returns-clause-closed g c =
+    let well : PartsEndWell (g.J.StateJudge.ends c.args.judge.now) c.in_ok-state.state.harts.items = rw c.deref.ensures.value at c.in_default.ensures in
+    IfOk-weaker c.turns.result _ _ (λ stop closed none.
     let t : (t : _) × (slice_get c.args.self.now.standings c.numbers-numbers.result.standing ≡ Some t) =
     there_is c.args.self.now.standings c.numbers-numbers.result.standing c.numbers-numbers.ensures.there.standing in
     let met : IsMet c.args.self.now c.args.number c.in_ok-state.state t.0 = met_of_parts c.args.self.now c.args.number c.numbers-numbers.result c.in_ok-state.state t.0
     c.numbers-numbers.ensures.found c.in_ok-state.ensures.memory t.1 c.in_ok-state.ensures.parts in
-    closed_at (g.J.StateJudge.stands c.args.judge.now) c.turns.new.self c.args.number c.in_ok-state.state t.0
-    (met_kept c.args.self.now c.turns.new.self c.args.number c.in_ok-state.state t.0 c.turns.ensures.grown met) (closed none t.0 t.1)) c.turns.ensures.closed
+    closed_at (g.J.StateJudge.stands c.args.judge.now) (g.J.StateJudge.ends c.args.judge.now) c.turns.new.self c.args.number c.in_ok-state.state t.0
+    (met_kept c.args.self.now c.turns.new.self c.args.number c.in_ok-state.state t.0 c.turns.ensures.grown met) (closed none t.0 t.1) well) c.turns.ensures.closed
 
 pub returns-clause-still : goal.returns-clause-still
-returns-clause-still g c n there closed = closed_still (g.J.StateJudge.stands c.args.judge.now) c.args.self.now c.turns.new.self n c.are_numbered.ensures
-    c.turns.ensures.grown c.turns.ensures.before there closed
+returns-clause-still g c n there closed = closed_still (g.J.StateJudge.stands c.args.judge.now) (g.J.StateJudge.ends c.args.judge.now) c.args.self.now c.turns.new.self n
+    c.are_numbered.ensures c.turns.ensures.grown c.turns.ensures.before there closed

@@ -1,4 +1,4 @@
-use Rattle.std.proofs.Common.{◌≡◌, ◌-◌, ◌+◌, ◌≤◌, ◌<◌, length, arith, rules}
+use Rattle.std.proofs.Common.{◌≡◌, ◌-◌, ◌≤◌, length, arith, rules}
 use Rattle.line_memory.specs.Lines.{line_at}
 use Rattle.schedule_states.proofs.Reaching.{no_persistent_line, persistent_line}
 use Rattle.schedule_states.proofs.start_lines.StartLines.line.Goals as goal

@@ -1,5 +1,4 @@
-use Rattle.std.proofs.Common.{◌≡◌, ◌-◌, ◌+◌, ◌≤◌, ◌<◌, ◌⊎◌, arith, rules}
-use Rattle.line_memory.specs.Lines.{line_at}
+use Rattle.std.proofs.Common.{◌-◌, ◌≤◌, ◌<◌, ◌⊎◌, arith, rules}
 use Rattle.schedule_states.proofs.Reaching.{data_line, no_line_below, text_line}
 use Rattle.schedule_states.specs.StartLines.{AreOf}
 use Rattle.schedule_states.proofs.start_lines.StartLines.line_below.Goals as goal

@@ -1,4 +1,4 @@
-use Rattle.std.proofs.Common.{◌≡◌, ◌+◌, ◌<◌, ◌^◌, ◌≤◌, Some, length, rules, arith}
+use Rattle.std.proofs.Common.{◌≡◌, ◌+◌, ◌≤◌, Some, length, rules, arith}
 use Rattle.schedule_states.specs.Memories.{state_in}
 use Rattle.schedule_states.proofs.state_images.StateImages.highest.Goals as goal
 

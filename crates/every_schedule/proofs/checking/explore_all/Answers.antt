@@ -1,0 +1,12 @@
+use Rattle.std.proofs.lemmas.Result.{IfOk-weaker}
+use Rattle.every_schedule.proofs.Judged.{all_end_well, all_pass, all_told}
+use Rattle.every_schedule.proofs.checking.explore_all.Goals as goal
+
+pub returns : goal.returns
+returns g c = record {
+  pass = IfOk-weaker c.explore.result _ _ (λ explored good. all_told explored _ _
+      (all_pass c.args.plan.now.operations c.args.setup.now c.args.limits.any_end) good) c.explore.ensures.good;
+  whole = λ asked. IfOk-weaker c.explore.result _ _ (λ explored good. all_told explored _ _
+      (λ all. all_end_well c.args.plan.now.operations c.args.setup.now c.args.limits.any_end all asked) good) c.explore.ensures.good;
+  told = c.explore.ensures.told;
+}

@@ -1,0 +1,127 @@
+//! A machine that makes the requests that a search has made, and the schedule of its steps.
+
+ghost use Rattle.machine.specs.Grammar.{hart_steps};
+ghost use Rattle.std.specs.Prelude.{◌≡◌, ◌≤◌, ◌<◌, ◌^◌};
+
+use hart::Need;
+use machine::{Machine, Schedule, Setup, Step, StepFault};
+use std::alloc::Global;
+
+/// How many steps a schedule has at most that shows what a search has found.
+const MOST_STEPS: u32 = 1_000_000_000;
+
+/// How many steps a hart makes in its turn, behind what a search has found.
+const STEPS_OF_TURN: u32 = 16;
+
+/// How many turns all harts together have at most.
+const TURNS: u32 = 1_250;
+
+/// A machine, and the schedule of the steps that it has made.
+#[derive(Drop)]
+pub(crate) struct Follower {
+    machine: Machine,
+    schedule: Schedule,
+    /// How many steps those are.
+    made: u32,
+    ghost few: { made ≤ 1000000000 },
+    ghost count: { hart_steps schedule ≡ made },
+}
+
+impl Follower {
+    /// Of a setup, before any step.
+    pub(crate) fn new(alloc: Global, setup: Setup) -> Result<Follower, StepFault> {
+        let Setup {
+            program,
+            medium,
+            harts,
+            capacity,
+        } = setup;
+        Ok(Follower {
+            machine: Machine::new(alloc, program, medium, harts, capacity)?,
+            schedule: Schedule::new(alloc),
+            made: 0,
+        })
+    }
+
+    /// The schedule of the steps so far.
+    pub(crate) fn into_schedule(self) -> Schedule
+        ensures { hart_steps result < 2 ^ 32 }
+    {
+        self.schedule
+    }
+
+    /// Makes the steps of these harts, each up to its next request, and that.
+    pub(crate) fn make_requests(&mut self, harts: &[u32]) -> Result<(), StepFault> {
+        for hart in harts {
+            self.make_request(*hart)?;
+        }
+        Ok(())
+    }
+
+    /// Makes the steps of a hart up to its next request, and that.
+    pub(crate) fn make_request(&mut self, hart: u32) -> Result<(), StepFault> {
+        self.run_ahead(hart)?;
+        self.step(hart)
+    }
+
+    /// Makes the steps of its registers alone that a hart makes up to its next request, or to where it stops.
+    pub(crate) fn run_ahead(&mut self, hart: u32) -> Result<(), StepFault> {
+        for _step in 0..MOST_STEPS {
+            if !self.is_alone(hart) {
+                return Ok(());
+            }
+            self.step(hart)?;
+        }
+        Ok(())
+    }
+
+    /// Lets all harts go on in turn, and says whether all have stopped.
+    pub(crate) fn take_turns(&mut self) -> Result<bool, StepFault> {
+        for _turn in 0..TURNS / self.machine.harts().max(1) {
+            self.take_turn_each()?;
+        }
+        Ok((0..self.machine.harts()).all(|hart| self.machine.has_stopped(hart)))
+    }
+
+    fn take_turn_each(&mut self) -> Result<(), StepFault> {
+        for hart in 0..self.machine.harts() {
+            self.take_turn(hart)?;
+        }
+        Ok(())
+    }
+
+    /// Makes some steps of a hart, up to the one that stops it.
+    fn take_turn(&mut self, hart: u32) -> Result<(), StepFault> {
+        for _step in 0..STEPS_OF_TURN {
+            if self.machine.has_stopped(hart) {
+                return Ok(());
+            }
+            self.step(hart)?;
+        }
+        Ok(())
+    }
+
+    /// Whether the next step of a hart is one of its registers alone.
+    fn is_alone(&self, hart: u32) -> bool {
+        if hart >= self.machine.harts() || self.machine.has_stopped(hart) {
+            return false;
+        }
+        match self.machine.need(hart) {
+            Need::Ask(_) => false,
+            Need::Local(_) | Need::Stop(_) => true,
+        }
+    }
+
+    /// Makes a step of a hart. Too many steps count as a full trace.
+    fn step(&mut self, hart: u32) -> Result<(), StepFault> {
+        if self.made >= MOST_STEPS {
+            return Err(StepFault::TraceFull);
+        }
+        self.machine.step(Step::Hart(hart))?;
+        match self.schedule.push_step(hart) {
+            Ok(()) => self.made += 1,
+            Err(_) => return Err(StepFault::Memory),
+        }
+        Ok(())
+    }
+}

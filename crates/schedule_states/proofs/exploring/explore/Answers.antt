@@ -1,0 +1,11 @@
+use Rattle.schedule_states.specs.Watching.{nothing}
+use Rattle.schedule_states.proofs.exploring.explore.Goals as goal
+
+pub returns-in_err-parts-clause-told : goal.returns-in_err-parts-clause-told
+returns-in_err-parts-clause-told g c = nothing
+
+pub returns-clause-good : goal.returns-clause-good
+returns-clause-good g c = rw (c.with_none-reached.ensures, c.in_ok-parts.ensures.program, c.in_ok-parts.ensures.medium) at c.explore_from.ensures.good
+
+pub returns-clause-requests : goal.returns-clause-requests
+returns-clause-requests g c = rw c.with_none-reached.ensures at c.explore_from.ensures.requests

@@ -1,0 +1,8 @@
+-- What a watcher of a search has heard.
+use Rattle.std.specs.Prelude.{ℕ, ◌≤◌}
+
+-- From `old` on it has heard, time after time, that so many states were met, of which so many wait. `hears before met waiting after` says
+-- what one time makes of it.
+pub data HasHeard {W : Type 0} (hears : W → ℕ → ℕ → W → Type 0) (old : W) : W → Type 0 where
+  nothing : HasHeard hears old old
+  more : (before after : W) (met waiting : ℕ) → HasHeard hears old before → waiting ≤ met → hears before met waiting after → HasHeard hears old after
