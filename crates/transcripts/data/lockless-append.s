@@ -1,4 +1,5 @@
 # Harts append to the log of inode 0 without a lock: operation h + 1 of hart h appends the value 70 + h.
+ lui s4, 256            # the lock's place, in data memory
  addi s1, a0, 1         # the operation's number
  li a7, 2001            # operation h + 1 begins
  mv a0, s1
