@@ -15,13 +15,13 @@
 /* Cleans the cache line of an address: its stores so far reach the medium by this hart's next fence. */
 static inline void nc_clean(const volatile void *address)
 {
-    __asm__ volatile("cbo.clean (%0)" : : "r"(address) : "memory");
+    __asm__ volatile(".insn i 0x0f, 2, x0, %0, 1" : : "r"(address) : "memory");
 }
 
 /* The same, and the line leaves the cache. */
 static inline void nc_flush(const volatile void *address)
 {
-    __asm__ volatile("cbo.flush (%0)" : : "r"(address) : "memory");
+    __asm__ volatile(".insn i 0x0f, 2, x0, %0, 2" : : "r"(address) : "memory");
 }
 
 /* Completes the cleans and flushes that this hart made before it. */

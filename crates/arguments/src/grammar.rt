@@ -82,7 +82,7 @@ const OBJECT: Argument = Argument::Word {
 
 const PROGRAM: Argument = Argument::Word {
     name: "PROGRAM",
-    about: "The program's file: an object or a source",
+    about: "The program's file: an ELF file, an object or a source",
 };
 
 const SCHEDULE: Argument = Argument::Word {
@@ -97,7 +97,7 @@ const PLAN: Argument = Argument::Word {
 
 const RECOVERY: Argument = Argument::Word {
     name: "RECOVERY",
-    about: "The recovery routine's file: an object or a source",
+    about: "The recovery routine's file: an ELF file, an object or a source",
 };
 
 const LINES: Argument = Argument::Word {

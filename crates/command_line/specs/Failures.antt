@@ -33,6 +33,7 @@ use Rattle.assemble.specs.Codes.{assembly_code}
 use Rattle.bus.specs.Codes.{finish_code}
 use Rattle.bus.specs.declared.finish_fault.FinishFault.TheVariants as seats
 use Rattle.crash_image.specs.Codes.{image_code}
+use Rattle.elf_file.specs.Codes.{elf_code}
 use Rattle.image_check.specs.Codes.{operation_code}
 use Rattle.machine.specs.Codes.{schedule_code, step_code}
 use Rattle.nova_log.specs.Codes.{volume_code}
@@ -43,7 +44,7 @@ use Rattle.command_line.specs.Reports.{line_end}
 use Rattle.command_line.specs.declared.failure.Failure.{Failure}
 use Rattle.command_line.specs.declared.failure.Failure.TheVariants.{Line, Refused, Unfinished, Memory, File}
 use Rattle.command_line.specs.declared.failure.Refusal.{Refusal}
-use Rattle.command_line.specs.declared.failure.Refusal.TheVariants.{Assembly, Object, Plan, ScheduleText, Medium, Volume, Step, Foreign, Moment, Image, Operation, Marks, RecoverySource, RecoveryObject}
+use Rattle.command_line.specs.declared.failure.Refusal.TheVariants.{Assembly, Object, Plan, ScheduleText, Medium, Volume, Step, Foreign, Moment, Image, Operation, Marks, RecoverySource, RecoveryObject, Elf, RecoveryElf}
 use Rattle.command_line.specs.declared.files.FileFault.{FileFault}
 use Rattle.command_line.specs.declared.files.FileFault.TheVariants as files
 
@@ -51,6 +52,7 @@ use Rattle.command_line.specs.declared.files.FileFault.TheVariants as files
 abbrev pub refusal_code : Refusal → List ℕ
 refusal_code (Assembly fault) = assembly_code fault.code
 refusal_code (Object fault) = load_code fault
+refusal_code (Elf fault) = elf_code fault
 refusal_code (Plan fault) = plan_code fault.code
 refusal_code ScheduleText = schedule_code schedules.Text
 refusal_code Medium = codes "M3"
@@ -63,6 +65,7 @@ refusal_code (Operation fault) = operation_code fault
 refusal_code (Marks fault) = mark_code fault
 refusal_code (RecoverySource fault) = assembly_code fault.code
 refusal_code (RecoveryObject fault) = load_code fault
+refusal_code (RecoveryElf fault) = elf_code fault
 
 -- ` line N`, of a fault that has a line, and ` recovery`, of one of a recovery routine
 abbrev pub refusal_place : Refusal → List ℕ
@@ -70,6 +73,7 @@ refusal_place (Assembly fault) = codes " line " ++ decimal fault.line
 refusal_place (Plan fault) = codes " line " ++ decimal fault.line
 refusal_place (RecoverySource fault) = codes " line " ++ (decimal fault.line ++ codes " recovery")
 refusal_place (RecoveryObject fault) = codes " recovery"
+refusal_place (RecoveryElf fault) = codes " recovery"
 refusal_place refusal = []
 
 -- `refused CODE`, and where the fault is
@@ -108,12 +112,14 @@ failure_of_assembly fault = failure_by_code fault fault.code
 abbrev pub failure_of_program : ProgramFault → Failure
 failure_of_program (programs.Assembly fault) = Refused (Assembly fault)
 failure_of_program (programs.Object fault) = Refused (Object fault)
+failure_of_program (programs.Elf fault) = Refused (Elf fault)
 failure_of_program programs.Memory = Memory
 
 -- for a file that gave no recovery routine
 abbrev pub failure_of_recovery : ProgramFault → Failure
 failure_of_recovery (programs.Assembly fault) = Refused (RecoverySource fault)
 failure_of_recovery (programs.Object fault) = Refused (RecoveryObject fault)
+failure_of_recovery (programs.Elf fault) = Refused (RecoveryElf fault)
 failure_of_recovery programs.Memory = Memory
 
 -- for a text that gave no plan

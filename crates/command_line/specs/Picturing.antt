@@ -3,7 +3,7 @@ use Rattle.std.specs.Prelude.{ℕ, List, [], Option, Result, MatchResult, string
 use Rattle.arguments.specs.declared.asked.PictureCommand.{PictureCommand}
 use Rattle.text.specs.declared.image_name.name.ImageName.{ImageName}
 use Rattle.machine.specs.RunValues.{RunView}
-use Rattle.run_picture.specs.Picturing.{HasImageAt, LacksPicture}
+use Rattle.report.specs.Picturing.{HasImageAt, LacksPicture}
 use Rattle.command_line.specs.Failures.{failure_of_image}
 use Rattle.command_line.specs.MakingRuns.{OpensRun}
 use Rattle.command_line.specs.Steps.{First, Prints, Reads, Step, Still, Tells, Writes, WritesFile}

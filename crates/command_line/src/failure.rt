@@ -3,6 +3,7 @@
 use assemble::AsmFault;
 use bus::FinishFault;
 use crash_image::ImageFault;
+use elf_file::ElfFault;
 use image_check::OpFault;
 use machine::{ScheduleFault, StepFault};
 use nova_log::VolumeFault;
@@ -18,6 +19,8 @@ pub enum Refusal {
     Assembly(AsmFault),
     /// A file that begins as an object.
     Object(LoadFault),
+    /// An ELF file.
+    Elf(ElfFault),
     /// A plan, by its first line at fault.
     Plan(PlanFault),
     /// The text of a schedule.
@@ -42,6 +45,8 @@ pub enum Refusal {
     RecoverySource(AsmFault),
     /// The file of a recovery routine that begins as an object.
     RecoveryObject(LoadFault),
+    /// The ELF file of a recovery routine.
+    RecoveryElf(ElfFault),
 }
 
 impl Refusal {
@@ -55,6 +60,7 @@ impl Refusal {
         match *self {
             Refusal::Assembly(fault) | Refusal::RecoverySource(fault) => fault.code.name(),
             Refusal::Object(fault) | Refusal::RecoveryObject(fault) => fault.code(),
+            Refusal::Elf(fault) | Refusal::RecoveryElf(fault) => fault.code(),
             Refusal::Plan(fault) => fault.code.name(),
             Refusal::ScheduleText => ScheduleFault::Text.code(),
             Refusal::Medium => "M3",
@@ -83,6 +89,7 @@ impl fmt::Display for Refusal {
             Refusal::Plan(fault) => write!(f, " line {}", fault.line),
             Refusal::RecoverySource(fault) => write!(f, " line {} recovery", fault.line),
             Refusal::RecoveryObject(_) => write!(f, " recovery"),
+            Refusal::RecoveryElf(_) => write!(f, " recovery"),
             _ => Ok(()),
         }
     }

@@ -48,6 +48,7 @@ impl From<ProgramFault> for Failure {
         match fault {
             ProgramFault::Assembly(fault) => Failure::Refused(Refusal::Assembly(fault)),
             ProgramFault::Object(fault) => Failure::Refused(Refusal::Object(fault)),
+            ProgramFault::Elf(fault) => Failure::Refused(Refusal::Elf(fault)),
             ProgramFault::Memory => Failure::Memory,
         }
     }

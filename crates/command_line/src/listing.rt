@@ -1,7 +1,7 @@
 //! The command that lists a program.
 
 ghost use Rattle.command_line.specs.Listing.{ListsFile, PrintsListing, SaysObject};
-ghost use Rattle.crash_test.specs.Programs.{IsObjectOf, begins_as_object};
+ghost use Rattle.crash_test.specs.Programs.{IsObjectOf, file_kind};
 
 use crate::answer::Answer;
 use crate::failure::Failure;
@@ -34,7 +34,7 @@ fn object_in(alloc: Global, file: &[u8]) -> Result<Object, Failure>
 }
 
 fn listed(alloc: Global, file: &[u8], object: &Object) -> Result<Answer, Failure>
-    requires { IsObjectOf (begins_as_object file.now) file.now object.now }
+    requires { IsObjectOf (file_kind file.now) file.now object.now }
     ensures { PrintsListing file.now object.now.text result }
 {
     let places = places_of(alloc, file)?;

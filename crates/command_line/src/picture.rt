@@ -13,7 +13,7 @@ use crate::made_run::{MadeRun, open_run};
 use crate::writing::write_file;
 use arguments::PictureCommand;
 use crash_test::places_of;
-use run_picture::picture_run;
+use report::picture_run;
 use std::alloc::Global;
 
 /// `picture`: reads the files of a program, a schedule and a medium, and writes the file of a picture of the run up to a moment.

@@ -106,6 +106,7 @@ fn refused_recovery(fault: ProgramFault) -> Failure
     match fault {
         ProgramFault::Assembly(fault) => Failure::Refused(Refusal::RecoverySource(fault)),
         ProgramFault::Object(fault) => Failure::Refused(Refusal::RecoveryObject(fault)),
+        ProgramFault::Elf(fault) => Failure::Refused(Refusal::RecoveryElf(fault)),
         ProgramFault::Memory => Failure::Memory,
     }
 }

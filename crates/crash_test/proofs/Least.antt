@@ -5,6 +5,7 @@ use Rattle.std.proofs.lemmas.Bool.{cases_Bool}
 use Rattle.std.proofs.lemmas.Bool.Decides.{nat_tests}
 use Rattle.verdict.specs.Branches.{Agree, same_number}
 use Rattle.verdict.specs.ByLine.{line_decides}
+use Rattle.verdict.specs.CutImages.{AreByLine}
 use Rattle.store_trace.proofs.Bounds.{floor_le_stores}
 use Rattle.store_trace.proofs.Images.{length_image}
 use Rattle.std.proofs.lemmas.List.Elements.{All-map}
@@ -13,7 +14,7 @@ use Rattle.store_trace.specs.Floor.{floor}
 use Rattle.store_trace.specs.Image.{image}
 use Rattle.store_trace.specs.Stores.{stores}
 use Rattle.store_trace.specs.declared.crash_model.step.PersistenceStep.{PersistenceStep}
-use Rattle.image_check.specs.Alike.{AreByLine, found_alike}
+use Rattle.image_check.specs.Alike.{found_alike}
 use Rattle.image_check.specs.Images.{IsGood, IsSpoilt, Passes, image_after}
 use Rattle.image_check.specs.Verdicts.{IsLeastBad, whole_line}
 use Rattle.image_check.specs.declared.cause.Cause.{Cause}

@@ -4,6 +4,7 @@
 
 mod checking;
 mod explaining;
+mod file_kind;
 mod image_causes;
 mod images;
 mod judging;

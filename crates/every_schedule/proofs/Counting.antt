@@ -1,5 +1,5 @@
 -- How many steps a schedule has.
-use Rattle.std.proofs.Common.{◌≡◌, ℕ, ◌+◌, List, [], ◌∷◌, ◌++◌, length, refl, sym, ap, ◌∙◌}
+use Rattle.std.proofs.Common.{◌≡◌, ℕ, ◌+◌, List, [], ◌∷◌, ◌++◌, length, sym, ap, ◌∙◌}
 use Rattle.machine.proofs.Counting.{counted, items_counted}
 use Rattle.machine.specs.Evicting.{hart_steps}
 use Rattle.machine.specs.Grammar.{hart_steps as count_of_hart_steps}

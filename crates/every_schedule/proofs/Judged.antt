@@ -1,18 +1,14 @@
 -- What holds of every schedule where all states are good.
-use Rattle.std.proofs.Common.{◌≡◌, ◌≢◌, ℕ, Bool, false, List, length, Some, slice_get, subst, sym}
+use Rattle.std.proofs.Common.{◌≡◌, ℕ, Bool, false, List, subst}
 use Rattle.crash_test.specs.Checking.{Recovers}
-use Rattle.hart.specs.declared.state.HartState.{HartState}
 use Rattle.hart.specs.declared.state.Status.{Status}
-use Rattle.hart.specs.declared.state.Status.TheVariants.{Exited, Running}
+use Rattle.hart.specs.declared.state.Status.TheVariants.{Exited}
 use Rattle.image_check.specs.Images.{IsGood, Passes}
 use Rattle.image_check.specs.PlanStates.{IsPlanState}
 use Rattle.image_check.specs.declared.plan_state.PlanState.{PlanState}
 use Rattle.machine.specs.Replies.{trace_in}
-use Rattle.machine.specs.Represents.{MachineView, Represents}
-use Rattle.machine.specs.Run.{Config, RunsTo}
 use Rattle.machine.specs.RunValues.{start_of}
 use Rattle.machine.specs.declared.recording.setup.Setup.{Setup}
-use Rattle.machine.specs.declared.schedule.items.Step.{Step}
 use Rattle.nova_log.specs.Volumes.{volume_of}
 use Rattle.plan.specs.declared.operation.Operation.{Operation}
 use Rattle.schedule_states.specs.Exploring.{IfAll}
@@ -34,18 +30,18 @@ use Rattle.every_schedule.specs.declared.outcome.Outcome.TheVariants as outcomes
 -- all states are good by a plan
 abbrev pub AreAllGood : List Operation → Setup → Bool → Type 0
 AreAllGood plan s any_end = AlwaysGood (λ (state : PlanState) (events : List Event). IsPlanState plan (result_ok (volume_of s.medium)) events state)
-    (λ (events : List Event) (image : List (List ℕ)). IsGood plan s.medium events image)
+    (λ (events : List Event) (hart : ℕ). Unit {0}) (λ (events : List Event) (image : List (List ℕ)). IsGood plan s.medium events image)
     (λ (status : Status). any_end ≡ false → status ≡ Exited 0) s.program s.medium s.harts
 
 pub all_pass : (plan : List Operation) (s : Setup) (any_end : Bool) → AreAllGood plan s any_end → AllPass plan s
 all_pass plan s any_end good steps end runs =
-    let all = good steps end runs in (
+    let all = good steps end runs (λ before after h c is led. tt) in (
       all.0.1.sound,
       λ cut is. all.1 (number_in cut) (within_from_cut (history (trace_in end.common)) cut is),
     )
 
 pub all_end_well : (plan : List Operation) (s : Setup) (any_end : Bool) → AreAllGood plan s any_end → any_end ≡ false → AllEndWell s
-all_end_well plan s any_end good asked steps end h hart runs here stopped = (good steps end runs).2 h hart here stopped asked
+all_end_well plan s any_end good asked steps end h hart runs here stopped = (good steps end runs (λ before after k c is led. tt)).2 h hart here stopped asked
 
 -- the image of a cut recovers where each cut passes
 cut_recovers : (plan : List Operation) (start : List (List ℕ)) (events : List Event) (left : List (List ℕ)) → IsCutImage start (history events) left →

@@ -10,7 +10,7 @@ use crate::plan_judge::PlanJudge;
 use crate::showing::{Sought, show};
 use machine::Setup;
 use plan::Plan;
-use schedule_states::{Explored, Start, Watcher, explore};
+use schedule_states::{Explored, Start, StateJudge, Watcher, explore};
 use std::alloc::{AllocError, Global};
 use std::thread::Threads;
 
@@ -84,6 +84,8 @@ fn explore_all<T: Threads + Sync, W: Watcher>(
         program: &setup.program,
         medium: &setup.medium,
         harts: setup.harts,
+        most: limits.states,
     };
-    explore(rt, alloc, &judge, start, limits.states, watcher)
+    let mut workspace = judge.workspace(alloc, setup.medium.lines())?;
+    explore(rt, alloc, &judge, start, &mut workspace, watcher)
 }

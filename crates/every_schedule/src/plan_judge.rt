@@ -5,7 +5,7 @@ ghost use Rattle.std.specs.Prelude.{◌≡◌};
 use crate::state_cuts::StateCuts;
 use hart::Status;
 use image_check::{
-    CheckFault, ImagesVerdict, ImagesWorkspace, PlanState, judge_images, starting_volume,
+    Cause, CheckFault, ImagesVerdict, ImagesWorkspace, PlanState, judge_images, starting_volume,
 };
 use line_memory::Medium;
 use plan::Plan;
@@ -39,7 +39,11 @@ impl StateJudge for PlanJudge<'_> {
 
     ghost stands = { λ s state events. IsPlanState s.plan.now.operations (result_ok (volume_of s.medium.now)) events state };
 
-    ghost good = { λ s events image. IsGood s.plan.now.operations s.medium.now events image };
+    ghost allows = { λ s events hart. Unit {0} };
+
+    ghost good = { λ s workspace events image. IsGood s.plan.now.operations s.medium.now events image };
+
+    ghost happens = { λ s events lines. Unit {0} };
 
     ghost ends = { λ s status. s.any_end ≡ false → status ≡ Status.Exited 0 };
 
@@ -61,6 +65,10 @@ impl StateJudge for PlanJudge<'_> {
             Err(CheckFault::Memory) => Err(AllocError),
             Err(_fault) => Ok(None),
         }
+    }
+
+    fn may_go(&self, _standing: &PlanState, _hart: u32) -> bool {
+        true
     }
 
     fn workspace(&self, alloc: Global, lines: u32) -> Result<ImagesWorkspace, AllocError> {
@@ -92,7 +100,7 @@ impl StateJudge for PlanJudge<'_> {
 }
 
 /// The verdict on a state, by that on its images.
-fn verdict_of(verdict: &ImagesVerdict) -> StateVerdict
+fn verdict_of(verdict: &ImagesVerdict<Cause>) -> StateVerdict
     ensures { result ≡ StateVerdict.Good → verdict.now ≡ ImagesVerdict.Pass }
 {
     match verdict {

@@ -1,10 +1,11 @@
-//! Sources and objects.
+//! Sources, objects and trace files.
 
 use crate::ending::{Refused, ended, ready, refusal, repeated};
 use crate::samples::FIVE;
 use assemble::{AsmCode, assemble};
 use program::{LoadFault, Object, TEXT_LIMIT, load};
 use std::alloc::Global;
+use trace_file::{TraceFile, TraceFileCode};
 
 /// A source, and the text and data of its object.
 struct Example {
@@ -94,4 +95,27 @@ fn load_an_object(rt: HostRuntime) -> Result<(), Refused> {
         Err(fault) => refusal(matches!(fault, LoadFault::Memory)),
     };
     ended(&rt, answer)
+}
+
+/// A trace of two lines of events, one of them with a place.
+const TRACE: &[u8] = b"1 h0 at=a store l9+0 w1 0x1\n2 h0 clean l9\nevents 2\n";
+
+fn is_read(alloc: Global) -> Result<bool, Refused> {
+    match TraceFile::read(alloc, TRACE) {
+        Ok(file) => Ok(file.names() == [9u32].as_slice() && file.events().len() == 2),
+        Err(fault) => refusal(fault.code == TraceFileCode::Memory),
+    }
+}
+
+/// Reads a trace file, and again where that was refused.
+fn read(alloc: Global) -> Result<bool, Refused> {
+    match is_read(alloc) {
+        Err(Refused::Call) => repeated(is_read(alloc)),
+        answer => answer,
+    }
+}
+
+#[test]
+fn read_a_trace_file(rt: HostRuntime) -> Result<(), Refused> {
+    ended(&rt, read(rt.alloc()))
 }

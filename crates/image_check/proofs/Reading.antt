@@ -6,8 +6,9 @@ use Rattle.std.specs.List.{AllByRecursion}
 use Rattle.nova_log.specs.Kept.{AreAlikeAt, AreKept}
 use Rattle.nova_log.specs.Sources.{Source}
 use Rattle.nova_log.specs.declared.kept.KeptVolume.{KeptVolume}
-use Rattle.image_check.specs.Alike.{AreByLine, same_size}
+use Rattle.image_check.specs.Alike.{same_size}
 use Rattle.verdict.specs.Branches.{IsWithin}
+use Rattle.verdict.specs.CutImages.{AreByLine}
 use Rattle.verdict.specs.declared.branches.question.Question.{Question}
 use Rattle.image_check.specs.Verdicts.{whole_line}
 

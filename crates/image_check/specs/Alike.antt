@@ -1,10 +1,10 @@
 -- Recovery over images by line: what it asks, and what is found, is the same throughout a branch.
 use Rattle.std.proofs.Common.{◌≡◌, ℕ, zero, suc, ◌+◌, true, List, [], ◌∷◌, length, map, take, refl, sym, ap, subst, ◌∙◌, arith, Option, Some, None}
-use Rattle.line_memory.specs.Lines.{line_at}
 use Rattle.nova_log.specs.Volumes.{asked_lines, volume_of}
 use Rattle.nova_log.proofs.Agreement.{Agrees, same_recovery}
 use Rattle.nova_log.proofs.Tracking.{next_asked}
 use Rattle.verdict.specs.Branches.{Agree, IsAdaptive, IsShared, same_number}
+use Rattle.verdict.specs.CutImages.{AreByLine}
 use Rattle.plan.specs.declared.operation.Operation.{Operation}
 use Rattle.store_trace.specs.declared.event.Event.{Event}
 use Rattle.image_check.specs.Images.{IsFound, IsFoundBy}
@@ -13,11 +13,6 @@ use Rattle.verdict.specs.declared.branches.question.Question.{Question}
 use Rattle.image_check.specs.declared.cause.Cause.{Cause}
 use Rattle.image_check.specs.declared.cause.Cause.TheVariants.{Fault, Illegal}
 use Rattle.image_check.specs.declared.legal.Outcomes.{Outcomes}
-
--- images of one size, in which a line's number alone decides its bytes
-pub record AreByLine (lines : ℕ) (image : (ℕ → ℕ) → List (List ℕ)) : Type 0 where
-  pub count : (k : ℕ → ℕ) → length (image k) ≡ lines
-  pub decides : (c k : ℕ → ℕ) (l : ℕ) → k l ≡ c l → line_at (image k) l ≡ line_at (image c) l
 
 -- where a whole line is asked, being alike is to have the same number
 number_same : (l n m : ℕ) → same_number (whole_line l) n m ≡ true → n ≡ m

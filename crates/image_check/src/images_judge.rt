@@ -11,21 +11,7 @@ use plan::Plan;
 use std::alloc::{AllocError, Global};
 use std::marker::Model;
 use std::thread::Threads;
-use verdict::{Images, Opened, Opener};
-
-/// The most branches that are opened.
-const MAX_BRANCHES: u32 = 65_536;
-
-/// What the images of a source came to.
-#[derive(Drop)]
-pub enum ImagesVerdict {
-    /// Each image is good.
-    Pass,
-    /// The least bad cut, a number for each line, with 0 for a line at its lowest one, and why its image is bad.
-    Bad { numbers: Vec<u32>, cause: Cause },
-    /// There are over 65,536 branches.
-    TooMany,
-}
+use verdict::{Images, ImagesVerdict, Opener, open_images};
 
 /// What the images of one source after another are judged in. It is made once, for media of so many lines.
 ///
@@ -65,7 +51,7 @@ pub fn judge_images<I: Images + Sync, T: Threads + Sync>(
     plan: &Plan,
     state: &PlanState,
     workspace: &mut ImagesWorkspace,
-) -> Result<ImagesVerdict, AllocError>
+) -> Result<ImagesVerdict<Cause>, AllocError>
     requires { workspace.old ≡ I.lines images.now }
     ensures ok { IfOk result (IsImagesVerdict (IsFoundInState plan.now.operations state.now)
         (I.lines images.now) (I.image images.now) (I.low images.now) (I.high images.now)) }
@@ -85,7 +71,7 @@ fn judge_by<I: Images + Sync, T: Threads + Sync>(
     alloc: Global,
     judged: &PlanImages<'_, I>,
     workspace: &mut ImagesWorkspace,
-) -> Result<ImagesVerdict, AllocError>
+) -> Result<ImagesVerdict<Cause>, AllocError>
     requires { workspace.old ≡ I.lines judged.now.images.now }
     ensures ok { IfOk result (IsImagesVerdict (IsFoundBy judged.now.plan.now.operations judged.now.outcomes.now)
         (I.lines judged.now.images.now) (I.image judged.now.images.now) (I.low judged.now.images.now) (I.high judged.now.images.now)) }
@@ -93,10 +79,5 @@ fn judge_by<I: Images + Sync, T: Threads + Sync>(
 {
     let ImagesWorkspace { opener, recovery } = workspace;
     recovery.forget();
-    let opened = opener.open(rt, alloc, judged, recovery, MAX_BRANCHES)?;
-    Ok(match opened {
-        Opened::Pass => ImagesVerdict::Pass,
-        Opened::Bad { numbers, cause } => ImagesVerdict::Bad { numbers, cause },
-        Opened::Over { .. } | Opened::OverBad { .. } => ImagesVerdict::TooMany,
-    })
+    open_images(rt, alloc, judged, recovery, opener)
 }

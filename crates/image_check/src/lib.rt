@@ -7,13 +7,13 @@
 pub use cause::Cause;
 pub use checking::{check_moment, check_parallel, check_run, checked_part};
 pub use fault::{CheckFault, OpFault};
-pub use images_judge::{ImagesVerdict, ImagesWorkspace, judge_images};
+pub use images_judge::{ImagesWorkspace, judge_images};
 pub use judge::starting_volume;
 pub use laws::{one_verdict, plan_states_stand, verdicts_join};
 pub use moment_judge::{MomentJudge, SoundRun};
 pub use order::check_trace;
 pub use plan_state::PlanState;
-pub use verdict::{ImageName, MomentVerdict, Verdict};
+pub use verdict::{ImageName, ImagesVerdict, MomentVerdict, Verdict};
 
 mod cause;
 mod checking;

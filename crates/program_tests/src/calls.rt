@@ -14,5 +14,6 @@ mod orders;
 mod runs;
 mod starts;
 mod states;
+mod turns;
 mod verdicts;
 mod volumes;

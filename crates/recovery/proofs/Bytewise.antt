@@ -3,16 +3,9 @@ use Rattle.std.proofs.Common.{◌≡◌, ℕ, zero, suc, ◌+◌, ◌/◌, ◌%�
 use Rattle.std.specs.Prelude.{bit_or, drop}
 use Rattle.std.proofs.lemmas.Nat.{shr-shr}
 use Rattle.std.proofs.lemmas.Bool.{cases_Bool}
-use Rattle.line_memory.specs.Lines.{line_at}
 use Rattle.recovery.specs.Images.{same_at}
-use Rattle.store_trace.specs.Image.{line_after}
-use Rattle.store_trace.specs.declared.crash_model.step.PersistenceStep.{PersistenceStep}
 use Rattle.verdict.proofs.Bytes.{nothing_has, or_has}
 use Rattle.verdict.specs.Bytes.{has_byte}
-
--- the bytes of line l after so many of its stores
-abbrev pub bytes_at : List (List ℕ) → List PersistenceStep → ℕ → ℕ → List ℕ
-bytes_at start p l n = line_after (line_at start l) l n p
 
 -- at one place
 abbrev same_one : ℕ → ℕ → ℕ → ℕ → Bool

@@ -1,8 +1,8 @@
--- What recovery asks of the images of cuts.
+-- What recovery asks of a medium and comes to on it, and of the images of cuts.
 use Rattle.std.specs.Prelude.{◌≡◌, ◌+◌, ◌==◌, ◌&&◌, ◌||◌, ℕ, List, [], ◌∷◌, Bool, true, not, Result}
 use Rattle.program.specs.Sections.{Sections}
 use Rattle.line_memory.specs.Lines.{line_at}
-use Rattle.store_trace.specs.Image.{image, line_after}
+use Rattle.store_trace.specs.Image.{image}
 use Rattle.store_trace.specs.declared.crash_model.step.PersistenceStep.{PersistenceStep}
 use Rattle.machine.specs.Run.{Config, started}
 use Rattle.verdict.specs.Bytes.{has_byte}
@@ -19,20 +19,31 @@ same_at bytes i [] (y ∷ ys) = not (has_byte bytes i) && same_at bytes (i + 1) 
 same_at bytes i (x ∷ xs) [] = not (has_byte bytes i) && same_at bytes (i + 1) xs []
 same_at bytes i (x ∷ xs) (y ∷ ys) = (not (has_byte bytes i) || (x == y)) && same_at bytes (i + 1) xs ys
 
--- in the images of these persistence steps the bytes of a question are the same after two numbers of their line's stores
-abbrev pub has_same_bytes : List (List ℕ) → List PersistenceStep → Question → ℕ → ℕ → Bool
-has_same_bytes start p q n m = same_at q.bytes 0 (line_after (line_at start q.line) q.line n p) (line_after (line_at start q.line) q.line m p)
+-- the bytes of line l in the images in which it has this number
+abbrev pub content : ((ℕ → ℕ) → List (List ℕ)) → ℕ → ℕ → List ℕ
+content image l n = line_at (image (λ m. n)) l
 
--- a routine, run for so many steps on the image of a cut of these persistence steps, asks these bytes
-pub record Asks (program : Sections) (steps : ℕ) (start : List (List ℕ)) (p : List PersistenceStep) (cut : ℕ → ℕ) (questions : List Question) : Type 0 where
+-- in images by line the bytes of a question are the same by two numbers of its line
+abbrev pub has_same_bytes : ((ℕ → ℕ) → List (List ℕ)) → Question → ℕ → ℕ → Bool
+has_same_bytes image q n m = same_at q.bytes 0 (content image q.line n) (content image q.line m)
+
+-- a routine, run for so many steps on a medium, asks these bytes
+pub record AsksOn (program : Sections) (steps : ℕ) (medium : List (List ℕ)) (questions : List Question) : Type 0 where
   pub end : Config
   pub full : Bool
-  pub runs : RunsFor (started program (image start cut p) 1) steps end full
+  pub runs : RunsFor (started program medium 1) steps end full
   pub asks : questions ≡ asked end.common.history
 
 -- and comes to this
-pub record Answers (program : Sections) (steps : ℕ) (start : List (List ℕ)) (p : List PersistenceStep) (cut : ℕ → ℕ) (found : Result (List ℕ) Cause) : Type 0 where
+pub record AnswersOn (program : Sections) (steps : ℕ) (medium : List (List ℕ)) (found : Result (List ℕ) Cause) : Type 0 where
   pub end : Config
   pub full : Bool
-  pub runs : RunsFor (started program (image start cut p) 1) steps end full
+  pub runs : RunsFor (started program medium 1) steps end full
   pub comes : found ≡ answer end full
+
+-- both of the image of a cut of these persistence steps
+abbrev pub Asks : Sections → ℕ → List (List ℕ) → List PersistenceStep → (ℕ → ℕ) → List Question → Type 0
+Asks program steps start p cut questions = AsksOn program steps (image start cut p) questions
+
+abbrev pub Answers : Sections → ℕ → List (List ℕ) → List PersistenceStep → (ℕ → ℕ) → Result (List ℕ) Cause → Type 0
+Answers program steps start p cut found = AnswersOn program steps (image start cut p) found

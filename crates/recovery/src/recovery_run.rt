@@ -3,8 +3,7 @@
 
 ghost use Rattle.std.specs.Prelude.{◌≡◌, ◌≢◌, ◌+◌, ◌≤◌, ℕ, List, Bool, Result, Some, false, length, slice_get, take};
 ghost use Rattle.verdict.specs.Branches.{Agree, IsAdaptive, IsShared};
-ghost use Rattle.store_trace.specs.Image.{image};
-ghost use Rattle.store_trace.specs.declared.crash_model.step.PersistenceStep.{PersistenceStep};
+ghost use Rattle.verdict.specs.CutImages.{AreByLine};
 ghost use Rattle.hart.specs.declared.state.HartState.{HartState};
 ghost use Rattle.hart.specs.declared.state.Status.TheVariants.{Running};
 ghost use Rattle.line_memory.specs.Lines.{AreLines};
@@ -14,7 +13,7 @@ ghost use Rattle.machine.specs.Replies.{trace_in};
 ghost use Rattle.machine.specs.Run.{Config, RunsTo, started};
 ghost use Rattle.recovery.specs.Answers.{answer};
 ghost use Rattle.recovery.specs.Asking.{AgreeOn, AreAsOne, asked};
-ghost use Rattle.recovery.specs.Images.{Answers, Asks, has_same_bytes};
+ghost use Rattle.recovery.specs.Images.{AnswersOn, AsksOn, has_same_bytes};
 ghost use Rattle.verdict.specs.declared.branches.question.Question.{Question};
 ghost use Rattle.recovery.specs.Recovery.{RunsFor, alone};
 
@@ -91,14 +90,16 @@ pub fn bytes_asked_decide_recovery()
         take (count + 1) (asked e.common.history) ≡ take (count + 1) (asked d.common.history) }
 {}
 
-/// The laws in terms of cuts: recovery of their images can be judged by branches, whose questions are alike by their bytes.
+/// The laws in terms of cuts: recovery of the images of any source, in which a line's number alone decides its bytes, can be judged by
+/// branches, whose questions are alike by their bytes.
 pub fn images_are_judged_by_branches()
-    ensures adaptive { (program : Sections) (steps : ℕ) (start : List (List ℕ)) (p : List PersistenceStep) →
-        ((cut : ℕ → ℕ) → AreLines (image start cut p)) → IsAdaptive (has_same_bytes start p) (Asks program steps start p) }
-    ensures shared { (program : Sections) (steps : ℕ) (start : List (List ℕ)) (p : List PersistenceStep) →
-        ((cut : ℕ → ℕ) → AreLines (image start cut p)) → IsShared (has_same_bytes start p) (Asks program steps start p) }
-    ensures branchwise { (program : Sections) (steps : ℕ) (start : List (List ℕ)) (p : List PersistenceStep) →
-        ((cut : ℕ → ℕ) → AreLines (image start cut p)) →
+    ensures adaptive { (program : Sections) (steps lines : ℕ) (image : (ℕ → ℕ) → List (List ℕ)) → AreByLine lines image →
+        ((cut : ℕ → ℕ) → AreLines (image cut)) → IsAdaptive (has_same_bytes image) (λ cut. AsksOn program steps (image cut)) }
+    ensures shared { (program : Sections) (steps lines : ℕ) (image : (ℕ → ℕ) → List (List ℕ)) → AreByLine lines image →
+        ((cut : ℕ → ℕ) → AreLines (image cut)) → IsShared (has_same_bytes image) (λ cut. AsksOn program steps (image cut)) }
+    ensures branchwise { (program : Sections) (steps lines : ℕ) (image : (ℕ → ℕ) → List (List ℕ)) → AreByLine lines image →
+        ((cut : ℕ → ℕ) → AreLines (image cut)) →
         (c k : ℕ → ℕ) (questions : List Question) (found : Result (List ℕ) Cause) →
-        Asks program steps start p c questions → Agree (has_same_bytes start p) k c questions → Answers program steps start p c found → Answers program steps start p k found }
+        AsksOn program steps (image c) questions → Agree (has_same_bytes image) k c questions → AnswersOn program steps (image c) found →
+        AnswersOn program steps (image k) found }
 {}

@@ -19,3 +19,4 @@ pub mod Volumes
 pub mod Words
 pub mod Begun
 pub mod Listing
+pub mod Picturing

@@ -7,6 +7,7 @@ mod events;
 mod json;
 mod losses;
 mod medium;
+mod picture;
 mod place;
 mod redundant;
 
@@ -16,5 +17,6 @@ pub use events::{PlacedEvent, hart_of, trace_text};
 pub use json::trace_json;
 pub use losses::{unpersisted_json, unpersisted_text, why_json, why_text};
 pub use medium::{line_text, volume_text};
+pub use picture::{ImageLine, picture_run, picture_text};
 pub use place::{CodePlace, Place, Places};
 pub use redundant::{waste_json, waste_text};

@@ -1,5 +1,5 @@
--- Right answers, one full image more, and what they say of an image.
-use Rattle.std.proofs.Common.{◌≡◌, ◌↔◌, ◌⊎◌, ◌==◌, ◌||◌, ℕ, ◌+◌, ◌<◌, ◌≤◌, ◌≢◌, Bool, true, false, inl, inr, List, [], ◌∷◌, refl, sym, ap, subst, ◌∙◌, arith, Option, Some, None, Result, Ok, Err, eqb-true, eq-eqb}
+-- Right answers, one full image more.
+use Rattle.std.proofs.Common.{◌≡◌, ◌↔◌, ◌⊎◌, ◌==◌, ◌||◌, ℕ, ◌+◌, ◌<◌, ◌≤◌, ◌≢◌, Bool, true, false, inl, inr, List, [], refl, sym, ap, subst, ◌∙◌, arith, Option, Some, None, Result, Ok, Err, eqb-true, eq-eqb}
 use Rattle.std.specs.List.{Contains}
 use Rattle.std.specs.Prelude.{◌&&◌, IfSome, OnOk, nat_le, nat_lt}
 use Rattle.std.proofs.lemmas.Bool.Decides.{nat_tests}
@@ -12,9 +12,11 @@ use Rattle.recovery.specs.Recovery.{RunsFor}
 use Rattle.recovery.specs.declared.recovery_run.Cause as run
 use Rattle.recovery.specs.declared.recovery_run.Cause.TheVariants.{Running}
 use Rattle.store_trace.specs.History.{at_moment}
-use Rattle.routine_judge.specs.Gathered.{AreAnswers, AreKept}
+use Rattle.std.specs.declared.alloc.Global.{Global}
+use Rattle.std.specs.declared.vec.Vec.{Vec}
+use Rattle.routine_judge.specs.Gathered.{AreAnswers, AreKept, IsAdded}
 use Rattle.routine_judge.specs.Images.{full_cut}
-use Rattle.routine_judge.specs.RightAnswers.{HasLastCause, IsBadOf, IsFoundOf, IsRightOf, RunsOn, Shows, ShowsFull, is_among}
+use Rattle.routine_judge.specs.RightAnswers.{HasLastCause, IsFoundOf, RunsOn, Shows, ShowsFull, is_among}
 use Rattle.routine_judge.specs.Views.{JudgeView}
 use Rattle.routine_judge.specs.declared.cause.Cause.{Cause}
 use Rattle.routine_judge.specs.declared.cause.Cause.TheVariants.{Missing, Different, Full}
@@ -42,7 +44,7 @@ or_last false = refl
 nothing_in : (bytes : List ℕ) → ¬ Contains {X = List ℕ} [] bytes
 nothing_in bytes c = absurd (omega (arith, c.1))
 
-none_in : (xs : List (List ℕ)) (bytes : List ℕ) → xs ≡ [] → ¬ Contains xs bytes
+pub none_in : (xs : List (List ℕ)) (bytes : List ℕ) → xs ≡ [] → ¬ Contains xs bytes
 none_in xs bytes e c = nothing_in bytes (subst (λ (ys : List (List ℕ)). Contains ys bytes) e c)
 
 here_too : (among : ℕ → Bool) (moment : ℕ) → (among moment || (moment == moment)) ≡ true
@@ -60,7 +62,7 @@ runs_on_cases view among moment r = elim (or_cases (among r.0) (r.0 == moment) r
 ]
 
 -- with one moment more, on whose full image the routine has an answer
-pub added_answer : (view : JudgeView) (among : ℕ → Bool) (moment : ℕ) (bytes : List ℕ) (old new : RightAnswers) → ShowsFull view moment (Ok bytes) →
+added_answer : (view : JudgeView) (among : ℕ → Bool) (moment : ℕ) (bytes : List ℕ) (old new : RightAnswers) → ShowsFull view moment (Ok bytes) →
     AreAnswers view among old → ((b : List ℕ) → Contains new.answers.items b ↔ (Contains old.answers.items b ⊎ (b ≡ bytes))) → new.runs_on ≡ old.runs_on →
     AreAnswers view (λ i. among i || (i == moment)) new
 added_answer view among moment bytes old new shown are adds keeps =
@@ -93,7 +95,7 @@ added_answer view among moment bytes old new shown are adds keeps =
     }
 
 -- with one moment more, which is the last, on whose full image it has none
-pub added_cause : (view : JudgeView) (among : ℕ → Bool) (moment : ℕ) (cause : run.Cause) (old new : RightAnswers) → ShowsFull view moment (Err cause) →
+added_cause : (view : JudgeView) (among : ℕ → Bool) (moment : ℕ) (cause : run.Cause) (old new : RightAnswers) → ShowsFull view moment (Err cause) →
     ((i : ℕ) → among i ≡ true → i < moment) → AreAnswers view among old → new.answers.items ≡ old.answers.items → new.last_cause ≡ Some cause →
     (new.runs_on ≡ true → (old.runs_on ≡ true) ⊎ (cause ≡ Running)) → (new.runs_on ≡ false → (old.runs_on ≡ false) × (cause ≢ Running)) →
     AreAnswers view (λ i. among i || (i == moment)) new
@@ -133,29 +135,24 @@ added_cause view among moment cause old new shown before are same last on ends =
   ];
 }
 
--- what they say of an image on which the routine has an answer
-pub judged_right : (view : JudgeView) (among : ℕ → Bool) (m : ℕ) (cut : ℕ → ℕ) (bytes : List ℕ) (right : RightAnswers) → AreAnswers view among right →
-    Contains right.answers.items bytes → Shows view m cut (Ok bytes) → IsFoundOf view among m cut None
-judged_right view among m cut bytes right are there shown = (bytes, shown, are.each bytes there)
+-- with whatever it comes to on the full image of the last moment
+pub added : (view : JudgeView) (among : ℕ → Bool) (moment : ℕ) (found : Result (List ℕ) run.Cause) (old new : RightAnswers) → IsAdded found old new →
+    ShowsFull view moment found → ((i : ℕ) → among i ≡ true → i < moment) → AreAnswers view among old → AreAnswers view (λ i. among i || (i == moment)) new
+added view among moment (Ok bytes) old new a shown before are = added_answer view among moment bytes old new shown are a.0 a.2
+added view among moment (Err cause) old new a shown before are =
+    added_cause view among moment cause old new shown before are (ap (λ (answers : Vec (List ℕ) Global). answers.items) a.0) a.1 a.2 a.3
 
-pub judged_full : (view : JudgeView) (among : ℕ → Bool) (m : ℕ) (cut : ℕ → ℕ) (bytes : List ℕ) (cause : run.Cause) (right : RightAnswers) → AreAnswers view among right →
-    right.answers.items ≡ [] → right.last_cause ≡ Some cause → Shows view m cut (Ok bytes) → IsBadOf view among m cut (Full cause)
-judged_full view among m cut bytes cause right are none last shown = (
-  bytes,
-  shown,
-  λ b r. none_in right.answers.items b none (are.all b r),
-  subst (λ (o : Option run.Cause). IfSome o (HasLastCause view among)) last (are.cause none),
-)
-
-some_answer : (view : JudgeView) (among : ℕ → Bool) (xs : List (List ℕ)) → ((b : List ℕ) → Contains xs b → IsRightOf view among b) → ¬ (xs ≡ []) →
-    (b : List ℕ) × IsRightOf view among b
-some_answer view among [] each n = absurd (n refl)
-some_answer view among (x ∷ xs) each n = (x, each x (0, (omega arith), refl))
-
-pub judged_different : (view : JudgeView) (among : ℕ → Bool) (m : ℕ) (cut : ℕ → ℕ) (bytes : List ℕ) (right : RightAnswers) → AreAnswers view among right →
-    ¬ Contains right.answers.items bytes → ¬ (right.answers.items ≡ []) → Shows view m cut (Ok bytes) → IsBadOf view among m cut Different
-judged_different view among m cut bytes right are wrong some shown =
-    (bytes, shown, λ r. wrong (are.all bytes r), some_answer view among right.answers.items are.each some)
+-- those on no image
+pub answers_of_none : (view : JudgeView) (right : RightAnswers) → right.answers.items ≡ [] → right.last_cause ≡ None → right.runs_on ≡ false →
+    AreAnswers view (λ _. false) right
+answers_of_none view right none last on = record {
+  each = λ b c. absurd (none_in right.answers.items b none c);
+  all = λ b r. absurd (let f : false ≡ true = r.1 in cc);
+  cause = λ e. subst (λ (o : Option run.Cause). IfSome o (HasLastCause view (λ _. false))) (sym last) tt;
+  none = λ e n i t. absurd cc;
+  on = λ t. absurd (let f : false ≡ true = sym on ∙ t in cc);
+  ends = λ f r. absurd (let u : false ≡ true = r.1 in cc);
+}
 
 -- the same moments, told otherwise
 pub same_answers : (view : JudgeView) (among other : ℕ → Bool) (right : RightAnswers) → ((i : ℕ) → among i ≡ other i) → AreAnswers view among right →

@@ -1,7 +1,9 @@
 -- A pass is kept from a moment to the next by an event that is no mark and that no image shows.
-use Rattle.std.proofs.Common.{◌≡◌, ℕ, ◌+◌, ◌<◌, Bool, List, [], ◌∷◌, length, get_or, slice_get, refl, sym, ap, ◌∙◌, subst, arith, Result, Ok, true}
+use Rattle.std.proofs.Common.{◌≡◌, ℕ, ◌+◌, ◌<◌, Bool, List, [], ◌∷◌, length, get_or, slice_get, inl, inr, refl, sym, ap, ◌∙◌, subst, arith, Result, Ok, true}
 use Rattle.std.specs.Prelude.{◌≢◌}
-use Rattle.store_trace.proofs.Images.{length_image}
+use Rattle.std.proofs.lemmas.Bool.{cases_lt}
+use Rattle.std.proofs.lemmas.List.{get_or_past}
+use Rattle.store_trace.proofs.Images.{image_line, length_image}
 use Rattle.routine_judge.proofs.Gathering.{found_alike}
 use Rattle.verdict.specs.CutImages.{AreMedia, image_at}
 use Rattle.routine_judge.specs.RightAnswers.{IsFoundOf, IsRightOf, AsksOf, RunsOn, same_bytes, Shows, is_among}
@@ -11,12 +13,11 @@ use Rattle.routine_judge.specs.Windows.{IsWindow}
 use Rattle.routine_judge.specs.declared.history.moments.Window.{Window}
 use Rattle.routine_judge.specs.declared.history.moments.Window.TheVariants.{Itself, Either, Through}
 use Rattle.machine.specs.Run.{Config, started}
-use Rattle.verdict.proofs.Keeping.{AgreeIn, IsByLines, like_next, pass_kept}
+use Rattle.verdict.proofs.Keeping.{AgreeIn, IsByLines, IsUnchanged, like_next, pass_kept}
 use Rattle.verdict.specs.Keeping.{IsUnseen}
 use Rattle.recovery.proofs.Limited.{ends_once, runs_alike}
 use Rattle.recovery.specs.Answers.{answer}
-use Rattle.recovery.specs.Images.{same_at}
-use Rattle.recovery.proofs.Bytewise.{bytes_at}
+use Rattle.recovery.specs.Images.{content, same_at}
 use Rattle.recovery.specs.Asking.{AgreeOn, asked}
 use Rattle.verdict.specs.declared.branches.question.Question.{Question}
 use Rattle.recovery.specs.declared.recovery_run.Cause as run
@@ -96,6 +97,22 @@ by_lines view window m n whole next fixed = record {
   alike = λ k c found same f. found_alike view (is_among window m) m k c found same f;
 }
 
+-- the bytes of a line in the images of a moment
+abbrev bytes_of : JudgeView → ℕ → ℕ → ℕ → List ℕ
+bytes_of view m l n = content (λ cut. image_at view.start view.events m cut) l n
+
+bytes_unchanged : (view : JudgeView) (m later l n : ℕ) → IsUnchanged (at_moment view.events m) (at_moment view.events later) l n →
+    bytes_of view later l n ≡ bytes_of view m l n
+bytes_unchanged view m later l n same = elim (cases_lt l (length view.start)) [
+  | inl low ↦
+      image_line view.start (λ x. n) (at_moment view.events later) l [] [] low ∙ same (line_at view.start l)
+      ∙ sym (image_line view.start (λ x. n) (at_moment view.events m) l [] [] low)
+  | inr high ↦
+      let a = length_image view.start (λ x. n) (at_moment view.events later) in
+      let b = length_image view.start (λ x. n) (at_moment view.events m) in
+      rw (get_or_past (image_at view.start view.events later (λ x. n)) l [] (omega (arith, high)), get_or_past (image_at view.start view.events m (λ x. n)) l [] (omega (arith, high))) refl
+]
+
 pub kept_next : (view : JudgeView) (m : ℕ) (d : Event) (flags : List Bool) (window : Window) → AreMedia view.start view.events m →
     AreMedia view.start view.events (m + 1) → m < length view.events → window ≢ Itself → IsUnseen flags (get_or view.events m d) →
     IsWindow view.events (m + 1) window → IsPassed view flags window m → IsPassed view flags window (m + 1)
@@ -103,8 +120,8 @@ kept_next view m d flags window whole next there fixed unseen is passed =
     let kept = pass_kept true view.start (at_moment view.events m) (at_moment view.events (m + 1)) flags (same_bytes view m) (same_bytes view (m + 1))
     (AsksOf view m) (AsksOf view (m + 1))
     (IsFoundOf view (is_among window m) m) (IsFoundOf view (is_among window (m + 1)) (m + 1))
-    (λ q n o x y e. ap (λ (xs : List ℕ). same_at q.bytes 0 xs (bytes_at view.start (at_moment view.events (m + 1)) q.line o)) (x (line_at view.start q.line))
-    ∙ ap (λ (ys : List ℕ). same_at q.bytes 0 (bytes_at view.start (at_moment view.events m) q.line n) ys) (y (line_at view.start q.line)) ∙ e) (like_next view.start view.events m d flags there unseen)
+    (λ q n o x y e. ap (λ (xs : List ℕ). same_at q.bytes 0 xs (bytes_of view (m + 1) q.line o)) (bytes_unchanged view m (m + 1) q.line n x)
+    ∙ ap (λ (ys : List ℕ). same_at q.bytes 0 (bytes_of view m q.line n) ys) (bytes_unchanged view m (m + 1) q.line o y) ∙ e) (like_next view.start view.events m d flags there unseen)
     (by_lines view window m (m + 1) whole next fixed) passed.flagged passed.passes in
     record {
       there = omega arith;

@@ -1,5 +1,6 @@
 pub mod Beginning
 pub mod Gathering
+pub mod Finding
 pub mod Keeping
 pub mod Running
 pub mod Alone
@@ -12,3 +13,10 @@ pub mod Spanning
 pub mod Staying
 pub mod Telling
 pub mod Bytewise
+pub mod Splitting
+pub mod Preceding
+pub mod Fitted
+pub mod Sequencing
+pub mod Entering
+pub mod Judged
+pub mod Equal

@@ -1,48 +1,33 @@
--- What a run of the routine on an image shows.
-use Rattle.std.proofs.Common.{◌≡◌, ◌∙◌, ℕ, List, ap, length, subst, Result}
-use Rattle.crash_image.specs.TraceIndexView.{IndexView}
-use Rattle.store_trace.proofs.Images.{length_image}
-use Rattle.store_trace.specs.History.{at_moment}
-use Rattle.store_trace.specs.declared.event.Event.{Event}
-use Rattle.verdict.specs.CutImages.{image_at}
-use Rattle.routine_judge.specs.RightAnswers.{AsksOf, Shows}
-use Rattle.routine_judge.specs.Views.{JudgeView}
-use Rattle.verdict.specs.declared.branches.question.Question.{Question}
+-- What a run of the routine shows.
+use Rattle.std.proofs.Common.{◌≡◌, ℕ, List, Result, subst}
 use Rattle.program.specs.Sections.{Sections}
+use Rattle.recovery.specs.Images.{AnswersOn, AsksOn}
 use Rattle.recovery.specs.Routine.{Recovers}
 use Rattle.recovery.specs.declared.recovery_run.Cause as run
+use Rattle.routine_judge.specs.Views.{JudgeView}
+use Rattle.store_trace.specs.declared.event.Event.{Event}
+use Rattle.verdict.specs.declared.branches.question.Question.{Question}
 
--- an image over the index of the run is that over the run,
-pub imaged : (own index : IndexView) (view : JudgeView) (m moment : ℕ) (cut : List Event → ℕ → ℕ → ℕ) (medium : List (List ℕ)) → own ≡ index → m ≡ moment →
-    index.start ≡ view.start → index.events ≡ view.events → medium ≡ image_at own.start own.events m (cut own.events m) →
-    medium ≡ image_at view.start view.events moment (cut view.events moment)
-imaged own index view m moment cut medium o n s e h =
-    h ∙ ap (λ (v : IndexView). image_at v.start v.events m (cut v.events m)) o
-    ∙ ap (λ (k : ℕ). image_at index.start index.events k (cut index.events k)) n
-    ∙ ap (λ (es : List Event). image_at index.start es moment (cut es moment)) e
-    ∙ ap (λ (lines : List (List ℕ)). image_at lines view.events moment (cut view.events moment)) s
+-- what holds by the routine, its steps, the starting medium, the events and a moment holds by those of the run
+pub across : (Holds : Sections → ℕ → List (List ℕ) → List Event → ℕ → Type 0) (view : JudgeView) (m : ℕ) (program : Sections) (steps : ℕ) (start : List (List ℕ))
+    (events : List Event) (n : ℕ) → program ≡ view.routine → steps ≡ view.steps → start ≡ view.start → events ≡ view.events → n ≡ m →
+    Holds program steps start events n → Holds view.routine view.steps view.start view.events m
+across Holds view m program steps start events n p s l e i h =
+    subst (λ (x : Sections). Holds x view.steps view.start view.events m) p
+    (subst (λ (x : ℕ). Holds program x view.start view.events m) s
+    (subst (λ (x : List (List ℕ)). Holds program steps x view.events m) l
+    (subst (λ (x : List Event). Holds program steps start x m) e
+    (subst (λ (x : ℕ). Holds program steps start events x) i h))))
 
--- and has as many lines
-pub imaged_length : (view : JudgeView) (moment : ℕ) (cut : List Event → ℕ → ℕ → ℕ) (medium : List (List ℕ)) →
-    medium ≡ image_at view.start view.events moment (cut view.events moment) → length medium ≡ length view.start
-imaged_length view moment cut medium h =
-    ap (λ (lines : List (List ℕ)). length lines) h ∙ length_image view.start (cut view.events moment) (at_moment view.events moment)
+-- what a run of the routine on an image asks, and what it comes to
+pub recovered_asks : (program own : Sections) (medium image : List (List ℕ)) (steps : ℕ) (questions : List Question) (found : Result (List ℕ) run.Cause) →
+    program ≡ own → medium ≡ image → Recovers program medium steps questions found → AsksOn own steps image questions
+recovered_asks program own medium image steps questions found p m r =
+    let asks : AsksOn program steps medium questions = record { end = r.end; full = r.full; runs = r.runs; asks = r.asks } in
+    subst (λ (x : Sections). AsksOn x steps image questions) p (subst (λ (x : List (List ℕ)). AsksOn program steps x questions) m asks)
 
--- a run of the routine of a view, on an image of it
-renamed : (view : JudgeView) (m : ℕ) (cut : ℕ → ℕ) (program : Sections) (steps : ℕ) (image : List (List ℕ)) (questions : List Question) (found : Result (List ℕ) run.Cause) →
-    program ≡ view.routine → steps ≡ view.steps → image ≡ image_at view.start view.events m cut → Recovers program image steps questions found →
-    Recovers view.routine (image_at view.start view.events m cut) view.steps questions found
-renamed view m cut program steps image questions found p s i r =
-    subst (λ (x : Sections). Recovers x (image_at view.start view.events m cut) view.steps questions found) p
-    (subst (λ (n : ℕ). Recovers program (image_at view.start view.events m cut) n questions found) s
-    (subst (λ (o : List (List ℕ)). Recovers program o steps questions found) i r))
-
-pub recovered_shows : (view : JudgeView) (m : ℕ) (cut : ℕ → ℕ) (program : Sections) (steps : ℕ) (image : List (List ℕ)) (questions : List Question) (found : Result (List ℕ) run.Cause) →
-    program ≡ view.routine → steps ≡ view.steps → image ≡ image_at view.start view.events m cut → Recovers program image steps questions found → Shows view m cut found
-recovered_shows view m cut program steps image questions found p s i r =
-    let o = renamed view m cut program steps image questions found p s i r in record { end = o.end; full = o.full; runs = o.runs; comes = o.comes }
-
-pub recovered_asks : (view : JudgeView) (m : ℕ) (cut : ℕ → ℕ) (program : Sections) (steps : ℕ) (image : List (List ℕ)) (questions : List Question) (found : Result (List ℕ) run.Cause) →
-    program ≡ view.routine → steps ≡ view.steps → image ≡ image_at view.start view.events m cut → Recovers program image steps questions found → AsksOf view m cut questions
-recovered_asks view m cut program steps image questions found p s i r =
-    let o = renamed view m cut program steps image questions found p s i r in record { end = o.end; full = o.full; runs = o.runs; asks = o.asks }
+pub recovered_shows : (program own : Sections) (medium image : List (List ℕ)) (steps : ℕ) (questions : List Question) (found : Result (List ℕ) run.Cause) →
+    program ≡ own → medium ≡ image → Recovers program medium steps questions found → AnswersOn own steps image found
+recovered_shows program own medium image steps questions found p m r =
+    let shows : AnswersOn program steps medium found = record { end = r.end; full = r.full; runs = r.runs; comes = r.comes } in
+    subst (λ (x : Sections). AnswersOn x steps image found) p (subst (λ (x : List (List ℕ)). AnswersOn program steps x found) m shows)

@@ -1,11 +1,31 @@
 -- The right answers as they are gathered.
-use Rattle.std.specs.Prelude.{◌≡◌, ℕ, Bool, true, false, List, [], None, IfSome}
+use Rattle.std.specs.Prelude.{◌≡◌, ◌≢◌, ◌↔◌, ◌⊎◌, ℕ, Bool, true, false, List, [], Option, None, Some, Result, Ok, Err, IfSome}
 use Rattle.std.specs.List.{Contains}
 use Rattle.routine_judge.specs.RightAnswers.{HasLastCause, IsRightOf, RunsOn, is_among}
 use Rattle.routine_judge.specs.Views.{JudgeView}
+use Rattle.routine_judge.specs.declared.cause.Cause.{Cause}
+use Rattle.routine_judge.specs.declared.cause.Cause.TheVariants.{Missing, Different, Full}
 use Rattle.routine_judge.specs.declared.right.RightAnswers.{RightAnswers}
+use Rattle.recovery.specs.declared.recovery_run.Cause as run
+use Rattle.recovery.specs.declared.recovery_run.Cause.TheVariants.{Running}
 use Rattle.routine_judge.specs.declared.history.moments.Window.{Window}
 use Rattle.routine_judge.specs.declared.history.moments.Window.TheVariants.{Itself, Either, Through}
+
+-- With what the routine comes to on one full image more: its answer is a right one, or why it has none is the last cause. It is told whether it
+-- runs on.
+abbrev pub IsAdded : Result (List ℕ) run.Cause → RightAnswers → RightAnswers → Type 0
+IsAdded (Ok bytes) old new = ((other : List ℕ) → Contains new.answers.items other ↔ (Contains old.answers.items other ⊎ (other ≡ bytes)))
+    × (new.last_cause ≡ old.last_cause) × (new.runs_on ≡ old.runs_on)
+IsAdded (Err cause) old new = (new.answers ≡ old.answers) × (new.last_cause ≡ Some cause)
+    × (new.runs_on ≡ true → (old.runs_on ≡ true) ⊎ (cause ≡ Running)) × (new.runs_on ≡ false → (old.runs_on ≡ false) × (cause ≢ Running))
+
+-- what these right answers say of an image on which the routine comes to this
+abbrev pub IsJudgedBy : RightAnswers → Result (List ℕ) run.Cause → Option Cause → Type 0
+IsJudgedBy right (Err cause) found = found ≡ Some (Missing cause)
+IsJudgedBy right (Ok bytes) None = Contains right.answers.items bytes
+IsJudgedBy right (Ok bytes) (Some (Missing cause)) = ⊥
+IsJudgedBy right (Ok bytes) (Some Different) = (¬ Contains right.answers.items bytes) × (right.answers.items ≡ [] → right.last_cause ≡ None)
+IsJudgedBy right (Ok bytes) (Some (Full cause)) = (right.answers.items ≡ []) × (right.last_cause ≡ Some cause)
 
 -- These are the answers on the full images of these moments, each once. Where there is none, the last cause is kept, if there is a moment.
 -- It is told whether the routine runs on on one of them.

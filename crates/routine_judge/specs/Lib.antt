@@ -3,6 +3,7 @@ pub mod Images
 pub mod RightAnswers
 pub mod Branchwise
 pub mod Gathered
+pub mod ImagesVerdicts
 pub mod Verdicts
 pub mod Standing
 pub mod MarkFaults
@@ -10,3 +11,5 @@ pub mod Operations
 pub mod Spans
 pub mod Windows
 pub mod Codes
+pub mod Order
+pub mod Fitting

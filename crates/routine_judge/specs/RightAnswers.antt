@@ -13,6 +13,7 @@ use Rattle.verdict.specs.declared.branches.question.Question.{Question}
 use Rattle.recovery.specs.declared.recovery_run.Cause as run
 use Rattle.recovery.specs.declared.recovery_run.Cause.TheVariants.{Running}
 use Rattle.store_trace.specs.History.{at_moment}
+use Rattle.verdict.specs.CutImages.{image_at}
 
 -- on the image of a cut of moment m the routine comes to this
 abbrev pub Shows : JudgeView → ℕ → (ℕ → ℕ) → Result (List ℕ) run.Cause → Type 0
@@ -24,7 +25,7 @@ AsksOf view m cut questions = Asks view.routine view.steps view.start (at_moment
 
 -- in the images of moment m the bytes of a question are the same after two numbers of their line's stores
 abbrev pub same_bytes : JudgeView → ℕ → Question → ℕ → ℕ → Bool
-same_bytes view m q n o = has_same_bytes view.start (at_moment view.events m) q n o
+same_bytes view m q n o = has_same_bytes (λ cut. image_at view.start view.events m cut) q n o
 
 -- on the full image of moment m it comes to this
 abbrev pub ShowsFull : JudgeView → ℕ → Result (List ℕ) run.Cause → Type 0
@@ -51,18 +52,17 @@ pub record HasLastCause (view : JudgeView) (among : ℕ → Bool) (cause : run.C
 abbrev pub RunsOn : JudgeView → (ℕ → Bool) → Type 0
 RunsOn view among = (i : ℕ) × (among i ≡ true) × ShowsFull view i (Err Running)
 
--- none of these full images has an answer
-abbrev pub AreMissing : JudgeView → (ℕ → Bool) → Type 0
-AreMissing view among = (bytes : List ℕ) → ¬ IsRightOf view among bytes
+-- why an image is bad on which the routine comes to this, where these answers are right, and where none is, for such a cause
+abbrev pub IsBadBy : (List ℕ → Type 0) → (run.Cause → Type 0) → (Result (List ℕ) run.Cause → Type 0) → Cause → Type 0
+IsBadBy right missing shows (Missing cause) = shows (Err cause)
+IsBadBy right missing shows Different = (bytes : List ℕ) × shows (Ok bytes) × (¬ right bytes) × ((other : List ℕ) × right other)
+IsBadBy right missing shows (Full cause) = (bytes : List ℕ) × shows (Ok bytes) × ((other : List ℕ) → ¬ right other) × missing cause
 
--- why the image of a cut is bad, where these full images give the right answers
-abbrev pub IsBadOf : JudgeView → (ℕ → Bool) → ℕ → (ℕ → ℕ) → Cause → Type 0
-IsBadOf view among m cut (Missing cause) = Shows view m cut (Err cause)
-IsBadOf view among m cut Different = (bytes : List ℕ) × Shows view m cut (Ok bytes) × (¬ IsRightOf view among bytes)
-    × ((right : List ℕ) × IsRightOf view among right)
-IsBadOf view among m cut (Full cause) = (bytes : List ℕ) × Shows view m cut (Ok bytes) × AreMissing view among × HasLastCause view among cause
+-- what is found of it: that its answer is right, or why it is bad
+abbrev pub IsFoundBy : (List ℕ → Type 0) → (run.Cause → Type 0) → (Result (List ℕ) run.Cause → Type 0) → Option Cause → Type 0
+IsFoundBy right missing shows None = (bytes : List ℕ) × shows (Ok bytes) × right bytes
+IsFoundBy right missing shows (Some cause) = IsBadBy right missing shows cause
 
--- what is found of the image of a cut: that its answer is right, or why it is bad
+-- the same of the image of a cut of moment m, where these full images give the right answers
 abbrev pub IsFoundOf : JudgeView → (ℕ → Bool) → ℕ → (ℕ → ℕ) → Option Cause → Type 0
-IsFoundOf view among m cut None = (bytes : List ℕ) × Shows view m cut (Ok bytes) × IsRightOf view among bytes
-IsFoundOf view among m cut (Some cause) = IsBadOf view among m cut cause
+IsFoundOf view among m cut found = IsFoundBy (IsRightOf view among) (HasLastCause view among) (Shows view m cut) found

@@ -1,4 +1,4 @@
--- What a contract sees of a run that is judged by a recovery routine.
+-- What a contract sees of a run that is judged by a recovery routine, and of a workspace.
 use Rattle.std.specs.Prelude.{ℕ, List}
 use Rattle.program.specs.Sections.{Sections}
 use Rattle.store_trace.specs.declared.event.Event.{Event}
@@ -9,3 +9,8 @@ pub record JudgeView : Type 0 where
   pub steps : ℕ
   pub start : List (List ℕ)
   pub events : List Event
+
+-- what a contract sees of what images are judged in: the routine, and how many lines the media have
+pub record WorkspaceView : Type 0 where
+  pub program : Sections
+  pub lines : ℕ

@@ -1,8 +1,10 @@
 //! The full image of a source as a routine loads from it: that with each line at its highest number.
 
-ghost use Rattle.std.specs.Prelude.{◌≡◌};
+ghost use Rattle.recovery.specs.Images.{AnswersOn};
+ghost use Rattle.std.specs.Prelude.{◌≡◌, IfOk};
 
-use recovery::Source;
+use recovery::{Answer, Cause as RunCause, Routine, Source};
+use std::alloc::{AllocError, Global};
 use std::marker::Model;
 use verdict::Images;
 
@@ -40,4 +42,20 @@ impl<I: Images> Source for FullImage<'_, I> {
     fn line(&self, line: u32) -> &[u8; 64] {
         self.images.line(line, self.images.highest(line))
     }
+}
+
+/// What the routine comes to, in so many steps at most, on the full image of a source.
+pub fn full_answer<I: Images>(
+    alloc: Global,
+    images: &I,
+    routine: &mut Routine,
+    steps: u32,
+) -> Result<Result<Answer, RunCause>, AllocError>
+    requires { routine.old.lines ≡ I.lines images.now }
+    ensures ok { IfOk result (AnswersOn routine.old.program steps (I.image images.now (I.high images.now))) }
+    ensures program { routine.new.program ≡ routine.old.program }
+    ensures lines { routine.new.lines ≡ routine.old.lines }
+{
+    let image = FullImage::new(images);
+    routine.run(alloc, &image, steps)
 }

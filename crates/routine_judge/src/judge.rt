@@ -7,8 +7,8 @@ ghost use Rattle.verdict.specs.Verdicts.{IfPassed};
 ghost use Rattle.std.specs.Prelude.{◌≡◌, ◌≤◌, length, IfOk};
 
 use crate::Cause;
+use crate::answer_images::AnswerImages;
 use crate::history::windows_lie_in_the_run;
-use crate::images::MomentImages;
 use crate::passing::still_passes;
 use crate::run::MarkedRun;
 use crate::window::WindowAnswers;
@@ -16,7 +16,7 @@ use crash_image::images_between;
 use recovery::Routine;
 use std::alloc::{AllocError, Global};
 use std::thread::Threads;
-use verdict::{MomentVerdict, Moments, Opener, open_moment};
+use verdict::{MomentCuts, MomentVerdict, Moments, Opener, open_moment};
 
 /// What a worker keeps from one moment to the next: the routine runs once for each branch of a moment, and once on each full image that
 /// gives a right answer. While the same operation is pending the right answers are made once, and a moment right after one that passes is
@@ -119,7 +119,13 @@ fn open_at<T: Threads + Sync>(
     if answers.right.runs_on {
         return Ok(MomentVerdict::TooLong);
     }
-    let images = MomentImages::new(run, moment, window, &answers.right);
+    let cuts = MomentCuts::new(&run.index, moment);
+    let images = AnswerImages {
+        images: &cuts,
+        program: run.routine,
+        steps: run.steps,
+        right: &answers.right,
+    };
     let verdict = open_moment(rt, alloc, medium, trace, moment, &images, routine, opener)?;
     Ok(verdict)
 }

@@ -5,19 +5,22 @@
 //! answers are right is this project's own.
 #![tactic(auto)]
 
+mod answer_images;
 mod bytes;
 mod cause;
 mod fault;
 mod full_image;
 mod history;
-mod images;
+mod images_judge;
 mod judge;
 mod judging;
+mod order;
 mod passing;
 mod right;
 mod run;
 mod window;
 
+pub use answer_images::AnswerImages;
 pub use cause::Cause;
 pub use fault::JudgeFault;
 pub use history::{
@@ -25,7 +28,12 @@ pub use history::{
     operations_apart_have_few, pending_operations_began, windows_lie_in_the_run,
     windows_stay_between_marks,
 };
+pub use images_judge::{AnswersWorkspace, judge_images};
 pub use judge::MomentJudge;
 pub use judging::{Judgement, judged_part};
+pub use order::{
+    Operation, Precedence, SequentialState, Word, precedences_stand, sequential_states_stand,
+};
+pub use right::RightAnswers;
 pub use run::MarkedRun;
-pub use verdict::{ImageName, MomentVerdict, Verdict};
+pub use verdict::{ImageName, ImagesVerdict, MomentVerdict, Verdict};

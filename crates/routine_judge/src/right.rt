@@ -1,11 +1,9 @@
-//! The right answers of a moment.
+//! Right answers: those of a routine on some full images.
 
-ghost use Rattle.routine_judge.specs.Gathered.{AreAnswers};
-ghost use Rattle.routine_judge.specs.RightAnswers.{IsFoundOf, ShowsFull, Shows};
-ghost use Rattle.routine_judge.specs.Views.{JudgeView};
+ghost use Rattle.routine_judge.specs.Gathered.{IsAdded, IsJudgedBy};
 ghost use Rattle.recovery.specs.declared.recovery_run.Cause.TheVariants.{Running};
 ghost use Rattle.std.specs.List.{Contains};
-ghost use Rattle.std.specs.Prelude.{◌≡◌, ◌≢◌, ◌||◌, ◌==◌, ◌<◌, ◌↔◌, ◌⊎◌, ℕ, List, Ok, Bool, true, false, None, Some, IfOk, IsTrue, OnOk};
+ghost use Rattle.std.specs.Prelude.{◌≡◌, ◌≢◌, ◌↔◌, ◌⊎◌, ℕ, List, [], Ok, true, false, None, Some, IsTrue, OnErr, OnOk};
 
 use crate::Cause;
 use recovery::{Answer, Cause as RunCause};
@@ -24,7 +22,9 @@ pub struct RightAnswers {
 impl RightAnswers {
     /// Those on no image.
     pub fn none(alloc: Global) -> RightAnswers
-        ensures { (view : JudgeView) → AreAnswers view (λ _. false) result }
+        ensures answers { result.answers.items ≡ [] }
+        ensures cause { result.last_cause ≡ None }
+        ensures on { result.runs_on ≡ false }
     {
         RightAnswers {
             answers: Vec::new(alloc),
@@ -33,11 +33,13 @@ impl RightAnswers {
         }
     }
 
-    /// Takes in what the routine came to on the full image of a further moment, which is later than those before.
+    /// Takes in what the routine came to on one full image more.
+    ///
+    /// # Errors
+    /// A growth was refused. They are the same then.
     pub fn add(&mut self, found: Result<Answer, RunCause>) -> Result<(), AllocError>
-        ensures { OnOk result ((view : JudgeView) (among : ℕ → Bool) (moment : ℕ) → ShowsFull view moment found →
-            ((i : ℕ) → among i ≡ true → i < moment) → AreAnswers view among self.old →
-            AreAnswers view (λ i. among i || (i == moment)) self.new) }
+        ensures ok { OnOk result (IsAdded found self.old self.new) }
+        ensures err { OnErr result ((self.new.answers.items ≡ self.old.answers.items) × (self.new.last_cause ≡ self.old.last_cause) × (self.new.runs_on ≡ self.old.runs_on)) }
     {
         match found {
             Ok(answer) => self.add_answer(answer)?,
@@ -62,6 +64,7 @@ impl RightAnswers {
         ensures answers { OnOk result ((bytes : List ℕ) → Contains self.new.answers.items bytes ↔ (Contains self.old.answers.items bytes ⊎ (bytes ≡ answer))) }
         ensures cause { self.new.last_cause ≡ self.old.last_cause }
         ensures on { self.new.runs_on ≡ self.old.runs_on }
+        ensures err { OnErr result (self.new.answers.items ≡ self.old.answers.items) }
     {
         if !self.has(&answer) {
             self.answers.push(answer)?;
@@ -78,10 +81,10 @@ impl RightAnswers {
             .any(|right| right.bytes() == answer.bytes())
     }
 
-    /// What an image is found to be, on which the routine came to this: why it is bad, or None where its answer is a right one.
-    pub fn judge(&self, found: &Result<Answer, RunCause>) -> Option<Cause>
-        ensures { (view : JudgeView) (among : ℕ → Bool) (moment : ℕ) (cut : ℕ → ℕ) → AreAnswers view among self.now →
-            ((i : ℕ) × (among i ≡ true)) → Shows view moment cut found.now → IsFoundOf view among moment cut result }
+    /// What an image is found to be, on which the routine came to this: why it is bad, or None where its answer is a right one. Without a right
+    /// answer and without a cause why there is none it is different.
+    pub(crate) fn judge(&self, found: &Result<Answer, RunCause>) -> Option<Cause>
+        ensures { IsJudgedBy self.now found.now result }
     {
         match found {
             Err(cause) => Some(Cause::Missing(*cause)),
@@ -90,8 +93,7 @@ impl RightAnswers {
     }
 
     fn judge_answer(&self, answer: &Answer) -> Option<Cause>
-        ensures { (view : JudgeView) (among : ℕ → Bool) (moment : ℕ) (cut : ℕ → ℕ) → AreAnswers view among self.now →
-            ((i : ℕ) × (among i ≡ true)) → Shows view moment cut (Ok answer.now) → IsFoundOf view among moment cut result }
+        ensures { IsJudgedBy self.now (Ok answer.now) result }
     {
         if self.has(answer) {
             return None;

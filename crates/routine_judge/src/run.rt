@@ -8,6 +8,7 @@ ghost use Rattle.routine_judge.specs.Windows.{IsWindow};
 ghost use Rattle.std.specs.Prelude.{◌≡◌, ◌≢◌, ◌+◌, ◌<◌, ◌≤◌, ℕ, [], length, IfErr, IfOk};
 
 use crate::JudgeFault;
+use crate::answer_images::copied_routine;
 use crate::history::{MarkFault, Window, Windows, begins, check_marks};
 use crash_image::TraceIndex;
 use line_memory::Medium;
@@ -24,7 +25,7 @@ use store_trace::{Event, Trace};
 pub struct MarkedRun<'a> {
     pub(crate) medium: &'a Medium,
     pub(crate) trace: &'a Trace,
-    routine: &'a Program,
+    pub(crate) routine: &'a Program,
     /// How many steps the routine makes at most on an image.
     pub(crate) steps: u32,
     pub(crate) index: TraceIndex<'a>,
@@ -142,11 +143,7 @@ impl<'a> MarkedRun<'a> {
         ensures program { IfOk result (λ routine. routine.program ≡ self.now.routine) }
         ensures lines { IfOk result (λ routine. routine.lines ≡ length self.now.start) }
     {
-        let program = self.routine.copy(alloc)?;
-        match Routine::new(alloc, program, self.lines) {
-            Ok(routine) => Ok(routine),
-            Err(_memory) => Err(AllocError),
-        }
+        copied_routine(alloc, self.routine, self.lines)
     }
 
     /// Which full images give the right answers of a moment.

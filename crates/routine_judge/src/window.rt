@@ -6,7 +6,7 @@ ghost use Rattle.routine_judge.specs.Windows.{IsWindow};
 ghost use Rattle.routine_judge.specs.declared.history.moments.Window.TheVariants.{Itself};
 ghost use Rattle.std.specs.Prelude.{◌≡◌, ◌≢◌, ◌||◌, ◌&&◌, ◌==◌, ◌<◌, ◌≤◌, ℕ, Bool, true, false, nat_le, nat_lt, length, IfOk, IsTrue, OnOk};
 
-use crate::full_image::FullImage;
+use crate::full_image::full_answer;
 use crate::history::{Window, windows_lie_in_the_run};
 use crate::right::RightAnswers;
 use crate::run::MarkedRun;
@@ -33,7 +33,7 @@ impl WindowAnswers {
     }
 
     /// Makes them those of the window of a moment, unless they are: a window that doesn't move with its moment has the same ones.
-    #[tactic(auto, using(crate::proofs::Gathering::kept_answers, crate::proofs::Gathering::answers_kept))]
+    #[tactic(auto, using(crate::proofs::Gathering::kept_answers, crate::proofs::Gathering::answers_kept, crate::proofs::Gathering::answers_of_none))]
     pub fn renew(
         &mut self,
         alloc: Global,
@@ -177,6 +177,5 @@ fn run_full(
     ensures lines { routine.new.lines ≡ length run.now.start }
 {
     let cuts = MomentCuts::new(&run.index, moment as u32);
-    let image = FullImage::new(&cuts);
-    routine.run(alloc, &image, run.steps)
+    full_answer(alloc, &cuts, routine, run.steps)
 }

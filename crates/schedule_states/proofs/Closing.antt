@@ -40,19 +40,20 @@ covers_kept stands old new d grown covers = record {
   stands_as = (stands_grown old.parts new.parts covers.state d grown.parts covers.stands_as.0, covers.stands_as.1);
 }
 
-pub closed_more : {T : Type 0} (stands : T → List Event → Type 0) (old new : ReachedView T) (s : ProgramState) (t : T) (count : ℕ) → IsClosedFor stands old s t count →
-    HasLists old.parts s → HaveGrown old new → WereBefore old.parts new.parts → IsClosedBy stands new s t count → IsClosedFor stands new s t (count + 1)
-closed_more stands old new s t count closed lists grown before here h few = elim (cases_eq h count) [
-  | inl same ↦ subst (λ (k : ℕ). IsClosedBy stands new s t k) (sym same) here
-  | inr other ↦ λ c d stands_as asks.
-      covers_kept stands old new d grown (closed h (omega (arith, few, other)) c d (before s c lists stands_as.0, stands_as.1) asks)
+pub closed_more : {T : Type 0} (stands : T → List Event → Type 0) (allows : List Event → ℕ → Type 0) (old new : ReachedView T) (s : ProgramState) (t : T) (count : ℕ) →
+    IsClosedFor stands allows old s t count → HasLists old.parts s → HaveGrown old new → WereBefore old.parts new.parts → IsClosedBy stands allows new s t count →
+    IsClosedFor stands allows new s t (count + 1)
+closed_more stands allows old new s t count closed lists grown before here h few = elim (cases_eq h count) [
+  | inl same ↦ subst (λ (k : ℕ). IsClosedBy stands allows new s t k) (sym same) here
+  | inr other ↦ λ c d stands_as may asks.
+      covers_kept stands old new d grown (closed h (omega (arith, few, other)) c d (before s c lists stands_as.0, stands_as.1) may asks)
 ]
 
 -- two states of the same number have the same parts
 numbers_once : {T : Type 0} (r : ReachedView T) (n : ℕ) (s u : ProgramState) (t v : T) (a : IsMet r n s t) (b : IsMet r n u v) → a.numbers ≡ b.numbers
 numbers_once r n s u t v a b = same_Some a.numbers b.numbers (sym a.found ∙ b.found)
 
-same_harts : {T : Type 0} (r : ReachedView T) (n : ℕ) (s u : ProgramState) (t v : T) → IsMet r n s t → IsMet r n u v → u.harts.items ≡ s.harts.items
+pub same_harts : {T : Type 0} (r : ReachedView T) (n : ℕ) (s u : ProgramState) (t v : T) → IsMet r n s t → IsMet r n u v → u.harts.items ≡ s.harts.items
 same_harts r n s u t v a b = same_lists u.harts.items s.harts.items (b.count ∙ sym a.count) (λ h d few.
     let one : slice_get r.hart_parts (slice_index_or b.numbers.harts h 0) ≡ Some (slice_index_or u.harts.items h d) =
     b.each h (slice_index_or u.harts.items h d) (slice_get-get_or u.harts.items h d few) in
@@ -61,23 +62,23 @@ same_harts r n s u t v a b = same_lists u.harts.items s.harts.items (b.count ∙
     ∙ a.each h (slice_index_or s.harts.items h d) (slice_get-get_or s.harts.items h d (omega (arith, few, a.count, b.count))) in
     same_Some (slice_index_or u.harts.items h d) (slice_index_or s.harts.items h d) (sym one ∙ other))
 
-same_memory : {T : Type 0} (r : ReachedView T) (n : ℕ) (s u : ProgramState) (t v : T) → IsMet r n s t → IsMet r n u v → u.memory ≡ s.memory
+pub same_memory : {T : Type 0} (r : ReachedView T) (n : ℕ) (s u : ProgramState) (t v : T) → IsMet r n s t → IsMet r n u v → u.memory ≡ s.memory
 same_memory r n s u t v a b = b.memory ∙ ap (λ (x : StateNumbers). x.memory) (sym (numbers_once r n s u t v a b)) ∙ sym a.memory
 
-same_standing : {T : Type 0} (r : ReachedView T) (n : ℕ) (s u : ProgramState) (t v : T) → IsMet r n s t → IsMet r n u v → v ≡ t
+pub same_standing : {T : Type 0} (r : ReachedView T) (n : ℕ) (s u : ProgramState) (t v : T) → IsMet r n s t → IsMet r n u v → v ≡ t
 same_standing r n s u t v a b =
     let one : slice_get r.standings a.numbers.standing ≡ Some v =
     ap (λ (x : StateNumbers). slice_get r.standings x.standing) (numbers_once r n s u t v a b) ∙ b.standing in
     same_Some v t (sym one ∙ a.standing)
 
-pub closed_at : {T : Type 0} (stands : T → List Event → Type 0) (ends : Status → Type 0) (r : ReachedView T) (n : ℕ) (s : ProgramState) (t : T) → IsMet r n s t →
-    IsClosedFor stands r s t r.harts → PartsEndWell ends s.harts.items → IsClosedAt stands ends r n
-closed_at {T} stands ends r n s t met closed well = record {
-  covered = λ h u v c d other few stands_as asks.
+pub closed_at : {T : Type 0} (stands : T → List Event → Type 0) (allows : List Event → ℕ → Type 0) (ends : Status → Type 0) (r : ReachedView T) (n : ℕ)
+    (s : ProgramState) (t : T) → IsMet r n s t → IsClosedFor stands allows r s t r.harts → PartsEndWell ends s.harts.items → IsClosedAt stands allows ends r n
+closed_at {T} stands allows ends r n s t met closed well = record {
+  covered = λ h u v c d other few stands_as may asks.
       closed h few c d (
         stands_same r.parts u s c (same_harts r n u s v t other met) (same_memory r n u s v t other met) stands_as.0,
         subst (λ (x : T). stands x (trace_in c.common)) (sym (same_standing r n u s v t other met)) stands_as.1,
-      ) asks;
+      ) may asks;
   ended = λ u v other. subst (λ (parts : List HartPart). PartsEndWell ends parts) (sym (same_harts r n s u t v met other)) well;
 }
 
@@ -99,25 +100,25 @@ met_before old new n s t are grown there met =
           known.1 ∙ sym mine ∙ met.each h part here;
     }
 
-pub closed_still : {T : Type 0} (stands : T → List Event → Type 0) (ends : Status → Type 0) (old new : ReachedView T) (n : ℕ) → AreNumbered old → HaveGrown old new →
-    WereBefore old.parts new.parts → n < length old.states → IsClosedAt stands ends old n → IsClosedAt stands ends new n
-closed_still stands ends old new n are grown before there closed = record {
-  covered = λ h s t c d met few stands_as asks.
+pub closed_still : {T : Type 0} (stands : T → List Event → Type 0) (allows : List Event → ℕ → Type 0) (ends : Status → Type 0) (old new : ReachedView T) (n : ℕ) →
+    AreNumbered old → HaveGrown old new → WereBefore old.parts new.parts → n < length old.states → IsClosedAt stands allows ends old n → IsClosedAt stands allows ends new n
+closed_still stands allows ends old new n are grown before there closed = record {
+  covered = λ h s t c d met few stands_as may asks.
       let was : IsMet old n s t = met_before old new n s t are grown there met in
       let lists : HasLists old.parts s = lists_of_met old n s t was (are.each n was.numbers was.found) in
       let near : h < old.harts = omega (arith, few, grown.harts) in
-      covers_kept stands old new d grown (closed.covered h s t c d was near (before s c lists stands_as.0, stands_as.1) asks);
+      covers_kept stands old new d grown (closed.covered h s t c d was near (before s c lists stands_as.0, stands_as.1) may asks);
   ended = λ s t met. closed.ended s t (met_before old new n s t are grown there met);
 }
 
-pub closed_next : {T : Type 0} (stands : T → List Event → Type 0) (ends : Status → Type 0) (old new : ReachedView T) (count : ℕ) → IsClosedBelow stands ends old count →
-    count < length old.states → IsClosedAt stands ends new count →
-    ((n : ℕ) → n < length old.states → IsClosedAt stands ends old n → IsClosedAt stands ends new n) → IsClosedBelow stands ends new (count + 1)
-closed_next stands ends old new count closed there here still n few = elim (cases_eq n count) [
-  | inl same ↦ subst (λ (k : ℕ). IsClosedAt stands ends new k) (sym same) here
+pub closed_next : {T : Type 0} (stands : T → List Event → Type 0) (allows : List Event → ℕ → Type 0) (ends : Status → Type 0) (old new : ReachedView T) (count : ℕ) →
+    IsClosedBelow stands allows ends old count → count < length old.states → IsClosedAt stands allows ends new count →
+    ((n : ℕ) → n < length old.states → IsClosedAt stands allows ends old n → IsClosedAt stands allows ends new n) → IsClosedBelow stands allows ends new (count + 1)
+closed_next stands allows ends old new count closed there here still n few = elim (cases_eq n count) [
+  | inl same ↦ subst (λ (k : ℕ). IsClosedAt stands allows ends new k) (sym same) here
   | inr other ↦ still n (omega (arith, few, there)) (closed n (omega (arith, few, other)))
 ]
 
-pub closed_all : {T : Type 0} (stands : T → List Event → Type 0) (ends : Status → Type 0) (r : ReachedView T) (count : ℕ) → IsClosedBelow stands ends r count →
-    length r.states ≤ count → IsClosed stands ends r
-closed_all stands ends r count closed few n there = closed n (omega (arith, few, there))
+pub closed_all : {T : Type 0} (stands : T → List Event → Type 0) (allows : List Event → ℕ → Type 0) (ends : Status → Type 0) (r : ReachedView T) (count : ℕ) →
+    IsClosedBelow stands allows ends r count → length r.states ≤ count → IsClosed stands allows ends r
+closed_all stands allows ends r count closed few n there = closed n (omega (arith, few, there))

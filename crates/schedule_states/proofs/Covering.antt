@@ -1,5 +1,5 @@
 -- Closed states cover whatever a schedule leads to.
-use Rattle.std.proofs.Common.{◌≡◌, inl, inr, ℕ, ◌<◌, List, [], ◌∷◌, Some, length, slice_get, sym, ap, ◌∙◌, subst}
+use Rattle.std.proofs.Common.{◌≡◌, inl, inr, ℕ, ◌<◌, List, [], ◌∷◌, Some, length, slice_get, refl, sym, ap, ◌∙◌, subst}
 use Rattle.std.proofs.lemmas.Option.{slice_get_within}
 use Rattle.bus.proofs.Places.{there_is}
 use Rattle.hart.specs.declared.state.HartState.{HartState}
@@ -7,6 +7,7 @@ use Rattle.hart.specs.declared.state.Status.{Status}
 use Rattle.machine.specs.Run.{Config, RunsTo, StepsTo}
 use Rattle.machine.specs.Replies.{memory_in, trace_in}
 use Rattle.machine.specs.declared.schedule.items.Step.{Step}
+use Rattle.machine.specs.declared.schedule.items.Step.TheVariants.{Hart}
 use Rattle.store_trace.specs.History.{history}
 use Rattle.store_trace.specs.declared.event.Event.{Event}
 use Rattle.schedule_states.proofs.Answered.{text_grown}
@@ -17,12 +18,13 @@ use Rattle.schedule_states.specs.Judging.{HaveEndedWell}
 use Rattle.schedule_states.specs.Memories.{IsMemoryOf}
 use Rattle.schedule_states.specs.StartLines.{StartView}
 use Rattle.schedule_states.specs.States.{AreGrown, IsHartOf, PartsView, StandsFor, text_for}
+use Rattle.schedule_states.specs.Turns.{KeepsTo}
 use Rattle.schedule_states.specs.declared.program_state.HartPart.{HartPart}
 use Rattle.schedule_states.specs.declared.program_state.ProgramState.{ProgramState}
 
-covers_step : {T : Type 0} (stands : T → List Event → Type 0) (ends : Status → Type 0) (r : ReachedView T) (c d : Config) (step : Step) → IsClosed stands ends r →
-    Covers stands r c → StepsTo c step d → Covers stands r d
-covers_step stands ends r c d step closed covers steps = elim (stands_or_asks r.parts covers.state c d step covers.stands_as.0 steps) [
+covers_step : {T : Type 0} (stands : T → List Event → Type 0) (allows : List Event → ℕ → Type 0) (ends : Status → Type 0) (r : ReachedView T) (c d : Config) (step : Step) →
+    IsClosed stands allows ends r → ((h : ℕ) → step ≡ Hart h → allows (trace_in c.common) h) → Covers stands r c → StepsTo c step d → Covers stands r d
+covers_step stands allows ends r c d step closed may covers steps = elim (stands_or_asks r.parts covers.state c d step covers.stands_as.0 steps) [
   | inl still ↦ record {
     state = covers.state;
     standing = covers.standing;
@@ -34,14 +36,21 @@ covers_step stands ends r c d step closed covers steps = elim (stands_or_asks r.
       let there : asks.0 < length c.harts = slice_get_within c.harts asks.0 asks.1.own asks.1.here in
       let few : asks.0 < r.harts = subst (λ (n : ℕ). asks.0 < n) (sym covers.stands_as.0.count ∙ covers.met.count) there in
       (closed covers.number (slice_get_within r.states covers.number covers.met.numbers covers.met.found)).covered asks.0 covers.state covers.standing c d
-      covers.met few covers.stands_as asks.1
+      covers.met few covers.stands_as (may asks.0 asks.2) asks.1
 ]
 
-pub covers_run : {T : Type 0} (stands : T → List Event → Type 0) (ends : Status → Type 0) (r : ReachedView T) (c d : Config) (steps : List Step) → IsClosed stands ends r →
-    Covers stands r c → RunsTo c steps d → Covers stands r d
-covers_run stands ends r c d [] closed covers runs = subst (λ (e : Config). Covers stands r e) (sym runs) covers
-covers_run stands ends r c d (step ∷ steps) closed covers runs =
-    covers_run stands ends r runs.0 d steps closed (covers_step stands ends r c runs.0 step closed covers runs.1) runs.2
+-- the schedule behind its first step keeps to the rule too
+keeps_on : (allows : List Event → ℕ → Type 0) (c d : Config) (step : Step) (steps : List Step) → StepsTo c step d → KeepsTo allows c (step ∷ steps) →
+    KeepsTo allows d steps
+keeps_on allows c d step steps first keeps before after h e is runs = keeps (step ∷ before) after h e (ap (λ (rest : List Step). step ∷ rest) is) (d, first, runs)
+
+pub covers_run : {T : Type 0} (stands : T → List Event → Type 0) (allows : List Event → ℕ → Type 0) (ends : Status → Type 0) (r : ReachedView T) (c d : Config)
+    (steps : List Step) → IsClosed stands allows ends r → Covers stands r c → RunsTo c steps d → KeepsTo allows c steps → Covers stands r d
+covers_run stands allows ends r c d [] closed covers runs keeps = subst (λ (e : Config). Covers stands r e) (sym runs) covers
+covers_run stands allows ends r c d (step ∷ steps) closed covers runs keeps =
+    let may : (h : ℕ) → step ≡ Hart h → allows (trace_in c.common) h = λ h is. keeps [] steps h c (ap (λ (s : Step). s ∷ steps) is) refl in
+    covers_run stands allows ends r runs.0 d steps closed (covers_step stands allows ends r c runs.0 step closed may covers runs.1) runs.2
+    (keeps_on allows c runs.0 step steps runs.1 keeps)
 
 -- harts have stopped as they may where those of the state have
 pub ended_well : (ends : Status → Type 0) (parts : PartsView) (s : ProgramState) (c : Config) → StandsFor parts s c → PartsEndWell ends s.harts.items →

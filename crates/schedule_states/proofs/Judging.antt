@@ -26,7 +26,7 @@ use Rattle.schedule_states.specs.Covering.{Covers, IsClosed, ReachedView}
 use Rattle.schedule_states.specs.Exploring.{IfAll, IsAll, IsFound, LeadByHarts}
 use Rattle.schedule_states.specs.HeldLines.{AreBelow, on_medium}
 use Rattle.schedule_states.specs.Images.{content_of, highest_in, image_from, image_in, line_in, others_of}
-use Rattle.schedule_states.specs.Judging.{AlwaysGood, AreGoodBelow, AreGoodImages, AreGoodMoments, IsGoodMoment, IsGoodState, LeavesGood}
+use Rattle.schedule_states.specs.Judging.{AlwaysGood, AreGoodBelow, AreGoodImages, AreGoodMoments, IsGoodMoment, IsGoodState, LeavesGood, StaysGood}
 use Rattle.schedule_states.specs.LineStates.{unfenced}
 use Rattle.schedule_states.specs.Media.{AreOnMedium, IsOnMedium, MediaView}
 use Rattle.schedule_states.specs.Memories.{IsLineOf, IsMemoryOf, MemoryView}
@@ -103,7 +103,7 @@ leaves_good stands good m memory t events of are kept k bounds =
     subst (λ (left : List (List ℕ)). good events left) (sym same) (are events (λ l. (choice l).0) kept (λ l. (choice l).1))
 
 -- a moment stays good as the parts grow
-abbrev view_of : PartsView → List HeldLine → MemoryView
+abbrev pub view_of : PartsView → List HeldLine → MemoryView
 view_of parts held = record { start = parts.table.start; states = parts.table.states; held = held }
 
 same_images : (m n : MemoryView) (k : ℕ → ℕ) (i : ℕ) (lines : List (List ℕ)) → ((l : ℕ) → line_in n l ≡ line_in m l) → image_from n k i lines ≡ image_from m k i lines
@@ -145,22 +145,34 @@ moments_kept stands good old new media moments grown are = record {
 }
 
 -- the images of what is held of the medium are those of all that is held
+line_of_medium : (parts : PartsView) (held : List HeldLine) (l : ℕ) → line_in (view_of parts held) l ≡ line_in (view_of parts (on_medium held)) l
+line_of_medium parts held l = ap (λ (number : Option ℕ). option_and_then (slice_get parts.table.states) number) (sym (number_on_medium held l))
+
+pub image_of_medium : (parts : PartsView) (held : List HeldLine) (k : ℕ → ℕ) → image_in (view_of parts held) k ≡ image_in (view_of parts (on_medium held)) k
+image_of_medium parts held k =
+    same_images (view_of parts (on_medium held)) (view_of parts held) k 0 parts.table.start.medium (λ l. line_of_medium parts held l)
+
 images_of_medium : {T : Type 0} (stands : T → List Event → Type 0) (good : List Event → List (List ℕ) → Type 0) (parts : PartsView) (held : List HeldLine) (t : T) →
     AreGoodImages stands good (view_of parts (on_medium held)) t → AreGoodImages stands good (view_of parts held) t
 images_of_medium stands good parts held t are events k kept choice =
-    let same : (l : ℕ) → line_in (view_of parts held) l ≡ line_in (view_of parts (on_medium held)) l =
-    λ l. ap (λ (number : Option ℕ). option_and_then (slice_get parts.table.states) number) (sym (number_on_medium held l)) in
-    let image_is : image_in (view_of parts held) k ≡ image_in (view_of parts (on_medium held)) k =
-    same_images (view_of parts (on_medium held)) (view_of parts held) k 0 parts.table.start.medium same in
-    subst (λ (left : List (List ℕ)). good events left) (sym image_is)
-    (are events k kept (λ l. subst (λ (s : Option LineState). k l ≤ length (others_of s)) (same l) (choice l)))
+    subst (λ (left : List (List ℕ)). good events left) (sym (image_of_medium parts held k))
+    (are events k kept (λ l. subst (λ (s : Option LineState). k l ≤ length (others_of s)) (line_of_medium parts held l) (choice l)))
 
-pub moment_of_medium : {T : Type 0} (stands : T → List Event → Type 0) (good : List Event → List (List ℕ) → Type 0) (r : ReachedView T) (lists : List (List HeldLine))
+moment_of_medium : {T : Type 0} (stands : T → List Event → Type 0) (good : List Event → List (List ℕ) → Type 0) (r : ReachedView T) (lists : List (List HeldLine))
     (memory number standing : ℕ) → IsOnMedium r.parts lists memory number → IsGoodMoment stands good r lists number standing → IsGoodMoment stands good r r.parts.lists memory standing
 moment_of_medium stands good r lists memory number standing on is held t found kept =
     let same : on.held ≡ held = same_Some on.held held (sym on.found ∙ found) in
     images_of_medium stands good r.parts held t
     (is (on_medium held) t (subst (λ (one : List HeldLine). slice_get lists number ≡ Some (on_medium one)) same on.here) kept)
+
+-- so a state is good where the moment of what it holds of the medium is
+pub state_of_moment : {T : Type 0} (stands : T → List Event → Type 0) (good : List Event → List (List ℕ) → Type 0) (r : ReachedView T) (lists : List (List HeldLine))
+    (n : ℕ) (numbers : StateNumbers) (number : ℕ) → slice_get r.states n ≡ Some numbers → IsOnMedium r.parts lists numbers.memory number →
+    IsGoodMoment stands good r lists number numbers.standing → IsGoodState stands good r n
+state_of_moment stands good r lists n numbers number here on is others found =
+    let same : numbers ≡ others = same_Some numbers others (sym here ∙ found) in
+    subst (λ (one : StateNumbers). IsGoodMoment stands good r r.parts.lists one.memory one.standing) same
+    (moment_of_medium stands good r lists numbers.memory number numbers.standing on is)
 
 state_still : {T : Type 0} (stands : T → List Event → Type 0) (good : List Event → List (List ℕ) → Type 0) (old new : ReachedView T) (n : ℕ) → HaveGrown old new →
     AreNumbered old → AreLists old.parts.table.states old.parts.lists → n < length old.states → IsGoodState stands good old n → IsGoodState stands good new n
@@ -192,6 +204,27 @@ moments_more stands good r media moments more moment appended are memory standin
   ];
 }
 
+-- as more is noted, what was good stays good
+moment_noted : {T : Type 0} (stands : T → List Event → Type 0) (before after : List Event → List (List ℕ) → Type 0) (r : ReachedView T) (lists : List (List HeldLine))
+    (memory standing : ℕ) → StaysGood before after → IsGoodMoment stands before r lists memory standing → IsGoodMoment stands after r lists memory standing
+moment_noted stands before after r lists memory standing stays is held t found here events k kept choice =
+    stays events (image_in (view_of r.parts held) k) (is held t found here events k kept choice)
+
+pub moments_noted : {T : Type 0} (stands : T → List Event → Type 0) (before after : List Event → List (List ℕ) → Type 0) (r : ReachedView T) (media : MediaView)
+    (moments : List Moment) → StaysGood before after → AreGoodMoments stands before r media moments → AreGoodMoments stands after r media moments
+moments_noted stands before after r media moments stays are = record {
+  held = are.held;
+  each = λ n moment found.
+      let was : (moment.memory < length media.lists) × (moment.standing < length r.standings) × IsGoodMoment stands before r media.lists moment.memory moment.standing =
+      are.each n moment found in
+      (was.0, was.1, moment_noted stands before after r media.lists moment.memory moment.standing stays was.2);
+}
+
+pub below_noted : {T : Type 0} (stands : T → List Event → Type 0) (before after : List Event → List (List ℕ) → Type 0) (r : ReachedView T) (count : ℕ) →
+    StaysGood before after → AreGoodBelow stands before r count → AreGoodBelow stands after r count
+below_noted stands before after r count stays are n few numbers found =
+    moment_noted stands before after r r.parts.lists numbers.memory numbers.standing stays (are n few numbers found)
+
 -- moments stay good as further lists of lines of the medium are numbered
 pub moments_among : {T : Type 0} (stands : T → List Event → Type 0) (good : List Event → List (List ℕ) → Type 0) (r : ReachedView T) (media more : MediaView) (moments : List Moment) →
     AreKept media.lists more.lists → AreOnMedium r.parts more → AreGoodMoments stands good r media moments → AreGoodMoments stands good r more moments
@@ -210,11 +243,11 @@ pub known_moment : {T : Type 0} (stands : T → List Event → Type 0) (good : L
 known_moment stands good r media moments more place moment kept there found are = (are.each place moment (got_kept moments more place moment kept there found)).2
 
 -- whatever a schedule leads to
-pub all_good : {T : Type 0} (stands : T → List Event → Type 0) (good : List Event → List (List ℕ) → Type 0) (ends : Status → Type 0) (r : ReachedView T) (program : Sections)
-    (medium : List (List ℕ)) (harts : ℕ) → r.parts.table.start.medium ≡ medium → Covers stands r (started program medium harts) → IsClosed stands ends r →
-    AreGoodBelow stands good r (length r.states) → AlwaysGood stands good ends program medium harts
-all_good stands good ends r program medium harts same start closed are steps end runs =
-    let covers : Covers stands r end = covers_run stands ends r (started program medium harts) end steps closed start runs in
+pub all_good : {T : Type 0} (stands : T → List Event → Type 0) (allows : List Event → ℕ → Type 0) (good : List Event → List (List ℕ) → Type 0) (ends : Status → Type 0)
+    (r : ReachedView T) (program : Sections) (medium : List (List ℕ)) (harts : ℕ) → r.parts.table.start.medium ≡ medium → Covers stands r (started program medium harts) →
+    IsClosed stands allows ends r → AreGoodBelow stands good r (length r.states) → AlwaysGood stands allows good ends program medium harts
+all_good stands allows good ends r program medium harts same start closed are steps end runs keeps =
+    let covers : Covers stands r end = covers_run stands allows ends r (started program medium harts) end steps closed start runs keeps in
     let numbers : StateNumbers = covers.met.numbers in
     let within : covers.number < length r.states = slice_get_within r.states covers.number numbers covers.met.found in
     let held : List HeldLine = covers.stands_as.0.held in

@@ -7,6 +7,7 @@ pub mod Fetching
 pub mod Growing
 pub mod Imaging
 pub mod Judging
+pub mod Happening
 pub mod Held
 pub mod Leaving
 pub mod Looking

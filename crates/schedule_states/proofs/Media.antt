@@ -1,5 +1,5 @@
 -- What lists of held lines hold of the medium, as lists and states grow.
-use Rattle.std.proofs.Common.{◌≡◌, ◌⊎◌, inl, inr, ℕ, ◌<◌, List, [], ◌∷◌, ◌++◌, Some, length, slice_get, refl, sym, subst, ◌∙◌}
+use Rattle.std.proofs.Common.{◌≡◌, ◌⊎◌, inl, inr, ℕ, List, [], ◌∷◌, ◌++◌, length, sym, subst}
 use Rattle.schedule_states.proofs.Held.{below_filtered}
 use Rattle.schedule_states.proofs.Looking.{each_pushed, got_appended}
 use Rattle.schedule_states.proofs.Putting.{below_grows}

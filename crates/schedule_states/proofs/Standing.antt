@@ -35,7 +35,7 @@ alone_once text s t u a b =
     let same : a.need ≡ b.need = needs_once s (fetched text s.pc) a.need b.need a.needs b.needs in
     leaves_once s t u b.need (subst (λ (need : Need). LeavesAlone s need t) same a.leaves) b.leaves
 
-first_alone : (text : Memory) (n : ℕ) (s t : HartState) → GoesAlone text (suc n) s t → (first : HartState) × StepsAlone text s first × GoesAlone text n first t
+pub first_alone : (text : Memory) (n : ℕ) (s t : HartState) → GoesAlone text (suc n) s t → (first : HartState) × StepsAlone text s first × GoesAlone text n first t
 first_alone text zero s t goes = (t, subst (λ (m : HartState). StepsAlone text m t) goes.1 goes.2, refl)
 first_alone text (suc n) s t goes =
     let before : (first : HartState) × StepsAlone text s first × GoesAlone text n first goes.0 = first_alone text n s goes.0 goes.1 in
@@ -137,12 +137,12 @@ stands_evicted parts s c d line stands step = rw step (record {
   memory = stands.memory;
 })
 
--- a step leads to what the state stands for still, with no event, or is a request
+-- a step leads to what the state stands for still, with no event, or is a request of its hart
 pub stands_or_asks : (parts : PartsView) (s : ProgramState) (c d : Config) (step : Step) → StandsFor parts s c → StepsTo c step d →
-    StandsOn parts s c d ⊎ ((h : ℕ) × AsksTo c h d)
+    StandsOn parts s c d ⊎ ((h : ℕ) × AsksTo c h d × (step ≡ Hart h))
 stands_or_asks parts s c d (Hart h) stands steps = elim (hart_there parts s c d h (slice_get c.harts h) stands refl steps) [
   | inl still ↦ inl still
-  | inr asks ↦ inr (h, asks)
+  | inr asks ↦ inr (h, asks, refl)
 ]
 stands_or_asks parts s c d (Evict line) stands steps = inl (stands_evicted parts s c d line stands steps, rw steps refl)
 

@@ -44,16 +44,18 @@ pub record Covers {T : Type 0} (stands : T → List Event → Type 0) (r : Reach
 abbrev pub PartsEndWell : (Status → Type 0) → List HartPart → Type 0
 PartsEndWell ends parts = (h : ℕ) (part : HartPart) → slice_get parts h ≡ Some part → part.state.status ≢ Running → ends part.state.status
 
--- what a request of one of its harts leads to from a state is covered, and its harts that have stopped have done so as they may
-pub record IsClosedAt {T : Type 0} (stands : T → List Event → Type 0) (ends : Status → Type 0) (r : ReachedView T) (number : ℕ) : Type 0 where
-  pub covered : (h : ℕ) (s : ProgramState) (t : T) (c d : Config) → IsMet r number s t → h < r.harts → StandsAs stands r.parts s t c → AsksTo c h d →
-      Covers stands r d
+-- What a request of one of its harts leads to from a state, if the hart may make it, is covered. Its harts that have stopped have done so as
+-- they may. `allows events h` says that hart h may make a step after these events.
+pub record IsClosedAt {T : Type 0} (stands : T → List Event → Type 0) (allows : List Event → ℕ → Type 0) (ends : Status → Type 0) (r : ReachedView T)
+    (number : ℕ) : Type 0 where
+  pub covered : (h : ℕ) (s : ProgramState) (t : T) (c d : Config) → IsMet r number s t → h < r.harts → StandsAs stands r.parts s t c → allows (trace_in c.common) h →
+      AsksTo c h d → Covers stands r d
   pub ended : (s : ProgramState) (t : T) → IsMet r number s t → PartsEndWell ends s.harts.items
 
 -- so from each of the first states
-abbrev pub IsClosedBelow : {T : Type 0} → (T → List Event → Type 0) → (Status → Type 0) → ReachedView T → ℕ → Type 0
-IsClosedBelow stands ends r count = (number : ℕ) → number < count → IsClosedAt stands ends r number
+abbrev pub IsClosedBelow : {T : Type 0} → (T → List Event → Type 0) → (List Event → ℕ → Type 0) → (Status → Type 0) → ReachedView T → ℕ → Type 0
+IsClosedBelow stands allows ends r count = (number : ℕ) → number < count → IsClosedAt stands allows ends r number
 
 -- so from each state
-abbrev pub IsClosed : {T : Type 0} → (T → List Event → Type 0) → (Status → Type 0) → ReachedView T → Type 0
-IsClosed stands ends r = IsClosedBelow stands ends r (length r.states)
+abbrev pub IsClosed : {T : Type 0} → (T → List Event → Type 0) → (List Event → ℕ → Type 0) → (Status → Type 0) → ReachedView T → Type 0
+IsClosed stands allows ends r = IsClosedBelow stands allows ends r (length r.states)

@@ -1,5 +1,5 @@
--- When the states of a search are good. `stands t events` says that t is kept of the operations after these events, `good events image` that
--- the image is good after them, and `ends status` that a hart may stop like this.
+-- When the states of a search are good. `stands t events` says that t is kept of the operations after these events, `allows events h` that
+-- hart h may make a step after them, `good events image` that the image is good after them, and `ends status` that a hart may stop like this.
 use Rattle.std.specs.Prelude.{◌≡◌, ◌≢◌, ℕ, ◌<◌, List, Some, length, slice_get}
 use Rattle.hart.specs.declared.state.HartState.{HartState}
 use Rattle.hart.specs.declared.state.Status.{Status}
@@ -16,9 +16,14 @@ use Rattle.schedule_states.specs.Covering.{ReachedView}
 use Rattle.schedule_states.specs.Images.{IsChoice, image_in}
 use Rattle.schedule_states.specs.Media.{AreOnMedium, MediaView}
 use Rattle.schedule_states.specs.Memories.{MemoryView}
+use Rattle.schedule_states.specs.Turns.{KeepsTo}
 use Rattle.schedule_states.specs.declared.held_lines.HeldLine.{HeldLine}
 use Rattle.schedule_states.specs.declared.moments.Moment.{Moment}
 use Rattle.schedule_states.specs.declared.program_state.StateNumbers.{StateNumbers}
+
+-- what was good is good still, as more was noted
+abbrev pub StaysGood : (List Event → List (List ℕ) → Type 0) → (List Event → List (List ℕ) → Type 0) → Type 0
+StaysGood before after = (events : List Event) (image : List (List ℕ)) → before events image → after events image
 
 -- each image of the memory is good after whatever events this is kept of
 abbrev pub AreGoodImages : {T : Type 0} → (T → List Event → Type 0) → (List Event → List (List ℕ) → Type 0) → MemoryView → T → Type 0
@@ -52,7 +57,10 @@ LeavesGood good medium events = (k : ℕ → ℕ) → IsWithin (history events) 
 abbrev pub HaveEndedWell : (Status → Type 0) → List HartState → Type 0
 HaveEndedWell ends harts = (h : ℕ) (own : HartState) → slice_get harts h ≡ Some own → own.status ≢ Running → ends own.status
 
--- whatever any schedule of a program leads to, its marks are right, whatever a power cut leaves is good, and harts have stopped as they may
-abbrev pub AlwaysGood : {T : Type 0} → (T → List Event → Type 0) → (List Event → List (List ℕ) → Type 0) → (Status → Type 0) → Sections → List (List ℕ) → ℕ → Type 0
-AlwaysGood stands good ends program medium harts = (steps : List Step) (end : Config) → RunsTo (started program medium harts) steps end →
+-- whatever any schedule of a program that keeps to the rule of turns leads to, its marks are right, whatever a power cut leaves is good, and
+-- harts have stopped as they may
+abbrev pub AlwaysGood : {T : Type 0} → (T → List Event → Type 0) → (List Event → ℕ → Type 0) → (List Event → List (List ℕ) → Type 0) → (Status → Type 0) → Sections →
+    List (List ℕ) → ℕ → Type 0
+AlwaysGood stands allows good ends program medium harts = (steps : List Step) (end : Config) → RunsTo (started program medium harts) steps end →
+    KeepsTo allows (started program medium harts) steps →
     ((t : _) × stands t (trace_in end.common)) × LeavesGood good medium (trace_in end.common) × HaveEndedWell ends end.harts

@@ -2,6 +2,7 @@ pub mod Ahead
 pub mod Contents
 pub mod Covering
 pub mod Exploring
+pub mod Happening
 pub mod HeldLines
 pub mod Images
 pub mod Judging
@@ -16,4 +17,5 @@ pub mod Requests
 pub mod StartLines
 pub mod States
 pub mod Successors
+pub mod Turns
 pub mod Watching

@@ -1,5 +1,6 @@
 -- States by the numbers of their parts.
 use Rattle.std.specs.Prelude.{◌≡◌, ◌<◌, ◌≤◌, ℕ, List, [], Option, Some, length, slice_get, slice_index_or}
+use Rattle.machine.specs.Replies.{trace_in}
 use Rattle.machine.specs.Run.{Config}
 use Rattle.store_trace.specs.declared.event.Event.{Event}
 use Rattle.schedule_states.specs.Covering.{Covers, ReachedView, StandsAs}
@@ -34,13 +35,13 @@ pub record HaveGrown {T : Type 0} (old new : ReachedView T) : Type 0 where
 abbrev pub WereBefore : PartsView → PartsView → Type 0
 WereBefore old new = (s : ProgramState) (c : Config) → HasLists old s → StandsFor new s c → StandsFor old s c
 
--- what a request of a hart leads to from the state is covered
-abbrev pub IsClosedBy : {T : Type 0} → (T → List Event → Type 0) → ReachedView T → ProgramState → T → ℕ → Type 0
-IsClosedBy stands r s t h = (c d : Config) → StandsAs stands r.parts s t c → AsksTo c h d → Covers stands r d
+-- what a request of a hart leads to from the state, if the hart may make it, is covered
+abbrev pub IsClosedBy : {T : Type 0} → (T → List Event → Type 0) → (List Event → ℕ → Type 0) → ReachedView T → ProgramState → T → ℕ → Type 0
+IsClosedBy stands allows r s t h = (c d : Config) → StandsAs stands r.parts s t c → allows (trace_in c.common) h → AsksTo c h d → Covers stands r d
 
 -- so of each of the first harts
-abbrev pub IsClosedFor : {T : Type 0} → (T → List Event → Type 0) → ReachedView T → ProgramState → T → ℕ → Type 0
-IsClosedFor stands r s t count = (h : ℕ) → h < count → IsClosedBy stands r s t h
+abbrev pub IsClosedFor : {T : Type 0} → (T → List Event → Type 0) → (List Event → ℕ → Type 0) → ReachedView T → ProgramState → T → ℕ → Type 0
+IsClosedFor stands allows r s t count = (h : ℕ) → h < count → IsClosedBy stands allows r s t h
 
 -- these are the parts of the harts with these numbers
 pub record ArePartsOf {T : Type 0} (r : ReachedView T) (numbers : StateNumbers) (count : ℕ) (parts : List HartPart) : Type 0 where

@@ -4,10 +4,10 @@ ghost use Rattle.std.specs.Prelude.{◌≡◌, ◌≤◌, [], length, IfOk};
 ghost use Rattle.machine.specs.Run.{started};
 ghost use Rattle.schedule_states.specs.Covering.{Covers};
 ghost use Rattle.schedule_states.specs.Exploring.{IfAll, IsAll, IsFound, LeadByHarts};
-ghost use Rattle.schedule_states.specs.Judging.{AlwaysGood};
+ghost use Rattle.schedule_states.specs.Happening.{AllHappen, AreLed};
+ghost use Rattle.schedule_states.specs.Judging.{AlwaysGood, StaysGood};
 ghost use Rattle.schedule_states.specs.Watching.{HasHeard};
 
-use crate::medium_lists::MediumLists;
 use crate::moments::{Judged, Moment, judge_state};
 use crate::numbers::Numbers;
 use crate::parts::Parts;
@@ -45,76 +45,88 @@ pub struct Start<'a> {
     pub program: &'a Program,
     pub medium: &'a Medium,
     pub harts: u32,
+    /// A search ends where there are more states.
+    pub most: u32,
     ghost few: { harts ≤ 8 },
 }
 
-/// Judges all states to which schedules lead, if they aren't more than so many, those first that fewer requests lead to, if need be by
-/// further threads. The watcher hears of each state before it is judged.
+/// Judges all states to which schedules that keep to the judge's rule of turns lead, if they aren't more than so many, those first that fewer
+/// requests lead to, if need be by further threads. The watcher hears of each state before it is judged. What the judge notes of the states
+/// stands in the workspace.
 pub fn explore<T: Threads + Sync, J: StateJudge, W: Watcher>(
     rt: &T,
     alloc: Global,
     judge: &J,
     start: Start<'_>,
-    most: u32,
+    workspace: &mut J::Workspace,
     watcher: &mut W,
 ) -> Result<Explored, AllocError>
-    ensures good { IfOk result (λ explored. IfAll explored (AlwaysGood (J.stands judge.now) (J.good judge.now) (J.ends judge.now)
+    requires fits { J.fits judge.now (length start.medium.now) workspace.old }
+    requires happens { AllHappen (J.allows judge.now) (J.happens judge.now) start.program.now start.medium.now start.harts }
+    ensures good { IfOk result (λ explored. IfAll explored (AlwaysGood (J.stands judge.now) (J.allows judge.now) (J.good judge.now workspace.new) (J.ends judge.now)
         start.entry.program.now start.entry.medium.now start.entry.harts)) }
+    ensures kept { J.fits judge.now (length start.entry.medium.now) workspace.new × StaysGood (J.good judge.now workspace.old) (J.good judge.now workspace.new) }
     ensures requests { IfOk result (LeadByHarts start.entry.harts) }
     ensures told { HasHeard W.hears watcher.old watcher.new }
 {
     let parts = Parts::new(alloc, start.program, start.medium)?;
-    let mut reached = Reached::with_none(alloc, parts, start.harts, most);
-    explore_from(rt, alloc, judge, &mut reached, watcher)
+    let mut reached = Reached::with_none(alloc, parts, start.harts);
+    let mut judged = Judged::new(alloc, start.most);
+    explore_from(rt, judge, &mut reached, &mut judged, workspace, watcher)
 }
 
 /// Judges all states, of which none is reached yet.
 fn explore_from<T: Threads + Sync, J: StateJudge, W: Watcher>(
     rt: &T,
-    alloc: Global,
     judge: &J,
     reached: &mut Reached<'_, J>,
+    judged: &mut Judged,
+    workspace: &mut J::Workspace,
     watcher: &mut W,
 ) -> Result<Explored, AllocError>
-    requires none { reached.old.states ≡ [] }
-    ensures good { IfOk result (λ explored. IfAll explored (AlwaysGood (J.stands judge.now) (J.good judge.now) (J.ends judge.now)
+    requires none { (reached.old.states ≡ []) × (judged.old.moments ≡ []) × (judged.old.media ≡ record { lists = []; numbers = [] }) }
+    requires given { J.fits judge.now (length reached.old.parts.table.start.medium) workspace.old
+        × AllHappen (J.allows judge.now) (J.happens judge.now) reached.old.parts.table.start.program reached.old.parts.table.start.medium reached.old.harts }
+    ensures good { IfOk result (λ explored. IfAll explored (AlwaysGood (J.stands judge.now) (J.allows judge.now) (J.good judge.now workspace.new) (J.ends judge.now)
         reached.old.parts.table.start.program reached.old.parts.table.start.medium reached.old.harts)) }
+    ensures kept { J.fits judge.now (length reached.old.parts.table.start.medium) workspace.new
+        × StaysGood (J.good judge.now workspace.old) (J.good judge.now workspace.new) }
     ensures requests { IfOk result (LeadByHarts reached.old.harts) }
     ensures told { HasHeard W.hears watcher.old watcher.new }
 {
+    let alloc = judged.alloc;
     if let Some(stop) = reached.meet_start(alloc, judge)? {
         return Ok(Explored::Found {
             stop,
             requests: Vec::new(alloc),
         });
     }
-    let mut judged = Judged {
-        workspace: judge.workspace(alloc, reached.lines())?,
-        media: MediumLists::new(alloc),
-        moments: Numbers::new(alloc),
-    };
-    search(rt, alloc, judge, reached, &mut judged, watcher)
+    search(rt, judge, reached, judged, workspace, watcher)
 }
 
 /// Judges the states that are reached, and goes on from them.
 fn search<T: Threads + Sync, J: StateJudge, W: Watcher>(
     rt: &T,
-    alloc: Global,
     judge: &J,
     reached: &mut Reached<'_, J>,
-    judged: &mut Judged<J>,
+    judged: &mut Judged,
+    workspace: &mut J::Workspace,
     watcher: &mut W,
 ) -> Result<Explored, AllocError>
-    requires start { Covers (J.stands judge.now) reached.old (started reached.old.parts.table.start.program reached.old.parts.table.start.medium reached.old.harts) }
-    requires fits { J.fits judge.now (length reached.old.parts.table.start.medium) judged.old.workspace }
-    requires none { judged.old.moments ≡ [] }
-    requires empty { judged.old.media ≡ record { lists = []; numbers = [] } }
-    ensures good { IfOk result (λ explored. IfAll explored (AlwaysGood (J.stands judge.now) (J.good judge.now) (J.ends judge.now)
+    requires start { Covers (J.stands judge.now) reached.old (started reached.old.parts.table.start.program reached.old.parts.table.start.medium reached.old.harts)
+        × AreLed (J.stands judge.now) (J.allows judge.now) reached.old }
+    requires new { (judged.old.moments ≡ []) × (judged.old.media ≡ record { lists = []; numbers = [] }) }
+    requires given { J.fits judge.now (length reached.old.parts.table.start.medium) workspace.old
+        × AllHappen (J.allows judge.now) (J.happens judge.now) reached.old.parts.table.start.program reached.old.parts.table.start.medium reached.old.harts }
+    ensures good { IfOk result (λ explored. IfAll explored (AlwaysGood (J.stands judge.now) (J.allows judge.now) (J.good judge.now workspace.new) (J.ends judge.now)
         reached.old.parts.table.start.program reached.old.parts.table.start.medium reached.old.harts)) }
+    ensures kept { J.fits judge.now (length reached.old.parts.table.start.medium) workspace.new
+        × StaysGood (J.good judge.now workspace.old) (J.good judge.now workspace.new) }
     ensures requests { IfOk result (LeadByHarts reached.old.harts) }
     ensures told { HasHeard W.hears watcher.old watcher.new }
 {
-    let most = reached.most();
+    let alloc = judged.alloc;
+    let most = judged.most;
     for number in 0..most {
         let met = reached.count();
         if met > most as usize {
@@ -124,7 +136,7 @@ fn search<T: Threads + Sync, J: StateJudge, W: Watcher>(
             return Ok(all_of(reached, &judged.moments));
         }
         tell(watcher, met, number);
-        if let Some(stop) = judge_state(rt, alloc, judge, reached, judged, number)? {
+        if let Some(stop) = judge_state(rt, judge, reached, judged, workspace, number)? {
             return found(alloc, reached, number, stop);
         }
         if let Some(stop) = reached.go_on_all(alloc, judge, number)? {

@@ -54,12 +54,6 @@ impl<'a> LineTable<'a> {
         }
     }
 
-    pub fn medium(&self) -> &'a Medium
-        ensures { result.now ≡ self.now.start.medium }
-    {
-        self.start.medium()
-    }
-
     /// The memory of a state that holds these lines.
     pub fn memory<'b>(&'b self, held: &'b [HeldLine]) -> StateMemory<'b, 'a>
         requires { AreBelow (length self.now.states) held.now }

@@ -1,7 +1,8 @@
 //! Moments of a search: what a power cut may leave, and what is kept of the operations then. States that differ in neither are judged once.
 
-ghost use Rattle.std.specs.Prelude.{◌≡◌, ◌<◌, None, length, IfOk};
-ghost use Rattle.schedule_states.specs.Judging.{AreGoodMoments, IsGoodState};
+ghost use Rattle.std.specs.Prelude.{◌≡◌, ◌<◌, [], None, length, IfOk};
+ghost use Rattle.schedule_states.specs.Happening.{IsHappening};
+ghost use Rattle.schedule_states.specs.Judging.{AreGoodMoments, IsGoodState, StaysGood};
 
 use crate::laws::equal_moments_are_same;
 use crate::medium_lists::MediumLists;
@@ -18,33 +19,54 @@ pub struct Moment {
     pub standing: u32,
 }
 
-/// What states are judged in, one after the other, and the moments that were judged.
+/// The moments that a search has judged, each by its number, and how far it goes.
 #[derive(Drop)]
-pub struct Judged<J: StateJudge> {
-    pub workspace: J::Workspace,
+pub struct Judged {
+    pub alloc: Global,
+    /// A search ends where there are more states.
+    pub most: u32,
     /// What states hold of the medium.
     pub media: MediumLists,
     pub moments: Numbers<Moment>,
+}
+
+impl Judged {
+    /// None yet, of a search that ends where there are more states than so many.
+    pub fn new(alloc: Global, most: u32) -> Judged
+        ensures most { result.most ≡ most }
+        ensures media { result.media ≡ record { lists = []; numbers = [] } }
+        ensures moments { result.moments ≡ [] }
+    {
+        Judged {
+            alloc,
+            most,
+            media: MediumLists::new(alloc),
+            moments: Numbers::new(alloc),
+        }
+    }
 }
 
 /// Why the search goes no further from a state by what a power cut may leave; None where all of that is good. The moments that were judged so
 /// far are good, and so it is with its own then.
 pub fn judge_state<T: Threads + Sync, J: StateJudge>(
     rt: &T,
-    alloc: Global,
     judge: &J,
     reached: &Reached<'_, J>,
-    judged: &mut Judged<J>,
+    judged: &mut Judged,
+    workspace: &mut J::Workspace,
     number: u32,
 ) -> Result<Option<Stop>, AllocError>
-    requires there { number < length reached.now.states }
-    requires fits { J.fits judge.now (length reached.now.parts.table.start.medium) judged.old.workspace }
-    requires good { AreGoodMoments (J.stands judge.now) (J.good judge.now) reached.now judged.old.media judged.old.moments }
-    ensures fits { J.fits judge.now (length reached.now.parts.table.start.medium) judged.new.workspace }
-    ensures good { IfOk result (λ stop. stop ≡ None → AreGoodMoments (J.stands judge.now) (J.good judge.now) reached.now judged.new.media judged.new.moments) }
-    ensures state { IfOk result (λ stop. stop ≡ None → IsGoodState (J.stands judge.now) (J.good judge.now) reached.now number) }
+    requires happens { IsHappening (J.stands judge.now) (J.happens judge.now) reached.now number }
+    requires fits { J.fits judge.now (length reached.now.parts.table.start.medium) workspace.old }
+    requires good { AreGoodMoments (J.stands judge.now) (J.good judge.now workspace.old) reached.now judged.old.media judged.old.moments }
+    ensures fits { J.fits judge.now (length reached.now.parts.table.start.medium) workspace.new }
+    ensures good { IfOk result (λ stop. stop ≡ None →
+        AreGoodMoments (J.stands judge.now) (J.good judge.now workspace.new) reached.now judged.new.media judged.new.moments
+        × IsGoodState (J.stands judge.now) (J.good judge.now workspace.new) reached.now number) }
+    ensures kept { StaysGood (J.good judge.now workspace.old) (J.good judge.now workspace.new) }
 {
     let numbers = reached.numbers(number);
+    let alloc = judged.alloc;
     let memory = judged
         .media
         .number_of(alloc, reached.parts(), numbers.memory)?;
@@ -58,5 +80,5 @@ pub fn judge_state<T: Threads + Sync, J: StateJudge>(
     if (place as usize) < known {
         return Ok(None);
     }
-    reached.judge(rt, alloc, judge, judged, moment)
+    reached.judge(rt, judge, judged, workspace, moment)
 }

@@ -12,6 +12,7 @@ ghost use Rattle.schedule_states.specs.States.{AreGrown, AreLists, StandsFor};
 ghost use Rattle.schedule_states.specs.Successors.{AreServed, HasLists, IfState, IsAskingOf, IsStartPart, IsSuccessor, IsTextAfter, memory_held};
 ghost use Rattle.machine.specs.Histories.{text_of};
 ghost use Rattle.machine.specs.Run.{fetched, started};
+ghost use Rattle.schedule_states.specs.Happening.{IsAtRequest};
 ghost use Rattle.schedule_states.specs.Memories.{memory_over};
 ghost use Rattle.schedule_states.specs.StartLines.{memory_at};
 
@@ -81,13 +82,6 @@ impl<'a> Parts<'a> {
             lists,
             text,
         })
-    }
-
-    /// How many lines the medium has.
-    pub fn lines(&self) -> u32
-        ensures { result ≡ length self.now.table.start.medium }
-    {
-        self.lines.medium().lines()
     }
 
     /// The state at the start of a run of one to eight harts, unless one of them makes too many steps up to its first request.
@@ -162,6 +156,7 @@ impl<'a> Parts<'a> {
         requires few { length state.now.harts.items ≤ 8 }
         requires lists { HasLists self.old state.now }
         ensures successor { IfOk result (IsSuccessor self.old self.new state.now hart) }
+        ensures asks { IfOk result (λ found. IfState found (λ next. IsAtRequest self.old state.now hart)) }
         ensures lists { IfOk result (λ found. IfState found (HasLists self.new)) }
         ensures count { IfOk result (λ found. IfState found (λ next. length next.harts.items ≡ length state.now.harts.items)) }
         ensures grown { AreGrown self.old self.new }

@@ -1,16 +1,18 @@
 //! States that schedules lead to.
 
-ghost use Rattle.std.specs.Prelude.{◌≡◌, ◌≢◌, ◌<◌, ◌≤◌, ℕ, [], true, length, slice_get, None, Some, IfNone, IfOk, IfSome};
+ghost use Rattle.std.specs.Prelude.{◌≡◌, ◌≢◌, ◌⊎◌, ◌<◌, ◌≤◌, ℕ, [], false, true, length, slice_get, None, Some, IfNone, IfOk, IfSome};
 ghost use Rattle.hart.specs.declared.state.Status.TheVariants.{Running};
 ghost use Rattle.machine.specs.Run.{started};
 ghost use Rattle.schedule_states.specs.Covering.{Covers, IsClosedAt, IsMet, PartsEndWell};
 ghost use Rattle.schedule_states.specs.Numbers.{AreKept};
-ghost use Rattle.schedule_states.specs.Judging.{IsGoodMoment};
+ghost use Rattle.schedule_states.specs.Happening.{AreLed, HasHappenedAt, IsLedAs};
+ghost use Rattle.schedule_states.specs.Judging.{IsGoodMoment, StaysGood};
 ghost use Rattle.schedule_states.specs.Leads.{AreOfHarts};
 ghost use Rattle.schedule_states.specs.Media.{AreOnMedium};
 ghost use Rattle.schedule_states.specs.Reaching.{AreNumbered, AreNumbersOf, ArePartsOf, AreThere, HaveGrown, IsClosedBy, IsFirst, IsClosedFor, IsKeptOn, WereBefore};
 ghost use Rattle.schedule_states.specs.States.{AreLists};
 ghost use Rattle.schedule_states.specs.Successors.{HasLists};
+ghost use Rattle.schedule_states.specs.Turns.{MayGo, MayNotGo};
 
 use crate::laws::{equal_numbers_are_same, equal_parts_are_same};
 use crate::leads::{Lead, Leads};
@@ -36,8 +38,6 @@ pub struct Reached<'a, J: StateJudge> {
     standings: Numbers<J::Standing>,
     states: Numbers<StateNumbers>,
     leads: Leads,
-    /// A search ends where there are more states.
-    most: u32,
 }
 
 impl<'a, J: StateJudge> Model for Reached<'a, J> {
@@ -67,8 +67,8 @@ pub enum Stop {
 }
 
 impl<'a, J: StateJudge> Reached<'a, J> {
-    /// No state yet, of up to eight harts and so many states.
-    pub fn with_none(alloc: Global, parts: Parts<'a>, harts: u32, most: u32) -> Reached<'a, J>
+    /// No state yet, of up to eight harts.
+    pub fn with_none(alloc: Global, parts: Parts<'a>, harts: u32) -> Reached<'a, J>
         requires { harts ≤ 8 }
         ensures { result ≡ record { parts = parts.entry; hart_parts = []; standings = []; states = []; harts = harts } }
     {
@@ -78,14 +78,15 @@ impl<'a, J: StateJudge> Reached<'a, J> {
             standings: Numbers::new(alloc),
             states: Numbers::new(alloc),
             leads: Leads::new(alloc, harts),
-            most,
         }
     }
 
     /// Meets the state at the start, unless a hart makes too many steps up to its first request.
     pub fn meet_start(&mut self, alloc: Global, judge: &J) -> Result<Option<Stop>, AllocError>
+        requires none { self.old.states ≡ [] }
         ensures start { IfOk result (λ stop. stop ≡ None → Covers (J.stands judge.now) self.new
             (started self.old.parts.table.start.program self.old.parts.table.start.medium self.old.harts)) }
+        ensures led { IfOk result (λ stop. stop ≡ None → AreLed (J.stands judge.now) (J.allows judge.now) self.new) }
         ensures parts { self.new.parts ≡ self.old.parts }
         ensures harts { self.new.harts ≡ self.old.harts }
     {
@@ -101,18 +102,6 @@ impl<'a, J: StateJudge> Reached<'a, J> {
         };
         self.number_of(&start, standing, none)?;
         Ok(None)
-    }
-
-    /// How many lines the medium has.
-    pub fn lines(&self) -> u32
-        ensures { result ≡ length self.now.parts.table.start.medium }
-    {
-        self.parts.lines()
-    }
-
-    /// A search ends where there are more states.
-    pub fn most(&self) -> u32 {
-        self.most
     }
 
     /// How many states were reached.
@@ -168,26 +157,26 @@ impl<'a, J: StateJudge> Reached<'a, J> {
     pub fn judge<T: Threads + Sync>(
         &self,
         rt: &T,
-        alloc: Global,
         judge: &J,
-        judged: &mut Judged<J>,
+        judged: &Judged,
+        workspace: &mut J::Workspace,
         moment: Moment,
     ) -> Result<Option<Stop>, AllocError>
-        requires memory { moment.memory < length judged.old.media.lists }
-        requires below { AreOnMedium self.now.parts judged.old.media }
-        requires standing { moment.standing < length self.now.standings }
-        requires fits { J.fits judge.now (length self.now.parts.table.start.medium) judged.old.workspace }
-        ensures fits { J.fits judge.now (length self.now.parts.table.start.medium) judged.new.workspace }
-        ensures same { (judged.new.media ≡ judged.old.media) × (judged.new.moments ≡ judged.old.moments) }
+        requires there { (moment.memory < length judged.now.media.lists) × (moment.standing < length self.now.standings) }
+        requires below { AreOnMedium self.now.parts judged.now.media }
+        requires fits { J.fits judge.now (length self.now.parts.table.start.medium) workspace.old }
+        requires happens { HasHappenedAt (J.stands judge.now) (J.happens judge.now) self.now judged.now.media.lists moment.memory moment.standing }
+        ensures fits { J.fits judge.now (length self.now.parts.table.start.medium) workspace.new }
         ensures good { IfOk result (λ stop. stop ≡ None →
-            IsGoodMoment (J.stands judge.now) (J.good judge.now) self.now judged.old.media.lists moment.memory moment.standing) }
+            IsGoodMoment (J.stands judge.now) (J.good judge.now workspace.new) self.now judged.now.media.lists moment.memory moment.standing) }
+        ensures kept { StaysGood (J.good judge.now workspace.old) (J.good judge.now workspace.new) }
     {
         let held = judged.media.list(moment.memory);
         let Some(images) = StateImages::new(self.parts.memory_of(held)) else {
             return Ok(Some(Stop::TooManyBranches));
         };
         let standing = &self.standings.as_slice()[moment.standing as usize];
-        let verdict = judge.judge(rt, alloc, &mut judged.workspace, &images, standing)?;
+        let verdict = judge.judge(rt, judged.alloc, workspace, &images, standing)?;
         Ok(stop_by(verdict))
     }
 
@@ -198,7 +187,8 @@ impl<'a, J: StateJudge> Reached<'a, J> {
         self.leads.requests_to(alloc, number)
     }
 
-    /// Goes on from a state, whose harts run or have stopped as they may, by the next request of each hart, up to one at which it stops.
+    /// Goes on from a state, whose harts run or have stopped as they may, by the next request of each hart that may go, up to one at which it
+    /// stops.
     pub fn go_on_all(
         &mut self,
         alloc: Global,
@@ -206,9 +196,11 @@ impl<'a, J: StateJudge> Reached<'a, J> {
         number: u32,
     ) -> Result<Option<Stop>, AllocError>
         requires { number < length self.old.states }
-        ensures closed { IfOk result (λ stop. stop ≡ None → IsClosedAt (J.stands judge.now) (J.ends judge.now) self.new number) }
-        ensures still { (n : ℕ) → n < length self.old.states → IsClosedAt (J.stands judge.now) (J.ends judge.now) self.old n →
-            IsClosedAt (J.stands judge.now) (J.ends judge.now) self.new n }
+        ensures closed { IfOk result (λ stop. stop ≡ None → IsClosedAt (J.stands judge.now) (J.allows judge.now) (J.ends judge.now) self.new number) }
+        ensures led { IfOk result (λ stop. stop ≡ None → AreLed (J.stands judge.now) (J.allows judge.now) self.old →
+            AreLed (J.stands judge.now) (J.allows judge.now) self.new) }
+        ensures still { (n : ℕ) → n < length self.old.states → IsClosedAt (J.stands judge.now) (J.allows judge.now) (J.ends judge.now) self.old n →
+            IsClosedAt (J.stands judge.now) (J.allows judge.now) (J.ends judge.now) self.new n }
         ensures grown { HaveGrown self.old self.new }
         ensures before { AreNumbered self.old × AreLists self.old.parts.table.states self.old.parts.lists }
     {
@@ -230,7 +222,7 @@ impl<'a, J: StateJudge> Reached<'a, J> {
         let _ = &self.states;
     }
 
-    /// Goes on by the next request of each hart from the state of a number, whose parts have these numbers.
+    /// Goes on by the next request of each hart that may go from the state of a number, whose parts have these numbers.
     fn turns(
         &mut self,
         alloc: Global,
@@ -243,7 +235,10 @@ impl<'a, J: StateJudge> Reached<'a, J> {
         requires lists { HasLists self.old.parts state.now }
         requires standing { numbers.now.standing < length self.old.standings }
         ensures closed { IfOk result (λ stop. stop ≡ None → (t : J.Standing) → slice_get self.old.standings numbers.now.standing ≡ Some t →
-            IsClosedFor (J.stands judge.now) self.new state.now t self.new.harts) }
+            IsClosedFor (J.stands judge.now) (J.allows judge.now) self.new state.now t self.new.harts) }
+        ensures led { IfOk result (λ stop. stop ≡ None → (t : J.Standing) → slice_get self.old.standings numbers.now.standing ≡ Some t →
+            IsLedAs (J.stands judge.now) (J.allows judge.now) self.old state.now t → AreLed (J.stands judge.now) (J.allows judge.now) self.old →
+            AreLed (J.stands judge.now) (J.allows judge.now) self.new) }
         ensures grown { HaveGrown self.old self.new }
         ensures before { WereBefore self.old.parts self.new.parts }
     {
@@ -258,7 +253,18 @@ impl<'a, J: StateJudge> Reached<'a, J> {
         Ok(None)
     }
 
-    /// Goes on by the next request of a hart from a state, whose parts have these numbers.
+    /// Whether a hart may go, where what has this number is kept.
+    fn may_go(&self, judge: &J, standing: u32, hart: u32) -> bool
+        requires { standing < length self.now.standings }
+        ensures may { result ≡ true → (t : J.Standing) → slice_get self.now.standings standing ≡ Some t →
+            MayGo (J.stands judge.now) (J.allows judge.now) t hart }
+        ensures not { result ≡ false → (t : J.Standing) → slice_get self.now.standings standing ≡ Some t →
+            MayNotGo (J.stands judge.now) (J.allows judge.now) t hart }
+    {
+        judge.may_go(&self.standings.as_slice()[standing as usize], hart)
+    }
+
+    /// Goes on by the next request of a hart, if it may go, from a state, whose parts have these numbers.
     fn go_on(
         &mut self,
         alloc: Global,
@@ -272,10 +278,16 @@ impl<'a, J: StateJudge> Reached<'a, J> {
         requires lists { HasLists self.old.parts state.now }
         requires standing { numbers.now.standing < length self.old.standings }
         ensures closed { IfOk result (λ stop. stop ≡ None → (t : J.Standing) → slice_get self.old.standings numbers.now.standing ≡ Some t →
-            IsClosedBy (J.stands judge.now) self.new state.now t hart) }
+            IsClosedBy (J.stands judge.now) (J.allows judge.now) self.new state.now t hart) }
+        ensures led { IfOk result (λ stop. stop ≡ None → (t : J.Standing) → slice_get self.old.standings numbers.now.standing ≡ Some t →
+            IsLedAs (J.stands judge.now) (J.allows judge.now) self.old state.now t → AreLed (J.stands judge.now) (J.allows judge.now) self.old →
+            AreLed (J.stands judge.now) (J.allows judge.now) self.new) }
         ensures grown { HaveGrown self.old self.new }
         ensures before { WereBefore self.old.parts self.new.parts }
     {
+        if !self.may_go(judge, numbers.standing, hart) {
+            return Ok(None);
+        }
         self.parts.lists_are_there();
         match self.parts.after_request(alloc, state, hart)? {
             Successor::State(next, mark) => {
@@ -316,6 +328,8 @@ impl<'a, J: StateJudge> Reached<'a, J> {
         requires standing { standing < length self.old.standings }
         requires before { AreNumbersOf self.old.hart_parts before.parts.now (length before.parts.now) before.numbers.now }
         ensures met { IfOk result (λ number. (t : J.Standing) → slice_get self.old.standings standing ≡ Some t → IsMet self.new number state.now t) }
+        ensures only { IfOk result (λ number. (t : J.Standing) → slice_get self.old.standings standing ≡ Some t → (n : ℕ) → n < length self.new.states →
+            (n < length self.old.states) ⊎ IsMet self.new n state.now t) }
         ensures grown { HaveGrown self.old self.new }
         ensures parts { self.new.parts ≡ self.old.parts }
         ensures standings { self.new.standings ≡ self.old.standings }

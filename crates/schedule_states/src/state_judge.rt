@@ -18,12 +18,14 @@ pub enum StateVerdict {
     TooManyBranches,
 }
 
-/// Who judges the states of a search. What it keeps of the operations is a part of a state, so it has no more of the past than decides what
-/// may come.
+/// Who judges the states of a search, and says whose turn it may be. What it keeps of the operations is a part of a state, so it has no more
+/// of the past than decides what may come. What it notes of the states that it has judged stands in its workspace.
 pub trait StateJudge {
-    ghost use Rattle.schedule_states.specs.Judging.{AreGoodImages};
+    ghost use Rattle.schedule_states.specs.Happening.{HasHappened};
+    ghost use Rattle.schedule_states.specs.Judging.{AreGoodImages, StaysGood};
     ghost use Rattle.schedule_states.specs.Marks.{IsUnmarked};
-    ghost use Rattle.std.specs.Prelude.{◌≡◌, ◌++◌, ◌∷◌, [], ℕ, List, true, length, IfOk, IfSome};
+    ghost use Rattle.schedule_states.specs.Turns.{MayGo, MayNotGo};
+    ghost use Rattle.std.specs.Prelude.{◌≡◌, ◌++◌, ◌∷◌, [], ℕ, List, false, true, length, IfOk, IfSome};
     ghost use Rattle.std.specs.Thread.{IsSync};
     ghost use Rattle.hart.specs.declared.state.Status.{Status as AStatus};
     ghost use Rattle.store_trace.specs.declared.event.Event.{Event as AnEvent};
@@ -31,14 +33,20 @@ pub trait StateJudge {
     /// What is kept of the operations.
     type Standing: Eq + Hash + Drop;
 
-    /// What images are judged in, one state after the other.
+    /// What images are judged in, one state after the other, and what is noted of them.
     type Workspace: Drop;
 
     /// This is kept after these events, whose marks are right.
     ghost stands: { Self → Self.Standing → List AnEvent → Type 0 };
 
-    /// The image is good after these events.
-    ghost good: { Self → List AnEvent → List (List ℕ) → Type 0 };
+    /// After these events this hart may make a step.
+    ghost allows: { Self → List AnEvent → ℕ → Type 0 };
+
+    /// The image is good after these events, as far as the workspace has noted what it needs.
+    ghost good: { Self → Self.Workspace → List AnEvent → List (List ℕ) → Type 0 };
+
+    /// After a run with these events that keeps to the rule of turns loads find these lines of the medium. A judge may note it.
+    ghost happens: { Self → List AnEvent → List (List ℕ) → Type 0 };
 
     /// A hart may stop like this.
     ghost ends: { Self → AStatus → Type 0 };
@@ -60,12 +68,17 @@ pub trait StateJudge {
         ensures { IfOk result (λ found. IfSome found (λ next. (events : List AnEvent) → stands self.now standing.now events →
             stands self.now next (events ++ mark ∷ []))) };
 
+    /// Whether this hart may make a step, where this is kept. A hart that may not is not tried.
+    fn may_go(&self, standing: &Self::Standing, hart: u32) -> bool
+        ensures may { result ≡ true → MayGo (stands self.now) (allows self.now) standing.now hart }
+        ensures not { result ≡ false → MayNotGo (stands self.now) (allows self.now) standing.now hart };
+
     /// A workspace for media of so many lines, in which no state was judged yet.
     fn workspace(&self, alloc: Global, lines: u32) -> Result<Self::Workspace, AllocError>
         ensures { IfOk result (λ workspace. fits self.now lines workspace) };
 
-    /// Whether each image of a state is good, where this is kept, if need be by further threads. The workspace can be used again after an
-    /// error too.
+    /// Whether each image of a state is good, where this is kept, if need be by further threads. A run leads there that keeps to the rule of
+    /// turns. What the workspace has noted it keeps, and it can be used again after an error too.
     fn judge<T: Threads + Sync>(
         &self,
         rt: &T,
@@ -76,8 +89,11 @@ pub trait StateJudge {
     ) -> Result<StateVerdict, AllocError>
         requires sync { IsSync T.row }
         requires fits { fits self.now (length images.now.start.medium) workspace.old }
+        requires happens { HasHappened (stands self.now) (happens self.now) images.now standing.now }
         ensures fits { fits self.now (length images.now.start.medium) workspace.new }
-        ensures good { IfOk result (λ verdict. verdict ≡ StateVerdict.Good → AreGoodImages (stands self.now) (good self.now) images.now standing.now) };
+        ensures good { IfOk result (λ verdict. verdict ≡ StateVerdict.Good →
+            AreGoodImages (stands self.now) (good self.now workspace.new) images.now standing.now) }
+        ensures kept { StaysGood (good self.now workspace.old) (good self.now workspace.new) };
 
     /// Whether a hart may stop like this.
     fn may_end(&self, status: Status) -> bool

@@ -1,7 +1,6 @@
 -- What recovery came to at entries of the queue: what it was while others are taken in, and at entries side by side.
 use Rattle.std.proofs.Common.{◌≡◌, ℕ, zero, suc, ◌+◌, ◌≤◌, ◌<◌, List, [], ◌∷◌, ◌++◌, Bool, Option, length, set, take, drop, get_or, refl, sym, ap, subst, ◌∙◌, arith, append_assoc}
 use Rattle.std.proofs.lemmas.List.{get_or_append_left, get_or-set_other, length-append, length-set}
-use Rattle.std.specs.List.{All, AllZip}
 use Rattle.std.specs.Prelude.{IfOk, Err, Ok, Result}
 use Rattle.verdict.specs.Pieces.{AreAnswers, IsPiece, all_branching}
 use Rattle.verdict.specs.Queue.{branching, cut_at, entry, entry_at, IsTree}
@@ -10,18 +9,6 @@ use Rattle.verdict.specs.declared.branches.question.Question.{Question}
 use Rattle.verdict.specs.declared.branches.queue.Entry.{Entry}
 use Rattle.verdict.specs.Openings.{Node}
 use Rattle.verdict.proofs.Tables.{cut_more}
-
--- what holds of each result of a list, whatever it was made from
-pub zip_all : {X Y : Type 0} (Q : Y → Type 0) (xs : List X) (ys : List Y) → AllZip (λ x y. Q y) xs ys → All Q ys
-zip_all Q [] [] h = λ k d less. absurd (omega (arith, less))
-zip_all Q [] (y ∷ ys) h = absurd h
-zip_all Q (x ∷ xs) [] h = absurd h
-zip_all Q (x ∷ xs) (y ∷ ys) h = λ k d less. zip_at Q x xs y ys h (zip_all Q xs ys h.1) k d less
-  where
-    zip_at : {X Y : Type 0} (Q : Y → Type 0) (x : X) (xs : List X) (y : Y) (ys : List Y) → AllZip (λ x y. Q y) (x ∷ xs) (y ∷ ys) → All Q ys →
-        (k : ℕ) (d : Y) → k < length (y ∷ ys) → Q (get_or (y ∷ ys) k d)
-    zip_at Q x xs y ys h rest zero d less = h.0
-    zip_at Q x xs y ys h rest (suc k) d less = rest k d (omega (arith, less))
 
 -- what holds of a result in two respects
 pub both_ok : {T E : Type 0} (r : Result T E) (P Q S : T → Type 0) → IfOk r P → IfOk r Q → ((v : T) → P v → Q v → S v) → IfOk r S
@@ -112,11 +99,8 @@ piece_later asks judged alike low high lines before more queue piece tree grown 
     })
 
 -- a piece of a round, where more was found since
-pub piece_now : {Cause E : Type 0} (asks : (ℕ → ℕ) → List Question → Type 0) (judged : (ℕ → ℕ) → Option Cause → Type 0) (alike : Question → ℕ → ℕ → Bool) (low high : ℕ → ℕ) (lines : ℕ)
-    (before more queue : List Entry) (pieces : List (Result (Piece Cause) E)) (i : ℕ) (found : Result (Piece Cause) E) (piece : Piece Cause) → IsTree lines before →
-    queue ≡ before ++ more → i < length pieces → get_or pieces i found ≡ Ok piece →
-    AreFrom (λ found. IfOk found (IsPiece asks judged alike low high lines before)) i pieces → IsPiece asks judged alike low high lines queue piece
-piece_now {Cause} {E} asks judged alike low high lines before more queue pieces i found piece tree grown less is h =
-    let P : Piece Cause → Type 0 = IsPiece asks judged alike low high lines before in
-    piece_later asks judged alike low high lines before more queue piece tree grown
-    (subst (λ (x : Result (Piece Cause) E). IfOk x P) is (h i found (omega arith) less))
+pub piece_now : {Cause : Type 0} (asks : (ℕ → ℕ) → List Question → Type 0) (judged : (ℕ → ℕ) → Option Cause → Type 0) (alike : Question → ℕ → ℕ → Bool) (low high : ℕ → ℕ) (lines : ℕ)
+    (before more queue : List Entry) (pieces : List (Piece Cause)) (i : ℕ) (piece : Piece Cause) → IsTree lines before → queue ≡ before ++ more → i < length pieces →
+    AreFrom (IsPiece asks judged alike low high lines before) i pieces → IsPiece asks judged alike low high lines queue (get_or pieces i piece)
+piece_now asks judged alike low high lines before more queue pieces i piece tree grown less h =
+    piece_later asks judged alike low high lines before more queue (get_or pieces i piece) tree grown (h i piece (omega arith) less)

@@ -16,9 +16,11 @@ pub mod Counting
 pub mod Lowest
 pub mod Carrying
 pub mod Answering
+pub mod Taking
 pub mod Opening
 pub mod Trying
 pub mod Widening
+pub mod Meaning
 pub mod Edging
 pub mod CutLines
 pub mod Bytes

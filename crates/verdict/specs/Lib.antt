@@ -11,8 +11,10 @@ pub mod Edges
 pub mod Contents
 pub mod Least
 pub mod Pieces
+pub mod Lanes
 pub mod Openings
 pub mod CutImages
+pub mod ImagesVerdicts
 pub mod ByLine
 pub mod Bytes
 pub mod Progress

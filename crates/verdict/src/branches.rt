@@ -9,6 +9,7 @@ pub use recovery::Recovery;
 
 mod edges;
 mod findings;
+mod lanes;
 mod laws;
 mod line_bytes;
 mod lines;
@@ -21,3 +22,4 @@ mod queue;
 mod recovery;
 mod rounds;
 mod run;
+mod tools;

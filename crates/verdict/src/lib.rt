@@ -7,6 +7,7 @@
 mod branches;
 mod cut_image;
 mod images;
+mod images_verdict;
 mod moment_cuts;
 mod moment_verdict;
 mod moments;
@@ -21,6 +22,7 @@ pub use branches::{
 };
 pub use cut_image::CutImage;
 pub use images::Images;
+pub use images_verdict::{ImagesVerdict, open_images};
 pub use moment_cuts::MomentCuts;
 pub use moment_verdict::{
     ImageName, Judging, LineContents, MomentVerdict, OpenMoments, Verdict, WidestLines, is_unseen,

@@ -5,6 +5,7 @@
 
 pub use contents::{LineContents, WidestLines};
 pub use laws::{Judging, verdicts_join};
+pub(crate) use opening::MAX_BRANCHES;
 pub use opening::open_moment;
 pub use text::ImageName;
 pub use unseen::is_unseen;

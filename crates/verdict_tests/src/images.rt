@@ -4,7 +4,7 @@
 
 mod branches_opened;
 mod bytes_asked;
-mod either_medium;
+pub(crate) mod either_medium;
 mod events;
 mod image_names;
 mod images;

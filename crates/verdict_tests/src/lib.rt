@@ -7,4 +7,6 @@ mod images;
 #[cfg(test)]
 mod judging;
 #[cfg(test)]
+mod order;
+#[cfg(test)]
 mod reports;

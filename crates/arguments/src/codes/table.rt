@@ -3,6 +3,7 @@
 ghost use Rattle.std.specs.Prelude.{◌≡◌};
 ghost use Rattle.arguments.specs.Codes.{table, texts_of_families};
 
+mod executables;
 mod operations;
 mod runs;
 mod sources;
@@ -26,11 +27,12 @@ pub struct Meaning {
 pub(crate) type Row = (&'static str, &'static str, &'static str);
 
 /// The rows of each family, in the order in which they are listed.
-pub(crate) fn families() -> [&'static [Row]; 6]
+pub(crate) fn families() -> [&'static [Row]; 7]
     ensures { texts_of_families result ≡ table }
 {
     [
         sources::rows(),
+        executables::rows(),
         runs::rows(),
         volumes::rows(),
         operations::rows(),

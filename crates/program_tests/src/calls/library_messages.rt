@@ -7,6 +7,7 @@ use assemble::{AsmCode, AsmFault};
 use bus::{FinishFault, RunFault};
 use crash_image::ImageFault;
 use debugger::{DebugFault, Place};
+use elf_file::ElfFault;
 use image_check::{Cause, CheckFault, OpFault};
 use isa_table::FieldFault;
 use line_memory::{MediumFault, MemFault};
@@ -63,6 +64,18 @@ static OBJECTS: [(LoadFault, &str); 6] = [
     (LoadFault::Memory, "P6"),
 ];
 
+static EXECUTABLES: [(ElfFault, &str); 9] = [
+    (ElfFault::Truncated, "E1"),
+    (ElfFault::Identification, "E2"),
+    (ElfFault::Machine, "E3"),
+    (ElfFault::Linkage, "E4"),
+    (ElfFault::Flags, "E5"),
+    (ElfFault::Entry, "E6"),
+    (ElfFault::Placement, "E7"),
+    (ElfFault::Segment, "E8"),
+    (ElfFault::Memory, "E9"),
+];
+
 #[test]
 fn programs(rt: HostRuntime) {
     let alloc = rt.alloc();
@@ -71,8 +84,9 @@ fn programs(rt: HostRuntime) {
         differing(alloc, &SOURCES),
         differing(alloc, &FIELDS),
         differing(alloc, &OBJECTS),
+        differing(alloc, &EXECUTABLES),
     ];
-    assert_eq!(rt; found, [None; 4]);
+    assert_eq!(rt; found, [None; 5]);
 }
 
 static STEPS: [(StepFault, &str); 5] = [

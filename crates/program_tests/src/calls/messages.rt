@@ -2,6 +2,7 @@
 
 use assemble::{AsmCode, AsmFault};
 use crash_test::ProgramFault;
+use elf_file::ElfFault;
 use program::LoadFault;
 use std::alloc::Global;
 use std::fmt::Display;
@@ -20,7 +21,7 @@ pub(crate) fn differing<F: Display>(alloc: Global, table: &[(F, &str)]) -> Optio
         .position(|(fault, text)| !says(alloc, fault, *text))
 }
 
-static PROGRAMS: [(ProgramFault, &str); 3] = [
+static PROGRAMS: [(ProgramFault, &str); 4] = [
     (
         ProgramFault::Assembly(AsmFault {
             line: 2,
@@ -29,6 +30,7 @@ static PROGRAMS: [(ProgramFault, &str); 3] = [
         "A2 line 2",
     ),
     (ProgramFault::Object(LoadFault::Truncated), "P2"),
+    (ProgramFault::Elf(ElfFault::Flags), "E5"),
     (ProgramFault::Memory, "out of memory"),
 ];
 

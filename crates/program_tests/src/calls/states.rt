@@ -14,7 +14,7 @@ use text::ImageName;
 use unfinished::{Unfinished, find_unfinished};
 
 /// Each hart appends to an inode of its own.
-const OWN: &str =
+pub(crate) const OWN: &str =
     "inodes 3\npages 3\njournals 1\nop 1 append 0 70\nop 2 append 1 71\nop 3 append 2 72\n";
 
 /// All harts append to one inode.
@@ -22,7 +22,7 @@ const ONE: &str =
     "inodes 1\npages 1\njournals 1\nop 1 append 0 70\nop 2 append 0 71\nop 3 append 0 72\n";
 
 /// Hart h appends to the log of inode h.
-const OWN_LOGS: &str =
+pub(crate) const OWN_LOGS: &str =
     "li a7, 2001\naddi a0, a0, 1\necall\nslli t4, a0, 6\nadd t4, t4, a1\nld t0, 8(t4)\nadd t1, a1, t0\nli t2, 1\n\
     sd t2, 0(t1)\nsd a0, 8(t1)\naddi t3, a0, 69\nsd t3, 16(t1)\ncbo.clean (t1)\nfence w, w\naddi t0, t0, 64\n\
     sd t0, 8(t4)\ncbo.clean (t4)\nfence w, w\nli a7, 2002\necall\nli a7, 93\nli a0, 0\necall\n";

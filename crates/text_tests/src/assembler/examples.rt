@@ -65,7 +65,7 @@ fn difference_in(alloc: Global, listing: &str) -> Result<Option<String>, AllocEr
 }
 
 /// Parts, each so many times, one after another.
-fn joined(alloc: Global, parts: &[(&[u8], usize)]) -> Result<Vec<u8>, AllocError> {
+pub(crate) fn joined(alloc: Global, parts: &[(&[u8], usize)]) -> Result<Vec<u8>, AllocError> {
     let mut bytes = Vec::new(alloc);
     for (part, times) in parts {
         bytes.extend_from_slice(&part.repeat(alloc, *times)?)?;

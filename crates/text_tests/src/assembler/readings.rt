@@ -16,6 +16,7 @@ pub(crate) enum Reading {
     Shown,
     Source,
     File,
+    Elf,
 }
 
 pub(crate) fn answer_to(
@@ -30,6 +31,7 @@ pub(crate) fn answer_to(
         Reading::Shown => shown_again(alloc, bytes),
         Reading::Source => object_of(alloc, bytes),
         Reading::File => contents(alloc, bytes),
+        Reading::Elf => executable(alloc, bytes),
     }
 }
 
@@ -169,6 +171,14 @@ fn object_of(alloc: Global, source: &[u8]) -> Result<String, AllocError> {
 fn contents(alloc: Global, file: &[u8]) -> Result<String, AllocError> {
     match written_and_loaded(alloc, file) {
         Ok(answer) => Ok(answer),
+        Err(fault) => format!(in alloc; "{fault}"),
+    }
+}
+
+/// The sections of an ELF file's program, or the code of its fault.
+fn executable(alloc: Global, file: &[u8]) -> Result<String, AllocError> {
+    match elf_file::read(alloc, file) {
+        Ok(object) => sections(alloc, object.text_bytes(), object.data_bytes()),
         Err(fault) => format!(in alloc; "{fault}"),
     }
 }

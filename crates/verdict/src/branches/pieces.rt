@@ -1,12 +1,13 @@
 //! What recovery comes to at branches that follow each other in the queue.
 
 ghost use Rattle.std.specs.Prelude.{◌≡◌, ◌+◌, ◌<◌, ◌≤◌, length, IfOk, OnOk};
+ghost use Rattle.verdict.specs.Lanes.{AreTools};
 ghost use Rattle.verdict.specs.Pieces.{AreCuts, IsPiece};
 
 use crate::branches::Recovery;
 use crate::branches::findings::Findings;
 use crate::branches::queue::Entry;
-use crate::branches::run::Run;
+use crate::branches::tools::Tools;
 use std::alloc::{AllocError, Global};
 
 /// A piece that found more branches than this ends early, so that a round takes little memory.
@@ -28,13 +29,15 @@ pub struct Piece<Cause> {
 pub fn open_piece<R: Recovery>(
     alloc: Global,
     recovery: &R,
+    tools: &mut Tools<R::Workspace>,
     queue: &[Entry],
     first: usize,
     count: usize,
 ) -> Result<Piece<R::Cause>, AllocError>
     requires cuts { AreCuts (R.low recovery.now) (R.high recovery.now) (R.lines recovery.now) queue.now }
-    requires workspace { (other : R.Workspace) × R.fits recovery.now other }
-    ensures { IfOk result (IsPiece (R.asks recovery.now) (R.judged recovery.now) (R.alike recovery.now) (R.low recovery.now) (R.high recovery.now) (R.lines recovery.now) queue.now) }
+    requires tools { AreTools (R.fits recovery.now) (R.lines recovery.now) tools.old }
+    ensures tools { AreTools (R.fits recovery.now) (R.lines recovery.now) tools.new }
+    ensures piece { IfOk result (IsPiece (R.asks recovery.now) (R.judged recovery.now) (R.alike recovery.now) (R.low recovery.now) (R.high recovery.now) (R.lines recovery.now) queue.now) }
 {
     let mut piece = Piece {
         first,
@@ -43,72 +46,32 @@ pub fn open_piece<R: Recovery>(
         cause: None,
     };
     let end = first.saturating_add(count).min(queue.len());
-    open_up_to(alloc, recovery, queue, end, &mut piece)?;
+    open_each(alloc, recovery, tools, queue, end, &mut piece)?;
     Ok(piece)
 }
 
 /// Runs recovery at the branches of a piece that counts none yet, up to place `end`, or at fewer where much is found.
-fn open_up_to<R: Recovery>(
-    alloc: Global,
-    recovery: &R,
-    queue: &[Entry],
-    end: usize,
-    piece: &mut Piece<R::Cause>,
-) -> Result<(), AllocError>
-    requires workspace { (other : R.Workspace) × R.fits recovery.now other }
-    requires none { piece.old.count ≡ 0 }
-    requires end { end ≤ length queue.now }
-    requires cuts { AreCuts (R.low recovery.now) (R.high recovery.now) (R.lines recovery.now) queue.now }
-    requires piece { IsPiece (R.asks recovery.now) (R.judged recovery.now) (R.alike recovery.now) (R.low recovery.now) (R.high recovery.now) (R.lines recovery.now) queue.now piece.old }
-    ensures { OnOk result (IsPiece (R.asks recovery.now) (R.judged recovery.now) (R.alike recovery.now) (R.low recovery.now) (R.high recovery.now) (R.lines recovery.now) queue.now piece.new) }
-{
-    let mut workspace = recovery.workspace(alloc)?;
-    open_in(alloc, recovery, &mut workspace, queue, end, piece)
-}
-
-/// Does so in this workspace.
-fn open_in<R: Recovery>(
-    alloc: Global,
-    recovery: &R,
-    workspace: &mut R::Workspace,
-    queue: &[Entry],
-    end: usize,
-    piece: &mut Piece<R::Cause>,
-) -> Result<(), AllocError>
-    requires none { piece.old.count ≡ 0 }
-    requires end { end ≤ length queue.now }
-    requires fits { R.fits recovery.now workspace.old }
-    requires cuts { AreCuts (R.low recovery.now) (R.high recovery.now) (R.lines recovery.now) queue.now }
-    requires piece { IsPiece (R.asks recovery.now) (R.judged recovery.now) (R.alike recovery.now) (R.low recovery.now) (R.high recovery.now) (R.lines recovery.now) queue.now piece.old }
-    ensures { OnOk result (IsPiece (R.asks recovery.now) (R.judged recovery.now) (R.alike recovery.now) (R.low recovery.now) (R.high recovery.now) (R.lines recovery.now) queue.now piece.new) }
-{
-    let mut run = Run::new(alloc, recovery.lines())?;
-    open_each(alloc, recovery, workspace, &mut run, queue, end, piece)
-}
-
-/// Does so by this run.
 fn open_each<R: Recovery>(
     alloc: Global,
     recovery: &R,
-    workspace: &mut R::Workspace,
-    run: &mut Run,
+    tools: &mut Tools<R::Workspace>,
     queue: &[Entry],
     end: usize,
     piece: &mut Piece<R::Cause>,
 ) -> Result<(), AllocError>
     requires none { piece.old.count ≡ 0 }
     requires end { end ≤ length queue.now }
-    requires size { length run.old.numbers ≡ R.lines recovery.now }
-    requires fits { R.fits recovery.now workspace.old }
+    requires tools { AreTools (R.fits recovery.now) (R.lines recovery.now) tools.old }
     requires cuts { AreCuts (R.low recovery.now) (R.high recovery.now) (R.lines recovery.now) queue.now }
     requires piece { IsPiece (R.asks recovery.now) (R.judged recovery.now) (R.alike recovery.now) (R.low recovery.now) (R.high recovery.now) (R.lines recovery.now) queue.now piece.old }
-    ensures { OnOk result (IsPiece (R.asks recovery.now) (R.judged recovery.now) (R.alike recovery.now) (R.low recovery.now) (R.high recovery.now) (R.lines recovery.now) queue.now piece.new) }
+    ensures tools { AreTools (R.fits recovery.now) (R.lines recovery.now) tools.new }
+    ensures piece { OnOk result (IsPiece (R.asks recovery.now) (R.judged recovery.now) (R.alike recovery.now) (R.low recovery.now) (R.high recovery.now) (R.lines recovery.now) queue.now piece.new) }
 {
     for place in piece.first..end {
         if piece.findings.found.len() > MUCH {
             break;
         }
-        open_at(alloc, recovery, workspace, run, queue, place, piece)?;
+        open_at(alloc, recovery, tools, queue, place, piece)?;
     }
     Ok(())
 }
@@ -117,8 +80,7 @@ fn open_each<R: Recovery>(
 fn open_at<R: Recovery>(
     alloc: Global,
     recovery: &R,
-    workspace: &mut R::Workspace,
-    run: &mut Run,
+    tools: &mut Tools<R::Workspace>,
     queue: &[Entry],
     place: usize,
     piece: &mut Piece<R::Cause>,
@@ -126,15 +88,14 @@ fn open_at<R: Recovery>(
     requires there { place < length queue.now }
     requires next { place ≡ piece.old.first + piece.old.count }
     requires cuts { AreCuts (R.low recovery.now) (R.high recovery.now) (R.lines recovery.now) queue.now }
-    requires size { length run.old.numbers ≡ R.lines recovery.now }
-    requires fits { R.fits recovery.now workspace.old }
+    requires tools { AreTools (R.fits recovery.now) (R.lines recovery.now) tools.old }
     requires piece { IsPiece (R.asks recovery.now) (R.judged recovery.now) (R.alike recovery.now) (R.low recovery.now) (R.high recovery.now) (R.lines recovery.now) queue.now piece.old }
     ensures piece { OnOk result (IsPiece (R.asks recovery.now) (R.judged recovery.now) (R.alike recovery.now) (R.low recovery.now) (R.high recovery.now) (R.lines recovery.now) queue.now piece.new) }
     ensures first { piece.new.first ≡ piece.old.first }
     ensures count { OnOk result (piece.new.count ≡ piece.old.count + 1) }
-    ensures size { length run.new.numbers ≡ length run.old.numbers }
-    ensures fits { R.fits recovery.now workspace.new }
+    ensures tools { AreTools (R.fits recovery.now) (R.lines recovery.now) tools.new }
 {
+    let Tools { workspace, run } = tools;
     let judged = run.open(alloc, recovery, workspace, queue, place)?;
     piece.findings.asked.insert_asked(&run.asked)?;
     piece.cause = piece

@@ -5,6 +5,7 @@ ghost use Rattle.std.specs.List.{AllByRecursion};
 ghost use Rattle.verdict.specs.Branches.{IsAsked, IsWithin};
 ghost use Rattle.verdict.specs.Numbers.{is_flagged, number_over, AreAbove};
 ghost use Rattle.verdict.specs.Opened.{AreSized, IfFew, IsOpened, IsTried};
+ghost use Rattle.verdict.specs.Lanes.{AreLanes};
 ghost use Rattle.verdict.specs.Pieces.{IsPiece};
 ghost use Rattle.verdict.specs.Queue.{entry};
 ghost use Rattle.verdict.specs.declared.branches.queue.Entry.{Entry as AnEntry};
@@ -13,6 +14,7 @@ ghost use Rattle.verdict.specs.declared.branches.question.Question.{Question};
 
 use crate::branches::Recovery;
 use crate::branches::findings::Findings;
+use crate::branches::lanes::Lane;
 use crate::branches::opener::Opened;
 use crate::branches::pieces::Piece;
 use crate::branches::queue::Entry;
@@ -96,10 +98,11 @@ impl Progress {
         ensures fits { R.fits recovery.now workspace.new }
     {
         self.begin()?;
+        let mut lanes = Vec::new(alloc);
         let mut least = None;
         while self.is_open(limit) {
             least = self.open_next(alloc, recovery, workspace, run, least)?;
-            least = self.open_many(rt, alloc, recovery, limit, least)?;
+            least = self.open_many(rt, alloc, recovery, &mut lanes, limit, least)?;
         }
         Ok(least)
     }
@@ -144,16 +147,18 @@ impl Progress {
     }
 
     /// Opens many of the branches that are still to be opened, in threads of their own where these can be started; none where
-    /// there are few.
+    /// there are few. The lanes go from one round of an opening to the next.
     fn open_many<R: Recovery + Sync, T: Threads + Sync>(
         &mut self,
         rt: &T,
         alloc: Global,
         recovery: &R,
+        lanes: &mut Vec<Lane<R::Workspace, R::Cause>>,
         limit: u32,
         least: Option<R::Cause>,
     ) -> Result<Option<R::Cause>, AllocError>
         requires workspace { (other : R.Workspace) × R.fits recovery.now other }
+        requires lanes { AreLanes (R.fits recovery.now) (R.lines recovery.now) lanes.old.items }
         requires size { length self.old.findings.asked ≡ R.lines recovery.now }
         requires least_size { length self.old.findings.least ≡ R.lines recovery.now }
         requires at { IsAt (R.alike recovery.now) (R.asks recovery.now) (R.judged recovery.now) (R.low recovery.now) (R.high recovery.now) (R.lines recovery.now)
@@ -163,11 +168,19 @@ impl Progress {
         ensures on { OnOk result (self.old.opened ≤ self.new.opened) }
         ensures size { length self.new.findings.asked ≡ length self.old.findings.asked }
         ensures least_size { length self.new.findings.least ≡ length self.old.findings.least }
+        ensures lanes { OnOk result (AreLanes (R.fits recovery.now) (R.lines recovery.now) lanes.new.items) }
     {
         if self.is_over(limit) {
             return Ok(least);
         }
-        let mut pieces = open_round(rt, alloc, recovery, &self.findings.found, self.opened)?;
+        let mut pieces = open_round(
+            rt,
+            alloc,
+            recovery,
+            &self.findings.found,
+            self.opened,
+            lanes,
+        )?;
         self.take_round(recovery, &mut pieces, limit, least)
     }
 
@@ -175,13 +188,13 @@ impl Progress {
     fn take_round<R: Recovery>(
         &mut self,
         recovery: &R,
-        pieces: &mut [Result<Piece<R::Cause>, AllocError>],
+        pieces: &mut [Piece<R::Cause>],
         limit: u32,
         least: Option<R::Cause>,
     ) -> Result<Option<R::Cause>, AllocError>
         requires size { length self.old.findings.asked ≡ R.lines recovery.now }
         requires least_size { length self.old.findings.least ≡ R.lines recovery.now }
-        requires pieces { All (λ found. IfOk found (IsPiece (R.asks recovery.now) (R.judged recovery.now) (R.alike recovery.now) (R.low recovery.now) (R.high recovery.now) (R.lines recovery.now) self.old.findings.found.items)) pieces.old }
+        requires pieces { All (IsPiece (R.asks recovery.now) (R.judged recovery.now) (R.alike recovery.now) (R.low recovery.now) (R.high recovery.now) (R.lines recovery.now) self.old.findings.found.items) pieces.old }
         requires at { IsAt (R.alike recovery.now) (R.asks recovery.now) (R.judged recovery.now) (R.low recovery.now) (R.high recovery.now) (R.lines recovery.now)
             self.old.opened self.old.findings.found.items self.old.findings.least least self.old.findings.asked }
         ensures at { IfOk result (λ kept. IsAt (R.alike recovery.now) (R.asks recovery.now) (R.judged recovery.now) (R.low recovery.now) (R.high recovery.now) (R.lines recovery.now)
@@ -191,11 +204,8 @@ impl Progress {
         ensures least_size { length self.new.findings.least ≡ length self.old.findings.least }
     {
         let mut kept = least;
-        for found in pieces {
-            match found {
-                Ok(piece) => kept = self.take_piece(recovery, piece, limit, kept)?,
-                Err(error) => return Err(*error),
-            }
+        for piece in pieces {
+            kept = self.take_piece(recovery, piece, limit, kept)?;
         }
         Ok(kept)
     }

@@ -21,8 +21,8 @@ use std::alloc::{AllocError, Global};
 use std::thread::Threads;
 use store_trace::Trace;
 
-/// The most branches of a moment that are opened.
-const MAX_BRANCHES: u32 = 65_536;
+/// The most branches that are opened.
+pub(crate) const MAX_BRANCHES: u32 = 65_536;
 
 /// The verdict on the state after the first `moment` events of the trace, which started from the medium: its images are those that the
 /// recovery has for cuts, and they are judged by one run of it for each branch, in threads of their own where there are many. The medium

@@ -16,9 +16,9 @@ use verdict::Images;
 
 /// Each line is of the first medium, by number 0, or of the second, by number 1.
 #[derive(Drop)]
-struct EitherMedium<'a> {
-    first: &'a Medium,
-    second: &'a Medium,
+pub(crate) struct EitherMedium<'a> {
+    pub(crate) first: &'a Medium,
+    pub(crate) second: &'a Medium,
     ghost size: { length second.now ≡ length first.now },
     ghost first_whole: { IsMedium first.now },
     ghost second_whole: { IsMedium second.now },
@@ -101,7 +101,11 @@ fn found_of<R: Threads + Sync>(
     let images = EitherMedium { first, second };
     match judge_images(rt, alloc, &images, plan, state, &mut workspace)? {
         ImagesVerdict::Pass => Ok(Found::Pass),
-        ImagesVerdict::Bad { numbers, cause } => Ok(Found::Bad(
+        ImagesVerdict::Bad {
+            numbers,
+            cause,
+            of_too_many: _,
+        } => Ok(Found::Bad(
             number_in(&numbers, 1),
             number_in(&numbers, 256),
             cause == Cause::Illegal,
@@ -110,7 +114,7 @@ fn found_of<R: Threads + Sync>(
     }
 }
 
-fn number_in(numbers: &[u32], line: usize) -> u32 {
+pub(crate) fn number_in(numbers: &[u32], line: usize) -> u32 {
     match numbers.get(line) {
         Some(number) => *number,
         None => 0,

@@ -1,4 +1,4 @@
-//! Tests of `run_picture`.
+//! Tests of pictures of runs.
 
 mod drawn;
 mod samples;

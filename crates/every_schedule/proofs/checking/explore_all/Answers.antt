@@ -1,4 +1,5 @@
 use Rattle.std.proofs.lemmas.Result.{IfOk-weaker}
+use Rattle.schedule_states.specs.Watching.{nothing}
 use Rattle.every_schedule.proofs.Judged.{all_end_well, all_pass, all_told}
 use Rattle.every_schedule.proofs.checking.explore_all.Goals as goal
 
@@ -10,3 +11,6 @@ returns g c = record {
       (λ all. all_end_well c.args.plan.now.operations c.args.setup.now c.args.limits.any_end all asked) good) c.explore.ensures.good;
   told = c.explore.ensures.told;
 }
+
+pub returns-in_err-workspace-clause-told : goal.returns-in_err-workspace-clause-told
+returns-in_err-workspace-clause-told g c = nothing

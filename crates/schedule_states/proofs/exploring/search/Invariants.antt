@@ -1,7 +1,8 @@
 use Rattle.std.specs.Prelude.{◌≡◌, length}
 use Rattle.machine.specs.Run.{started}
 use Rattle.schedule_states.specs.Covering.{Covers, IsClosedBelow}
-use Rattle.schedule_states.specs.Judging.{AreGoodBelow, AreGoodMoments}
+use Rattle.schedule_states.specs.Happening.{AreLed}
+use Rattle.schedule_states.specs.Judging.{AreGoodBelow, AreGoodMoments, StaysGood}
 use Rattle.schedule_states.specs.Watching.{HasHeard}
 use Rattle.schedule_states.proofs.exploring.search.Given as goal
 
@@ -11,9 +12,11 @@ invariant-loop-number g l = record {
   harts : l.reached.harts ≡ l.initial.reached.harts;
   covers : Covers (g.J.StateJudge.stands l.judge) l.reached
       (started l.initial.reached.parts.table.start.program l.initial.reached.parts.table.start.medium l.initial.reached.harts);
-  closed : IsClosedBelow (g.J.StateJudge.stands l.judge) (g.J.StateJudge.ends l.judge) l.reached l.number;
-  good : AreGoodBelow (g.J.StateJudge.stands l.judge) (g.J.StateJudge.good l.judge) l.reached l.number;
-  moments : AreGoodMoments (g.J.StateJudge.stands l.judge) (g.J.StateJudge.good l.judge) l.reached l.judged.media l.judged.moments;
-  fits : g.J.StateJudge.fits l.judge (length l.reached.parts.table.start.medium) l.judged.workspace;
+  led : AreLed (g.J.StateJudge.stands l.judge) (g.J.StateJudge.allows l.judge) l.reached;
+  closed : IsClosedBelow (g.J.StateJudge.stands l.judge) (g.J.StateJudge.allows l.judge) (g.J.StateJudge.ends l.judge) l.reached l.number;
+  good : AreGoodBelow (g.J.StateJudge.stands l.judge) (g.J.StateJudge.good l.judge l.workspace) l.reached l.number;
+  moments : AreGoodMoments (g.J.StateJudge.stands l.judge) (g.J.StateJudge.good l.judge l.workspace) l.reached l.judged.media l.judged.moments;
+  fits : g.J.StateJudge.fits l.judge (length l.reached.parts.table.start.medium) l.workspace;
+  kept : StaysGood (g.J.StateJudge.good l.judge l.initial.workspace) (g.J.StateJudge.good l.judge l.workspace);
   told : HasHeard g.W.Watcher.hears l.initial.watcher l.watcher;
 }

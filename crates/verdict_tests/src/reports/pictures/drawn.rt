@@ -1,8 +1,7 @@
 //! Pictures.
 
 use crate::reports::pictures::samples::{EVENTS, IMAGE};
-use report::{CodePlace, PlacedEvent};
-use run_picture::picture_text;
+use report::{CodePlace, PlacedEvent, picture_text};
 use std::alloc::{AllocError, Global};
 use std::test::Fail;
 use store_trace::Event;

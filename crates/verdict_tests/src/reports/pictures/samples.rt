@@ -1,7 +1,6 @@
 //! Events, and what their picture is.
 
-use report::{CodePlace, PlacedEvent};
-use run_picture::ImageLine;
+use report::{CodePlace, ImageLine, PlacedEvent};
 use store_trace::Event;
 
 /// An operation of hart 1 that stores to two lines and makes one of the stores durable, and a store of hart 2 beside it.

@@ -1,4 +1,4 @@
-use Rattle.std.proofs.Common.{◌≡◌, ◌≤◌, ◌+◌, ap, ◌∙◌, arith}
+use Rattle.std.proofs.Common.{◌+◌, ap, ◌∙◌, arith}
 use Rattle.every_schedule.proofs.Counting.{step_counted}
 use Rattle.every_schedule.proofs.following.Follower.step.Goals as goal
 

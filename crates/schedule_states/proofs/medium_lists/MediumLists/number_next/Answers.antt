@@ -1,6 +1,5 @@
-use Rattle.std.proofs.Common.{◌≡◌, ◌⊎◌, ℕ, Some, List, [], ◌∷◌, ◌++◌, length, slice_get, ap, sym, subst, ◌∙◌, rules}
+use Rattle.std.proofs.Common.{◌≡◌, ℕ, Some, List, [], ◌∷◌, ◌++◌, length, ap, sym, subst, ◌∙◌, rules}
 use Rattle.schedule_states.proofs.Media.{media_more, media_next}
-use Rattle.schedule_states.specs.HeldLines.{on_medium}
 use Rattle.schedule_states.specs.Media.{AreOnMedium, IsOnMedium, MediaView}
 use Rattle.schedule_states.specs.declared.held_lines.HeldLine.{HeldLine}
 use Rattle.schedule_states.proofs.medium_lists.MediumLists.number_next.Goals as goal

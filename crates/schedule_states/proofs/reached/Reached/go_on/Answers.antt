@@ -1,14 +1,23 @@
-use Rattle.std.proofs.Common.{◌≡◌, Some, slice_get, sym, subst, rules}
-use Rattle.machine.specs.Replies.{trace_in}
+use Rattle.std.proofs.Common.{◌≡◌, false, true, Some, slice_get, refl, sym, subst, rules}
+use Rattle.machine.specs.Replies.{SharedState, trace_in}
+use Rattle.machine.specs.Run.{started}
+use Rattle.schedule_states.proofs.Closing.{grown_twice}
+use Rattle.schedule_states.proofs.Happening.{LeadsOn, leads_on, led_grown, led_more, led_next}
 use Rattle.schedule_states.proofs.Numbering.{numbered_grown}
 use Rattle.schedule_states.proofs.Returning.{stands_before}
 use Rattle.schedule_states.specs.Marks.{IsMarkedBy}
 use Rattle.schedule_states.specs.Covering.{ReachedView}
-use Rattle.schedule_states.specs.Reaching.{ArePartsOf, IsKeptOn}
+use Rattle.schedule_states.specs.Happening.{IsAtRequest, IsLedAs}
+use Rattle.schedule_states.specs.Reaching.{ArePartsOf, HaveGrown, IsKeptOn}
 use Rattle.schedule_states.specs.States.{StandsFor}
 use Rattle.schedule_states.specs.Successors.{HasLists, IsSuccessor}
 use Rattle.schedule_states.specs.declared.successor.Successor.TheVariants as answer
 use Rattle.schedule_states.proofs.reached.Reached.go_on.Goals as goal
+
+pub returns-then-not-may_go-clause-closed : goal.returns-then-not-may_go-clause-closed
+returns-then-not-may_go-clause-closed g c = λ told t kept k d stands_as may asks.
+    let refused : c.may_go.result ≡ false = search rules in
+    absurd (c.may_go.ensures.not refused t kept (trace_in k.common) stands_as.1 may)
 
 pub number_of-requires-clause-before : goal.number_of-requires-clause-before
 number_of-requires-clause-before g c =
@@ -76,7 +85,7 @@ returns-in-TooLong-clause-before g c =
     rw (sym c.self.view_is) (λ s k lists stands. stands_before c.self.inside.parts c.after_request.new.self s k c.after_request.ensures.grown c.lists_are_there.ensures lists stands)
 
 pub returns-in_ok-number_of-in-State-clause-closed : goal.returns-in_ok-number_of-in-State-clause-closed
-returns-in_ok-number_of-in-State-clause-closed g c = λ told t kept k d stands_as asks.
+returns-in_ok-number_of-in-State-clause-closed g c = λ told t kept k d stands_as may asks.
     let lists : HasLists c.self.inside.parts c.args.state.now = rw (sym c.self.view_is) at c.requires.lists in
     let successor : IsSuccessor c.self.inside.parts c.after_request.new.self c.args.state.now c.args.hart (answer.State c.in-State.next c.in-State.mark) =
     rw c.in-State.is at c.in_ok-next.ensures.successor in
@@ -97,10 +106,104 @@ returns-in_ok-number_of-in-State-clause-closed g c = λ told t kept k d stands_a
     }
 
 pub returns-in-Stopped-clause-closed : goal.returns-in-Stopped-clause-closed
-returns-in-Stopped-clause-closed g c = λ told t kept k d stands_as asks.
+returns-in-Stopped-clause-closed g c = λ told t kept k d stands_as may asks.
     let lists : HasLists c.self.inside.parts c.args.state.now = rw (sym c.self.view_is) at c.requires.lists in
     let none : IsSuccessor c.self.inside.parts c.after_request.new.self c.args.state.now c.args.hart answer.Stopped =
     rw c.in-Stopped.is at c.in_ok-next.ensures.successor in
     let before : StandsFor c.self.inside.parts c.args.state.now k =
     stands_before c.self.inside.parts c.after_request.new.self c.args.state.now k c.after_request.ensures.grown c.lists_are_there.ensures lists stands_as.0 in
     absurd (none k d before asks)
+
+pub returns-in_err-standing-in-State-clause-grown : goal.returns-in_err-standing-in-State-clause-grown
+returns-in_err-standing-in-State-clause-grown g c = rw (sym c.self.view_is) (record {
+  parts = c.after_request.ensures.grown;
+  hart_parts = λ n value found. found;
+  standings = c.standing_after.ensures.kept;
+  states = λ n value found. found;
+  harts = refl;
+})
+
+pub returns-in_default-clause-grown : goal.returns-in_default-clause-grown
+returns-in_default-clause-grown g c = rw (sym c.self.view_is) (record {
+  parts = c.after_request.ensures.grown;
+  hart_parts = λ n value found. found;
+  standings = c.standing_after.ensures.kept;
+  states = λ n value found. found;
+  harts = refl;
+})
+
+pub returns-in_err-number_of-in-State-clause-grown : goal.returns-in_err-number_of-in-State-clause-grown
+returns-in_err-number_of-in-State-clause-grown g c =
+    let old : ReachedView _ = record { parts = c.self.inside.parts; hart_parts = c.self.inside.hart_parts; standings = c.self.inside.standings; states = c.self.inside.states; harts = c.self.inside.leads } in
+    let middle : ReachedView _ = record { parts = c.after_request.new.self; hart_parts = c.self.inside.hart_parts; standings = c.standing_after.new.known; states = c.self.inside.states; harts = c.self.inside.leads } in
+    let to_middle : HaveGrown old middle = record {
+      parts = c.after_request.ensures.grown;
+      hart_parts = λ n value found. found;
+      standings = c.standing_after.ensures.kept;
+      states = λ n value found. found;
+      harts = refl;
+    } in
+    rw (sym c.self.view_is) (grown_twice old middle c.number_of.new.self to_middle c.number_of.ensures.grown)
+
+pub returns-in_ok-number_of-in-State-clause-grown : goal.returns-in_ok-number_of-in-State-clause-grown
+returns-in_ok-number_of-in-State-clause-grown g c =
+    let old : ReachedView _ = record { parts = c.self.inside.parts; hart_parts = c.self.inside.hart_parts; standings = c.self.inside.standings; states = c.self.inside.states; harts = c.self.inside.leads } in
+    let middle : ReachedView _ = record { parts = c.after_request.new.self; hart_parts = c.self.inside.hart_parts; standings = c.standing_after.new.known; states = c.self.inside.states; harts = c.self.inside.leads } in
+    let to_middle : HaveGrown old middle = record {
+      parts = c.after_request.ensures.grown;
+      hart_parts = λ n value found. found;
+      standings = c.standing_after.ensures.kept;
+      states = λ n value found. found;
+      harts = refl;
+    } in
+    rw (sym c.self.view_is) (grown_twice old middle c.number_of.new.self to_middle c.number_of.ensures.grown)
+
+pub returns-then-not-may_go-clause-led : goal.returns-then-not-may_go-clause-led
+returns-then-not-may_go-clause-led g c told t kept led are = are
+
+pub returns-in-Stopped-clause-led : goal.returns-in-Stopped-clause-led
+returns-in-Stopped-clause-led g c told t kept led are =
+    let old : ReachedView _ = record { parts = c.self.inside.parts; hart_parts = c.self.inside.hart_parts; standings = c.self.inside.standings; states = c.self.inside.states; harts = c.self.inside.leads } in
+    let new : ReachedView _ = record { parts = c.after_request.new.self; hart_parts = c.self.inside.hart_parts; standings = c.self.inside.standings; states = c.self.inside.states; harts = c.self.inside.leads } in
+    let grown : HaveGrown old new = record {
+      parts = c.after_request.ensures.grown;
+      hart_parts = λ n value found. found;
+      standings = λ n value found. found;
+      states = λ n value found. found;
+      harts = refl;
+    } in
+    led_grown (g.J.StateJudge.stands c.args.judge.now) (g.J.StateJudge.allows c.args.judge.now) old new grown refl (rw (sym c.self.view_is) at are)
+
+pub returns-in_ok-number_of-in-State-clause-led : goal.returns-in_ok-number_of-in-State-clause-led
+returns-in_ok-number_of-in-State-clause-led g c told t kept led are =
+    let old : ReachedView _ = record { parts = c.self.inside.parts; hart_parts = c.self.inside.hart_parts; standings = c.self.inside.standings; states = c.self.inside.states; harts = c.self.inside.leads } in
+    let middle : ReachedView _ = record { parts = c.after_request.new.self; hart_parts = c.self.inside.hart_parts; standings = c.standing_after.new.known; states = c.self.inside.states; harts = c.self.inside.leads } in
+    let to_middle : HaveGrown old middle = record {
+      parts = c.after_request.ensures.grown;
+      hart_parts = λ n value found. found;
+      standings = c.standing_after.ensures.kept;
+      states = λ n value found. found;
+      harts = refl;
+    } in
+    let grown : HaveGrown old c.number_of.new.self = grown_twice old middle c.number_of.new.self to_middle c.number_of.ensures.grown in
+    let allowed : c.may_go.result ≡ true = search rules in
+    let may : g.J.StateJudge.allows c.args.judge.now (trace_in led.end.common) c.args.hart = c.may_go.ensures.may allowed t kept (trace_in led.end.common) led.stands_as.1 in
+    let was : slice_get c.self.inside.standings c.args.numbers.now.standing ≡ Some t = rw (sym c.self.view_is) at kept in
+    let led_in : IsLedAs (g.J.StateJudge.stands c.args.judge.now) (g.J.StateJudge.allows c.args.judge.now) old c.args.state.now t = rw (sym c.self.view_is) at led in
+    let at : IsAtRequest c.self.inside.parts c.args.state.now c.args.hart = rw c.in-State.is at c.in_ok-next.ensures.asks in
+    let may_in : g.J.StateJudge.allows c.args.judge.now (trace_in led_in.end.common) c.args.hart = c.may_go.ensures.may allowed t kept (trace_in led_in.end.common) led_in.stands_as.1 in
+    let on : LeadsOn (g.J.StateJudge.allows c.args.judge.now) (started old.parts.table.start.program old.parts.table.start.medium old.harts) old.parts c.args.state.now led_in.end c.args.hart =
+    leads_on (g.J.StateJudge.allows c.args.judge.now) (started old.parts.table.start.program old.parts.table.start.medium old.harts) old.parts c.args.state.now led_in.end c.args.hart led_in.led may_in
+    led_in.stands_as.0 at in
+    let successor : IsSuccessor c.self.inside.parts c.after_request.new.self c.args.state.now c.args.hart (answer.State c.in-State.next c.in-State.mark) =
+    rw c.in-State.is at c.in_ok-next.ensures.successor in
+    let comes : StandsFor c.after_request.new.self c.in-State.next on.next × IsMarkedBy c.in-State.mark (trace_in on.ready.common) (trace_in on.next.common) =
+    successor on.ready on.next on.stands on.asks in
+    let kept_on : IsKeptOn (g.J.StateJudge.stands c.args.judge.now) c.self.inside.standings c.standing_after.new.known c.args.numbers.now.standing c.in-State.mark c.in-Some.standing = search rules in
+    let next = kept_on t was in
+    let stood : g.J.StateJudge.stands c.args.judge.now t (trace_in on.ready.common) =
+    subst (λ (common : SharedState). g.J.StateJudge.stands c.args.judge.now t (trace_in common)) (sym on.still) led_in.stands_as.1 in
+    led_more (g.J.StateJudge.stands c.args.judge.now) (g.J.StateJudge.allows c.args.judge.now) old c.number_of.new.self c.in-State.next next.0 grown (c.in_ok-number_of-in-State.ensures.only next.0 next.1)
+    (led_next (g.J.StateJudge.stands c.args.judge.now) (g.J.StateJudge.allows c.args.judge.now) old c.number_of.new.self c.in-State.next next.0 on.next grown on.led
+    (rw c.number_of.ensures.parts comes.0, next.2 (trace_in on.ready.common) (trace_in on.next.common) comes.1 stood))
+    (rw (sym c.self.view_is) at are)

@@ -2,6 +2,7 @@ use Rattle.std.proofs.Common.{◌≡◌, Some, slice_get}
 use Rattle.std.proofs.lemmas.Result.{IfOk-weaker}
 use Rattle.bus.proofs.Places.{there_is}
 use Rattle.schedule_states.proofs.Closing.{closed_at, closed_still}
+use Rattle.schedule_states.proofs.Happening.{led_as_met}
 use Rattle.schedule_states.proofs.Numbering.{lists_of_parts, met_kept, met_of_parts}
 use Rattle.schedule_states.specs.Covering.{IsMet, PartsEndWell}
 use Rattle.schedule_states.proofs.reached.Reached.go_on_all.Goals as goal
@@ -18,9 +19,18 @@ returns-clause-closed g c =
     there_is c.args.self.now.standings c.numbers-numbers.result.standing c.numbers-numbers.ensures.there.standing in
     let met : IsMet c.args.self.now c.args.number c.in_ok-state.state t.0 = met_of_parts c.args.self.now c.args.number c.numbers-numbers.result c.in_ok-state.state t.0
     c.numbers-numbers.ensures.found c.in_ok-state.ensures.memory t.1 c.in_ok-state.ensures.parts in
-    closed_at (g.J.StateJudge.stands c.args.judge.now) (g.J.StateJudge.ends c.args.judge.now) c.turns.new.self c.args.number c.in_ok-state.state t.0
+    closed_at (g.J.StateJudge.stands c.args.judge.now) (g.J.StateJudge.allows c.args.judge.now) (g.J.StateJudge.ends c.args.judge.now) c.turns.new.self c.args.number c.in_ok-state.state t.0
     (met_kept c.args.self.now c.turns.new.self c.args.number c.in_ok-state.state t.0 c.turns.ensures.grown met) (closed none t.0 t.1) well) c.turns.ensures.closed
 
 pub returns-clause-still : goal.returns-clause-still
-returns-clause-still g c n there closed = closed_still (g.J.StateJudge.stands c.args.judge.now) (g.J.StateJudge.ends c.args.judge.now) c.args.self.now c.turns.new.self n
+returns-clause-still g c n there closed = closed_still (g.J.StateJudge.stands c.args.judge.now) (g.J.StateJudge.allows c.args.judge.now) (g.J.StateJudge.ends c.args.judge.now)
+    c.args.self.now c.turns.new.self n
     c.are_numbered.ensures c.turns.ensures.grown c.turns.ensures.before there closed
+
+pub returns-clause-led : goal.returns-clause-led
+returns-clause-led g c = IfOk-weaker c.turns.result _ _ (λ stop led none are.
+    let t : (t : _) × (slice_get c.args.self.now.standings c.numbers-numbers.result.standing ≡ Some t) =
+    there_is c.args.self.now.standings c.numbers-numbers.result.standing c.numbers-numbers.ensures.there.standing in
+    let met : IsMet c.args.self.now c.args.number c.in_ok-state.state t.0 = met_of_parts c.args.self.now c.args.number c.numbers-numbers.result c.in_ok-state.state t.0
+    c.numbers-numbers.ensures.found c.in_ok-state.ensures.memory t.1 c.in_ok-state.ensures.parts in
+    led none t.0 t.1 (led_as_met (g.J.StateJudge.stands c.args.judge.now) (g.J.StateJudge.allows c.args.judge.now) c.args.self.now c.args.number c.in_ok-state.state t.0 met (are c.args.number c.requires)) are) c.turns.ensures.led

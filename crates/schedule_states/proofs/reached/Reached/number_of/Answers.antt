@@ -1,4 +1,7 @@
-use Rattle.std.proofs.Common.{◌≡◌, ◌<◌, Some, length, refl, ap, sym, ◌∙◌, rules}
+use Rattle.std.proofs.Common.{◌≡◌, ◌<◌, inl, inr, Some, length, slice_get, refl, ap, sym, ◌∙◌, rules}
+use Rattle.std.proofs.lemmas.Option.{slice_get_within}
+use Rattle.bus.proofs.Places.{there_is}
+use Rattle.schedule_states.proofs.Looking.{got_appended}
 use Rattle.schedule_states.proofs.Numbering.{met_of, numbered_parts, numbered_state}
 use Rattle.schedule_states.specs.Reaching.{AreNumbersOf}
 use Rattle.schedule_states.specs.Successors.{HasLists}
@@ -46,3 +49,17 @@ returns-clause-met g c =
     let same : numbers ≡ number.found = search rules in
     λ t kept. met_of (record { parts = c.self.inside.parts; hart_parts = c.numbers_of.new.known; standings = c.self.inside.standings; states = c.number_of.new.self; harts = c.self.inside.leads })
     c.args.state.now t numbers c.in_ok-number.number count refl (rw (sym c.self.view_is) at kept) are (number.here ∙ ap (λ (x : StateNumbers). Some x) (sym same))
+
+pub returns-clause-only : goal.returns-clause-only
+returns-clause-only g c =
+    let count : length c.args.state.now.harts.items ≡ c.self.inside.leads = rw (sym c.self.view_is) at c.requires.count in
+    let numbers : StateNumbers = record { harts = c.in_ok-harts.harts; memory = c.args.state.now.memory; standing = c.args.standing } in
+    let are : AreNumbersOf c.numbers_of.new.known c.args.state.now.harts.items (length c.args.state.now.harts.items) c.in_ok-harts.harts =
+    rw c.deref.ensures.value at c.in_ok-harts.ensures.numbers in
+    λ t kept n there.
+    let here : (x : StateNumbers) × (slice_get c.number_of.new.self n ≡ Some x) = there_is c.number_of.new.self n there in
+    elim (got_appended c.self.inside.states c.number_of.new.self numbers c.number_of.ensures.appended n here.0 here.1) [
+      | inl before ↦ inl (rw (sym c.self.view_is) (slice_get_within c.self.inside.states n here.0 before))
+      | inr same ↦ inr (met_of (record { parts = c.self.inside.parts; hart_parts = c.numbers_of.new.known; standings = c.self.inside.standings; states = c.number_of.new.self; harts = c.self.inside.leads })
+          c.args.state.now t numbers n count refl (rw (sym c.self.view_is) at kept) are (here.1 ∙ ap (λ (x : StateNumbers). Some x) same))
+    ]

@@ -48,10 +48,10 @@ returns-clause-piece g c =
 pub open-requires : goal.open-requires
 open-requires g c =
     let cuts = c.requires.cuts in
-    (c.type_bounds.send-R-Cause, (c.type_bounds.send-R-Workspace, (c.requires.size, (c.requires.there, (cuts.tree, (cuts.raised, (cuts.within c.args.place c.requires.there, c.requires.fits)))))))
+    (c.type_bounds.send-R-Cause, (c.type_bounds.send-R-Workspace, (c.requires.tools.run, (c.requires.there, (cuts.tree, (cuts.raised, (cuts.within c.args.place c.requires.there, c.requires.tools.workspace)))))))
 
 pub add-requires : goal.add-requires
-add-requires g c = c.open.ensures.size ∙ (c.requires.size ∙ sym c.requires.piece.least_size)
+add-requires g c = c.open.ensures.size ∙ (c.requires.tools.run ∙ sym c.requires.piece.least_size)
 
 pub insert_asked-requires : goal.insert_asked-requires
 insert_asked-requires g c =

@@ -1,4 +1,5 @@
 use Rattle.std.proofs.Common.{◌≡◌, ◌+◌, length}
+use Rattle.verdict.specs.Lanes.{AreTools}
 use Rattle.verdict.specs.Pieces.{IsPiece}
 use Rattle.verdict.proofs.branches.pieces.open_each.Given as goal
 
@@ -7,5 +8,4 @@ invariant-loop-place g l =
     let r = g.R.Recovery in
     IsPiece (r.asks l.recovery) (r.judged l.recovery) (r.alike l.recovery) (r.low l.recovery) (r.high l.recovery) (r.lines l.recovery) l.queue l.piece
     × (l.place ≡ l.piece.first + l.piece.count)
-    × (length l.run.numbers ≡ r.lines l.recovery)
-    × r.fits l.recovery l.workspace
+    × AreTools (r.fits l.recovery) (r.lines l.recovery) l.tools

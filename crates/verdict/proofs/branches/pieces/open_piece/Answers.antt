@@ -3,8 +3,8 @@ use Rattle.std.proofs.lemmas.List.{length-replicate}
 use Rattle.verdict.proofs.Opening.{fresh_decided}
 use Rattle.verdict.proofs.branches.pieces.open_piece.Goals as goal
 
-pub open_up_to-requires-clause-piece : goal.open_up_to-requires-clause-piece
-open_up_to-requires-clause-piece g c κs within =
+pub open_each-requires-clause-piece : goal.open_each-requires-clause-piece
+open_each-requires-clause-piece g c κs within =
     let e = c.in_ok-new.ensures in
     record {
       done = [];

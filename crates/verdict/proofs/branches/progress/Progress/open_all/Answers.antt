@@ -18,6 +18,7 @@ loop-alloc-init g c =
       refl,
       c.requires.fits,
       λ none. ap length e.queue,
+      λ k d less. absurd (omega (arith, less)),
     )
 
 pub open_next-requires-clause-there : goal.open_next-requires-clause-there
@@ -49,6 +50,7 @@ loop-alloc-preserved g c =
       e.run_size ∙ i.3,
       c.open_next.ensures.fits,
       λ none. let one = e.one in let on = f.on in absurd (omega (arith, none, one, on)),
+      f.lanes,
     )
 
 pub loop-alloc-smaller : goal.loop-alloc-smaller
@@ -64,6 +66,9 @@ open_many-requires-clause-size g c κs within = c.open_next.ensures.size ∙ (c.
 
 pub open_many-requires-clause-least_size : goal.open_many-requires-clause-least_size
 open_many-requires-clause-least_size g c κs within = c.open_next.ensures.least_size ∙ (c.loop-alloc.invariant.2 ∙ c.requires.least_size)
+
+pub open_many-requires-clause-lanes : goal.open_many-requires-clause-lanes
+open_many-requires-clause-lanes g c κs within = c.loop-alloc.invariant.6
 
 pub open_many-requires-clause-at : goal.open_many-requires-clause-at
 open_many-requires-clause-at g c κs within = c.in_ok-least.ensures.at

@@ -1,4 +1,5 @@
 use Rattle.std.proofs.Common.{◌≡◌, ◌-◌, length}
+use Rattle.verdict.specs.Lanes.{AreLanes}
 use Rattle.verdict.specs.Openings.{IsAt}
 use Rattle.verdict.proofs.branches.progress.Progress.open_all.Given as goal
 
@@ -12,6 +13,7 @@ invariant-loop-alloc g l =
     × (length l.run.numbers ≡ length l.fn.run.numbers)
     × r.fits l.recovery l.workspace
     × (p.opened ≡ 0 → length p.findings.found.items ≡ 1)
+    × AreLanes (r.fits l.recovery) (r.lines l.recovery) l.lanes.items
 
 abbrev pub decreases-loop-alloc : goal.decreases-loop-alloc
 decreases-loop-alloc g l = l.limit - l.self.opened

@@ -1,13 +1,12 @@
 use Rattle.std.proofs.Common.{◌≡◌, ◌≤◌, ◌++◌, List, length}
-use Rattle.std.specs.Prelude.{IfOk}
 use Rattle.verdict.specs.declared.branches.queue.Entry.{Entry}
 use Rattle.verdict.specs.Openings.{IsAt}
 use Rattle.verdict.specs.Pieces.{IsPiece}
 use Rattle.verdict.proofs.Answering.{AreFrom}
 use Rattle.verdict.proofs.branches.progress.Progress.take_round.Given as goal
 
-abbrev pub invariant-loop-found : goal.invariant-loop-found
-invariant-loop-found g l =
+abbrev pub invariant-loop-piece : goal.invariant-loop-piece
+invariant-loop-piece g l =
     let r = g.R.Recovery in
     let s = l.recovery in
     let p = l.self in
@@ -17,4 +16,4 @@ invariant-loop-found g l =
     × ((more : List Entry) × (p.findings.found.items ≡ old.found.items ++ more))
     × (length p.findings.asked ≡ length old.asked)
     × (length p.findings.least ≡ length old.least)
-    × AreFrom (λ found. IfOk found (IsPiece (r.asks s) (r.judged s) (r.alike s) (r.low s) (r.high s) (r.lines s) old.found.items)) l.found-index l.found-items
+    × AreFrom (IsPiece (r.asks s) (r.judged s) (r.alike s) (r.low s) (r.high s) (r.lines s) old.found.items) l.piece-index l.piece-items

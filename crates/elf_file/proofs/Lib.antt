@@ -1,0 +1,5 @@
+pub mod Loading
+pub mod OneReading
+pub mod Symbols
+pub mod Tables
+pub mod Texts

@@ -1,0 +1,5 @@
+use Rattle.trace_file.proofs.JudgedLemmas.{begin_kept}
+use Rattle.trace_file.proofs.judging.judged_begin.Goals as goal
+
+pub returns-in-Some : goal.returns-in-Some
+returns-in-Some c = begin_kept c.args.hart c.args.op c.in-Some.hart c.in-Some.op c.in-Some.ensures.some

@@ -1,0 +1,12 @@
+pub mod Codes
+pub mod Cuts
+pub mod Drafts
+pub mod Entries
+pub mod Files
+pub mod Kept
+pub mod Lines
+pub mod Numerals
+pub mod Parts
+pub mod Printed
+pub mod Ranks
+pub mod Renamed

@@ -1,0 +1,22 @@
+//! Trace files: the events of a program that ran elsewhere, read from text.
+#![tactic(auto)]
+
+mod acts;
+mod cutting;
+mod fault;
+mod file;
+mod judging;
+mod kept;
+mod laws;
+mod line_set;
+mod lines;
+mod numbers;
+mod place_words;
+mod ranks;
+mod reader;
+mod writer;
+
+pub use fault::{TraceFileCode, TraceFileFault};
+pub use file::TraceFile;
+pub use laws::{names_keep_crash_states, one_reading};
+pub use line_set::MAX_LINES;
