@@ -5,7 +5,6 @@
 //! What is tested stands in tables. A test asks for the first place of a table whose call comes to something else than is said
 //! there.
 
-mod answers;
 mod cases;
 mod marked;
 mod sources;
