@@ -17,6 +17,7 @@ pub mod Lowest
 pub mod Carrying
 pub mod Answering
 pub mod Taking
+pub mod Rooming
 pub mod Opening
 pub mod Trying
 pub mod Widening

@@ -1,5 +1,5 @@
 -- What recovery came to at entries of the queue that follow each other.
-use Rattle.std.specs.Prelude.{◌≡◌, ℕ, ◌+◌, ◌<◌, Bool, Option, List, [], ◌∷◌, ◌++◌, length, take, drop}
+use Rattle.std.specs.Prelude.{◌≡◌, ℕ, ◌+◌, ◌<◌, Bool, Option, IsSome, List, [], ◌∷◌, ◌++◌, length, take, drop}
 use Rattle.std.specs.List.{AllByRecursion}
 use Rattle.verdict.specs.Branches.{IsWithin}
 use Rattle.verdict.specs.Openings.{AreDecided, AreFlagged, IsBest, Node}
@@ -46,7 +46,7 @@ pub record IsPiece {Cause : Type 0} (asks : (ℕ → ℕ) → List Question → 
     (queue : List Entry) (piece : Piece Cause) : Type 0 where
   pub done : List Node
   pub count : length done ≡ piece.count
-  pub least_size : length piece.findings.least ≡ lines
+  pub least_size : IsSome piece.cause → length piece.findings.least ≡ lines
   pub asked_size : length piece.findings.asked ≡ lines
   pub only : AreDecided piece.findings.asked done
   pub runs : AreRuns asks judged alike low high lines piece.first queue piece.findings.least piece.cause piece.findings.asked piece.findings.found.items done

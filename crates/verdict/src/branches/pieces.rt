@@ -42,7 +42,7 @@ pub fn open_piece<R: Recovery>(
     let mut piece = Piece {
         first,
         count: 0,
-        findings: Findings::new(alloc, recovery.lines())?,
+        findings: Findings::without_room(alloc, recovery.lines())?,
         cause: None,
     };
     let end = first.saturating_add(count).min(queue.len());
@@ -98,9 +98,14 @@ fn open_at<R: Recovery>(
     let Tools { workspace, run } = tools;
     let judged = run.open(alloc, recovery, workspace, queue, place)?;
     piece.findings.asked.insert_asked(&run.asked)?;
-    piece.cause = piece
-        .findings
-        .add(&mut run.numbers, judged, &run.found, piece.cause)?;
+    piece.cause = piece.findings.add_with_room(
+        alloc,
+        recovery.lines(),
+        &mut run.numbers,
+        judged,
+        &run.found,
+        piece.cause,
+    )?;
     piece.count += 1;
     Ok(())
 }

@@ -102,6 +102,9 @@ fn branch_off<R: Recovery>(
 {
     seen.clear();
     found.clear();
+    if asked.len() <= cut.decided {
+        return Ok(());
+    }
     for (place, question) in asked.iter().enumerate() {
         let before = seen.add(*question)?;
         if place >= cut.decided && before | question.bytes != before {

@@ -19,12 +19,12 @@ returns-clause-piece g c =
     let p = c.args.piece.now in
     let old = c.requires.piece in
     let one = c.open.new.self in
-    let new = c.add.new.self in
+    let new = c.add_with_room.new.self in
     let e = c.in_ok-judged.ensures in
     let v : Node = node (cut_at (r.low s) queue c.args.place) one.asked.items in
     let marked = c.insert_asked.new.self in
     let flags : (l : ℕ) → is_flagged l new.asked ≡ (is_flagged l p.findings.asked || has_line l one.asked.items) =
-    λ l. ap (λ (fs : List Bool). is_flagged l fs) c.add.ensures.asked ∙ subst (λ (qs : List Question). is_flagged l marked ≡ (is_flagged l p.findings.asked || has_line l qs)) c.deref.ensures.value (c.in_ok-insert_asked.ensures.after l) in
+    λ l. ap (λ (fs : List Bool). is_flagged l fs) c.add_with_room.ensures.asked ∙ subst (λ (qs : List Question). is_flagged l marked ≡ (is_flagged l p.findings.asked || has_line l qs)) c.deref.ensures.value (c.in_ok-insert_asked.ensures.after l) in
     let runs = runs_one (r.asks s) (r.judged s) (r.alike s) (r.low s) (r.high s) (r.lines s) c.args.place queue one.found.items one.numbers one.asked.items c.in_ok-judged.judged new.asked
     c.requires.there (c.requires.cuts.within c.args.place c.requires.there) (flagged_now p.findings.asked new.asked (λ l. has_line l one.asked.items) flags)
     (record { cut = e.cut; above = e.above; asked = e.asked; below = e.below; judges = e.judged; branches = e.found }) in
@@ -39,8 +39,8 @@ returns-clause-piece g c =
     record {
       done = old.done ++ v ∷ [];
       count = count_last old.done v ∙ ap (λ (n : ℕ). n + 1) old.count;
-      least_size = c.add.ensures.least_size ∙ old.least_size;
-      asked_size = ap length c.add.ensures.asked ∙ c.insert_asked.ensures.size ∙ old.asked_size;
+      least_size = λ some. c.in_ok-piece.ensures.least_size some ∙ c.lines.ensures;
+      asked_size = ap length c.add_with_room.ensures.asked ∙ c.insert_asked.ensures.size ∙ old.asked_size;
       only = decided_more p.findings.asked new.asked old.done (v ∷ []) (flagged_one p.findings.asked new.asked v flags) old.only;
       runs = subst (λ (es : List Entry). AreRuns (r.asks s) (r.judged s) (r.alike s) (r.low s) (r.high s) (r.lines s) p.first queue new.least c.in_ok-piece.field-0 new.asked es (old.done ++ v ∷ [])) (sym {A = List Entry} items) all;
     }
@@ -50,8 +50,11 @@ open-requires g c =
     let cuts = c.requires.cuts in
     (c.type_bounds.send-R-Cause, (c.type_bounds.send-R-Workspace, (c.requires.tools.run, (c.requires.there, (cuts.tree, (cuts.raised, (cuts.within c.args.place c.requires.there, c.requires.tools.workspace)))))))
 
-pub add-requires : goal.add-requires
-add-requires g c = c.open.ensures.size ∙ (c.requires.tools.run ∙ sym c.requires.piece.least_size)
+pub add_with_room-requires : goal.add_with_room-requires
+add_with_room-requires g c = record {
+  cut_size = c.open.ensures.size ∙ (c.requires.tools.run ∙ sym c.lines.ensures);
+  least_size = λ some. c.requires.piece.least_size some ∙ sym c.lines.ensures;
+}
 
 pub insert_asked-requires : goal.insert_asked-requires
 insert_asked-requires g c =
@@ -62,4 +65,4 @@ pub invariant_of-run : goal.invariant_of-run
 invariant_of-run g c = record { same_size = c.open.new.self.same_size }
 
 pub invariant_of-run-2 : goal.invariant_of-run-2
-invariant_of-run-2 g c = record { same_size = c.open.new.self.same_size ∙ sym c.add.ensures.cut_size }
+invariant_of-run-2 g c = record { same_size = c.open.new.self.same_size ∙ sym c.add_with_room.ensures.cut_size }

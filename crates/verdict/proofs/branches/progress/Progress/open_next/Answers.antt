@@ -21,7 +21,7 @@ open-requires g c =
     rw c.deref.ensures.value (c.type_bounds.send-R-Cause, (c.type_bounds.send-R-Workspace, (c.requires.run_size, (c.requires.there, (nodes.tree, (nodes.raised, (within, c.requires.fits)))))))
 
 pub add-requires : goal.add-requires
-add-requires g c = c.open.ensures.size ∙ (c.requires.run_size ∙ sym c.requires.least_size)
+add-requires g c = λ some. c.open.ensures.size ∙ (c.requires.run_size ∙ sym c.requires.least_size)
 
 pub insert_asked-requires : goal.insert_asked-requires
 insert_asked-requires g c =
