@@ -30,7 +30,7 @@ use Rattle.every_schedule.specs.declared.outcome.Outcome.TheVariants as outcomes
 -- all states are good by a plan
 abbrev pub AreAllGood : List Operation → Setup → Bool → Type 0
 AreAllGood plan s any_end = AlwaysGood (λ (state : PlanState) (events : List Event). IsPlanState plan (result_ok (volume_of s.medium)) events state)
-    (λ (events : List Event) (hart : ℕ). Unit {0}) (λ (events : List Event) (image : List (List ℕ)). IsGood plan s.medium events image)
+    (λ (events : List Event) (hart : ℕ). Unit {0}) (λ (events : List Event) (full image : List (List ℕ)). IsGood plan s.medium events image)
     (λ (status : Status). any_end ≡ false → status ≡ Exited 0) s.program s.medium s.harts
 
 pub all_pass : (plan : List Operation) (s : Setup) (any_end : Bool) → AreAllGood plan s any_end → AllPass plan s

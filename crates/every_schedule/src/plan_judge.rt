@@ -41,7 +41,7 @@ impl StateJudge for PlanJudge<'_> {
 
     ghost allows = { λ s events hart. Unit {0} };
 
-    ghost good = { λ s workspace events image. IsGood s.plan.now.operations s.medium.now events image };
+    ghost good = { λ s workspace events full image. IsGood s.plan.now.operations s.medium.now events image };
 
     ghost happens = { λ s events lines. Unit {0} };
 

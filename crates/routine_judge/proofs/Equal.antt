@@ -131,13 +131,28 @@ operation_told a b e =
     let parts = and_parts (a.op == b.op) (a.hart == b.hart) e in
     ap (λ (q : ℕ). operation_of a.hart q) (eqb-true a.op b.op parts.0) ∙ ap (λ (h : ℕ). operation_of h b.op) (eqb-true a.hart b.hart parts.1)
 
-operations_told : (xs ys : List Operation) → pointwise same_operation xs ys ≡ true → xs ≡ ys
+pub operations_told : (xs ys : List Operation) → pointwise same_operation xs ys ≡ true → xs ≡ ys
 operations_told [] [] e = refl
 operations_told [] (y ∷ ys) e = absurd cc
 operations_told (x ∷ xs) [] e = absurd cc
 operations_told (x ∷ xs) (y ∷ ys) e =
     let parts = and_parts (same_operation x y) (pointwise same_operation xs ys) e in
     ap (λ (o : Operation). o ∷ xs) (operation_told x y parts.0) ∙ ap (λ (os : List Operation). y ∷ os) (operations_told xs ys parts.1)
+
+told_operation : (a b : Operation) → a ≡ b → same_operation a b ≡ true
+told_operation a b e =
+    and_both (a.op == b.op) (a.hart == b.hart) (eq-eqb a.op b.op (ap (λ (o : Operation). o.op) e)) (eq-eqb a.hart b.hart (ap (λ (o : Operation). o.hart) e))
+
+first_operation : (x y : Operation) (xs ys : List Operation) → x ∷ xs ≡ y ∷ ys → (x ≡ y) × (xs ≡ ys)
+first_operation x y xs ys e = (cc, cc)
+
+pub told_operations : (xs ys : List Operation) → xs ≡ ys → pointwise same_operation xs ys ≡ true
+told_operations [] [] e = refl
+told_operations [] (y ∷ ys) e = absurd cc
+told_operations (x ∷ xs) [] e = absurd cc
+told_operations (x ∷ xs) (y ∷ ys) e =
+    let parts = first_operation x y xs ys e in
+    and_both (same_operation x y) (pointwise same_operation xs ys) (told_operation x y parts.0) (told_operations xs ys parts.1)
 
 pending_told : (a b : Option Operation) → option_eq same_operation a b ≡ true → a ≡ b
 pending_told None None e = refl

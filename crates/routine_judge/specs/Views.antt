@@ -1,4 +1,4 @@
--- What a contract sees of a run that is judged by a recovery routine, and of a workspace.
+-- What a contract sees of a run that is judged by a recovery routine, of a program whose runs are, and of a workspace.
 use Rattle.std.specs.Prelude.{ℕ, List}
 use Rattle.program.specs.Sections.{Sections}
 use Rattle.store_trace.specs.declared.event.Event.{Event}
@@ -9,6 +9,14 @@ pub record JudgeView : Type 0 where
   pub steps : ℕ
   pub start : List (List ℕ)
   pub events : List Event
+
+-- a program on so many harts, over a medium, and the routine that recovers it, with the most steps that it makes on an image
+pub record ProgramView : Type 0 where
+  pub program : Sections
+  pub medium : List (List ℕ)
+  pub harts : ℕ
+  pub routine : Sections
+  pub steps : ℕ
 
 -- what a contract sees of what images are judged in: the routine, and how many lines the media have
 pub record WorkspaceView : Type 0 where

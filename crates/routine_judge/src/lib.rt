@@ -32,7 +32,8 @@ pub use images_judge::{AnswersWorkspace, judge_images};
 pub use judge::MomentJudge;
 pub use judging::{Judgement, judged_part};
 pub use order::{
-    Operation, Precedence, SequentialState, Word, precedences_stand, sequential_states_stand,
+    Operation, Precedence, SequentialRun, SequentialRuns, SequentialState, Word, precedences_stand,
+    sequential_states_stand,
 };
 pub use right::RightAnswers;
 pub use run::MarkedRun;

@@ -9,10 +9,12 @@ mod laws;
 mod operation;
 mod precedence;
 mod sequential;
+mod sequential_runs;
 mod word;
 
 pub use laws::{precedences_stand, sequential_states_stand};
 pub use operation::Operation;
 pub use precedence::Precedence;
 pub use sequential::SequentialState;
+pub use sequential_runs::{SequentialRun, SequentialRuns};
 pub use word::Word;

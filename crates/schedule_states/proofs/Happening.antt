@@ -1,6 +1,5 @@
 -- Each state that a search meets is one to which a run leads that keeps to the rule of turns.
-use Rattle.std.proofs.Common.{◌≡◌, ◌⊎◌, inl, inr, ℕ, zero, suc, ◌+◌, ◌<◌, List, [], ◌∷◌, ◌++◌, Option, Some, None, length, slice_get, slice_index_or, refl, sym, ap, ◌∙◌, subst, arith}
-use Rattle.std.specs.Prelude.{get_or}
+use Rattle.std.proofs.Common.{◌≡◌, ◌⊎◌, inl, inr, ℕ, zero, suc, ◌+◌, ◌<◌, List, [], ◌∷◌, ◌++◌, Option, Some, length, slice_get, slice_index_or, refl, sym, ap, ◌∙◌, subst}
 use Rattle.std.proofs.lemmas.Option.{get_or_from_slice_get, same_Some, slice_get_within}
 use Rattle.bus.proofs.Places.{got_set, there_is}
 use Rattle.bus.specs.Alone.{Asks, GoesAlone, LeavesAlone, StepsAlone}
@@ -19,27 +18,22 @@ use Rattle.machine.specs.Run.{Config, Executes, HartSteps, HartStepsIfThere, Mee
 use Rattle.machine.specs.declared.schedule.items.Step.{Step}
 use Rattle.machine.specs.declared.schedule.items.Step.TheVariants.{Hart}
 use Rattle.store_trace.specs.History.{history}
-use Rattle.store_trace.specs.Image.{line_after, lines_after}
-use Rattle.store_trace.specs.Stores.{stores}
-use Rattle.store_trace.specs.declared.crash_model.step.PersistenceStep.{PersistenceStep}
 use Rattle.store_trace.specs.declared.event.Event.{Event}
 use Rattle.schedule_states.proofs.Closing.{same_harts, same_memory, same_standing}
 use Rattle.schedule_states.proofs.Covering.{stands_grown, stands_same}
-use Rattle.schedule_states.proofs.Judging.{image_of_medium, view_of}
+use Rattle.schedule_states.proofs.Judging.{full_is, image_of_medium, view_of}
 use Rattle.schedule_states.proofs.Numbering.{met_kept}
 use Rattle.schedule_states.proofs.Standing.{first_alone, stands_alone}
 use Rattle.schedule_states.specs.Covering.{IsMet, ReachedView, StandsAs}
-use Rattle.schedule_states.specs.Happening.{AllHappen, AreLed, HasHappened, HasHappenedAt, IsAtRequest, IsHappening, IsLed, IsLedAs, IsLedTo, full_image}
+use Rattle.schedule_states.specs.Happening.{AllHappen, AreLed, HasHappened, HasHappenedAt, IsAtRequest, IsHappening, IsLed, IsLedAs, IsLedTo}
 use Rattle.schedule_states.specs.HeldLines.{on_medium}
-use Rattle.schedule_states.specs.Images.{content_of, image_from, image_in, line_in}
 use Rattle.schedule_states.specs.Media.{IsOnMedium}
-use Rattle.schedule_states.specs.Memories.{IsLineOf, IsMemoryOf, MemoryView, memory_over}
+use Rattle.schedule_states.specs.Memories.{IsMemoryOf, memory_over}
 use Rattle.schedule_states.specs.Reaching.{HaveGrown}
 use Rattle.schedule_states.specs.StartLines.{StartView, memory_at}
 use Rattle.schedule_states.specs.States.{AsksTo, IsHartOf, IsText, PartsView, StandsFor, text_for}
 use Rattle.schedule_states.specs.Successors.{IfState, IsAskingOf, memory_held}
 use Rattle.schedule_states.specs.declared.held_lines.HeldLine.{HeldLine}
-use Rattle.schedule_states.specs.declared.line_state.LineState.{LineState}
 use Rattle.schedule_states.specs.declared.parts.Asking.{Asking}
 use Rattle.schedule_states.specs.declared.program_state.ProgramState.{ProgramState}
 use Rattle.schedule_states.specs.declared.program_state.StateNumbers.{StateNumbers}
@@ -211,31 +205,6 @@ led_to_kept stands allows old new n grown is = record {
   met = met_kept old new n is.state is.standing grown is.met;
   led_as = led_as_kept stands allows old new is.state is.standing grown is.led_as;
 }
-
--- the full image of a state is that of the run that leads to it
-full_line : (m : MemoryView) (l : ℕ) (p : List PersistenceStep) (held : Option LineState) (start : List ℕ) → IsLineOf start l p held →
-    content_of start held 0 ≡ line_after start l (stores l p) p
-full_line m l p (Some s) start is = is.bytes
-full_line m l p None start is = is.bytes
-
-full_lines : (m : MemoryView) (p : List PersistenceStep) (i : ℕ) (lines : List (List ℕ)) →
-    ((l : ℕ) → l < length lines → IsLineOf (get_or lines l []) (i + l) p (line_in m (i + l))) →
-    lines_after i lines (λ l. stores l p) p ≡ image_from m (λ l. 0) i lines
-full_lines m p i [] are = refl
-full_lines m p i (line ∷ lines) are =
-    let here : i + 0 ≡ i = omega arith in
-    let first : IsLineOf line i p (line_in m i) = rw here at (are 0 (omega arith)) in
-    let rest : lines_after (suc i) lines (λ l. stores l p) p ≡ image_from m (λ l. 0) (suc i) lines = full_lines m p (suc i) lines (λ l there.
-    let next : i + suc l ≡ suc i + l = omega arith in
-    rw next at (are (suc l) (omega (arith, there)))) in
-    ap (λ (x : List ℕ). x ∷ lines_after (suc i) lines (λ l. stores l p) p) (sym (full_line m i p (line_in m i) line first))
-    ∙ ap (λ (xs : List (List ℕ)). content_of line (line_in m i) 0 ∷ xs) rest
-
-pub full_is : (m : MemoryView) (memory : Memory) (events : List Event) → IsMemoryOf m.start m.states m.held memory (history events) →
-    full_image m.start.medium events ≡ image_in m (λ l. 0)
-full_is m memory events of = full_lines m (history events) 0 m.start.medium (λ l there.
-    let same : 0 + l ≡ l = omega arith in
-    rw same (of.lines l there))
 
 -- the moment of a state to which a run leads has happened
 pub happening : {T : Type 0} (stands : T → List Event → Type 0) (allows : List Event → ℕ → Type 0) (happens : List Event → List (List ℕ) → Type 0) (r : ReachedView T) (n : ℕ) →

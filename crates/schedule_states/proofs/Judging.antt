@@ -14,6 +14,7 @@ use Rattle.store_trace.proofs.Members.{contains_cases, no_members}
 use Rattle.store_trace.specs.Cut.{IsWithin}
 use Rattle.store_trace.specs.History.{history}
 use Rattle.store_trace.specs.Image.{image, line_after, lines_after}
+use Rattle.store_trace.specs.Stores.{stores}
 use Rattle.store_trace.specs.declared.event.Event.{Event}
 use Rattle.store_trace.specs.declared.crash_model.step.PersistenceStep.{PersistenceStep}
 use Rattle.schedule_states.proofs.Covering.{covers_run, ended_well}
@@ -24,6 +25,7 @@ use Rattle.schedule_states.proofs.Putting.{state_kept}
 use Rattle.schedule_states.specs.Contents.{MayHold}
 use Rattle.schedule_states.specs.Covering.{Covers, IsClosed, ReachedView}
 use Rattle.schedule_states.specs.Exploring.{IfAll, IsAll, IsFound, LeadByHarts}
+use Rattle.schedule_states.specs.Happening.{full_image}
 use Rattle.schedule_states.specs.HeldLines.{AreBelow, on_medium}
 use Rattle.schedule_states.specs.Images.{content_of, highest_in, image_from, image_in, line_in, others_of}
 use Rattle.schedule_states.specs.Judging.{AlwaysGood, AreGoodBelow, AreGoodImages, AreGoodMoments, IsGoodMoment, IsGoodState, LeavesGood, StaysGood}
@@ -89,8 +91,33 @@ same_lines m k n p i (line ∷ lines) same =
     rw next at (same (suc l) (omega (arith, there)))) in
     ap (λ (x : List ℕ). x ∷ lines_after (suc i) lines k p) first ∙ ap (λ (xs : List (List ℕ)). content_of line (line_in m i) (n i) ∷ xs) rest
 
+-- the full image of a state is that of the run that leads to it
+full_line : (m : MemoryView) (l : ℕ) (p : List PersistenceStep) (held : Option LineState) (start : List ℕ) → IsLineOf start l p held →
+    content_of start held 0 ≡ line_after start l (stores l p) p
+full_line m l p (Some s) start is = is.bytes
+full_line m l p None start is = is.bytes
+
+full_lines : (m : MemoryView) (p : List PersistenceStep) (i : ℕ) (lines : List (List ℕ)) →
+    ((l : ℕ) → l < length lines → IsLineOf (get_or lines l []) (i + l) p (line_in m (i + l))) →
+    lines_after i lines (λ l. stores l p) p ≡ image_from m (λ l. 0) i lines
+full_lines m p i [] are = refl
+full_lines m p i (line ∷ lines) are =
+    let here : i + 0 ≡ i = omega arith in
+    let first : IsLineOf line i p (line_in m i) = rw here at (are 0 (omega arith)) in
+    let rest : lines_after (suc i) lines (λ l. stores l p) p ≡ image_from m (λ l. 0) (suc i) lines = full_lines m p (suc i) lines (λ l there.
+    let next : i + suc l ≡ suc i + l = omega arith in
+    rw next at (are (suc l) (omega (arith, there)))) in
+    ap (λ (x : List ℕ). x ∷ lines_after (suc i) lines (λ l. stores l p) p) (sym (full_line m i p (line_in m i) line first))
+    ∙ ap (λ (xs : List (List ℕ)). content_of line (line_in m i) 0 ∷ xs) rest
+
+pub full_is : (m : MemoryView) (memory : Memory) (events : List Event) → IsMemoryOf m.start m.states m.held memory (history events) →
+    full_image m.start.medium events ≡ image_in m (λ l. 0)
+full_is m memory events of = full_lines m (history events) 0 m.start.medium (λ l there.
+    let same : 0 + l ≡ l = omega arith in
+    rw same (of.lines l there))
+
 -- what a power cut leaves of the memory is good where each image is
-pub leaves_good : {T : Type 0} (stands : T → List Event → Type 0) (good : List Event → List (List ℕ) → Type 0) (m : MemoryView) (memory : Memory) (t : T) (events : List Event) →
+pub leaves_good : {T : Type 0} (stands : T → List Event → Type 0) (good : List Event → List (List ℕ) → List (List ℕ) → Type 0) (m : MemoryView) (memory : Memory) (t : T) (events : List Event) →
     IsMemoryOf m.start m.states m.held memory (history events) → AreGoodImages stands good m t → stands t events → LeavesGood good m.start.medium events
 leaves_good stands good m memory t events of are kept k bounds =
     let choice : (l : ℕ) → (n : ℕ) × (n ≤ highest_in m l)
@@ -100,7 +127,8 @@ leaves_good stands good m memory t events of are kept k bounds =
     same_lines m k (λ l. (choice l).0) (history events) 0 m.start.medium (λ l there.
     let same : 0 + l ≡ l = omega arith in
     rw same ((choice l).2 there)) in
-    subst (λ (left : List (List ℕ)). good events left) (sym same) (are events (λ l. (choice l).0) kept (λ l. (choice l).1))
+    subst (λ (full : List (List ℕ)). good events full (image m.start.medium k (history events))) (sym (full_is m memory events of))
+    (subst (λ (left : List (List ℕ)). good events (image_in m (λ l. 0)) left) (sym same) (are events (λ l. (choice l).0) kept (λ l. (choice l).1)))
 
 -- a moment stays good as the parts grow
 abbrev pub view_of : PartsView → List HeldLine → MemoryView
@@ -112,18 +140,25 @@ same_images m n k i (line ∷ lines) same =
     ap (λ (s : Option LineState). content_of line s (k i) ∷ image_from n k (suc i) lines) (same i)
     ∙ ap (λ (xs : List (List ℕ)). content_of line (line_in m i) (k i) ∷ xs) (same_images m n k (suc i) lines same)
 
-images_kept : {T : Type 0} (stands : T → List Event → Type 0) (good : List Event → List (List ℕ) → Type 0) (old new : PartsView) (held : List HeldLine) (t : T) → AreGrown old new →
+-- an image of one memory is good where it is as an image of another that has the same images
+good_same : (good : List Event → List (List ℕ) → List (List ℕ) → Type 0) (events : List Event) (one other : MemoryView) (k : ℕ → ℕ) →
+    ((k : ℕ → ℕ) → image_in other k ≡ image_in one k) → good events (image_in one (λ l. 0)) (image_in one k) → good events (image_in other (λ l. 0)) (image_in other k)
+good_same good events one other k same is =
+    subst (λ (full : List (List ℕ)). good events full (image_in other k)) (sym (same (λ l. 0)))
+    (subst (λ (left : List (List ℕ)). good events (image_in one (λ l. 0)) left) (sym (same k)) is)
+
+images_kept : {T : Type 0} (stands : T → List Event → Type 0) (good : List Event → List (List ℕ) → List (List ℕ) → Type 0) (old new : PartsView) (held : List HeldLine) (t : T) → AreGrown old new →
     AreBelow (length old.table.states) held → AreGoodImages stands good (view_of old held) t → AreGoodImages stands good (view_of new held) t
 images_kept stands good old new held t grown below are events k kept choice =
     let same : (l : ℕ) → line_in (view_of new held) l ≡ line_in (view_of old held) l =
     λ l. state_kept old.table.states new.table.states held (16777216 + l) grown.table.grows below in
-    let image_is : image_in (view_of new held) k ≡ image_in (view_of old held) k =
-    ap (λ (s : StartView). image_from (view_of new held) k 0 s.medium) grown.table.start
+    let image_is : (k : ℕ → ℕ) → image_in (view_of new held) k ≡ image_in (view_of old held) k =
+    λ k. ap (λ (s : StartView). image_from (view_of new held) k 0 s.medium) grown.table.start
     ∙ same_images (view_of old held) (view_of new held) k 0 old.table.start.medium same in
-    subst (λ (left : List (List ℕ)). good events left) (sym image_is)
+    good_same good events (view_of old held) (view_of new held) k image_is
     (are events k kept (λ l. subst (λ (s : Option LineState). k l ≤ length (others_of s)) (same l) (choice l)))
 
-moment_kept : {T : Type 0} (stands : T → List Event → Type 0) (good : List Event → List (List ℕ) → Type 0) (old new : ReachedView T) (before after : List (List HeldLine))
+moment_kept : {T : Type 0} (stands : T → List Event → Type 0) (good : List Event → List (List ℕ) → List (List ℕ) → Type 0) (old new : ReachedView T) (before after : List (List HeldLine))
     (memory standing : ℕ) → HaveGrown old new → AreKept before after → ((n : ℕ) (held : List HeldLine) → slice_get before n ≡ Some held → AreBelow (length old.parts.table.states) held) →
     memory < length before → standing < length old.standings → IsGoodMoment stands good old before memory standing → IsGoodMoment stands good new after memory standing
 moment_kept stands good old new before after memory standing grown more below there known is held t found kept =
@@ -131,7 +166,7 @@ moment_kept stands good old new before after memory standing grown more below th
     images_kept stands good old.parts new.parts held t grown.parts (below memory held was)
     (is held t was (got_kept old.standings new.standings standing t grown.standings known kept))
 
-pub moments_kept : {T : Type 0} (stands : T → List Event → Type 0) (good : List Event → List (List ℕ) → Type 0) (old new : ReachedView T) (media : MediaView) (moments : List Moment) →
+pub moments_kept : {T : Type 0} (stands : T → List Event → Type 0) (good : List Event → List (List ℕ) → List (List ℕ) → Type 0) (old new : ReachedView T) (media : MediaView) (moments : List Moment) →
     HaveGrown old new → AreGoodMoments stands good old media moments → AreGoodMoments stands good new media moments
 moments_kept stands good old new media moments grown are = record {
   held = media_kept old.parts new.parts media grown.parts are.held;
@@ -152,13 +187,13 @@ pub image_of_medium : (parts : PartsView) (held : List HeldLine) (k : ℕ → �
 image_of_medium parts held k =
     same_images (view_of parts (on_medium held)) (view_of parts held) k 0 parts.table.start.medium (λ l. line_of_medium parts held l)
 
-images_of_medium : {T : Type 0} (stands : T → List Event → Type 0) (good : List Event → List (List ℕ) → Type 0) (parts : PartsView) (held : List HeldLine) (t : T) →
+images_of_medium : {T : Type 0} (stands : T → List Event → Type 0) (good : List Event → List (List ℕ) → List (List ℕ) → Type 0) (parts : PartsView) (held : List HeldLine) (t : T) →
     AreGoodImages stands good (view_of parts (on_medium held)) t → AreGoodImages stands good (view_of parts held) t
 images_of_medium stands good parts held t are events k kept choice =
-    subst (λ (left : List (List ℕ)). good events left) (sym (image_of_medium parts held k))
+    good_same good events (view_of parts (on_medium held)) (view_of parts held) k (λ k. image_of_medium parts held k)
     (are events k kept (λ l. subst (λ (s : Option LineState). k l ≤ length (others_of s)) (line_of_medium parts held l) (choice l)))
 
-moment_of_medium : {T : Type 0} (stands : T → List Event → Type 0) (good : List Event → List (List ℕ) → Type 0) (r : ReachedView T) (lists : List (List HeldLine))
+moment_of_medium : {T : Type 0} (stands : T → List Event → Type 0) (good : List Event → List (List ℕ) → List (List ℕ) → Type 0) (r : ReachedView T) (lists : List (List HeldLine))
     (memory number standing : ℕ) → IsOnMedium r.parts lists memory number → IsGoodMoment stands good r lists number standing → IsGoodMoment stands good r r.parts.lists memory standing
 moment_of_medium stands good r lists memory number standing on is held t found kept =
     let same : on.held ≡ held = same_Some on.held held (sym on.found ∙ found) in
@@ -166,7 +201,7 @@ moment_of_medium stands good r lists memory number standing on is held t found k
     (is (on_medium held) t (subst (λ (one : List HeldLine). slice_get lists number ≡ Some (on_medium one)) same on.here) kept)
 
 -- so a state is good where the moment of what it holds of the medium is
-pub state_of_moment : {T : Type 0} (stands : T → List Event → Type 0) (good : List Event → List (List ℕ) → Type 0) (r : ReachedView T) (lists : List (List HeldLine))
+pub state_of_moment : {T : Type 0} (stands : T → List Event → Type 0) (good : List Event → List (List ℕ) → List (List ℕ) → Type 0) (r : ReachedView T) (lists : List (List HeldLine))
     (n : ℕ) (numbers : StateNumbers) (number : ℕ) → slice_get r.states n ≡ Some numbers → IsOnMedium r.parts lists numbers.memory number →
     IsGoodMoment stands good r lists number numbers.standing → IsGoodState stands good r n
 state_of_moment stands good r lists n numbers number here on is others found =
@@ -174,14 +209,14 @@ state_of_moment stands good r lists n numbers number here on is others found =
     subst (λ (one : StateNumbers). IsGoodMoment stands good r r.parts.lists one.memory one.standing) same
     (moment_of_medium stands good r lists numbers.memory number numbers.standing on is)
 
-state_still : {T : Type 0} (stands : T → List Event → Type 0) (good : List Event → List (List ℕ) → Type 0) (old new : ReachedView T) (n : ℕ) → HaveGrown old new →
+state_still : {T : Type 0} (stands : T → List Event → Type 0) (good : List Event → List (List ℕ) → List (List ℕ) → Type 0) (old new : ReachedView T) (n : ℕ) → HaveGrown old new →
     AreNumbered old → AreLists old.parts.table.states old.parts.lists → n < length old.states → IsGoodState stands good old n → IsGoodState stands good new n
 state_still stands good old new n grown numbered lists there is numbers found =
     let was : slice_get old.states n ≡ Some numbers = got_kept old.states new.states n numbers grown.states there found in
     let parts : AreThere old numbers = numbered.each n numbers was in
     moment_kept stands good old new old.parts.lists new.parts.lists numbers.memory numbers.standing grown grown.parts.lists lists.below parts.memory parts.standing (is numbers was)
 
-pub good_next : {T : Type 0} (stands : T → List Event → Type 0) (good : List Event → List (List ℕ) → Type 0) (old new : ReachedView T) (count : ℕ) → HaveGrown old new →
+pub good_next : {T : Type 0} (stands : T → List Event → Type 0) (good : List Event → List (List ℕ) → List (List ℕ) → Type 0) (old new : ReachedView T) (count : ℕ) → HaveGrown old new →
     AreNumbered old → AreLists old.parts.table.states old.parts.lists → count < length old.states → AreGoodBelow stands good old count → IsGoodState stands good old count →
     AreGoodBelow stands good new (count + 1)
 good_next stands good old new count grown numbered lists there below here n few = elim (cases_lt n count) [
@@ -192,7 +227,7 @@ good_next stands good old new count grown numbered lists there below here n few 
 ]
 
 -- the moment of the state joins those that are good
-pub moments_more : {T : Type 0} (stands : T → List Event → Type 0) (good : List Event → List (List ℕ) → Type 0) (r : ReachedView T) (media : MediaView) (moments more : List Moment)
+pub moments_more : {T : Type 0} (stands : T → List Event → Type 0) (good : List Event → List (List ℕ) → List (List ℕ) → Type 0) (r : ReachedView T) (media : MediaView) (moments more : List Moment)
     (moment : Moment) → (more ≡ moments) ⊎ (more ≡ moments ++ moment ∷ []) → AreGoodMoments stands good r media moments → moment.memory < length media.lists →
     moment.standing < length r.standings → IsGoodMoment stands good r media.lists moment.memory moment.standing → AreGoodMoments stands good r media more
 moments_more stands good r media moments more moment appended are memory standing is = record {
@@ -205,12 +240,12 @@ moments_more stands good r media moments more moment appended are memory standin
 }
 
 -- as more is noted, what was good stays good
-moment_noted : {T : Type 0} (stands : T → List Event → Type 0) (before after : List Event → List (List ℕ) → Type 0) (r : ReachedView T) (lists : List (List HeldLine))
+moment_noted : {T : Type 0} (stands : T → List Event → Type 0) (before after : List Event → List (List ℕ) → List (List ℕ) → Type 0) (r : ReachedView T) (lists : List (List HeldLine))
     (memory standing : ℕ) → StaysGood before after → IsGoodMoment stands before r lists memory standing → IsGoodMoment stands after r lists memory standing
 moment_noted stands before after r lists memory standing stays is held t found here events k kept choice =
-    stays events (image_in (view_of r.parts held) k) (is held t found here events k kept choice)
+    stays events (image_in (view_of r.parts held) (λ l. 0)) (image_in (view_of r.parts held) k) (is held t found here events k kept choice)
 
-pub moments_noted : {T : Type 0} (stands : T → List Event → Type 0) (before after : List Event → List (List ℕ) → Type 0) (r : ReachedView T) (media : MediaView)
+pub moments_noted : {T : Type 0} (stands : T → List Event → Type 0) (before after : List Event → List (List ℕ) → List (List ℕ) → Type 0) (r : ReachedView T) (media : MediaView)
     (moments : List Moment) → StaysGood before after → AreGoodMoments stands before r media moments → AreGoodMoments stands after r media moments
 moments_noted stands before after r media moments stays are = record {
   held = are.held;
@@ -220,13 +255,13 @@ moments_noted stands before after r media moments stays are = record {
       (was.0, was.1, moment_noted stands before after r media.lists moment.memory moment.standing stays was.2);
 }
 
-pub below_noted : {T : Type 0} (stands : T → List Event → Type 0) (before after : List Event → List (List ℕ) → Type 0) (r : ReachedView T) (count : ℕ) →
+pub below_noted : {T : Type 0} (stands : T → List Event → Type 0) (before after : List Event → List (List ℕ) → List (List ℕ) → Type 0) (r : ReachedView T) (count : ℕ) →
     StaysGood before after → AreGoodBelow stands before r count → AreGoodBelow stands after r count
 below_noted stands before after r count stays are n few numbers found =
     moment_noted stands before after r r.parts.lists numbers.memory numbers.standing stays (are n few numbers found)
 
 -- moments stay good as further lists of lines of the medium are numbered
-pub moments_among : {T : Type 0} (stands : T → List Event → Type 0) (good : List Event → List (List ℕ) → Type 0) (r : ReachedView T) (media more : MediaView) (moments : List Moment) →
+pub moments_among : {T : Type 0} (stands : T → List Event → Type 0) (good : List Event → List (List ℕ) → List (List ℕ) → Type 0) (r : ReachedView T) (media more : MediaView) (moments : List Moment) →
     AreKept media.lists more.lists → AreOnMedium r.parts more → AreGoodMoments stands good r media moments → AreGoodMoments stands good r more moments
 moments_among stands good r media more moments kept on are = record {
   held = on;
@@ -237,13 +272,13 @@ moments_among stands good r media more moments kept on are = record {
 }
 
 -- a moment that was judged before
-pub known_moment : {T : Type 0} (stands : T → List Event → Type 0) (good : List Event → List (List ℕ) → Type 0) (r : ReachedView T) (media : MediaView) (moments more : List Moment)
+pub known_moment : {T : Type 0} (stands : T → List Event → Type 0) (good : List Event → List (List ℕ) → List (List ℕ) → Type 0) (r : ReachedView T) (media : MediaView) (moments more : List Moment)
     (place : ℕ) (moment : Moment) → AreKept moments more → place < length moments → slice_get more place ≡ Some moment → AreGoodMoments stands good r media moments →
     IsGoodMoment stands good r media.lists moment.memory moment.standing
 known_moment stands good r media moments more place moment kept there found are = (are.each place moment (got_kept moments more place moment kept there found)).2
 
 -- whatever a schedule leads to
-pub all_good : {T : Type 0} (stands : T → List Event → Type 0) (allows : List Event → ℕ → Type 0) (good : List Event → List (List ℕ) → Type 0) (ends : Status → Type 0)
+pub all_good : {T : Type 0} (stands : T → List Event → Type 0) (allows : List Event → ℕ → Type 0) (good : List Event → List (List ℕ) → List (List ℕ) → Type 0) (ends : Status → Type 0)
     (r : ReachedView T) (program : Sections) (medium : List (List ℕ)) (harts : ℕ) → r.parts.table.start.medium ≡ medium → Covers stands r (started program medium harts) →
     IsClosed stands allows ends r → AreGoodBelow stands good r (length r.states) → AlwaysGood stands allows good ends program medium harts
 all_good stands allows good ends r program medium harts same start closed are steps end runs keeps =

@@ -42,8 +42,8 @@ pub trait StateJudge {
     /// After these events this hart may make a step.
     ghost allows: { Self → List AnEvent → ℕ → Type 0 };
 
-    /// The image is good after these events, as far as the workspace has noted what it needs.
-    ghost good: { Self → Self.Workspace → List AnEvent → List (List ℕ) → Type 0 };
+    /// After these events loads find the first of these images, and the second one is good, as far as the workspace has noted what it needs.
+    ghost good: { Self → Self.Workspace → List AnEvent → List (List ℕ) → List (List ℕ) → Type 0 };
 
     /// After a run with these events that keeps to the rule of turns loads find these lines of the medium. A judge may note it.
     ghost happens: { Self → List AnEvent → List (List ℕ) → Type 0 };

@@ -26,7 +26,7 @@ impl StateJudge for InTurn {
 
     ghost allows = { λ s events hart. hart ≤ length (ended events) };
 
-    ghost good = { λ s most events image. length (ended events) ≤ most };
+    ghost good = { λ s most events full image. length (ended events) ≤ most };
 
     ghost happens = { λ s events lines. Unit {0} };
 

@@ -23,7 +23,7 @@ loop-number-init g c = record {
     each = λ n moment found. let none : slice_get [] n ≡ Some moment = rw c.requires.new.0 at found in absurd cc;
   };
   fits = c.requires.given.0;
-  kept = λ events image good. good;
+  kept = λ events full image good. good;
   told = nothing;
 }
 
@@ -80,25 +80,25 @@ returns-clause-kept g c = (rw c.loop-number.invariant.start at c.loop-number.inv
 pub returns-in_err-stop-clause-kept : goal.returns-in_err-stop-clause-kept
 returns-in_err-stop-clause-kept g c = (
   rw c.loop-number.invariant.start at c.judge_state.ensures.fits,
-  λ events image good. c.judge_state.ensures.kept events image (c.loop-number.invariant.kept events image good),
+  λ events full image good. c.judge_state.ensures.kept events full image (c.loop-number.invariant.kept events full image good),
 )
 
 pub returns-in-Some-clause-kept : goal.returns-in-Some-clause-kept
 returns-in-Some-clause-kept g c = (
   rw c.loop-number.invariant.start at c.judge_state.ensures.fits,
-  λ events image good. c.judge_state.ensures.kept events image (c.loop-number.invariant.kept events image good),
+  λ events full image good. c.judge_state.ensures.kept events full image (c.loop-number.invariant.kept events full image good),
 )
 
 pub returns-in_err-stop-2-clause-kept : goal.returns-in_err-stop-2-clause-kept
 returns-in_err-stop-2-clause-kept g c = (
   rw c.loop-number.invariant.start at c.judge_state.ensures.fits,
-  λ events image good. c.judge_state.ensures.kept events image (c.loop-number.invariant.kept events image good),
+  λ events full image good. c.judge_state.ensures.kept events full image (c.loop-number.invariant.kept events full image good),
 )
 
 pub returns-in-Some-2-clause-kept : goal.returns-in-Some-2-clause-kept
 returns-in-Some-2-clause-kept g c = (
   rw c.loop-number.invariant.start at c.judge_state.ensures.fits,
-  λ events image good. c.judge_state.ensures.kept events image (c.loop-number.invariant.kept events image good),
+  λ events full image good. c.judge_state.ensures.kept events full image (c.loop-number.invariant.kept events full image good),
 )
 
 pub loop-number-preserved : goal.loop-number-preserved
@@ -125,7 +125,7 @@ loop-number-preserved g c =
       moments = moments_kept (g.J.StateJudge.stands c.args.judge.now) (g.J.StateJudge.good c.args.judge.now c.judge_state.new.workspace) c.loop-number.reached c.go_on_all.new.self c.judge_state.new.judged.media
           c.judge_state.new.judged.moments c.go_on_all.ensures.grown judged.0;
       fits = rw start c.judge_state.ensures.fits;
-      kept = λ events image good. c.judge_state.ensures.kept events image (c.loop-number.invariant.kept events image good);
+      kept = λ events full image good. c.judge_state.ensures.kept events full image (c.loop-number.invariant.kept events full image good);
       told = c.tell.ensures c.args.watcher.now c.loop-number.invariant.told;
     }
 
