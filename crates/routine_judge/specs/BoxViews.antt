@@ -1,0 +1,14 @@
+-- A box as it is kept: a medium, and of some of its lines other contents.
+use Rattle.std.specs.Prelude.{◌≡◌, ℕ, ◌<◌, List, [], ◌∷◌, Option, Some, None, All, length}
+use Rattle.std.specs.List.{AllByRecursion}
+
+-- of each line the contents that were put there, else that of the medium alone
+abbrev pub spread : List (List ℕ) → List (Option (List (List ℕ))) → List (List (List ℕ))
+spread [] table = []
+spread (line ∷ lines) [] = (line ∷ []) ∷ spread lines []
+spread (line ∷ lines) (None ∷ table) = (line ∷ []) ∷ spread lines table
+spread (line ∷ lines) (Some contents ∷ table) = contents ∷ spread lines table
+
+-- each line has a content
+abbrev pub AreFilled : List (List (List ℕ)) → Type 0
+AreFilled box = AllByRecursion (λ contents. 0 < length contents) box
