@@ -43,7 +43,7 @@ pub whole_in : (box : List (List (List ℕ))) (image : List (List ℕ)) → AreW
 whole_in box image w h = record { whole = λ l there. line_whole l box image w h there }
 
 pub length_in : (box : List (List (List ℕ))) (image : List (List ℕ)) → IsIn box image → length box ≡ length image
-length_in box image h = length_all_zip Contains box image h
+length_in box image h = length_all_zip (λ (contents : List (List ℕ)) (line : List ℕ). Contains contents line) box image h
 
 -- the run on another image of the part
 pub record IsSameRun (program : Sections) (steps : ℕ) (other : List (List ℕ)) (events : List Event) (found : Result (List ℕ) Cause) : Type 0 where

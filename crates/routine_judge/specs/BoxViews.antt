@@ -1,5 +1,5 @@
 -- A box as it is kept: a medium, and of some of its lines other contents.
-use Rattle.std.specs.Prelude.{◌≡◌, ℕ, ◌<◌, List, [], ◌∷◌, Option, Some, None, All, length}
+use Rattle.std.specs.Prelude.{◌≡◌, ℕ, ◌<◌, List, [], ◌∷◌, Option, Some, None, length, map, slice_index_or}
 use Rattle.std.specs.List.{AllByRecursion}
 
 -- of each line the contents that were put there, else that of the medium alone
@@ -12,3 +12,7 @@ spread (line ∷ lines) (Some contents ∷ table) = contents ∷ spread lines ta
 -- each line has a content
 abbrev pub AreFilled : List (List (List ℕ)) → Type 0
 AreFilled box = AllByRecursion (λ contents. 0 < length contents) box
+
+-- the image that has the first content of each line
+abbrev pub first_image : List (List (List ℕ)) → List (List ℕ)
+first_image box = map (λ contents. slice_index_or contents 0 []) box
