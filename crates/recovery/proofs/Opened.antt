@@ -4,7 +4,7 @@ use Rattle.std.specs.Prelude.{All, IfSome, take}
 use Rattle.std.specs.List.{AllByRecursion, AllZip, Contains}
 use Rattle.std.proofs.lemmas.Bool.Decides.{nat_tests}
 use Rattle.std.proofs.lemmas.List.{take_more}
-use Rattle.std.proofs.lemmas.List.Elements.{All-contains, length_all_zip}
+use Rattle.std.proofs.lemmas.List.Elements.{All-contains}
 use Rattle.line_memory.specs.Lines.{AreLines, line_at}
 use Rattle.program.specs.Sections.{Sections}
 use Rattle.store_trace.specs.Cut.{IsWithin}
@@ -43,7 +43,10 @@ pub whole_in : (box : List (List (List ℕ))) (image : List (List ℕ)) → AreW
 whole_in box image w h = record { whole = λ l there. line_whole l box image w h there }
 
 pub length_in : (box : List (List (List ℕ))) (image : List (List ℕ)) → IsIn box image → length box ≡ length image
-length_in box image h = length_all_zip (λ (contents : List (List ℕ)) (line : List ℕ). Contains contents line) box image h
+length_in [] [] h = refl
+length_in [] (line ∷ image) h = absurd h
+length_in (contents ∷ box) [] h = absurd h
+length_in (contents ∷ box) (line ∷ image) h = ap suc (length_in box image h.1)
 
 -- the run on another image of the part
 pub record IsSameRun (program : Sections) (steps : ℕ) (other : List (List ℕ)) (events : List Event) (found : Result (List ℕ) Cause) : Type 0 where
