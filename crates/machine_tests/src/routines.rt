@@ -5,3 +5,4 @@ mod again;
 mod answers;
 mod memory;
 mod samples;
+mod traces;

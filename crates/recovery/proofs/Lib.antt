@@ -13,3 +13,7 @@ pub mod Answering
 pub mod Limited
 pub mod Imaged
 pub mod Bytewise
+pub mod Boxed
+pub mod Parted
+pub mod Opened
+pub mod Staying

@@ -7,6 +7,7 @@ use Rattle.line_memory.specs.Memory.{Memory}
 use Rattle.line_memory.specs.Regions.{padded}
 use Rattle.line_memory.specs.declared.TheConstants.{DATA_SIZE, TEXT_SIZE}
 use Rattle.program.specs.Sections.{Sections}
+use Rattle.store_trace.specs.declared.event.Event.{Event}
 use Rattle.machine.specs.Histories.{text_of}
 use Rattle.machine.specs.Replies.{starting_memory}
 use Rattle.machine.specs.Run.{Config, started}
@@ -15,7 +16,7 @@ use Rattle.machine.proofs.Copying.{text_there}
 use Rattle.recovery.specs.declared.recovery_run.Cause.{Cause}
 use Rattle.recovery.specs.Answers.{answer, byte_list, bytes_from}
 use Rattle.recovery.specs.Engine.{Comes, Represents, ending}
-use Rattle.recovery.specs.Routine.{IsAtRest, Recovers}
+use Rattle.recovery.specs.Routine.{IsAtRest, Recovers, RecoversWith}
 use Rattle.recovery.specs.declared.engine.Engine.{Engine}
 use Rattle.verdict.specs.declared.branches.question.Question.{Question}
 
@@ -33,15 +34,16 @@ starting_text program image whole =
     ∙ text_there (record { text = padded program.text TEXT_SIZE; bytes = padded program.static_data DATA_SIZE }) (line_bytes image)
 
 pub begins : (old new : Engine) (image : List (List ℕ)) → IsAtRest old → new.hart ≡ start 0 → new.text ≡ old.text → new.world.held ≡ old.world.held
-    → new.world.reserved ≡ None → new.world.events ≡ 0 → ((l : ℕ) → slice_index new.world.own l ≡ 0) → new.world.asked ≡ []
+    → new.world.reserved ≡ None → new.world.events ≡ 0 → new.world.trace ≡ [] → ((l : ℕ) → slice_index new.world.own l ≡ 0) → new.world.asked ≡ []
     → Represents new image (started old.world.held.program image 1)
-begins old new image rest hart text held reserved events own asked = record {
+begins old new image rest hart text held reserved events trace own asked = record {
   harts = rw hart refl;
   memory = rw held (rest.memory.memory image);
   text = rw (text, rest.fetched, rest.start) (starting_text old.world.held.program image rest.size);
   reserved = rw reserved (λ l. refl);
   events = events;
   few = omega arith;
+  trace = λ kept. trace;
   own = own;
   asked = asked;
 }
@@ -61,6 +63,20 @@ recovers begun new image steps program questions found stands comes asked =
       full = comes.full;
       runs = runs;
       asks = asked ∙ ended.asked;
+      comes = comes.comes ∙ ends new image d comes.full ended;
+    }
+
+pub recovers_with : (begun new : Engine) (image : List (List ℕ)) (steps : ℕ) (program : Sections) (questions : List Question) (events : List Event)
+    (found : Result (List ℕ) Cause) → Represents begun image (started program image 1) → begun.world.keeps ≡ true → Comes begun new image steps found
+    → questions ≡ new.world.asked → events ≡ new.world.trace → RecoversWith program image steps questions events found
+recovers_with begun new image steps program questions events found stands kept comes asked traced =
+    let (d, runs, ended) = comes.runs.runs (started program image 1) stands in
+    record {
+      end = d;
+      full = comes.full;
+      runs = runs;
+      asks = asked ∙ ended.asked;
+      traces = traced ∙ ended.trace (comes.runs.keeps ∙ kept);
       comes = comes.comes ∙ ends new image d comes.full ended;
     }
 

@@ -1,5 +1,5 @@
 -- Steps one after another are a run.
-use Rattle.std.proofs.Common.{◌≡◌, ℕ, zero, suc, ◌+◌, ◌-◌, ◌<◌, ◌≤◌, List, Bool, true, false, Some, length, slice_get, refl, ◌∙◌, inl, inr, arith}
+use Rattle.std.proofs.Common.{◌≡◌, ℕ, zero, suc, ◌+◌, ◌-◌, ◌<◌, ◌≤◌, List, Bool, true, false, Some, length, slice_get, refl, ap, ◌∙◌, inl, inr, arith}
 use Rattle.hart.specs.declared.state.Status.{Status}
 use Rattle.hart.specs.declared.state.Status.TheVariants.{Running, Exited, Trapped}
 use Rattle.machine.specs.declared.schedule.items.Step.TheVariants.{Hart}
@@ -16,8 +16,9 @@ pub runs_more : (old middle new : Engine) (image : List (List ℕ)) (made : ℕ)
 runs_more old middle new image made before goes = record {
   runs = λ c stands.
       let (d, runs, middle_stands) = before.runs c stands in
-      let (e, step, new_stands) = goes d middle_stands in
+      let (e, step, new_stands) = goes.1 d middle_stands in
       (e, goes_on c d e made 1 false runs (e, step, inl (new_stands.few, (refl, refl))), new_stands);
+  keeps = goes.0 ∙ before.keeps;
 }
 
 runs_left : (c d e : Config) (made steps : ℕ) (full : Bool) → made ≤ steps → RunsFor c made d false → RunsFor d (steps - made) e full → RunsFor c steps e full
@@ -36,6 +37,7 @@ runs_full old middle new image made steps fits before (same, goes) = record {
       let (d, runs, middle_stands) = before.runs c stands in
       let (e, step, over) = goes d middle_stands in
       (d, runs_left c d d made steps true (omega arith) runs (full_there d e (steps - made) (omega arith) step over), rw same middle_stands);
+  keeps = ap (λ (engine : Engine). engine.world.keeps) same ∙ before.keeps;
 }
 
 not_running : (status : Status) → has_stopped status ≡ true → status ≡ Running → ⊥
@@ -54,6 +56,7 @@ runs_stopped old middle image made steps fits before stopped = record {
             (stays d middle.hart (steps - made) there (not_running middle.hart.status stopped) middle_stands.few),
         middle_stands,
       );
+  keeps = before.keeps;
 }
 
 pub kept_more : (old middle new : Engine) → IsKept old middle → IsKept middle new → IsKept old new

@@ -13,6 +13,7 @@ use Rattle.hart.specs.declared.need.Need.TheVariants.{Local, Ask, Stop}
 use Rattle.hart.specs.declared.need.Reply.{Reply}
 use Rattle.hart.specs.declared.need.Request.{Request}
 use Rattle.line_memory.specs.Memory.{Memory}
+use Rattle.store_trace.specs.declared.event.Event.{Event}
 use Rattle.line_memory.specs.Regions.{region}
 use Rattle.line_memory.specs.declared.TheConstants.{TEXT_BASE, TEXT_SIZE}
 use Rattle.machine.specs.declared.schedule.items.Step.TheVariants.{Hart}
@@ -80,39 +81,46 @@ steps engine image c d need stands running x =
 
 pub goes_alone : (old new : Engine) (image : List (List ℕ)) (after : HartState) → old.hart.status ≡ Running
     → Needs old.hart (fetched (text_bytes old.text.bytes) old.hart.pc) (Local after) → new ≡ record old { hart = after } → Goes old new image true
-goes_alone old new image after running needs e = λ c stands. (
-  with_hart c 0 after,
-  steps old image c (with_hart c 0 after) (Local after) stands running (Local after, needs, refl),
-  rw e (record {
-    harts = rw stands.harts refl;
-    memory = stands.memory;
-    text = stands.text;
-    reserved = stands.reserved;
-    events = stands.events;
-    few = stands.few;
-    own = stands.own;
-    asked = stands.asked;
-  }),
+goes_alone old new image after running needs e = (
+  ap (λ (engine : Engine). engine.world.keeps) e,
+  λ c stands. (
+    with_hart c 0 after,
+    steps old image c (with_hart c 0 after) (Local after) stands running (Local after, needs, refl),
+    rw e (record {
+      harts = rw stands.harts refl;
+      memory = stands.memory;
+      text = stands.text;
+      reserved = stands.reserved;
+      events = stands.events;
+      few = stands.few;
+      trace = stands.trace;
+      own = stands.own;
+      asked = stands.asked;
+    }),
+  ),
 )
 
 pub goes_trapped : (old new : Engine) (image : List (List ℕ)) (trap : Trap) → old.hart.status ≡ Running
     → Needs old.hart (fetched (text_bytes old.text.bytes) old.hart.pc) (Stop trap) → new ≡ record old { hart = record old.hart { status = Trapped trap } }
     → Goes old new image true
-goes_trapped old new image trap running needs e = λ c stands.
-    let after : HartState = record old.hart { status = Trapped trap } in (
-      with_hart c 0 (record old.hart { status = Trapped trap }),
-      steps old image c (with_hart c 0 (record old.hart { status = Trapped trap })) (Stop trap) stands running (Stop trap, needs, refl),
-      rw e (record {
-        harts = rw stands.harts refl;
-        memory = stands.memory;
-        text = stands.text;
-        reserved = stands.reserved;
-        events = stands.events;
-        few = stands.few;
-        own = stands.own;
-        asked = stands.asked;
-      }),
-    )
+goes_trapped old new image trap running needs e = (
+  ap (λ (engine : Engine). engine.world.keeps) e,
+  λ c stands. (
+    with_hart c 0 (record old.hart { status = Trapped trap }),
+    steps old image c (with_hart c 0 (record old.hart { status = Trapped trap })) (Stop trap) stands running (Stop trap, needs, refl),
+    rw e (record {
+      harts = rw stands.harts refl;
+      memory = stands.memory;
+      text = stands.text;
+      reserved = stands.reserved;
+      events = stands.events;
+      few = stands.few;
+      trace = stands.trace;
+      own = stands.own;
+      asked = stands.asked;
+    }),
+  ),
+)
 
 -- what it represents after a request
 answered_stands : (old new : Engine) (image : List (List ℕ)) (i : Instr) (request : Request) (reply : Reply) (c : Config)
@@ -136,6 +144,10 @@ answered_stands old new image i request reply c told serves hart text stands =
       reserved = s.reserved (flat_map calls_of c.common.history) stands.reserved;
       events = events;
       few = let few = s.few in omega arith;
+      trace = λ kept.
+          let before = sym s.kept.keeps ∙ kept in
+          s.kept.trace before
+          ∙ ap (λ (t : List Event). t ++ events_of 0 request (reply_after c.common 0 request)) (stands.trace before);
       own = λ l. s.own l ∙ ap (λ (bytes : ℕ). with_written l (written request (reply_after c.common 0 request)) bytes) (stands.own l);
       asked = s.asked ∙ ap (λ (own : ℕ → ℕ). old.world.asked ++ asked_by own request (reply_after c.common 0 request)) (fun_ext stands.own)
           ∙ ap (λ (questions : List Question). questions ++ asked_by (own_bytes c.common.history) request (reply_after c.common 0 request)) stands.asked;
@@ -144,12 +156,15 @@ answered_stands old new image i request reply c told serves hart text stands =
 pub goes_answered : (old new : Engine) (image : List (List ℕ)) (i : Instr) (request : Request) → old.hart.status ≡ Running
     → Needs old.hart (fetched (text_bytes old.text.bytes) old.hart.pc) (Ask request) → IsSpelledBy (fetched (text_bytes old.text.bytes) old.hart.pc) i
     → Answers old new image i request → Goes old new image true
-goes_answered old new image i request running needs spelled a = λ c stands.
-    let told : a.reply ≡ reply_after c.common 0 request = a.serves.reply ∙ reply_stands old image request c stands in (
-      after_request c 0 old.hart i request,
-      steps old image c (after_request c 0 old.hart i request) (Ask request) stands running (Ask request, needs, (i, spelled, refl)),
-      answered_stands old new image i request a.reply c told a.serves a.hart a.text stands,
-    )
+goes_answered old new image i request running needs spelled a = (
+  a.serves.kept.keeps,
+  λ c stands.
+      let told : a.reply ≡ reply_after c.common 0 request = a.serves.reply ∙ reply_stands old image request c stands in (
+        after_request c 0 old.hart i request,
+        steps old image c (after_request c 0 old.hart i request) (Ask request) stands running (Ask request, needs, (i, spelled, refl)),
+        answered_stands old new image i request a.reply c told a.serves a.hart a.text stands,
+      ),
+)
 
 pub goes_full : (old new : Engine) (image : List (List ℕ)) (i : Instr) (request : Request) → old.hart.status ≡ Running
     → Needs old.hart (fetched (text_bytes old.text.bytes) old.hart.pc) (Ask request) → IsSpelledBy (fetched (text_bytes old.text.bytes) old.hart.pc) i

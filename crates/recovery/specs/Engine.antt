@@ -27,6 +27,7 @@ pub record Represents (engine : Engine) (image : List (List ℕ)) (c : Config) :
   pub reserved : Holds engine.world.reserved (flat_map calls_of c.common.history)
   pub events : engine.world.events ≡ length (trace_in c.common)
   pub few : length (trace_in c.common) ≤ 65536
+  pub trace : engine.world.keeps ≡ true → engine.world.trace ≡ trace_in c.common
   pub own : (l : ℕ) → slice_index engine.world.own l ≡ own_bytes c.common.history l
   pub asked : engine.world.asked ≡ asked c.common.history
 
@@ -46,15 +47,17 @@ abbrev pub IsAsked : Engine → Engine → List (List ℕ) → Instr → Request
 IsAsked old new image i request true = Answers old new image i request
 IsAsked old new image i request false = (new ≡ old) × IsTooMany old.world image request
 
--- A step was made: whatever it represented before, it represents what the step makes of that. Or it wasn't: it would make an event too
--- many.
+-- A step was made: whatever it represented before, it represents what the step makes of that, and events are kept as before. Or it wasn't: it
+-- would make an event too many.
 abbrev pub Goes : Engine → Engine → List (List ℕ) → Bool → Type 0
-Goes old new image true = (c : Config) → Represents old image c → (d : Config) × StepsTo c (Hart 0) d × Represents new image d
+Goes old new image true = (new.world.keeps ≡ old.world.keeps)
+    × ((c : Config) → Represents old image c → (d : Config) × StepsTo c (Hart 0) d × Represents new image d)
 Goes old new image false = (new ≡ old) × ((c : Config) → Represents old image c → (d : Config) × StepsTo c (Hart 0) d × (65536 < length (trace_in d.common)))
 
 -- it ran for so many steps, and is full or not
 pub record Runs (old new : Engine) (image : List (List ℕ)) (steps : ℕ) (full : Bool) : Type 0 where
   pub runs : (c : Config) → Represents old image c → (d : Config) × RunsFor c steps d full × Represents new image d
+  pub keeps : new.world.keeps ≡ old.world.keeps
 
 -- what a run came to that ended here
 abbrev pub ending : Engine → List (List ℕ) → Bool → Result (List ℕ) Cause

@@ -9,3 +9,7 @@ pub mod Asking
 pub mod Answers
 pub mod Recovery
 pub mod Images
+pub mod Boxes
+pub mod Cuts
+pub mod Parts
+pub mod Closed

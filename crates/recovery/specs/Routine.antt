@@ -1,7 +1,9 @@
 -- A routine between two runs, and what a run of it comes to.
 use Rattle.std.specs.Prelude.{◌≡◌, ℕ, List, Bool, Result, length, slice_index}
 use Rattle.line_memory.specs.declared.TheConstants.{TEXT_SIZE}
+use Rattle.store_trace.specs.declared.event.Event.{Event}
 use Rattle.program.specs.Sections.{Sections}
+use Rattle.machine.specs.Replies.{trace_in}
 use Rattle.machine.specs.Run.{Config, started}
 use Rattle.recovery.specs.Memory.{IsAtStart}
 use Rattle.recovery.specs.declared.recovery_run.Cause.{Cause}
@@ -31,4 +33,13 @@ pub record Recovers (program : Sections) (image : List (List ℕ)) (steps : ℕ)
   pub full : Bool
   pub runs : RunsFor (started program image 1) steps end full
   pub asks : questions ≡ asked end.common.history
+  pub comes : found ≡ answer end full
+
+-- the same with its events, the oldest first
+pub record RecoversWith (program : Sections) (image : List (List ℕ)) (steps : ℕ) (questions : List Question) (events : List Event) (found : Result (List ℕ) Cause) : Type 0 where
+  pub end : Config
+  pub full : Bool
+  pub runs : RunsFor (started program image 1) steps end full
+  pub asks : questions ≡ asked end.common.history
+  pub traces : events ≡ trace_in end.common
   pub comes : found ≡ answer end full

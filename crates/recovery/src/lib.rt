@@ -5,6 +5,7 @@
 //! that a run asks have the same run.
 #![tactic(auto)]
 
+mod cuts;
 mod engine;
 mod fetched;
 mod found;
@@ -14,6 +15,7 @@ mod recovery_run;
 mod routine;
 mod world;
 
+pub use cuts::{boxes_fall_apart, closed_boxes_stay_right, cuts_leave_boxes, part_has_one_run};
 pub use found::Answer;
 pub use overlay::{Held, Source};
 pub use overlay_memory::{HeldMemory, Place};
@@ -21,4 +23,4 @@ pub use recovery_run::{
     Cause, bytes_asked_decide, bytes_asked_decide_recovery, bytes_asked_so_far_decide,
     images_are_judged_by_branches, recovery_has_parts, recovery_is_a_run,
 };
-pub use routine::Routine;
+pub use routine::{Routine, TracedRun};

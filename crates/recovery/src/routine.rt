@@ -7,7 +7,7 @@ ghost use Rattle.machine.specs.Run.{started};
 ghost use Rattle.recovery.specs.Held.{IsOver};
 ghost use Rattle.recovery.specs.Memory.{IsAtStart};
 ghost use Rattle.recovery.specs.Engine.{IsKept, Represents};
-ghost use Rattle.recovery.specs.Routine.{IsAtRest, Recovers};
+ghost use Rattle.recovery.specs.Routine.{IsAtRest, Recovers, RecoversWith};
 
 use crate::engine::Engine;
 use crate::fetched::FetchedText;
@@ -20,7 +20,15 @@ use line_memory::MediumFault;
 use program::Program;
 use std::alloc::{AllocError, Global};
 use std::marker::Model;
+use store_trace::Trace;
 use verdict::Question;
+
+/// What a run came to, and its events, the oldest first.
+#[derive(Drop)]
+pub struct TracedRun {
+    pub found: Result<Answer, Cause>,
+    pub trace: Trace,
+}
 
 /// A recovery routine, which is as new before and after each run: the next image can be any other.
 #[derive(Drop)]
@@ -81,10 +89,34 @@ impl Routine {
         ensures program { self.new.program ≡ self.old.program }
         ensures lines { self.new.lines ≡ self.old.lines }
     {
-        self.engine.begin(image);
+        self.engine.begin(alloc, image, false);
         let found = self.engine.recover(alloc, image, steps);
         self.engine.set_back();
         found
+    }
+
+    /// The same run, with its events: which lines it stored to, cleaned and fenced, in their order. They are kept as they are made, and take
+    /// memory.
+    ///
+    /// # Errors
+    /// A growth was refused; the routine is as new then too.
+    pub fn run_traced<S: Source>(
+        &mut self,
+        alloc: Global,
+        image: &S,
+        steps: u32,
+    ) -> Result<TracedRun, AllocError>
+        requires lines { length (S.medium image.now) ≡ self.old.lines }
+        ensures ok { IfOk result (λ run. RecoversWith self.old.program (S.medium image.now) steps self.new.asked run.trace.events run.found) }
+        ensures program { self.new.program ≡ self.old.program }
+        ensures lines { self.new.lines ≡ self.old.lines }
+    {
+        self.engine.begin(alloc, image, true);
+        let found = self.engine.recover(alloc, image, steps);
+        let trace = self.engine.world.take_trace(alloc);
+        self.engine.set_back();
+        let found = found?;
+        Ok(TracedRun { found, trace })
     }
 
     /// The bytes of the image that the last run asked by loads, LRs and atomic operations that didn't trap, the first ones first: those
@@ -98,18 +130,19 @@ impl Routine {
 }
 
 impl Engine {
-    /// Hart 0 begins, over an image.
-    fn begin<S: Source>(&mut self, image: &S)
+    /// Hart 0 begins, over an image. Its events are kept, or aren't.
+    fn begin<S: Source>(&mut self, alloc: Global, image: &S, keeps: bool)
         requires rest { IsAtRest self.old }
         requires lines { length (S.medium image.now) ≡ length self.old.world.held.image }
         ensures represents { Represents self.new (S.medium image.now) (started self.old.world.held.program (S.medium image.now) 1) }
         ensures over { IsOver self.new.world.held.image (S.medium image.now) }
+        ensures keeps { self.new.world.keeps ≡ keeps }
         ensures kept { IsKept self.old self.new }
     {
         // a look at the image, for its lines to be known as such
         let _ = image.lines();
         self.hart = HartState::start(0);
-        self.world.begin();
+        self.world.begin(alloc, keeps);
     }
 
     /// Memory and the text that is fetched are those of the start again.

@@ -1,5 +1,5 @@
-//! What a routine has round it: its memory over an image, its reservation, how many events it made, which bytes it has stored, and what it
-//! asked of the image.
+//! What a routine has round it: its memory over an image, its reservation, how many events it made, and these where they are kept, which
+//! bytes it has stored, and what it asked of the image.
 
 ghost use Rattle.std.specs.Prelude.{◌≡◌, ◌+◌, ◌^◌, ◌/◌, ◌%◌, ◌<◌, ◌≤◌, ◌++◌, ℕ, [], slice_get, slice_index, nat_lt, None, Some, length, IfOk, IfErr, OnOk, OnErr};
 ghost use Rattle.std.specs.List.{AllByRecursion};
@@ -16,7 +16,8 @@ ghost use Rattle.verdict.specs.Bytes.{access_bytes};
 ghost use Rattle.recovery.specs.Regions.{bytes_of};
 ghost use Rattle.isa_table.specs.declared.instruction.CacheOp.{CacheOp};
 ghost use Rattle.hart.specs.declared.need.Reply.{Reply};
-ghost use Rattle.recovery.specs.World.{IsNoted, IsServed, Serves, Writes, event_count, is_line};
+ghost use Rattle.recovery.specs.World.{IsNoted, IsServed, Serves, Writes, event_count, is_line, with_event};
+ghost use Rattle.store_trace.specs.TraceView.{IsEvent};
 ghost use Rattle.recovery.specs.declared.world.Served.{Served};
 
 use crate::overlay::Source;
@@ -27,6 +28,8 @@ use line_memory::{LINE_SIZE, MediumFault, MemFault, PERSISTENT_BASE};
 use program::Program;
 use std::alloc::{AllocError, Global};
 use std::marker::Model;
+use std::mem;
+use store_trace::{Event, Trace};
 use verdict::{LineBytes, Question};
 
 /// How many events a run may make.
@@ -48,6 +51,9 @@ pub struct World {
     /// The line of the address space that an LR has reserved.
     reserved: Option<u32>,
     events: u32,
+    /// Whether its events are kept, and not their number alone.
+    keeps: bool,
+    trace: Trace,
     /// The bytes of the image's lines that were stored: the run's own.
     own: LineBytes,
     asked: Vec<Question>,
@@ -60,7 +66,15 @@ impl Model for World {
 
     ghost Value = { WorldView };
 
-    ghost view = { λ w. record { held = w.held; reserved = w.reserved; events = w.events; own = w.own; asked = w.asked.items } };
+    ghost view = { λ w. record {
+      held = w.held;
+      reserved = w.reserved;
+      events = w.events;
+      keeps = w.keeps;
+      trace = w.trace.events;
+      own = w.own;
+      asked = w.asked.items;
+    } };
 
     ghost invariant = { λ w. (w.events ≤ 65536) × (length w.own ≡ length w.held.image) × AllByRecursion (λ q. q.line < length w.held.image) w.asked.items };
 }
@@ -78,18 +92,30 @@ impl World {
             held,
             reserved: None,
             events: 0,
+            keeps: false,
+            trace: Trace::new(alloc),
             own: LineBytes::new(alloc, lines)?,
             asked: Vec::new(alloc),
         })
     }
 
-    /// Nothing is reserved, no event was made and nothing asked.
-    pub fn begin(&mut self)
-        ensures { self.new ≡ record self.old { reserved = None; events = 0; asked = [] } }
+    /// Nothing is reserved, no event was made and nothing asked. Events are kept from now on, or aren't.
+    pub fn begin(&mut self, alloc: Global, keeps: bool)
+        ensures { self.new ≡ record self.old { reserved = None; events = 0; keeps = keeps; trace = []; asked = [] } }
     {
         self.reserved = None;
         self.events = 0;
+        self.keeps = keeps;
+        self.trace = Trace::new(alloc);
         self.asked.clear();
+    }
+
+    /// Hands out the events that were kept.
+    pub fn take_trace(&mut self, alloc: Global) -> Trace
+        ensures trace { result.events ≡ self.old.trace }
+        ensures rest { self.new ≡ record self.old { trace = [] } }
+    {
+        mem::replace(&mut self.trace, Trace::new(alloc))
     }
 
     /// The memory is that at the start again, over any image, and no byte was stored.
@@ -137,6 +163,7 @@ impl World {
     }
 
     /// Serves a request. Where memory is refused, what is round the routine is of no use before it is set back.
+    #[tactic(auto, using(crate::proofs::Serving::kept_none))]
     pub fn request<S: Source>(&mut self, image: &S, request: Request) -> Result<Served, AllocError>
         requires over { IsOver self.old.held.image (S.medium image.now) }
         requires request { IsRequest request }
@@ -164,8 +191,10 @@ impl World {
                 operand,
             } => self.combine(image, op, address, width, operand),
             Request::FenceI => Ok(self.renew()),
-            Request::Cbo { address, .. } => Ok(self.operate(image, address)),
-            Request::Fence | Request::Begin { .. } | Request::End { .. } => Ok(self.note(1)),
+            Request::Cbo { address, .. } => self.operate(image, address),
+            Request::Fence => self.mark(Event::Fence { hart: 0 }),
+            Request::Begin { op } => self.mark(Event::Begin { hart: 0, op }),
+            Request::End { op } => self.mark(Event::End { hart: 0, op }),
         }
     }
 
@@ -179,6 +208,7 @@ impl World {
         Served::Replied(Reply::Done)
     }
 
+    #[tactic(auto, using(crate::proofs::Serving::kept_none))]
     fn load<S: Source>(&mut self, image: &S, address: u64, width: u32) -> Result<Served, AllocError>
         requires over { IsOver self.old.held.image (S.medium image.now) }
         requires width { IsWidth width }
@@ -195,6 +225,7 @@ impl World {
         }
     }
 
+    #[tactic(auto, using(crate::proofs::Serving::kept_none))]
     fn load_reserved<S: Source>(
         &mut self,
         image: &S,
@@ -217,6 +248,7 @@ impl World {
         }
     }
 
+    #[tactic(auto, using(crate::proofs::Serving::kept_none))]
     fn store<S: Source>(
         &mut self,
         image: &S,
@@ -242,6 +274,7 @@ impl World {
     }
 
     /// The routine's own stores don't end its reservation.
+    #[tactic(auto, using(crate::proofs::Serving::kept_none))]
     fn store_conditional<S: Source>(
         &mut self,
         image: &S,
@@ -272,6 +305,7 @@ impl World {
     }
 
     /// An atomic operation: what it stores is made of the value that it finds, which is the reply.
+    #[tactic(auto, using(crate::proofs::Serving::kept_none))]
     fn combine<S: Source>(
         &mut self,
         image: &S,
@@ -300,28 +334,44 @@ impl World {
     }
 
     /// An operation on the line of an address, which changes no byte.
-    fn operate<S: Source>(&mut self, image: &S, address: u64) -> Served
+    fn operate<S: Source>(&mut self, image: &S, address: u64) -> Result<Served, AllocError>
         requires over { IsOver self.old.held.image (S.medium image.now) }
-        ensures ok { (op : CacheOp) → IsServed self.old self.new (S.medium image.now) (Request.Cbo op address) result }
+        ensures ok { IfOk result (λ served. (op : CacheOp) → IsServed self.old self.new (S.medium image.now) (Request.Cbo op address) served) }
         ensures over { IsOver self.new.held.image (S.medium image.now) }
         ensures same { IsSame self.old.held self.new.held }
     {
-        match self.held.peek(image, address) {
-            Some(_) => self.note(events_at(address)),
-            None => Served::Replied(Reply::Fault(AccessFault::Outside)),
+        match self.held.place(image, address, 1) {
+            Ok(_) if address < PERSISTENT_BASE => Ok(Served::Replied(Reply::Done)),
+            Ok(_) => self.mark(clean_of(address)),
+            Err(_) => Ok(Served::Replied(Reply::Fault(AccessFault::Outside))),
         }
     }
 
-    /// Counts so many events, where there is room.
-    fn note(&mut self, count: u32) -> Served
-        requires { count ≤ 1 }
-        ensures { IsNoted self.old self.new count result }
+    /// Notes an event, where there is room.
+    fn mark(&mut self, event: Event) -> Result<Served, AllocError>
+        requires { IsEvent event }
+        ensures ok { IfOk result (IsNoted self.old self.new event) }
+        ensures held { self.new.held ≡ self.old.held }
     {
-        if self.events + count > MAX_EVENTS {
-            return Served::Full;
+        if self.events >= MAX_EVENTS {
+            return Ok(Served::Full);
         }
-        self.events += count;
-        Served::Replied(Reply::Done)
+        self.note(event)?;
+        Ok(Served::Replied(Reply::Done))
+    }
+
+    /// Counts an event, for which there is room, and keeps it where events are kept.
+    fn note(&mut self, event: Event) -> Result<(), AllocError>
+        requires event { IsEvent event }
+        requires room { self.old.events < 65536 }
+        ensures ok { OnOk result (self.new ≡ with_event self.old event) }
+        ensures held { self.new.held ≡ self.old.held }
+    {
+        if self.keeps && self.trace.push(event).is_err() {
+            return Err(AllocError);
+        }
+        self.events += 1;
+        Ok(())
     }
 
     /// Whether a write to an address would make one event too many.
@@ -388,6 +438,7 @@ impl World {
     }
 
     /// Makes a write, and counts its event.
+    #[tactic(auto, using(crate::proofs::Serving::kept_above, crate::proofs::Serving::kept_below))]
     fn write<S: Source>(
         &mut self,
         image: &S,
@@ -409,10 +460,53 @@ impl World {
         self.held.store(image, place, width, value)?;
         if address >= PERSISTENT_BASE {
             self.own.add(access_of(address, width))?;
+            self.note(store_of(address, width, value))?;
         }
-        self.events += events_at(address);
         Ok(())
     }
+}
+
+/// The event of an operation on the line of an address in persistent memory.
+fn clean_of(address: u64) -> Event
+    requires from { PERSISTENT_BASE ≤ address }
+    requires low { address < 2 ^ 38 }
+    ensures clean { result ≡ Event.Clean 0 (line_of address) }
+    ensures event { IsEvent result }
+{
+    let (line, _) = line_place(address);
+    Event::Clean { hart: 0, line }
+}
+
+/// The event of a store to persistent memory.
+#[tactic(auto, using(crate::proofs::Serving::aligned_in_line))]
+fn store_of(address: u64, width: u32, value: u64) -> Event
+    requires width { IsWidth width }
+    requires aligned { address % width ≡ 0 }
+    requires from { PERSISTENT_BASE ≤ address }
+    requires low { address < 2 ^ 38 }
+    ensures store { result ≡ Event.Store 0 (line_of address) (offset_of address) width value }
+    ensures event { IsEvent result }
+{
+    let (line, offset) = line_place(address);
+    Event::Store {
+        hart: 0,
+        line,
+        offset,
+        width,
+        value,
+    }
+}
+
+/// The line of an address in persistent memory, and its place in the line.
+fn line_place(address: u64) -> (u32, u32)
+    requires from { PERSISTENT_BASE ≤ address }
+    requires low { address < 2 ^ 38 }
+    ensures line { result.0 ≡ line_of address }
+    ensures offset { result.1 ≡ offset_of address }
+{
+    let offset = address - PERSISTENT_BASE;
+    let size = LINE_SIZE as u64;
+    ((offset / size) as u32, (offset % size) as u32)
 }
 
 /// The line of an access to persistent memory, and its bytes there.
