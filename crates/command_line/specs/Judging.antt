@@ -38,11 +38,13 @@ missing_text runs.Running = codes "running"
 missing_text runs.Answer = codes "answer"
 missing_text runs.Events = codes "events"
 
--- why an image is bad: the routine has no answer, its answer isn't a right one, or `full-` and why there is none that is right
+-- why an image is bad: the routine has no answer, its answer isn't a right one, or `full-` and why there is none that is right, or that there
+-- is no full image
 abbrev pub cause_text : Cause → List ℕ
 cause_text (causes.Missing cause) = missing_text cause
 cause_text causes.Different = codes "different"
 cause_text (causes.Full cause) = codes "full-" ++ missing_text cause
+cause_text causes.Unmatched = codes "unmatched"
 
 -- With `--whole` a run that is whole is judged alone: a pass then also says that each hart has exited with 0, and that each operation
 -- which has begun has ended.

@@ -179,7 +179,8 @@ impl ToldCause for Cause {
     }
 }
 
-/// `different`, why the routine has no answer, or `full-` and why it has none that tells what is right.
+/// `different`, why the routine has no answer, or `full-` and why it has none that says what is right, or `unmatched` where no sequential run
+/// does.
 fn cause_text(alloc: Global, cause: Cause) -> Result<String, AllocError>
     ensures { IfOk result (λ text. string_bytes text ≡ cause_text cause) }
 {
@@ -187,6 +188,7 @@ fn cause_text(alloc: Global, cause: Cause) -> Result<String, AllocError>
         Cause::Missing(cause) => missing_text(alloc, cause),
         Cause::Different => format!(in alloc; "different"),
         Cause::Full(cause) => full_text(alloc, cause),
+        Cause::Unmatched => format!(in alloc; "unmatched"),
     }
 }
 

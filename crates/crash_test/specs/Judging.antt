@@ -2,7 +2,7 @@
 use Rattle.std.specs.Prelude.{◌≡◌, ◌≢◌, ℕ, ◌≤◌, Bool, List, [], Option, None, Ok, length}
 use Rattle.store_trace.specs.Cut.{IsCut, number_in}
 use Rattle.store_trace.specs.Marks.{begun}
-use Rattle.routine_judge.specs.RightAnswers.{IsFoundOf, IsRightOf, is_among}
+use Rattle.routine_judge.specs.RightAnswers.{IsFoundOf, IsRightOf, of_window}
 use Rattle.routine_judge.specs.Verdicts.{IsJudged, first_judged, judged_from}
 use Rattle.routine_judge.specs.Views.{JudgeView}
 use Rattle.routine_judge.specs.declared.cause.Cause.{Cause}
@@ -48,7 +48,7 @@ IsToldOf hears run recovery steps row = IsTold hears (settled row.goes_on (IsJud
 pub record IsRightAt (view : JudgeView) (moment : ℕ) (cut : ℕ → ℕ) : Type 0 where
   pub window : Window
   pub is_window : IsWindow view.events moment window
-  pub right : IsFoundOf view (is_among window moment) moment cut None
+  pub right : IsFoundOf view (of_window window moment) moment cut None
 
 abbrev pub AlwaysRecovers : Setup → List Item → Sections → ℕ → Type 0
 AlwaysRecovers s schedule recovery steps = (end : Config) (moment : ℕ) (cut : List (ℕ × ℕ)) → RunsTo (start_of s) (all_steps schedule) end
@@ -64,7 +64,7 @@ pub record AnswersRightly (view : JudgeView) (moment : ℕ) (left : List (List �
   pub runs : RunsFor (started view.routine left 1) view.steps end full
   pub bytes : List ℕ
   pub answers : Ok bytes ≡ answer end full
-  pub right : IsRightOf view (is_among window moment) bytes
+  pub right : IsRightOf view (of_window window moment) bytes
 
 -- Whatever machine, with a cache of whatever size, has made the first hart steps of the run and with them its first Begin, with evictions
 -- wherever they came: on what a power cut leaves of it the routine answers rightly.

@@ -9,9 +9,9 @@ use Rattle.std.proofs.lemmas.List.Elements.{Contains-push_cases, filter-append}
 use Rattle.std.proofs.lemmas.List.Sorted.{IsPermutation-insert}
 use Rattle.std.proofs.lemmas.Option.{get_or_from_slice_get, slice_get_read, slice_get_within}
 use Rattle.store_trace.proofs.Members.{contains_cases, contains_first, contains_later, no_members}
-use Rattle.store_trace.specs.Marks.{ended}
+use Rattle.store_trace.specs.Marks.{begun, ended}
 use Rattle.image_check.proofs.Rising.{found_at, placed}
-use Rattle.routine_judge.proofs.Preceding.{from_map, in_map, map_pairs, pairs_map}
+use Rattle.routine_judge.proofs.Preceding.{from_map, in_map, map_pairs, numbered, pairs_map}
 use Rattle.routine_judge.proofs.Sequencing.{has_so, so_has}
 use Rattle.routine_judge.specs.Fitting.{HasAllEnded, MayFollow, has}
 use Rattle.routine_judge.specs.Operations.{IsPendingBy}
@@ -317,3 +317,20 @@ pub begins_newly : (entries seen : List Entry) (hart op : ℕ) (earlier : List �
     earlier ≡ map (λ (b : Begun). b.op) (filter (λ (b : Begun). b.has_ended) (map begun_of seen)) → newly hart op earlier ≡ begins_in (map begun_of entries) hart op
 begins_newly entries seen hart op earlier same is =
     ap (λ (ops : List ℕ). newly hart op ops) is ∙ ap (λ (es : List Entry). begins_in (map begun_of es) hart op) same
+
+no_members_left : (ops : List ℕ) → ((op : ℕ) → ¬ Contains ops op) → ops ≡ []
+no_members_left [] none = refl
+no_members_left (op ∷ ops) none = absurd (none op (contains_first op ops op refl))
+
+-- no entry where no operation has begun
+pub none_begun : (events : List Event) (entries : List Entry) (none : Bool) → AreOperations events (map begun_of entries) →
+    IsTrue none ↔ (length entries ≡ 0) → IsTrue none ↔ (begun events ≡ [])
+none_begun events [] none h is = (
+  λ t. no_members_left (begun events) (λ op c. absurd (no_members op ((numbered events [] op h).1 c))),
+  λ e. is.1 refl,
+)
+none_begun events (entry ∷ entries) none h is = (
+  λ t. absurd (omega (arith, is.0 t)),
+  λ e. absurd (no_members entry.op (subst (λ (ops : List ℕ). Contains ops entry.op) e ((numbered events (begun_of entry ∷ map begun_of entries) entry.op h).0
+      (contains_first entry.op (map (λ (b : Begun). b.op) (map begun_of entries)) entry.op refl)))),
+)

@@ -16,10 +16,10 @@ use Rattle.std.specs.declared.alloc.Global.{Global}
 use Rattle.std.specs.declared.vec.Vec.{Vec}
 use Rattle.routine_judge.specs.Gathered.{AreAnswers, AreKept, IsAdded}
 use Rattle.routine_judge.specs.Images.{full_cut}
-use Rattle.routine_judge.specs.RightAnswers.{HasLastCause, IsFoundOf, RunsOn, Shows, ShowsFull, is_among}
+use Rattle.routine_judge.specs.RightAnswers.{HasLastCause, IsFoundOf, RunsOn, Shows, ShowsFull, Source, is_among, of_moments, of_window}
 use Rattle.routine_judge.specs.Views.{JudgeView}
 use Rattle.routine_judge.specs.declared.cause.Cause.{Cause}
-use Rattle.routine_judge.specs.declared.cause.Cause.TheVariants.{Missing, Different, Full}
+use Rattle.routine_judge.specs.declared.cause.Cause.TheVariants.{Missing, Different, Full, Unmatched}
 use Rattle.routine_judge.specs.declared.history.moments.Window.{Window}
 use Rattle.routine_judge.specs.declared.history.moments.Window.TheVariants.{Itself, Either, Through}
 use Rattle.routine_judge.specs.declared.right.RightAnswers.{RightAnswers}
@@ -51,11 +51,11 @@ here_too : (among : ℕ → Bool) (moment : ℕ) → (among moment || (moment ==
 here_too among moment = rw (eq-eqb moment moment refl) (or_last (among moment))
 
 -- one moment more, where the routine runs on among the others or on its full image
-runs_on_more : (view : JudgeView) (among : ℕ → Bool) (moment : ℕ) → RunsOn view among → RunsOn view (λ i. among i || (i == moment))
+runs_on_more : (view : JudgeView) (among : ℕ → Bool) (moment : ℕ) → RunsOn view (of_moments among) → RunsOn view (of_moments (λ i. among i || (i == moment)))
 runs_on_more view among moment r = (r.0, or_first (among r.0) (r.0 == moment) r.1, r.2)
 
-runs_on_cases : (view : JudgeView) (among : ℕ → Bool) (moment : ℕ) → RunsOn view (λ i. among i || (i == moment)) →
-    RunsOn view among ⊎ ShowsFull view moment (Err Running)
+runs_on_cases : (view : JudgeView) (among : ℕ → Bool) (moment : ℕ) → RunsOn view (of_moments (λ i. among i || (i == moment))) →
+    RunsOn view (of_moments among) ⊎ ShowsFull view moment (Err Running)
 runs_on_cases view among moment r = elim (or_cases (among r.0) (r.0 == moment) r.1) [
   | inl before ↦ inl (r.0, before, r.2)
   | inr here ↦ inr (subst (λ (i : ℕ). ShowsFull view i (Err Running)) (eqb-true r.0 moment here) r.2)
@@ -63,8 +63,8 @@ runs_on_cases view among moment r = elim (or_cases (among r.0) (r.0 == moment) r
 
 -- with one moment more, on whose full image the routine has an answer
 added_answer : (view : JudgeView) (among : ℕ → Bool) (moment : ℕ) (bytes : List ℕ) (old new : RightAnswers) → ShowsFull view moment (Ok bytes) →
-    AreAnswers view among old → ((b : List ℕ) → Contains new.answers.items b ↔ (Contains old.answers.items b ⊎ (b ≡ bytes))) → new.runs_on ≡ old.runs_on →
-    AreAnswers view (λ i. among i || (i == moment)) new
+    AreAnswers view (of_moments among) old → ((b : List ℕ) → Contains new.answers.items b ↔ (Contains old.answers.items b ⊎ (b ≡ bytes))) → new.runs_on ≡ old.runs_on →
+    AreAnswers view (of_moments (λ i. among i || (i == moment))) new
 added_answer view among moment bytes old new shown are adds keeps =
     let there : Contains new.answers.items bytes = (adds bytes).1 (inr refl) in
     record {
@@ -96,9 +96,9 @@ added_answer view among moment bytes old new shown are adds keeps =
 
 -- with one moment more, which is the last, on whose full image it has none
 added_cause : (view : JudgeView) (among : ℕ → Bool) (moment : ℕ) (cause : run.Cause) (old new : RightAnswers) → ShowsFull view moment (Err cause) →
-    ((i : ℕ) → among i ≡ true → i < moment) → AreAnswers view among old → new.answers.items ≡ old.answers.items → new.last_cause ≡ Some cause →
+    ((i : ℕ) → among i ≡ true → i < moment) → AreAnswers view (of_moments among) old → new.answers.items ≡ old.answers.items → new.last_cause ≡ Some cause →
     (new.runs_on ≡ true → (old.runs_on ≡ true) ⊎ (cause ≡ Running)) → (new.runs_on ≡ false → (old.runs_on ≡ false) × (cause ≢ Running)) →
-    AreAnswers view (λ i. among i || (i == moment)) new
+    AreAnswers view (of_moments (λ i. among i || (i == moment))) new
 added_cause view among moment cause old new shown before are same last on ends = record {
   each = λ b c.
       let r = are.each b (subst (λ (xs : List (List ℕ)). Contains xs b) same c) in
@@ -135,16 +135,25 @@ added_cause view among moment cause old new shown before are same last on ends =
   ];
 }
 
+-- an answer that was added
+pub added_ok : (found : Result (List ℕ) run.Cause) (bytes given : List ℕ) (old new : RightAnswers) → found ≡ Ok bytes → given ≡ bytes →
+    ((b : List ℕ) → Contains new.answers.items b ↔ (Contains old.answers.items b ⊎ (b ≡ given))) → new.last_cause ≡ old.last_cause →
+    new.runs_on ≡ old.runs_on → IsAdded found old new
+added_ok found bytes given old new is same adds cause on =
+    let those : IsAdded (Ok bytes) old new =
+    (λ b. subst (λ (x : List ℕ). Contains new.answers.items b ↔ (Contains old.answers.items b ⊎ (b ≡ x))) same (adds b), cause, on) in
+    subst (λ (f : Result (List ℕ) run.Cause). IsAdded f old new) (sym is) those
+
 -- with whatever it comes to on the full image of the last moment
 pub added : (view : JudgeView) (among : ℕ → Bool) (moment : ℕ) (found : Result (List ℕ) run.Cause) (old new : RightAnswers) → IsAdded found old new →
-    ShowsFull view moment found → ((i : ℕ) → among i ≡ true → i < moment) → AreAnswers view among old → AreAnswers view (λ i. among i || (i == moment)) new
+    ShowsFull view moment found → ((i : ℕ) → among i ≡ true → i < moment) → AreAnswers view (of_moments among) old → AreAnswers view (of_moments (λ i. among i || (i == moment))) new
 added view among moment (Ok bytes) old new a shown before are = added_answer view among moment bytes old new shown are a.0 a.2
 added view among moment (Err cause) old new a shown before are =
     added_cause view among moment cause old new shown before are (ap (λ (answers : Vec (List ℕ) Global). answers.items) a.0) a.1 a.2 a.3
 
 -- those on no image
 pub answers_of_none : (view : JudgeView) (right : RightAnswers) → right.answers.items ≡ [] → right.last_cause ≡ None → right.runs_on ≡ false →
-    AreAnswers view (λ _. false) right
+    AreAnswers view (of_moments (λ _. false)) right
 answers_of_none view right none last on = record {
   each = λ b c. absurd (none_in right.answers.items b none c);
   all = λ b r. absurd (let f : false ≡ true = r.1 in cc);
@@ -155,8 +164,8 @@ answers_of_none view right none last on = record {
 }
 
 -- the same moments, told otherwise
-pub same_answers : (view : JudgeView) (among other : ℕ → Bool) (right : RightAnswers) → ((i : ℕ) → among i ≡ other i) → AreAnswers view among right →
-    AreAnswers view other right
+pub same_answers : (view : JudgeView) (among other : ℕ → Bool) (right : RightAnswers) → ((i : ℕ) → among i ≡ other i) → AreAnswers view (of_moments among) right →
+    AreAnswers view (of_moments other) right
 same_answers view among other right same are = record {
   each = λ b c. let r = are.each b c in (r.0, sym (same r.0) ∙ r.1, r.2);
   all = λ b r. are.all b (r.0, same r.0 ∙ r.1, r.2);
@@ -176,12 +185,12 @@ same_answers view among other right same are = record {
 
 -- those of a window that doesn't move with its moment are those of each of its moments
 pub kept_answers : (view : JudgeView) (window : Window) (moment : ℕ) (right : RightAnswers) → ¬ (window ≡ Itself) → AreKept view window right →
-    AreAnswers view (is_among window moment) right
+    AreAnswers view (of_window window moment) right
 kept_answers view Itself moment right n k = absurd (n refl)
 kept_answers view (Either before after) moment right n k = k
 kept_answers view (Through first last) moment right n k = k
 
-pub answers_kept : (view : JudgeView) (window : Window) (moment : ℕ) (right : RightAnswers) → AreAnswers view (is_among window moment) right → AreKept view window right
+pub answers_kept : (view : JudgeView) (window : Window) (moment : ℕ) (right : RightAnswers) → AreAnswers view (of_window window moment) right → AreKept view window right
 answers_kept view Itself moment right a = tt
 answers_kept view (Either before after) moment right a = a
 answers_kept view (Through first last) moment right a = a
@@ -208,29 +217,21 @@ no_moment : (moment i : ℕ) → false ≡ true → i < moment
 no_moment moment i t = absurd cc
 
 -- the answers of a window of one moment, of two, and of all in a row
-pub answers_of_itself : (view : JudgeView) (window : Window) (moment : ℕ) (old new : RightAnswers) → window ≡ Itself → AreAnswers view (λ _. false) old →
-    ((among : ℕ → Bool) → ((i : ℕ) → among i ≡ true → i < moment) → AreAnswers view among old → AreAnswers view (λ i. among i || (i == moment)) new) →
-    AreAnswers view (is_among window moment) new
+pub answers_of_itself : (view : JudgeView) (window : Window) (moment : ℕ) (old new : RightAnswers) → window ≡ Itself → AreAnswers view (of_moments (λ _. false)) old →
+    ((among : ℕ → Bool) → ((i : ℕ) → among i ≡ true → i < moment) → AreAnswers view (of_moments among) old → AreAnswers view (of_moments (λ i. among i || (i == moment))) new) →
+    AreAnswers view (of_window window moment) new
 answers_of_itself view window moment old new is none adds =
-    subst (λ (w : Window). AreAnswers view (is_among w moment) new) (sym is) (adds (λ _. false) (no_moment moment) none)
+    subst (λ (w : Window). AreAnswers view (of_window w moment) new) (sym is) (adds (λ _. false) (no_moment moment) none)
 
 pub answers_of_either : (view : JudgeView) (window : Window) (moment before after : ℕ) (old mid new : RightAnswers) → window ≡ Either before after → before < after →
-    AreAnswers view (λ _. false) old →
-    ((among : ℕ → Bool) → ((i : ℕ) → among i ≡ true → i < before) → AreAnswers view among old → AreAnswers view (λ i. among i || (i == before)) mid) →
-    ((among : ℕ → Bool) → ((i : ℕ) → among i ≡ true → i < after) → AreAnswers view among mid → AreAnswers view (λ i. among i || (i == after)) new) →
-    AreAnswers view (is_among window moment) new
+    AreAnswers view (of_moments (λ _. false)) old →
+    ((among : ℕ → Bool) → ((i : ℕ) → among i ≡ true → i < before) → AreAnswers view (of_moments among) old → AreAnswers view (of_moments (λ i. among i || (i == before))) mid) →
+    ((among : ℕ → Bool) → ((i : ℕ) → among i ≡ true → i < after) → AreAnswers view (of_moments among) mid → AreAnswers view (of_moments (λ i. among i || (i == after))) new) →
+    AreAnswers view (of_window window moment) new
 answers_of_either view window moment before after old mid new is order none one other =
-    let first : AreAnswers view (λ i. i == before) mid = one (λ _. false) (no_moment before) none in
-    subst (λ (w : Window). AreAnswers view (is_among w moment) new) (sym is)
+    let first : AreAnswers view (of_moments (λ i. i == before)) mid = one (λ _. false) (no_moment before) none in
+    subst (λ (w : Window). AreAnswers view (of_window w moment) new) (sym is)
     (other (λ i. i == before) (λ i t. let e = eqb-true i before t in omega (arith, e, order)) first)
-
--- a window has a moment
-pub some_among : (window : Window) (moment : ℕ) → ((first last : ℕ) → window ≡ Through first last → first ≤ last) → (i : ℕ) × (is_among window moment i ≡ true)
-some_among Itself moment order = (moment, eq-eqb moment moment refl)
-some_among (Either before after) moment order = (before, or_first (before == before) (before == after) (eq-eqb before before refl))
-some_among (Through first last) moment order =
-    let o = order first last refl in
-    (first, grind (arith, nat_tests, o))
 
 -- what is found of a cut is found of each that gives the lines the same numbers
 shows_alike : (view : JudgeView) (m : ℕ) (k c : ℕ → ℕ) (found : Result (List ℕ) run.Cause) → ((l : ℕ) → k l ≡ c l) → Shows view m c found → Shows view m k found
@@ -242,9 +243,10 @@ shows_alike view m k c found same a =
       comes = a.comes;
     }
 
-pub found_alike : (view : JudgeView) (among : ℕ → Bool) (m : ℕ) (k c : ℕ → ℕ) (found : Option Cause) → ((l : ℕ) → k l ≡ c l) → IsFoundOf view among m c found →
-    IsFoundOf view among m k found
-found_alike view among m k c None same f = (f.0, shows_alike view m k c (Ok f.0) same f.1, f.2)
-found_alike view among m k c (Some (Missing cause)) same f = shows_alike view m k c (Err cause) same f
-found_alike view among m k c (Some Different) same f = (f.0, shows_alike view m k c (Ok f.0) same f.1, f.2, f.3)
-found_alike view among m k c (Some (Full cause)) same f = (f.0, shows_alike view m k c (Ok f.0) same f.1, f.2, f.3)
+pub found_alike : (view : JudgeView) (source : Source) (m : ℕ) (k c : ℕ → ℕ) (found : Option Cause) → ((l : ℕ) → k l ≡ c l) → IsFoundOf view source m c found →
+    IsFoundOf view source m k found
+found_alike view source m k c None same f = (f.0, shows_alike view m k c (Ok f.0) same f.1, f.2)
+found_alike view source m k c (Some (Missing cause)) same f = shows_alike view m k c (Err cause) same f
+found_alike view source m k c (Some Different) same f = (f.0, shows_alike view m k c (Ok f.0) same f.1, f.2, f.3)
+found_alike view source m k c (Some (Full cause)) same f = (f.0, shows_alike view m k c (Ok f.0) same f.1, f.2, f.3)
+found_alike view source m k c (Some Unmatched) same f = (f.0, shows_alike view m k c (Ok f.0) same f.1, f.2)

@@ -6,7 +6,7 @@ use Rattle.std.proofs.lemmas.List.{get_or_past}
 use Rattle.store_trace.proofs.Images.{image_line, length_image}
 use Rattle.routine_judge.proofs.Gathering.{found_alike}
 use Rattle.verdict.specs.CutImages.{AreMedia, image_at}
-use Rattle.routine_judge.specs.RightAnswers.{IsFoundOf, IsRightOf, AsksOf, RunsOn, same_bytes, Shows, is_among}
+use Rattle.routine_judge.specs.RightAnswers.{IsFoundOf, IsRightOf, AsksOf, RunsOn, of_window, same_bytes, Shows}
 use Rattle.routine_judge.specs.Standing.{IsPassed}
 use Rattle.routine_judge.specs.Views.{JudgeView}
 use Rattle.routine_judge.specs.Windows.{IsWindow}
@@ -70,21 +70,21 @@ shows_later view m n whole next c k questions found x agree a =
     }
 
 -- a window that doesn't move with its moment has the same right answers
-right_later : (view : JudgeView) (window : Window) (m n : ℕ) (bytes : List ℕ) → window ≢ Itself → IsRightOf view (is_among window m) bytes →
-    IsRightOf view (is_among window n) bytes
+right_later : (view : JudgeView) (window : Window) (m n : ℕ) (bytes : List ℕ) → window ≢ Itself → IsRightOf view (of_window window m) bytes →
+    IsRightOf view (of_window window n) bytes
 right_later view Itself m n bytes fixed r = absurd (fixed refl)
 right_later view (Either before after) m n bytes fixed r = r
 right_later view (Through first last) m n bytes fixed r = r
 
 -- and it runs on on their full images or on none
-runs_on_before : (view : JudgeView) (window : Window) (m n : ℕ) → window ≢ Itself → RunsOn view (is_among window n) → RunsOn view (is_among window m)
+runs_on_before : (view : JudgeView) (window : Window) (m n : ℕ) → window ≢ Itself → RunsOn view (of_window window n) → RunsOn view (of_window window m)
 runs_on_before view Itself m n fixed r = absurd (fixed refl)
 runs_on_before view (Either before after) m n fixed r = r
 runs_on_before view (Through first last) m n fixed r = r
 
 by_lines : (view : JudgeView) (window : Window) (m n : ℕ) → AreMedia view.start view.events m → AreMedia view.start view.events n → window ≢ Itself →
-    IsByLines view.start (at_moment view.events m) (at_moment view.events n) (AsksOf view m) (AsksOf view n) (IsFoundOf view (is_among window m) m)
-    (IsFoundOf view (is_among window n) n)
+    IsByLines view.start (at_moment view.events m) (at_moment view.events n) (AsksOf view m) (AsksOf view n) (IsFoundOf view (of_window window m) m)
+    (IsFoundOf view (of_window window n) n)
 by_lines view window m n whole next fixed = record {
   asked = λ c good. asks_of view m c (Ok good.0) good.1;
   same = λ c k questions asks agree. asks_later view m n whole next c k questions asks agree;
@@ -94,7 +94,7 @@ by_lines view window m n whole next fixed = record {
     shows_later view m n whole next c k questions (Ok good.0) asks agree good.1,
     right_later view window m n good.0 fixed good.2,
   );
-  alike = λ k c found same f. found_alike view (is_among window m) m k c found same f;
+  alike = λ k c found same f. found_alike view (of_window window m) m k c found same f;
 }
 
 -- the bytes of a line in the images of a moment
@@ -119,7 +119,7 @@ pub kept_next : (view : JudgeView) (m : ℕ) (d : Event) (flags : List Bool) (wi
 kept_next view m d flags window whole next there fixed unseen is passed =
     let kept = pass_kept true view.start (at_moment view.events m) (at_moment view.events (m + 1)) flags (same_bytes view m) (same_bytes view (m + 1))
     (AsksOf view m) (AsksOf view (m + 1))
-    (IsFoundOf view (is_among window m) m) (IsFoundOf view (is_among window (m + 1)) (m + 1))
+    (IsFoundOf view (of_window window m) m) (IsFoundOf view (of_window window (m + 1)) (m + 1))
     (λ q n o x y e. ap (λ (xs : List ℕ). same_at q.bytes 0 xs (bytes_of view (m + 1) q.line o)) (bytes_unchanged view m (m + 1) q.line n x)
     ∙ ap (λ (ys : List ℕ). same_at q.bytes 0 (bytes_of view m q.line n) ys) (bytes_unchanged view m (m + 1) q.line o y) ∙ e) (like_next view.start view.events m d flags there unseen)
     (by_lines view window m (m + 1) whole next fixed) passed.flagged passed.passes in

@@ -1,5 +1,6 @@
 pub mod Beginning
 pub mod Gathering
+pub mod Noting
 pub mod Finding
 pub mod Keeping
 pub mod Running

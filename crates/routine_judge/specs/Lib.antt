@@ -1,4 +1,5 @@
 pub mod Views
+pub mod HeldAnswers
 pub mod Images
 pub mod RightAnswers
 pub mod Branchwise

@@ -3,9 +3,10 @@
 -- would have seen it.
 use Rattle.std.specs.Prelude.{◌≡◌, ℕ, ◌≤◌, ◌==◌, ◌&&◌, ◌||◌, nat_le, Bool, true, List, Option, Some, None, Result, Ok, Err}
 use Rattle.routine_judge.specs.Images.{full_cut}
-use Rattle.routine_judge.specs.Views.{JudgeView}
+use Rattle.routine_judge.specs.SequentialRuns.{FittingShows, NoneFits}
+use Rattle.routine_judge.specs.Views.{JudgeView, ProgramView}
 use Rattle.routine_judge.specs.declared.cause.Cause.{Cause}
-use Rattle.routine_judge.specs.declared.cause.Cause.TheVariants.{Missing, Different, Full}
+use Rattle.routine_judge.specs.declared.cause.Cause.TheVariants.{Missing, Different, Full, Unmatched}
 use Rattle.routine_judge.specs.declared.history.moments.Window.{Window}
 use Rattle.routine_judge.specs.declared.history.moments.Window.TheVariants.{Itself, Either, Through}
 use Rattle.recovery.specs.Images.{Answers, Asks, has_same_bytes}
@@ -13,6 +14,7 @@ use Rattle.verdict.specs.declared.branches.question.Question.{Question}
 use Rattle.recovery.specs.declared.recovery_run.Cause as run
 use Rattle.recovery.specs.declared.recovery_run.Cause.TheVariants.{Running}
 use Rattle.store_trace.specs.History.{at_moment}
+use Rattle.store_trace.specs.declared.event.Event.{Event}
 use Rattle.verdict.specs.CutImages.{image_at}
 
 -- on the image of a cut of moment m the routine comes to this
@@ -37,9 +39,24 @@ is_among Itself m i = i == m
 is_among (Either before after) m i = (i == before) || (i == after)
 is_among (Through first last) m i = nat_le first i && nat_le i last
 
--- the bytes are the answer on one of these full images
-abbrev pub IsRightOf : JudgeView → (ℕ → Bool) → List ℕ → Type 0
-IsRightOf view among bytes = (i : ℕ) × (among i ≡ true) × ShowsFull view i (Ok bytes)
+-- Where the right answers of a moment come from: the full images of these moments of the run, or those of the sequential runs of a program
+-- that fit these events.
+pub data Source : Type 0 where
+  of_moments : (ℕ → Bool) → Source
+  of_sequential : ProgramView → List Event → Source
+
+-- the moments of the window that moment m has
+abbrev pub of_window : Window → ℕ → Source
+of_window window m = of_moments (is_among window m)
+
+-- on one of these full images the routine comes to this
+abbrev pub SourceShows : JudgeView → Source → Result (List ℕ) run.Cause → Type 0
+SourceShows view (of_moments among) found = (i : ℕ) × (among i ≡ true) × ShowsFull view i found
+SourceShows view (of_sequential program p) found = FittingShows program p found
+
+-- the bytes are the answer on one of them
+abbrev pub IsRightOf : JudgeView → Source → List ℕ → Type 0
+IsRightOf view source bytes = SourceShows view source (Ok bytes)
 
 -- the last of these moments, on whose full image the routine has no answer for this cause
 pub record HasLastCause (view : JudgeView) (among : ℕ → Bool) (cause : run.Cause) : Type 0 where
@@ -48,21 +65,33 @@ pub record HasLastCause (view : JudgeView) (among : ℕ → Bool) (cause : run.C
   pub later : (i : ℕ) → among i ≡ true → i ≤ last
   pub missing : ShowsFull view last (Err cause)
 
--- on the full image of one of these moments it runs on after all its steps
-abbrev pub RunsOn : JudgeView → (ℕ → Bool) → Type 0
-RunsOn view among = (i : ℕ) × (among i ≡ true) × ShowsFull view i (Err Running)
+-- the cause that is told where the routine has an answer on none of them: on the last one's moment, or on some sequential run's it has none for it
+abbrev pub HasCause : JudgeView → Source → run.Cause → Type 0
+HasCause view (of_moments among) cause = HasLastCause view among cause
+HasCause view (of_sequential program p) cause = FittingShows program p (Err cause)
 
--- why an image is bad on which the routine comes to this, where these answers are right, and where none is, for such a cause
-abbrev pub IsBadBy : (List ℕ → Type 0) → (run.Cause → Type 0) → (Result (List ℕ) run.Cause → Type 0) → Cause → Type 0
-IsBadBy right missing shows (Missing cause) = shows (Err cause)
-IsBadBy right missing shows Different = (bytes : List ℕ) × shows (Ok bytes) × (¬ right bytes) × ((other : List ℕ) × right other)
-IsBadBy right missing shows (Full cause) = (bytes : List ℕ) × shows (Ok bytes) × ((other : List ℕ) → ¬ right other) × missing cause
+-- there is no such full image
+abbrev pub HasNoImage : JudgeView → Source → Type 0
+HasNoImage view (of_moments among) = (i : ℕ) → ¬ (among i ≡ true)
+HasNoImage view (of_sequential program p) = NoneFits program p
+
+-- on one of them it runs on after all its steps
+abbrev pub RunsOn : JudgeView → Source → Type 0
+RunsOn view source = SourceShows view source (Err Running)
+
+-- why an image is bad on which the routine comes to this, where these answers are right, and where none is, for such a cause or as there is no
+-- full image
+abbrev pub IsBadBy : (List ℕ → Type 0) → (run.Cause → Type 0) → Type 0 → (Result (List ℕ) run.Cause → Type 0) → Cause → Type 0
+IsBadBy right missing no_image shows (Missing cause) = shows (Err cause)
+IsBadBy right missing no_image shows Different = (bytes : List ℕ) × shows (Ok bytes) × (¬ right bytes) × ((other : List ℕ) × right other)
+IsBadBy right missing no_image shows (Full cause) = (bytes : List ℕ) × shows (Ok bytes) × ((other : List ℕ) → ¬ right other) × missing cause
+IsBadBy right missing no_image shows Unmatched = (bytes : List ℕ) × shows (Ok bytes) × no_image
 
 -- what is found of it: that its answer is right, or why it is bad
-abbrev pub IsFoundBy : (List ℕ → Type 0) → (run.Cause → Type 0) → (Result (List ℕ) run.Cause → Type 0) → Option Cause → Type 0
-IsFoundBy right missing shows None = (bytes : List ℕ) × shows (Ok bytes) × right bytes
-IsFoundBy right missing shows (Some cause) = IsBadBy right missing shows cause
+abbrev pub IsFoundBy : (List ℕ → Type 0) → (run.Cause → Type 0) → Type 0 → (Result (List ℕ) run.Cause → Type 0) → Option Cause → Type 0
+IsFoundBy right missing no_image shows None = (bytes : List ℕ) × shows (Ok bytes) × right bytes
+IsFoundBy right missing no_image shows (Some cause) = IsBadBy right missing no_image shows cause
 
--- the same of the image of a cut of moment m, where these full images give the right answers
-abbrev pub IsFoundOf : JudgeView → (ℕ → Bool) → ℕ → (ℕ → ℕ) → Option Cause → Type 0
-IsFoundOf view among m cut found = IsFoundBy (IsRightOf view among) (HasLastCause view among) (Shows view m cut) found
+-- the same of the image of a cut of moment m, where the right answers come from there
+abbrev pub IsFoundOf : JudgeView → Source → ℕ → (ℕ → ℕ) → Option Cause → Type 0
+IsFoundOf view source m cut found = IsFoundBy (IsRightOf view source) (HasCause view source) (HasNoImage view source) (Shows view m cut) found

@@ -1,7 +1,7 @@
 -- What a judge of moments knows of the moment that it judged last.
 use Rattle.std.specs.Prelude.{◌≡◌, ◌≤◌, ℕ, Bool, List, IfSome, length, true}
 use Rattle.routine_judge.specs.Gathered.{AreKept}
-use Rattle.routine_judge.specs.RightAnswers.{IsFoundOf, AsksOf, RunsOn, same_bytes, is_among}
+use Rattle.routine_judge.specs.RightAnswers.{IsFoundOf, AsksOf, RunsOn, of_window, same_bytes}
 use Rattle.routine_judge.specs.Views.{JudgeView}
 use Rattle.routine_judge.specs.declared.judge.MomentJudge.{MomentJudge}
 use Rattle.routine_judge.specs.Windows.{IsWindow}
@@ -15,8 +15,8 @@ pub record IsPassed (view : JudgeView) (flags : List Bool) (window : Window) (m 
   pub there : m ≤ length view.events
   pub is_window : IsWindow view.events m window
   pub flagged : AreFlagged (AsksOf view m) (at_moment view.events m) flags
-  pub ends : ¬ RunsOn view (is_among window m)
-  pub passes : IsMomentVerdict true (same_bytes view m) (AsksOf view m) (IsFoundOf view (is_among window m) m) (at_moment view.events m) moments.Pass
+  pub ends : ¬ RunsOn view (of_window window m)
+  pub passes : IsMomentVerdict true (same_bytes view m) (AsksOf view m) (IsFoundOf view (of_window window m) m) (at_moment view.events m) moments.Pass
 
 -- what a worker keeps is right, and of the run's routine and medium
 pub record StandsIn (view : JudgeView) (judge : MomentJudge) : Type 0 where

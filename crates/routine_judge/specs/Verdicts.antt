@@ -4,7 +4,7 @@ use Rattle.std.specs.Prelude.{◌≡◌, ◌≢◌, ◌⊎◌, ℕ, ◌+◌, ◌
 use Rattle.std.specs.List.{position_from}
 use Rattle.std.specs.Option.{option_map_or}
 use Rattle.store_trace.specs.Marks.{begun, begun_by}
-use Rattle.routine_judge.specs.RightAnswers.{IsFoundOf, AsksOf, RunsOn, same_bytes, is_among}
+use Rattle.routine_judge.specs.RightAnswers.{IsFoundOf, AsksOf, RunsOn, of_window, same_bytes}
 use Rattle.routine_judge.specs.Views.{JudgeView}
 use Rattle.routine_judge.specs.declared.cause.Cause.{Cause}
 use Rattle.routine_judge.specs.declared.fault.JudgeFault.{JudgeFault}
@@ -24,9 +24,9 @@ use Rattle.store_trace.specs.declared.event.Event.{Event}
 pub record IsJudged (view : JudgeView) (m : ℕ) (verdict : MomentVerdict Cause) : Type 0 where
   pub window : Window
   pub is_window : IsWindow view.events m window
-  pub judged : ((verdict ≡ moments.TooLong) × RunsOn view (is_among window m))
-      ⊎ ((¬ RunsOn view (is_among window m))
-      × IsMomentVerdict true (same_bytes view m) (AsksOf view m) (IsFoundOf view (is_among window m) m) (at_moment view.events m) verdict)
+  pub judged : ((verdict ≡ moments.TooLong) × RunsOn view (of_window window m))
+      ⊎ ((¬ RunsOn view (of_window window m))
+      × IsMomentVerdict true (same_bytes view m) (AsksOf view m) (IsFoundOf view (of_window window m) m) (at_moment view.events m) verdict)
 
 -- the first moment that is judged: right after the first Begin, and past the last moment where there is none
 abbrev pub first_judged : List Event → ℕ

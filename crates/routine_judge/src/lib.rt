@@ -10,6 +10,7 @@ mod bytes;
 mod cause;
 mod fault;
 mod full_image;
+mod held;
 mod history;
 mod images_judge;
 mod judge;
@@ -23,6 +24,7 @@ mod window;
 pub use answer_images::AnswerImages;
 pub use cause::Cause;
 pub use fault::JudgeFault;
+pub use held::HeldAnswer;
 pub use history::{
     MarkFault, Window, Windows, alone_is_the_only_one, check_marks, is_judged, one_window,
     operations_apart_have_few, pending_operations_began, windows_lie_in_the_run,

@@ -1,7 +1,7 @@
 //! The right answers of a moment, as they go from one moment to the next.
 
 ghost use Rattle.routine_judge.specs.Gathered.{AreAnswers, AreKept};
-ghost use Rattle.routine_judge.specs.RightAnswers.{ShowsFull, is_among};
+ghost use Rattle.routine_judge.specs.RightAnswers.{ShowsFull, of_moments, of_window};
 ghost use Rattle.routine_judge.specs.Windows.{IsWindow};
 ghost use Rattle.routine_judge.specs.declared.history.moments.Window.TheVariants.{Itself};
 ghost use Rattle.std.specs.Prelude.{◌≡◌, ◌≢◌, ◌||◌, ◌&&◌, ◌==◌, ◌<◌, ◌≤◌, ℕ, Bool, true, false, nat_le, nat_lt, length, IfOk, IsTrue, OnOk};
@@ -48,7 +48,7 @@ impl WindowAnswers {
         requires window { IsWindow run.now.events moment window }
         requires program { routine.old.program ≡ run.now.routine }
         requires lines { routine.old.lines ≡ length run.now.start }
-        ensures right { OnOk result (AreAnswers run.now (is_among window moment) self.new.right) }
+        ensures right { OnOk result (AreAnswers run.now (of_window window moment) self.new.right) }
         ensures window { OnOk result (self.new.window ≡ window) }
         ensures kept { AreKept run.now self.new.window self.new.right }
         ensures program { routine.new.program ≡ run.now.routine }
@@ -73,13 +73,13 @@ impl WindowAnswers {
         window: Window,
         moment: u32,
     ) -> Result<(), AllocError>
-        requires none { AreAnswers run.now (λ _. false) self.old.right }
+        requires none { AreAnswers run.now (of_moments (λ _. false)) self.old.right }
         requires there { moment ≤ length run.now.events }
         requires few { length run.now.events ≤ 65536 }
         requires window { IsWindow run.now.events moment window }
         requires program { routine.old.program ≡ run.now.routine }
         requires lines { routine.old.lines ≡ length run.now.start }
-        ensures right { OnOk result (AreAnswers run.now (is_among window moment) self.new.right) }
+        ensures right { OnOk result (AreAnswers run.now (of_window window moment) self.new.right) }
         ensures window { self.new.window ≡ self.old.window }
         ensures program { routine.new.program ≡ run.now.routine }
         ensures lines { routine.new.lines ≡ length run.now.start }
@@ -108,8 +108,8 @@ impl WindowAnswers {
         requires there { moment ≤ length run.now.events }
         requires program { routine.old.program ≡ run.now.routine }
         requires lines { routine.old.lines ≡ length run.now.start }
-        ensures right { OnOk result ((among : ℕ → Bool) → ((i : ℕ) → among i ≡ true → i < moment) → AreAnswers run.now among self.old.right →
-            AreAnswers run.now (λ i. among i || (i == moment)) self.new.right) }
+        ensures right { OnOk result ((among : ℕ → Bool) → ((i : ℕ) → among i ≡ true → i < moment) → AreAnswers run.now (of_moments among) self.old.right →
+            AreAnswers run.now (of_moments (λ i. among i || (i == moment))) self.new.right) }
         ensures window { self.new.window ≡ self.old.window }
         ensures program { routine.new.program ≡ run.now.routine }
         ensures lines { routine.new.lines ≡ length run.now.start }
@@ -128,13 +128,13 @@ impl WindowAnswers {
         first: usize,
         last: usize,
     ) -> Result<(), AllocError>
-        requires none { AreAnswers run.now (λ _. false) self.old.right }
+        requires none { AreAnswers run.now (of_moments (λ _. false)) self.old.right }
         requires order { first ≤ last }
         requires there { last ≤ length run.now.events }
         requires few { length run.now.events ≤ 65536 }
         requires program { routine.old.program ≡ run.now.routine }
         requires lines { routine.old.lines ≡ length run.now.start }
-        ensures right { OnOk result (AreAnswers run.now (λ i. nat_le first i && nat_le i last) self.new.right) }
+        ensures right { OnOk result (AreAnswers run.now (of_moments (λ i. nat_le first i && nat_le i last)) self.new.right) }
         ensures window { self.new.window ≡ self.old.window }
         ensures program { routine.new.program ≡ run.now.routine }
         ensures lines { routine.new.lines ≡ length run.now.start }

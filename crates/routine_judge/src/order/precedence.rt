@@ -3,6 +3,7 @@
 ghost use Rattle.routine_judge.specs.Order.{AreInOrder, AreOperations, AreOrdered, HasHartFault, IsLowestHartFault, begins_in, begun_of, operations_in};
 ghost use Rattle.routine_judge.specs.declared.history.fault.MarkFault.{MarkFault as AFault};
 ghost use Rattle.std.specs.Prelude.{◌≡◌, ◌↔◌, ℕ, List, [], ◌∷◌, ◌++◌, Contains, IfErr, IfOk, IsPermutation, IsTrue, MatchOption, OnOk, map};
+ghost use Rattle.store_trace.specs.Marks.{begun};
 ghost use Rattle.store_trace.specs.declared.event.Event.{Event as AnEvent};
 
 use crate::history::MarkFault;
@@ -27,6 +28,13 @@ impl Precedence {
         Precedence {
             entries: Vec::new(alloc),
         }
+    }
+
+    /// Whether no operation has begun.
+    pub fn is_empty(&self) -> bool
+        ensures { (events : List AnEvent) → AreOrdered events self.now → IsTrue result ↔ (begun events ≡ []) }
+    {
+        self.entries.is_empty()
     }
 
     /// The precedence after one event more, or the event's lowest fault: O2, O3, or O5 where an operation of the same hart is

@@ -2,18 +2,16 @@ use Rattle.std.proofs.Common.{◌≡◌, ◌∙◌, ◌≤◌, ℕ, Bool, inl, i
 use Rattle.crash_image.specs.TraceIndexView.{IndexView}
 use Rattle.program.specs.Sections.{Sections}
 use Rattle.recovery.specs.Images.{AsksOn, has_same_bytes}
-use Rattle.routine_judge.proofs.Gathering.{some_among}
 use Rattle.routine_judge.proofs.Finding.{found_of}
 use Rattle.routine_judge.proofs.Running.{across}
 use Rattle.routine_judge.specs.Gathered.{AreAnswers}
 use Rattle.routine_judge.specs.ImagesVerdicts.{IsFoundIn}
-use Rattle.routine_judge.specs.RightAnswers.{IsFoundOf, AsksOf, RunsOn, same_bytes, is_among}
+use Rattle.routine_judge.specs.RightAnswers.{IsFoundOf, AsksOf, RunsOn, of_window, same_bytes}
 use Rattle.routine_judge.specs.Standing.{IsPassed}
 use Rattle.routine_judge.specs.Views.{JudgeView}
 use Rattle.routine_judge.specs.Windows.{IsWindow}
 use Rattle.routine_judge.specs.declared.cause.Cause.{Cause}
 use Rattle.routine_judge.specs.declared.history.moments.Window.{Window}
-use Rattle.routine_judge.specs.declared.history.moments.Window.TheVariants.{Through}
 use Rattle.routine_judge.specs.declared.right.RightAnswers.{RightAnswers}
 use Rattle.store_trace.proofs.Images.{image_same}
 use Rattle.store_trace.specs.History.{at_moment}
@@ -38,17 +36,17 @@ FlaggedBy flags p verdict program steps start events m = IfPassed verdict (AreFl
 
 -- by what makes them right
 meant_of : (view : JudgeView) (window : Window) (m : ℕ) (right : RightAnswers) (p : List PersistenceStep) (verdict : MomentVerdict Cause) →
-    AreAnswers view (is_among window m) right → (i : ℕ) × (is_among window m i ≡ true) →
+    AreAnswers view (of_window window m) right →
     JudgedBy right p verdict view.routine view.steps view.start view.events m →
-    IsMomentVerdict true (same_bytes view m) (AsksOf view m) (IsFoundOf view (is_among window m) m) p verdict
-meant_of view window m right p verdict are some v =
+    IsMomentVerdict true (same_bytes view m) (AsksOf view m) (IsFoundOf view (of_window window m) m) p verdict
+meant_of view window m right p verdict are v =
     moment_meant true (same_bytes view m) (AsksOf view m) (λ k. IsFoundIn right view.routine view.steps (image_at view.start view.events m k))
-    (IsFoundOf view (is_among window m) m) p verdict (found_of view (is_among window m) m right are some) v
+    (IsFoundOf view (of_window window m) m) p verdict (found_of view (of_window window m) m right are) v
 
 -- where the moment passes, what is known of it
 passed_of : (view : JudgeView) (flags : List Bool) (window : Window) (m : ℕ) (verdict : MomentVerdict Cause) → m ≤ length view.events → IsWindow view.events m window →
-    ¬ RunsOn view (is_among window m) →
-    IsMomentVerdict true (same_bytes view m) (AsksOf view m) (IsFoundOf view (is_among window m) m) (at_moment view.events m) verdict →
+    ¬ RunsOn view (of_window window m) →
+    IsMomentVerdict true (same_bytes view m) (AsksOf view m) (IsFoundOf view (of_window window m) m) (at_moment view.events m) verdict →
     IfPassed verdict (AreFlagged (AsksOf view m) (at_moment view.events m) flags) → IfPassed verdict (IsPassed view flags window m)
 passed_of view flags window m moments.Pass there is e v f = record { there = there; is_window = is; flagged = f; ends = e; passes = v }
 passed_of view flags window m (moments.Fail name cause of_too_many) there is e v f = tt
@@ -85,16 +83,12 @@ returns-clause-ok g c =
     let own = c.new-cuts.ensures.index in
     let right = c.renew.new.self.right in
     let verdict = c.in_ok-verdict.verdict in
-    let order : (first last : ℕ) → window ≡ Through first last → first ≤ last = λ first last is.
-    let lies = c.windows_lie_in_the_run.ensures.through view.events m first last c.requires.there
-    (subst (λ (w : Window). IsWindow view.events m w) is c.window-window.ensures.window) in
-    omega (arith, lies) in
     let start = ap (λ (x : IndexView). x.start) own ∙ v.1 ∙ ap (λ (w : JudgeView). w.start) c.run.view_is in
     let events = ap (λ (x : IndexView). x.events) own ∙ v.2 ∙ ap (λ (w : JudgeView). w.events) c.run.view_is in
     let ours = across (JudgedBy right (at_moment i.trace.now.events m) verdict) view m i.routine.now i.steps cuts.index.now.start cuts.index.now.events cuts.moment
     (ap (λ (w : JudgeView). w.routine) c.run.view_is) (ap (λ (w : JudgeView). w.steps) c.run.view_is) start events c.new-cuts.ensures.moment
     c.in_ok-verdict.ensures.ok in
-    let judged = meant_of view window m right (at_moment view.events m) verdict c.in_ok-renew.ensures.right (some_among window m order)
+    let judged = meant_of view window m right (at_moment view.events m) verdict c.in_ok-renew.ensures.right
     (subst (λ (es : List Event). JudgedBy right (at_moment es m) verdict view.routine view.steps view.start view.events m) (ap (λ (w : JudgeView). w.events) c.run.view_is) ours) in
     record { window = window; is_window = c.window-window.ensures.window; judged = inr (c.in_ok-renew.ensures.right.ends c.if-answers.false, judged) }
 
@@ -110,10 +104,6 @@ returns-clause-passed g c =
     let right = c.renew.new.self.right in
     let verdict = c.in_ok-verdict.verdict in
     let flags = c.open_moment.new.opener in
-    let order : (first last : ℕ) → window ≡ Through first last → first ≤ last = λ first last is.
-    let lies = c.windows_lie_in_the_run.ensures.through view.events m first last c.requires.there
-    (subst (λ (w : Window). IsWindow view.events m w) is c.window-window.ensures.window) in
-    omega (arith, lies) in
     let start = ap (λ (x : IndexView). x.start) own ∙ v.1 ∙ ap (λ (w : JudgeView). w.start) c.run.view_is in
     let events = ap (λ (x : IndexView). x.events) own ∙ v.2 ∙ ap (λ (w : JudgeView). w.events) c.run.view_is in
     let program = ap (λ (w : JudgeView). w.routine) c.run.view_is in
@@ -125,6 +115,6 @@ returns-clause-passed g c =
     program steps start events c.new-cuts.ensures.moment c.in_ok-verdict.ensures.asked in
     subst (λ (w : Window). IfPassed verdict (IsPassed view flags w m)) (sym c.in_ok-renew.ensures.window)
     (passed_of view flags window m verdict c.requires.there c.window-window.ensures.window (c.in_ok-renew.ensures.right.ends c.if-answers.false)
-    (meant_of view window m right (at_moment view.events m) verdict c.in_ok-renew.ensures.right (some_among window m order)
+    (meant_of view window m right (at_moment view.events m) verdict c.in_ok-renew.ensures.right
     (subst (λ (es : List Event). JudgedBy right (at_moment es m) verdict view.routine view.steps view.start view.events m) later ours))
     (subst (λ (es : List Event). FlaggedBy flags (at_moment es m) verdict view.routine view.steps view.start view.events m) later asked))

@@ -1,6 +1,6 @@
 use Rattle.std.proofs.Common.{sym, subst, arith}
 use Rattle.routine_judge.specs.Gathered.{AreAnswers}
-use Rattle.routine_judge.specs.RightAnswers.{is_among}
+use Rattle.routine_judge.specs.RightAnswers.{of_window}
 use Rattle.routine_judge.proofs.Gathering.{answers_of_either, answers_of_itself, on_ok}
 use Rattle.routine_judge.specs.Windows.{IsWindow}
 use Rattle.routine_judge.specs.declared.history.moments.Window.{Window}
@@ -40,5 +40,5 @@ returns-in_ok-take_in-in-Either-clause-right c =
 pub returns-in-Through-clause-right : goal.returns-in-Through-clause-right
 returns-in-Through-clause-right c =
     on_ok c.take_in_all.result
-    (λ are. subst (λ (w : Window). AreAnswers c.args.run.now (is_among w c.args.moment) c.take_in_all.new.self.right) (sym c.in-Through.is) are)
+    (λ are. subst (λ (w : Window). AreAnswers c.args.run.now (of_window w c.args.moment) c.take_in_all.new.self.right) (sym c.in-Through.is) are)
     c.take_in_all.ensures.right

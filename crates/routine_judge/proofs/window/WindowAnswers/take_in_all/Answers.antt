@@ -1,6 +1,7 @@
 use Rattle.std.proofs.Common.{◌≡◌, ◌&&◌, ◌||◌, ◌==◌, ◌∙◌, ℕ, ◌+◌, ◌≤◌, false, nat_lt, refl, subst, arith}
 use Rattle.std.specs.Prelude.{nat_le}
 use Rattle.routine_judge.specs.Gathered.{AreAnswers}
+use Rattle.routine_judge.specs.RightAnswers.{of_moments}
 use Rattle.routine_judge.proofs.Gathering.{all_taken, before_it, none_yet, one_more, same_answers}
 use Rattle.routine_judge.proofs.window.WindowAnswers.take_in_all.Goals as goal
 
@@ -33,4 +34,4 @@ returns-clause-right c =
     let right = c.loop-moment.self.right in
     let ended : c.loop-moment.moment ≡ last + 1 = omega arith in
     same_answers view (λ i. nat_le first i && nat_lt i (last + 1)) (λ i. nat_le first i && nat_le i last) right (all_taken first last)
-    (subst (λ (n : ℕ). AreAnswers view (λ i. nat_le first i && nat_lt i n) right) ended c.loop-moment.invariant.2)
+    (subst (λ (n : ℕ). AreAnswers view (of_moments (λ i. nat_le first i && nat_lt i n)) right) ended c.loop-moment.invariant.2)
