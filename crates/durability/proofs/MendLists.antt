@@ -1,6 +1,6 @@
 -- Kept stores and mends, one element more, and deadlines.
-use Rattle.std.proofs.Common.{◌≡◌, ◌≢◌, ℕ, ◌+◌, ◌<◌, ◌≤◌, ◌⊎◌, inl, inr, true, false, List, [], ◌∷◌, ◌++◌, Option, Some, None, length, get_or, take, arith, refl, ap, subst, sym, ◌∙◌}
-use Rattle.std.specs.Prelude.{All, AllPairs, Any, Bool, Contains, max, min, nat_lt, option_to_list}
+use Rattle.std.proofs.Common.{◌≡◌, ◌≢◌, ℕ, zero, suc, ◌-◌, rules, ◌+◌, ◌<◌, ◌≤◌, ◌⊎◌, inl, inr, true, false, List, [], ◌∷◌, ◌++◌, Option, Some, None, length, get_or, take, arith, refl, ap, subst, sym, ◌∙◌}
+use Rattle.std.specs.Prelude.{All, AllPairs, Any, Bool, Contains, IsTrue, max, min, nat_lt, option_to_list}
 use Rattle.std.proofs.Math.Seq.{get_or-append_seam}
 use Rattle.std.proofs.lemmas.Bool.Decides.{nat_tests}
 use Rattle.std.proofs.lemmas.List.{get_or_append_left, length-append, take_more}
@@ -9,8 +9,9 @@ use Rattle.std.proofs.lemmas.List.Elements.{All-cons, All-nil, All-push, All-wea
 use Rattle.std.proofs.lemmas.List.Quantifiers.{all_pairs_push, Any-push}
 use Rattle.store_trace.specs.Marks.{begun_by, ended_by}
 use Rattle.store_trace.specs.declared.event.Event.{Event}
-use Rattle.store_trace.specs.declared.event.Event.TheVariants as events
-use Rattle.durability.proofs.Floors.{le_or_gt}
+use Rattle.store_trace.specs.declared.event.Event.TheVariants as kinds
+use Rattle.std.proofs.lemmas.Option.{get_or_from_slice_get}
+use Rattle.durability.proofs.Floors.{le_or_gt, no_event}
 use Rattle.durability.proofs.Lates.{any_kept, last_or_before}
 use Rattle.durability.proofs.Marks.{same_event}
 use Rattle.durability.proofs.Dedups.{any_weaker}
@@ -306,17 +307,16 @@ module _ (events : List Event) (m : ℕ) (kept : List Kept) where
       other_default xs k d e within = grind (arith, common_steps, within)
 
 -- what is lost and kept of a cut, by the events
+given_first : {X Y : Type 0} (R : X → Option Y → Type 0) (P : Y → Type 0) (x : X) (o : Option Y) (rest ys : List Y) →
+    ((y : Y) → R x (Some y) → P y) → All P rest → R x o → ys ≡ option_to_list o ++ rest → All P ys
+given_first R P x None rest ys each all r is = rw is all
+given_first R P x (Some y) rest ys each all r is = rw is (All-cons P y rest (each y r) all)
+
 pub given_all : {X Y : Type 0} (R : X → Option Y → Type 0) (P : Y → Type 0) (xs : List X) (ys : List Y) → ((x : X) (y : Y) → R x (Some y) → P y) →
     AreGiven R xs ys → All P ys
 given_all R P [] ys each given = rw given (All-nil P)
-given_all {X} {Y} R P (x ∷ xs) ys each given = with_first given.0 given.2 given.3
-  where
-    rest : All P given.1
-    rest = given_all R P xs given.1 each given.4
-
-    with_first : (o : Option Y) → R x o → ys ≡ option_to_list o ++ given.1 → All P ys
-    with_first None r is = rw is rest
-    with_first (Some y) r is = rw is (All-cons P y given.1 (each x y r) rest)
+given_all R P (x ∷ xs) ys each given =
+    given_first R P x given.0 given.1 ys (each x) (given_all R P xs given.1 each given.4) given.2 given.3
 
 pub lost_are_caused : (events : List Event) (m : ℕ) (cut : List CutLine) (lost : List Lost) → AreGiven (IsLostOf events m) cut lost →
     All (IsCaused events m) lost
@@ -334,3 +334,19 @@ pub kept_are_made : (events : List Event) (m : ℕ) (cut : List CutLine) (kept :
     All (λ one. one.store ≤ m) kept
 kept_are_made events m cut kept given =
     given_all (IsKeptOf events m) (λ one. one.store ≤ m) cut kept (λ entry one is. is.made) given
+
+-- the hart of a clean, by the event at its place
+pub same_hart : (events : List Event) (clean : ℕ) (d : Event) (h l g m : ℕ) → event_at events clean ≡ Some (kinds.Clean h l) →
+    get_or events (clean - 1) d ≡ kinds.Clean g m → h ≡ g
+same_hart events zero d h l g m is read = absurd (no_event events (kinds.Clean h l) is)
+same_hart events (suc k) d h l g m is read =
+    let place : suc k - 1 ≡ k = omega arith in
+    let own : get_or events k d ≡ kinds.Clean h l = get_or_from_slice_get events k (kinds.Clean h l) d is in
+    let there : get_or events k d ≡ kinds.Clean g m = rw place at read in
+    cc
+
+pub true_is : IsTrue true
+true_is = search rules
+
+pub false_is : IsTrue false → ⊥
+false_is t = search (rules, t)
