@@ -7,6 +7,7 @@ pub mod LossesCauses
 pub mod LossesJson
 pub mod Named
 pub mod Mends
+pub mod Answers
 pub mod MendsJson
 pub mod Unpersisted
 pub mod Why
