@@ -17,7 +17,7 @@ use Rattle.clap.specs.declared.parser.matches.ArgMatches.TheViews.{out-SubComman
 use Rattle.clap.proofs.WalkLemmas.{first_value-rows}
 use Rattle.arguments.specs.Codes.{IsMeaningOf}
 use Rattle.arguments.specs.declared.codes.table.Meaning.{Meaning}
-use Rattle.arguments.specs.Grammar.{IsGrammar, novacrash, making, running, telling, judging, showing, assemble_shape, make_volume_shape, upgrade_shape, run_shape, replay_shape, debug_shape, trace_shape, unpersisted_shape, waste_shape, images_shape, explain_shape, check_shape, judge_shape, check_all_shape, picture_shape, interleave_shape, show_shape, listing_shape, code_shape, help_shape}
+use Rattle.arguments.specs.Grammar.{IsGrammar, novacrash, making, running, telling, judging, showing, assemble_shape, make_volume_shape, upgrade_shape, run_shape, replay_shape, debug_shape, trace_shape, unpersisted_shape, waste_shape, images_shape, explain_shape, check_shape, judge_shape, check_all_shape, answer_shape, picture_shape, interleave_shape, show_shape, listing_shape, code_shape, help_shape}
 use Rattle.arguments.specs.Line.{IsAsked, IsCommand, IsFault, IsHelp, IsKindOf, IsNoCommand, IsOf, OnFault, Refuses}
 use Rattle.arguments.specs.Values.{IsCodeWord}
 use Rattle.arguments.specs.declared.asked.Command.{Command}
@@ -53,11 +53,11 @@ refused_by_kind words kind (Fault text) (inr among) is =
 refused_by_kind words kind Memory among is = tt
 
 simple_and_free : is_simple_and_free novacrash ≡ true
-unfolding novacrash making running telling judging showing assemble_shape make_volume_shape upgrade_shape run_shape replay_shape debug_shape trace_shape unpersisted_shape waste_shape images_shape explain_shape check_shape judge_shape check_all_shape picture_shape interleave_shape show_shape listing_shape code_shape help_shape
+unfolding novacrash making running telling judging showing assemble_shape make_volume_shape upgrade_shape run_shape replay_shape debug_shape trace_shape unpersisted_shape waste_shape images_shape explain_shape check_shape judge_shape check_all_shape answer_shape picture_shape interleave_shape show_shape listing_shape code_shape help_shape
 simple_and_free = refl
 
 simple : is_simple novacrash ≡ true
-unfolding novacrash making running telling judging showing assemble_shape make_volume_shape upgrade_shape run_shape replay_shape debug_shape trace_shape unpersisted_shape waste_shape images_shape explain_shape check_shape judge_shape check_all_shape picture_shape interleave_shape show_shape listing_shape code_shape help_shape
+unfolding novacrash making running telling judging showing assemble_shape make_volume_shape upgrade_shape run_shape replay_shape debug_shape trace_shape unpersisted_shape waste_shape images_shape explain_shape check_shape judge_shape check_all_shape answer_shape picture_shape interleave_shape show_shape listing_shape code_shape help_shape
 simple = refl
 
 -- an error of the grammar's parse is refused by the fault for its kind

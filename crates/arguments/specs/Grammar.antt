@@ -139,6 +139,12 @@ check_all_shape = record (new_shape (codes "check-all")) {
       ∷ flag_option (codes "why") ∷ flag_option (codes "json") ∷ flag_option (codes "progress") ∷ help_option ∷ [];
 }
 
+-- `answer RECOVERY [--medium FILE --steps N]`
+unfoldable pub answer_shape : Shape
+answer_shape = record (new_shape (codes "answer")) {
+  rules = needed_word (codes "RECOVERY") ∷ valued_option (codes "medium") ∷ valued_option (codes "steps") ∷ help_option ∷ [];
+}
+
 -- `picture PROGRAM SCHEDULE MOMENT FILE [--image IMAGE --medium FILE --harts N]`
 unfoldable pub picture_shape : Shape
 picture_shape = record (new_shape (codes "picture")) {
@@ -194,8 +200,8 @@ is_none (s ∷ shapes) = false
 abbrev pub line : List Shape → App
 line shapes = record { top = record bare { is_leaf = is_none shapes }; subs = shapes }
 
--- the subcommands that make files, those that run programs, those that tell of a run by a schedule, those that judge it or every run of a program,
--- and those that draw a run, show files, and tell of what is printed
+-- the subcommands that make files, those that run programs, those that tell of a run by a schedule, those that judge it or every run of a program, or say
+-- what a recovery routine answers, and those that draw a run, show files, and tell of what is printed
 unfoldable pub making : List Shape
 making = assemble_shape ∷ make_volume_shape ∷ upgrade_shape ∷ []
 
@@ -206,7 +212,7 @@ unfoldable pub telling : List Shape
 telling = trace_shape ∷ unpersisted_shape ∷ waste_shape ∷ images_shape ∷ explain_shape ∷ []
 
 unfoldable pub judging : List Shape
-judging = check_shape ∷ judge_shape ∷ check_all_shape ∷ []
+judging = check_shape ∷ judge_shape ∷ check_all_shape ∷ answer_shape ∷ []
 
 unfoldable pub showing : List Shape
 showing = picture_shape ∷ interleave_shape ∷ show_shape ∷ listing_shape ∷ code_shape ∷ help_shape ∷ []

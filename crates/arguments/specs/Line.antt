@@ -8,12 +8,13 @@ use Rattle.text.specs.Texts.{IsProper}
 use Rattle.arguments.specs.Grammar.{novacrash}
 use Rattle.arguments.specs.Spans.{IsOptionalMoments, IsUpward}
 use Rattle.arguments.specs.Values.{IsCapacity, IsCodeWord, IsEvictions, IsHarts, IsImageWord, IsNumberWord, IsOptional, IsOptionalImage, IsOptionalNumber, IsRecoverySteps, IsSeed, IsStates, IsSteps, IsWord, IsWorkers, is_set}
+use Rattle.arguments.specs.declared.asked.AnswerCommand.{AnswerCommand}
 use Rattle.arguments.specs.declared.asked.AssembleCommand.{AssembleCommand}
 use Rattle.arguments.specs.declared.asked.CheckAllCommand.{CheckAllCommand}
 use Rattle.arguments.specs.declared.asked.CheckCommand.{CheckCommand}
 use Rattle.arguments.specs.declared.asked.CodeCommand.{CodeCommand}
 use Rattle.arguments.specs.declared.asked.Command.{Command}
-use Rattle.arguments.specs.declared.asked.Command.TheVariants.{Assemble, Check, CheckAll, Code, Debug, Explain, Images, Interleave, Judge, Listing, MakeVolume, Picture, Replay, Run, Show, Trace, Unpersisted, Upgrade, Waste}
+use Rattle.arguments.specs.declared.asked.Command.TheVariants.{Answer, Assemble, Check, CheckAll, Code, Debug, Explain, Images, Interleave, Judge, Listing, MakeVolume, Picture, Replay, Run, Show, Trace, Unpersisted, Upgrade, Waste}
 use Rattle.arguments.specs.declared.asked.DebugCommand.{DebugCommand}
 use Rattle.arguments.specs.declared.asked.ExplainCommand.{ExplainCommand}
 use Rattle.arguments.specs.declared.asked.ImagesCommand.{ImagesCommand}
@@ -143,6 +144,12 @@ pub record IsCheckAll (rows : List Row) (command : CheckAllCommand) : Type 0 whe
   pub json : command.json ≡ is_set (first_of (codes "json") rows)
   pub progress : command.progress ≡ is_set (first_of (codes "progress") rows)
 
+-- `answer` of this recovery routine on this medium, in so many steps at most
+pub record IsAnswer (rows : List Row) (command : AnswerCommand) : Type 0 where
+  pub recovery : IsWord (codes "RECOVERY") rows command.recovery
+  pub medium : IsOptional (codes "medium") rows command.medium
+  pub steps : IsRecoverySteps rows command.steps
+
 -- `picture` of this moment of this run, with this image of it or none, into this file
 pub record IsPicture (rows : List Row) (command : PictureCommand) : Type 0 where
   pub run : IsScheduledRun rows command.run
@@ -187,6 +194,7 @@ IsOf name rows (Explain command) = (name ≡ codes "explain") × IsExplain rows 
 IsOf name rows (Check command) = (name ≡ codes "check") × IsCheck rows command
 IsOf name rows (Judge command) = (name ≡ codes "judge") × IsJudge rows command
 IsOf name rows (CheckAll command) = (name ≡ codes "check-all") × IsCheckAll rows command
+IsOf name rows (Answer command) = (name ≡ codes "answer") × IsAnswer rows command
 IsOf name rows (Picture command) = (name ≡ codes "picture") × IsPicture rows command
 IsOf name rows (Interleave command) = (name ≡ codes "interleave") × IsInterleave rows command
 IsOf name rows (Show command) = (name ≡ codes "show") × IsShow rows command
@@ -213,11 +221,12 @@ pub record TellsNone (name : Text) : Type 0 where
   pub images : name ≢ codes "images"
   pub explain : name ≢ codes "explain"
 
--- the name of no subcommand that judges a run by a schedule, or every one of a program
+-- the name of no subcommand that judges a run by a schedule, or every one of a program, or says what a recovery routine answers
 pub record JudgesNone (name : Text) : Type 0 where
   pub check : name ≢ codes "check"
   pub judge : name ≢ codes "judge"
   pub check_all : name ≢ codes "check-all"
+  pub answer : name ≢ codes "answer"
 
 -- the command that the subcommand of a line asks for
 abbrev pub IsAsked : Option (Text × List Row) → Command → Type 0
@@ -260,6 +269,7 @@ IsWithinLimits (Explain command) = IsMachineWithin command.run.machine × (comma
 IsWithinLimits (Check command) = IsJudgedWithin command.judged
 IsWithinLimits (Judge command) = IsJudgedWithin command.judged × IsWithin 1 500000000 command.steps
 IsWithinLimits (CheckAll command) = IsMachineWithin command.machine × IsWithin 1 4294967295 command.states
+IsWithinLimits (Answer command) = IsWithin 1 500000000 command.steps
 IsWithinLimits (Picture command) = IsMachineWithin command.run.machine × (command.moment < 2 ^ 32) × IfSome command.image IsProper
 IsWithinLimits (Interleave command) = IsMachineWithin command.machine × IsWithin 1 500000000 command.steps × IsWithin 0 65536 command.evictions
 IsWithinLimits (Show command) = IfSome command.line (λ line. line < 2 ^ 32)

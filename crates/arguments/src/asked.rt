@@ -36,6 +36,8 @@ pub enum Command {
     Judge(JudgeCommand),
     /// `check-all PLAN PROGRAM [--medium FILE --harts N --states N --any-end --why --json --progress]`.
     CheckAll(CheckAllCommand),
+    /// `answer RECOVERY [--medium FILE --steps N]`.
+    Answer(AnswerCommand),
     /// `picture PROGRAM SCHEDULE MOMENT FILE [--image IMAGE --medium FILE --harts N]`.
     Picture(PictureCommand),
     /// `interleave PROGRAM --seed N [--medium FILE --harts N --steps N --evictions N]`.
@@ -239,6 +241,17 @@ pub struct Moments {
     pub first: u32,
     /// The last of them, which isn't before the first; None: the last one of the run.
     pub last: Option<u32>,
+}
+
+/// What `answer` is to do.
+#[derive(Drop)]
+pub struct AnswerCommand {
+    /// The name of the recovery routine's file.
+    pub recovery: String,
+    /// The name of the medium's file; None: 512 lines of zeros.
+    pub medium: Option<String>,
+    /// The most steps that the routine makes, from 1 to 500,000,000; 100,000 where the line doesn't say.
+    pub steps: u32,
 }
 
 /// What `picture` is to do.

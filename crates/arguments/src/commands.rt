@@ -3,11 +3,12 @@
 ghost use Rattle.std.specs.Prelude.{◌<◌, ◌^◌, ℕ, IfOk, IfErr, IfSome, String, codes};
 ghost use Rattle.std.specs.declared.alloc.Global.{Global as AGlobal};
 ghost use Rattle.clap.specs.Words.{found_of, rows_of};
-ghost use Rattle.arguments.specs.Line.{IsAssemble, IsCheck, IsCheckAll, IsCode, IsDebug, IsExplain, IsImages, IsInterleave, IsJudge, IsListing, IsMakeVolume, IsPicture, IsReplay, IsReport, IsRun, IsScheduledRun, IsShow, IsUpgrade};
+ghost use Rattle.arguments.specs.Line.{IsAnswer, IsAssemble, IsCheck, IsCheckAll, IsCode, IsDebug, IsExplain, IsImages, IsInterleave, IsJudge, IsListing, IsMakeVolume, IsPicture, IsReplay, IsReport, IsRun, IsScheduledRun, IsShow, IsUpgrade};
 ghost use Rattle.arguments.specs.Line.{IsCachedMachine, IsJudgedRun, IsJudgedWithin, IsMachineWithin, IsOf, IsWithin, IsWithinLimits, OnFault};
 ghost use Rattle.arguments.specs.Started.{IsStarted};
 ghost use Rattle.arguments.specs.Values.{IsWord};
 ghost use Rattle.text.specs.Texts.{IsProper};
+ghost use Rattle.arguments.specs.declared.asked.AnswerCommand.{AnswerCommand as AnAnswerCommand};
 ghost use Rattle.arguments.specs.declared.asked.AssembleCommand.{AssembleCommand as AAssembleCommand};
 ghost use Rattle.arguments.specs.declared.asked.MakeVolumeCommand.{MakeVolumeCommand as AMakeVolumeCommand};
 ghost use Rattle.arguments.specs.declared.asked.UpgradeCommand.{UpgradeCommand as AnUpgradeCommand};
@@ -30,9 +31,9 @@ ghost use Rattle.arguments.specs.declared.asked.JudgedRun.{JudgedRun as AJudgedR
 ghost use Rattle.arguments.specs.declared.asked.ScheduledRun.{ScheduledRun as AScheduledRun};
 
 use crate::asked::{
-    AssembleCommand, CheckAllCommand, CheckCommand, CodeCommand, Command, DebugCommand,
-    ExplainCommand, ImagesCommand, InterleaveCommand, JudgeCommand, JudgedRun, LineFault,
-    ListingCommand, MachineOptions, MakeVolumeCommand, PictureCommand, ReplayCommand,
+    AnswerCommand, AssembleCommand, CheckAllCommand, CheckCommand, CodeCommand, Command,
+    DebugCommand, ExplainCommand, ImagesCommand, InterleaveCommand, JudgeCommand, JudgedRun,
+    LineFault, ListingCommand, MachineOptions, MakeVolumeCommand, PictureCommand, ReplayCommand,
     ReportCommand, RunCommand, ScheduledRun, ShowCommand, UpgradeCommand,
 };
 use crate::machine::{cached_machine, whole_machine};
@@ -52,7 +53,7 @@ const STEPS: NumberOption = NumberOption {
     high: 500_000_000,
 };
 
-/// The most steps of recovery that `judge` makes on a crash image.
+/// The most steps of recovery that `judge` makes on a crash image, and `answer` on a medium.
 const RECOVERY_STEPS: NumberOption = NumberOption {
     name: "steps",
     default: 100_000,
@@ -350,6 +351,20 @@ pub(crate) fn check_all(alloc: Global, found: &ArgMatches<'_>) -> Result<Command
         machine: whole_machine(alloc, found)?,
         plan: word(alloc, found, "PLAN")?,
         program: word(alloc, found, "PROGRAM")?,
+    }))
+}
+
+/// What `answer` is to do.
+pub(crate) fn answer(alloc: Global, found: &ArgMatches<'_>) -> Result<Command, LineFault>
+    ensures ok { IfOk result (IsOf (codes "answer") (rows_of (found_of found.now))) }
+    ensures within { IfOk result IsWithinLimits }
+    ensures err { IfErr result (OnFault ((command : AnAnswerCommand)
+        → ¬ (IsAnswer (rows_of (found_of found.now)) command))) }
+{
+    Ok(Command::Answer(AnswerCommand {
+        steps: number(alloc, found, &RECOVERY_STEPS)?,
+        medium: optional(alloc, found, "medium")?,
+        recovery: word(alloc, found, "RECOVERY")?,
     }))
 }
 

@@ -370,7 +370,7 @@ static TELLING: [Subcommand; 5] = [
 ];
 
 /// The subcommands that judge a run or every one of a program, behind those.
-static JUDGING: [Subcommand; 3] = [
+static JUDGING: [Subcommand; 4] = [
     Subcommand {
         name: "check",
         group: Group::Judge,
@@ -413,6 +413,13 @@ static JUDGING: [Subcommand; 3] = [
             PLAN, PROGRAM, MEDIUM, HARTS, STATES, ANY_END, WHY, JSON, PROGRESS,
         ],
         ending: ending!("check-all append.plan append.s --medium append.medium --why"),
+    },
+    Subcommand {
+        name: "answer",
+        group: Group::Judge,
+        about: "Print what a recovery routine answers on a medium, or why it has no answer",
+        arguments: &[RECOVERY, MEDIUM, RECOVERY_STEPS],
+        ending: ending!("answer ring-recovery.s"),
     },
 ];
 

@@ -11,10 +11,10 @@ mod moments;
 mod values;
 
 pub use asked::{
-    AssembleCommand, CheckAllCommand, CheckCommand, CodeCommand, Command, DebugCommand,
-    ExplainCommand, ImagesCommand, InterleaveCommand, JudgeCommand, JudgedRun, LineFault,
-    ListingCommand, MachineOptions, MakeVolumeCommand, Moments, PictureCommand, ReplayCommand,
-    ReportCommand, RunCommand, ScheduledRun, ShowCommand, UpgradeCommand,
+    AnswerCommand, AssembleCommand, CheckAllCommand, CheckCommand, CodeCommand, Command,
+    DebugCommand, ExplainCommand, ImagesCommand, InterleaveCommand, JudgeCommand, JudgedRun,
+    LineFault, ListingCommand, MachineOptions, MakeVolumeCommand, Moments, PictureCommand,
+    ReplayCommand, ReportCommand, RunCommand, ScheduledRun, ShowCommand, UpgradeCommand,
 };
 pub use codes::{Meaning, all_have_meanings, list, meaning_of};
 pub use line::command;

@@ -10,6 +10,8 @@ use Rattle.crash_test.specs.declared.losses.ExplainedImage.{ExplainedImage}
 use Rattle.machine.specs.declared.run_trace.traced_event.TracedEvent.{TracedEvent}
 use Rattle.report.specs.LossesEvents.{event_text}
 use Rattle.report.specs.LossesJson.{event_object, kept_object, lost_object, unread_object}
+use Rattle.report.specs.Mends.{mend_line}
+use Rattle.report.specs.MendsJson.{mend_object}
 use Rattle.report.specs.Why.{kept_line, lost_line, spaced, unread_line}
 use Rattle.command_line.specs.Naming.{named_schedule}
 use Rattle.command_line.specs.Reasons.{image_losses, told_losses}
@@ -18,6 +20,12 @@ use Rattle.command_line.specs.Reasons.{image_losses, told_losses}
 last_of_four : (lost kept unread last : List ℕ) → lost ++ (kept ++ (unread ++ last)) ≡ (lost ++ (kept ++ unread)) ++ last
 last_of_four lost kept unread last =
     ap (λ (l : List ℕ). lost ++ l) (sym (append_assoc kept unread last)) ∙ sym (append_assoc lost (kept ++ unread) last)
+
+-- and of five
+last_of_five : (lost kept mends unread last : List ℕ) →
+    lost ++ (kept ++ (mends ++ (unread ++ last))) ≡ (lost ++ (kept ++ (mends ++ unread))) ++ last
+last_of_five lost kept mends unread last =
+    ap (λ (l : List ℕ). lost ++ l) (last_of_four kept mends unread last) ∙ sym (append_assoc lost (kept ++ (mends ++ unread)) last)
 
 -- a space stands in front of items alone
 pub spaced_none : (items : List ℕ) → (length items == 0) ≡ true → spaced items ≡ []
@@ -29,13 +37,15 @@ pub losses_end : (json : Bool) (lines : ℕ → Option ℕ) (traced : List Trace
 losses_end true lines traced explained =
     let lost : List ℕ = flat_map (lost_object ([]) (event_object lines traced)) explained.told.read.lost.items in
     let kept : List ℕ = flat_map (kept_object (event_object lines traced)) explained.told.read.kept.items in
+    let mends : List ℕ = flat_map (mend_object (event_object lines traced)) explained.told.read.mends.items in
     let unread : List ℕ = unread_object explained.told.unread in
-    (lost ++ (kept ++ unread), last_of_four lost kept unread (named_schedule true (codes "schedule") explained.schedule))
+    (lost ++ (kept ++ (mends ++ unread)), last_of_five lost kept mends unread (named_schedule true (codes "schedule") explained.schedule))
 losses_end false lines traced explained =
     let lost : List ℕ = flat_map (lost_line (event_text lines traced)) explained.told.read.lost.items in
     let kept : List ℕ = flat_map (kept_line (event_text lines traced)) explained.told.read.kept.items in
+    let mends : List ℕ = flat_map (mend_line (event_text lines traced)) explained.told.read.mends.items in
     let unread : List ℕ = unread_line explained.told.unread in
-    (lost ++ (kept ++ unread), last_of_four lost kept unread (named_schedule false (codes "schedule") explained.schedule))
+    (lost ++ (kept ++ (mends ++ unread)), last_of_five lost kept mends unread (named_schedule false (codes "schedule") explained.schedule))
 
 image_behind : (json : Bool) (lines : ℕ → Option ℕ) (traced : List TracedEvent) (explained : ExplainedImage) (changed : List ℕ) →
     ((front : List ℕ) → told_losses json lines traced explained ≡ front ++ named_schedule json (codes "schedule") explained.schedule →
@@ -43,15 +53,17 @@ image_behind : (json : Bool) (lines : ℕ → Option ℕ) (traced : List TracedE
 image_behind true lines traced explained changed is =
     let lost : List ℕ = flat_map (lost_object [] (event_object lines traced)) explained.told.read.lost.items in
     let kept : List ℕ = flat_map (kept_object (event_object lines traced)) explained.told.read.kept.items in
+    let mends : List ℕ = flat_map (mend_object (event_object lines traced)) explained.told.read.mends.items in
     let unread : List ℕ = unread_object explained.told.unread in
-    is (lost ++ (kept ++ unread)) (last_of_four lost kept unread (named_schedule true (codes "schedule") explained.schedule))
-    ∙ sym (last_of_four lost kept unread (named_schedule true (codes "image") explained.schedule))
+    is (lost ++ (kept ++ (mends ++ unread))) (last_of_five lost kept mends unread (named_schedule true (codes "schedule") explained.schedule))
+    ∙ sym (last_of_five lost kept mends unread (named_schedule true (codes "image") explained.schedule))
 image_behind false lines traced explained changed is =
     let lost : List ℕ = flat_map (lost_line (event_text lines traced)) explained.told.read.lost.items in
     let kept : List ℕ = flat_map (kept_line (event_text lines traced)) explained.told.read.kept.items in
+    let mends : List ℕ = flat_map (mend_line (event_text lines traced)) explained.told.read.mends.items in
     let unread : List ℕ = unread_line explained.told.unread in
-    is (lost ++ (kept ++ unread)) (last_of_four lost kept unread (named_schedule false (codes "schedule") explained.schedule))
-    ∙ sym (last_of_four lost kept unread (named_schedule false (codes "image") explained.schedule))
+    is (lost ++ (kept ++ (mends ++ unread))) (last_of_five lost kept mends unread (named_schedule false (codes "schedule") explained.schedule))
+    ∙ sym (last_of_five lost kept mends unread (named_schedule false (codes "image") explained.schedule))
 
 -- a text that has the image's schedule in place of the other has the lines of the image
 pub image_text_behind : (json : Bool) (lines : ℕ → Option ℕ) (traced : List TracedEvent) (explained : ExplainedImage) (outcome : Result (String Global) AllocError) →

@@ -1,3 +1,4 @@
+pub mod Answering
 pub mod Assembling
 pub mod Checking
 pub mod CheckingAll

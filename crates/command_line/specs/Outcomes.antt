@@ -4,10 +4,11 @@ use Rattle.std.specs.Io.KnownBytes.{Appends}
 use Rattle.std.specs.Result.{result_map_both}
 use Rattle.arguments.specs.Line.{IsCommand, Refuses}
 use Rattle.arguments.specs.declared.asked.Command.{Command}
-use Rattle.arguments.specs.declared.asked.Command.TheVariants.{Assemble, Check, CheckAll, Code, Debug, Explain, Images, Interleave, Judge, Listing, MakeVolume, Picture, Replay, Run, Show, Trace, Unpersisted, Upgrade, Waste}
+use Rattle.arguments.specs.declared.asked.Command.TheVariants.{Answer as AnswerCommand, Assemble, Check, CheckAll, Code, Debug, Explain, Images, Interleave, Judge, Listing, MakeVolume, Picture, Replay, Run, Show, Trace, Unpersisted, Upgrade, Waste}
 use Rattle.arguments.specs.declared.asked.LineFault.{LineFault}
 use Rattle.arguments.specs.declared.asked.LineFault.TheVariants as line_faults
 use Rattle.debugger.specs.StreamFailures.{AppendsFront}
+use Rattle.command_line.specs.Answering.{AnswersFile}
 use Rattle.command_line.specs.Assembling.{AssemblesFile}
 use Rattle.command_line.specs.Checking.{IsOpen, JudgesCheck, OpensCheck}
 use Rattle.command_line.specs.CheckingAll.{FailsBehind, IsOpen as IsOpenCheckAll, JudgesAll, OpensCheckAll}
@@ -61,6 +62,7 @@ CarriesOut reads writes (Explain command) = LeadsTo (ExplainsFile reads command)
 CarriesOut reads writes (Check command) = LeadsTo (OpensCheck reads command) actions.Check
 CarriesOut reads writes (Judge command) = LeadsTo (OpensJudge reads command) actions.Judge
 CarriesOut reads writes (CheckAll command) = LeadsTo (OpensCheckAll reads command) actions.CheckAll
+CarriesOut reads writes (AnswerCommand command) = LeadsTo (AnswersFile reads command) actions.Print
 CarriesOut reads writes (Picture command) = LeadsTo (PicturesFile reads writes command) actions.Print
 CarriesOut reads writes (Interleave command) = LeadsTo (InterleavesFile reads command) actions.Print
 CarriesOut reads writes (Show command) = LeadsTo (ShowsFile reads command) actions.Print

@@ -10,6 +10,8 @@ use Rattle.text.specs.declared.image_name.name.ImageName.{ImageName}
 use Rattle.report.specs.LossesEvents.{event_text}
 use Rattle.durability.specs.declared.cut.ToldCut.{ToldCut}
 use Rattle.report.specs.LossesJson.{event_object, kept_object, lost_object, unread_object, why_json}
+use Rattle.report.specs.Mends.{mend_line}
+use Rattle.report.specs.MendsJson.{mend_object}
 use Rattle.report.specs.Why.{kept_line, lost_line, unread_line, why_text}
 use Rattle.machine.specs.RunValues.{RunView}
 use Rattle.machine.specs.declared.schedule.items.Item.{Item}
@@ -46,12 +48,12 @@ told_losses false lines traced explained =
 
 -- The same of a run that was found, whose own schedule is printed: the one that leaves the image is called `image`.
 abbrev pub image_text : (ℕ → List ℕ) → ToldCut → ℕ → List Item → List ℕ
-image_text event told unread schedule = flat_map (lost_line event) told.lost.items
-    ++ (flat_map (kept_line event) told.kept.items ++ (unread_line unread ++ named_schedule false (codes "image") schedule))
+image_text event told unread schedule = flat_map (lost_line event) told.lost.items ++ (flat_map (kept_line event) told.kept.items
+    ++ (flat_map (mend_line event) told.mends.items ++ (unread_line unread ++ named_schedule false (codes "image") schedule)))
 
 abbrev pub image_json : (ℕ → List ℕ) → ToldCut → ℕ → List Item → List ℕ
-image_json event told unread schedule = flat_map (lost_object [] event) told.lost.items
-    ++ (flat_map (kept_object event) told.kept.items ++ (unread_object unread ++ named_schedule true (codes "image") schedule))
+image_json event told unread schedule = flat_map (lost_object [] event) told.lost.items ++ (flat_map (kept_object event) told.kept.items
+    ++ (flat_map (mend_object event) told.mends.items ++ (unread_object unread ++ named_schedule true (codes "image") schedule)))
 
 abbrev pub image_losses : Bool → (ℕ → Option ℕ) → List TracedEvent → ExplainedImage → List ℕ
 image_losses true lines traced explained =

@@ -10,6 +10,7 @@ ghost use Rattle.command_line.specs.Outcomes.{AnswersFault, CarriesOut, ComesTo,
 ghost use Rattle.command_line.specs.declared.answer.Action.TheVariants.{Check, CheckAll, Debug, Judge, Print};
 
 use crate::answer::{Action, Answer};
+use crate::answering::answer_file;
 use crate::asm::assemble_file;
 use crate::check::open_check;
 use crate::check_all::open_check_all;
@@ -79,6 +80,7 @@ fn carry_out<T: Threads + Wait + Sync, F: Files>(
         Command::Check(command) => opened(open_check(alloc, command, files)),
         Command::Judge(command) => judged(open_judge(alloc, command, files)),
         Command::CheckAll(command) => all_opened(open_check_all(alloc, command, files)),
+        Command::Answer(command) => printed(answer_file(alloc, &command, files)),
         Command::Picture(command) => printed(picture_file(alloc, &command, files)),
         Command::Interleave(command) => printed(interleave_file(alloc, &command, files)),
         Command::Show(command) => printed(show_file(alloc, &command, files)),

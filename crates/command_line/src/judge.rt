@@ -200,7 +200,7 @@ fn full_text(alloc: Global, cause: RunCause) -> Result<String, AllocError>
 }
 
 /// `exit-C`, `T1` to `T7`, `running`, `answer` or `events`.
-fn missing_text(alloc: Global, cause: RunCause) -> Result<String, AllocError>
+pub(crate) fn missing_text(alloc: Global, cause: RunCause) -> Result<String, AllocError>
     ensures { IfOk result (λ text. string_bytes text ≡ missing_text cause) }
 {
     match cause {

@@ -2,6 +2,7 @@
 #![tactic(auto)]
 
 mod answer;
+mod answering;
 mod asm;
 mod check;
 mod check_all;

@@ -1,4 +1,4 @@
--- The lines of an image of which a recovery routine asks bytes.
+-- What a recovery routine asks of an image, and what it answers.
 -- This project's own: what a routine does on a crash image (Vinter, USENIX ATC 2022) depends on what it asks of it.
 use Rattle.std.specs.Prelude.{◌≡◌, ℕ, List, Result, map}
 use Rattle.program.specs.Sections.{Sections}
@@ -17,3 +17,8 @@ pub record IsLoaded (program : Sections) (steps : ℕ) (image : List (List ℕ))
   pub found : Result (List ℕ) Cause
   pub recovers : Recovers program image steps questions found
   pub same : lines ≡ lines_of questions
+
+-- the routine's run on the image, of at most so many steps, comes to this answer, or to this cause why there is none
+pub record IsAnswerOn (program : Sections) (image : List (List ℕ)) (steps : ℕ) (found : Result (List ℕ) Cause) : Type 0 where
+  pub questions : List Question
+  pub recovers : Recovers program image steps questions found

@@ -9,6 +9,7 @@ use Rattle.store_trace.specs.Image.{image}
 use Rattle.store_trace.specs.Stores.{stores}
 use Rattle.durability.specs.Cuts.{IsKeptOf, IsLostOf}
 use Rattle.durability.specs.Given.{AreGiven}
+use Rattle.durability.specs.Mends.{AreMends}
 use Rattle.durability.specs.declared.cut.CutLine.{CutLine}
 use Rattle.text.specs.declared.image_name.name.ImageName.{ImageName}
 use Rattle.nova_log.specs.Volumes.{asked_lines}
@@ -38,11 +39,12 @@ lacks_store events moment entry = nat_lt entry.number (stores entry.line (at_mom
 abbrev pub IsAsked : List (List ℕ) → List ℕ → Type 0
 IsAsked image lines = lines ≡ asked_lines image
 
--- of a cut, of whose lines these are read: the first store that is lost and the last that is kept of each of them, and how many others
--- lack a store
+-- of a cut, of whose lines these are read: the first store that is lost and the last that is kept of each of them, what would have made
+-- those durable in time, and how many others lack a store
 pub record AreTold (events : List Event) (moment : ℕ) (cut : List (ℕ × ℕ)) (read : List ℕ) (told : ToldImage) : Type 0 where
   pub lost : AreGiven (IsLostOf events moment) (those read cut) told.read.lost.items
   pub kept : AreGiven (IsKeptOf events moment) (those read cut) told.read.kept.items
+  pub mends : AreMends events moment told.read.lost.items told.read.kept.items told.read.mends.items
   pub unread : told.unread ≡ length (filter (lacks_store events moment) (others read cut))
 
 -- this of the image of this name, by lines that a recovery reads of it

@@ -2,6 +2,7 @@
 //! is made once, and each question is asked of it.
 #![tactic(auto)]
 
+mod answering;
 mod checking;
 mod explaining;
 mod file_kind;
@@ -16,6 +17,7 @@ mod runs;
 mod volumes;
 mod work;
 
+pub use answering::answer_on;
 pub use checking::check_program;
 pub use explaining::explain_image;
 pub use image_causes::{

@@ -1,42 +1,14 @@
 -- The first number of which something holds.
 use Rattle.std.proofs.Common.{◌≡◌, ℕ, suc, ◌+◌, ◌<◌, ◌≤◌, ◌⊎◌, inl, inr, zero, List, Option, Some, None, length, get_or, ap, ◌∙◌, arith}
-use Rattle.std.specs.Prelude.{min}
-use Rattle.std.proofs.lemmas.Bool.Decides.{nat_tests}
 use Rattle.std.proofs.lemmas.Option.{slice_get-get_or, slice_get_within}
 use Rattle.store_trace.specs.declared.event.Event.{Event}
-use Rattle.durability.specs.Numbered.{earlier_of, event_at, IsFirstIfAny}
+use Rattle.durability.specs.Numbered.{event_at, IsFirstIfAny}
 
 -- what holds of the same numbers has the same first one
 pub first_same : (P Q : ℕ → Type 0) (o : Option ℕ) → ((n : ℕ) → P n → Q n) → ((n : ℕ) → Q n → P n) →
     IsFirstIfAny P o → IsFirstIfAny Q o
 first_same P Q None to from f = λ n q. f n (from n q)
 first_same P Q (Some k) to from f = record { holds = to k f.holds; first = λ n q. f.first n (from n q) }
-
-lower_of : (i j : ℕ) → ((min i j ≡ i) × (i ≤ j)) ⊎ ((min i j ≡ j) × (j ≤ i))
-lower_of i j = grind (arith, nat_tests)
-
--- the first of two kinds
-pub first_of_both : (P Q R : ℕ → Type 0) (a b : Option ℕ) → ((n : ℕ) → P n → R n) → ((n : ℕ) → Q n → R n) →
-    ((n : ℕ) → R n → P n ⊎ Q n) → IsFirstIfAny P a → IsFirstIfAny Q b → IsFirstIfAny R (earlier_of a b)
-first_of_both P Q R None None one other split f g = λ n r. elim (split n r) [ inl p ↦ f n p | inr q ↦ g n q ]
-first_of_both P Q R None (Some k) one other split f g = record {
-  holds = other k g.holds;
-  first = λ n r. elim (split n r) [ inl p ↦ absurd (f n p) | inr q ↦ g.first n q ];
-}
-first_of_both P Q R (Some k) None one other split f g = record {
-  holds = one k f.holds;
-  first = λ n r. elim (split n r) [ inl p ↦ f.first n p | inr q ↦ absurd (g n q) ];
-}
-first_of_both P Q R (Some i) (Some j) one other split f g = elim (lower_of i j) [
-  | inl low ↦ rw low.0 (record {
-    holds = one i f.holds;
-    first = λ n r. elim (split n r) [ inl p ↦ f.first n p | inr q ↦ omega (arith, low.1, g.first n q) ];
-  })
-  | inr low ↦ rw low.0 (record {
-    holds = other j g.holds;
-    first = λ n r. elim (split n r) [ inl p ↦ omega (arith, low.1, f.first n p) | inr q ↦ g.first n q ];
-  })
-]
 
 -- the event at a place has the number after it
 pub event_here : (events : List Event) (at : ℕ) (d : Event) (event : Event) → at < length events → get_or events at d ≡ event →

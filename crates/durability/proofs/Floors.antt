@@ -104,7 +104,7 @@ cleaned_after events l h e c (suc m) clean low high = elim (le_or_gt c m) [
       (grind (arith, nat_tests, stores_grow events l e m (omega (arith, clean.later)) (omega (arith, high))))
 ]
 
-floor_after : (events : List Event) (l h e c n m : ℕ) → IsCleanOf events h l e c → IsFence events h c n → n ≤ m → m ≤ length events →
+pub floor_after : (events : List Event) (l h e c n m : ℕ) → IsCleanOf events h l e c → IsFence events h c n → n ≤ m → m ≤ length events →
     stores l (at_moment events e) ≤ floor l (at_moment events m)
 floor_after events l h e c n zero clean fence low high = absurd (omega (arith, fence.later))
 floor_after events l h e c n (suc m) clean fence low high = elim (le_or_gt n m) [

@@ -7,6 +7,8 @@ pub mod Givens
 pub mod Lates
 pub mod Linked
 pub mod Marks
+pub mod Mending
+pub mod MendLists
 pub mod Nexts
 pub mod Opens
 pub mod Pairs

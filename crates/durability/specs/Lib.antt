@@ -2,6 +2,7 @@ pub mod Causes
 pub mod Cuts
 pub mod Firsts
 pub mod Given
+pub mod Mends
 pub mod Numbered
 pub mod Operations
 pub mod Stores

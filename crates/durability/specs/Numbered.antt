@@ -1,5 +1,5 @@
 -- Events by their numbers, and the first event of a kind.
-use Rattle.std.specs.Prelude.{◌≡◌, ℕ, zero, suc, ◌<◌, ◌≤◌, List, Option, Some, None, min, slice_get}
+use Rattle.std.specs.Prelude.{◌≡◌, ℕ, zero, suc, ◌<◌, ◌≤◌, List, Option, Some, None, slice_get}
 use Rattle.store_trace.specs.declared.event.Event.{Event}
 use Rattle.store_trace.specs.declared.event.Event.TheVariants.{Store, Clean, Fence}
 
@@ -34,9 +34,3 @@ pub record IsFirst (P : ℕ → Type 0) (n : ℕ) : Type 0 where
 abbrev pub IsFirstIfAny : (ℕ → Type 0) → Option ℕ → Type 0
 IsFirstIfAny P None = (n : ℕ) → ¬ P n
 IsFirstIfAny P (Some n) = IsFirst P n
-
--- the lower of two numbers, where there is one
-abbrev pub earlier_of : Option ℕ → Option ℕ → Option ℕ
-earlier_of None other = other
-earlier_of (Some one) None = Some one
-earlier_of (Some one) (Some other) = Some (min one other)

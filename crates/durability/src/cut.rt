@@ -3,11 +3,13 @@
 ghost use Rattle.durability.specs.Causes.{AreFates};
 ghost use Rattle.durability.specs.Cuts.{IsKeptOf, IsLostOf, IsStorePast, is_store_of};
 ghost use Rattle.durability.specs.Given.{AreGiven};
+ghost use Rattle.durability.specs.Mends.{AreMends};
 ghost use Rattle.std.specs.Prelude.{◌≡◌, ◌≤◌, ◌++◌, length, option_to_list, All, IfOk};
 ghost use Rattle.store_trace.specs.TraceView.{NamesLine};
 
 use crate::cause::{Cause, Fate};
 use crate::fates::fates_of;
+use crate::mend::{Mend, mends_of};
 use std::alloc::{AllocError, Global};
 use store_trace::{Event, Trace};
 
@@ -33,17 +35,20 @@ pub struct Kept {
     pub store: u32,
 }
 
-/// The lost and the kept lines of a cut.
+/// The lost and the kept lines of a cut, and what would have made the lost stores durable in time.
 #[derive(Debug, Drop)]
 pub struct ToldCut {
     /// For each line that lacks a store, the first that it lacks.
     pub lost: Vec<Lost>,
     /// For each line above its floor, the last store that it has.
     pub kept: Vec<Kept>,
+    /// For each lost store what would have made it durable in time, each thing once; where none is lost, the kept store that comes too
+    /// early.
+    pub mends: Vec<Mend>,
 }
 
-/// The lost and the kept ones of these lines of a cut of the moment, in the order in which they are given. The events name lines
-/// below `lines`.
+/// The lost and the kept ones of these lines of a cut of the moment, in the order in which they are given, and what would have made the
+/// lost stores durable in time. The events name lines below `lines`.
 pub fn tell_cut(
     alloc: Global,
     trace: &Trace,
@@ -55,12 +60,15 @@ pub fn tell_cut(
     requires moment { moment ≤ length trace.now.events }
     ensures lost { IfOk result (λ told. AreGiven (IsLostOf trace.now.events moment) cut.now told.lost.items) }
     ensures kept { IfOk result (λ told. AreGiven (IsKeptOf trace.now.events moment) cut.now told.kept.items) }
+    ensures mends { IfOk result (λ told.
+        AreMends trace.now.events moment told.lost.items told.kept.items told.mends.items) }
 {
     let events = trace.events();
     let fates = fates_of(alloc, events, lines)?;
     let lost = lost_lines(alloc, events, &fates, moment, cut)?;
     let kept = kept_lines(alloc, events, &fates, moment, cut)?;
-    Ok(ToldCut { lost, kept })
+    let mends = mends_of(alloc, events, moment, &lost, &kept)?;
+    Ok(ToldCut { lost, kept, mends })
 }
 
 fn lost_lines(
@@ -173,7 +181,7 @@ fn store_past(events: &[Event], moment: u32, line: u32, number: u32) -> Option<u
 }
 
 /// Whether the event is a store of the line.
-fn stores_line(event: Event, line: u32) -> bool
+pub(crate) fn stores_line(event: Event, line: u32) -> bool
     ensures { result ≡ is_store_of line event }
 {
     match event {

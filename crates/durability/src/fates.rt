@@ -1,11 +1,10 @@
 //! The fates of all stores of a run, by one pass from the last event to the first.
 
-ghost use Rattle.durability.specs.Causes.{AreFates, AreNext, IsFate};
-ghost use Rattle.durability.specs.Numbered.{earlier_of};
+ghost use Rattle.durability.specs.Causes.{AreFates, AreNext, IsFate, first_completion};
 ghost use Rattle.std.specs.Prelude.{◌≡◌, ℕ, ◌+◌, ◌<◌, ◌≤◌, length, All, IfOk, slice_get, slice_index_or};
 ghost use Rattle.store_trace.specs.TraceView.{IsEvent, NamesLine};
 
-use crate::cause::Fate;
+use crate::cause::{Completion, Fate};
 use std::alloc::{AllocError, Global};
 use store_trace::{Event, MAX_HARTS};
 
@@ -50,9 +49,11 @@ fn read(events: &[Event], at: usize, fences: &mut [Option<u32>; MAX_HARTS], next
     let number = at as u32 + 1;
     match events[at] {
         Event::Clean { hart, line } => {
+            let later = next[line as usize].completion;
             next[line as usize] = Fate {
                 clean: Some(number),
-                fence: earlier(next[line as usize].fence, fences[hart as usize]),
+                hart,
+                completion: first_completion(later, number, fences[hart as usize]),
             };
         }
         Event::Fence { hart } => fences[hart as usize] = Some(number),
@@ -60,13 +61,13 @@ fn read(events: &[Event], at: usize, fences: &mut [Option<u32>; MAX_HARTS], next
     }
 }
 
-/// The lower of two numbers, where there is one.
-fn earlier(one: Option<u32>, other: Option<u32>) -> Option<u32>
-    ensures { result ≡ earlier_of one other }
+/// The first completion: of the first one of later cleans and that of this clean by this fence, where there is one.
+fn first_completion(later: Option<Completion>, clean: u32, fence: Option<u32>) -> Option<Completion>
+    ensures { result ≡ first_completion later clean fence }
 {
-    match (one, other) {
-        (Some(one), Some(other)) => Some(one.min(other)),
-        (None, other) => other,
-        (one, None) => one,
+    match (later, fence) {
+        (later, None) => later,
+        (Some(later), Some(fence)) if later.fence < fence => Some(later),
+        (_, Some(fence)) => Some(Completion { clean, fence }),
     }
 }

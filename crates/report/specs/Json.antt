@@ -10,6 +10,10 @@ use Rattle.report.specs.Places.{line_end}
 use Rattle.report.specs.declared.events.PlacedEvent.{PlacedEvent}
 use Rattle.report.specs.declared.place.CodePlace.{CodePlace}
 
+-- no value
+abbrev pub null : List ℕ
+null = codes "null"
+
 -- `N`, or `null` where there is none
 abbrev pub number_or_null : Option ℕ → List ℕ
 number_or_null None = codes "null"

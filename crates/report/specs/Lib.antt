@@ -6,6 +6,9 @@ pub mod LossesEvents
 pub mod LossesCauses
 pub mod LossesJson
 pub mod Named
+pub mod Mends
+pub mod Answers
+pub mod MendsJson
 pub mod Unpersisted
 pub mod Why
 pub mod Uses

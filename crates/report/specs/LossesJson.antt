@@ -2,23 +2,20 @@
 use Rattle.std.specs.Prelude.{ℕ, ◌==◌, List, [], ◌++◌, Option, Some, None, codes, decimal, if◌then◌else◌}
 use Rattle.std.specs.List.{flat_map}
 use Rattle.durability.specs.declared.cause.Cause.{Cause}
-use Rattle.durability.specs.declared.cause.Cause.TheVariants.{NeverCleaned, CleanedTooLate, NeverFenced, FencedTooLate}
+use Rattle.durability.specs.declared.cause.Cause.TheVariants.{NeverCleaned, CleanedTooLate, NeverFenced, FencedTooLate, FencedByAnother}
 use Rattle.durability.specs.declared.cut.Kept.{Kept}
 use Rattle.durability.specs.declared.cut.Lost.{Lost}
 use Rattle.durability.specs.declared.cut.ToldCut.{ToldCut}
 use Rattle.durability.specs.declared.ends.EndLoss.{EndLoss}
 use Rattle.durability.specs.declared.ends.Unpersisted.{Unpersisted}
-use Rattle.report.specs.Json.{object_end, pc_members}
+use Rattle.report.specs.Json.{null, object_end, pc_members}
 use Rattle.report.specs.declared.place.Place.{Place}
 use Rattle.machine.specs.declared.run_trace.traced_event.TracedEvent.{TracedEvent}
 use Rattle.machine.specs.Joined.{joined, text_of}
 use Rattle.machine.specs.declared.schedule.items.Item.{Item}
 use Rattle.report.specs.LossesEvents.{place_in}
+use Rattle.report.specs.MendsJson.{mend_object}
 use Rattle.report.specs.Unpersisted.{count_of}
-
--- no value
-abbrev pub null : List ℕ
-null = codes "null"
 
 -- `{"event":N,"hart":H,"pc":"0xP","source_line":L}`; each but N is `null` where the run has no such event
 abbrev pub object_of : ℕ → Option Place → List ℕ
@@ -30,16 +27,19 @@ object_of number (Some place) = codes "{\"event\":" ++ (decimal number
 abbrev pub event_object : (ℕ → Option ℕ) → List TracedEvent → ℕ → List ℕ
 event_object lines traced n = object_of n (place_in lines traced n)
 
--- the members that tell a cause: its words, and the objects of its clean and of its fence
-abbrev pub members_of : List ℕ → List ℕ → List ℕ → List ℕ
-members_of words clean fence = codes "\"cause\":\"" ++ (words ++ (codes "\",\"clean\":" ++ (clean ++ (codes ",\"fence\":" ++ fence))))
+-- the members that tell a cause: its words, and the objects of its clean, of another hart's clean that the fence completes, and of its fence
+abbrev pub members_of : List ℕ → List ℕ → List ℕ → List ℕ → List ℕ
+members_of words clean completed fence = codes "\"cause\":\"" ++ (words ++ (codes "\",\"clean\":" ++ (clean
+    ++ (codes ",\"completed\":" ++ (completed ++ (codes ",\"fence\":" ++ fence))))))
 
 -- why a store can be lost, by the object of each event
 abbrev pub cause_members : (ℕ → List ℕ) → Cause → List ℕ
-cause_members event NeverCleaned = members_of (codes "never cleaned") null null
-cause_members event (CleanedTooLate clean) = members_of (codes "cleaned too late") (event clean) null
-cause_members event (NeverFenced clean) = members_of (codes "never fenced") (event clean) null
-cause_members event (FencedTooLate clean fence) = members_of (codes "fenced too late") (event clean) (event fence)
+cause_members event NeverCleaned = members_of (codes "never cleaned") null null null
+cause_members event (CleanedTooLate clean) = members_of (codes "cleaned too late") (event clean) null null
+cause_members event (NeverFenced clean) = members_of (codes "never fenced") (event clean) null null
+cause_members event (FencedTooLate clean fence) = members_of (codes "fenced too late") (event clean) null (event fence)
+cause_members event (FencedByAnother clean hart completed fence) =
+    members_of (codes "fenced too late") (event clean) (event completed) (event fence)
 
 -- `"cache_line":L,"store":E` and the cause
 abbrev pub loss_members : (ℕ → List ℕ) → Lost → List ℕ
@@ -81,7 +81,7 @@ unread_object unread =
 abbrev pub schedule_object : List Item → List ℕ
 schedule_object schedule = codes "{\"kind\":\"schedule\",\"items\":\"" ++ (text_of (joined schedule) ++ (codes "\"" ++ object_end))
 
--- an object for each lost line and for each kept one, the number of the others, and the schedule
+-- an object for each lost line, for each kept one and for each mend, the number of the other lines, and the schedule
 abbrev pub why_json : (ℕ → List ℕ) → ToldCut → ℕ → List Item → List ℕ
-why_json event told unread schedule = flat_map (lost_object [] event) told.lost.items
-    ++ (flat_map (kept_object event) told.kept.items ++ (unread_object unread ++ schedule_object schedule))
+why_json event told unread schedule = flat_map (lost_object [] event) told.lost.items ++ (flat_map (kept_object event) told.kept.items
+    ++ (flat_map (mend_object event) told.mends.items ++ (unread_object unread ++ schedule_object schedule)))

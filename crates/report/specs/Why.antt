@@ -8,6 +8,7 @@ use Rattle.report.specs.Places.{line_end}
 use Rattle.machine.specs.Joined.{joined, text_of}
 use Rattle.machine.specs.declared.schedule.items.Item.{Item}
 use Rattle.report.specs.LossesCauses.{loss_text}
+use Rattle.report.specs.Mends.{mend_line}
 
 -- `lost lL store E AT: CAUSE`
 abbrev pub lost_line : (ℕ → List ℕ) → Lost → List ℕ
@@ -32,7 +33,7 @@ spaced (x ∷ xs) = 32 ∷ x ∷ xs
 abbrev pub schedule_line : List Item → List ℕ
 schedule_line schedule = codes "schedule" ++ (spaced (text_of (joined schedule)) ++ line_end)
 
--- the lost lines, the kept lines, the number of the others, and the schedule
+-- the lost lines, the kept lines, the mends, the number of the other lines, and the schedule
 abbrev pub why_text : (ℕ → List ℕ) → ToldCut → ℕ → List Item → List ℕ
-why_text event told unread schedule = flat_map (lost_line event) told.lost.items
-    ++ (flat_map (kept_line event) told.kept.items ++ (unread_line unread ++ schedule_line schedule))
+why_text event told unread schedule = flat_map (lost_line event) told.lost.items ++ (flat_map (kept_line event) told.kept.items
+    ++ (flat_map (mend_line event) told.mends.items ++ (unread_line unread ++ schedule_line schedule)))

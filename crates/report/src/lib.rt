@@ -1,6 +1,7 @@
 //! What is printed of a run: its events, each with its place in the program, and what keeps it from being whole.
 #![tactic(auto)]
 
+mod answer;
 mod causes;
 mod disassembly;
 mod events;
@@ -11,6 +12,7 @@ mod picture;
 mod place;
 mod redundant;
 
+pub use answer::answer_text;
 pub use causes::unfinished_text;
 pub use disassembly::listing_text;
 pub use events::{PlacedEvent, hart_of, trace_text};

@@ -4,6 +4,7 @@ mod cause;
 mod event;
 mod json;
 mod loss;
+mod mend;
 mod objects;
 mod unpersisted;
 mod why;

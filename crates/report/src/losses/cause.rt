@@ -27,6 +27,12 @@ pub(crate) enum NamedCause {
         clean: NamedEvent,
         fence: NamedEvent,
     },
+    FencedByAnother {
+        clean: NamedEvent,
+        hart: u32,
+        completed: NamedEvent,
+        fence: NamedEvent,
+    },
 }
 
 impl fmt::Display for NamedCause {
@@ -43,6 +49,15 @@ impl fmt::Display for NamedCause {
             NamedCause::FencedTooLate { clean, fence } => {
                 write!(f, "cleaned {clean}, fenced {fence}, too late")
             }
+            NamedCause::FencedByAnother {
+                clean,
+                hart,
+                completed,
+                fence,
+            } => write!(
+                f,
+                "cleaned {clean}, not fenced by h{hart}; cleaned {completed}, fenced {fence}, too late"
+            ),
         }
     }
 }
@@ -62,6 +77,17 @@ pub(crate) fn named_cause(cause: Cause, traced: &[TracedEvent], places: &Places)
         },
         Cause::FencedTooLate { clean, fence } => NamedCause::FencedTooLate {
             clean: named_event(clean, traced, places),
+            fence: named_event(fence, traced, places),
+        },
+        Cause::FencedByAnother {
+            clean,
+            hart,
+            completed,
+            fence,
+        } => NamedCause::FencedByAnother {
+            clean: named_event(clean, traced, places),
+            hart,
+            completed: named_event(completed, traced, places),
             fence: named_event(fence, traced, places),
         },
     }

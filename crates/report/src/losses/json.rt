@@ -1,6 +1,7 @@
 //! What is printed of stores that a power cut may lose as JSON (RFC 8259): an object a line.
 
 ghost use Rattle.report.specs.LossesJson.{end_object, event_object, kept_object, lost_object, schedule_object, unpersisted_json, unread_object, why_json};
+ghost use Rattle.report.specs.MendsJson.{mend_object};
 ghost use Rattle.report.specs.Named.{due_members};
 ghost use Rattle.report.specs.Places.{line_in};
 ghost use Rattle.machine.specs.Grammar.{hart_steps};
@@ -10,10 +11,11 @@ ghost use Rattle.std.specs.Prelude.{◌≡◌, ◌++◌, ◌^◌, ◌<◌, IfOk,
 use crate::Places;
 use crate::losses::event::named_event;
 use crate::losses::loss::named_loss;
+use crate::losses::mend::{MendMembers, named_mend};
 use crate::losses::objects::{Due, EventObject, LossMembers};
 use crate::losses::unpersisted::count_of;
 use crate::losses::why::items_text;
-use durability::{EndLoss, Kept, Lost, ToldCut, Unpersisted};
+use durability::{EndLoss, Kept, Lost, Mend, ToldCut, Unpersisted};
 use machine::{Schedule, TracedEvent};
 use std::alloc::{AllocError, Global};
 use std::fmt::Write;
@@ -22,7 +24,7 @@ use std::fmt::Write;
 /// `null` for its operation, and then one with the number of these, each on a line of its own, as JSON of RFC 8259:
 ///
 /// ```text
-/// {"kind":"lost","operation":"1","end":9,"cache_line":1,"store":E,"cause":"never cleaned","clean":null,"fence":null}
+/// {"kind":"lost","operation":"1","end":9,"cache_line":1,"store":E,"cause":"never cleaned","clean":null,"completed":null,"fence":null}
 /// {"kind":"unpersisted","stores":1}
 /// ```
 ///
@@ -44,12 +46,13 @@ pub fn unpersisted_json(
     Ok(text)
 }
 
-/// An object for each lost store and then for each kept one, one with the number of lines that recovery doesn't read and that lack a
-/// store where some do, and one with the schedule that leaves the image, each on a line of its own, as JSON of RFC 8259:
+/// An object for each lost store, for each kept one and for each mend, one with the number of lines that recovery doesn't read and that lack
+/// a store where some do, and one with the schedule that leaves the image, each on a line of its own, as JSON of RFC 8259:
 ///
 /// ```text
-/// {"kind":"lost","cache_line":256,"store":E,"cause":"fenced too late","clean":E,"fence":E}
+/// {"kind":"lost","cache_line":256,"store":E,"cause":"fenced too late","clean":E,"completed":null,"fence":E}
 /// {"kind":"kept","cache_line":1,"store":E}
+/// {"kind":"mend","mend":"fence","cache_line":null,"behind":E,"before":E,"deadline":"kept","operation":null,"store":null}
 /// {"kind":"schedule","items":"h0*13 e1"}
 /// ```
 ///
@@ -69,6 +72,7 @@ pub fn why_json(
     let mut text = String::new(alloc);
     tell_losses(&mut text, Due::AtTheCut, &told.lost, traced, places)?;
     tell_kept(&mut text, &told.kept, traced, places)?;
+    tell_mends(&mut text, &told.mends, traced, places)?;
     tell_unread(&mut text, unread)?;
     tell_schedule(alloc, &mut text, schedule)?;
     Ok(text)
@@ -146,6 +150,25 @@ fn tell_kept(
             text,
             "{{\"kind\":\"kept\",\"cache_line\":{line},\"store\":{store}}}"
         )?;
+    }
+    Ok(())
+}
+
+#[tactic(auto, using(crate::proofs::LossesLines::lines_all))]
+fn tell_mends(
+    text: &mut String,
+    mends: &[Mend],
+    traced: &[TracedEvent],
+    places: &Places,
+) -> Result<(), AllocError>
+    ensures { OnOk result (string_bytes text.new
+        ≡ string_bytes text.old ++ flat_map (mend_object (event_object (line_in places.now) traced.now)) mends.now) }
+{
+    for one in mends {
+        let mend = MendMembers {
+            mend: named_mend(*one, traced, places),
+        };
+        writeln!(text, "{{\"kind\":\"mend\",{mend}}}")?;
     }
     Ok(())
 }

@@ -34,7 +34,7 @@ impl fmt::Display for EventObject {
     }
 }
 
-/// A cause as members of an object: `"cause":"never fenced","clean":E,"fence":null`, E being the object of an event.
+/// A cause as members of an object: `"cause":"never fenced","clean":E,"completed":null,"fence":null`, E being the object of an event.
 #[derive(Clone, Copy)]
 struct CauseMembers {
     cause: NamedCause,
@@ -50,22 +50,34 @@ impl fmt::Display for CauseMembers {
         match self.cause {
             NamedCause::NeverCleaned => write!(
                 f,
-                "\"cause\":\"never cleaned\",\"clean\":null,\"fence\":null"
+                "\"cause\":\"never cleaned\",\"clean\":null,\"completed\":null,\"fence\":null"
             ),
             NamedCause::CleanedTooLate { clean } => write!(
                 f,
-                "\"cause\":\"cleaned too late\",\"clean\":{},\"fence\":null",
+                "\"cause\":\"cleaned too late\",\"clean\":{},\"completed\":null,\"fence\":null",
                 EventObject { event: clean }
             ),
             NamedCause::NeverFenced { clean } => write!(
                 f,
-                "\"cause\":\"never fenced\",\"clean\":{},\"fence\":null",
+                "\"cause\":\"never fenced\",\"clean\":{},\"completed\":null,\"fence\":null",
                 EventObject { event: clean }
             ),
             NamedCause::FencedTooLate { clean, fence } => write!(
                 f,
-                "\"cause\":\"fenced too late\",\"clean\":{},\"fence\":{}",
+                "\"cause\":\"fenced too late\",\"clean\":{},\"completed\":null,\"fence\":{}",
                 EventObject { event: clean },
+                EventObject { event: fence }
+            ),
+            NamedCause::FencedByAnother {
+                clean,
+                completed,
+                fence,
+                ..
+            } => write!(
+                f,
+                "\"cause\":\"fenced too late\",\"clean\":{},\"completed\":{},\"fence\":{}",
+                EventObject { event: clean },
+                EventObject { event: completed },
                 EventObject { event: fence }
             ),
         }

@@ -2,6 +2,7 @@
 
 ghost use Rattle.report.specs.LossesCauses.{loss_text};
 ghost use Rattle.report.specs.LossesEvents.{event_text};
+ghost use Rattle.report.specs.Mends.{mend_line};
 ghost use Rattle.report.specs.Why.{kept_line, lost_line, schedule_line, unread_line, why_text};
 ghost use Rattle.report.specs.Places.{line_in};
 ghost use Rattle.machine.specs.Grammar.{hart_steps};
@@ -12,17 +13,19 @@ ghost use Rattle.std.specs.Prelude.{◌≡◌, ◌++◌, ◌^◌, ◌<◌, IfOk,
 use crate::Places;
 use crate::losses::event::named_event;
 use crate::losses::loss::named_loss;
-use durability::{Kept, Lost, ToldCut};
+use crate::losses::mend::named_mend;
+use durability::{Kept, Lost, Mend, ToldCut};
 use machine::{Schedule, ScheduleFault, TracedEvent};
 use std::alloc::{AllocError, Global};
 use std::fmt::Write;
 
-/// A line for each lost store and then for each kept one, how many lines that recovery doesn't read lack a store where some do, and
-/// the schedule that leaves the image:
+/// A line for each lost store, for each kept one and for each mend, how many lines that recovery doesn't read lack a store where some do,
+/// and the schedule that leaves the image:
 ///
 /// ```text
 /// lost l256 store 2 h0 pc=0x10018 line=7: cleaned 5 h0 pc=0x10028 line=11, fenced 8 h0 pc=0x1003c line=16, too late
 /// kept l1 store 6 h0 pc=0x10030 line=13: if evicted
+/// mend: a fence behind 5 h0 pc=0x10028 line=11 and before 6 h0 pc=0x10030 line=13 (kept)
 /// schedule h0*13 e1
 /// ```
 pub fn why_text(
@@ -40,6 +43,7 @@ pub fn why_text(
     let mut text = String::new(alloc);
     tell_lost(&mut text, &told.lost, traced, places)?;
     tell_kept(&mut text, &told.kept, traced, places)?;
+    tell_mends(&mut text, &told.mends, traced, places)?;
     tell_unread(&mut text, unread)?;
     tell_schedule(alloc, &mut text, schedule)?;
     Ok(text)
@@ -75,6 +79,23 @@ fn tell_kept(
     for one in kept {
         let store = named_event(one.store, traced, places);
         writeln!(text, "kept l{} store {store}: if evicted", one.line)?;
+    }
+    Ok(())
+}
+
+#[tactic(auto, using(crate::proofs::LossesLines::lines_more, crate::proofs::LossesLines::lines_all))]
+fn tell_mends(
+    text: &mut String,
+    mends: &[Mend],
+    traced: &[TracedEvent],
+    places: &Places,
+) -> Result<(), AllocError>
+    ensures { OnOk result (string_bytes text.new
+        ≡ string_bytes text.old ++ flat_map (mend_line (event_text (line_in places.now) traced.now)) mends.now) }
+{
+    for one in mends {
+        let mend = named_mend(*one, traced, places);
+        writeln!(text, "mend: {mend}")?;
     }
     Ok(())
 }

@@ -11,7 +11,7 @@ returns-in-Clean c =
     let named = rw c.in-Clean.is at (c.requires.named c.args.at none c.requires.there) in
     let hart = rw c.in-Clean.is at (c.requires.each c.args.at none c.requires.there) in
     let here = event_here c.args.events.now c.args.at none _ c.requires.there c.in-Clean.is in
-    rw c.earlier.ensures
+    rw c.first_completion.ensures
     (next_cleaned c.args.events.now c.args.at c.in-Clean.hart c.in-Clean.line c.args.fences.now c.args.next.now _ _ here hart named c.requires.after)
 
 pub returns-in-Fence : goal.returns-in-Fence

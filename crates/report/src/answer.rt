@@ -1,0 +1,53 @@
+//! What is printed of the answer of a recovery routine.
+
+ghost use Rattle.report.specs.Answers.{answer_text, digits_text};
+ghost use Rattle.report.specs.Rows.{two_digits};
+ghost use Rattle.std.specs.Prelude.{◌≡◌, ◌++◌, IfOk, OnOk, string_bytes, take};
+
+use std::alloc::{AllocError, Global};
+use std::fmt::Write;
+
+/// How many bytes of an answer are printed.
+const SHOWN_BYTES: usize = 64;
+
+/// How many bytes an answer has, and the first 64 of them in hexadecimal: `8 bytes 0500000000000000`.
+pub fn answer_text(alloc: Global, answer: &[u8]) -> Result<String, AllocError>
+    ensures { IfOk result (λ text. string_bytes text ≡ answer_text answer.now) }
+{
+    let digits = digits_text(alloc, shown(answer))?;
+    let count = answer.len();
+    if digits.is_empty() {
+        format!(in alloc; "{count} bytes")
+    } else {
+        format!(in alloc; "{count} bytes {digits}")
+    }
+}
+
+/// Of so many bytes the first ones that are printed.
+fn shown(answer: &[u8]) -> &[u8]
+    ensures { result.now ≡ take 64 answer.now }
+{
+    if answer.len() > SHOWN_BYTES {
+        &answer[..SHOWN_BYTES]
+    } else {
+        answer
+    }
+}
+
+#[tactic(auto, using(crate::proofs::MediumLines::lines_more, crate::proofs::MediumLines::lines_all))]
+fn digits_text(alloc: Global, bytes: &[u8]) -> Result<String, AllocError>
+    ensures { IfOk result (λ text. string_bytes text ≡ digits_text bytes.now) }
+{
+    let mut text = String::new(alloc);
+    for byte in bytes {
+        tell_digits(&mut text, *byte)?;
+    }
+    Ok(text)
+}
+
+#[tactic(auto, using(std::proofs::lemmas::Fmt::hex_byte))]
+fn tell_digits(text: &mut String, byte: u8) -> Result<(), AllocError>
+    ensures { OnOk result (string_bytes text.new ≡ string_bytes text.old ++ two_digits byte) }
+{
+    write!(text, "{byte:02x}")
+}
