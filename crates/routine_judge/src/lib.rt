@@ -8,6 +8,7 @@
 mod answer_images;
 mod bytes;
 mod cause;
+mod cuts;
 mod fault;
 mod full_image;
 mod history;
@@ -22,6 +23,7 @@ mod window;
 
 pub use answer_images::AnswerImages;
 pub use cause::Cause;
+pub use cuts::closed_boxes_stay_recovered;
 pub use fault::JudgeFault;
 pub use history::{
     MarkFault, Window, Windows, alone_is_the_only_one, check_marks, is_judged, one_window,
