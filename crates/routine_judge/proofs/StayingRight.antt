@@ -1,5 +1,5 @@
 -- A moment whose images lie in closed boxes stays right.
-use Rattle.std.proofs.Common.{◌≡◌, ℕ, ◌≤◌, List, Option, Some, None}
+use Rattle.std.proofs.Common.{ℕ, List, Some, None}
 use Rattle.recovery.proofs.Staying.{closed_stays, closed_to_stays}
 use Rattle.recovery.specs.Closed.{AreClosed, AreClosedTo, BoundBox, IsCovered}
 use Rattle.store_trace.specs.Cut.{IsCutImage}

@@ -1,6 +1,6 @@
 -- What power cuts leave of a moment, also those while recovery runs or after it has ended, and what is right then.
 -- Source: durable linearizability (Izraelevitz, Mendes, Scott, DISC 2016): until a recovery has ended nothing was shown, and what it then shows stays.
-use Rattle.std.specs.Prelude.{◌≡◌, ℕ, ◌≤◌, List, Option, Some, None}
+use Rattle.std.specs.Prelude.{ℕ, ◌≤◌, List, Option, Some, None}
 use Rattle.recovery.specs.Cuts.{AnswersWell, IsLeft}
 use Rattle.store_trace.specs.Cut.{IsCutImage}
 use Rattle.store_trace.specs.History.{at_moment}
