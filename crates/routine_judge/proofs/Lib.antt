@@ -21,3 +21,4 @@ pub mod Sequencing
 pub mod Entering
 pub mod Judged
 pub mod Equal
+pub mod StayingRight

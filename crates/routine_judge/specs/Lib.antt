@@ -15,3 +15,4 @@ pub mod Codes
 pub mod Order
 pub mod Fitting
 pub mod SequentialRuns
+pub mod CutsInRecovery

@@ -8,6 +8,7 @@
 mod answer_images;
 mod bytes;
 mod cause;
+mod cuts;
 mod fault;
 mod full_image;
 mod held;
@@ -23,6 +24,7 @@ mod window;
 
 pub use answer_images::AnswerImages;
 pub use cause::Cause;
+pub use cuts::closed_boxes_stay_recovered;
 pub use fault::JudgeFault;
 pub use held::HeldAnswer;
 pub use history::{
