@@ -23,3 +23,4 @@ pub mod Words
 pub mod Begun
 pub mod Listing
 pub mod Picturing
+pub mod Entries
