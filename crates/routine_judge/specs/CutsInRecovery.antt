@@ -4,7 +4,7 @@ use Rattle.std.specs.Prelude.{ℕ, ◌≤◌, List, Option, Some, None}
 use Rattle.recovery.specs.Cuts.{AnswersWell, IsLeft}
 use Rattle.store_trace.specs.Cut.{IsCutImage}
 use Rattle.store_trace.specs.History.{at_moment}
-use Rattle.routine_judge.specs.RightAnswers.{IsRightOf, is_among}
+use Rattle.routine_judge.specs.RightAnswers.{IsRightOf, of_window}
 use Rattle.routine_judge.specs.Views.{JudgeView}
 use Rattle.routine_judge.specs.Windows.{IsWindow}
 use Rattle.routine_judge.specs.declared.history.moments.Window.{Window}
@@ -23,4 +23,4 @@ pub record StaysRight (view : JudgeView) (most : Option ℕ) (m : ℕ) : Type 0 
   pub window : Window
   pub is_window : IsWindow view.events m window
   pub answers : (cuts : ℕ) (image : List (List ℕ)) (shown : Option (List ℕ)) → IsAllowed most cuts → Left view m cuts image shown
-      → AnswersWell view.routine view.steps (IsRightOf view (is_among window m)) image shown
+      → AnswersWell view.routine view.steps (IsRightOf view (of_window window m)) image shown

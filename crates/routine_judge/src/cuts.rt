@@ -2,7 +2,7 @@
 
 ghost use Rattle.recovery.specs.Closed.{AreClosed, AreClosedTo, BoundBox, IsCovered};
 ghost use Rattle.routine_judge.specs.CutsInRecovery.{StaysRight};
-ghost use Rattle.routine_judge.specs.RightAnswers.{IsRightOf, is_among};
+ghost use Rattle.routine_judge.specs.RightAnswers.{IsRightOf, of_window};
 ghost use Rattle.routine_judge.specs.Views.{JudgeView};
 ghost use Rattle.routine_judge.specs.Windows.{IsWindow};
 ghost use Rattle.routine_judge.specs.declared.history.moments.Window.{Window as AWindow};
@@ -16,8 +16,8 @@ ghost use Rattle.store_trace.specs.History.{at_moment};
 pub fn closed_boxes_stay_recovered()
     ensures any { (view : JudgeView) (m : ℕ) (window : AWindow) (boxes : List BoundBox) → IsWindow view.events m window →
         ((image : List (List ℕ)) → IsCutImage view.start (at_moment view.events m) image → IsCovered boxes 0 image None) →
-        AreClosed view.routine view.steps (IsRightOf view (is_among window m)) boxes → StaysRight view None m }
+        AreClosed view.routine view.steps (IsRightOf view (of_window window m)) boxes → StaysRight view None m }
     ensures counted { (view : JudgeView) (m most : ℕ) (window : AWindow) (boxes : List BoundBox) → IsWindow view.events m window →
         ((image : List (List ℕ)) → IsCutImage view.start (at_moment view.events m) image → IsCovered boxes 0 image None) →
-        AreClosedTo view.routine view.steps (IsRightOf view (is_among window m)) most boxes → StaysRight view (Some most) m }
+        AreClosedTo view.routine view.steps (IsRightOf view (of_window window m)) most boxes → StaysRight view (Some most) m }
 {}
