@@ -1,7 +1,7 @@
 //! The lines of an image of which a recovery routine asks bytes.
 
 ghost use Rattle.crash_test.specs.Loading.{IsLoaded, lines_of};
-ghost use Rattle.std.specs.Prelude.{◌≡◌, IfOk};
+ghost use Rattle.std.specs.Prelude.{◌≡◌, length, IfOk};
 
 use crate::image_causes::Reader;
 use line_memory::Medium;
@@ -27,10 +27,23 @@ impl Reader for RoutineReader<'_> {
         let Ok(mut routine) = Routine::new(alloc, program, image.lines()) else {
             return Err(AllocError);
         };
-        // also a run without an answer asks lines
-        let _ = routine.run(alloc, image, self.steps)?;
-        lines_of(alloc, routine.asked())
+        lines_asked(alloc, &mut routine, image, self.steps)
     }
+}
+
+/// The lines that the routine's run on an image asks, in the order in which it asks them.
+fn lines_asked(
+    alloc: Global,
+    routine: &mut Routine,
+    image: &Medium,
+    steps: u32,
+) -> Result<Vec<u32>, AllocError>
+    requires { length image.now ≡ routine.old.lines }
+    ensures { IfOk result (λ lines. IsLoaded routine.old.program steps image.now lines.items) }
+{
+    // also a run without an answer asks lines
+    let _ = routine.run(alloc, image, steps)?;
+    lines_of(alloc, routine.asked())
 }
 
 /// The lines of what is asked, each as often as it is asked.
