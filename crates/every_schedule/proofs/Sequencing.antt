@@ -1,6 +1,6 @@
 -- Sequential runs, as a search follows and notes them.
-use Rattle.std.proofs.Common.{◌≡◌, ◌⊎◌, inl, inr, ℕ, ◌+◌, false, List, [], ◌∷◌, ◌++◌, Option, Some, None, length, slice_get, sym, ap, ◌∙◌, subst, arith}
-use Rattle.std.specs.Prelude.{IfNone, IfSome}
+use Rattle.std.proofs.Common.{◌≡◌, ◌⊎◌, inl, inr, ℕ, ◌+◌, Bool, true, false, true≢false, List, [], ◌∷◌, ◌++◌, Option, Some, None, length, slice_get, sym, ap, ◌∙◌, subst, arith}
+use Rattle.std.specs.Prelude.{◌↔◌, IfNone, IfSome, IsTrue, Result}
 use Rattle.std.proofs.Math.Seq.{get_or-append_seam, take-append_seam}
 use Rattle.std.specs.List.{Contains}
 use Rattle.std.proofs.lemmas.List.{length-append}
@@ -12,11 +12,14 @@ use Rattle.machine.specs.Replies.{trace_in}
 use Rattle.machine.specs.Run.{Config, RunsTo, started}
 use Rattle.machine.specs.declared.schedule.items.Step.{Step}
 use Rattle.machine.specs.declared.schedule.items.Step.TheVariants.{Hart}
+use Rattle.program.specs.Sections.{Sections}
 use Rattle.recovery.specs.Images.{AnswersOn}
+use Rattle.recovery.specs.declared.recovery_run.Cause.{Cause}
 use Rattle.routine_judge.specs.Fitting.{IsSequential, IsStateOf, IsWordOf}
 use Rattle.routine_judge.specs.MarkFaults.{AreSound, HasFault}
+use Rattle.routine_judge.specs.Operations.{IsPendingBy}
 use Rattle.routine_judge.specs.Order.{AreAtRest}
-use Rattle.routine_judge.specs.SequentialRuns.{AreSequentialRuns, IsNoteOf, IsSequentialRun, IsSequentialRunOf}
+use Rattle.routine_judge.specs.SequentialRuns.{AreSequentialRuns, IsNoteOf, IsSameNote, IsSequentialRun, IsSequentialRunOf}
 use Rattle.routine_judge.specs.Views.{ProgramView}
 use Rattle.routine_judge.specs.declared.history.fault.MarkFault.{MarkFault}
 use Rattle.routine_judge.specs.declared.order.sequential.SequentialState.{SequentialState}
@@ -24,9 +27,9 @@ use Rattle.routine_judge.specs.declared.order.sequential_runs.SequentialRun.{Seq
 use Rattle.routine_judge.specs.declared.order.word.Word.{Word}
 use Rattle.schedule_states.specs.Happening.{HasHappened, IsLed, full_image}
 use Rattle.schedule_states.specs.Images.{image_in}
-use Rattle.schedule_states.specs.Judging.{AlwaysGood, AreGoodImages}
+use Rattle.schedule_states.specs.Judging.{AlwaysGood, AreGoodImages, StaysGood}
 use Rattle.schedule_states.specs.Memories.{MemoryView}
-use Rattle.schedule_states.specs.Turns.{KeepsTo}
+use Rattle.schedule_states.specs.Turns.{KeepsTo, MayGo}
 use Rattle.store_trace.proofs.Bounds.{floor_le_stores}
 use Rattle.store_trace.specs.Cut.{IsWithin}
 use Rattle.store_trace.specs.History.{history}
@@ -136,3 +139,59 @@ all_noted view notes good are = record {
       (good run.steps end run.runs (keeps_to start end run)).1 (λ l. stores l (history events)) (full_within (history events)) run.sound run.rests in
       (noted.0, noted.1, record { word = noted.2; shows = noted.3 });
 }
+
+-- whose turn it may be, as a state says
+pub goes_on : (state : SequentialState) (hart : ℕ) (goes : Bool) →
+    ((events : List Event) → IsStateOf events state → IsTrue goes ↔ ((beginner op : ℕ) → IsPendingBy events beginner op → beginner ≡ hart)) → goes ≡ true →
+    MayGo IsKeptOf GoesOn (Some state) hart
+goes_on state hart goes tells told events is = record { sound = is.sound; alone = (tells events is).0 told }
+
+-- a wrong mark is one still after more events
+pub none_after : (events : List Event) (mark : Event) → IsKeptOf None events → IsKeptOf None (events ++ mark ∷ [])
+none_after events mark wrong sound = wrong (sound_front events (mark ∷ []) sound)
+
+-- a state that isn't at rest, as it says itself
+pub rests_not : (view : ProgramView) (m : MemoryView) (state : SequentialState) (notes : List SequentialRun) (rests : Bool) →
+    ((events : List Event) → IsStateOf events state → IsTrue rests ↔ AreAtRest events) → rests ≡ false →
+    AreGoodImages IsKeptOf (λ (events : List Event) (full image : List (List ℕ)). IsNoted view notes events full) m (Some state)
+rests_not view m state notes rests tells told =
+    unrest_noted view m (Some state) notes (λ events is sound rest. true≢false (sym ((tells events is).1 rest) ∙ told))
+
+-- what was noted is noted still
+pub still_noted : (view : ProgramView) (old new : List SequentialRun) → ((note : SequentialRun) → Contains old note → Contains new note) →
+    StaysGood (λ (events : List Event) (full image : List (List ℕ)). IsNoted view old events full)
+    (λ (events : List Event) (full image : List (List ℕ)). IsNoted view new events full)
+still_noted view old new kept events full image was sound rest =
+    let noted : (note : SequentialRun) × Contains old note × IsWordOf events note.word × AnswersOn view.routine view.steps full note.found = was sound rest in
+    (noted.0, kept noted.0 noted.1, noted.2, noted.3)
+
+-- a note that says the same is as new
+pub same_new : (recovery : Sections) (steps : ℕ) (lines : List (List ℕ)) (word : Word) (note same : SequentialRun) → IsSameNote same note →
+    IsNewNote recovery steps lines word note → IsNewNote recovery steps lines word same
+same_new recovery steps lines word note same alike is = record {
+  word_is = alike.word ∙ is.word_is;
+  shows = subst (λ (found : Result (List ℕ) Cause). AnswersOn recovery steps lines found) (sym alike.found) is.shows;
+}
+
+pub added_noted : (recovery : Sections) (steps : ℕ) (lines : List (List ℕ)) (word : Word) (note : SequentialRun) (new : List SequentialRun) →
+    IsNewNote recovery steps lines word note → ((same : SequentialRun) × Contains new same × IsSameNote same note) →
+    (same : SequentialRun) × Contains new same × IsNewNote recovery steps lines word same
+added_noted recovery steps lines word note new is there = (there.0, there.1, same_new recovery steps lines word note there.0 there.2 is)
+
+pub added_only : (recovery : Sections) (steps : ℕ) (lines : List (List ℕ)) (word : Word) (note : SequentialRun) (old new : List SequentialRun) →
+    IsNewNote recovery steps lines word note → ((other : SequentialRun) → Contains new other → Contains old other ⊎ (other ≡ note)) →
+    (other : SequentialRun) → Contains new other → Contains old other ⊎ IsNewNote recovery steps lines word other
+added_only recovery steps lines word note old new is only other among = elim (only other among) [
+  | inl before ↦ inl before
+  | inr added ↦ inr (subst (λ (n : SequentialRun). IsNewNote recovery steps lines word n) (sym added) is)
+]
+
+-- what was noted is true of a run, where the program that it was noted by is the routine
+pub noted_still : (view : ProgramView) (m : MemoryView) (state : SequentialState) (word : Word) (old new : List SequentialRun) (program : Sections) → program ≡ view.routine →
+    HasHappened IsKeptOf (λ (events : List Event) (lines : List (List ℕ)). IsOnItsWay view events lines) m (Some state) →
+    ((events : List Event) → IsStateOf events state → AreAtRest events) → ((events : List Event) → IsStateOf events state → AreAtRest events → IsWordOf events word) →
+    ((note : SequentialRun) → Contains new note → Contains old note ⊎ IsNewNote program view.steps (image_in m (λ l. 0)) word note) →
+    AreOfProgram view old → AreOfProgram view new
+noted_still view m state word old new program same happened rests worded only are =
+    noted_true view m state word old new happened rests worded
+    (λ note among. subst (λ (p : Sections). Contains old note ⊎ IsNewNote p view.steps (image_in m (λ l. 0)) word note) same (only note among)) are
