@@ -1,2 +1,4 @@
 pub mod EverySchedule
+pub mod KeptRuns
+pub mod Sequential
 pub mod Showing

@@ -8,9 +8,12 @@ mod checking;
 mod following;
 mod outcome;
 mod plan_judge;
+mod sequential;
+mod sequential_judge;
 mod showing;
 mod state_cuts;
 
 pub use checking::{Limits, check_all};
 pub use outcome::{Bound, Finding, Outcome};
 pub use schedule_states::{Unwatched, Watcher};
+pub use sequential::{Recovery, Sequential, sequential_runs};

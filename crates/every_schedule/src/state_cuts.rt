@@ -64,3 +64,58 @@ impl Images for StateCuts<'_, '_, '_> {
 
     ghost by_line = { λ s k other l same. s.by_line k other l same };
 }
+
+/// The image of a state of a search that loads find, as the only one.
+#[derive(Drop)]
+pub struct FullCuts<'a, 'b, 'c> {
+    cuts: StateCuts<'a, 'b, 'c>,
+}
+
+impl<'a, 'b, 'c> FullCuts<'a, 'b, 'c> {
+    pub fn new(images: &'a StateImages<'b, 'c>) -> FullCuts<'a, 'b, 'c>
+        ensures { result.cuts.images.now ≡ images.now }
+    {
+        FullCuts {
+            cuts: StateCuts::new(images),
+        }
+    }
+}
+
+impl Images for FullCuts<'_, '_, '_> {
+    ghost use Rattle.schedule_states.specs.Images.{image_in};
+    ghost use Rattle.std.proofs.Common.{arith, refl};
+    ghost use Rattle.std.specs.Prelude.{length};
+
+    ghost lines = { λ s. length s.cuts.images.now.start.medium };
+
+    ghost low = { λ s l. 0 };
+
+    ghost high = { λ s l. 0 };
+
+    ghost image = { λ s k. image_in s.cuts.images.now (λ l. 0) };
+
+    fn lines(&self) -> u32 {
+        self.cuts.lines()
+    }
+
+    fn lowest(&self, _line: u32) -> u32 {
+        0
+    }
+
+    fn highest(&self, _line: u32) -> u32 {
+        0
+    }
+
+    #[tactic(auto, using(crate::proofs::Cutting::line_is))]
+    fn line(&self, line: u32, _number: u32) -> &[u8; 64] {
+        self.cuts.images.content(line, 0)
+    }
+
+    ghost ordered = { λ s l. Prim.omega arith };
+
+    ghost whole = { λ s k. s.cuts.whole (λ l. 0) };
+
+    ghost count = { λ s k. s.cuts.count (λ l. 0) };
+
+    ghost by_line = { λ s k other l same. refl };
+}
