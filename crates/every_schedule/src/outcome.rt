@@ -39,8 +39,6 @@ pub enum Finding {
 pub enum Bound {
     /// There are more states than were asked for.
     States,
-    /// Sequential runs alone have more states, or what a power cut may leave of one has too many contents of a line.
-    Sequential,
     /// A hart makes 100,000 steps without a request.
     Steps,
     /// What is wrong shows in no run that is known of at most 65,536 events.
