@@ -1,7 +1,7 @@
-//! Files that are loaded, and what is told of others; and what a loaded recovery routine answers.
+//! Files that are loaded, and what is told of others.
 
 use assemble::{AsmCode, AsmFault};
-use crash_test::{ProgramFault, answer_on, default_medium, load_program};
+use crash_test::{ProgramFault, load_program};
 use elf_file::ElfFault;
 use program::LoadFault;
 use std::alloc::Global;
@@ -81,37 +81,4 @@ fn other_files_are_refused(rt: HostRuntime) {
         fault_of_executable(rt.alloc(), &EXECUTABLE[..123]),
         Some(ElfFault::Truncated)
     );
-}
-
-/// A recovery routine that answers two bytes in its seventh step.
-const TWO_BYTES: &[u8] = b"\
- lui a1, 256\n\
- li t0, 7\n\
- sb t0, 1(a1)\n\
- li a2, 2\n\
- li a7, 93\n\
- li a0, 0\n\
- ecall\n";
-
-/// The two bytes that a routine answers on a medium of zeros within so many steps.
-fn answer_within(alloc: Global, steps: u32) -> Option<[u8; 2]> {
-    let Ok(recovery) = load_program(alloc, TWO_BYTES) else {
-        return None;
-    };
-    let Ok(medium) = default_medium(alloc) else {
-        return None;
-    };
-    match answer_on(alloc, recovery, &medium, steps) {
-        Ok(Ok(answer)) => match answer.bytes() {
-            [first, second] => Some([*first, *second]),
-            _ => None,
-        },
-        _ => None,
-    }
-}
-
-#[test]
-fn routines_answer_on_media(rt: HostRuntime) {
-    let found = (answer_within(rt.alloc(), 7), answer_within(rt.alloc(), 6));
-    assert_eq!(rt; found, (Some([0, 7]), None));
 }
