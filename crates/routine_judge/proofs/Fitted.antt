@@ -1,5 +1,5 @@
 -- The words of sequential events, and which of them fit.
-use Rattle.std.proofs.Common.{◌≡◌, ℕ, zero, suc, ◌<◌, false, inl, inr, List, [], ◌∷◌, ◌++◌, length, take, map, refl, sym, ap, ◌∙◌, subst, arith, Option, Some, None}
+use Rattle.std.proofs.Common.{◌≡◌, ℕ, zero, suc, ◌<◌, inl, inr, List, [], ◌∷◌, ◌++◌, length, take, map, refl, sym, ap, ◌∙◌, subst, arith, Option, Some, None}
 use Rattle.std.specs.Prelude.{IsTrue, slice_get}
 use Rattle.std.specs.List.{Contains, cons_option}
 use Rattle.std.proofs.lemmas.Bool.{cases_lt}
@@ -17,6 +17,7 @@ use Rattle.routine_judge.specs.Order.{AreAtRest, AreOperations, Begun, EndsBefor
 use Rattle.routine_judge.specs.declared.history.fault.MarkFault.TheVariants.{BegunTwice, NotPending, Overlaps}
 use Rattle.routine_judge.specs.declared.order.operation.Operation.{Operation}
 use Rattle.store_trace.specs.declared.event.Event.{Event}
+use Rattle.routine_judge.specs.declared.history.overlap.Overlap.TheVariants.{Never}
 use Rattle.store_trace.specs.declared.event.Event.TheVariants.{Store, Clean, Fence, Begin, End}
 
 -- what begins, with its hart
@@ -113,14 +114,14 @@ joined : (before after : List Event) (hart op : ℕ) → beginnings (before ++ B
 joined before after hart op = filter_map-append beginning before (Begin hart op ∷ after)
 
 -- sequential events
-module _ (w : List Event) (sound : AreSound false w (length w)) where
+module _ (w : List Event) (sound : AreSound Never w (length w)) where
   ends_sound : NoneIs IsNotPending w
   ends_sound i event inside at = sound i event NotPending inside at
 
   begins_sound : NoneIs IsBegunTwice w
   begins_sound i event inside at = sound i event BegunTwice inside at
 
-  apart : NoneIs (λ before event. IsOverlap false before event) w
+  apart : NoneIs (λ before event. IsOverlap Never before event) w
   apart i event inside at = sound i event Overlaps inside at
 
   front_ended : (before after : List Event) (hart op x : ℕ) → w ≡ before ++ Begin hart op ∷ after → Contains (begun before) x → Contains (ended before) x
@@ -128,7 +129,7 @@ module _ (w : List Event) (sound : AreSound false w (length w)) where
       in_if_not_out (ended before) x
       (λ lacks.
       let pending : SomePending before = (x, in_filter (is_open before) (begun before) x c (open_true before x lacks)) in
-      none_at (λ front event. IsOverlap false front event) w before after (Begin hart op) is apart (refl, pending))
+      none_at (λ front event. IsOverlap Never front event) w before after (Begin hart op) is apart pending)
 
   front_begun : (before after : List Event) (hart op x : ℕ) → w ≡ before ++ Begin hart op ∷ after → Contains (ended before) x → Contains (begun before) x
   front_begun before after hart op x is c =

@@ -2,6 +2,7 @@ pub mod Beginning
 pub mod Gathering
 pub mod Noting
 pub mod Finding
+pub mod Sourcing
 pub mod Keeping
 pub mod Running
 pub mod Alone

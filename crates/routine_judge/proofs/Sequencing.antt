@@ -21,6 +21,7 @@ use Rattle.routine_judge.specs.declared.order.operation.Operation.{Operation}
 use Rattle.routine_judge.specs.declared.order.sequential.SequentialState.{SequentialState}
 use Rattle.routine_judge.specs.declared.order.word.Word.{Word}
 use Rattle.store_trace.specs.declared.event.Event.{Event}
+use Rattle.routine_judge.specs.declared.history.overlap.Overlap.TheVariants.{Never}
 use Rattle.store_trace.specs.declared.event.Event.TheVariants.{Store, Clean, Fence, Begin, End}
 
 no_number : (op : ℕ) → None ≡ Some op → ⊥
@@ -87,26 +88,26 @@ not_unended before (Fence hart) b f = f
 not_unended before (Begin hart op) b f = f
 not_unended before (End hart op) b f = absurd cc
 
-not_overlapping : (before : List Event) (event : Event) → begun_by event ≡ None → ¬ IsOverlap false before event
+not_overlapping : (before : List Event) (event : Event) → begun_by event ≡ None → ¬ IsOverlap Never before event
 not_overlapping before (Store hart line offset width value) b f = f
 not_overlapping before (Clean hart line) b f = f
 not_overlapping before (Fence hart) b f = f
 not_overlapping before (Begin hart op) b f = absurd cc
 not_overlapping before (End hart op) b f = f
 
-pub other_faultless : (before : List Event) (event : Event) → begun_by event ≡ None → ended_by event ≡ None → (fault : MarkFault) → ¬ HasFault false before event fault
+pub other_faultless : (before : List Event) (event : Event) → begun_by event ≡ None → ended_by event ≡ None → (fault : MarkFault) → ¬ HasFault Never before event fault
 other_faultless before event b e BegunTwice f = not_twice before event b f
 other_faultless before event b e NotPending f = not_unended before event e f
 other_faultless before event b e Overlaps f = not_overlapping before event b f
 other_faultless before event b e NoOperation f = f
 other_faultless before event b e Memory f = f
 
-no_fault : (events : List Event) (event : Event) → AreSound false events (length events) → ((fault : MarkFault) → ¬ HasFault false events event fault) →
-    AreSound false (events ++ event ∷ []) (length (events ++ event ∷ []))
+no_fault : (events : List Event) (event : Event) → AreSound Never events (length events) → ((fault : MarkFault) → ¬ HasFault Never events event fault) →
+    AreSound Never (events ++ event ∷ []) (length (events ++ event ∷ []))
 no_fault events event h last i e fault inside at f =
-    none_more (λ before one. HasFault false before one fault) events event (λ k one within there. h k one fault within there) (last fault) i e inside at f
+    none_more (λ before one. HasFault Never before one fault) events event (λ k one within there. h k one fault within there) (last fault) i e inside at f
 
-ended_begun : (events : List Event) (op : ℕ) → AreSound false events (length events) → Contains (ended events) op → Contains (begun events) op
+ended_begun : (events : List Event) (op : ℕ) → AreSound Never events (length events) → Contains (ended events) op → Contains (begun events) op
 ended_begun events op sound c = ended_began events op (λ i event inside at. sound i event NotPending inside at) c
 
 -- the word, one event further
@@ -161,7 +162,7 @@ other_state events event old new b e done pending is = record {
 }
 
 -- a Begin
-pub begin_state : (events : List Event) (hart op : ℕ) (old new : SequentialState) → ((fault : MarkFault) → ¬ HasFault false events (Begin hart op) fault) →
+pub begin_state : (events : List Event) (hart op : ℕ) (old new : SequentialState) → ((fault : MarkFault) → ¬ HasFault Never events (Begin hart op) fault) →
     new.done.operations.items ≡ old.done.operations.items → new.pending ≡ Some (operation_of hart op) → IsStateOf events old →
     IsStateOf (events ++ Begin hart op ∷ []) new
 begin_state events hart op old new none done pending is =
@@ -195,7 +196,7 @@ begin_state events hart op old new none done pending is =
     }
 
 -- an End
-pub end_state : (events : List Event) (hart op : ℕ) (old new : SequentialState) → ((fault : MarkFault) → ¬ HasFault false events (End hart op) fault) →
+pub end_state : (events : List Event) (hart op : ℕ) (old new : SequentialState) → ((fault : MarkFault) → ¬ HasFault Never events (End hart op) fault) →
     new.done.operations.items ≡ old.done.operations.items ++ operation_of hart op ∷ [] → new.pending ≡ None → IsStateOf events old →
     IsStateOf (events ++ End hart op ∷ []) new
 end_state events hart op old new none done pending is =
@@ -224,23 +225,23 @@ end_state events hart op old new none done pending is =
 
 -- whether the next mark has a fault
 pub begin_taken : (events : List Event) (hart op : ℕ) (state : SequentialState) → IsStateOf events state → state.pending ≡ None →
-    ¬ Contains (map (λ o. o.op) state.done.operations.items) op → (fault : MarkFault) → ¬ HasFault false events (Begin hart op) fault
+    ¬ Contains (map (λ o. o.op) state.done.operations.items) op → (fault : MarkFault) → ¬ HasFault Never events (Begin hart op) fault
 begin_taken events hart op state is none lacks =
-    begin_faultless false events hart op
+    begin_faultless Never events hart op
     (λ c.
     let all : beginnings events ≡ state.done.operations.items =
     is.begins ∙ ap (λ (o : Option Operation). state.done.operations.items ++ option_to_list o) none ∙ append-nil state.done.operations.items in
     lacks (subst (λ (os : List Operation). Contains (map (λ (o : Operation). o.op) os) op) all (in_numbers events op c)))
-    (λ both.
-    let p = some_pending events both.1 in
+    (λ some.
+    let p = some_pending events some in
     no_operation p.0 p.1 (sym none ∙ (is.pends p.0 p.1).0 p.2))
 
 pub begin_overlapping : (events : List Event) (hart op : ℕ) (state : SequentialState) (o : Operation) → IsStateOf events state → state.pending ≡ Some o →
-    (fault : MarkFault) × HasFault false events (Begin hart op) fault
-begin_overlapping events hart op state o is some = (Overlaps, (refl, pending_some events o.hart o.op ((is.pends o.hart o.op).1 some)))
+    (fault : MarkFault) × HasFault Never events (Begin hart op) fault
+begin_overlapping events hart op state o is some = (Overlaps, pending_some events o.hart o.op ((is.pends o.hart o.op).1 some))
 
 pub begin_again : (events : List Event) (hart op : ℕ) (state : SequentialState) → IsStateOf events state →
-    Contains (map (λ o. o.op) state.done.operations.items) op → (fault : MarkFault) × HasFault false events (Begin hart op) fault
+    Contains (map (λ o. o.op) state.done.operations.items) op → (fault : MarkFault) × HasFault Never events (Begin hart op) fault
 begin_again events hart op state is c =
     let o = from_map (λ (p : Operation). p.op) state.done.operations.items op c in
     let among : Contains (beginnings events) o.0 =
@@ -252,11 +253,11 @@ begin_again events hart op state is c =
     )
 
 pub end_taken : (events : List Event) (hart op : ℕ) (state : SequentialState) → IsStateOf events state → state.pending ≡ Some (operation_of hart op) →
-    (fault : MarkFault) → ¬ HasFault false events (End hart op) fault
-end_taken events hart op state is some = end_faultless false events hart op ((is.pends hart op).1 some)
+    (fault : MarkFault) → ¬ HasFault Never events (End hart op) fault
+end_taken events hart op state is some = end_faultless Never events hart op ((is.pends hart op).1 some)
 
 pub end_refused : (events : List Event) (hart op : ℕ) (state : SequentialState) → IsStateOf events state → ¬ (state.pending ≡ Some (operation_of hart op)) →
-    (fault : MarkFault) × HasFault false events (End hart op) fault
+    (fault : MarkFault) × HasFault Never events (End hart op) fault
 end_refused events hart op state is other = (NotPending, λ p. other ((is.pends hart op).0 p))
 
 -- the word of a run at rest

@@ -15,3 +15,5 @@ pub mod Codes
 pub mod Order
 pub mod Fitting
 pub mod SequentialRuns
+pub mod Rules
+pub mod Sources

@@ -6,6 +6,7 @@
 #![tactic(auto)]
 
 mod answer_images;
+mod answers;
 mod bytes;
 mod cause;
 mod fault;
@@ -18,15 +19,16 @@ mod judging;
 mod order;
 mod passing;
 mod right;
+mod rule;
 mod run;
-mod window;
+mod sources;
 
 pub use answer_images::AnswerImages;
 pub use cause::Cause;
 pub use fault::JudgeFault;
 pub use held::HeldAnswer;
 pub use history::{
-    MarkFault, Window, Windows, alone_is_the_only_one, check_marks, is_judged, one_window,
+    MarkFault, Overlap, Window, Windows, alone_is_the_only_one, check_marks, is_judged, one_window,
     operations_apart_have_few, pending_operations_began, windows_lie_in_the_run,
     windows_stay_between_marks,
 };
@@ -38,5 +40,6 @@ pub use order::{
     sequential_states_stand,
 };
 pub use right::RightAnswers;
+pub use rule::{ProgramRuns, Rule};
 pub use run::MarkedRun;
 pub use verdict::{ImageName, ImagesVerdict, MomentVerdict, Verdict};

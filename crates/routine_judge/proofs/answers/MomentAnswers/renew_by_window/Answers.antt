@@ -2,7 +2,7 @@ use Rattle.std.proofs.Common.{◌≡◌, subst, sym}
 use Rattle.routine_judge.proofs.Gathering.{answers_kept, kept_answers}
 use Rattle.routine_judge.specs.Gathered.{AreKept}
 use Rattle.routine_judge.specs.declared.history.moments.Window.{Window}
-use Rattle.routine_judge.proofs.window.WindowAnswers.renew.Goals as goal
+use Rattle.routine_judge.proofs.answers.MomentAnswers.renew_by_window.Goals as goal
 
 pub returns-then-is_same-clause-right : goal.returns-then-is_same-clause-right
 returns-then-is_same-clause-right c =

@@ -1,5 +1,5 @@
 use Rattle.routine_judge.proofs.Gathering.{added}
-use Rattle.routine_judge.proofs.window.WindowAnswers.take_in.Goals as goal
+use Rattle.routine_judge.proofs.answers.MomentAnswers.take_in.Goals as goal
 
 pub returns-clause-right : goal.returns-clause-right
 returns-clause-right c = λ among before are.

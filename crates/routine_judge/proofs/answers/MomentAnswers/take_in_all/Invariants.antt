@@ -2,7 +2,7 @@ use Rattle.std.proofs.Common.{◌≡◌, ◌&&◌, nat_lt, length}
 use Rattle.std.specs.Prelude.{nat_le}
 use Rattle.routine_judge.specs.Gathered.{AreAnswers}
 use Rattle.routine_judge.specs.RightAnswers.{of_moments}
-use Rattle.routine_judge.proofs.window.WindowAnswers.take_in_all.Given as goal
+use Rattle.routine_judge.proofs.answers.MomentAnswers.take_in_all.Given as goal
 
 abbrev pub invariant-loop-moment : goal.invariant-loop-moment
 invariant-loop-moment l = (l.routine.program ≡ l.fn.run.routine)

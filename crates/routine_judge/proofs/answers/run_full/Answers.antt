@@ -11,7 +11,7 @@ use Rattle.store_trace.specs.declared.event.Event.{Event}
 use Rattle.verdict.specs.CutImages.{image_at}
 use Rattle.verdict.proofs.CutLines.{images_of}
 use Rattle.routine_judge.proofs.Running.{across}
-use Rattle.routine_judge.proofs.window.run_full.Goals as goal
+use Rattle.routine_judge.proofs.answers.run_full.Goals as goal
 
 -- what the routine comes to on the full image of a moment
 abbrev Full : Result (List ℕ) run.Cause → Sections → ℕ → List (List ℕ) → List Event → ℕ → Type 0

@@ -3,7 +3,7 @@ use Rattle.std.specs.Prelude.{nat_le}
 use Rattle.routine_judge.specs.Gathered.{AreAnswers}
 use Rattle.routine_judge.specs.RightAnswers.{of_moments}
 use Rattle.routine_judge.proofs.Gathering.{all_taken, before_it, none_yet, one_more, same_answers}
-use Rattle.routine_judge.proofs.window.WindowAnswers.take_in_all.Goals as goal
+use Rattle.routine_judge.proofs.answers.MomentAnswers.take_in_all.Goals as goal
 
 pub loop-moment-init : goal.loop-moment-init
 loop-moment-init c = (

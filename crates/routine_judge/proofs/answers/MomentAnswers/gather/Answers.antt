@@ -4,7 +4,7 @@ use Rattle.routine_judge.specs.RightAnswers.{of_window}
 use Rattle.routine_judge.proofs.Gathering.{answers_of_either, answers_of_itself, on_ok}
 use Rattle.routine_judge.specs.Windows.{IsWindow}
 use Rattle.routine_judge.specs.declared.history.moments.Window.{Window}
-use Rattle.routine_judge.proofs.window.WindowAnswers.gather.Goals as goal
+use Rattle.routine_judge.proofs.answers.MomentAnswers.gather.Goals as goal
 
 pub take_in_all-requires-clause-order : goal.take_in_all-requires-clause-order
 take_in_all-requires-clause-order c =
