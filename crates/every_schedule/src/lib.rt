@@ -4,16 +4,22 @@
 //! Source: Vinter, USENIX ATC 2022: crash images of one schedule are judged; here those of all.
 #![tactic(auto)]
 
+mod atomic_judge;
 mod checking;
 mod following;
+mod judging;
 mod outcome;
 mod plan_judge;
+mod plan_run;
+mod routine_run;
+mod run_judge;
 mod sequential;
 mod sequential_judge;
 mod showing;
 mod state_cuts;
 
 pub use checking::{Limits, check_all};
+pub use judging::judge_all;
 pub use outcome::{Bound, Finding, Outcome};
 pub use schedule_states::{Unwatched, Watcher};
 pub use sequential::{Recovery, Sequential, sequential_runs};
