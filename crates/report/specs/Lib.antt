@@ -20,3 +20,4 @@ pub mod Words
 pub mod Begun
 pub mod Listing
 pub mod Picturing
+pub mod Entries

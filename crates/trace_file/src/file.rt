@@ -30,6 +30,14 @@ pub struct TraceFile<'a> {
     names: Vec<u32>,
 }
 
+/// The events of a trace file without their places: they name lines by ranks.
+#[derive(Drop)]
+pub struct RankedTrace {
+    pub trace: Trace,
+    /// The lines that the events name, upwards: each at its rank.
+    pub names: Vec<u32>,
+}
+
 impl<'a> Model for TraceFile<'a> {
     ghost use Rattle.std.specs.Prelude.{◌≡◌, ◌≤◌, All, length};
     ghost use Rattle.store_trace.specs.TraceView.{NamesLine};
@@ -151,6 +159,21 @@ impl<'a> TraceFile<'a> {
         ensures { result ≡ slice_index self.now.names rank }
     {
         self.names[rank as usize]
+    }
+
+    /// The events without their places.
+    #[tactic(auto, using(crate::proofs::LineSets::increasing))]
+    pub fn into_ranked(self) -> RankedTrace
+        ensures events { result.trace.events ≡ self.entry.events }
+        ensures names { result.names.items ≡ self.entry.names }
+        ensures lines { All (NamesLine (length self.entry.names)) self.entry.events }
+        ensures upward { IsStrictlyIncreasing self.entry.names }
+        ensures few { length self.entry.names ≤ 16384 }
+    {
+        RankedTrace {
+            trace: self.trace,
+            names: self.names,
+        }
     }
 
     /// The rank of a line, where the file names it.

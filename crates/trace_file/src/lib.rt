@@ -17,6 +17,6 @@ mod reader;
 mod writer;
 
 pub use fault::{TraceFileCode, TraceFileFault};
-pub use file::TraceFile;
+pub use file::{RankedTrace, TraceFile};
 pub use laws::{names_keep_crash_states, one_reading};
 pub use line_set::MAX_LINES;

@@ -1,0 +1,230 @@
+-- What is printed of an event is the line of its entry.
+use Rattle.std.proofs.Common.{◌≡◌, ℕ, zero, suc, ◌+◌, ◌*◌, ◌%◌, ◌^◌, ◌<◌, ◌≤◌, Bool, true, false, not, ◌&&◌, List, [], ◌∷◌, ◌++◌, Option, Some, None, map, codes, length, get_or, refl, sym, ap, ◌∙◌, subst, arith, eqb, inl, inr, append_assoc, add-one}
+use Rattle.std.specs.Prelude.{All, IfSome, decimal}
+use Rattle.std.specs.Fmt.{digits}
+use Rattle.std.specs.List.{enumerate_from, flat_map, list_all}
+use Rattle.std.proofs.Math.Nat.{mod-lt, pow-le-pow_right}
+use Rattle.std.proofs.lemmas.Bool.{and_from, and_parts}
+use Rattle.std.proofs.lemmas.Nat.{pow_pos}
+use Rattle.std.proofs.lemmas.List.{length-map}
+use Rattle.std.proofs.lemmas.List.Elements.{All-map, All-head, All-tail}
+use Rattle.hart.specs.HartLines.{hexadecimal}
+use Rattle.machine.specs.declared.run_trace.traced_event.TracedEvent.{TracedEvent}
+use Rattle.store_trace.specs.TraceView.{IsEvent, IsWidth}
+use Rattle.store_trace.specs.declared.event.Event.{Event}
+use Rattle.store_trace.specs.declared.event.Event.TheVariants.{Store, Clean, Fence, Begin, End}
+use Rattle.report.specs.Entries.{HasSizes, entry_of, line_words, place_words, printed_event}
+use Rattle.report.specs.Events as report
+use Rattle.report.specs.Places.{code_place, code_text, line_text}
+use Rattle.trace_file.proofs.CutLemmas.{is_other}
+use Rattle.trace_file.proofs.NumeralLemmas.{numeral_plain, numeral_stop}
+use Rattle.trace_file.proofs.Printing.{decimal_numeral, hexadecimal_numeral}
+use Rattle.trace_file.specs.Entries.{ArePlaceWords, Entry, IsPlaceWord, act_text, entry_line, hart_of, is_letter, is_place_byte, last_line, lines_from, place_text}
+use Rattle.trace_file.specs.Files.{AreAllowed, FitsItsLine, IsAllowed, IsTraceFile, IsWithinLimits, lines_of}
+use Rattle.trace_file.specs.Numerals.{numeral}
+
+onto : (word more rest after : List ℕ) → more ++ rest ≡ after → (word ++ more) ++ rest ≡ word ++ after
+onto word more rest after e = append_assoc word more rest ∙ ap (λ (t : List ℕ). word ++ t) e
+
+-- place words
+both_pass : (p q : ℕ → Bool) (xs : List ℕ) → list_all p xs ≡ true → list_all q xs ≡ true → list_all (λ x. p x && q x) xs ≡ true
+both_pass p q [] a b = refl
+both_pass p q (x ∷ xs) a b =
+    let (p_here, p_rest) = and_parts (p x) (list_all p xs) a in
+    let (q_here, q_rest) = and_parts (q x) (list_all q xs) b in
+    and_from (p x && q x) (list_all (λ x. p x && q x) xs) (and_from (p x) (q x) p_here q_here) (both_pass p q xs p_rest q_rest)
+
+numeral_bytes : (radix n : ℕ) → 2 ≤ radix → radix ≤ 16 → list_all is_place_byte (numeral radix n) ≡ true
+numeral_bytes radix n two few =
+    both_pass (is_other 32) (is_other 10) (numeral radix n) (numeral_stop radix 32 n two few (omega arith)) (numeral_stop radix 10 n two few (omega arith))
+
+all_append : (p : ℕ → Bool) (xs ys : List ℕ) → list_all p xs ≡ true → list_all p ys ≡ true → list_all p (xs ++ ys) ≡ true
+all_append p [] ys a b = b
+all_append p (x ∷ xs) ys a b =
+    let (here, rest) = and_parts (p x) (list_all p xs) a in and_from (p x) (list_all p (xs ++ ys)) here (all_append p xs ys rest b)
+
+step_word : (n : ℕ) → IsPlaceWord (codes "step=" ++ numeral 10 n)
+step_word n = record {
+  name = codes "step";
+  value = numeral 10 n;
+  spelled = refl;
+  some_letters = omega arith;
+  letters = refl;
+  some_bytes = (numeral_plain 10 n (omega arith) (omega arith)).digits.0;
+  bytes = numeral_bytes 10 n (omega arith) (omega arith);
+}
+
+line_word : (n : ℕ) → IsPlaceWord (codes "line=" ++ numeral 10 n)
+line_word n = record {
+  name = codes "line";
+  value = numeral 10 n;
+  spelled = refl;
+  some_letters = omega arith;
+  letters = refl;
+  some_bytes = (numeral_plain 10 n (omega arith) (omega arith)).digits.0;
+  bytes = numeral_bytes 10 n (omega arith) (omega arith);
+}
+
+pc_word : (n : ℕ) → IsPlaceWord (codes "pc=0x" ++ numeral 16 n)
+pc_word n = record {
+  name = codes "pc";
+  value = codes "0x" ++ numeral 16 n;
+  spelled = refl;
+  some_letters = omega arith;
+  letters = refl;
+  some_bytes = omega arith;
+  bytes = all_append is_place_byte (codes "0x") (numeral 16 n) refl (numeral_bytes 16 n (omega arith) (omega arith));
+}
+
+line_is_word : (line : Option ℕ) → ArePlaceWords (line_words line)
+line_is_word None = tt
+line_is_word (Some n) = (line_word n, tt)
+
+words : (lines : ℕ → Option ℕ) (t : TracedEvent) → ArePlaceWords (place_words lines t)
+words lines t = (step_word t.step, (pc_word t.pc, line_is_word (lines t.pc)))
+
+-- allowed entries
+fits : (event : Event) → IsEvent event → FitsItsLine (printed_event event)
+fits (Store hart line offset width value) is =
+    let some : 0 < 2 ^ (8 * width) = pow_pos (8 * width) in
+    (is.1, is.2, is.3, mod-lt value some)
+fits (Clean hart line) is = tt
+fits (Fence hart) is = tt
+fits (Begin hart op) is = tt
+fits (End hart op) is = tt
+
+within : (event : Event) → IsWithinLimits event → IsWithinLimits (printed_event event)
+within (Store hart line offset width value) is = is
+within (Clean hart line) is = is
+within (Fence hart) is = is
+within (Begin hart op) is = is
+within (End hart op) is = is
+
+allowed : (lines : ℕ → Option ℕ) (t : TracedEvent) → HasSizes lines t → IsAllowed (entry_of lines t)
+allowed lines t sizes = record { places = words lines t; fits = fits t.event sizes.event; within = within t.event sizes.within }
+
+-- what is printed of what an event did
+numbered : (keyword : List ℕ) (n : ℕ) (rest : List ℕ) → n < 2 ^ 64 → (keyword ++ decimal n) ++ 10 ∷ rest ≡ keyword ++ (numeral 10 n ++ 10 ∷ rest)
+numbered keyword n rest small = append_assoc keyword (decimal n) (10 ∷ rest) ∙ ap (λ (t : List ℕ). keyword ++ (t ++ 10 ∷ rest)) (decimal_numeral n small)
+
+abbrev IsNarrow : Event → Type 0
+IsNarrow (Store hart line offset width value) = (line < 2 ^ 32) × (offset < 64) × (width ≤ 8)
+IsNarrow (Clean hart line) = line < 2 ^ 32
+IsNarrow (Fence hart) = Unit {0}
+IsNarrow (Begin hart op) = op < 2 ^ 64
+IsNarrow (End hart op) = op < 2 ^ 64
+
+value_small : (value width : ℕ) → width ≤ 8 → value % 2 ^ (8 * width) < 2 ^ 64
+value_small value width low =
+    let some : 0 < 2 ^ (8 * width) = pow_pos (8 * width) in
+    let part : value % 2 ^ (8 * width) < 2 ^ (8 * width) = mod-lt value some in
+    let most : 2 ^ (8 * width) ≤ 2 ^ 64 = pow-le-pow_right {n = 2} (omega arith) {i = 8 * width} {j = 64} (omega arith) in
+    omega arith
+
+act : (event : Event) (rest : List ℕ) → IsNarrow event → (report.kind_of event ++ report.act_text event) ++ 10 ∷ rest ≡ act_text (printed_event event) rest
+act (Store hart line offset width value) rest narrow =
+    let v : ℕ = value % 2 ^ (8 * width) in
+    rw (decimal_numeral line (omega arith), decimal_numeral offset (omega arith), decimal_numeral width (omega arith), hexadecimal_numeral v (value_small value width narrow.2))
+    (onto (codes "store l") _ (10 ∷ rest) _ (onto (numeral 10 line) _ (10 ∷ rest) _ (onto (codes "+") _ (10 ∷ rest) _ (onto (numeral 10 offset) _ (10 ∷ rest) _
+    (onto (codes " w") _ (10 ∷ rest) _ (onto (numeral 10 width) _ (10 ∷ rest) _ (append_assoc (codes " 0x") (numeral 16 v) (10 ∷ rest))))))))
+act (Clean hart line) rest narrow = numbered (codes "clean l") line rest (omega arith)
+act (Fence hart) rest narrow = refl
+act (Begin hart op) rest narrow = numbered (codes "begin ") op rest narrow
+act (End hart op) rest narrow = numbered (codes "end ") op rest narrow
+
+narrow : (event : Event) → IsEvent event → IsWithinLimits event → IsNarrow event
+narrow (Store hart line offset width value) is limits = (limits.1, is.3, width_small width is.1)
+  where
+    width_small : (width : ℕ) → IsWidth width → width ≤ 8
+    width_small width w = grind (arith, w)
+narrow (Clean hart line) is limits = limits.1
+narrow (Fence hart) is limits = tt
+narrow (Begin hart op) is limits = limits.1
+narrow (End hart op) is limits = limits.1
+
+same_hart : (event : Event) → hart_of (printed_event event) ≡ report.hart_of event
+same_hart (Store hart line offset width value) = refl
+same_hart (Clean hart line) = refl
+same_hart (Fence hart) = refl
+same_hart (Begin hart op) = refl
+same_hart (End hart op) = refl
+
+hart_small : (event : Event) → IsEvent event → report.hart_of event < 2 ^ 64
+hart_small (Store hart line offset width value) is = omega (arith, is.0)
+hart_small (Clean hart line) is = omega (arith, is)
+hart_small (Fence hart) is = omega (arith, is)
+hart_small (Begin hart op) is = omega (arith, is)
+hart_small (End hart op) is = omega (arith, is)
+
+-- the line of the source, printed behind the pc
+line_spelled : (pc : List ℕ) (line : Option ℕ) (rest : List ℕ) → IfSome line (λ n. n < 2 ^ 32)
+    → (pc ++ line_text line) ++ 32 ∷ rest ≡ pc ++ 32 ∷ (place_text (line_words line) ++ rest)
+line_spelled pc None rest small = append_assoc pc [] (32 ∷ rest)
+line_spelled pc (Some n) rest small =
+    onto pc (codes " line=" ++ decimal n) (32 ∷ rest) (32 ∷ (place_text (line_words (Some n)) ++ rest))
+    (ap (λ (t : List ℕ). codes " line=" ++ t) (ap (λ (d : List ℕ). d ++ 32 ∷ rest) (decimal_numeral n (omega arith)) ∙ sym (append_assoc (numeral 10 n) (32 ∷ []) rest)))
+
+places_spelled : (lines : ℕ → Option ℕ) (t : TracedEvent) (rest : List ℕ) → place_text (place_words lines t) ++ rest
+    ≡ codes "step=" ++ (numeral 10 t.step ++ (32 ∷ (codes "pc=0x" ++ (numeral 16 t.pc ++ (32 ∷ (place_text (line_words (lines t.pc)) ++ rest))))))
+places_spelled lines t rest =
+    onto (codes "step=" ++ numeral 10 t.step) (32 ∷ ((codes "pc=0x" ++ numeral 16 t.pc) ++ 32 ∷ place_text (line_words (lines t.pc)))) rest
+    (32 ∷ (codes "pc=0x" ++ (numeral 16 t.pc ++ (32 ∷ (place_text (line_words (lines t.pc)) ++ rest)))))
+    (ap (λ (z : List ℕ). 32 ∷ z)
+    (onto (codes "pc=0x" ++ numeral 16 t.pc) (32 ∷ place_text (line_words (lines t.pc))) rest (32 ∷ (place_text (line_words (lines t.pc)) ++ rest)) refl))
+    ∙ append_assoc (codes "step=") (numeral 10 t.step) (32 ∷ (codes "pc=0x" ++ (numeral 16 t.pc ++ (32 ∷ (place_text (line_words (lines t.pc)) ++ rest)))))
+
+placed_line : (lines : ℕ → Option ℕ) (t : TracedEvent) (rest : List ℕ) → HasSizes lines t → report.placed_text (report.placed lines t) ++ 10 ∷ rest
+    ≡ codes "h" ++ (numeral 10 (report.hart_of t.event) ++ (32 ∷ (place_text (place_words lines t) ++ act_text (printed_event t.event) rest)))
+placed_line lines t rest sizes =
+    let h : ℕ = report.hart_of t.event in
+    let done : List ℕ = act_text (printed_event t.event) rest in
+    let code : List ℕ = code_text (code_place lines t.pc) in
+    let did : List ℕ = report.kind_of t.event ++ report.act_text t.event in
+    let spelled : report.placed_text (report.placed lines t) ++ 10 ∷ rest
+    ≡ codes "h" ++ (decimal h ++ (codes " step=" ++ (decimal t.step ++ (codes " " ++ (code_text (code_place lines t.pc) ++ (codes " " ++ done)))))) =
+    onto (codes "h") _ (10 ∷ rest) _ (onto (decimal h) _ (10 ∷ rest) _ (onto (codes " step=") _ (10 ∷ rest) _ (onto (decimal t.step) _ (10 ∷ rest) _
+    (onto (codes " ") (code ++ (codes " " ++ did)) (10 ∷ rest) _ (onto code (codes " " ++ did) (10 ∷ rest) _
+    (onto (codes " ") did (10 ∷ rest) done (act t.event rest (narrow t.event sizes.event sizes.within)))))))) in
+    let pc : hexadecimal t.pc ≡ numeral 16 t.pc = hexadecimal_numeral t.pc sizes.pc in
+    let placed_code : code_text (code_place lines t.pc) ++ 32 ∷ done ≡ codes "pc=0x" ++ (numeral 16 t.pc ++ 32 ∷ (place_text (line_words (lines t.pc)) ++ done)) =
+    ap (λ (digits : List ℕ). (codes "pc=0x" ++ (digits ++ line_text (lines t.pc))) ++ 32 ∷ done) pc
+    ∙ ap (λ (z : List ℕ). codes "pc=0x" ++ z) (line_spelled (numeral 16 t.pc) (lines t.pc) done sizes.line) in
+    spelled
+    ∙ ap (λ (z : List ℕ). codes "h" ++ (decimal h ++ (codes " step=" ++ (decimal t.step ++ (32 ∷ z))))) placed_code
+    ∙ ap (λ (d : List ℕ). codes "h" ++ (d ++ (codes " step=" ++ (decimal t.step ++ (32 ∷ (codes "pc=0x" ++ (numeral 16 t.pc ++ 32 ∷ (place_text (line_words (lines t.pc)) ++ done))))))))
+    (decimal_numeral h (hart_small t.event sizes.event))
+    ∙ ap (λ (d : List ℕ). codes "h" ++ (numeral 10 h ++ (codes " step=" ++ (d ++ (32 ∷ (codes "pc=0x" ++ (numeral 16 t.pc ++ 32 ∷ (place_text (line_words (lines t.pc)) ++ done))))))))
+    (decimal_numeral t.step (omega (arith, sizes.step)))
+    ∙ ap (λ (z : List ℕ). codes "h" ++ (numeral 10 h ++ (32 ∷ z))) (sym (places_spelled lines t done))
+
+line_shown : (lines : ℕ → Option ℕ) (n : ℕ) (t : TracedEvent) (rest : List ℕ) → n < 2 ^ 64 → HasSizes lines t
+    → report.numbered_line lines (n, t) ++ rest ≡ entry_line n (entry_of lines t) rest
+line_shown lines n t rest small sizes =
+    onto (decimal n) (32 ∷ (report.placed_text (report.placed lines t) ++ 10 ∷ [])) rest (32 ∷ (report.placed_text (report.placed lines t) ++ 10 ∷ rest))
+    (ap (λ (z : List ℕ). 32 ∷ z) (append_assoc (report.placed_text (report.placed lines t)) (10 ∷ []) rest))
+    ∙ ap (λ (d : List ℕ). d ++ 32 ∷ (report.placed_text (report.placed lines t) ++ 10 ∷ rest)) (decimal_numeral n small)
+    ∙ ap (λ (z : List ℕ). numeral 10 n ++ 32 ∷ z) (placed_line lines t rest sizes)
+    ∙ ap (λ (h : ℕ). numeral 10 n ++ 32 ∷ 104 ∷ (numeral 10 h ++ (32 ∷ (place_text (place_words lines t) ++ act_text (printed_event t.event) rest)))) (sym (same_hart t.event))
+
+lines_shown : (lines : ℕ → Option ℕ) (n : ℕ) (ts : List TracedEvent) (rest : List ℕ) → n + length ts < 2 ^ 64 → All (HasSizes lines) ts
+    → flat_map (report.numbered_line lines) (enumerate_from n ts) ++ rest ≡ lines_from n (map (entry_of lines) ts) rest
+lines_shown lines n [] rest small all = refl
+lines_shown lines n (t ∷ ts) rest small all =
+    append_assoc (report.numbered_line lines (n, t)) (flat_map (report.numbered_line lines) (enumerate_from (n + 1) ts)) rest
+    ∙ line_shown lines n t (flat_map (report.numbered_line lines) (enumerate_from (n + 1) ts) ++ rest) (omega arith) (All-head (HasSizes lines) t ts all)
+    ∙ ap (λ (z : List ℕ). entry_line n (entry_of lines t) z) (lines_shown lines (n + 1) ts rest (omega arith) (All-tail (HasSizes lines) t ts all))
+
+pub printed : (lines : ℕ → Option ℕ) (ts : List TracedEvent) → All (HasSizes lines) ts → length ts ≤ 65536 → length (lines_of (map (entry_of lines) ts)) ≤ 16384
+    → IsTraceFile (report.trace_text lines ts) (map (entry_of lines) ts)
+printed lines ts all few few_lines =
+    let same : length (map (entry_of lines) ts) ≡ length ts = length-map ts (entry_of lines) in
+    record {
+      allowed = record {
+        each = All-map IsAllowed (entry_of lines) ts (λ k d inside. allowed lines (get_or ts k d) (all k d inside));
+        few = omega arith;
+        few_lines = few_lines;
+      };
+      whole = lines_shown lines 1 ts (codes "events " ++ (decimal (length ts) ++ 10 ∷ [])) (omega arith) all
+          ∙ ap (λ (d : List ℕ). lines_from 1 (map (entry_of lines) ts) (codes "events " ++ (d ++ 10 ∷ []))) (decimal_numeral (length ts) (omega arith))
+          ∙ ap (λ (n : ℕ). lines_from 1 (map (entry_of lines) ts) (last_line n [])) (sym same);
+    }
