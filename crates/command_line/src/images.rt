@@ -33,7 +33,7 @@ pub(crate) fn count_file<F: Files>(
 fn count(alloc: Global, run: &Run, moment: u32) -> Result<Option<u32>, Failure>
     ensures { Counts run.now moment result }
 {
-    Ok(count_images(alloc, run, moment)?)
+    Ok(count_images(alloc, run.start(), run.trace(), moment)?)
 }
 
 /// The images of a moment, as text or as JSON.

@@ -37,7 +37,8 @@ fn refuse_unfinished(alloc: Global, made: &MadeRun, planned: &[Operation]) -> Re
     requires { IsProgramOf made.now.file.items made.now.run.setup.program }
     ensures { IsWholeOrTold made.now (numbers_of planned.now) result }
 {
-    let causes = find_unfinished(alloc, &made.run, planned)?;
+    let run = &made.run;
+    let causes = find_unfinished(alloc, run.harts(), run.trace().events(), planned)?;
     if causes.is_empty() {
         Ok(())
     } else {
