@@ -1,19 +1,23 @@
 //! Runs that were to be whole.
 
 ghost use Rattle.command_line.specs.Demanding.{IsToldBy, IsWholeOrTold, MeetsWhole};
+ghost use Rattle.command_line.specs.Traces.{MeetsEnded};
 ghost use Rattle.crash_test.specs.Lines.{line_of};
 ghost use Rattle.crash_test.specs.Programs.{IsProgramOf};
 ghost use Rattle.program.specs.Sections.{Sections};
 ghost use Rattle.report.specs.Causes.{unfinished_text};
-ghost use Rattle.std.specs.Prelude.{◌≡◌, IfOk, string_bytes};
+ghost use Rattle.report.specs.Places.{line_in};
+ghost use Rattle.std.specs.Prelude.{◌≡◌, [], IfOk, None, string_bytes};
 ghost use Rattle.unfinished.specs.Causes.{numbers_of};
 
 use crate::failure::Failure;
 use crate::made_run::MadeRun;
 use crash_test::places_of;
 use plan::Operation;
-use report::unfinished_text;
+use report::{Places, unfinished_text};
 use std::alloc::{AllocError, Global};
+use store_trace::Event;
+use trace_file::RankedTrace;
 use unfinished::{Unfinished, find_unfinished};
 
 /// `--whole`: refuses a run that isn't whole, where the line has the option.
@@ -35,7 +39,7 @@ pub(crate) fn demand_whole(
 
 fn refuse_unfinished(alloc: Global, made: &MadeRun, planned: &[Operation]) -> Result<(), Failure>
     requires { IsProgramOf made.now.file.items made.now.run.setup.program }
-    ensures { IsWholeOrTold made.now (numbers_of planned.now) result }
+    ensures { IsWholeOrTold (line_of made.now.file.items) made.now.run.harts made.now.run.events (numbers_of planned.now) result }
 {
     let run = &made.run;
     let causes = find_unfinished(alloc, run.harts(), run.trace().events(), planned)?;
@@ -46,10 +50,42 @@ fn refuse_unfinished(alloc: Global, made: &MadeRun, planned: &[Operation]) -> Re
     }
 }
 
+/// `--whole` with a trace file: refuses one in which an operation hasn't ended, where the line has the option.
+pub(crate) fn demand_ended(alloc: Global, whole: bool, ranked: &RankedTrace) -> Result<(), Failure>
+    ensures { MeetsEnded whole ranked.now result }
+{
+    if whole {
+        refuse_pending(alloc, ranked.trace.events())
+    } else {
+        Ok(())
+    }
+}
+
+fn refuse_pending(alloc: Global, events: &[Event]) -> Result<(), Failure>
+    ensures { IsWholeOrTold (λ pc. None) [] events.now [] result }
+{
+    let causes = find_unfinished(alloc, &[], events, &[])?;
+    if causes.is_empty() {
+        Ok(())
+    } else {
+        Err(told_anywhere(alloc, &causes))
+    }
+}
+
+/// What is told of events without places by what keeps them from being whole.
+fn told_anywhere(alloc: Global, causes: &[Unfinished]) -> Failure
+    ensures { IsToldBy (λ pc. None) causes.now result }
+{
+    match unfinished_text(alloc, causes, &Places::Unknown) {
+        Ok(text) => Failure::Unfinished(text),
+        Err(_) => Failure::Memory,
+    }
+}
+
 /// What is told of a run by what keeps it from being whole.
 fn told(alloc: Global, file: &[u8], causes: &[Unfinished]) -> Failure
     requires { (program : Sections) × IsProgramOf file.now program }
-    ensures { IsToldBy file.now causes.now result }
+    ensures { IsToldBy (line_of file.now) causes.now result }
 {
     match causes_text(alloc, file, causes) {
         Ok(text) => Failure::Unfinished(text),
