@@ -1,6 +1,6 @@
 -- `--whole`: what comes of a run that was to be whole.
 use Rattle.std.specs.Prelude.{◌≡◌, ◌≢◌, ◌⊎◌, ⊤, ℕ, Bool, true, false, List, [], Result, MatchResult, string_bytes}
-use Rattle.crash_test.specs.Lines.{line_of}
+use Rattle.crash_test.specs.Origins.{origin_of}
 use Rattle.machine.specs.RunValues.{RunView}
 use Rattle.report.specs.Causes.{unfinished_text}
 use Rattle.unfinished.specs.Causes.{AreCauses}
@@ -13,7 +13,7 @@ use Rattle.command_line.specs.declared.made_run.MadeRun.{MadeRun}
 
 -- a line for each of these is told, or memory for them was refused
 abbrev pub IsToldBy : List ℕ → List Cause → Failure → Type 0
-IsToldBy file causes (Unfinished text) = string_bytes text ≡ unfinished_text (line_of file) causes
+IsToldBy file causes (Unfinished text) = string_bytes text ≡ unfinished_text (origin_of file) causes
 IsToldBy file causes Memory = ⊤
 IsToldBy file causes (Line text) = ⊥
 IsToldBy file causes (Refused refusal) = ⊥

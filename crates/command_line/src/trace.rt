@@ -2,8 +2,8 @@
 
 ghost use Rattle.command_line.specs.Steps.{Prints};
 ghost use Rattle.command_line.specs.Tracing.{TracesFile, told_events};
-ghost use Rattle.crash_test.specs.Lines.{line_of};
-ghost use Rattle.report.specs.Places.{line_in};
+ghost use Rattle.crash_test.specs.Origins.{origin_of};
+ghost use Rattle.report.specs.Places.{origin_in};
 ghost use Rattle.std.specs.Prelude.{◌≡◌, ◌<◌, IfOk, string_bytes};
 ghost use Rattle.crash_test.specs.Programs.{IsProgramOf};
 ghost use Rattle.program.specs.Sections.{Sections};
@@ -40,7 +40,7 @@ fn trace_answer(
     json: bool,
 ) -> Result<Answer, Failure>
     requires { (program : Sections) × IsProgramOf file.now program }
-    ensures { Prints (told_events json (line_of file.now) traced.now) 0 result }
+    ensures { Prints (told_events json (origin_of file.now) traced.now) 0 result }
 {
     let places = places_of(alloc, file)?;
     let text = told_events(alloc, traced, &places, json)?;
@@ -54,7 +54,7 @@ fn told_events(
     places: &Places,
     json: bool,
 ) -> Result<String, AllocError>
-    ensures { IfOk result (λ text. string_bytes text ≡ told_events json (line_in places.now) traced.now) }
+    ensures { IfOk result (λ text. string_bytes text ≡ told_events json (origin_in places.now) traced.now) }
 {
     if json {
         trace_json(alloc, traced, places)

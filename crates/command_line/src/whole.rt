@@ -1,7 +1,7 @@
 //! Runs that were to be whole.
 
 ghost use Rattle.command_line.specs.Demanding.{IsToldBy, IsWholeOrTold, MeetsWhole};
-ghost use Rattle.crash_test.specs.Lines.{line_of};
+ghost use Rattle.crash_test.specs.Origins.{origin_of};
 ghost use Rattle.crash_test.specs.Programs.{IsProgramOf};
 ghost use Rattle.program.specs.Sections.{Sections};
 ghost use Rattle.report.specs.Causes.{unfinished_text};
@@ -63,7 +63,7 @@ pub(crate) fn causes_text(
     causes: &[Unfinished],
 ) -> Result<String, AllocError>
     requires { (program : Sections) × IsProgramOf file.now program }
-    ensures { IfOk result (λ text. string_bytes text ≡ unfinished_text (line_of file.now) causes.now) }
+    ensures { IfOk result (λ text. string_bytes text ≡ unfinished_text (origin_of file.now) causes.now) }
 {
     let places = places_of(alloc, file)?;
     unfinished_text(alloc, causes, &places)

@@ -3,6 +3,7 @@ pub mod Executable
 pub mod Faults
 pub mod FunctionSymbols
 pub mod Functions
+pub mod FunctionNumbers
 pub mod Header
 pub mod Sections
 pub mod Segments

@@ -4,11 +4,14 @@
 mod causes;
 mod disassembly;
 mod events;
+mod form;
 mod json;
 mod losses;
 mod medium;
+mod origin;
 mod picture;
 mod place;
+mod printed_name;
 mod redundant;
 
 pub use causes::unfinished_text;
@@ -17,6 +20,7 @@ pub use events::{PlacedEvent, hart_of, trace_text};
 pub use json::trace_json;
 pub use losses::{unpersisted_json, unpersisted_text, why_json, why_text};
 pub use medium::{line_text, volume_text};
+pub use origin::{FunctionPlace, Origin};
 pub use picture::{ImageLine, picture_run, picture_text};
 pub use place::{CodePlace, Place, Places};
 pub use redundant::{waste_json, waste_text};

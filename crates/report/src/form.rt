@@ -1,4 +1,4 @@
-//! The forms in which a run's needless cleans and fences are printed.
+//! The forms in which a run is reported.
 
 /// Lines for a reader, or objects of JSON (RFC 8259), one a line.
 #[derive(Clone, Copy)]
