@@ -3,3 +3,4 @@ pub mod OneReading
 pub mod Symbols
 pub mod Tables
 pub mod Texts
+mod Cells

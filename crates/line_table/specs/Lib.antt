@@ -1,0 +1,10 @@
+pub mod Numbers
+pub mod Texts
+pub mod Programs
+pub mod Forms
+pub mod Files
+pub mod Parts
+pub mod SourceRows
+pub mod Units
+pub mod Lines
+pub mod Tables
