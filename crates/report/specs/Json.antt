@@ -14,11 +14,11 @@ abbrev pub number_or_null : Option ℕ → List ℕ
 number_or_null None = codes "null"
 number_or_null (Some number) = decimal number
 
--- `"function":"NAME","offset":OFF`
+-- `"function":"NAME","function_offset":OFF`
 abbrev pub function_members : Option InFunction → List ℕ
-function_members None = codes "\"function\":null,\"offset\":null"
+function_members None = codes "\"function\":null,\"function_offset\":null"
 function_members (Some place) =
-    codes "\"function\":\"" ++ (json_name place.0 ++ (codes "\",\"offset\":" ++ decimal place.1))
+    codes "\"function\":\"" ++ (json_name place.0 ++ (codes "\",\"function_offset\":" ++ decimal place.1))
 
 -- `"source_line":L`; of an executable its source file and its function too
 abbrev pub origin_members : KnownOrigin → List ℕ

@@ -23,7 +23,7 @@ use store_trace::Event;
 /// ```
 ///
 /// What may have 64 bits is a string, since a reader of JSON may keep 53 bits of a number: a pc and a stored value in hex, an operation's
-/// number in decimal. A line of the source that isn't known is `null`. Of an executable `source_file`, `function` and `offset`, how many
+/// number in decimal. A line of the source that isn't known is `null`. Of an executable `source_file`, `function` and `function_offset`, how many
 /// bytes behind the function's first one the pc is, follow the line.
 pub fn trace_json(
     alloc: Global,

@@ -38,7 +38,7 @@ impl fmt::Display for FunctionPlace<'_> {
     }
 }
 
-/// The same as members of an object: `"function":"main","offset":56`; each is `null` where there is no function.
+/// The same as members of an object: `"function":"main","function_offset":56`; each is `null` where there is no function.
 #[derive(Clone, Copy)]
 struct FunctionMembers<'a> {
     place: Option<FunctionPlace<'a>>,
@@ -58,9 +58,9 @@ impl fmt::Display for FunctionMembers<'_> {
                     name,
                     form: Form::Json,
                 };
-                write!(f, "\"function\":\"{name}\",\"offset\":{offset}")
+                write!(f, "\"function\":\"{name}\",\"function_offset\":{offset}")
             }
-            None => write!(f, "\"function\":null,\"offset\":null"),
+            None => write!(f, "\"function\":null,\"function_offset\":null"),
         }
     }
 }
