@@ -1,7 +1,9 @@
 -- The tables of directories and files in the header of a unit of version 5. Source: DWARF 5, sections 6.2.4.1 and 7.5.6.
-use Rattle.std.specs.Prelude.{ℕ, zero, suc, ◌==◌, nat_lt, List, [], ◌∷◌, length, drop, Option, Some, None, option_and_then, option_map, if◌then◌else◌}
+use Rattle.std.specs.Prelude.{ℕ, ◌==◌, nat_lt, List, [], ◌∷◌, length, drop, Option, Some, None, option_and_then, option_map, if◌then◌else◌}
 use Rattle.line_table.specs.Numbers.{fixed_at, unsigned_at}
+use Rattle.line_table.specs.Repeated.{repeated}
 use Rattle.line_table.specs.Texts.{text_at, text_in}
+use Rattle.line_table.specs.declared.forms.Format.{Format}
 
 -- what a field of an entry holds: a text, or something else, which is None; and the bytes behind it
 abbrev pub Value : Type 0
@@ -11,53 +13,61 @@ Value = Option (Option (List ℕ) × List ℕ)
 abbrev pub skipped : ℕ → List ℕ → Value
 skipped size bytes = if nat_lt (length bytes) size then None else Some (None, drop size bytes)
 
--- by its form: DW_FORM_string (0x08), line_strp (0x1f), data1 (0x0b), data2 (0x05), data4 (0x06), data8 (0x07), data16 (0x1e), udata (0x0f), block (0x09)
+-- DW_FORM_string, DW_FORM_line_strp, DW_FORM_udata, DW_FORM_block
+abbrev pub text_value : List ℕ → Value
+text_value bytes = option_map (λ text. (Some text.0, text.1)) (text_at bytes)
+
+abbrev pub string_value : List ℕ → List ℕ → Value
+string_value strings bytes = option_and_then (λ at. option_map (λ text. (Some text, at.1)) (text_in strings at.0)) (fixed_at 4 bytes)
+
+abbrev pub number_value : List ℕ → Value
+number_value bytes = option_map (λ number. (None, number.1)) (unsigned_at bytes)
+
+abbrev pub block_value : List ℕ → Value
+block_value bytes = option_and_then (λ size. skipped size.0 size.1) (unsigned_at bytes)
+
+-- by its form: besides these DW_FORM_data1, data2, data4, data8 and data16
 abbrev pub value_at : ℕ → List ℕ → List ℕ → Value
 value_at form strings bytes =
-    if form == 0x08 then option_map (λ text. (Some text.0, text.1)) (text_at bytes) else
-    if form == 0x1f then option_and_then (λ at. option_map (λ text. (Some text, at.1)) (text_in strings at.0)) (fixed_at 4 bytes) else
+    if form == 0x08 then text_value bytes else
+    if form == 0x1f then string_value strings bytes else
     if form == 0x0b then skipped 1 bytes else
     if form == 0x05 then skipped 2 bytes else
     if form == 0x06 then skipped 4 bytes else
     if form == 0x07 then skipped 8 bytes else
     if form == 0x1e then skipped 16 bytes else
-    if form == 0x0f then option_map (λ number. (None, number.1)) (unsigned_at bytes) else
-    if form == 0x09 then option_and_then (λ size. skipped size.0 size.1) (unsigned_at bytes) else None
+    if form == 0x0f then number_value bytes else
+    if form == 0x09 then block_value bytes else None
 
 -- a field of an entry: its content and its form
-abbrev pub format_at : List ℕ → Option ((ℕ × ℕ) × List ℕ)
-format_at bytes = option_and_then (λ content. option_map (λ form. ((content.0, form.0), form.1)) (unsigned_at content.1)) (unsigned_at bytes)
+abbrev pub format_at : List ℕ → Option (Format × List ℕ)
+format_at bytes = option_and_then (λ content.
+    option_map (λ form. (record { content = content.0; form = form.0 }, form.1)) (unsigned_at content.1)) (unsigned_at bytes)
 
-abbrev pub formats_in : ℕ → List ℕ → Option (List (ℕ × ℕ) × List ℕ)
-formats_in zero bytes = Some ([], bytes)
-formats_in (suc count) bytes = option_and_then (λ format. option_map (λ more. (format.0 ∷ more.0, more.1)) (formats_in count format.1)) (format_at bytes)
-
--- their count is a byte
-abbrev pub formats_at : List ℕ → Option (List (ℕ × ℕ) × List ℕ)
+-- the fields of each entry, whose count is a byte
+abbrev pub formats_at : List ℕ → Option (List Format × List ℕ)
 formats_at [] = None
-formats_at (count ∷ bytes) = formats_in count bytes
+formats_at (count ∷ bytes) = repeated format_at count bytes
 
--- the text of DW_LNCT_path (1), the last one where there are several; here it was before
+-- the path of an entry is its last field of DW_LNCT_path (1), where it is a text; here it was before
 abbrev pub path_with : ℕ → Option (List ℕ) → Option (List ℕ) → Option (List ℕ)
 path_with content path value = if content == 1 then value else path
 
-abbrev pub path_in : List (ℕ × ℕ) → List ℕ → Option (List ℕ) → List ℕ → Value
+abbrev pub path_in : List Format → List ℕ → Option (List ℕ) → List ℕ → Value
 path_in [] strings path bytes = Some (path, bytes)
 path_in (format ∷ formats) strings path bytes = option_and_then (λ value.
-    path_in formats strings (path_with format.0 path value.0) value.1) (value_at format.1 strings bytes)
+    path_in formats strings (path_with format.content path value.0) value.1) (value_at format.form strings bytes)
 
--- the path of an entry, which has one
+-- an entry that has a path
 abbrev pub with_path : Option (List ℕ) × List ℕ → Option (List ℕ × List ℕ)
 with_path entry = option_map (λ path. (path, entry.1)) entry.0
 
-abbrev pub entry_at : List (ℕ × ℕ) → List ℕ → List ℕ → Option (List ℕ × List ℕ)
+abbrev pub entry_at : List Format → List ℕ → List ℕ → Option (List ℕ × List ℕ)
 entry_at formats strings bytes = option_and_then with_path (path_in formats strings None bytes)
 
-abbrev pub paths_in : ℕ → List (ℕ × ℕ) → List ℕ → List ℕ → Option (List (List ℕ) × List ℕ)
-paths_in zero formats strings bytes = Some ([], bytes)
-paths_in (suc count) formats strings bytes = option_and_then (λ entry.
-    option_map (λ more. (entry.0 ∷ more.0, more.1)) (paths_in count formats strings entry.1)) (entry_at formats strings bytes)
+-- the paths of a table, in order
+abbrev pub paths_behind : List ℕ → List Format → List ℕ → Option (List (List ℕ) × List ℕ)
+paths_behind strings formats bytes = option_and_then (λ count. repeated (entry_at formats strings) count.0 count.1) (unsigned_at bytes)
 
--- the paths of a table
 abbrev pub paths_at : List ℕ → List ℕ → Option (List (List ℕ) × List ℕ)
-paths_at strings bytes = option_and_then (λ formats. option_and_then (λ count. paths_in count.0 formats.0 strings count.1) (unsigned_at formats.1)) (formats_at bytes)
+paths_at strings bytes = option_and_then (λ formats. paths_behind strings formats.0 formats.1) (formats_at bytes)

@@ -1,6 +1,7 @@
 pub mod Numbers
 pub mod Texts
 pub mod Programs
+pub mod Repeated
 pub mod Forms
 pub mod Files
 pub mod Parts

@@ -1,5 +1,7 @@
 -- The line of a pc.
-use Rattle.std.specs.Prelude.{◌≡◌, ℕ, ◌+◌, ◌*◌, ◌<◌, ◌==◌, ◌&&◌, ◌||◌, not, Bool, nat_le, nat_lt, List, [], ◌∷◌, length, Option, Some, None, option_and_then, option_map, slice_get, slice_index_or, if◌then◌else◌}
+use Rattle.std.specs.Prelude.{◌≡◌, ℕ, ◌+◌, ◌*◌, ◌<◌, ◌==◌, ◌&&◌, not, Bool, nat_le, nat_lt, List, [], ◌∷◌, length, Option, Some, None, option_and_then, option_map, slice_get, slice_index_or, if◌then◌else◌}
+use Rattle.std.specs.Bool.{then_some}
+use Rattle.std.specs.Option.{option_or}
 use Rattle.line_table.specs.SourceRows.{KnownRow}
 use Rattle.line_table.specs.Texts.{base_name}
 
@@ -33,3 +35,7 @@ IsRowAt rows pc (Some number) = (number < length rows) × (row_at rows pc ≡ sl
 -- each cell is of one word of text, which begins at 0x10000
 abbrev pub AreCells : List KnownRow → List (Option ℕ) → Type 0
 AreCells rows cells = (word : ℕ) → word < length cells → IsRowAt rows (0x1_0000 + 4 * word) (slice_index_or cells word None)
+
+-- a cell with this number, where it is of one of these words and had none
+abbrev pub filled : ℕ → ℕ → ℕ → ℕ → Option ℕ → Option ℕ
+filled first end number word cell = option_or cell (then_some (nat_le first word && nat_lt word end) number)

@@ -1,8 +1,8 @@
 //! Which row holds at an address.
 
-ghost use Rattle.line_table.specs.Lines.{AreCells, IsRowAt, holds};
+ghost use Rattle.line_table.specs.Lines.{AreCells, IsRowAt, filled, holds};
 ghost use Rattle.line_table.specs.SourceRows.{known_row};
-ghost use Rattle.std.specs.Prelude.{◌≡◌, ◌+◌, ◌*◌, ◌<◌, ◌≤◌, IfOk, IfSome, length, map};
+ghost use Rattle.std.specs.Prelude.{◌≡◌, ◌↔◌, ◌+◌, ◌*◌, ◌<◌, ◌≤◌, ℕ, IfOk, IfSome, None, length, map, slice_index_or};
 
 use crate::units::SourceRow;
 use std::alloc::{AllocError, Global};
@@ -63,13 +63,18 @@ pub(crate) fn cells_of(
 }
 
 /// How many words of text begin before an address.
-fn words_before(address: u64) -> usize {
+fn words_before(address: u64) -> usize
+    ensures before { (word : ℕ) → word < 16384 → word < result ↔ 0x1_0000 + 4 * word < address }
+    ensures few { result ≤ 16384 }
+{
     let offset = address.saturating_sub(TEXT_BASE).min(TEXT_SIZE);
-    offset.div_ceil(4) as usize
+    ((offset + 3) / 4) as usize
 }
 
 /// How many words of text there are up to the last that a row reaches.
-fn words_reached(rows: &[SourceRow<'_>]) -> usize {
+fn words_reached(rows: &[SourceRow<'_>]) -> usize
+    ensures { result ≤ 16384 }
+{
     let mut words = 0;
     for row in rows {
         words = words.max(words_before(row.address));
@@ -80,6 +85,7 @@ fn words_reached(rows: &[SourceRow<'_>]) -> usize {
 /// Puts a number into the cells of these words that have none.
 fn fill(cells: &mut [Option<usize>], first: usize, end: usize, number: usize)
     requires { end ≤ length cells.old }
+    ensures { (word : ℕ) → slice_index_or cells.new word None ≡ filled first end number word (slice_index_or cells.old word None) }
 {
     for word in first..end {
         if cells[word].is_none() {

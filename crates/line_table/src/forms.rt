@@ -1,8 +1,9 @@
 //! The tables of directories and files in the header of a unit of version 5 (DWARF 5, section 6.2.4.1).
 
-ghost use Rattle.line_table.specs.Forms.{entry_at, format_at, formats_at, formats_in, paths_at, paths_in, skipped, value_at};
+ghost use Rattle.line_table.specs.Forms.{block_value, entry_at, format_at, formats_at, number_value, paths_at, skipped, string_value, text_value, value_at};
+ghost use Rattle.line_table.specs.Repeated.{repeated};
 ghost use Rattle.std.specs.Option.{option_copied};
-ghost use Rattle.std.specs.Prelude.{◌≡◌, [], IfOk, map, option_map};
+ghost use Rattle.std.specs.Prelude.{◌≡◌, IfOk, map, option_map};
 
 use crate::numbers::{unsigned_at, word_at};
 use crate::texts::{text_at, text_in};
@@ -51,7 +52,7 @@ fn value_at<'a>(form: u64, strings: &'a [u8], bytes: &'a [u8]) -> Option<Value<'
 
 /// `DW_FORM_string`: a text that stands here.
 fn text_value(bytes: &[u8]) -> Option<Value<'_>>
-    ensures { option_map (λ found. (option_copied found.0, found.1.now)) result ≡ value_at 0x08 [] bytes.now }
+    ensures { option_map (λ found. (option_copied found.0, found.1.now)) result ≡ text_value bytes.now }
 {
     let (text, rest) = text_at(bytes)?;
     Some((Some(text), rest))
@@ -59,7 +60,7 @@ fn text_value(bytes: &[u8]) -> Option<Value<'_>>
 
 /// `DW_FORM_line_strp`: a text that stands in `.debug_line_str`.
 fn string_value<'a>(strings: &'a [u8], bytes: &'a [u8]) -> Option<Value<'a>>
-    ensures { option_map (λ found. (option_copied found.0, found.1.now)) result ≡ value_at 0x1f strings.now bytes.now }
+    ensures { option_map (λ found. (option_copied found.0, found.1.now)) result ≡ string_value strings.now bytes.now }
 {
     let (at, rest) = word_at(bytes)?;
     let text = text_in(strings, at)?;
@@ -68,7 +69,7 @@ fn string_value<'a>(strings: &'a [u8], bytes: &'a [u8]) -> Option<Value<'a>>
 
 /// `DW_FORM_udata`.
 fn number_value(bytes: &[u8]) -> Option<Value<'_>>
-    ensures { option_map (λ found. (option_copied found.0, found.1.now)) result ≡ value_at 0x0f [] bytes.now }
+    ensures { option_map (λ found. (option_copied found.0, found.1.now)) result ≡ number_value bytes.now }
 {
     let (_, rest) = unsigned_at(bytes)?;
     Some((None, rest))
@@ -76,7 +77,7 @@ fn number_value(bytes: &[u8]) -> Option<Value<'_>>
 
 /// `DW_FORM_block`: a size, and so many bytes.
 fn block_value(bytes: &[u8]) -> Option<Value<'_>>
-    ensures { option_map (λ found. (option_copied found.0, found.1.now)) result ≡ value_at 0x09 [] bytes.now }
+    ensures { option_map (λ found. (option_copied found.0, found.1.now)) result ≡ block_value bytes.now }
 {
     let (size, rest) = unsigned_at(bytes)?;
     skipped(size, rest)
@@ -84,7 +85,7 @@ fn block_value(bytes: &[u8]) -> Option<Value<'_>>
 
 /// The fields of each entry, whose count is a byte, and the bytes behind them.
 fn formats_at(alloc: Global, bytes: &[u8]) -> Result<Option<(Vec<Format>, &[u8])>, AllocError>
-    ensures { IfOk result (λ found. option_map (λ found. (map (λ format. (format.content, format.form)) found.0.items, found.1.now)) found ≡ formats_at bytes.now) }
+    ensures { IfOk result (λ found. option_map (λ found. (found.0.items, found.1.now)) found ≡ formats_at bytes.now) }
 {
     let [count, rest @ ..] = bytes else {
         return Ok(None);
@@ -98,11 +99,11 @@ fn formats_in(
     count: u8,
     bytes: &[u8],
 ) -> Result<Option<(Vec<Format>, &[u8])>, AllocError>
-    ensures { IfOk result (λ found. option_map (λ found. (map (λ format. (format.content, format.form)) found.0.items, found.1.now)) found ≡ formats_in count bytes.now) }
+    ensures { IfOk result (λ found. option_map (λ found. (found.0.items, found.1.now)) found ≡ repeated format_at count bytes.now) }
 {
     let mut formats = Vec::new(alloc);
     let mut rest = bytes;
-    for _ in 0..count {
+    for _number in 0..count {
         let Some((format, behind)) = format_at(rest) else {
             return Ok(None);
         };
@@ -113,7 +114,7 @@ fn formats_in(
 }
 
 fn format_at(bytes: &[u8]) -> Option<(Format, &[u8])>
-    ensures { option_map (λ found. ((found.0.content, found.0.form), found.1.now)) result ≡ format_at bytes.now }
+    ensures { option_map (λ found. (found.0, found.1.now)) result ≡ format_at bytes.now }
 {
     let (content, rest) = unsigned_at(bytes)?;
     let (form, rest) = unsigned_at(rest)?;
@@ -126,7 +127,7 @@ fn entry_at<'a>(
     strings: &'a [u8],
     bytes: &'a [u8],
 ) -> Option<(&'a [u8], &'a [u8])>
-    ensures { option_map (λ found. (found.0.now, found.1.now)) result ≡ entry_at (map (λ format. (format.content, format.form)) formats.now) strings.now bytes.now }
+    ensures { option_map (λ found. (found.0.now, found.1.now)) result ≡ entry_at formats.now strings.now bytes.now }
 {
     let mut path = None;
     let mut rest = bytes;
@@ -168,11 +169,11 @@ fn paths_in<'a>(
     bytes: &'a [u8],
 ) -> Result<Option<(Vec<&'a [u8]>, &'a [u8])>, AllocError>
     ensures { IfOk result (λ found. option_map (λ found. (map (λ path. path.now) found.0.items, found.1.now)) found
-        ≡ paths_in count (map (λ format. (format.content, format.form)) formats.now) strings.now bytes.now) }
+        ≡ repeated (entry_at formats.now strings.now) count bytes.now) }
 {
     let mut paths = Vec::new(alloc);
     let mut rest = bytes;
-    for _ in 0..count {
+    for _number in 0..count {
         let Some((path, behind)) = entry_at(formats, strings, rest) else {
             return Ok(None);
         };
