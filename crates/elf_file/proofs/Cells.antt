@@ -110,3 +110,24 @@ address_below table pc n f is read =
     let found : function_at table pc ≡ Some f = is.1 ∙ slice_get-get_or table n f is.0 ∙ ap (λ (g : FunctionSymbol). Some g) (sym read) in
     let has : has_address f pc ≡ true = subst (HasIt pc) found (all_have table pc None tt) in
     leb-true f.address pc (and_parts (nat_le f.address pc) (nat_lt pc (f.address + f.size)) has).0
+
+-- the same by the two tests apart
+pub kept_by_address : (table : List FunctionSymbol) (pc n : ℕ) (d : FunctionSymbol) (best : Option ℕ) → n < length table
+    → has_address (get_or table n d) pc ≡ false → IsNumberAt (take n table) pc best → IsNumberAt (take (n + 1) table) pc best
+kept_by_address table pc n d best within no is =
+    kept table pc n d best within (ap (λ (b : Bool). b && begins_behind table n best) no) is
+
+both : (a b : Bool) → a ≡ true → b ≡ true → (a && b) ≡ true
+both a b x y = ap (λ (t : Bool). t && b) x ∙ y
+
+pub kept_by_order : (table : List FunctionSymbol) (pc n : ℕ) (d : FunctionSymbol) (best : Option ℕ) → n < length table
+    → has_address (get_or table n d) pc ≡ true → begins_behind table n best ≡ false
+    → IsNumberAt (take n table) pc best → IsNumberAt (take (n + 1) table) pc best
+kept_by_order table pc n d best within has no is =
+    kept table pc n d best within (ap (λ (t : Bool). t && begins_behind table n best) has ∙ no) is
+
+pub taken_by_both : (table : List FunctionSymbol) (pc n : ℕ) (d : FunctionSymbol) (best : Option ℕ) → n < length table
+    → has_address (get_or table n d) pc ≡ true → begins_behind table n best ≡ true
+    → IsNumberAt (take n table) pc best → IsNumberAt (take (n + 1) table) pc (Some n)
+taken_by_both table pc n d best within has yes is =
+    taken table pc n d best within (both (has_address (get_or table n d) pc) (begins_behind table n best) has yes) is

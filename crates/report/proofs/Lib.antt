@@ -8,3 +8,4 @@ mod MediumLines
 mod TextWords
 mod SourceLines
 mod DisassemblyListing
+pub mod PrintedNames
