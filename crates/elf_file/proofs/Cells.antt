@@ -47,14 +47,14 @@ below table m n less within = omega (arith, length-take n table)
 pub kept : (table : List FunctionSymbol) (pc n : ℕ) (d : FunctionSymbol) (best : Option ℕ) → n < length table
     → (has_address (get_or table n d) pc && begins_behind table n best) ≡ false
     → IsNumberAt (take n table) pc best → IsNumberAt (take (n + 1) table) pc best
-kept table pc n d None within no is =
+kept table pc n d None within fails is =
     next table pc n d None within is
-    ∙ ap (λ (b : Bool). then_some b (get_or table n d)) (sym (and_true (has_address (get_or table n d) pc)) ∙ no)
-kept table pc n d (Some m) within no is =
+    ∙ ap (λ (b : Bool). then_some b (get_or table n d)) (sym (and_true (has_address (get_or table n d) pc)) ∙ fails)
+kept table pc n d (Some m) within fails is =
     let less : m < n = below table m n is.0 within in
     let was : function_at (take n table) pc ≡ Some (get_or table m d) = is.1 ∙ got table m n d less (omega arith) in
     let choice : (has_address (get_or table n d) pc && nat_lt (get_or table m d).address (get_or table n d).address) ≡ false =
-    compared table pc m n d false (omega arith) within no in (
+    compared table pc m n d false (omega arith) within fails in (
       inside table m (n + 1) (omega arith) (omega arith),
       next table pc n d (Some (get_or table m d)) within was
           ∙ ap (λ (b : Bool). if b then Some (get_or table n d) else Some (get_or table m d)) choice
@@ -65,17 +65,17 @@ kept table pc n d (Some m) within no is =
 pub taken : (table : List FunctionSymbol) (pc n : ℕ) (d : FunctionSymbol) (best : Option ℕ) → n < length table
     → (has_address (get_or table n d) pc && begins_behind table n best) ≡ true
     → IsNumberAt (take n table) pc best → IsNumberAt (take (n + 1) table) pc (Some n)
-taken table pc n d None within yes is = (
+taken table pc n d None within passes is = (
   inside table n (n + 1) (omega arith) (omega arith),
   next table pc n d None within is
-      ∙ ap (λ (b : Bool). then_some b (get_or table n d)) (sym (and_true (has_address (get_or table n d) pc)) ∙ yes)
+      ∙ ap (λ (b : Bool). then_some b (get_or table n d)) (sym (and_true (has_address (get_or table n d) pc)) ∙ passes)
       ∙ sym (got table n (n + 1) d (omega arith) (omega arith)),
 )
-taken table pc n d (Some m) within yes is =
+taken table pc n d (Some m) within passes is =
     let less : m < n = below table m n is.0 within in
     let was : function_at (take n table) pc ≡ Some (get_or table m d) = is.1 ∙ got table m n d less (omega arith) in
     let choice : (has_address (get_or table n d) pc && nat_lt (get_or table m d).address (get_or table n d).address) ≡ true =
-    compared table pc m n d true (omega arith) within yes in (
+    compared table pc m n d true (omega arith) within passes in (
       inside table n (n + 1) (omega arith) (omega arith),
       next table pc n d (Some (get_or table m d)) within was
           ∙ ap (λ (b : Bool). if b then Some (get_or table n d) else Some (get_or table m d)) choice
@@ -114,8 +114,8 @@ address_below table pc n f is read =
 -- the same by the two tests apart
 pub kept_by_address : (table : List FunctionSymbol) (pc n : ℕ) (d : FunctionSymbol) (best : Option ℕ) → n < length table
     → has_address (get_or table n d) pc ≡ false → IsNumberAt (take n table) pc best → IsNumberAt (take (n + 1) table) pc best
-kept_by_address table pc n d best within no is =
-    kept table pc n d best within (ap (λ (b : Bool). b && begins_behind table n best) no) is
+kept_by_address table pc n d best within fails is =
+    kept table pc n d best within (ap (λ (b : Bool). b && begins_behind table n best) fails) is
 
 both : (a b : Bool) → a ≡ true → b ≡ true → (a && b) ≡ true
 both a b x y = ap (λ (t : Bool). t && b) x ∙ y
@@ -123,11 +123,11 @@ both a b x y = ap (λ (t : Bool). t && b) x ∙ y
 pub kept_by_order : (table : List FunctionSymbol) (pc n : ℕ) (d : FunctionSymbol) (best : Option ℕ) → n < length table
     → has_address (get_or table n d) pc ≡ true → begins_behind table n best ≡ false
     → IsNumberAt (take n table) pc best → IsNumberAt (take (n + 1) table) pc best
-kept_by_order table pc n d best within has no is =
-    kept table pc n d best within (ap (λ (t : Bool). t && begins_behind table n best) has ∙ no) is
+kept_by_order table pc n d best within has fails is =
+    kept table pc n d best within (ap (λ (t : Bool). t && begins_behind table n best) has ∙ fails) is
 
 pub taken_by_both : (table : List FunctionSymbol) (pc n : ℕ) (d : FunctionSymbol) (best : Option ℕ) → n < length table
     → has_address (get_or table n d) pc ≡ true → begins_behind table n best ≡ true
     → IsNumberAt (take n table) pc best → IsNumberAt (take (n + 1) table) pc (Some n)
-taken_by_both table pc n d best within has yes is =
-    taken table pc n d best within (both (has_address (get_or table n d) pc) (begins_behind table n best) has yes) is
+taken_by_both table pc n d best within has passes is =
+    taken table pc n d best within (both (has_address (get_or table n d) pc) (begins_behind table n best) has passes) is
