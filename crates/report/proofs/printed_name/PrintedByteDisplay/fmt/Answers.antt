@@ -12,7 +12,7 @@ pub returns-in-Json-3-clause-writes : goal.returns-in-Json-3-clause-writes
 returns-in-Json-3-clause-writes g c =
     let byte = c.args.self.now.byte in
     let other : (byte == 34) ≡ false = grind (arith, nat_tests) in
-    let escaped : is_graphic byte ≡ false = sym c.if-is_graphic-2.ensures ∙ c.if-is_graphic-2.false in
+    let escaped : is_graphic byte ≡ false = sym c.if-is_graphic-2.ensures in
     let same : name_byte c.args.self.now.form byte ≡ 92 ∷ 92 ∷ 120 ∷ two_digits byte =
     ap (λ (f : Form). name_byte f byte) c.in-Json-3.is ∙ json_escaped byte other escaped in
     rw same (search (rules, hex_byte))
