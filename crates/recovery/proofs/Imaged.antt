@@ -27,7 +27,7 @@ not_both : (b : Bool) → not b ≡ true → b ≡ true → ⊥
 not_both true h e = true≢false (sym h)
 not_both false h e = true≢false (sym e)
 
-same_here : (bytes i : ℕ) (xs ys : List ℕ) (j : ℕ) → same_at bytes i xs ys ≡ true → has_byte bytes (i + j) ≡ true → slice_get xs j ≡ slice_get ys j
+pub same_here : (bytes i : ℕ) (xs ys : List ℕ) (j : ℕ) → same_at bytes i xs ys ≡ true → has_byte bytes (i + j) ≡ true → slice_get xs j ≡ slice_get ys j
 same_here bytes i [] [] j h has = refl
 same_here bytes i [] (y ∷ ys) zero h has =
     let at : i + 0 ≡ i = omega arith in

@@ -20,3 +20,4 @@ pub mod Sequencing
 pub mod Entering
 pub mod Judged
 pub mod Equal
+pub mod Known

@@ -13,3 +13,4 @@ pub mod Windows
 pub mod Codes
 pub mod Order
 pub mod Fitting
+pub mod KnownRuns

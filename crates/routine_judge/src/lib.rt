@@ -14,6 +14,7 @@ mod history;
 mod images_judge;
 mod judge;
 mod judging;
+mod known_runs;
 mod order;
 mod passing;
 mod right;
@@ -31,6 +32,7 @@ pub use history::{
 pub use images_judge::{AnswersWorkspace, judge_images};
 pub use judge::MomentJudge;
 pub use judging::{Judgement, judged_part};
+pub use known_runs::KnownRuns;
 pub use order::{
     Operation, Precedence, SequentialState, Word, precedences_stand, sequential_states_stand,
 };
