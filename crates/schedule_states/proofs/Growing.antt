@@ -1,6 +1,6 @@
 -- What holds of parts holds as they grow.
-use Rattle.std.proofs.Common.{◌≡◌, inl, inr, ℕ, ◌<◌, List, Some, length, slice_get, slice_index_or, refl, sym, ap, ◌∙◌, subst, arith}
-use Rattle.std.proofs.lemmas.Option.{get_or_from_slice_get, slice_get-get_or}
+use Rattle.std.proofs.Common.{◌≡◌, ◌≢◌, inl, inr, ℕ, ◌<◌, List, Some, length, slice_get, slice_index_or, refl, sym, ap, ◌∙◌, subst, arith}
+use Rattle.std.proofs.lemmas.Option.{get_or_from_slice_get, same_Some, slice_get-get_or}
 use Rattle.hart.specs.declared.need.Request.{Request}
 use Rattle.hart.specs.declared.need.Reply.{Reply}
 use Rattle.hart.specs.declared.state.HartState.{HartState}
@@ -10,7 +10,7 @@ use Rattle.schedule_states.proofs.Looking.{within_kept}
 use Rattle.schedule_states.specs.Ahead.{IsNext}
 use Rattle.schedule_states.specs.Memories.{TableView}
 use Rattle.schedule_states.specs.States.{AreGrown, IsReady, PartsView}
-use Rattle.schedule_states.specs.Successors.{AreHartsAfter, AreServed, HasLists, IsTextAfter, memory_held}
+use Rattle.schedule_states.specs.Successors.{AreHartsAfter, AreServed, HasLists, HaveMoved, IsTextAfter, memory_held}
 use Rattle.schedule_states.specs.declared.ahead.Next.{Next}
 use Rattle.schedule_states.specs.declared.ahead.Next.TheVariants as nexts
 use Rattle.schedule_states.specs.declared.held_lines.HeldLine.{HeldLine}
@@ -67,3 +67,17 @@ pub ready_of_next : (text : Memory) (s : HartState) (next : Next) → IsNext tex
 ready_of_next text s (nexts.Asks instr request) is not = inl (request, is.0)
 ready_of_next text s nexts.Stopped is not = inr is
 ready_of_next text s nexts.TooLong is not = absurd (not refl)
+
+-- the other harts' parts are as before, but for what they have reserved
+pub moved_after : (h : ℕ) (own : HartPart) (request : Request) (reply : Reply) (before after : List HartPart) → AreHartsAfter h own request reply before after →
+    HaveMoved h before after
+moved_after h own request reply before after harts = record {
+  count = harts.count;
+  others = λ g was part here there apart.
+      elim (harts.each g part there) [
+        | inl mine ↦ absurd (apart mine.0)
+        | inr other ↦
+            let same : other.1.0 ≡ was = same_Some other.1.0 was (sym other.1.1 ∙ here) in
+            (other.1.2.state ∙ ap (λ (p : HartPart). p.state) same, other.1.2.text ∙ ap (λ (p : HartPart). p.text) same)
+      ];
+}

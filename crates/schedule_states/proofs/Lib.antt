@@ -1,5 +1,6 @@
 pub mod Answered
 pub mod Begun
+pub mod Changing
 pub mod Closing
 pub mod Covering
 pub mod Fencing

@@ -2,6 +2,7 @@ pub mod Ahead
 pub mod Contents
 pub mod Covering
 pub mod Exploring
+pub mod Fed
 pub mod Happening
 pub mod HeldLines
 pub mod Images

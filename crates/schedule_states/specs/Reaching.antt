@@ -7,7 +7,7 @@ use Rattle.schedule_states.specs.Covering.{Covers, ReachedView, StandsAs}
 use Rattle.schedule_states.specs.Marks.{IsMarkedBy}
 use Rattle.schedule_states.specs.Numbers.{AreKept}
 use Rattle.schedule_states.specs.States.{AreGrown, AsksTo, PartsView, StandsFor}
-use Rattle.schedule_states.specs.Successors.{HasLists}
+use Rattle.schedule_states.specs.Successors.{AreOthersAlike, HasLists}
 use Rattle.schedule_states.specs.declared.program_state.HartPart.{HartPart}
 use Rattle.schedule_states.specs.declared.program_state.ProgramState.{ProgramState}
 use Rattle.schedule_states.specs.declared.program_state.StateNumbers.{StateNumbers}
@@ -51,6 +51,11 @@ pub record ArePartsOf {T : Type 0} (r : ReachedView T) (numbers : StateNumbers) 
 -- these are the numbers of the first parts
 abbrev pub AreNumbersOf : List HartPart → List HartPart → ℕ → List ℕ → Type 0
 AreNumbersOf known parts count numbers = (h : ℕ) (part : HartPart) → h < count → slice_get parts h ≡ Some part → slice_get known (slice_index_or numbers h 0) ≡ Some part
+
+-- these are the numbers of the parts of before, from which those of after differ by one hart's, and by what others have reserved
+pub record AreNumbersBefore (known before : List HartPart) (numbers : List ℕ) (moved : ℕ) (after : List HartPart) : Type 0 where
+  pub numbered : AreNumbersOf known before (length before) numbers
+  pub others : AreOthersAlike moved before after
 
 -- this number has what is kept before any event
 abbrev pub IsFirst : {T : Type 0} → (T → List Event → Type 0) → List T → ℕ → Type 0

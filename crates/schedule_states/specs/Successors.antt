@@ -52,6 +52,16 @@ pub record AreHartsAfter (h : ℕ) (own : HartPart) (request : Request) (reply :
   pub count : length after ≡ length before
   pub each : (g : ℕ) (part : HartPart) → slice_get after g ≡ Some part → IsPartAfter h own request reply before g part
 
+-- the parts of other harts than this one are as before, but for what they have reserved
+abbrev pub AreOthersAlike : ℕ → List HartPart → List HartPart → Type 0
+AreOthersAlike h before after = (g : ℕ) (was part : HartPart) → slice_get before g ≡ Some was → slice_get after g ≡ Some part → g ≢ h →
+    (part.state ≡ was.state) × (part.text ≡ was.text)
+
+-- so many harts as before, of which this one alone has moved
+pub record HaveMoved (h : ℕ) (before after : List HartPart) : Type 0 where
+  pub count : length after ≡ length before
+  pub others : AreOthersAlike h before after
+
 -- the number of a list with the text of these lines: where the request renews the copy of the text, and else the number of before
 pub record IsTextAfter (parts : PartsView) (request : Request) (lines : List HeldLine) (before after : ℕ) : Type 0 where
   pub kept : is_renewing request ≡ false → after ≡ before

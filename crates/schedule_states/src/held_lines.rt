@@ -5,12 +5,29 @@ ghost use Rattle.schedule_states.specs.HeldLines.{AreBelow, is_apart, is_of_medi
 
 use crate::start_lines::PERSISTENT_LINE;
 use std::alloc::{AllocError, Global};
+use std::hash::{Hash, Hasher};
 
 /// A line that isn't as it was at the start, and the number of its state. A list of them goes up by lines.
-#[derive(Clone, Copy, Debug, PartialEq, Eq, PartialOrd, Ord, Hash)]
+#[derive(Clone, Copy, Debug, PartialEq, Eq, PartialOrd, Ord)]
 pub struct HeldLine {
     pub line: u32,
     pub state: u32,
+}
+
+/// Both numbers by one write.
+impl Hash for HeldLine {
+    ghost use Rattle.std.specs.Hash as fed;
+    ghost use Rattle.std.specs.Cmp.Rules.{hashing};
+    ghost use Rattle.std.specs.Prelude.{◌+◌, ◌*◌};
+    ghost use Rattle.std.proofs.Common.{rules};
+
+    ghost hash_input = { λ h. fed.u64 (4294967296 * h.line + h.state) };
+
+    ghost respects_eq = { Prim.search (hashing, rules) };
+
+    fn hash<H: Hasher>(&self, state: &mut H) {
+        state.write_u64(4_294_967_296 * u64::from(self.line) + u64::from(self.state));
+    }
 }
 
 /// The number of the state of a line, None where the line is as it was.

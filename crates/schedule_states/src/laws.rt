@@ -20,7 +20,8 @@ fn equal_states_are_same()
     ensures { (a b : AHartState) → ⟦<HartState as PartialEq>⟧.eq a b ≡ true → a ≡ b }
 {}
 
-fn equal_reserved_are_same()
+/// Lines that are reserved, or none, and are equal are the same.
+pub(crate) fn equal_reserved_are_same()
     ensures { (a b : Option ℕ) → ⟦<Option<u64> as PartialEq>⟧.eq a b ≡ true → a ≡ b }
 {}
 

@@ -1,6 +1,7 @@
 //! A line of persistent memory, without its past.
 
-ghost use Rattle.std.specs.Prelude.{◌≡◌, ◌≢◌, ◌↔◌, ◌⊎◌, ◌+◌, ◌<◌, ◌≤◌, ℕ, List, ◌∷◌, [], filter, length, map, Contains, IfOk, IsTrue};
+ghost use Rattle.std.specs.Prelude.{◌≡◌, ◌≢◌, ◌↔◌, ◌⊎◌, ◌+◌, ◌^◌, ◌<◌, ◌≤◌, ℕ, List, ◌∷◌, [], filter, fold, length, map, Contains, IfOk, IsTrue};
+ghost use Rattle.schedule_states.specs.Fed.{half_of, word_of, words};
 ghost use Rattle.schedule_states.specs.LineStates.{IsLineState, gone_with, stays_after, unfenced};
 ghost use Rattle.schedule_states.specs.declared.line_state.Content.{Content as AContent};
 ghost use Rattle.store_trace.specs.declared.crash_model.step.PersistenceStep.TheVariants as step;
@@ -9,12 +10,13 @@ ghost use Rattle.word_bits.specs.Bytes.{stored};
 
 use line_memory::{LINE_SIZE, store_bytes};
 use std::alloc::{AllocError, Global};
+use std::hash::{Hash, Hasher};
 
 /// How many harts there are at most.
 const HARTS: usize = 8;
 
 /// A content that a power cut may leave of a line.
-#[derive(Clone, Copy, Debug, PartialEq, Eq, PartialOrd, Ord, Hash)]
+#[derive(Clone, Copy, Debug, PartialEq, Eq, PartialOrd, Ord)]
 pub struct Content {
     pub bytes: [u8; LINE_SIZE],
     /// Of each hart, whether it might be left still if that hart made a fence now.
@@ -22,11 +24,82 @@ pub struct Content {
 }
 
 /// A line as it is: what loads find, and what else a power cut may leave of it.
-#[derive(Drop, PartialEq, Eq, Hash)]
+#[derive(Drop, PartialEq, Eq)]
 pub struct LineState {
     pub bytes: [u8; LINE_SIZE],
     /// None has the bytes that loads find, which may be left too, and no two have the same. They go up by their bytes.
     pub others: Vec<Content>,
+}
+
+/// Its bytes by eight writes, which take a fifth of the time of one for each.
+impl Hash for Content {
+    ghost use Rattle.schedule_states.specs.Fed.{content, words};
+    ghost use Rattle.std.proofs.lemmas.Slice.Eq.{bytes_eq-Decides};
+    ghost use Rattle.std.specs.Cmp.{booleans_Decides};
+    ghost use Rattle.std.specs.Hash.{and-Alike, bool, items_Alike, on_Alike, same_Alike};
+
+    ghost hash_input = { content };
+
+    ghost respects_eq = { (and-Alike (on_Alike (λ (c : AContent). c.bytes) (same_Alike words bytes_eq-Decides))
+        (on_Alike (λ (c : AContent). c.stays) (items_Alike (same_Alike bool booleans_Decides)))).fed };
+
+    fn hash<H: Hasher>(&self, state: &mut H) {
+        hash_line(&self.bytes, state);
+        self.stays.hash(state);
+    }
+}
+
+impl Hash for LineState {
+    ghost use Rattle.schedule_states.specs.Fed.{line, words};
+    ghost use Rattle.schedule_states.specs.declared.line_state.LineState.{LineState as AState};
+    ghost use Rattle.std.proofs.lemmas.Slice.Eq.{bytes_eq-Decides};
+    ghost use Rattle.std.specs.Cmp.{booleans_Decides};
+    ghost use Rattle.std.specs.Hash.{and-Alike, bool, items_Alike, on_Alike, same_Alike};
+
+    ghost hash_input = { line };
+
+    ghost respects_eq = { (and-Alike (on_Alike (λ (s : AState). s.bytes) (same_Alike words bytes_eq-Decides))
+        (on_Alike (λ (s : AState). s.others.items) (items_Alike (and-Alike (on_Alike (λ (c : AContent). c.bytes) (same_Alike words bytes_eq-Decides))
+        (on_Alike (λ (c : AContent). c.stays) (items_Alike (same_Alike bool booleans_Decides))))))).fed };
+
+    fn hash<H: Hasher>(&self, state: &mut H) {
+        hash_line(&self.bytes, state);
+        self.others.hash(state);
+    }
+}
+
+fn hash_line<H: Hasher>(bytes: &[u8; LINE_SIZE], state: &mut H)
+    ensures { state.new ≡ fold H.write state.old (words bytes.now) }
+{
+    state.write_u64(word_at(bytes, 0));
+    state.write_u64(word_at(bytes, 8));
+    state.write_u64(word_at(bytes, 16));
+    state.write_u64(word_at(bytes, 24));
+    state.write_u64(word_at(bytes, 32));
+    state.write_u64(word_at(bytes, 40));
+    state.write_u64(word_at(bytes, 48));
+    state.write_u64(word_at(bytes, 56));
+}
+
+/// Eight bytes of a line from one on, the lowest first, as a number.
+#[inline(always)]
+fn word_at(bytes: &[u8; LINE_SIZE], at: usize) -> u64
+    requires { at + 8 ≤ 64 }
+    ensures { result ≡ word_of bytes.now at }
+{
+    half_at(bytes, at) + 4_294_967_296 * half_at(bytes, at + 4)
+}
+
+/// Four of them.
+#[inline(always)]
+fn half_at(bytes: &[u8; LINE_SIZE], at: usize) -> u64
+    requires { at + 4 ≤ 64 }
+    ensures value { result ≡ half_of bytes.now at }
+    ensures low { result < 2 ^ 32 }
+{
+    let low = u64::from(bytes[at]) + 256 * u64::from(bytes[at + 1]);
+    let high = u64::from(bytes[at + 2]) + 256 * u64::from(bytes[at + 3]);
+    low + 65_536 * high
 }
 
 impl LineState {

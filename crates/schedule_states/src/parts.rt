@@ -9,7 +9,7 @@ ghost use Rattle.schedule_states.specs.Ahead.{ComesAlone, IsNext};
 ghost use Rattle.schedule_states.specs.HeldLines.{AreBelow};
 ghost use Rattle.schedule_states.specs.Requests.{is_reserved};
 ghost use Rattle.schedule_states.specs.States.{AreGrown, AreLists, StandsFor};
-ghost use Rattle.schedule_states.specs.Successors.{AreServed, HasLists, IfState, IsAskingOf, IsStartPart, IsSuccessor, IsTextAfter, memory_held};
+ghost use Rattle.schedule_states.specs.Successors.{AreServed, HasLists, HaveMoved, IfState, IsAskingOf, IsStartPart, IsSuccessor, IsTextAfter, memory_held};
 ghost use Rattle.machine.specs.Histories.{text_of};
 ghost use Rattle.machine.specs.Run.{fetched, started};
 ghost use Rattle.schedule_states.specs.Happening.{IsAtRequest};
@@ -158,7 +158,7 @@ impl<'a> Parts<'a> {
         ensures successor { IfOk result (IsSuccessor self.old self.new state.now hart) }
         ensures asks { IfOk result (λ found. IfState found (λ next. IsAtRequest self.old state.now hart)) }
         ensures lists { IfOk result (λ found. IfState found (HasLists self.new)) }
-        ensures count { IfOk result (λ found. IfState found (λ next. length next.harts.items ≡ length state.now.harts.items)) }
+        ensures harts { IfOk result (λ found. IfState found (λ next. HaveMoved hart state.now.harts.items next.harts.items)) }
         ensures grown { AreGrown self.old self.new }
     {
         let part = state.harts[hart as usize];
@@ -193,7 +193,7 @@ impl<'a> Parts<'a> {
         requires asking { IsAskingOf self.old state.now asking.now }
         ensures successor { IfOk result (IsSuccessor self.old self.new state.now asking.now.hart) }
         ensures lists { IfOk result (λ found. IfState found (HasLists self.new)) }
-        ensures count { IfOk result (λ found. IfState found (λ next. length next.harts.items ≡ length state.now.harts.items)) }
+        ensures harts { IfOk result (λ found. IfState found (λ next. HaveMoved asking.now.hart state.now.harts.items next.harts.items)) }
         ensures grown { AreGrown self.old self.new }
     {
         let (part, request) = (asking.part, asking.request);

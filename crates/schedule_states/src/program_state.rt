@@ -1,6 +1,6 @@
 //! States of a program.
 
-ghost use Rattle.std.specs.Prelude.{◌≡◌, ◌++◌};
+ghost use Rattle.std.specs.Prelude.{◌≡◌, ◌+◌, ◌*◌, ◌++◌};
 ghost use Rattle.std.specs.Hash as fed;
 ghost use Rattle.std.specs.Cmp.Rules.{hashing};
 ghost use Rattle.std.proofs.Common.{rules};
@@ -48,11 +48,36 @@ pub struct ProgramState {
 }
 
 /// A state by the numbers of its parts.
-#[derive(Clone, Copy, Debug, PartialEq, Eq, Hash)]
+#[derive(Clone, Copy, Debug, PartialEq, Eq)]
 pub struct StateNumbers {
     /// Those of its harts, and zero behind them.
     pub harts: [u32; 8],
     pub memory: u32,
     /// Of what is kept of the operations.
     pub standing: u32,
+}
+
+/// Two numbers by one write.
+impl Hash for StateNumbers {
+    ghost use Rattle.schedule_states.specs.Fed.{numbers};
+
+    ghost hash_input = { numbers };
+
+    ghost respects_eq = { Prim.search (hashing, rules) };
+
+    fn hash<H: Hasher>(&self, state: &mut H) {
+        let harts = &self.harts;
+        state.write_u64(pair(harts[0], harts[1]));
+        state.write_u64(pair(harts[2], harts[3]));
+        state.write_u64(pair(harts[4], harts[5]));
+        state.write_u64(pair(harts[6], harts[7]));
+        state.write_u64(pair(self.memory, self.standing));
+    }
+}
+
+/// Two numbers as one.
+fn pair(high: u32, low: u32) -> u64
+    ensures { result ≡ 4294967296 * high + low }
+{
+    4_294_967_296 * u64::from(high) + u64::from(low)
 }

@@ -9,12 +9,13 @@ ghost use Rattle.schedule_states.specs.Happening.{AreLed, HasHappenedAt, IsLedAs
 ghost use Rattle.schedule_states.specs.Judging.{IsGoodMoment, StaysGood};
 ghost use Rattle.schedule_states.specs.Leads.{AreOfHarts};
 ghost use Rattle.schedule_states.specs.Media.{AreOnMedium};
-ghost use Rattle.schedule_states.specs.Reaching.{AreNumbered, AreNumbersOf, ArePartsOf, AreThere, HaveGrown, IsClosedBy, IsFirst, IsClosedFor, IsKeptOn, WereBefore};
+ghost use Rattle.schedule_states.specs.Reaching.{AreNumbered, AreNumbersBefore, AreNumbersOf, ArePartsOf, AreThere, HaveGrown, IsClosedBy, IsFirst, IsClosedFor, IsKeptOn, WereBefore};
 ghost use Rattle.schedule_states.specs.States.{AreLists};
 ghost use Rattle.schedule_states.specs.Successors.{HasLists};
 ghost use Rattle.schedule_states.specs.Turns.{MayGo, MayNotGo};
+ghost use Rattle.schedule_states.specs.declared.program_state.HartPart.{HartPart as AHartPart};
 
-use crate::laws::{equal_numbers_are_same, equal_parts_are_same};
+use crate::laws::{equal_numbers_are_same, equal_parts_are_same, equal_reserved_are_same};
 use crate::leads::{Lead, Leads};
 use crate::moments::{Judged, Moment};
 use crate::numbers::Numbers;
@@ -99,6 +100,7 @@ impl<'a, J: StateJudge> Reached<'a, J> {
         let none = Before {
             parts: &[],
             numbers: &[0; 8],
+            moved: 0,
         };
         self.number_of(&start, standing, none)?;
         Ok(None)
@@ -299,6 +301,7 @@ impl<'a, J: StateJudge> Reached<'a, J> {
                 let before = Before {
                     parts: &state.harts,
                     numbers: &numbers.harts,
+                    moved: hart,
                 };
                 self.number_of(&next, standing, before)?;
                 Ok(None)
@@ -326,7 +329,7 @@ impl<'a, J: StateJudge> Reached<'a, J> {
         requires count { length state.now.harts.items ≡ self.old.harts }
         requires lists { HasLists self.old.parts state.now }
         requires standing { standing < length self.old.standings }
-        requires before { AreNumbersOf self.old.hart_parts before.parts.now (length before.parts.now) before.numbers.now }
+        requires before { AreNumbersBefore self.old.hart_parts before.parts.now before.numbers.now before.moved state.now.harts.items }
         ensures met { IfOk result (λ number. (t : J.Standing) → slice_get self.old.standings standing ≡ Some t → IsMet self.new number state.now t) }
         ensures only { IfOk result (λ number. (t : J.Standing) → slice_get self.old.standings standing ≡ Some t → (n : ℕ) → n < length self.new.states →
             (n < length self.old.states) ⊎ IsMet self.new n state.now t) }
@@ -415,11 +418,12 @@ fn standing_after<J: StateJudge>(
     }
 }
 
-/// The parts of harts in the state of before, and their numbers.
+/// The parts of harts in the state of before, their numbers, and the hart that has moved since.
 #[derive(Clone, Copy)]
 struct Before<'b> {
     parts: &'b [HartPart],
     numbers: &'b [u32; 8],
+    moved: u32,
 }
 
 /// The numbers of parts of harts, and zero behind them.
@@ -429,7 +433,7 @@ fn numbers_of(
     before: Before<'_>,
 ) -> Result<[u32; 8], AllocError>
     requires few { length parts.now ≤ 8 }
-    requires before { AreNumbersOf known.old before.parts.now (length before.parts.now) before.numbers.now }
+    requires before { AreNumbersBefore known.old before.parts.now before.numbers.now before.moved parts.now }
     ensures kept { AreKept known.old known.new }
     ensures numbers { IfOk result (λ numbers. AreNumbersOf known.new parts.now (length parts.now) numbers) }
 {
@@ -440,7 +444,7 @@ fn numbers_of(
     Ok(numbers)
 }
 
-/// The number of a hart's part, which is that of before where the part is as it was.
+/// The number of a hart's part, which is that of before where another hart has moved and this one has reserved the same line.
 fn number_at(
     known: &mut Numbers<HartPart>,
     part: HartPart,
@@ -449,12 +453,16 @@ fn number_at(
 ) -> Result<u32, AllocError>
     requires few { hart < 8 }
     requires before { AreNumbersOf known.old before.parts.now (length before.parts.now) before.numbers.now }
+    requires alike { (was : AHartPart) → slice_get before.parts.now hart ≡ Some was → hart ≢ before.moved → (part.state ≡ was.state) × (part.text ≡ was.text) }
     ensures kept { AreKept known.old known.new }
     ensures number { IfOk result (λ number. slice_get known.new number ≡ Some part) }
 {
-    equal_parts_are_same();
-    if hart < before.parts.len() && before.parts[hart] == part {
-        return Ok(before.numbers[hart]);
+    if hart < before.parts.len() && hart != before.moved as usize {
+        equal_reserved_are_same();
+        if before.parts[hart].reserved == part.reserved {
+            return Ok(before.numbers[hart]);
+        }
     }
+    equal_parts_are_same();
     known.number_of(part)
 }

@@ -4,7 +4,7 @@ ghost use Rattle.std.specs.Prelude.{◌≡◌, ◌==◌, ◌<◌, ◌≤◌, ℕ
 ghost use Rattle.hart.specs.Requests.{IsRequest};
 ghost use Rattle.schedule_states.specs.HeldLines.{AreBelow, is_low, number_of};
 ghost use Rattle.schedule_states.specs.States.{AreGrown};
-ghost use Rattle.schedule_states.specs.Successors.{AreHartsAfter, HasLists, IfState, IsOtherAfter, IsPartAfter, IsSuccessor};
+ghost use Rattle.schedule_states.specs.Successors.{AreHartsAfter, HasLists, IfState, IsOtherAfter, IsSuccessor};
 
 use crate::held_lines::HeldLine;
 use crate::program_state::{HartPart, ProgramState};
@@ -34,47 +34,23 @@ pub(crate) fn harts_after(
     reply: Reply,
 ) -> Result<Vec<HartPart>, AllocError>
     requires request { IsRequest request }
-    requires few { length harts.now ≤ 8 }
+    requires there { hart < length harts.now }
     ensures { IfOk result (λ after. AreHartsAfter hart own.now request reply harts.now after.items) }
 {
-    let mut after = Vec::with_capacity(alloc, harts.len())?;
+    let mut after = Vec::from_slice(alloc, harts)?;
     for at in 0..harts.len() {
-        after.push(part_after(harts, at, hart, own, request, reply))?;
+        give_up(&mut after[at], request, reply);
     }
+    after[hart as usize] = *own;
     Ok(after)
 }
 
-/// The part of hart `at` after it.
-#[tactic(auto, using(bus::proofs::Places::get_of))]
-fn part_after(
-    harts: &[HartPart],
-    at: usize,
-    hart: u32,
-    own: &HartPart,
-    request: Request,
-    reply: Reply,
-) -> HartPart
-    requires request { IsRequest request }
-    requires there { at < length harts.now }
-    ensures { IsPartAfter hart own.now request reply harts.now at result }
-{
-    if at == hart as usize {
-        *own
-    } else {
-        other_after(harts[at], request, reply)
-    }
-}
-
-/// Another hart's part after a request.
-fn other_after(part: HartPart, request: Request, reply: Reply) -> HartPart
+/// What another hart reserves no more after a request.
+fn give_up(part: &mut HartPart, request: Request, reply: Reply)
     requires { IsRequest request }
-    ensures { IsOtherAfter request reply part result }
+    ensures { IsOtherAfter request reply part.old part.new }
 {
-    HartPart {
-        state: part.state,
-        reserved: reserved_after(part.reserved, false, request, reply),
-        text: part.text,
-    }
+    part.reserved = reserved_after(part.reserved, false, request, reply);
 }
 
 /// Those of the lines that lie in the text region, or below it.

@@ -7,7 +7,14 @@ use Rattle.schedule_states.proofs.reached.numbers_of.Goals as goal
 
 pub number_at-requires-clause-before : goal.number_at-requires-clause-before
 number_at-requires-clause-before c = λ h part few here.
-    c.loop-hart.invariant.0 (slice_index_or c.args.before.numbers.now h 0) part (c.requires.before h part few here)
+    c.loop-hart.invariant.0 (slice_index_or c.args.before.numbers.now h 0) part (c.requires.before.numbered h part few here)
+
+pub number_at-requires-clause-alike : goal.number_at-requires-clause-alike
+number_at-requires-clause-alike c = λ was here apart.
+    let there : c.loop-hart.hart < length c.args.parts.now = search rules in
+    let got : slice_get c.args.parts.now c.loop-hart.hart ≡ Some c.index-parts-hart.result =
+    slice_get-get_or c.args.parts.now c.loop-hart.hart c.index-parts-hart.result there ∙ ap (λ (p : HartPart). Some p) (sym c.index-parts-hart.is) in
+    c.requires.before.others c.loop-hart.hart was c.index-parts-hart.result here got apart
 
 pub loop-hart-preserved : goal.loop-hart-preserved
 loop-hart-preserved c =

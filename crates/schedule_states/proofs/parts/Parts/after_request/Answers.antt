@@ -35,4 +35,4 @@ returns-in-Asks-clause-asks c =
       request = next.2;
     } in
     IfOk-weaker c.serve.result _ _ (λ found count. if_state found _ (record { hart = c.args.hart; part = c.index-part.result.now; instr = c.in-Asks.instr; request = c.in-Asks.request }, refl, asking))
-    c.serve.ensures.count
+    c.serve.ensures.harts

@@ -1,12 +1,16 @@
 use Rattle.std.proofs.Common.{◌≡◌, ◌==◌, true, [], slice_index_or, ◌∙◌, arith, rules}
 use Rattle.std.proofs.lemmas.Bool.Decides.{nat_tests}
+use Rattle.std.proofs.lemmas.Option.{slice_get_within}
 use Rattle.schedule_states.proofs.Answered.{stands_served}
-use Rattle.schedule_states.proofs.Growing.{grown_then, has_lists_after, ready_of_next, served_still, text_still, there_still}
+use Rattle.schedule_states.proofs.Growing.{grown_then, has_lists_after, moved_after, ready_of_next, served_still, text_still, there_still}
 use Rattle.schedule_states.specs.States.{AreGrown}
 use Rattle.schedule_states.specs.Successors.{AreHartsAfter, AreServed, IsServedFor, IsTextAfter}
 use Rattle.schedule_states.specs.declared.program_state.HartPart.{HartPart}
 use Rattle.schedule_states.specs.declared.program_state.ProgramState.{ProgramState}
 use Rattle.schedule_states.proofs.parts.Parts.serve.Goals as goal
+
+pub harts_after-requires-clause-there : goal.harts_after-requires-clause-there
+harts_after-requires-clause-there c = rw c.deref-2.ensures.value (slice_get_within c.args.state.now.harts.items c.args.asking.now.hart c.args.asking.now.part c.requires.asking.part)
 
 pub run_ahead-requires : goal.run_ahead-requires
 run_ahead-requires c = there_still c.text_after.new.self c.number_of.new.self c.in_ok-text.text c.number_of.ensures.grown c.in_ok-text.ensures.there
@@ -19,7 +23,7 @@ pub returns-in_err-harts : goal.returns-in_err-harts
 returns-in_err-harts c = record {
   successor = search rules;
   lists = search rules;
-  count = search rules;
+  harts = search rules;
   grown = grown_then c.args.self.now c.memory_after.new.self c.number_of.new.self c.memory_after.ensures.grown
       (grown_then c.memory_after.new.self c.text_after.new.self c.number_of.new.self c.text_after.ensures.grown c.number_of.ensures.grown);
 }
@@ -64,6 +68,6 @@ returns c =
       lists = has_lists_after c.args.self.now c.number_of.new.self c.args.state.now next c.args.asking.now.hart own c.args.asking.now.request c.in_ok-reply.reply
           grown c.requires.lists c.in_ok-memory.ensures.there
           (there_still c.text_after.new.self c.number_of.new.self c.in_ok-text.text c.number_of.ensures.grown c.in_ok-text.ensures.there) harts;
-      count = harts.count;
+      harts = moved_after c.args.asking.now.hart own c.args.asking.now.request c.in_ok-reply.reply c.args.state.now.harts.items c.in_ok-harts.harts.items harts;
       grown = grown;
     }

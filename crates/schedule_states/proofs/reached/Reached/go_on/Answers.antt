@@ -10,7 +10,7 @@ use Rattle.schedule_states.specs.Covering.{ReachedView}
 use Rattle.schedule_states.specs.Happening.{IsAtRequest, IsLedAs}
 use Rattle.schedule_states.specs.Reaching.{ArePartsOf, HaveGrown, IsKeptOn}
 use Rattle.schedule_states.specs.States.{StandsFor}
-use Rattle.schedule_states.specs.Successors.{HasLists, IsSuccessor}
+use Rattle.schedule_states.specs.Successors.{HasLists, HaveMoved, IfState, IsSuccessor}
 use Rattle.schedule_states.specs.declared.successor.Successor.TheVariants as answer
 use Rattle.schedule_states.proofs.reached.Reached.go_on.Goals as goal
 
@@ -22,7 +22,9 @@ returns-then-not-may_go-clause-closed g c = λ told t kept k d stands_as may ask
 pub number_of-requires-clause-before : goal.number_of-requires-clause-before
 number_of-requires-clause-before g c =
     let parts = subst (λ (r : ReachedView _). ArePartsOf r c.args.numbers.now r.harts c.args.state.now.harts.items) (sym c.self.view_is) c.requires.parts in
-    rw c.deref.ensures.value (λ h part few here. parts.each h part here)
+    let moved : IfState (answer.State c.in-State.next c.in-State.mark) (λ next. HaveMoved c.args.hart c.args.state.now.harts.items next.harts.items) =
+    rw c.in-State.is at c.in_ok-next.ensures.harts in
+    rw c.deref.ensures.value (record { numbered = λ h part few here. parts.each h part here; others = moved.others })
 
 pub invariant_of-self : goal.invariant_of-self
 invariant_of-self g c = numbered_grown
