@@ -44,6 +44,9 @@ returns-in-Judge-clause-carries g c = rw c.in-Judge.is (record { found = c.open_
 pub returns-in-CheckAll-clause-carries : goal.returns-in-CheckAll-clause-carries
 returns-in-CheckAll-clause-carries g c = rw c.in-CheckAll.is (record { found = c.open_check_all.result; finding = c.open_check_all.ensures.opens; leads = c.all_opened.ensures.is })
 
+pub returns-in-Answer-clause-carries : goal.returns-in-Answer-clause-carries
+returns-in-Answer-clause-carries g c = rw c.in-Answer.is (record { found = c.answer_file.result; finding = c.answer_file.ensures; leads = c.printed-in-Answer.ensures.is })
+
 pub returns-in-Picture-clause-carries : goal.returns-in-Picture-clause-carries
 returns-in-Picture-clause-carries g c = rw c.in-Picture.is (record { found = c.picture_file.result; finding = c.picture_file.ensures; leads = c.printed-in-Picture.ensures.is })
 
