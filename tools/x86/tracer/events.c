@@ -165,7 +165,6 @@ static void put_store(ThreadId id, Addr instruction, ULong from, ULong to)
     ULong value = 0, width = 1, at;
     while (from / width != (to - 1) / width) width *= 2;
     at = from / width * width;
-    if (at + width > file_copy_size()) width = to - (at = from); /* the last bytes of an odd size */
     VG_(memcpy)(&value, file_copy() + at, width);
     name_line(at / LINE_SIZE);
     if (begin_event(id, &threads[id].hart, instruction))
@@ -300,7 +299,7 @@ void on_line_instruction(const VexGuestAMD64State *state, Addr instruction)
     ThreadId id = VG_(get_running_tid)();
     ULong offset;
     if (phase != Recording || !find_offset(line_address(state, bytes), &offset)) return;
-    if (offset >= file_copy_size()) return; /* the page's rest, of which no store is told */
+    if (offset / LINE_SIZE * LINE_SIZE >= file_copy_size()) return; /* the page's rest behind the file's end */
     settle();
     if (read_instruction(bytes).kind == LineFlush) flushed(id, instruction, offset / LINE_SIZE);
     else cleaned(id, instruction, offset / LINE_SIZE);

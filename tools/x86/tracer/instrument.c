@@ -143,7 +143,7 @@ static void add_calls(Place *place, IRStmt *statement)
         break;
     case Ist_Dirty: {
         IRDirty *call = statement->Ist.Dirty.details;
-        if (call->mFx == Ifx_Write || call->mFx == Ifx_Modify) add_store(place, call->mAddr, call->mSize, NULL);
+        if (call->mFx == Ifx_Write || call->mFx == Ifx_Modify) add_store(place, call->mAddr, call->mSize, call->guard);
         break;
     }
     case Ist_MBE:

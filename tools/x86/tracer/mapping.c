@@ -127,7 +127,7 @@ ULong file_copy_size(void) { return copy_size; }
 static Bool read_copy(Int from)
 {
     if (VG_(fstat)(from, &copied_file) != 0) return False;
-    copy = VG_(am_shadow_alloc)(copied_file.size > 0 ? copied_file.size : 1);
+    copy = VG_(am_shadow_alloc)(copied_file.size + LINE_SIZE); /* zeros, also behind the last whole line */
     if (!copy) return False;
     while (copy_size < copied_file.size) {
         ULong left = copied_file.size - copy_size;
