@@ -4,10 +4,10 @@
  *
  *     step-trace PM-FILE OUT PROGRAM WORD ..        cc -O2 -o step-trace step-trace.c
  *
- * The program runs freely to its mark nc_start, and from there instruction by instruction under ptrace, with the mapped file
- * protected from writes. A store is what an instruction that faulted there has changed, in words of eight bytes: so stores
- * of the bytes that stood there aren't seen. OUT.trace and OUT.medium are made as by novacrash-trace, with a word pc=0x.. for
- * each place. One thread; marks in the program's own file; no system calls that store into the mapping.
+ * The program runs freely to its first mark nc_start or nc_begin, and from there instruction by instruction under ptrace,
+ * with the mapped file protected from writes. A store is what an instruction that faulted there has changed, in words of
+ * eight bytes: so stores of the bytes that stood there aren't seen. OUT.trace and OUT.medium are made as by novacrash-trace,
+ * with a word pc=0x.. for each place. One thread; marks in the program's own file; no system calls that store into the mapping.
  */
 #define _GNU_SOURCE
 #include <elf.h>
@@ -122,8 +122,9 @@ static void protect(u64 address, u64 length, int protection)
 
 static u64 general_register(int number)
 {
-    const u64 all[] = { registers.rax, registers.rcx, registers.rdx, registers.rbx, registers.rsp, registers.rbp, registers.rsi, registers.rdi,
-                        registers.r8,  registers.r9,  registers.r10, registers.r11, registers.r12, registers.r13, registers.r14, registers.r15 };
+    const u64 all[] = { registers.rax, registers.rcx, registers.rdx, registers.rbx, registers.rsp, registers.rbp,
+                        registers.rsi, registers.rdi, registers.r8,  registers.r9,  registers.r10, registers.r11,
+                        registers.r12, registers.r13, registers.r14, registers.r15 };
     return all[number];
 }
 
@@ -381,25 +382,24 @@ static u64 find_mapping(const char *path, int is_code, u64 *length)
     return found;
 }
 
-/* Runs to the mark nc_start, and past it. */
-static void run_to_start(void)
+/* Runs to the first mark by which a trace begins, and past it. The mark's words. */
+static void run_to_start(u64 *words)
 {
-    u64 words[3];
     int status;
     do {
         ptrace(PTRACE_CONT, pid, 0, 0);
         waitpid(pid, &status, 0);
-        if (WIFEXITED(status) || WIFSIGNALED(status)) stop("the program has no mark nc_start");
+        if (WIFEXITED(status) || WIFSIGNALED(status)) stop("the program has no mark in its own file");
         if (WSTOPSIG(status) != SIGTRAP) continue;
         ptrace(PTRACE_GETREGS, pid, 0, &registers);
-        read_memory(registers.rax, words, sizeof words);
+        read_memory(registers.rax, words, 3 * sizeof *words);
         registers.rip += 2; /* the rest of the exchange whose first byte was the breakpoint */
         registers.rdx = 0;
         ptrace(PTRACE_SETREGS, pid, 0, &registers);
-    } while (WSTOPSIG(status) != SIGTRAP || (words[0] & 0xffff) != NC_START);
+    } while (WSTOPSIG(status) != SIGTRAP || ((words[0] & 0xffff) != NC_START && (words[0] & 0xffff) != NC_BEGIN));
 }
 
-static void start_program(char **words)
+static void start_program(char **words, u64 *mark)
 {
     u64 marks[MAX_MARKS], length, base;
     int status, is_movable, count = find_marks(words[0], marks, &is_movable);
@@ -412,7 +412,7 @@ static void start_program(char **words)
     base = is_movable ? find_mapping(words[0], 1, &length) : 0;
     entry += base;
     for (int i = 0; i < count; i++) write_code(base + marks[i], 0xcc, 1);
-    run_to_start();
+    run_to_start(mark);
     for (int i = 0; i < count; i++) write_code(base + marks[i], 0x48, 1);
     write_code(entry, 0x90050f, 3); /* syscall, nop */
 }
@@ -444,15 +444,17 @@ static void take_file(const char *path, const char *out)
 
 int main(int count, char **words)
 {
+    u64 mark[3];
     int status;
     if (count < 4) {
         fprintf(stderr, "step-trace PM-FILE OUT PROGRAM WORD ..\n");
         return 2;
     }
-    start_program(words + 3);
+    start_program(words + 3, mark);
     take_file(words[1], words[2]);
     trace = open_output(words[2], "trace");
     protect(mapped_at, mapped_length, PROT_READ);
+    if ((mark[0] & 0xffff) == NC_BEGIN) put(0, registers.rip, "begin %lu", mark[1]);
     record();
     settle();
     fprintf(trace, "events %lu\n", events);
