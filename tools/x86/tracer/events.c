@@ -88,6 +88,7 @@ static void settle(void);
 
 void close_trace(void)
 {
+    if (trace_file < 0) return;
     if (phase == Recording) settle();
     if (reason_to_give_up) put("given up: %s\n", reason_to_give_up);
     else put("events %llu\n", event_count);
@@ -113,7 +114,7 @@ Bool is_recording(void) { return phase == Recording; }
 
 void start_recording(void)
 {
-    if (phase != BeforeStart) return;
+    if (phase != BeforeStart || options.loads) return;
     phase = Recording;
     if (copy_file()) has_line = VG_(am_shadow_alloc)(file_copy_size() / LINE_SIZE + 1);
     if (!has_line) give_up("the file can't be read where the trace begins");

@@ -95,6 +95,16 @@ static void add_store(const Place *place, IRExpr *address, Int size, IRExpr *gua
     addStmtToIRSB(place->out, IRStmt_Dirty(call));
 }
 
+/* A load counts where lines that are loaded are asked for. */
+static void add_load(const Place *place, IRExpr *address, Int size, IRExpr *guard)
+{
+    IRDirty *call;
+    if (!options.loads) return;
+    call = call_of("on_load", on_load, mkIRExprVec_2(address, word(size)));
+    if (guard) call->guard = guard;
+    addStmtToIRSB(place->out, IRStmt_Dirty(call));
+}
+
 static Int size_of(const Place *place, IRExpr *value) { return sizeofIRType(typeOfIRExpr(place->out->tyenv, value)); }
 
 static Bool is_operation_function(Addr address)
@@ -118,8 +128,24 @@ static void begin_instruction(Place *place, Addr address)
 /* A locked instruction writes, be it the old value. */
 static void add_compare_and_swap(const Place *place, const IRCAS *swap)
 {
-    add_store(place, swap->addr, size_of(place, swap->dataLo) * (swap->dataHi ? 2 : 1), NULL);
+    Int size = size_of(place, swap->dataLo) * (swap->dataHi ? 2 : 1);
+    add_load(place, swap->addr, size, NULL);
+    add_store(place, swap->addr, size, NULL);
     add_call(place->out, "on_locked", on_locked, mkIRExprVec_1(word(place->address)));
+}
+
+static void add_guarded_load(const Place *place, const IRLoadG *load)
+{
+    IRType loaded, widened;
+    typeOfIRLoadGOp(load->cvt, &widened, &loaded);
+    add_load(place, load->addr, sizeofIRType(loaded), load->guard);
+}
+
+/* A call of Valgrind's own, which does what an instruction does. */
+static void add_helper(const Place *place, const IRDirty *call)
+{
+    if (call->mFx == Ifx_Read || call->mFx == Ifx_Modify) add_load(place, call->mAddr, call->mSize, call->guard);
+    if (call->mFx == Ifx_Write || call->mFx == Ifx_Modify) add_store(place, call->mAddr, call->mSize, call->guard);
 }
 
 /* Calls behind a statement, where it is of interest. */
@@ -141,11 +167,17 @@ static void add_calls(Place *place, IRStmt *statement)
     case Ist_CAS:
         add_compare_and_swap(place, statement->Ist.CAS.details);
         break;
-    case Ist_Dirty: {
-        IRDirty *call = statement->Ist.Dirty.details;
-        if (call->mFx == Ifx_Write || call->mFx == Ifx_Modify) add_store(place, call->mAddr, call->mSize, call->guard);
+    case Ist_Dirty:
+        add_helper(place, statement->Ist.Dirty.details);
+        break;
+    case Ist_WrTmp: {
+        IRExpr *value = statement->Ist.WrTmp.data;
+        if (value->tag == Iex_Load) add_load(place, value->Iex.Load.addr, sizeofIRType(value->Iex.Load.ty), NULL);
         break;
     }
+    case Ist_LoadG:
+        add_guarded_load(place, statement->Ist.LoadG.details);
+        break;
     case Ist_MBE:
         if (kind == StoreFence || kind == FullFence)
             add_call(place->out, "on_fence", on_fence, mkIRExprVec_1(word(place->address)));

@@ -42,14 +42,16 @@ static const Range *range_of(const Range *among, Int count, Addr address)
     return NULL;
 }
 
+Bool find_mapped(Addr address, ULong *offset)
+{
+    const Range *range = range_of(ranges, range_count, address);
+    if (range) *offset = range->offset + (address - range->start);
+    return range != NULL;
+}
+
 Bool find_offset(Addr address, ULong *offset)
 {
-    const Range *range;
-    if (!may_touch_file(address, 1)) return False;
-    range = range_of(ranges, range_count, address);
-    if (!range || range_of(volatile_ranges, volatile_count, address)) return False;
-    *offset = range->offset + (address - range->start);
-    return True;
+    return may_touch_file(address, 1) && find_mapped(address, offset) && !range_of(volatile_ranges, volatile_count, address);
 }
 
 static void find_bounds(void)
@@ -100,8 +102,9 @@ void add_mapping(Addr start, SizeT length)
 {
     const NSegment *segment = VG_(am_find_nsegment)(start);
     const HChar *name = segment ? VG_(am_get_filename)(segment) : NULL;
+    Bool is_of_interest = next_is_shared || options.loads; /* a private copy shows the file, too */
     remove_mapping(start, length); /* a new mapping may lie over an old one */
-    if (!next_is_shared || !name || VG_(strcmp)(name, options.file) != 0) return;
+    if (!is_of_interest || !name || VG_(strcmp)(name, options.file) != 0) return;
     add_range(start, start + length, segment->offset + (start - segment->start));
     find_bounds();
     if (options.from_mapping) start_recording();
@@ -166,4 +169,11 @@ Bool is_of_file(Int descriptor)
 {
     struct vg_stat file;
     return VG_(fstat)(descriptor, &file) == 0 && file.dev == copied_file.dev && file.ino == copied_file.ino;
+}
+
+Bool is_of_named_file(Int descriptor)
+{
+    struct vg_stat file, named;
+    SysRes found = VG_(stat)(options.file, &named);
+    return !sr_isError(found) && VG_(fstat)(descriptor, &file) == 0 && file.dev == named.dev && file.ino == named.ino;
 }

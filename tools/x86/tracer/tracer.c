@@ -26,6 +26,7 @@ static Bool read_option(const HChar *argument)
     if VG_STR_CLO(argument, "--pm-file", options.file) {}
     else if VG_STR_CLO(argument, "--trace-file", options.trace) {}
     else if VG_STR_CLO(argument, "--medium-file", options.medium) {}
+    else if VG_STR_CLO(argument, "--loads-file", options.loads) {}
     else if VG_STR_CLO(argument, "--operation", function) return add_operation_function(function);
     else if VG_BOOL_CLO(argument, "--from-mapping", options.from_mapping) {}
     else if VG_BOOL_CLO(argument, "--transactions", options.by_transactions) {}
@@ -40,6 +41,7 @@ static Bool read_option(const HChar *argument)
 static void print_usage(void)
 {
     VG_(printf)("    --pm-file=PATH --trace-file=PATH --medium-file=PATH    needed: what is traced, and what is written\n"
+                "    --loads-file=PATH                                      in place of the latter two\n"
                 "    --operation=FUNCTION --transactions=no|yes --from-mapping=no|yes --all-stores=no|yes\n"
                 "    --addresses=no|yes --clwb=yes|no --pmemcheck=yes|no\n");
 }
@@ -48,11 +50,12 @@ static void print_debug_usage(void) { VG_(printf)("    (none)\n"); }
 
 static void check_options(void)
 {
-    if (!options.file || !options.trace || !options.medium) {
-        VG_(umsg)("--pm-file, --trace-file and --medium-file are needed\n");
+    if (!options.file || (!options.loads && !(options.trace && options.medium))) {
+        VG_(umsg)("--pm-file, --trace-file and --medium-file are needed, or --pm-file and --loads-file\n");
         VG_(exit)(2);
     }
-    open_trace();
+    if (options.loads) open_loads();
+    else open_trace();
 }
 
 /* ---- requests ---- */
@@ -117,7 +120,20 @@ static void before_system_call(ThreadId id, UInt number, UWord *words, UInt coun
         give_up("the program writes to the file by a system call (write, ftruncate or the like)");
 }
 
-static void after_system_call(ThreadId id, UInt number, UWord *words, UInt count, SysRes result) {}
+/* What read and its like brought from the file is loaded. Without a place of its own it ends where the descriptor now stands. */
+static void after_system_call(ThreadId id, UInt number, UWord *words, UInt count, SysRes result)
+{
+    Bool is_at_place = number == __NR_pread64 || number == __NR_preadv || number == __NR_preadv2;
+    Bool is_read = is_at_place || number == __NR_read || number == __NR_readv;
+    if (!options.loads || !is_read || sr_isError(result) || !is_of_named_file(words[0])) return;
+    load_range(is_at_place ? words[3] : VG_(lseek)(words[0], 0, VKI_SEEK_CUR) - sr_Res(result), sr_Res(result));
+}
+
+/* What a system call takes from the mapping, as write does. */
+static void before_kernel_load(CorePart part, ThreadId id, const HChar *what, Addr address, SizeT size)
+{
+    if (part == Vg_CoreSysCall && options.loads) on_load(address, size);
+}
 
 /* What the kernel stores into the mapping, as read does, is a store by the thread. */
 static void after_kernel_store(CorePart part, ThreadId id, Addr address, SizeT size)
@@ -132,9 +148,17 @@ static void after_mmap(Addr start, SizeT length, Bool can_read, Bool can_write, 
     add_mapping(start, length);
 }
 
-static void after_fork(ThreadId id) { leave_trace_to_parent(); }
+static void after_fork(ThreadId id)
+{
+    leave_trace_to_parent();
+    leave_loads_to_parent();
+}
 
-static void finish(Int status) { close_trace(); }
+static void finish(Int status)
+{
+    if (options.loads) close_loads();
+    else close_trace();
+}
 
 static void register_tool(void)
 {
@@ -151,6 +175,7 @@ static void register_tool(void)
     VG_(track_new_mem_mmap)(after_mmap);
     VG_(track_die_mem_munmap)(remove_mapping);
     VG_(track_post_mem_write)(after_kernel_store);
+    VG_(track_pre_mem_read)(before_kernel_load);
     VG_(track_pre_thread_ll_exit)(on_thread_exit);
     VG_(atfork)(NULL, NULL, after_fork);
 }

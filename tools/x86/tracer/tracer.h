@@ -7,6 +7,7 @@
  *   events.c        what these calls mean as events, and the lines of the trace
  *   place.c         the places in the source that stand in them
  *   mapping.c       where the file is mapped, and its bytes as the events so far leave them
+ *   loads.c         the lines that a program loads, in place of a trace
  *   tracer.c        options, marks, system calls
  */
 #ifndef NOVACRASH_TRACER_H
@@ -39,6 +40,7 @@
 typedef struct {
     const HChar *file;       /* the mapped file, by its whole path */
     const HChar *trace;      /* where the trace goes */
+    const HChar *loads;      /* in place of both: where the lines go that the program loads */
     const HChar *medium;     /* where the file's bytes at the trace's beginning go */
     Bool from_mapping;       /* the trace begins at the file's first mapping, not at a mark */
     Bool by_transactions;    /* each outermost transaction of libpmemobj is an operation */
@@ -88,6 +90,9 @@ Bool may_touch_file(Addr start, SizeT length);
 /* Whether the address is of the mapped file's lasting parts, and its offset in the file. */
 Bool find_offset(Addr address, ULong *offset);
 
+/* The same also of its volatile parts. */
+Bool find_mapped(Addr address, ULong *offset);
+
 void add_mapping(Addr start, SizeT length);
 void remove_mapping(Addr start, SizeT length);
 void add_volatile(Addr start, SizeT length);
@@ -100,8 +105,9 @@ Bool copy_file(void);
 UChar *file_copy(void);
 ULong file_copy_size(void);
 
-/* Whether the descriptor is of the file. */
+/* Whether the descriptor is of the file that was copied, or of the one of the name. */
 Bool is_of_file(Int descriptor);
+Bool is_of_named_file(Int descriptor);
 
 /* ---- events (events.c) ---- */
 
@@ -131,6 +137,14 @@ void on_thread_exit(ThreadId id);
 void put(const HChar *format, ...) PRINTF_CHECK(1, 2);
 
 Int open_for_writing(const HChar *name);
+
+/* ---- loads (loads.c) ---- */
+
+void open_loads(void);
+void close_loads(void);
+void leave_loads_to_parent(void);
+void on_load(Addr address, SizeT size);
+void load_range(ULong offset, ULong length);
 
 /* ---- places (place.c) ---- */
 
