@@ -1,13 +1,21 @@
 /* SPDX-License-Identifier: Apache-2.0
  *
  * A list in a pool of libpmemobj. pmemobj_list FILE create makes the pool, pmemobj_list FILE push N pushes N nodes in transactions.
- * There are no marks: each transaction is an operation, or each call of push.
+ * There are no marks: each transaction is an operation, or each call of push. -DWITH_MARKS has some, for the second tracer.
  * -DMISSING_ADD: the sum isn't added to the transaction, so a power cut may leave it changed where the rest is rolled back.
  */
 #include <libpmemobj.h>
 #include <stdio.h>
 #include <stdlib.h>
 #include <string.h>
+
+#ifdef WITH_MARKS
+#include "novacrash_marks.h"
+#else
+#define nc_begin(operation)
+#define nc_end(operation)
+#define nc_stop()
+#endif
 
 POBJ_LAYOUT_BEGIN(list);
 POBJ_LAYOUT_ROOT(list, struct root);
@@ -48,7 +56,12 @@ int main(int count, char **words)
         return 2;
     }
     if (creates) push(pool, 1);
-    for (int i = 1; !creates && i <= atoi(words[3]); i++) push(pool, 100 + i);
+    for (int i = 1; !creates && i <= atoi(words[3]); i++) {
+        nc_begin(i);
+        push(pool, 100 + i);
+        nc_end(i);
+    }
+    nc_stop();
     pmemobj_close(pool);
     return 0;
 }
