@@ -4,19 +4,21 @@ use Rattle.std.specs.Borrow.{Bor}
 use Rattle.arguments.specs.declared.codes.table.Meaning.{Meaning}
 use Rattle.arguments.specs.declared.codes.table.sources.TheConstants.{SOURCES}
 use Rattle.arguments.specs.declared.codes.table.executables.TheConstants.{EXECUTABLES}
+use Rattle.arguments.specs.declared.codes.table.traces.TheConstants.{TRACES}
 use Rattle.arguments.specs.declared.codes.table.runs.TheConstants.{RUNS}
 use Rattle.arguments.specs.declared.codes.table.volumes.TheConstants.{VOLUMES}
 use Rattle.arguments.specs.declared.codes.table.operations.TheConstants.{OPERATIONS}
 use Rattle.arguments.specs.declared.codes.table.traps.TheConstants.{TRAPS}
 use Rattle.arguments.specs.declared.codes.table.words.TheConstants.{WORDS}
 
--- all codes, in the order in which they are listed: of sources, objects, ELF files, runs, media, moments, volumes, plans, operations,
+-- all codes, in the order in which they are listed: of sources, objects, ELF files, trace files, runs, media, moments, volumes, plans, operations,
 -- sessions and traps, and the words that stand in place of a code
 abbrev pub all_codes : List (List ℕ)
 all_codes =
     codes "A1" ∷ codes "A2" ∷ codes "A3" ∷ codes "A4" ∷ codes "A5" ∷ codes "A6" ∷ codes "A7" ∷ codes "A8" ∷ codes "A9" ∷ codes "A10" ∷
     codes "P1" ∷ codes "P2" ∷ codes "P3" ∷ codes "P4" ∷ codes "P5" ∷ codes "P6" ∷
-    codes "E1" ∷ codes "E2" ∷ codes "E3" ∷ codes "E4" ∷ codes "E5" ∷ codes "E6" ∷ codes "E7" ∷ codes "E8" ∷ codes "E9" ∷ codes "G1" ∷ codes "G2" ∷ codes "G3" ∷ codes "G4" ∷
+    codes "E1" ∷ codes "E2" ∷ codes "E3" ∷ codes "E4" ∷ codes "E5" ∷ codes "E6" ∷ codes "E7" ∷ codes "E8" ∷ codes "E9" ∷
+    codes "V1" ∷ codes "V2" ∷ codes "V3" ∷ codes "V4" ∷ codes "V5" ∷ codes "G1" ∷ codes "G2" ∷ codes "G3" ∷ codes "G4" ∷
     codes "G5" ∷ codes "G6" ∷ codes "B3" ∷ codes "M3" ∷ codes "C1" ∷ codes "C2" ∷ codes "N1" ∷ codes "N2" ∷ codes "N3" ∷ codes "N4" ∷ codes "N5" ∷
     codes "N6" ∷ codes "N7" ∷ codes "N8" ∷ codes "N9" ∷ codes "N10" ∷ codes "N11" ∷ codes "L1" ∷ codes "L2" ∷ codes "L3" ∷ codes "L4" ∷
     codes "L5" ∷ codes "O1" ∷ codes "O2" ∷ codes "O3" ∷ codes "O4" ∷ codes "O5" ∷ codes "O6" ∷ codes "D1" ∷ codes "D2" ∷ codes "D3" ∷ codes "D4" ∷ codes "D5" ∷
@@ -41,6 +43,9 @@ sources = texts_of_static SOURCES
 unfoldable pub executables : List Texts
 executables = texts_of_static EXECUTABLES
 
+unfoldable pub traces : List Texts
+traces = texts_of_static TRACES
+
 unfoldable pub runs : List Texts
 runs = texts_of_static RUNS
 
@@ -58,7 +63,7 @@ words = texts_of_static WORDS
 
 -- the rows of the table: those of one family after the other
 abbrev pub table : List Texts
-table = flat_map (λ rows. rows) (sources ∷ executables ∷ runs ∷ volumes ∷ operations ∷ traps ∷ words ∷ [])
+table = flat_map (λ rows. rows) (sources ∷ executables ∷ traces ∷ runs ∷ volumes ∷ operations ∷ traps ∷ words ∷ [])
 
 abbrev pub codes_of_table : List (List ℕ)
 codes_of_table = map (λ (row : Texts). row.0) table

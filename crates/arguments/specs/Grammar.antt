@@ -1,5 +1,7 @@
 -- The grammar of the command line, as clap's specification takes a command.
-use Rattle.std.specs.Prelude.{◌≡◌, Bool, List, [], ◌∷◌, ◌++◌, Some, codes, map, true, false}
+use Rattle.std.specs.Prelude.{◌≡◌, ◌||◌, Bool, List, [], ◌∷◌, ◌++◌, Some, codes, map, nat_eq, true, false}
+use Rattle.std.specs.List.{list_any, starts_with}
+use Rattle.std.specs.Str.{bytes_eq}
 use Rattle.clap.specs.Words.{App, Rule, Shape, Text, app_of, new_rule}
 use Rattle.clap.specs.Simple.{new_shape}
 use Rattle.clap.specs.declared.builder.action.ArgAction.TheVariants.{Help, SetTrue}
@@ -52,20 +54,20 @@ upgrade_shape = record (new_shape (codes "upgrade")) {
       ∷ help_option ∷ [];
 }
 
--- `run PROGRAM [--medium FILE --harts N --capacity N --steps N --record FILE --out FILE]`
+-- `run PROGRAM [--medium FILE --harts N --capacity N --steps N --record FILE --out FILE --whole]`
 unfoldable pub run_shape : Shape
 run_shape = record (new_shape (codes "run")) {
   rules = needed_word (codes "PROGRAM") ∷ valued_option (codes "medium") ∷ valued_option (codes "harts")
       ∷ valued_option (codes "capacity") ∷ valued_option (codes "steps") ∷ valued_option (codes "record")
-      ∷ valued_option (codes "out") ∷ help_option ∷ [];
+      ∷ valued_option (codes "out") ∷ flag_option (codes "whole") ∷ help_option ∷ [];
 }
 
--- `replay PROGRAM SCHEDULE [--medium FILE --harts N --capacity N --out FILE]`
+-- `replay PROGRAM SCHEDULE [--medium FILE --harts N --capacity N --out FILE --whole]`
 unfoldable pub replay_shape : Shape
 replay_shape = record (new_shape (codes "replay")) {
   rules = needed_word (codes "PROGRAM") ∷ needed_word (codes "SCHEDULE") ∷ valued_option (codes "medium")
       ∷ valued_option (codes "harts") ∷ valued_option (codes "capacity") ∷ valued_option (codes "out")
-      ∷ help_option ∷ [];
+      ∷ flag_option (codes "whole") ∷ help_option ∷ [];
 }
 
 -- `debug PROGRAM [--medium FILE --harts N --capacity N]`
@@ -102,6 +104,34 @@ images_shape = record (new_shape (codes "images")) {
   rules = needed_word (codes "PROGRAM") ∷ needed_word (codes "SCHEDULE") ∷ needed_word (codes "MOMENT")
       ∷ valued_option (codes "medium") ∷ valued_option (codes "harts") ∷ flag_option (codes "whole")
       ∷ flag_option (codes "json") ∷ help_option ∷ [];
+}
+
+-- `image PROGRAM SCHEDULE MOMENT IMAGE OUT [--medium FILE --harts N --whole]`
+unfoldable pub image_shape : Shape
+image_shape = record (new_shape (codes "image")) {
+  rules = needed_word (codes "PROGRAM") ∷ needed_word (codes "SCHEDULE") ∷ needed_word (codes "MOMENT")
+      ∷ needed_word (codes "IMAGE") ∷ needed_word (codes "OUT") ∷ valued_option (codes "medium") ∷ valued_option (codes "harts")
+      ∷ flag_option (codes "whole") ∷ help_option ∷ [];
+}
+
+-- `trace --trace FILE [--whole]`
+unfoldable pub trace_of_file_shape : Shape
+trace_of_file_shape = record (new_shape (codes "trace")) {
+  rules = needed_option (codes "trace") ∷ flag_option (codes "whole") ∷ help_option ∷ [];
+}
+
+-- `images --trace FILE MOMENT [--whole --json]`
+unfoldable pub images_of_file_shape : Shape
+images_of_file_shape = record (new_shape (codes "images")) {
+  rules = needed_option (codes "trace") ∷ needed_word (codes "MOMENT") ∷ flag_option (codes "whole") ∷ flag_option (codes "json")
+      ∷ help_option ∷ [];
+}
+
+-- `image --trace FILE MOMENT IMAGE OUT [--medium FILE --whole]`
+unfoldable pub image_of_file_shape : Shape
+image_of_file_shape = record (new_shape (codes "image")) {
+  rules = needed_option (codes "trace") ∷ needed_word (codes "MOMENT") ∷ needed_word (codes "IMAGE") ∷ needed_word (codes "OUT")
+      ∷ valued_option (codes "medium") ∷ flag_option (codes "whole") ∷ help_option ∷ [];
 }
 
 -- `explain PROGRAM SCHEDULE MOMENT IMAGE [--medium FILE --harts N --whole]`
@@ -200,16 +230,27 @@ is_none (s ∷ shapes) = false
 abbrev pub line : List Shape → App
 line shapes = record { top = record bare { is_leaf = is_none shapes }; subs = shapes }
 
--- the subcommands that make files, those that run programs, those that tell of a run by a schedule, those that judge it or every run of a program, or say
--- what a recovery routine answers, and those that draw a run, show files, and tell of what is printed
+-- the subcommands that make files, those that run programs, those that tell of events, which a run makes or a file has, those that tell of a run
+-- by a schedule alone, those that judge it or every run of a program, or say what a recovery routine answers, and those that draw a run, show
+-- files, and tell of what is printed
 unfoldable pub making : List Shape
 making = assemble_shape ∷ make_volume_shape ∷ upgrade_shape ∷ []
 
 unfoldable pub running : List Shape
 running = run_shape ∷ replay_shape ∷ debug_shape ∷ []
 
+unfoldable pub asking_of_runs : List Shape
+asking_of_runs = trace_shape ∷ images_shape ∷ image_shape ∷ []
+
+unfoldable pub asking_of_files : List Shape
+asking_of_files = trace_of_file_shape ∷ images_of_file_shape ∷ image_of_file_shape ∷ []
+
+abbrev pub asking : Bool → List Shape
+asking false = asking_of_runs
+asking true = asking_of_files
+
 unfoldable pub telling : List Shape
-telling = trace_shape ∷ unpersisted_shape ∷ waste_shape ∷ images_shape ∷ explain_shape ∷ []
+telling = unpersisted_shape ∷ waste_shape ∷ explain_shape ∷ []
 
 unfoldable pub judging : List Shape
 judging = check_shape ∷ judge_shape ∷ check_all_shape ∷ answer_shape ∷ []
@@ -217,9 +258,21 @@ judging = check_shape ∷ judge_shape ∷ check_all_shape ∷ answer_shape ∷ [
 unfoldable pub showing : List Shape
 showing = picture_shape ∷ interleave_shape ∷ show_shape ∷ listing_shape ∷ code_shape ∷ help_shape ∷ []
 
--- the whole line
-unfoldable pub novacrash : App
-novacrash = line ((((making ++ running) ++ telling) ++ judging) ++ showing)
+-- the whole line, of a trace file or without one
+unfoldable pub novacrash : Bool → App
+novacrash of_file = line (((((making ++ running) ++ asking of_file) ++ telling) ++ judging) ++ showing)
+
+-- `--trace`, alone or with its value
+abbrev pub is_trace_option : Text → Bool
+is_trace_option word = bytes_eq word (codes "--trace") || starts_with nat_eq word (codes "--trace=")
+
+-- the words have that option
+abbrev pub is_of_file : List Text → Bool
+is_of_file words = list_any is_trace_option words
+
+-- the grammar of a line: with `--trace FILE` in place of PROGRAM and SCHEDULE, where it has that option
+abbrev pub grammar_of : List Text → App
+grammar_of words = novacrash (is_of_file words)
 
 -- the rule of an argument of the table
 abbrev pub rule : Argument → Rule

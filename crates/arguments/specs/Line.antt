@@ -5,7 +5,7 @@ use Rattle.clap.specs.Kinds.{IsAmong}
 use Rattle.clap.specs.declared.error.ErrorKind.{ErrorKind}
 use Rattle.clap.specs.declared.error.ErrorKind.TheVariants as kinds
 use Rattle.text.specs.Texts.{IsProper}
-use Rattle.arguments.specs.Grammar.{novacrash}
+use Rattle.arguments.specs.Grammar.{grammar_of}
 use Rattle.arguments.specs.Spans.{IsOptionalMoments, IsUpward}
 use Rattle.arguments.specs.Values.{IsCapacity, IsCodeWord, IsEvictions, IsHarts, IsImageWord, IsNumberWord, IsOptional, IsOptionalImage, IsOptionalNumber, IsRecoverySteps, IsSeed, IsStates, IsSteps, IsWord, IsWorkers, is_set}
 use Rattle.arguments.specs.declared.asked.AnswerCommand.{AnswerCommand}
@@ -14,9 +14,12 @@ use Rattle.arguments.specs.declared.asked.CheckAllCommand.{CheckAllCommand}
 use Rattle.arguments.specs.declared.asked.CheckCommand.{CheckCommand}
 use Rattle.arguments.specs.declared.asked.CodeCommand.{CodeCommand}
 use Rattle.arguments.specs.declared.asked.Command.{Command}
-use Rattle.arguments.specs.declared.asked.Command.TheVariants.{Answer, Assemble, Check, CheckAll, Code, Debug, Explain, Images, Interleave, Judge, Listing, MakeVolume, Picture, Replay, Run, Show, Trace, Unpersisted, Upgrade, Waste}
+use Rattle.arguments.specs.declared.asked.Command.TheVariants.{Answer, Assemble, Check, CheckAll, Code, Debug, Explain, Image, Images, Interleave, Judge, Listing, MakeVolume, Picture, Replay, Run, Show, Trace, Unpersisted, Upgrade, Waste}
 use Rattle.arguments.specs.declared.asked.DebugCommand.{DebugCommand}
+use Rattle.arguments.specs.declared.asked.EventSource.{EventSource}
+use Rattle.arguments.specs.declared.asked.EventSource.TheVariants as sources
 use Rattle.arguments.specs.declared.asked.ExplainCommand.{ExplainCommand}
+use Rattle.arguments.specs.declared.asked.ImageCommand.{ImageCommand}
 use Rattle.arguments.specs.declared.asked.ImagesCommand.{ImagesCommand}
 use Rattle.arguments.specs.declared.asked.InterleaveCommand.{InterleaveCommand}
 use Rattle.arguments.specs.declared.asked.JudgeCommand.{JudgeCommand}
@@ -32,6 +35,8 @@ use Rattle.arguments.specs.declared.asked.ReportCommand.{ReportCommand}
 use Rattle.arguments.specs.declared.asked.RunCommand.{RunCommand}
 use Rattle.arguments.specs.declared.asked.ScheduledRun.{ScheduledRun}
 use Rattle.arguments.specs.declared.asked.ShowCommand.{ShowCommand}
+use Rattle.arguments.specs.declared.asked.TraceCommand.{TraceCommand}
+use Rattle.arguments.specs.declared.asked.TracedEvents.{TracedEvents}
 use Rattle.arguments.specs.declared.asked.UpgradeCommand.{UpgradeCommand}
 
 -- the machine of a command that has no option of a capacity
@@ -72,13 +77,15 @@ pub record IsRun (rows : List Row) (command : RunCommand) : Type 0 where
   pub steps : IsSteps rows command.steps
   pub recorded : IsOptional (codes "record") rows command.record
   pub out : IsOptional (codes "out") rows command.out
+  pub whole : command.whole ≡ is_set (first_of (codes "whole") rows)
 
 -- `replay` with these files and options
 pub record IsReplay (rows : List Row) (command : ReplayCommand) : Type 0 where
-  pub program : IsWord (codes "PROGRAM") rows command.program
-  pub schedule : IsWord (codes "SCHEDULE") rows command.schedule
-  pub machine : IsCachedMachine rows command.machine
+  pub program : IsWord (codes "PROGRAM") rows command.run.program
+  pub schedule : IsWord (codes "SCHEDULE") rows command.run.schedule
+  pub machine : IsCachedMachine rows command.run.machine
   pub out : IsOptional (codes "out") rows command.out
+  pub whole : command.run.whole ≡ is_set (first_of (codes "whole") rows)
 
 -- `debug` with this program and these options
 pub record IsDebug (rows : List Row) (command : DebugCommand) : Type 0 where
@@ -92,16 +99,39 @@ pub record IsScheduledRun (rows : List Row) (run : ScheduledRun) : Type 0 where
   pub machine : IsWholeMachine rows run.machine
   pub whole : run.whole ≡ is_set (first_of (codes "whole") rows)
 
--- `trace`, `unpersisted` or `waste` of this run, as text or as JSON
+-- the events of this trace file, over this medium or none, which have to be whole or not
+pub record IsTracedEvents (rows : List Row) (events : TracedEvents) : Type 0 where
+  pub file : IsOptional (codes "trace") rows (Some events.file)
+  pub medium : IsOptional (codes "medium") rows events.medium
+  pub whole : events.whole ≡ is_set (first_of (codes "whole") rows)
+
+-- a run where the line has no `--trace`, and else the events of that file
+abbrev pub IsEventSource : List Row → EventSource → Type 0
+IsEventSource rows (sources.Run run) = IsOptional (codes "trace") rows None × IsScheduledRun rows run
+IsEventSource rows (sources.Trace events) = IsTracedEvents rows events
+
+-- `trace` of these events, as text or as JSON
+pub record IsTrace (rows : List Row) (command : TraceCommand) : Type 0 where
+  pub source : IsEventSource rows command.source
+  pub json : command.json ≡ is_set (first_of (codes "json") rows)
+
+-- `unpersisted` or `waste` of this run, as text or as JSON
 pub record IsReport (rows : List Row) (command : ReportCommand) : Type 0 where
   pub run : IsScheduledRun rows command.run
   pub json : command.json ≡ is_set (first_of (codes "json") rows)
 
--- `images` of this moment of this run, as text or as JSON
+-- `images` of this moment of these events, as text or as JSON
 pub record IsImages (rows : List Row) (command : ImagesCommand) : Type 0 where
-  pub run : IsScheduledRun rows command.run
+  pub source : IsEventSource rows command.source
   pub moment : IsNumberWord (first_of (codes "MOMENT") rows) command.moment
   pub json : command.json ≡ is_set (first_of (codes "json") rows)
+
+-- `image` of this image of this moment of these events, into this file
+pub record IsImage (rows : List Row) (command : ImageCommand) : Type 0 where
+  pub source : IsEventSource rows command.source
+  pub moment : IsNumberWord (first_of (codes "MOMENT") rows) command.moment
+  pub image : IsImageWord (first_of (codes "IMAGE") rows) command.image
+  pub out : IsWord (codes "OUT") rows command.out
 
 -- `explain` of this image of this moment of this run
 pub record IsExplain (rows : List Row) (command : ExplainCommand) : Type 0 where
@@ -186,10 +216,11 @@ IsOf name rows (Upgrade command) = (name ≡ codes "upgrade") × IsUpgrade rows 
 IsOf name rows (Run command) = (name ≡ codes "run") × IsRun rows command
 IsOf name rows (Replay command) = (name ≡ codes "replay") × IsReplay rows command
 IsOf name rows (Debug command) = (name ≡ codes "debug") × IsDebug rows command
-IsOf name rows (Trace command) = (name ≡ codes "trace") × IsReport rows command
+IsOf name rows (Trace command) = (name ≡ codes "trace") × IsTrace rows command
 IsOf name rows (Unpersisted command) = (name ≡ codes "unpersisted") × IsReport rows command
 IsOf name rows (Waste command) = (name ≡ codes "waste") × IsReport rows command
 IsOf name rows (Images command) = (name ≡ codes "images") × IsImages rows command
+IsOf name rows (Image command) = (name ≡ codes "image") × IsImage rows command
 IsOf name rows (Explain command) = (name ≡ codes "explain") × IsExplain rows command
 IsOf name rows (Check command) = (name ≡ codes "check") × IsCheck rows command
 IsOf name rows (Judge command) = (name ≡ codes "judge") × IsJudge rows command
@@ -213,12 +244,13 @@ pub record RunsNone (name : Text) : Type 0 where
   pub replay : name ≢ codes "replay"
   pub debug : name ≢ codes "debug"
 
--- the name of no subcommand that tells of a run by a schedule
+-- the name of no subcommand that tells of events
 pub record TellsNone (name : Text) : Type 0 where
   pub trace : name ≢ codes "trace"
   pub unpersisted : name ≢ codes "unpersisted"
   pub waste : name ≢ codes "waste"
   pub images : name ≢ codes "images"
+  pub image : name ≢ codes "image"
   pub explain : name ≢ codes "explain"
 
 -- the name of no subcommand that judges a run by a schedule, or every one of a program, or says what a recovery routine answers
@@ -235,8 +267,8 @@ IsAsked (Some (name, rows)) command = IsOf name rows command
 
 -- the line has no fault in its grammar, and asks for this command
 pub record IsCommand (words : List Text) (command : Command) : Type 0 where
-  pub grammatical : fault_of novacrash words ≡ []
-  pub asked : IsAsked (subcommand_of novacrash words) command
+  pub grammatical : fault_of (grammar_of words) words ≡ []
+  pub asked : IsAsked (subcommand_of (grammar_of words) words) command
 
 -- a number is within its limits
 abbrev pub IsWithin : ℕ → ℕ → ℕ → Type 0
@@ -246,6 +278,11 @@ IsWithin low high n = (low ≤ n) × (n ≤ high)
 pub record IsMachineWithin (machine : MachineOptions) : Type 0 where
   pub harts : IsWithin 1 8 machine.harts
   pub capacity : IfSome machine.capacity (IsWithin 1 16384)
+
+-- those of the machine of a run are
+abbrev pub IsSourceWithin : EventSource → Type 0
+IsSourceWithin (sources.Run run) = IsMachineWithin run.machine
+IsSourceWithin (sources.Trace events) = ⊤
 
 -- the numbers of a run that is judged are within their limits
 pub record IsJudgedWithin (judged : JudgedRun) : Type 0 where
@@ -259,12 +296,13 @@ IsWithinLimits (Assemble command) = ⊤
 IsWithinLimits (MakeVolume command) = command.lines < 2 ^ 32
 IsWithinLimits (Upgrade command) = (command.pages < 2 ^ 32) × (command.lines < 2 ^ 32)
 IsWithinLimits (Run command) = IsMachineWithin command.machine × IsWithin 1 500000000 command.steps
-IsWithinLimits (Replay command) = IsMachineWithin command.machine
+IsWithinLimits (Replay command) = IsMachineWithin command.run.machine
 IsWithinLimits (Debug command) = IsMachineWithin command.machine
-IsWithinLimits (Trace command) = IsMachineWithin command.run.machine
+IsWithinLimits (Trace command) = IsSourceWithin command.source
 IsWithinLimits (Unpersisted command) = IsMachineWithin command.run.machine
 IsWithinLimits (Waste command) = IsMachineWithin command.run.machine
-IsWithinLimits (Images command) = IsMachineWithin command.run.machine × (command.moment < 2 ^ 32)
+IsWithinLimits (Images command) = IsSourceWithin command.source × (command.moment < 2 ^ 32)
+IsWithinLimits (Image command) = IsSourceWithin command.source × (command.moment < 2 ^ 32) × IsProper command.image
 IsWithinLimits (Explain command) = IsMachineWithin command.run.machine × (command.moment < 2 ^ 32) × IsProper command.image
 IsWithinLimits (Check command) = IsJudgedWithin command.judged
 IsWithinLimits (Judge command) = IsJudgedWithin command.judged × IsWithin 1 500000000 command.steps
@@ -289,14 +327,14 @@ IsHelp (Some (name, rows)) = name ≡ codes "help"
 
 -- the line has no fault in its grammar, and is `help`
 pub record IsHelpLine (words : List Text) : Type 0 where
-  pub grammatical : fault_of novacrash words ≡ []
-  pub asked : IsHelp (subcommand_of novacrash words)
+  pub grammatical : fault_of (grammar_of words) words ≡ []
+  pub asked : IsHelp (subcommand_of (grammar_of words) words)
 
 -- help comes where the grammar answers with help, or the line is `help`; and a fault where the line asks for no command,
 -- isn't `help`, and doesn't ask for help alone by its grammar
 abbrev pub Refuses : List Text → LineFault → Type 0
-Refuses words (Help text) = IsAmong kinds.DisplayHelp (fault_of novacrash words) ⊎ IsHelpLine words
-Refuses words (Fault text) = (fault_of novacrash words ≢ kinds.DisplayHelp ∷ []) × (¬ IsHelpLine words)
+Refuses words (Help text) = IsAmong kinds.DisplayHelp (fault_of (grammar_of words) words) ⊎ IsHelpLine words
+Refuses words (Fault text) = (fault_of (grammar_of words) words ≢ kinds.DisplayHelp ∷ []) × (¬ IsHelpLine words)
     × ((command : Command) → ¬ IsCommand words command)
 Refuses words Memory = ⊤
 

@@ -20,14 +20,16 @@ pub enum Command {
     Replay(ReplayCommand),
     /// `debug PROGRAM [--medium FILE --harts N --capacity N]`.
     Debug(DebugCommand),
-    /// `trace PROGRAM SCHEDULE [--medium FILE --harts N --whole --json]`.
-    Trace(ReportCommand),
+    /// `trace PROGRAM SCHEDULE [--medium FILE --harts N --whole --json]`, or `trace --trace FILE [--whole]`.
+    Trace(TraceCommand),
     /// `unpersisted PROGRAM SCHEDULE [--medium FILE --harts N --whole --json]`.
     Unpersisted(ReportCommand),
     /// `waste PROGRAM SCHEDULE [--medium FILE --harts N --whole --json]`.
     Waste(ReportCommand),
-    /// `images PROGRAM SCHEDULE MOMENT [--medium FILE --harts N --whole --json]`.
+    /// `images PROGRAM SCHEDULE MOMENT [--medium FILE --harts N --whole --json]`, or `images --trace FILE MOMENT [--whole --json]`.
     Images(ImagesCommand),
+    /// `image PROGRAM SCHEDULE MOMENT IMAGE OUT [--medium FILE --harts N --whole]`, or `image --trace FILE MOMENT IMAGE OUT [--medium FILE --whole]`.
+    Image(ImageCommand),
     /// `explain PROGRAM SCHEDULE MOMENT IMAGE [--medium FILE --harts N --whole]`.
     Explain(ExplainCommand),
     /// `check PLAN PROGRAM SCHEDULE [--medium FILE --harts N --workers N --moments A-B --go-on --whole --why --json --progress]`.
@@ -104,6 +106,8 @@ pub struct RunCommand {
     pub machine: MachineOptions,
     /// The most steps of each hart, from 1 to 500,000,000; 1,000,000 where the line doesn't say.
     pub steps: u32,
+    /// Whether the run has to be whole: each hart exits with 0, and each operation ends.
+    pub whole: bool,
     /// The name of the file that gets the schedule of the run, where the line has `--record`.
     pub record: Option<String>,
     /// The name of the file that gets the medium of a power cut at the end, where the line has
@@ -114,12 +118,8 @@ pub struct RunCommand {
 /// What `replay` is to do.
 #[derive(Drop)]
 pub struct ReplayCommand {
-    /// The name of the program's file.
-    pub program: String,
-    /// The name of the schedule's file.
-    pub schedule: String,
-    /// The machine, whose capacity is Some.
-    pub machine: MachineOptions,
+    /// The run, the capacity of whose machine is Some.
+    pub run: ScheduledRun,
     /// The name of the file that gets the medium of a power cut at the end, where the line has
     /// `--out`.
     pub out: Option<String>,
@@ -134,20 +134,48 @@ pub struct DebugCommand {
     pub machine: MachineOptions,
 }
 
-/// A run of a program by a schedule, over a cache that holds the whole medium.
+/// A run of a program by a schedule: over a cache that holds the whole medium, but for `replay`.
 #[derive(Drop)]
 pub struct ScheduledRun {
     /// The name of the program's file.
     pub program: String,
     /// The name of the schedule's file.
     pub schedule: String,
-    /// The machine, whose capacity is None.
+    /// The machine, whose capacity is None but for `replay`.
     pub machine: MachineOptions,
     /// Whether the run has to be whole: each hart exits with 0, and each operation ends.
     pub whole: bool,
 }
 
-/// What `trace`, `unpersisted` or `waste` is to do.
+/// Events of a program that ran elsewhere.
+#[derive(Drop)]
+pub struct TracedEvents {
+    /// The name of the trace file.
+    pub file: String,
+    /// The name of the medium's file that they start from, where the line has one.
+    pub medium: Option<String>,
+    /// Whether each operation has to end.
+    pub whole: bool,
+}
+
+/// Where the events come from of which a command tells.
+#[derive(Drop)]
+pub enum EventSource {
+    /// They are made by a run of a program by a schedule.
+    Run(ScheduledRun),
+    /// They are read from a trace file.
+    Trace(TracedEvents),
+}
+
+/// What `trace` is to do.
+#[derive(Drop)]
+pub struct TraceCommand {
+    pub source: EventSource,
+    /// Whether the answer is one JSON object a line.
+    pub json: bool,
+}
+
+/// What `unpersisted` or `waste` is to do.
 #[derive(Drop)]
 pub struct ReportCommand {
     pub run: ScheduledRun,
@@ -158,11 +186,23 @@ pub struct ReportCommand {
 /// What `images` is to do.
 #[derive(Drop)]
 pub struct ImagesCommand {
-    pub run: ScheduledRun,
+    pub source: EventSource,
     /// The number of events before the power cut: any number below 2^32.
     pub moment: u32,
     /// Whether the answer is a JSON object.
     pub json: bool,
+}
+
+/// What `image` is to do.
+#[derive(Drop)]
+pub struct ImageCommand {
+    pub source: EventSource,
+    /// The number of events before the power cut: any number below 2^32.
+    pub moment: u32,
+    /// The crash image among those of the moment. Its lines go strictly upwards.
+    pub image: ImageName,
+    /// The name of the file that gets its bytes.
+    pub out: String,
 }
 
 /// What `explain` is to do.

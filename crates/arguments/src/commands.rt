@@ -3,8 +3,8 @@
 ghost use Rattle.std.specs.Prelude.{◌<◌, ◌^◌, ℕ, IfOk, IfErr, IfSome, String, codes};
 ghost use Rattle.std.specs.declared.alloc.Global.{Global as AGlobal};
 ghost use Rattle.clap.specs.Words.{found_of, rows_of};
-ghost use Rattle.arguments.specs.Line.{IsAnswer, IsAssemble, IsCheck, IsCheckAll, IsCode, IsDebug, IsExplain, IsImages, IsInterleave, IsJudge, IsListing, IsMakeVolume, IsPicture, IsReplay, IsReport, IsRun, IsScheduledRun, IsShow, IsUpgrade};
-ghost use Rattle.arguments.specs.Line.{IsCachedMachine, IsJudgedRun, IsJudgedWithin, IsMachineWithin, IsOf, IsWithin, IsWithinLimits, OnFault};
+ghost use Rattle.arguments.specs.Line.{IsAnswer, IsAssemble, IsCheck, IsCheckAll, IsCode, IsDebug, IsEventSource, IsExplain, IsImage, IsImages, IsInterleave, IsJudge, IsListing, IsMakeVolume, IsPicture, IsReplay, IsReport, IsRun, IsScheduledRun, IsShow, IsTrace, IsTracedEvents, IsUpgrade};
+ghost use Rattle.arguments.specs.Line.{IsCachedMachine, IsSourceWithin, IsJudgedRun, IsJudgedWithin, IsMachineWithin, IsOf, IsWithin, IsWithinLimits, OnFault};
 ghost use Rattle.arguments.specs.Started.{IsStarted};
 ghost use Rattle.arguments.specs.Values.{IsWord};
 ghost use Rattle.text.specs.Texts.{IsProper};
@@ -15,7 +15,10 @@ ghost use Rattle.arguments.specs.declared.asked.UpgradeCommand.{UpgradeCommand a
 ghost use Rattle.arguments.specs.declared.asked.RunCommand.{RunCommand as ARunCommand};
 ghost use Rattle.arguments.specs.declared.asked.ReplayCommand.{ReplayCommand as AReplayCommand};
 ghost use Rattle.arguments.specs.declared.asked.DebugCommand.{DebugCommand as ADebugCommand};
+ghost use Rattle.arguments.specs.declared.asked.TraceCommand.{TraceCommand as ATraceCommand};
 ghost use Rattle.arguments.specs.declared.asked.ImagesCommand.{ImagesCommand as AImagesCommand};
+ghost use Rattle.arguments.specs.declared.asked.ImageCommand.{ImageCommand as AImageCommand};
+ghost use Rattle.arguments.specs.declared.asked.EventSource.{EventSource as AnEventSource};
 ghost use Rattle.arguments.specs.declared.asked.ExplainCommand.{ExplainCommand as AExplainCommand};
 ghost use Rattle.arguments.specs.declared.asked.CheckCommand.{CheckCommand as ACheckCommand};
 ghost use Rattle.arguments.specs.declared.asked.CheckAllCommand.{CheckAllCommand as ACheckAllCommand};
@@ -32,9 +35,10 @@ ghost use Rattle.arguments.specs.declared.asked.ScheduledRun.{ScheduledRun as AS
 
 use crate::asked::{
     AnswerCommand, AssembleCommand, CheckAllCommand, CheckCommand, CodeCommand, Command,
-    DebugCommand, ExplainCommand, ImagesCommand, InterleaveCommand, JudgeCommand, JudgedRun,
-    LineFault, ListingCommand, MachineOptions, MakeVolumeCommand, PictureCommand, ReplayCommand,
-    ReportCommand, RunCommand, ScheduledRun, ShowCommand, UpgradeCommand,
+    DebugCommand, EventSource, ExplainCommand, ImageCommand, ImagesCommand, InterleaveCommand,
+    JudgeCommand, JudgedRun, LineFault, ListingCommand, MachineOptions, MakeVolumeCommand,
+    PictureCommand, ReplayCommand, ReportCommand, RunCommand, ScheduledRun, ShowCommand,
+    TraceCommand, TracedEvents, UpgradeCommand,
 };
 use crate::machine::{cached_machine, whole_machine};
 use crate::moments::optional_moments;
@@ -121,6 +125,23 @@ fn scheduled_run(alloc: Global, found: &ArgMatches<'_>) -> Result<ScheduledRun, 
     })
 }
 
+/// Where the events come from: from a trace file, where the line has `--trace`, and else from a run.
+fn event_source(alloc: Global, found: &ArgMatches<'_>) -> Result<EventSource, LineFault>
+    ensures ok { IfOk result (IsEventSource (rows_of (found_of found.now))) }
+    ensures within { IfOk result IsSourceWithin }
+    ensures err { IfErr result (OnFault ((source : AnEventSource)
+        → ¬ (IsEventSource (rows_of (found_of found.now)) source))) }
+{
+    match optional(alloc, found, "trace")? {
+        Some(file) => Ok(EventSource::Trace(TracedEvents {
+            file,
+            medium: optional(alloc, found, "medium")?,
+            whole: flag(found, "whole"),
+        })),
+        None => Ok(EventSource::Run(scheduled_run(alloc, found)?)),
+    }
+}
+
 /// The run of `check` or `judge`, and how it is judged.
 fn judged_run(alloc: Global, found: &ArgMatches<'_>) -> Result<JudgedRun, LineFault>
     ensures ok { IfOk result (IsJudgedRun (rows_of (found_of found.now))) }
@@ -199,6 +220,7 @@ pub(crate) fn run(alloc: Global, found: &ArgMatches<'_>) -> Result<Command, Line
         program: started.program,
         machine: started.machine,
         steps,
+        whole: flag(found, "whole"),
         record,
         out,
     }))
@@ -214,12 +236,13 @@ pub(crate) fn replay(alloc: Global, found: &ArgMatches<'_>) -> Result<Command, L
     let started = start_of(alloc, found)?;
     let schedule = word(alloc, found, "SCHEDULE")?;
     let out = optional(alloc, found, "out")?;
-    Ok(Command::Replay(ReplayCommand {
+    let run = ScheduledRun {
         program: started.program,
         schedule,
         machine: started.machine,
-        out,
-    }))
+        whole: flag(found, "whole"),
+    };
+    Ok(Command::Replay(ReplayCommand { run, out }))
 }
 
 /// What `debug` is to do.
@@ -233,7 +256,7 @@ pub(crate) fn debug(alloc: Global, found: &ArgMatches<'_>) -> Result<Command, Li
     Ok(Command::Debug(DebugCommand { program, machine }))
 }
 
-/// What `trace`, `unpersisted` or `waste` is to do.
+/// What `unpersisted` or `waste` is to do.
 fn report(alloc: Global, found: &ArgMatches<'_>) -> Result<ReportCommand, LineFault>
     ensures ok { IfOk result (IsReport (rows_of (found_of found.now))) }
     ensures within { IfOk result (λ command. IsMachineWithin command.run.machine) }
@@ -250,10 +273,13 @@ fn report(alloc: Global, found: &ArgMatches<'_>) -> Result<ReportCommand, LineFa
 pub(crate) fn trace(alloc: Global, found: &ArgMatches<'_>) -> Result<Command, LineFault>
     ensures ok { IfOk result (IsOf (codes "trace") (rows_of (found_of found.now))) }
     ensures within { IfOk result IsWithinLimits }
-    ensures err { IfErr result (OnFault ((command : AReportCommand)
-        → ¬ (IsReport (rows_of (found_of found.now)) command))) }
+    ensures err { IfErr result (OnFault ((command : ATraceCommand)
+        → ¬ (IsTrace (rows_of (found_of found.now)) command))) }
 {
-    Ok(Command::Trace(report(alloc, found)?))
+    Ok(Command::Trace(TraceCommand {
+        json: flag(found, "json"),
+        source: event_source(alloc, found)?,
+    }))
 }
 
 /// What `unpersisted` is to do.
@@ -286,7 +312,22 @@ pub(crate) fn images(alloc: Global, found: &ArgMatches<'_>) -> Result<Command, L
     Ok(Command::Images(ImagesCommand {
         json: flag(found, "json"),
         moment: number_word(alloc, found, "MOMENT")?,
-        run: scheduled_run(alloc, found)?,
+        source: event_source(alloc, found)?,
+    }))
+}
+
+/// What `image` is to do.
+pub(crate) fn image(alloc: Global, found: &ArgMatches<'_>) -> Result<Command, LineFault>
+    ensures ok { IfOk result (IsOf (codes "image") (rows_of (found_of found.now))) }
+    ensures within { IfOk result IsWithinLimits }
+    ensures err { IfErr result (OnFault ((command : AImageCommand)
+        → ¬ (IsImage (rows_of (found_of found.now)) command))) }
+{
+    Ok(Command::Image(ImageCommand {
+        moment: number_word(alloc, found, "MOMENT")?,
+        image: image_word(alloc, found, "IMAGE")?,
+        out: word(alloc, found, "OUT")?,
+        source: event_source(alloc, found)?,
     }))
 }
 

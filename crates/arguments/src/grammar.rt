@@ -2,7 +2,7 @@
 
 ghost use Rattle.std.specs.Prelude.{◌≡◌, ◌++◌, [], IfOk, List, false, map};
 ghost use Rattle.clap.specs.Words.{Shape, rule_of};
-ghost use Rattle.arguments.specs.Grammar.{IsGrammar, help_option, judging, leaf, line, making, novacrash, rule, running, shape, telling};
+ghost use Rattle.arguments.specs.Grammar.{IsGrammar, asking, help_option, judging, leaf, line, making, novacrash, rule, running, shape, telling};
 
 mod overview;
 
@@ -155,6 +155,17 @@ const PICTURE: Argument = Argument::Word {
     about: "The file that gets the picture, an SVG",
 };
 
+const IMAGE_OUT: Argument = Argument::Word {
+    name: "OUT",
+    about: "The file that gets the bytes of the image",
+};
+
+const TRACE: Argument = Argument::Needed {
+    name: "trace",
+    value: "FILE",
+    about: "The trace file, whose events are those of another program",
+};
+
 const SHOWN_IMAGE: Argument = Argument::Valued {
     name: "image",
     value: "IMAGE",
@@ -165,6 +176,12 @@ const MEDIUM: Argument = Argument::Valued {
     name: "medium",
     value: "FILE",
     about: "The medium's file [default: 512 lines of zeros]",
+};
+
+const START: Argument = Argument::Valued {
+    name: "medium",
+    value: "FILE",
+    about: "The bytes that the events start from: whole lines, among them each of the trace [default: 512 lines of zeros]",
 };
 
 const HARTS: Argument = Argument::Valued {
@@ -305,14 +322,14 @@ static RUNNING: [Subcommand; 3] = [
         name: "run",
         group: Group::Look,
         about: "Run a program",
-        arguments: &[PROGRAM, MEDIUM, HARTS, CAPACITY, STEPS, RECORD, OUT],
+        arguments: &[PROGRAM, MEDIUM, HARTS, CAPACITY, STEPS, RECORD, OUT, WHOLE],
         ending: ending!("run append.s --medium append.medium --record whole.schedule"),
     },
     Subcommand {
         name: "replay",
         group: Group::Look,
         about: "Run a program by a schedule",
-        arguments: &[PROGRAM, SCHEDULE, MEDIUM, HARTS, CAPACITY, OUT],
+        arguments: &[PROGRAM, SCHEDULE, MEDIUM, HARTS, CAPACITY, OUT, WHOLE],
         ending: ending!("replay append.s append.schedule --medium append.medium --out left.medium"),
     },
     Subcommand {
@@ -327,15 +344,69 @@ static RUNNING: [Subcommand; 3] = [
     },
 ];
 
-/// The subcommands that tell of a run by a schedule, behind those.
-static TELLING: [Subcommand; 5] = [
+/// The subcommands that tell of events, of a run by a schedule here, behind those.
+static ASKING_OF_RUNS: [Subcommand; 3] = [
     Subcommand {
         name: "trace",
         group: Group::Look,
         about: "Print the events of a run by a schedule, each with its step, pc and source line",
         arguments: &[PROGRAM, SCHEDULE, MEDIUM, HARTS, WHOLE, JSON],
-        ending: ending!("trace append.s append.schedule --medium append.medium --whole"),
+        ending: ending!(
+            "trace append.s append.schedule --medium append.medium --whole",
+            "With --trace FILE in place of PROGRAM and SCHEDULE it checks a trace file and prints it: docs/TRACES.md.\n\n"
+        ),
     },
+    Subcommand {
+        name: "images",
+        group: Group::Look,
+        about: "Count the crash images of a moment of a run by a schedule, or of a trace file",
+        arguments: &[PROGRAM, SCHEDULE, MOMENT, MEDIUM, HARTS, WHOLE, JSON],
+        ending: ending!(
+            "images append.s append.schedule 5 --medium append.medium --whole",
+            "With --trace FILE in place of PROGRAM and SCHEDULE it takes the events of a trace file: docs/TRACES.md.\n\n"
+        ),
+    },
+    Subcommand {
+        name: "image",
+        group: Group::Look,
+        about: "Write a crash image of a moment of a run by a schedule, or of a trace file",
+        arguments: &[
+            PROGRAM, SCHEDULE, MOMENT, IMAGE, IMAGE_OUT, MEDIUM, HARTS, WHOLE,
+        ],
+        ending: ending!(
+            "image append.s append.schedule 5 2 cut.medium --medium append.medium --whole",
+            "With --trace FILE in place of PROGRAM and SCHEDULE it takes the events of a trace file: docs/TRACES.md.\n\n"
+        ),
+    },
+];
+
+/// The same of a trace file.
+static ASKING_OF_FILES: [Subcommand; 3] = [
+    Subcommand {
+        name: "trace",
+        group: Group::Look,
+        about: "Check a trace file, and print its events",
+        arguments: &[TRACE, WHOLE],
+        ending: ending!("trace --trace log.trace"),
+    },
+    Subcommand {
+        name: "images",
+        group: Group::Look,
+        about: "Count the crash images of a moment of a trace file",
+        arguments: &[TRACE, MOMENT, WHOLE, JSON],
+        ending: ending!("images --trace log.trace 3"),
+    },
+    Subcommand {
+        name: "image",
+        group: Group::Look,
+        about: "Write a crash image of a moment of a trace file",
+        arguments: &[TRACE, MOMENT, IMAGE, IMAGE_OUT, START, WHOLE],
+        ending: ending!("image --trace log.trace 3 2 cut.pool --medium log.pool"),
+    },
+];
+
+/// The subcommands that tell of a run by a schedule alone, behind those.
+static TELLING: [Subcommand; 3] = [
     Subcommand {
         name: "unpersisted",
         group: Group::Look,
@@ -352,13 +423,6 @@ static TELLING: [Subcommand; 5] = [
             "waste append.s append.schedule --medium append.medium --whole",
             "This speaks of the run by this schedule alone: only an instruction with `always` can be deleted, where each run has it.\n\n"
         ),
-    },
-    Subcommand {
-        name: "images",
-        group: Group::Look,
-        about: "Count the crash images of a moment of a run by a schedule",
-        arguments: &[PROGRAM, SCHEDULE, MOMENT, MEDIUM, HARTS, WHOLE, JSON],
-        ending: ending!("images append.s append.schedule 5 --medium append.medium --whole"),
     },
     Subcommand {
         name: "explain",
@@ -554,29 +618,51 @@ fn with_running<'a>(alloc: Global) -> Result<clap::Command<'a>, AllocError>
     with_all(alloc, with_making(alloc)?, &RUNNING)
 }
 
-fn with_telling<'a>(alloc: Global) -> Result<clap::Command<'a>, AllocError>
-    ensures { IfOk result (IsGrammar (line ((making ++ running) ++ telling))) }
+/// The subcommands that tell of events, of a trace file or of a run.
+#[tactic(auto, unfolding(crate::specs::Grammar::asking_of_files, crate::specs::Grammar::asking_of_runs, crate::specs::Grammar::trace_shape, crate::specs::Grammar::images_shape, crate::specs::Grammar::image_shape, crate::specs::Grammar::trace_of_file_shape, crate::specs::Grammar::images_of_file_shape, crate::specs::Grammar::image_of_file_shape))]
+fn asking(of_file: bool) -> &'static [Subcommand]
+    ensures { map shape result.now ≡ asking of_file }
 {
-    with_all(alloc, with_running(alloc)?, &TELLING)
+    if of_file {
+        &ASKING_OF_FILES
+    } else {
+        &ASKING_OF_RUNS
+    }
 }
 
-fn with_judging<'a>(alloc: Global) -> Result<clap::Command<'a>, AllocError>
-    ensures { IfOk result (IsGrammar (line (((making ++ running) ++ telling) ++ judging))) }
+fn with_asking<'a>(alloc: Global, of_file: bool) -> Result<clap::Command<'a>, AllocError>
+    ensures { IfOk result (IsGrammar (line ((making ++ running) ++ asking of_file))) }
 {
-    with_all(alloc, with_telling(alloc)?, &JUDGING)
+    with_all(alloc, with_running(alloc)?, asking(of_file))
 }
 
-fn with_showing<'a>(alloc: Global) -> Result<clap::Command<'a>, AllocError>
-    ensures { IfOk result (IsGrammar novacrash) }
+fn with_telling<'a>(alloc: Global, of_file: bool) -> Result<clap::Command<'a>, AllocError>
+    ensures { IfOk result (IsGrammar (line (((making ++ running) ++ asking of_file) ++ telling))) }
 {
-    with_all(alloc, with_judging(alloc)?, &SHOWING)
+    with_all(alloc, with_asking(alloc, of_file)?, &TELLING)
 }
 
-/// The line of the program, with the text that `--help` prints where it stands alone.
-pub(crate) fn grammar<'a>(alloc: Global, help: &'a str) -> Result<clap::Command<'a>, AllocError>
-    ensures { IfOk result (IsGrammar novacrash) }
+fn with_judging<'a>(alloc: Global, of_file: bool) -> Result<clap::Command<'a>, AllocError>
+    ensures { IfOk result (IsGrammar (line ((((making ++ running) ++ asking of_file) ++ telling) ++ judging))) }
 {
-    Ok(with_showing(alloc)?.override_help(help))
+    with_all(alloc, with_telling(alloc, of_file)?, &JUDGING)
+}
+
+fn with_showing<'a>(alloc: Global, of_file: bool) -> Result<clap::Command<'a>, AllocError>
+    ensures { IfOk result (IsGrammar (novacrash of_file)) }
+{
+    with_all(alloc, with_judging(alloc, of_file)?, &SHOWING)
+}
+
+/// The line of the program, of a trace file or without one, with the text that `--help` prints where it stands alone.
+pub(crate) fn grammar<'a>(
+    alloc: Global,
+    help: &'a str,
+    of_file: bool,
+) -> Result<clap::Command<'a>, AllocError>
+    ensures { IfOk result (IsGrammar (novacrash of_file)) }
+{
+    Ok(with_showing(alloc, of_file)?.override_help(help))
 }
 
 /// The line with these subcommands behind those that it has.

@@ -1,15 +1,16 @@
 //! Reading a command line.
 
 ghost use Rattle.std.specs.Prelude.{◌≡◌, IfOk, IfErr, MatchOption, [], None, Some, map, string_bytes};
+ghost use Rattle.std.specs.List.{list_any};
 ghost use Rattle.clap.specs.Words.{fault_of, found_of, kind_of, rows_of, subcommand_of, subcommand_rows_of};
-ghost use Rattle.arguments.specs.Grammar.{novacrash};
+ghost use Rattle.arguments.specs.Grammar.{grammar_of, is_trace_option};
 ghost use Rattle.arguments.specs.Line.{IsCommand, IsFault, IsKindOf, IsNoCommand, IsOf, IsWithinLimits, JudgesNone, MakesNone, OnFault, Refuses, RunsNone, TellsNone};
 ghost use Rattle.arguments.specs.declared.asked.Command.{Command as ACommand};
 
 use crate::asked::{Command, LineFault};
 use crate::commands::{
-    answer, assemble, check, check_all, code, debug, explain, images, interleave, judge, listing,
-    make_volume, picture, replay, run, show, trace, unpersisted, upgrade, waste,
+    answer, assemble, check, check_all, code, debug, explain, image, images, interleave, judge,
+    listing, make_volume, picture, replay, run, show, trace, unpersisted, upgrade, waste,
 };
 use crate::grammar::{grammar, overview};
 use clap::ArgMatches;
@@ -31,6 +32,26 @@ fn refusal(alloc: Global, error: &clap::Error) -> Result<LineFault, AllocError>
     }
 }
 
+/// Whether a line has the option `--trace`. It then takes the words of a command on a trace file.
+fn is_of_file(words: &[String]) -> bool
+    ensures { result ≡ list_any (λ word. is_trace_option (string_bytes word)) words.now }
+{
+    words.iter().any(|word| is_trace_word(word))
+}
+
+fn is_trace_word(word: &String) -> bool
+    ensures { result ≡ is_trace_option (string_bytes word.now) }
+{
+    is_trace_option(word.as_str())
+}
+
+/// Whether a word is that option, alone or with its value.
+fn is_trace_option(word: &str) -> bool
+    ensures { result ≡ is_trace_option word.now }
+{
+    word == "--trace" || word.starts_with("--trace=")
+}
+
 /// clap's matches for a line, with the text that `--help` prints where it stands alone.
 fn matches<'a>(
     alloc: Global,
@@ -38,12 +59,13 @@ fn matches<'a>(
     help: &'a str,
 ) -> Result<ArgMatches<'a>, LineFault>
     ensures grammatical { IfOk result (λ found.
-        fault_of novacrash (map string_bytes words.now) ≡ []) }
+        fault_of (grammar_of (map string_bytes words.now)) (map string_bytes words.now) ≡ []) }
     ensures subcommand { IfOk result (λ found. subcommand_rows_of found
-        ≡ subcommand_of novacrash (map string_bytes words.now)) }
+        ≡ subcommand_of (grammar_of (map string_bytes words.now)) (map string_bytes words.now)) }
     ensures err { IfErr result (Refuses (map string_bytes words.now)) }
 {
-    match grammar(alloc, help)?.try_get_matches_from(words) {
+    let of_file = is_of_file(words);
+    match grammar(alloc, help, of_file)?.try_get_matches_from(words) {
         Ok(found) => Ok(found),
         Err(error) => Err(refusal(alloc, &error)?),
     }
@@ -124,12 +146,13 @@ fn asked_to_tell(alloc: Global, name: &str, found: &ArgMatches<'_>) -> Result<Co
         "unpersisted" => unpersisted(alloc, found),
         "waste" => waste(alloc, found),
         "images" => images(alloc, found),
+        "image" => image(alloc, found),
         "explain" => explain(alloc, found),
         _ => asked_to_judge(alloc, name, found),
     }
 }
 
-/// The command of one that doesn't tell of a run by a schedule either.
+/// The command of one that doesn't tell of events either.
 fn asked_to_judge(alloc: Global, name: &str, found: &ArgMatches<'_>) -> Result<Command, LineFault>
     requires making { MakesNone name.now }
     requires running { RunsNone name.now }
@@ -185,9 +208,13 @@ fn asked_to_show(alloc: Global, name: &str, found: &ArgMatches<'_>) -> Result<Co
 /// - `replay PROGRAM SCHEDULE [--medium FILE --harts N --capacity N --out FILE]`
 /// - `debug PROGRAM [--medium FILE --harts N --capacity N]`
 /// - `trace PROGRAM SCHEDULE [--medium FILE --harts N --whole --json]`
+/// - `trace --trace FILE [--whole]`
 /// - `unpersisted PROGRAM SCHEDULE [--medium FILE --harts N --whole --json]`
 /// - `waste PROGRAM SCHEDULE [--medium FILE --harts N --whole --json]`
 /// - `images PROGRAM SCHEDULE MOMENT [--medium FILE --harts N --whole --json]`
+/// - `images --trace FILE MOMENT [--whole --json]`
+/// - `image PROGRAM SCHEDULE MOMENT IMAGE OUT [--medium FILE --harts N --whole]`
+/// - `image --trace FILE MOMENT IMAGE OUT [--medium FILE --whole]`
 /// - `explain PROGRAM SCHEDULE MOMENT IMAGE [--medium FILE --harts N --whole]`
 /// - `check PLAN PROGRAM SCHEDULE [--medium FILE --harts N --workers N --moments A-B --go-on --whole --why --json --progress]`
 /// - `judge PROGRAM SCHEDULE RECOVERY [--medium FILE --harts N --steps N --workers N --overlapping --moments A-B --go-on --whole --why --json --progress]`

@@ -1,5 +1,5 @@
 -- The lines of an image's losses with another word in front of its schedule.
-use Rattle.std.proofs.Common.{◌≡◌, ◌∙◌, ◌++◌, ◌==◌, ℕ, Bool, true, false, List, [], Option, Result, Ok, Err, ap, length, sym}
+use Rattle.std.proofs.Common.{◌≡◌, ◌∙◌, ◌++◌, ◌==◌, ℕ, Bool, true, false, List, [], Result, Ok, Err, ap, length, sym}
 use Rattle.std.specs.List.{flat_map}
 use Rattle.std.specs.Prelude.{IfOk, String, codes, string_bytes}
 use Rattle.std.specs.declared.alloc.AllocError.{AllocError}
@@ -12,6 +12,7 @@ use Rattle.report.specs.LossesEvents.{event_text}
 use Rattle.report.specs.LossesJson.{event_object, kept_object, lost_object, unread_object}
 use Rattle.report.specs.Mends.{mend_line}
 use Rattle.report.specs.MendsJson.{mend_object}
+use Rattle.report.specs.Places.{KnownOrigin}
 use Rattle.report.specs.Why.{kept_line, lost_line, spaced, unread_line}
 use Rattle.command_line.specs.Naming.{named_schedule}
 use Rattle.command_line.specs.Reasons.{image_losses, told_losses}
@@ -32,7 +33,7 @@ pub spaced_none : (items : List ℕ) → (length items == 0) ≡ true → spaced
 spaced_none items none = ap spaced (nil_from_length items (eqb-true (length items) 0 none))
 
 -- they end with the schedule
-pub losses_end : (json : Bool) (lines : ℕ → Option ℕ) (traced : List TracedEvent) (explained : ExplainedImage) →
+pub losses_end : (json : Bool) (lines : ℕ → KnownOrigin) (traced : List TracedEvent) (explained : ExplainedImage) →
     (front : List ℕ) × (told_losses json lines traced explained ≡ front ++ named_schedule json (codes "schedule") explained.schedule)
 losses_end true lines traced explained =
     let lost : List ℕ = flat_map (lost_object ([]) (event_object lines traced)) explained.told.read.lost.items in
@@ -47,7 +48,7 @@ losses_end false lines traced explained =
     let unread : List ℕ = unread_line explained.told.unread in
     (lost ++ (kept ++ (mends ++ unread)), last_of_five lost kept mends unread (named_schedule false (codes "schedule") explained.schedule))
 
-image_behind : (json : Bool) (lines : ℕ → Option ℕ) (traced : List TracedEvent) (explained : ExplainedImage) (changed : List ℕ) →
+image_behind : (json : Bool) (lines : ℕ → KnownOrigin) (traced : List TracedEvent) (explained : ExplainedImage) (changed : List ℕ) →
     ((front : List ℕ) → told_losses json lines traced explained ≡ front ++ named_schedule json (codes "schedule") explained.schedule →
     changed ≡ front ++ named_schedule json (codes "image") explained.schedule) → changed ≡ image_losses json lines traced explained
 image_behind true lines traced explained changed is =
@@ -66,7 +67,7 @@ image_behind false lines traced explained changed is =
     ∙ sym (last_of_five lost kept mends unread (named_schedule false (codes "image") explained.schedule))
 
 -- a text that has the image's schedule in place of the other has the lines of the image
-pub image_text_behind : (json : Bool) (lines : ℕ → Option ℕ) (traced : List TracedEvent) (explained : ExplainedImage) (outcome : Result (String Global) AllocError) →
+pub image_text_behind : (json : Bool) (lines : ℕ → KnownOrigin) (traced : List TracedEvent) (explained : ExplainedImage) (outcome : Result (String Global) AllocError) →
     IfOk outcome (λ changed. (front : List ℕ) → told_losses json lines traced explained ≡ front ++ named_schedule json (codes "schedule") explained.schedule →
     string_bytes changed ≡ front ++ named_schedule json (codes "image") explained.schedule) →
     IfOk outcome (λ text. string_bytes text ≡ image_losses json lines traced explained)

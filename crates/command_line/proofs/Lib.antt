@@ -8,3 +8,5 @@ mod ObjectPrograms
 pub mod OfFile
 pub mod OnTheWay
 pub mod StatesTold
+mod RankedLines
+mod TraceFiles

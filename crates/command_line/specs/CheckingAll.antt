@@ -4,7 +4,7 @@ use Rattle.std.specs.declared.alloc.Global.{Global}
 use Rattle.std.specs.declared.vec.Vec.{Vec}
 use Rattle.std.specs.Io.KnownBytes.{Appends}
 use Rattle.arguments.specs.declared.asked.CheckAllCommand.{CheckAllCommand}
-use Rattle.crash_test.specs.Lines.{line_of}
+use Rattle.crash_test.specs.Origins.{origin_of}
 use Rattle.crash_test.specs.Programs.{IsProgramOf}
 use Rattle.crash_test.specs.Told.{IsAsked}
 use Rattle.crash_test.specs.declared.losses.ExplainedImage.{ExplainedImage}
@@ -130,7 +130,7 @@ pub record Concludes (is_so : Conclusion → Type 0) (outcome : Result Conclusio
 
 -- a line for each of these is reported
 abbrev pub ReportsCauses : List ℕ → List Unfinished → Failure → Type 0
-ReportsCauses file causes (failures.Unfinished text) = string_bytes text ≡ unfinished_text (line_of file) causes
+ReportsCauses file causes (failures.Unfinished text) = string_bytes text ≡ unfinished_text (origin_of file) causes
 ReportsCauses file causes failure = ⊥
 
 -- the lines of a verdict on a run that was found: the verdict, the schedule of the run, and what a failing image lacks and keeps, where that is

@@ -40,11 +40,15 @@ use Rattle.nova_log.specs.Codes.{volume_code}
 use Rattle.plan.specs.Codes.{plan_code}
 use Rattle.program.specs.Codes.{load_code}
 use Rattle.routine_judge.specs.Codes.{mark_code}
+use Rattle.trace_file.specs.Codes.{trace_file_code}
+use Rattle.trace_file.specs.declared.fault.TraceFileCode.{TraceFileCode}
+use Rattle.trace_file.specs.declared.fault.TraceFileCode.TheVariants as traces
+use Rattle.trace_file.specs.declared.fault.TraceFileFault.{TraceFileFault}
 use Rattle.command_line.specs.Reports.{line_end}
 use Rattle.command_line.specs.declared.failure.Failure.{Failure}
 use Rattle.command_line.specs.declared.failure.Failure.TheVariants.{Line, Refused, Unfinished, Memory, File}
 use Rattle.command_line.specs.declared.failure.Refusal.{Refusal}
-use Rattle.command_line.specs.declared.failure.Refusal.TheVariants.{Assembly, Object, Plan, ScheduleText, Medium, Volume, Step, Foreign, Moment, Image, Operation, Marks, RecoverySource, RecoveryObject, Elf, RecoveryElf}
+use Rattle.command_line.specs.declared.failure.Refusal.TheVariants.{Assembly, Object, Plan, ScheduleText, Trace, Medium, Volume, Step, Foreign, Moment, Image, Operation, Marks, RecoverySource, RecoveryObject, Elf, RecoveryElf}
 use Rattle.command_line.specs.declared.files.FileFault.{FileFault}
 use Rattle.command_line.specs.declared.files.FileFault.TheVariants as files
 
@@ -55,6 +59,7 @@ refusal_code (Object fault) = load_code fault
 refusal_code (Elf fault) = elf_code fault
 refusal_code (Plan fault) = plan_code fault.code
 refusal_code ScheduleText = schedule_code schedules.Text
+refusal_code (Trace fault) = trace_file_code fault.code
 refusal_code Medium = codes "M3"
 refusal_code (Volume fault) = volume_code fault
 refusal_code (Step fault) = step_code fault
@@ -71,6 +76,7 @@ refusal_code (RecoveryElf fault) = elf_code fault
 abbrev pub refusal_place : Refusal → List ℕ
 refusal_place (Assembly fault) = codes " line " ++ decimal fault.line
 refusal_place (Plan fault) = codes " line " ++ decimal fault.line
+refusal_place (Trace fault) = codes " line " ++ decimal fault.line
 refusal_place (RecoverySource fault) = codes " line " ++ (decimal fault.line ++ codes " recovery")
 refusal_place (RecoveryObject fault) = codes " recovery"
 refusal_place (RecoveryElf fault) = codes " recovery"
@@ -129,6 +135,14 @@ failure_by_plan_code fault code = Refused (Plan fault)
 
 abbrev pub failure_of_plan : PlanFault → Failure
 failure_of_plan fault = failure_by_plan_code fault fault.code
+
+-- for a text that is no trace file
+abbrev pub failure_by_trace_code : TraceFileFault → TraceFileCode → Failure
+failure_by_trace_code fault traces.Memory = Memory
+failure_by_trace_code fault code = Refused (Trace fault)
+
+abbrev pub failure_of_trace : TraceFileFault → Failure
+failure_of_trace fault = failure_by_trace_code fault fault.code
 
 -- for a schedule that wasn't read or written
 abbrev pub failure_of_schedule : ScheduleFault → Failure

@@ -2,18 +2,17 @@
 use Rattle.std.specs.Prelude.{ℕ, Bool, true, false, List, [], Option, Some, None, Result, MatchResult, ◌++◌, codes, decimal}
 use Rattle.arguments.specs.declared.asked.ImagesCommand.{ImagesCommand}
 use Rattle.crash_test.specs.Images.{CountsImages, LacksMoment}
-use Rattle.machine.specs.RunValues.{RunView}
+use Rattle.store_trace.specs.declared.event.Event.{Event}
 use Rattle.command_line.specs.Failures.{failure_of_image}
-use Rattle.command_line.specs.Demanding.{MeetsWhole}
-use Rattle.command_line.specs.MakingRuns.{OpensRun}
 use Rattle.command_line.specs.Reports.{line_end}
 use Rattle.command_line.specs.Steps.{First, Prints, Reads, Step, Still, Tells}
+use Rattle.command_line.specs.Traces.{OpensEvents, events_of}
 use Rattle.command_line.specs.declared.answer.Answer.{Answer}
 use Rattle.command_line.specs.declared.failure.Failure.{Failure}
 
 -- the images of a moment, or why they aren't counted
-pub record Counts (run : RunView) (moment : ℕ) (outcome : Result (Option ℕ) Failure) : Type 0 where
-  pub counts : MatchResult outcome (CountsImages run.events moment) (Tells (LacksMoment run.events moment) failure_of_image)
+pub record Counts (events : List Event) (moment : ℕ) (outcome : Result (Option ℕ) Failure) : Type 0 where
+  pub counts : MatchResult outcome (CountsImages events moment) (Tells (LacksMoment events moment) failure_of_image)
 
 -- `N`, and `over 65536` where there are more
 abbrev pub count_text : Option ℕ → List ℕ
@@ -40,7 +39,6 @@ told_count false moment count = images_line moment count
 
 abbrev pub CountsFile : {F : Type 0} → Reads F → ImagesCommand → Step F Answer
 CountsFile reads command =
-    First (OpensRun reads command.run) (λ made.
-    First (Still (MeetsWhole command.run.whole made [])) (λ _.
-    First (Still (Counts made.run command.moment)) (λ count.
-    Still (Prints (told_count command.json command.moment count) 0))))
+    First (OpensEvents reads command.source) (λ opened.
+    First (Still (Counts (events_of opened) command.moment)) (λ count.
+    Still (Prints (told_count command.json command.moment count) 0)))

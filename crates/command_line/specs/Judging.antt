@@ -1,12 +1,16 @@
 -- What `judge` comes to.
-use Rattle.std.specs.Prelude.{◌≡◌, ℕ, zero, suc, List, [], Option, Result, Ok, MatchResult, ◌++◌, codes, decimal, string_bytes}
+use Rattle.std.specs.Prelude.{◌≡◌, ℕ, zero, suc, Bool, true, false, List, [], Option, Result, Ok, MatchResult, ◌++◌, codes, decimal, string_bytes}
 use Rattle.arguments.specs.Line.{IsJudgedWithin}
 use Rattle.arguments.specs.declared.asked.JudgeCommand.{JudgeCommand}
 use Rattle.hart.specs.HartLines.{trap_number}
 use Rattle.crash_test.specs.Judging.{HasJudgement, IsToldOf}
 use Rattle.crash_test.specs.Loading.{IsLoaded}
 use Rattle.crash_test.specs.declared.losses.ExplainedImage.{ExplainedImage}
+use Rattle.routine_judge.specs.Rules.{JudgementView}
 use Rattle.routine_judge.specs.Verdicts.{IsRefusal}
+use Rattle.routine_judge.specs.Views.{own_moments}
+use Rattle.routine_judge.specs.declared.history.overlap.Overlap.{Overlap}
+use Rattle.routine_judge.specs.declared.history.overlap.Overlap.TheVariants as overlaps
 use Rattle.routine_judge.specs.declared.cause.Cause.{Cause}
 use Rattle.routine_judge.specs.declared.cause.Cause.TheVariants as causes
 use Rattle.verdict.specs.declared.moment_verdict.verdict.Verdict.{Verdict}
@@ -70,19 +74,32 @@ abbrev pub ExplainsFailing : OpenJudge → Verdict Cause → Result (Option Expl
 ExplainsFailing judge verdict =
     Explains (IsLoaded judge.recovery judge.command.steps) judge.made.run (failing judge.command.judged.why verdict)
 
+-- which operations may overlap, and by what the run is judged
+abbrev pub overlap_asked : Bool → Overlap
+overlap_asked true = overlaps.Always
+overlap_asked false = overlaps.Never
+
+abbrev pub judgement_asked : OpenJudge → JudgementView
+judgement_asked judge = record {
+  routine = judge.recovery;
+  steps = judge.command.steps;
+  overlap = overlap_asked judge.command.overlapping;
+  right = own_moments;
+}
+
 -- the verdict on what is asked for, or why there is none
 abbrev pub IsVerdictOf : OpenJudge → Verdict Cause → Type 0
 IsVerdictOf judge =
-    HasJudgement judge.made.run judge.recovery judge.command.steps judge.command.overlapping (row_asked judge.command.judged)
+    HasJudgement judge.made.run (judgement_asked judge) (row_asked judge.command.judged)
 
 pub record JudgesOpen (judge : OpenJudge) (outcome : Result (Verdict Cause) Failure) : Type 0 where
   pub judges : MatchResult outcome (IsVerdictOf judge)
-      (Tells (IsRefusal judge.command.overlapping judge.made.run.events (first_of judge.command.judged.moments)) failure_of_judge)
+      (Tells (IsRefusal (overlap_asked judge.command.overlapping) judge.made.run.events (first_of judge.command.judged.moments)) failure_of_judge)
 
 -- how far the judging of the moments that are asked for had come was told
 abbrev pub TellsProgress : OpenJudge → Option (List ℕ) → Option (List ℕ) → Type 0
 TellsProgress judge =
-    Progresses (IsToldOf gets_line judge.made.run judge.recovery judge.command.steps (row_asked judge.command.judged) [])
+    Progresses (IsToldOf gets_line judge.made.run (judgement_asked judge) (row_asked judge.command.judged) [])
 
 -- the verdict, and what standard error was told on the way
 pub record Watches {E : Type 0} (said : E → Option (List ℕ)) (judge : OpenJudge) (errors : E) (outcome : Result (Verdict Cause) Failure) (errors' : E) : Type 0 where

@@ -8,6 +8,7 @@ pub mod Demanding
 pub mod Drawing
 pub mod Explaining
 pub mod Failures
+pub mod ImageFiles
 pub mod Imaging
 pub mod Judging
 pub mod Listing
@@ -22,6 +23,7 @@ pub mod Reports
 pub mod Running
 pub mod Showing
 pub mod Steps
+pub mod Traces
 pub mod Tracing
 pub mod Persisting
 pub mod Upgrading

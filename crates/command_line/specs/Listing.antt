@@ -4,7 +4,7 @@ use Rattle.arguments.specs.declared.asked.ListingCommand.{ListingCommand}
 use Rattle.asm_lex.specs.Lines.{lines_of}
 use Rattle.report.specs.Listing.{IsListing}
 use Rattle.program.specs.Sections.{Sections}
-use Rattle.crash_test.specs.Lines.{line_of}
+use Rattle.crash_test.specs.Origins.{origin_of}
 use Rattle.crash_test.specs.Programs.{IsLoadFault, IsObjectOf, file_kind}
 use Rattle.command_line.specs.Failures.{failure_of_program}
 use Rattle.command_line.specs.Steps.{First, Reads, ReadsFile, Step, Still, Tells}
@@ -18,7 +18,7 @@ pub record SaysObject (file : List ℕ) (outcome : Result Sections Failure) : Ty
 
 -- the listing of a text, with status 0, each line of a source at its first word; memory for it may be refused
 pub record PrintsListing (file text : List ℕ) (outcome : Result Answer Failure) : Type 0 where
-  pub answer : MatchResult outcome (λ answer. IsListing text (lines_of file) (line_of file) answer.text.items × (answer.status ≡ 0))
+  pub answer : MatchResult outcome (λ answer. IsListing text (lines_of file) (origin_of file) answer.text.items × (answer.status ≡ 0))
       (λ failure. failure ≡ Memory)
 
 abbrev pub ListsFile : {F : Type 0} → Reads F → ListingCommand → Step F Answer

@@ -4,7 +4,7 @@ use Rattle.std.specs.Io.KnownBytes.{Appends}
 use Rattle.std.specs.Result.{result_map_both}
 use Rattle.arguments.specs.Line.{IsCommand, Refuses}
 use Rattle.arguments.specs.declared.asked.Command.{Command}
-use Rattle.arguments.specs.declared.asked.Command.TheVariants.{Answer as AnswerCommand, Assemble, Check, CheckAll, Code, Debug, Explain, Images, Interleave, Judge, Listing, MakeVolume, Picture, Replay, Run, Show, Trace, Unpersisted, Upgrade, Waste}
+use Rattle.arguments.specs.declared.asked.Command.TheVariants.{Answer as AnswerCommand, Assemble, Check, CheckAll, Code, Debug, Explain, Image, Images, Interleave, Judge, Listing, MakeVolume, Picture, Replay, Run, Show, Trace, Unpersisted, Upgrade, Waste}
 use Rattle.arguments.specs.declared.asked.LineFault.{LineFault}
 use Rattle.arguments.specs.declared.asked.LineFault.TheVariants as line_faults
 use Rattle.debugger.specs.StreamFailures.{AppendsFront}
@@ -17,6 +17,7 @@ use Rattle.command_line.specs.Debugging.{HoldsSession, OpensFile}
 use Rattle.command_line.specs.Drawing.{InterleavesFile}
 use Rattle.command_line.specs.Explaining.{ExplainsFile}
 use Rattle.command_line.specs.Failures.{failure_status, failure_text}
+use Rattle.command_line.specs.ImageFiles.{ImageFile}
 use Rattle.command_line.specs.Imaging.{CountsFile}
 use Rattle.command_line.specs.Judging.{IsOpen as IsOpenJudge, JudgesRun, OpensJudge}
 use Rattle.command_line.specs.Listing.{ListsFile}
@@ -58,6 +59,7 @@ CarriesOut reads writes (Trace command) = LeadsTo (TracesFile reads command) act
 CarriesOut reads writes (Unpersisted command) = LeadsTo (UnpersistedFile reads command) actions.Print
 CarriesOut reads writes (Waste command) = LeadsTo (WasteFile reads command) actions.Print
 CarriesOut reads writes (Images command) = LeadsTo (CountsFile reads command) actions.Print
+CarriesOut reads writes (Image command) = LeadsTo (ImageFile reads writes command) actions.Print
 CarriesOut reads writes (Explain command) = LeadsTo (ExplainsFile reads command) actions.Print
 CarriesOut reads writes (Check command) = LeadsTo (OpensCheck reads command) actions.Check
 CarriesOut reads writes (Judge command) = LeadsTo (OpensJudge reads command) actions.Judge

@@ -5,7 +5,8 @@ use Rattle.durability.specs.declared.ends.Unpersisted.{Unpersisted}
 use Rattle.report.specs.LossesEvents.{event_text}
 use Rattle.report.specs.LossesJson.{event_object, unpersisted_json}
 use Rattle.report.specs.Unpersisted.{count_of, unpersisted_text}
-use Rattle.crash_test.specs.Lines.{line_of}
+use Rattle.report.specs.Places.{KnownOrigin}
+use Rattle.crash_test.specs.Origins.{origin_of}
 use Rattle.durability.specs.Unpersisted.{AreEndLosses, AreFirstLosses, IsUnpersistedOutside}
 use Rattle.machine.specs.RunValues.{RunView}
 use Rattle.store_trace.specs.declared.event.Event.{Event}
@@ -31,13 +32,13 @@ abbrev pub status_of : Unpersisted → ℕ
 status_of told = if count_of told == 0 then 0 else 1
 
 -- as text or as JSON, by the line of the source at each pc
-abbrev pub told_stores : Bool → (ℕ → Option ℕ) → List TracedEvent → Unpersisted → List ℕ
-told_stores true lines traced told = unpersisted_json (event_object lines traced) told
-told_stores false lines traced told = unpersisted_text (event_text lines traced) told
+abbrev pub told_stores : Bool → (ℕ → KnownOrigin) → List TracedEvent → Unpersisted → List ℕ
+told_stores true origins traced told = unpersisted_json (event_object origins traced) told
+told_stores false origins traced told = unpersisted_text (event_text origins traced) told
 
 abbrev pub UnpersistedFile : {F : Type 0} → Reads F → ReportCommand → Step F Answer
 UnpersistedFile reads command =
     First (OpensRun reads command.run) (λ made.
     First (Still (MeetsWhole command.run.whole made [])) (λ _.
     First (Still (Finds made.run)) (λ found.
-    Still (Prints (told_stores command.json (line_of made.file.items) made.run.traced found) (status_of found)))))
+    Still (Prints (told_stores command.json (origin_of made.file.items) made.run.traced found) (status_of found)))))

@@ -2,7 +2,7 @@
 use Rattle.std.specs.Prelude.{◌≡◌, ◌++◌, ℕ, Bool, true, false, List, [], Option, Some, None, Result, MatchResult, codes}
 use Rattle.std.specs.List.{flat_map}
 use Rattle.crash_image.specs.declared.ImageFault.{ImageFault}
-use Rattle.crash_test.specs.Lines.{line_of}
+use Rattle.crash_test.specs.Origins.{origin_of}
 use Rattle.crash_test.specs.Losses.{IsExplainedBy}
 use Rattle.crash_test.specs.declared.losses.ExplainedImage.{ExplainedImage}
 use Rattle.crash_test.specs.Told.{LacksImage}
@@ -13,6 +13,7 @@ use Rattle.report.specs.LossesJson.{event_object, kept_object, lost_object, unre
 use Rattle.report.specs.Mends.{mend_line}
 use Rattle.report.specs.MendsJson.{mend_object}
 use Rattle.report.specs.Why.{kept_line, lost_line, unread_line, why_text}
+use Rattle.report.specs.Places.{KnownOrigin}
 use Rattle.machine.specs.RunValues.{RunView}
 use Rattle.machine.specs.declared.schedule.items.Item.{Item}
 use Rattle.machine.specs.declared.run_trace.traced_event.TracedEvent.{TracedEvent}
@@ -40,11 +41,11 @@ pub record Explains (reads : List (List ℕ) → List ℕ → Type 0) (run : Run
   pub explains : MatchResult outcome (IsExplained reads run image) (Tells (IsUnexplained run image) failure_of_image)
 
 -- what is told of it as text or as JSON, by the line of the source at each pc
-abbrev pub told_losses : Bool → (ℕ → Option ℕ) → List TracedEvent → ExplainedImage → List ℕ
-told_losses true lines traced explained =
-    why_json (event_object lines traced) explained.told.read explained.told.unread explained.schedule
-told_losses false lines traced explained =
-    why_text (event_text lines traced) explained.told.read explained.told.unread explained.schedule
+abbrev pub told_losses : Bool → (ℕ → KnownOrigin) → List TracedEvent → ExplainedImage → List ℕ
+told_losses true origins traced explained =
+    why_json (event_object origins traced) explained.told.read explained.told.unread explained.schedule
+told_losses false origins traced explained =
+    why_text (event_text origins traced) explained.told.read explained.told.unread explained.schedule
 
 -- The same of a run that was found, whose own schedule is printed: the one that leaves the image is called `image`.
 abbrev pub image_text : (ℕ → List ℕ) → ToldCut → ℕ → List Item → List ℕ
@@ -55,17 +56,17 @@ abbrev pub image_json : (ℕ → List ℕ) → ToldCut → ℕ → List Item →
 image_json event told unread schedule = flat_map (lost_object [] event) told.lost.items ++ (flat_map (kept_object event) told.kept.items
     ++ (flat_map (mend_object event) told.mends.items ++ (unread_object unread ++ named_schedule true (codes "image") schedule)))
 
-abbrev pub image_losses : Bool → (ℕ → Option ℕ) → List TracedEvent → ExplainedImage → List ℕ
-image_losses true lines traced explained =
-    image_json (event_object lines traced) explained.told.read explained.told.unread explained.schedule
-image_losses false lines traced explained =
-    image_text (event_text lines traced) explained.told.read explained.told.unread explained.schedule
+abbrev pub image_losses : Bool → (ℕ → KnownOrigin) → List TracedEvent → ExplainedImage → List ℕ
+image_losses true origins traced explained =
+    image_json (event_object origins traced) explained.told.read explained.told.unread explained.schedule
+image_losses false origins traced explained =
+    image_text (event_text origins traced) explained.told.read explained.told.unread explained.schedule
 
--- each by the lines of the program's source, where there is such an image
+-- each by what is known of the program's pcs, where there is such an image
 abbrev pub told_why : Bool → MadeRun → Option ExplainedImage → List ℕ
 told_why json made None = []
-told_why json made (Some explained) = told_losses json (line_of made.file.items) made.run.traced explained
+told_why json made (Some explained) = told_losses json (origin_of made.file.items) made.run.traced explained
 
 abbrev pub told_image : Bool → MadeRun → Option ExplainedImage → List ℕ
 told_image json made None = []
-told_image json made (Some explained) = image_losses json (line_of made.file.items) made.run.traced explained
+told_image json made (Some explained) = image_losses json (origin_of made.file.items) made.run.traced explained

@@ -5,7 +5,8 @@ use Rattle.arguments.specs.declared.asked.ReportCommand.{ReportCommand}
 use Rattle.report.specs.Uses.{Judged}
 use Rattle.report.specs.RedundantJson.{IsWasteJson}
 use Rattle.report.specs.Waste.{IsWasteText}
-use Rattle.crash_test.specs.Lines.{line_of}
+use Rattle.report.specs.Places.{KnownOrigin}
+use Rattle.crash_test.specs.Origins.{origin_of}
 use Rattle.durability.specs.Found.{AreNeedless, with_reasons}
 use Rattle.durability.specs.declared.redundant.reason.Needless.{Needless}
 use Rattle.durability.specs.declared.redundant.reason.Reason.{Reason}
@@ -28,17 +29,17 @@ pub record FindsNeedless (run : RunView) (outcome : Result (List (Option Reason)
   pub finds : MatchResult outcome (AreReasons run.events) (λ failure. failure ≡ Memory)
 
 -- what is told of events with their reasons, as text or as JSON, by the line of the source at each pc
-abbrev pub IsTold : Bool → (ℕ → Option ℕ) → List Judged → List ℕ → Type 0
-IsTold true lines all text = IsWasteJson lines all text
-IsTold false lines all text = IsWasteText lines all text
+abbrev pub IsTold : Bool → (ℕ → KnownOrigin) → List Judged → List ℕ → Type 0
+IsTold true origins all text = IsWasteJson origins all text
+IsTold false origins all text = IsWasteText origins all text
 
 -- it is printed, with status 0; memory for it may be refused
-pub record PrintsWaste (json : Bool) (lines : ℕ → Option ℕ) (all : List Judged) (outcome : Result Answer Failure) : Type 0 where
-  pub answer : MatchResult outcome (λ answer. IsTold json lines all answer.text.items × (answer.status ≡ 0)) (λ failure. failure ≡ Memory)
+pub record PrintsWaste (json : Bool) (origins : ℕ → KnownOrigin) (all : List Judged) (outcome : Result Answer Failure) : Type 0 where
+  pub answer : MatchResult outcome (λ answer. IsTold json origins all answer.text.items × (answer.status ≡ 0)) (λ failure. failure ≡ Memory)
 
 abbrev pub WasteFile : {F : Type 0} → Reads F → ReportCommand → Step F Answer
 WasteFile reads command =
     First (OpensRun reads command.run) (λ made.
     First (Still (MeetsWhole command.run.whole made [])) (λ _.
     First (Still (FindsNeedless made.run)) (λ reasons.
-    Still (PrintsWaste command.json (line_of made.file.items) (zip made.run.traced reasons)))))
+    Still (PrintsWaste command.json (origin_of made.file.items) (zip made.run.traced reasons)))))

@@ -19,6 +19,7 @@ use crate::debug::open_file;
 use crate::explain::explain_file;
 use crate::failure::Failure;
 use crate::files::Files;
+use crate::image::image_file;
 use crate::images::count_file;
 use crate::interleave::interleave_file;
 use crate::judge::open_judge;
@@ -76,6 +77,7 @@ fn carry_out<T: Threads + Wait + Sync, F: Files>(
         Command::Unpersisted(command) => printed(unpersisted_file(alloc, &command, files)),
         Command::Waste(command) => printed(waste_file(alloc, &command, files)),
         Command::Images(command) => printed(count_file(alloc, &command, files)),
+        Command::Image(command) => printed(image_file(alloc, &command, files)),
         Command::Explain(command) => printed(explain_file(alloc, &command, files)),
         Command::Check(command) => opened(open_check(alloc, command, files)),
         Command::Judge(command) => judged(open_judge(alloc, command, files)),

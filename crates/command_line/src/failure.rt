@@ -11,6 +11,7 @@ use plan::PlanFault;
 use program::LoadFault;
 use routine_judge::MarkFault;
 use std::fmt;
+use trace_file::TraceFileFault;
 
 /// Input that is refused, by the fault that was found in it.
 #[derive(Clone, Copy, Debug, PartialEq, Eq)]
@@ -25,6 +26,8 @@ pub enum Refusal {
     Plan(PlanFault),
     /// The text of a schedule.
     ScheduleText,
+    /// A trace file, by its first line at fault.
+    Trace(TraceFileFault),
     /// The bytes of a medium.
     Medium,
     /// A volume that was to be made.
@@ -63,6 +66,7 @@ impl Refusal {
             Refusal::Elf(fault) | Refusal::RecoveryElf(fault) => fault.code(),
             Refusal::Plan(fault) => fault.code.name(),
             Refusal::ScheduleText => ScheduleFault::Text.code(),
+            Refusal::Trace(fault) => fault.code.name(),
             Refusal::Medium => "M3",
             Refusal::Volume(fault) => fault.code(),
             Refusal::Step(fault) => fault.code(),
@@ -87,6 +91,7 @@ impl fmt::Display for Refusal {
         match self {
             Refusal::Assembly(fault) => write!(f, " line {}", fault.line),
             Refusal::Plan(fault) => write!(f, " line {}", fault.line),
+            Refusal::Trace(fault) => write!(f, " line {}", fault.line),
             Refusal::RecoverySource(fault) => write!(f, " line {} recovery", fault.line),
             Refusal::RecoveryObject(_) => write!(f, " recovery"),
             Refusal::RecoveryElf(_) => write!(f, " recovery"),

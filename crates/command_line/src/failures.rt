@@ -1,7 +1,7 @@
 //! The failures that faults of the layers below come to.
 
 ghost use Rattle.std.specs.Prelude.{◌≡◌};
-ghost use Rattle.command_line.specs.Failures.{failure_of_assembly, failure_of_check, failure_of_drawing, failure_of_file, failure_of_image, failure_of_judge, failure_of_medium, failure_of_plan, failure_of_program, failure_of_schedule, failure_of_session, failure_of_step, failure_of_together, failure_of_volume};
+ghost use Rattle.command_line.specs.Failures.{failure_of_assembly, failure_of_check, failure_of_drawing, failure_of_file, failure_of_image, failure_of_judge, failure_of_medium, failure_of_plan, failure_of_program, failure_of_schedule, failure_of_session, failure_of_step, failure_of_together, failure_of_trace, failure_of_volume};
 ghost use Rattle.command_line.specs.declared.failure.Failure.TheVariants.{Memory};
 
 use crate::failure::{Failure, Refusal};
@@ -18,6 +18,7 @@ use plan::{PlanCode, PlanFault};
 use random_schedule::InterleaveFault;
 use routine_judge::JudgeFault;
 use std::alloc::AllocError;
+use trace_file::{TraceFileCode, TraceFileFault};
 
 impl From<FileFault> for Failure {
     ghost from_gives = { λ fault failure. failure ≡ failure_of_file fault };
@@ -61,6 +62,17 @@ impl From<PlanFault> for Failure {
         match fault.code {
             PlanCode::Memory => Failure::Memory,
             _ => Failure::Refused(Refusal::Plan(fault)),
+        }
+    }
+}
+
+impl From<TraceFileFault> for Failure {
+    ghost from_gives = { λ fault failure. failure ≡ failure_of_trace fault };
+
+    fn from(fault: TraceFileFault) -> Failure {
+        match fault.code {
+            TraceFileCode::Memory => Failure::Memory,
+            _ => Failure::Refused(Refusal::Trace(fault)),
         }
     }
 }

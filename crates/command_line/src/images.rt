@@ -1,20 +1,19 @@
 //! The command that counts the crash images of a moment.
 
 ghost use Rattle.command_line.specs.Imaging.{Counts, CountsFile, images_json, images_line, told_count};
+ghost use Rattle.command_line.specs.Traces.{IsOpen, events_of};
 ghost use Rattle.std.specs.Prelude.{◌≡◌, IfOk, string_bytes};
 
 use crate::answer::Answer;
+use crate::events::{OpenEvents, open_events};
 use crate::failure::Failure;
 use crate::files::Files;
-use crate::made_run::open_run;
-use crate::whole::demand_whole;
 use arguments::ImagesCommand;
 use crash_test::count_images;
-use machine::Run;
 use std::alloc::{AllocError, Global};
 
-/// `images`: reads the files of a program, a schedule and a medium, and counts the images that a power cut may leave at a
-/// moment of the run.
+/// `images`: reads the files of a program, a schedule and a medium, or a trace file, and counts the images that a power cut may
+/// leave at a moment of the run or of the trace.
 pub(crate) fn count_file<F: Files>(
     alloc: Global,
     command: &ImagesCommand,
@@ -22,18 +21,19 @@ pub(crate) fn count_file<F: Files>(
 ) -> Result<Answer, Failure>
     ensures { CountsFile F.read_gives command.now files.old result files.new }
 {
-    let made = open_run(alloc, &command.run, files)?;
-    demand_whole(alloc, command.run.whole, &made, &[])?;
+    let opened = open_events(alloc, &command.source, files)?;
     let moment = command.moment;
-    let count = count(alloc, &made.run, moment)?;
+    let count = count(alloc, &opened, moment)?;
     let text = told_count(alloc, moment, count, command.json)?;
     Ok(Answer::of(text, 0))
 }
 
-fn count(alloc: Global, run: &Run, moment: u32) -> Result<Option<u32>, Failure>
-    ensures { Counts run.now moment result }
+fn count(alloc: Global, opened: &OpenEvents, moment: u32) -> Result<Option<u32>, Failure>
+    requires { IsOpen opened.now }
+    ensures { Counts (events_of opened.now) moment result }
 {
-    Ok(count_images(alloc, run, moment)?)
+    let count = count_images(alloc, opened.medium(), opened.trace(), moment)?;
+    Ok(count)
 }
 
 /// The images of a moment, as text or as JSON.

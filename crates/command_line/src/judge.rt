@@ -1,12 +1,13 @@
 //! The command that judges a run by a recovery routine.
 
 ghost use Rattle.arguments.specs.Line.{IsJudgedWithin};
-ghost use Rattle.command_line.specs.Judging.{ExplainsFailing, IsOpen, JudgesOpen, JudgesRun, Notes, OpensJudge, TellsProgress, Watches, cause_text, missing_text, note_of};
+ghost use Rattle.command_line.specs.Judging.{ExplainsFailing, IsOpen, JudgesOpen, JudgesRun, Notes, OpensJudge, TellsProgress, Watches, cause_text, judgement_asked, missing_text, note_of};
+ghost use Rattle.routine_judge.specs.Rules.{AreNotedFor, judgement_view};
 ghost use Rattle.command_line.specs.Progress.{IsToldIf};
 ghost use Rattle.command_line.specs.Reasons.{ExplainsOne};
 ghost use Rattle.crash_test.specs.Loading.{IsLoaded};
 ghost use Rattle.machine.specs.Grammar.{hart_steps};
-ghost use Rattle.std.specs.Prelude.{◌≡◌, ◌^◌, ◌<◌, IfOk, IfSome, OnOk, string_bytes};
+ghost use Rattle.std.specs.Prelude.{◌≡◌, ◌^◌, ◌<◌, ℕ, List, IfOk, IfSome, OnOk, string_bytes};
 ghost use Rattle.std.specs.Io.KnownBytes.{Appends};
 
 use crate::answer::Answer;
@@ -23,7 +24,7 @@ use arguments::JudgeCommand;
 use crash_test::{ExplainedImage, Judgement, RoutineReader, explain_losses, judge_program};
 use debugger::Failed;
 use recovery::Cause as RunCause;
-use routine_judge::{Cause, Verdict};
+use routine_judge::{Cause, Rule, Verdict};
 use std::alloc::{AllocError, Global};
 use std::io::Write;
 use std::thread::Threads;
@@ -115,14 +116,18 @@ fn told_verdict<T: Threads + Sync + Clock, E: Write>(
 
 /// How the command says that the run is judged.
 fn judgement(judge: &OpenJudge) -> Judgement<'_>
-    ensures recovery { result.recovery.now ≡ judge.now.recovery }
-    ensures steps { result.steps ≡ judge.now.command.steps }
-    ensures overlapping { result.overlapping ≡ judge.now.command.overlapping }
+    ensures asked { judgement_view result ≡ judgement_asked judge.now }
+    ensures noted { (medium : List (List ℕ)) → AreNotedFor medium result.recovery.now result.steps result.rule }
 {
+    let rule = if judge.command.overlapping {
+        Rule::Overlapping
+    } else {
+        Rule::InTurn
+    };
     Judgement {
         recovery: &judge.recovery,
         steps: judge.command.steps,
-        overlapping: judge.command.overlapping,
+        rule,
     }
 }
 

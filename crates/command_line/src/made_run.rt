@@ -1,17 +1,20 @@
 //! Runs that are made of the files that commands read.
 
 ghost use Rattle.command_line.specs.MakingRuns.{MakesRun, OpensRun};
-ghost use Rattle.command_line.specs.Reading.{setup_of};
+ghost use Rattle.command_line.specs.Reading.{machine_of, setup_of};
 ghost use Rattle.crash_test.specs.Programs.{IsProgramOf};
 ghost use Rattle.machine.specs.Grammar.{hart_steps};
-ghost use Rattle.std.specs.Prelude.{◌^◌, ◌<◌, IfOk};
+ghost use Rattle.std.specs.Prelude.{◌≡◌, ◌^◌, ◌<◌, IfOk};
 
 use crate::failure::Failure;
 use crate::files::Files;
 use crate::reading::{RunFiles, read_run};
-use arguments::ScheduledRun;
+use crate::run::capacity;
+use arguments::{MachineOptions, ScheduledRun};
 use crash_test::record_run;
+use line_memory::Medium;
 use machine::{Run, Setup};
+use program::Program;
 use std::alloc::Global;
 
 /// A run that was made of a command's files. Whatever is asked of it is asked of this one run.
@@ -52,7 +55,20 @@ pub(crate) fn make_run(
         schedule,
         medium,
     } = read;
-    let setup = Setup::with_room(program, medium, command.machine.harts);
+    let setup = setup(&command.machine, program, medium);
     let run = record_run(alloc, setup, &schedule)?;
     Ok(MadeRun { file, run })
+}
+
+/// What a run of a program starts from, on the machine that the options ask for.
+fn setup(options: &MachineOptions, program: Program, medium: Medium) -> Setup
+    ensures { result ≡ machine_of options.now program medium }
+{
+    let capacity = capacity(options, &medium);
+    Setup {
+        program,
+        medium,
+        harts: options.harts,
+        capacity,
+    }
 }

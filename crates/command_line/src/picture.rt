@@ -39,7 +39,7 @@ fn picture(alloc: Global, command: &PictureCommand, made: &MadeRun) -> Result<St
 }
 
 /// Nothing is printed of a file that was written.
-fn silence(alloc: Global) -> Result<Answer, Failure>
+pub(crate) fn silence(alloc: Global) -> Result<Answer, Failure>
     ensures { Prints [] 0 result }
 {
     Ok(Answer {

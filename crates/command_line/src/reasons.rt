@@ -2,7 +2,7 @@
 
 ghost use Rattle.command_line.specs.Reasons.{image_losses, told_image, told_losses, told_why};
 ghost use Rattle.crash_test.specs.Programs.{IsProgramOf};
-ghost use Rattle.report.specs.Places.{line_in};
+ghost use Rattle.report.specs.Places.{origin_in};
 ghost use Rattle.machine.specs.Grammar.{hart_steps};
 ghost use Rattle.std.specs.Prelude.{◌≡◌, ◌++◌, ◌^◌, ◌<◌, ℕ, List, IfOk, IfSome, string_bytes};
 
@@ -62,7 +62,7 @@ fn image_losses(
     json: bool,
 ) -> Result<String, AllocError>
     requires few { hart_steps explained.now.schedule < 2 ^ 32 }
-    ensures { IfOk result (λ text. string_bytes text ≡ image_losses json (line_in places.now) traced.now explained.now) }
+    ensures { IfOk result (λ text. string_bytes text ≡ image_losses json (origin_in places.now) traced.now explained.now) }
 {
     let text = told_losses(alloc, traced, explained, places, json)?;
     let last = named_schedule(alloc, "schedule", &explained.schedule, json)?;
@@ -95,7 +95,7 @@ fn told_losses(
     json: bool,
 ) -> Result<String, AllocError>
     requires few { hart_steps explained.now.schedule < 2 ^ 32 }
-    ensures { IfOk result (λ text. string_bytes text ≡ told_losses json (line_in places.now) traced.now explained.now) }
+    ensures { IfOk result (λ text. string_bytes text ≡ told_losses json (origin_in places.now) traced.now explained.now) }
 {
     let ExplainedImage { told, schedule } = explained;
     if json {

@@ -2,8 +2,8 @@
 
 ghost use Rattle.command_line.specs.Persisting.{Finds, UnpersistedFile, status_of, told_stores};
 ghost use Rattle.command_line.specs.Steps.{Prints};
-ghost use Rattle.crash_test.specs.Lines.{line_of};
-ghost use Rattle.report.specs.Places.{line_in};
+ghost use Rattle.crash_test.specs.Origins.{origin_of};
+ghost use Rattle.report.specs.Places.{origin_in};
 ghost use Rattle.std.specs.Prelude.{◌≡◌, ◌<◌, IfOk, string_bytes};
 ghost use Rattle.crash_test.specs.Programs.{IsProgramOf};
 
@@ -49,7 +49,7 @@ fn told_answer(
     json: bool,
 ) -> Result<Answer, Failure>
     requires { IsProgramOf made.now.file.items made.now.run.setup.program }
-    ensures { Prints (told_stores json (line_of made.now.file.items) made.now.run.traced found.now) (status_of found.now) result }
+    ensures { Prints (told_stores json (origin_of made.now.file.items) made.now.run.traced found.now) (status_of found.now) result }
 {
     let places = places_of(alloc, &made.file)?;
     let text = told_stores(alloc, made.run.traced(), found, &places, json)?;
@@ -64,7 +64,7 @@ fn told_stores(
     places: &Places,
     json: bool,
 ) -> Result<String, AllocError>
-    ensures { IfOk result (λ text. string_bytes text ≡ told_stores json (line_in places.now) traced.now found.now) }
+    ensures { IfOk result (λ text. string_bytes text ≡ told_stores json (origin_in places.now) traced.now found.now) }
 {
     if json {
         unpersisted_json(alloc, found, traced, places)

@@ -1,8 +1,8 @@
 //! The command that tells which cleans and fences are made in vain.
 
 ghost use Rattle.command_line.specs.Wasting.{FindsNeedless, IsTold, PrintsWaste, WasteFile};
-ghost use Rattle.crash_test.specs.Lines.{line_of};
-ghost use Rattle.report.specs.Places.{line_in};
+ghost use Rattle.crash_test.specs.Origins.{origin_of};
+ghost use Rattle.report.specs.Places.{origin_in};
 ghost use Rattle.std.specs.List.{zip};
 ghost use Rattle.std.specs.Result.{result_map_both};
 ghost use Rattle.std.specs.Prelude.{◌≡◌, ◌<◌, IfOk, length, string_bytes};
@@ -55,7 +55,7 @@ fn found_answer(
 ) -> Result<Answer, Failure>
     requires program { IsProgramOf made.now.file.items made.now.run.setup.program }
     requires size { length reasons.now ≡ length made.now.run.traced }
-    ensures { PrintsWaste json (line_of made.now.file.items) (zip made.now.run.traced reasons.now) result }
+    ensures { PrintsWaste json (origin_of made.now.file.items) (zip made.now.run.traced reasons.now) result }
 {
     let places = places_of(alloc, &made.file)?;
     let text = told(alloc, made.run.traced(), reasons, &places, json)?;
@@ -71,7 +71,7 @@ fn told(
     json: bool,
 ) -> Result<String, AllocError>
     requires { length reasons.now ≡ length traced.now }
-    ensures { IfOk result (λ text. IsTold json (line_in places.now) (zip traced.now reasons.now) (string_bytes text)) }
+    ensures { IfOk result (λ text. IsTold json (origin_in places.now) (zip traced.now reasons.now) (string_bytes text)) }
 {
     if json {
         waste_json(alloc, traced, reasons, places)

@@ -1,11 +1,16 @@
--- Counting the crash images of a moment of a run.
-use Rattle.std.specs.Prelude.{◌≡◌, ℕ, ◌<◌, ◌≤◌, List, Option, Some, None, length}
+-- The crash images of a moment of events over a medium: how many there are, and the lines of one.
+use Rattle.std.specs.Prelude.{◌≡◌, ℕ, ◌<◌, ◌≤◌, List, Option, Some, None, length, map}
 use Rattle.crash_image.specs.declared.ImageFault.{ImageFault}
 use Rattle.crash_image.specs.declared.ImageFault.TheVariants.{NoSuchMoment, NotACut, Memory}
-use Rattle.store_trace.specs.Cut.{cut_count}
+use Rattle.crash_test.specs.Explaining.{HasImage}
+use Rattle.crash_test.specs.declared.images.ImageLine.{ImageLine}
+use Rattle.line_memory.specs.Lines.{line_at}
+use Rattle.store_trace.specs.Cut.{cut_count, number_in}
+use Rattle.store_trace.specs.Image.{image}
 use Rattle.store_trace.specs.declared.crash_model.step.PersistenceStep.{PersistenceStep}
 use Rattle.store_trace.specs.History.{at_moment}
 use Rattle.store_trace.specs.declared.event.Event.{Event}
+use Rattle.text.specs.declared.image_name.name.ImageName.{ImageName}
 
 -- the number of cuts, and None where there are over 65,536
 abbrev pub IsCutCount : List PersistenceStep → Option ℕ → Type 0
@@ -22,3 +27,13 @@ abbrev pub LacksMoment : List Event → ℕ → ImageFault → Type 0
 LacksMoment events moment NoSuchMoment = length events < moment
 LacksMoment events moment NotACut = ⊥
 LacksMoment events moment Memory = Unit {0}
+
+-- the lines of a cut, each with its bytes in an image
+abbrev pub lines_of : List (List ℕ) → List (ℕ × ℕ) → List ImageLine
+lines_of image cut = map (λ (entry : ℕ × ℕ). record { line = entry.0; bytes = line_at image entry.0 }) cut
+
+-- those of the image of this name at a moment of events over these starting lines
+pub record AreImageLines (start : List (List ℕ)) (events : List Event) (moment : ℕ) (name : ImageName) (lines : List ImageLine) : Type 0 where
+  pub cut : List (ℕ × ℕ)
+  pub has_image : HasImage events moment name cut
+  pub all : lines ≡ lines_of (image start (number_in cut) (at_moment events moment)) cut

@@ -2,19 +2,17 @@
 use Rattle.std.specs.Prelude.{◌≡◌, ◌≢◌, ℕ, ◌≤◌, Bool, List, [], Option, None, Ok, length}
 use Rattle.store_trace.specs.Cut.{IsCut, number_in}
 use Rattle.store_trace.specs.Marks.{begun}
-use Rattle.routine_judge.specs.RightAnswers.{IsFoundOf, IsRightOf, of_window}
+use Rattle.routine_judge.specs.RightAnswers.{IsFoundOf, IsRightOf, IsSource, Source}
+use Rattle.routine_judge.specs.Rules.{JudgementView}
 use Rattle.routine_judge.specs.Verdicts.{IsJudged, first_judged, judged_from}
 use Rattle.routine_judge.specs.Views.{JudgeView}
 use Rattle.routine_judge.specs.declared.cause.Cause.{Cause}
 use Rattle.routine_judge.specs.MarkFaults.{AreSound}
-use Rattle.routine_judge.specs.Windows.{IsWindow}
-use Rattle.routine_judge.specs.declared.history.moments.Window.{Window}
 use Rattle.machine.specs.Replies.{trace_in}
 use Rattle.machine.specs.Run.{Config, RunsTo, started}
 use Rattle.verdict.specs.GoingOn.{IsVerdictOn, settled}
 use Rattle.verdict.specs.Progress.{IsTold}
 use Rattle.verdict.specs.declared.moment_verdict.verdict.Verdict.{Verdict}
-use Rattle.program.specs.Sections.{Sections}
 use Rattle.verdict.specs.Rows.{end_of}
 use Rattle.recovery.specs.Answers.{answer}
 use Rattle.recovery.specs.Recovery.{RunsFor}
@@ -28,47 +26,53 @@ use Rattle.machine.specs.RunValues.{start_of}
 use Rattle.machine.specs.declared.recording.setup.Setup.{Setup}
 use Rattle.machine.specs.RunValues.{RunView}
 
--- the routine, for so many steps at most, over these events of a run from the setup's medium
-abbrev pub view_of : Setup → Sections → ℕ → List Event → JudgeView
-view_of s recovery steps events = record { routine = recovery; steps = steps; start = s.medium; events = events }
+-- these events of a run from the setup's medium, judged like this
+abbrev pub view_of : Setup → JudgementView → List Event → JudgeView
+view_of s judgement events = record {
+  routine = judgement.routine;
+  steps = judgement.steps;
+  start = s.medium;
+  events = events;
+  right = judgement.right;
+}
 
 -- the verdict on those of these moments of the run that are judged; the run's marks are right
-pub record HasJudgement (run : RunView) (recovery : Sections) (steps : ℕ) (overlapping : Bool) (row : Row) (verdict : Verdict Cause) : Type 0 where
-  pub sound : AreSound overlapping run.events (length run.events)
+pub record HasJudgement (run : RunView) (judgement : JudgementView) (row : Row) (verdict : Verdict Cause) : Type 0 where
+  pub sound : AreSound judgement.overlap run.events (length run.events)
   pub begins : begun run.events ≢ []
-  pub verdict_is : IsVerdictOn row.goes_on (IsJudged (view_of run.setup recovery steps run.events)) run.events
+  pub verdict_is : IsVerdictOn row.goes_on (IsJudged (view_of run.setup judgement run.events)) run.events
       (judged_from run.events row.first (end_of run.events row.last)) (end_of run.events row.last) verdict
 
 -- on the way to that verdict somebody is told of moments behind which judging goes on; `hears` says what becomes of the hearer each time
-abbrev pub IsToldOf : {Hearer : Type 0} → (Hearer → ℕ → ℕ → Option ℕ → Hearer → Type 0) → RunView → Sections → ℕ → Row → Hearer → Hearer → Type 0
-IsToldOf hears run recovery steps row = IsTold hears (settled row.goes_on (IsJudged (view_of run.setup recovery steps run.events))) run.events
+abbrev pub IsToldOf : {Hearer : Type 0} → (Hearer → ℕ → ℕ → Option ℕ → Hearer → Type 0) → RunView → JudgementView → Row → Hearer → Hearer → Type 0
+IsToldOf hears run judgement row = IsTold hears (settled row.goes_on (IsJudged (view_of run.setup judgement run.events))) run.events
     (judged_from run.events row.first (end_of run.events row.last)) (end_of run.events row.last)
 
 -- whatever a power cut leaves at a moment of the run from its first Begin on: the routine has an answer, and a right one
 pub record IsRightAt (view : JudgeView) (moment : ℕ) (cut : ℕ → ℕ) : Type 0 where
-  pub window : Window
-  pub is_window : IsWindow view.events moment window
-  pub right : IsFoundOf view (of_window window moment) moment cut None
+  pub source : Source
+  pub is_source : IsSource view moment source
+  pub right : IsFoundOf view source moment cut None
 
-abbrev pub AlwaysRecovers : Setup → List Item → Sections → ℕ → Type 0
-AlwaysRecovers s schedule recovery steps = (end : Config) (moment : ℕ) (cut : List (ℕ × ℕ)) → RunsTo (start_of s) (all_steps schedule) end
+abbrev pub AlwaysRecovers : Setup → List Item → JudgementView → Type 0
+AlwaysRecovers s schedule judgement = (end : Config) (moment : ℕ) (cut : List (ℕ × ℕ)) → RunsTo (start_of s) (all_steps schedule) end
     → first_judged (trace_in end.common) ≤ moment → moment ≤ length (trace_in end.common) → IsCut (at_moment (trace_in end.common) moment) cut
-    → IsRightAt (view_of s recovery steps (trace_in end.common)) moment (number_in cut)
+    → IsRightAt (view_of s judgement (trace_in end.common)) moment (number_in cut)
 
 -- the routine, run on this medium, ends well, and its answer is a right one of the moment
 pub record AnswersRightly (view : JudgeView) (moment : ℕ) (left : List (List ℕ)) : Type 0 where
-  pub window : Window
-  pub is_window : IsWindow view.events moment window
+  pub source : Source
+  pub is_source : IsSource view moment source
   pub end : Config
   pub full : Bool
   pub runs : RunsFor (started view.routine left 1) view.steps end full
   pub bytes : List ℕ
   pub answers : Ok bytes ≡ answer end full
-  pub right : IsRightOf view (of_window window moment) bytes
+  pub right : IsRightOf view source bytes
 
 -- Whatever machine, with a cache of whatever size, has made the first hart steps of the run and with them its first Begin, with evictions
 -- wherever they came: on what a power cut leaves of it the routine answers rightly.
-abbrev pub AnswersAfterPowerCuts : Setup → List Item → Sections → ℕ → Type 0
-AnswersAfterPowerCuts s schedule recovery steps = (whole : Config) → RunsTo (start_of s) (all_steps schedule) whole
+abbrev pub AnswersAfterPowerCuts : Setup → List Item → JudgementView → Type 0
+AnswersAfterPowerCuts s schedule judgement = (whole : Config) → RunsTo (start_of s) (all_steps schedule) whole
     → HoldsAfterPowerCuts s schedule (λ events left. first_judged (trace_in whole.common) ≤ length events
-    → AnswersRightly (view_of s recovery steps (trace_in whole.common)) (length events) left)
+    → AnswersRightly (view_of s judgement (trace_in whole.common)) (length events) left)

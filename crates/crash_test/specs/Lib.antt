@@ -1,6 +1,6 @@
 pub mod Programs
 pub mod Places
-pub mod Lines
+pub mod Origins
 pub mod Runs
 pub mod Images
 pub mod Explaining

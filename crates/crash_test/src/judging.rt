@@ -2,6 +2,7 @@
 
 ghost use Rattle.crash_test.specs.Judging.{AlwaysRecovers, AnswersAfterPowerCuts, HasJudgement, IsToldOf};
 ghost use Rattle.crash_test.specs.Rows.{row_of};
+ghost use Rattle.routine_judge.specs.Rules.{AreNotedFor, judgement_view, overlap_of};
 ghost use Rattle.routine_judge.specs.Verdicts.{IsRefusal};
 ghost use Rattle.std.specs.Prelude.{◌≡◌, ℕ, IfErr, IfOk, Ok, None, Option};
 
@@ -13,8 +14,9 @@ use std::thread::Threads;
 use verdict::Progress;
 
 /// The verdict on the moments of a run that the work names: whether each state that a power cut may leave from the first Begin on shows, to
-/// the recovery routine, the structure as before or after the operation under way. The workers judge the moments in threads of their own
-/// where these can be started. The verdict is the same for any number of them, and whoever is told on the way how far it has come.
+/// the recovery routine, the structure as before or after the operation under way; by sequential runs, as what has begun and ended allows.
+/// The workers judge the moments in threads of their own where these can be started. The verdict is the same for any number of them, and
+/// whoever is told on the way how far it has come.
 ///
 /// # Errors
 /// Marks for the first wrong mark of the run, or where there is none; NoSuchMoment where the marks are right and the first moment is past
@@ -28,16 +30,17 @@ pub fn judge_program<T: Threads + Sync, P: Progress>(
     work: Work,
     progress: &mut P,
 ) -> Result<Verdict<Cause>, JudgeFault>
-    ensures ok { IfOk result (HasJudgement run.now judgement.entry.recovery.now judgement.entry.steps judgement.entry.overlapping (row_of work)) }
+    requires runs { AreNotedFor run.now.setup.medium judgement.recovery.now judgement.steps judgement.rule }
+    ensures ok { IfOk result (HasJudgement run.now (judgement_view judgement.entry) (row_of work)) }
 
     // Pass of the whole: on every image of every judged moment the routine has an answer, and a right one; and so it has on what a power
     // cut leaves of any machine, with a cache of any size, that has made the first hart steps of the run with evictions anywhere.
     ensures pass { (moments : ℕ) (images : Option ℕ) → result ≡ Ok (Verdict.Pass moments images) → work.first ≡ 0 → work.last ≡ None →
-        AlwaysRecovers run.now.setup run.now.schedule judgement.entry.recovery.now judgement.entry.steps }
+        AlwaysRecovers run.now.setup run.now.schedule (judgement_view judgement.entry) }
     ensures survives { (moments : ℕ) (images : Option ℕ) → result ≡ Ok (Verdict.Pass moments images) → work.first ≡ 0 → work.last ≡ None →
-        AnswersAfterPowerCuts run.now.setup run.now.schedule judgement.entry.recovery.now judgement.entry.steps }
-    ensures err { IfErr result (IsRefusal judgement.entry.overlapping run.now.events work.first) }
-    ensures told { IsToldOf P.hears run.now judgement.entry.recovery.now judgement.entry.steps (row_of work) progress.old progress.new }
+        AnswersAfterPowerCuts run.now.setup run.now.schedule (judgement_view judgement.entry) }
+    ensures err { IfErr result (IsRefusal (overlap_of judgement.entry.rule) run.now.events work.first) }
+    ensures told { IsToldOf P.hears run.now (judgement_view judgement.entry) (row_of work) progress.old progress.new }
 {
     let Work {
         first,

@@ -23,7 +23,7 @@ pub use explaining::explain_image;
 pub use image_causes::{
     LogReader, Reader, ToldImage, kept_lines_are_read, tell_image, tell_image_by,
 };
-pub use images::count_images;
+pub use images::{ImageLine, count_images, image_lines};
 pub use judging::judge_program;
 pub use loading::{ProgramFault, load_object, load_program};
 pub use losses::{ExplainedImage, explain_losses};

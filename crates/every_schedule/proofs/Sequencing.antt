@@ -22,6 +22,7 @@ use Rattle.routine_judge.specs.Order.{AreAtRest}
 use Rattle.routine_judge.specs.SequentialRuns.{AreSequentialRuns, IsNoteOf, IsSameNote, IsSequentialRun, IsSequentialRunOf}
 use Rattle.routine_judge.specs.Views.{ProgramView}
 use Rattle.routine_judge.specs.declared.history.fault.MarkFault.{MarkFault}
+use Rattle.routine_judge.specs.declared.history.overlap.Overlap.TheVariants.{Never}
 use Rattle.routine_judge.specs.declared.order.sequential.SequentialState.{SequentialState}
 use Rattle.routine_judge.specs.declared.order.sequential_runs.SequentialRun.{SequentialRun}
 use Rattle.routine_judge.specs.declared.order.word.Word.{Word}
@@ -45,15 +46,15 @@ last_get events event =
     let long : length (events ++ event ∷ []) ≡ length events + 1 = length-append events (event ∷ []) in
     slice_get-get_or (events ++ event ∷ []) (length events) event (omega (arith, long)) ∙ ap (λ (e : Event). Some e) (get_or-append_seam events event [] event)
 
-fault_unsound : (events : List Event) (mark : Event) → ((fault : MarkFault) × HasFault false events mark fault) → ¬ AreSound false (events ++ mark ∷ []) (length (events ++ mark ∷ []))
+fault_unsound : (events : List Event) (mark : Event) → ((fault : MarkFault) × HasFault Never events mark fault) → ¬ AreSound Never (events ++ mark ∷ []) (length (events ++ mark ∷ []))
 fault_unsound events mark wrong sound =
     let long : length (events ++ mark ∷ []) ≡ length events + 1 = length-append events (mark ∷ []) in
     sound (length events) mark wrong.0 (omega (arith, long)) (last_get events mark)
-    (subst (λ (before : List Event). HasFault false before mark wrong.0) (sym (take-append_seam events (mark ∷ []))) wrong.1)
+    (subst (λ (before : List Event). HasFault Never before mark wrong.0) (sym (take-append_seam events (mark ∷ []))) wrong.1)
 
 pub kept_after : (found : Option SequentialState) (state : SequentialState) (mark : Event) →
     IfSome found (λ (next : SequentialState). (events : List Event) → IsStateOf events state → IsStateOf (events ++ mark ∷ []) next) →
-    IfNone found ((events : List Event) → IsStateOf events state → (fault : MarkFault) × HasFault false events mark fault) →
+    IfNone found ((events : List Event) → IsStateOf events state → (fault : MarkFault) × HasFault Never events mark fault) →
     (events : List Event) → IsStateOf events state → IsKeptOf found (events ++ mark ∷ [])
 kept_after (Some next) state mark some none events is = some events is
 kept_after None state mark some none events is = fault_unsound events mark (none events is)
@@ -65,9 +66,9 @@ keeps_to start end run before after h c is runs =
     run_parted start end before (Hart h ∷ after) (subst (λ (steps : List Step). RunsTo start steps end) is run.runs) in
     let same : parts.0 ≡ c = runs_once start before parts.0 c parts.1 runs in
     let grown : (more : List Event) × (trace_in end.common ≡ trace_in parts.0.common ++ more) = run_grows parts.0 end (Hart h ∷ after) parts.2 in
-    let sound : AreSound false (trace_in parts.0.common ++ grown.0) (length (trace_in parts.0.common ++ grown.0)) =
-    subst (λ (events : List Event). AreSound false events (length events)) grown.1 run.sound in record {
-      sound = subst (λ (d : Config). AreSound false (trace_in d.common) (length (trace_in d.common))) same (sound_front (trace_in parts.0.common) grown.0 sound);
+    let sound : AreSound Never (trace_in parts.0.common ++ grown.0) (length (trace_in parts.0.common ++ grown.0)) =
+    subst (λ (events : List Event). AreSound Never events (length events)) grown.1 run.sound in record {
+      sound = subst (λ (d : Config). AreSound Never (trace_in d.common) (length (trace_in d.common))) same (sound_front (trace_in parts.0.common) grown.0 sound);
       alone = run.sequential before after h c is runs;
     }
 
@@ -85,7 +86,7 @@ rest_noted view m state word notes note worded among new events k is choice soun
 
 -- a state of a run that isn't at rest
 pub unrest_noted : (view : ProgramView) (m : MemoryView) (standing : Option SequentialState) (notes : List SequentialRun) →
-    ((events : List Event) → IsKeptOf standing events → AreSound false events (length events) → ¬ AreAtRest events) →
+    ((events : List Event) → IsKeptOf standing events → AreSound Never events (length events) → ¬ AreAtRest events) →
     AreGoodImages IsKeptOf (λ (events : List Event) (full image : List (List ℕ)). IsNoted view notes events full) m standing
 unrest_noted view m standing notes unrest events k is choice sound rest = absurd (unrest events is sound rest)
 
@@ -96,7 +97,7 @@ run_of view events lines state way is rest = record {
   steps = way.led.steps;
   runs = way.led.runs;
   sequential = is_sequential (started view.program view.medium view.harts) way.end way.led;
-  sound = subst (λ (trace : List Event). AreSound false trace (length trace)) way.events_are is.sound;
+  sound = subst (λ (trace : List Event). AreSound Never trace (length trace)) way.events_are is.sound;
   rests = subst (λ (trace : List Event). AreAtRest trace) way.events_are rest;
 }
 

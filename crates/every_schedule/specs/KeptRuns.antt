@@ -1,5 +1,5 @@
 -- What is kept of a run that may be sequential: laws of it.
-use Rattle.std.proofs.Common.{◌≡◌, ℕ, ◌+◌, ◌<◌, Bool, false, true, ◌&&◌, List, [], ◌∷◌, ◌++◌, Option, Some, None, length, slice_get, refl, sym, ap, ◌∙◌, subst, arith}
+use Rattle.std.proofs.Common.{◌≡◌, ℕ, ◌+◌, ◌<◌, Bool, true, ◌&&◌, List, [], ◌∷◌, ◌++◌, Option, Some, None, length, slice_get, refl, sym, ap, ◌∙◌, subst, arith}
 use Rattle.std.specs.Cmp.Lexicographic.{pointwise}
 use Rattle.std.specs.Option.{option_eq}
 use Rattle.std.proofs.lemmas.List.{get_or_append_left, length-append, take-append-le}
@@ -7,6 +7,7 @@ use Rattle.std.proofs.lemmas.Option.{get_or_from_slice_get, slice_get-get_or}
 use Rattle.routine_judge.proofs.Equal.{equal_states, same_operation}
 use Rattle.routine_judge.proofs.Sequencing.{other_state}
 use Rattle.routine_judge.specs.MarkFaults.{AreSound, HasFault}
+use Rattle.routine_judge.specs.declared.history.overlap.Overlap.TheVariants.{Never}
 use Rattle.routine_judge.specs.declared.order.sequential.SequentialState.{SequentialState}
 use Rattle.schedule_states.specs.Marks.{IsUnmarked}
 use Rattle.store_trace.specs.declared.event.Event.{Event}
@@ -19,11 +20,11 @@ front_get front more i event inside at =
     slice_get-get_or (front ++ more) i event (omega (arith, long, inside))
     ∙ ap (λ (e : Event). Some e) (get_or_append_left front more event i inside ∙ get_or_from_slice_get front i event event at)
 
-pub sound_front : (front more : List Event) → AreSound false (front ++ more) (length (front ++ more)) → AreSound false front (length front)
+pub sound_front : (front more : List Event) → AreSound Never (front ++ more) (length (front ++ more)) → AreSound Never front (length front)
 sound_front front more sound i event fault inside at has =
     let long : length (front ++ more) ≡ length front + length more = length-append front more in
     sound i event fault (omega (arith, long, inside)) (front_get front more i event inside at)
-    (subst (λ (before : List Event). HasFault false before event fault) (sym (take-append-le i front more (omega (arith, inside)))) has)
+    (subst (λ (before : List Event). HasFault Never before event fault) (sym (take-append-le i front more (omega (arith, inside)))) has)
 
 -- what is kept of a run
 pub kept_unmarked : (standing : Option SequentialState) (events : List Event) (event : Event) → IsUnmarked event → IsKeptOf standing events →

@@ -1,6 +1,6 @@
 -- The sequential runs of a program, as a search makes and notes them.
 -- Source: durable linearizability (Izraelevitz, Mendes, Scott, DISC 2016), with the program itself as the specification.
-use Rattle.std.specs.Prelude.{◌≡◌, ℕ, false, List, Option, Some, None, length}
+use Rattle.std.specs.Prelude.{◌≡◌, ℕ, List, Option, Some, None, length}
 use Rattle.std.specs.List.{Contains}
 use Rattle.machine.specs.Replies.{trace_in}
 use Rattle.machine.specs.Run.{Config, started}
@@ -13,6 +13,7 @@ use Rattle.routine_judge.specs.Operations.{IsPendingBy}
 use Rattle.routine_judge.specs.Order.{AreAtRest}
 use Rattle.routine_judge.specs.SequentialRuns.{AreSequentialRuns, IsNoteOf, IsSequentialRunOf, notes_in}
 use Rattle.routine_judge.specs.Views.{ProgramView}
+use Rattle.routine_judge.specs.declared.history.overlap.Overlap.TheVariants.{Never}
 use Rattle.routine_judge.specs.declared.order.sequential.SequentialState.{SequentialState}
 use Rattle.routine_judge.specs.declared.order.sequential_runs.SequentialRun.{SequentialRun}
 use Rattle.routine_judge.specs.declared.order.word.Word.{Word}
@@ -27,13 +28,13 @@ program_of s recovery steps = record { program = s.program; medium = s.medium; h
 
 -- a sequential run with these events goes on by a step of the hart: their marks are right, and no operation of another hart is pending
 pub record GoesOn (events : List Event) (hart : ℕ) : Type 0 where
-  pub sound : AreSound false events (length events)
+  pub sound : AreSound Never events (length events)
   pub alone : (beginner op : ℕ) → IsPendingBy events beginner op → beginner ≡ hart
 
 -- what is kept of a run: what it has done, or that a mark is wrong
 abbrev pub IsKeptOf : Option SequentialState → List Event → Type 0
 IsKeptOf (Some state) events = IsStateOf events state
-IsKeptOf None events = ¬ AreSound false events (length events)
+IsKeptOf None events = ¬ AreSound Never events (length events)
 
 -- a run of the program in which each step is such a one leads to these events, behind which loads find these lines of the medium
 pub record IsOnItsWay (view : ProgramView) (events : List Event) (lines : List (List ℕ)) : Type 0 where
@@ -44,7 +45,7 @@ pub record IsOnItsWay (view : ProgramView) (events : List Event) (lines : List (
 
 -- where these are the events of a sequential run at rest, one is noted with its word, and with what the routine comes to on the full image
 abbrev pub IsNoted : ProgramView → List SequentialRun → List Event → List (List ℕ) → Type 0
-IsNoted view notes events full = AreSound false events (length events) → AreAtRest events →
+IsNoted view notes events full = AreSound Never events (length events) → AreAtRest events →
     (note : SequentialRun) × Contains notes note × IsWordOf events note.word × AnswersOn view.routine view.steps full note.found
 
 -- each noted run is one of the program

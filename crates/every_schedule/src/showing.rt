@@ -192,7 +192,7 @@ fn unfinished_in(alloc: Global, plan: &Plan, run: &Run) -> Result<Option<Finding
     if !has_stopped_badly(run.harts()) {
         return Ok(None);
     }
-    let causes = find_unfinished(alloc, run, plan.operations())?;
+    let causes = find_unfinished(alloc, run.harts(), run.trace().events(), plan.operations())?;
     Ok(Some(Finding::NotWhole(causes)))
 }
 

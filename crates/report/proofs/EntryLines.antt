@@ -1,10 +1,11 @@
 -- What is printed of an event is the line of its entry.
 use Rattle.std.proofs.Common.{◌≡◌, ℕ, zero, suc, ◌+◌, ◌*◌, ◌%◌, ◌^◌, ◌<◌, ◌≤◌, Bool, true, false, not, ◌&&◌, List, [], ◌∷◌, ◌++◌, Option, Some, None, map, codes, length, get_or, refl, sym, ap, ◌∙◌, subst, arith, eqb, inl, inr, append_assoc, add-one}
-use Rattle.std.specs.Prelude.{All, IfSome, decimal}
-use Rattle.std.specs.Fmt.{digits}
+use Rattle.std.specs.Prelude.{All, decimal, ◌/◌, ◌==◌, nat_le, if◌then◌else◌}
+use Rattle.std.specs.Fmt.{digit_glyph, digits}
 use Rattle.std.specs.List.{enumerate_from, flat_map, list_all}
 use Rattle.std.proofs.Math.Nat.{mod-lt, pow-le-pow_right}
-use Rattle.std.proofs.lemmas.Bool.{and_from, and_parts}
+use Rattle.std.proofs.lemmas.Bool.{and_from, and_parts, ne_eqb}
+use Rattle.std.proofs.lemmas.Bool.Decides.{nat_tests}
 use Rattle.std.proofs.lemmas.Nat.{pow_pos}
 use Rattle.std.proofs.lemmas.List.{length-map}
 use Rattle.std.proofs.lemmas.List.Elements.{All-map, All-head, All-tail}
@@ -13,9 +14,11 @@ use Rattle.machine.specs.declared.run_trace.traced_event.TracedEvent.{TracedEven
 use Rattle.store_trace.specs.TraceView.{IsEvent, IsWidth}
 use Rattle.store_trace.specs.declared.event.Event.{Event}
 use Rattle.store_trace.specs.declared.event.Event.TheVariants.{Store, Clean, Fence, Begin, End}
-use Rattle.report.specs.Entries.{HasSizes, entry_of, line_words, place_words, printed_event}
+use Rattle.report.specs.Entries.{HasNumbers, HasSizes, entry_of, origin_words, place_words, printed_event}
 use Rattle.report.specs.Events as report
-use Rattle.report.specs.Places.{code_place, code_text, line_text}
+use Rattle.report.specs.Places.{InFunction, KnownOrigin, code_place, code_text, executable, nowhere, origin_text, source_line}
+use Rattle.report.specs.PrintedNames.{is_graphic, printed_name, text_byte}
+use Rattle.report.specs.Rows.{two_digits}
 use Rattle.trace_file.proofs.CutLemmas.{is_other}
 use Rattle.trace_file.proofs.NumeralLemmas.{numeral_plain, numeral_stop}
 use Rattle.trace_file.proofs.Printing.{decimal_numeral, hexadecimal_numeral}
@@ -76,12 +79,58 @@ pc_word n = record {
   bytes = all_append is_place_byte (codes "0x") (numeral 16 n) refl (numeral_bytes 16 n (omega arith) (omega arith));
 }
 
-line_is_word : (line : Option ℕ) → ArePlaceWords (line_words line)
-line_is_word None = tt
-line_is_word (Some n) = (line_word n, tt)
+-- a printed name has neither blanks nor line ends
+high_byte : (byte : ℕ) → 33 ≤ byte → is_place_byte byte ≡ true
+high_byte byte high =
+    and_from (not (byte == 32)) (not (byte == 10)) (ap not (ne_eqb byte 32 (λ same. omega arith))) (ap not (ne_eqb byte 10 (λ same. omega arith)))
 
-words : (lines : ℕ → Option ℕ) (t : TracedEvent) → ArePlaceWords (place_words lines t)
-words lines t = (step_word t.step, (pc_word t.pc, line_is_word (lines t.pc)))
+glyph_high : (d : ℕ) → 33 ≤ digit_glyph false d
+glyph_high d = grind (arith, nat_tests)
+
+escaped_bytes : (byte : ℕ) → list_all is_place_byte (two_digits byte) ≡ true
+escaped_bytes byte =
+    let high : is_place_byte (digit_glyph false (byte / 16)) ≡ true = high_byte (digit_glyph false (byte / 16)) (glyph_high (byte / 16)) in
+    let low : is_place_byte (digit_glyph false (byte % 16)) ≡ true = high_byte (digit_glyph false (byte % 16)) (glyph_high (byte % 16)) in
+    and_from (is_place_byte (digit_glyph false (byte / 16))) (is_place_byte (digit_glyph false (byte % 16)) && true) high
+    (and_from (is_place_byte (digit_glyph false (byte % 16))) true low refl)
+
+graphic_byte : (byte : ℕ) (graphic : Bool) → is_graphic byte ≡ graphic
+    → list_all is_place_byte (if graphic then byte ∷ [] else 92 ∷ 120 ∷ two_digits byte) ≡ true
+graphic_byte byte true is =
+    let (ascii, other) = and_parts (nat_le 0x21 byte && nat_le byte 0x7e) (not (byte == 92)) is in
+    let (low, top) = and_parts (nat_le 0x21 byte) (nat_le byte 0x7e) ascii in
+    let high : 33 ≤ byte = grind (arith, nat_tests, low) in
+    and_from (is_place_byte byte) true (high_byte byte high) refl
+graphic_byte byte false is = escaped_bytes byte
+
+name_bytes : (name : List ℕ) → list_all is_place_byte (printed_name name) ≡ true
+name_bytes [] = refl
+name_bytes (byte ∷ bytes) = all_append is_place_byte (text_byte byte) (printed_name bytes) (graphic_byte byte (is_graphic byte) refl) (name_bytes bytes)
+
+offset_some : (front : List ℕ) (n : ℕ) → 0 < length (front ++ (codes "+0x" ++ numeral 16 n))
+offset_some [] n = omega arith
+offset_some (x ∷ xs) n = omega arith
+
+function_word : (place : InFunction) → IsPlaceWord (codes "in=" ++ (printed_name place.0 ++ (codes "+0x" ++ numeral 16 place.1)))
+function_word place = record {
+  name = codes "in";
+  value = printed_name place.0 ++ (codes "+0x" ++ numeral 16 place.1);
+  spelled = refl;
+  some_letters = omega arith;
+  letters = refl;
+  some_bytes = offset_some (printed_name place.0) place.1;
+  bytes = all_append is_place_byte (printed_name place.0) (codes "+0x" ++ numeral 16 place.1) (name_bytes place.0)
+      (all_append is_place_byte (codes "+0x") (numeral 16 place.1) refl (numeral_bytes 16 place.1 (omega arith) (omega arith)));
+}
+
+origin_is_word : (origin : KnownOrigin) → ArePlaceWords (origin_words origin)
+origin_is_word nowhere = tt
+origin_is_word (source_line n) = (line_word n, tt)
+origin_is_word (executable None) = tt
+origin_is_word (executable (Some place)) = (function_word place, tt)
+
+words : (origins : ℕ → KnownOrigin) (t : TracedEvent) → ArePlaceWords (place_words origins t)
+words origins t = (step_word t.step, (pc_word t.pc, origin_is_word (origins t.pc)))
 
 -- allowed entries
 fits : (event : Event) → IsEvent event → FitsItsLine (printed_event event)
@@ -100,8 +149,8 @@ within (Fence hart) is = is
 within (Begin hart op) is = is
 within (End hart op) is = is
 
-allowed : (lines : ℕ → Option ℕ) (t : TracedEvent) → HasSizes lines t → IsAllowed (entry_of lines t)
-allowed lines t sizes = record { places = words lines t; fits = fits t.event sizes.event; within = within t.event sizes.within }
+allowed : (origins : ℕ → KnownOrigin) (t : TracedEvent) → HasSizes origins t → IsAllowed (entry_of origins t)
+allowed origins t sizes = record { places = words origins t; fits = fits t.event sizes.event; within = within t.event sizes.within }
 
 -- what is printed of what an event did
 numbered : (keyword : List ℕ) (n : ℕ) (rest : List ℕ) → n < 2 ^ 64 → (keyword ++ decimal n) ++ 10 ∷ rest ≡ keyword ++ (numeral 10 n ++ 10 ∷ rest)
@@ -156,75 +205,82 @@ hart_small (Fence hart) is = omega (arith, is)
 hart_small (Begin hart op) is = omega (arith, is)
 hart_small (End hart op) is = omega (arith, is)
 
--- the line of the source, printed behind the pc
-line_spelled : (pc : List ℕ) (line : Option ℕ) (rest : List ℕ) → IfSome line (λ n. n < 2 ^ 32)
-    → (pc ++ line_text line) ++ 32 ∷ rest ≡ pc ++ 32 ∷ (place_text (line_words line) ++ rest)
-line_spelled pc None rest small = append_assoc pc [] (32 ∷ rest)
-line_spelled pc (Some n) rest small =
-    onto pc (codes " line=" ++ decimal n) (32 ∷ rest) (32 ∷ (place_text (line_words (Some n)) ++ rest))
+-- what is known, printed behind the pc
+origin_spelled : (pc : List ℕ) (origin : KnownOrigin) (rest : List ℕ) → HasNumbers origin
+    → (pc ++ origin_text origin) ++ 32 ∷ rest ≡ pc ++ 32 ∷ (place_text (origin_words origin) ++ rest)
+origin_spelled pc nowhere rest small = append_assoc pc [] (32 ∷ rest)
+origin_spelled pc (source_line n) rest small =
+    onto pc (codes " line=" ++ decimal n) (32 ∷ rest) (32 ∷ (place_text (origin_words (source_line n)) ++ rest))
     (ap (λ (t : List ℕ). codes " line=" ++ t) (ap (λ (d : List ℕ). d ++ 32 ∷ rest) (decimal_numeral n (omega arith)) ∙ sym (append_assoc (numeral 10 n) (32 ∷ []) rest)))
+origin_spelled pc (executable None) rest small = append_assoc pc [] (32 ∷ rest)
+origin_spelled pc (executable (Some place)) rest small =
+    let word : List ℕ = printed_name place.0 ++ (codes "+0x" ++ numeral 16 place.1) in
+    let shown : hexadecimal place.1 ≡ numeral 16 place.1 = hexadecimal_numeral place.1 small in
+    ap (λ (digits : List ℕ). (pc ++ (codes " in=" ++ (printed_name place.0 ++ (codes "+0x" ++ digits)))) ++ 32 ∷ rest) shown
+    ∙ onto pc (codes " in=" ++ word) (32 ∷ rest) (32 ∷ (place_text (origin_words (executable (Some place))) ++ rest))
+    (ap (λ (t : List ℕ). codes " in=" ++ t) (sym (append_assoc word (32 ∷ []) rest)))
 
-places_spelled : (lines : ℕ → Option ℕ) (t : TracedEvent) (rest : List ℕ) → place_text (place_words lines t) ++ rest
-    ≡ codes "step=" ++ (numeral 10 t.step ++ (32 ∷ (codes "pc=0x" ++ (numeral 16 t.pc ++ (32 ∷ (place_text (line_words (lines t.pc)) ++ rest))))))
-places_spelled lines t rest =
-    onto (codes "step=" ++ numeral 10 t.step) (32 ∷ ((codes "pc=0x" ++ numeral 16 t.pc) ++ 32 ∷ place_text (line_words (lines t.pc)))) rest
-    (32 ∷ (codes "pc=0x" ++ (numeral 16 t.pc ++ (32 ∷ (place_text (line_words (lines t.pc)) ++ rest)))))
+places_spelled : (origins : ℕ → KnownOrigin) (t : TracedEvent) (rest : List ℕ) → place_text (place_words origins t) ++ rest
+    ≡ codes "step=" ++ (numeral 10 t.step ++ (32 ∷ (codes "pc=0x" ++ (numeral 16 t.pc ++ (32 ∷ (place_text (origin_words (origins t.pc)) ++ rest))))))
+places_spelled origins t rest =
+    onto (codes "step=" ++ numeral 10 t.step) (32 ∷ ((codes "pc=0x" ++ numeral 16 t.pc) ++ 32 ∷ place_text (origin_words (origins t.pc)))) rest
+    (32 ∷ (codes "pc=0x" ++ (numeral 16 t.pc ++ (32 ∷ (place_text (origin_words (origins t.pc)) ++ rest)))))
     (ap (λ (z : List ℕ). 32 ∷ z)
-    (onto (codes "pc=0x" ++ numeral 16 t.pc) (32 ∷ place_text (line_words (lines t.pc))) rest (32 ∷ (place_text (line_words (lines t.pc)) ++ rest)) refl))
-    ∙ append_assoc (codes "step=") (numeral 10 t.step) (32 ∷ (codes "pc=0x" ++ (numeral 16 t.pc ++ (32 ∷ (place_text (line_words (lines t.pc)) ++ rest)))))
+    (onto (codes "pc=0x" ++ numeral 16 t.pc) (32 ∷ place_text (origin_words (origins t.pc))) rest (32 ∷ (place_text (origin_words (origins t.pc)) ++ rest)) refl))
+    ∙ append_assoc (codes "step=") (numeral 10 t.step) (32 ∷ (codes "pc=0x" ++ (numeral 16 t.pc ++ (32 ∷ (place_text (origin_words (origins t.pc)) ++ rest)))))
 
-placed_line : (lines : ℕ → Option ℕ) (t : TracedEvent) (rest : List ℕ) → HasSizes lines t → report.placed_text (report.placed lines t) ++ 10 ∷ rest
-    ≡ codes "h" ++ (numeral 10 (report.hart_of t.event) ++ (32 ∷ (place_text (place_words lines t) ++ act_text (printed_event t.event) rest)))
-placed_line lines t rest sizes =
+placed_line : (origins : ℕ → KnownOrigin) (t : TracedEvent) (rest : List ℕ) → HasSizes origins t → report.placed_text (report.placed origins t) ++ 10 ∷ rest
+    ≡ codes "h" ++ (numeral 10 (report.hart_of t.event) ++ (32 ∷ (place_text (place_words origins t) ++ act_text (printed_event t.event) rest)))
+placed_line origins t rest sizes =
     let h : ℕ = report.hart_of t.event in
     let done : List ℕ = act_text (printed_event t.event) rest in
-    let code : List ℕ = code_text (code_place lines t.pc) in
+    let code : List ℕ = code_text (code_place origins t.pc) in
     let did : List ℕ = report.kind_of t.event ++ report.act_text t.event in
-    let spelled : report.placed_text (report.placed lines t) ++ 10 ∷ rest
-    ≡ codes "h" ++ (decimal h ++ (codes " step=" ++ (decimal t.step ++ (codes " " ++ (code_text (code_place lines t.pc) ++ (codes " " ++ done)))))) =
+    let spelled : report.placed_text (report.placed origins t) ++ 10 ∷ rest
+    ≡ codes "h" ++ (decimal h ++ (codes " step=" ++ (decimal t.step ++ (codes " " ++ (code_text (code_place origins t.pc) ++ (codes " " ++ done)))))) =
     onto (codes "h") _ (10 ∷ rest) _ (onto (decimal h) _ (10 ∷ rest) _ (onto (codes " step=") _ (10 ∷ rest) _ (onto (decimal t.step) _ (10 ∷ rest) _
     (onto (codes " ") (code ++ (codes " " ++ did)) (10 ∷ rest) _ (onto code (codes " " ++ did) (10 ∷ rest) _
     (onto (codes " ") did (10 ∷ rest) done (act t.event rest (narrow t.event sizes.event sizes.within)))))))) in
     let pc : hexadecimal t.pc ≡ numeral 16 t.pc = hexadecimal_numeral t.pc sizes.pc in
-    let placed_code : code_text (code_place lines t.pc) ++ 32 ∷ done ≡ codes "pc=0x" ++ (numeral 16 t.pc ++ 32 ∷ (place_text (line_words (lines t.pc)) ++ done)) =
-    ap (λ (digits : List ℕ). (codes "pc=0x" ++ (digits ++ line_text (lines t.pc))) ++ 32 ∷ done) pc
-    ∙ ap (λ (z : List ℕ). codes "pc=0x" ++ z) (line_spelled (numeral 16 t.pc) (lines t.pc) done sizes.line) in
+    let placed_code : code_text (code_place origins t.pc) ++ 32 ∷ done ≡ codes "pc=0x" ++ (numeral 16 t.pc ++ 32 ∷ (place_text (origin_words (origins t.pc)) ++ done)) =
+    ap (λ (digits : List ℕ). (codes "pc=0x" ++ (digits ++ origin_text (origins t.pc))) ++ 32 ∷ done) pc
+    ∙ ap (λ (z : List ℕ). codes "pc=0x" ++ z) (origin_spelled (numeral 16 t.pc) (origins t.pc) done sizes.origin) in
     spelled
     ∙ ap (λ (z : List ℕ). codes "h" ++ (decimal h ++ (codes " step=" ++ (decimal t.step ++ (32 ∷ z))))) placed_code
-    ∙ ap (λ (d : List ℕ). codes "h" ++ (d ++ (codes " step=" ++ (decimal t.step ++ (32 ∷ (codes "pc=0x" ++ (numeral 16 t.pc ++ 32 ∷ (place_text (line_words (lines t.pc)) ++ done))))))))
+    ∙ ap (λ (d : List ℕ). codes "h" ++ (d ++ (codes " step=" ++ (decimal t.step ++ (32 ∷ (codes "pc=0x" ++ (numeral 16 t.pc ++ 32 ∷ (place_text (origin_words (origins t.pc)) ++ done))))))))
     (decimal_numeral h (hart_small t.event sizes.event))
-    ∙ ap (λ (d : List ℕ). codes "h" ++ (numeral 10 h ++ (codes " step=" ++ (d ++ (32 ∷ (codes "pc=0x" ++ (numeral 16 t.pc ++ 32 ∷ (place_text (line_words (lines t.pc)) ++ done))))))))
+    ∙ ap (λ (d : List ℕ). codes "h" ++ (numeral 10 h ++ (codes " step=" ++ (d ++ (32 ∷ (codes "pc=0x" ++ (numeral 16 t.pc ++ 32 ∷ (place_text (origin_words (origins t.pc)) ++ done))))))))
     (decimal_numeral t.step (omega (arith, sizes.step)))
-    ∙ ap (λ (z : List ℕ). codes "h" ++ (numeral 10 h ++ (32 ∷ z))) (sym (places_spelled lines t done))
+    ∙ ap (λ (z : List ℕ). codes "h" ++ (numeral 10 h ++ (32 ∷ z))) (sym (places_spelled origins t done))
 
-line_shown : (lines : ℕ → Option ℕ) (n : ℕ) (t : TracedEvent) (rest : List ℕ) → n < 2 ^ 64 → HasSizes lines t
-    → report.numbered_line lines (n, t) ++ rest ≡ entry_line n (entry_of lines t) rest
-line_shown lines n t rest small sizes =
-    onto (decimal n) (32 ∷ (report.placed_text (report.placed lines t) ++ 10 ∷ [])) rest (32 ∷ (report.placed_text (report.placed lines t) ++ 10 ∷ rest))
-    (ap (λ (z : List ℕ). 32 ∷ z) (append_assoc (report.placed_text (report.placed lines t)) (10 ∷ []) rest))
-    ∙ ap (λ (d : List ℕ). d ++ 32 ∷ (report.placed_text (report.placed lines t) ++ 10 ∷ rest)) (decimal_numeral n small)
-    ∙ ap (λ (z : List ℕ). numeral 10 n ++ 32 ∷ z) (placed_line lines t rest sizes)
-    ∙ ap (λ (h : ℕ). numeral 10 n ++ 32 ∷ 104 ∷ (numeral 10 h ++ (32 ∷ (place_text (place_words lines t) ++ act_text (printed_event t.event) rest)))) (sym (same_hart t.event))
+line_shown : (origins : ℕ → KnownOrigin) (n : ℕ) (t : TracedEvent) (rest : List ℕ) → n < 2 ^ 64 → HasSizes origins t
+    → report.numbered_line origins (n, t) ++ rest ≡ entry_line n (entry_of origins t) rest
+line_shown origins n t rest small sizes =
+    onto (decimal n) (32 ∷ (report.placed_text (report.placed origins t) ++ 10 ∷ [])) rest (32 ∷ (report.placed_text (report.placed origins t) ++ 10 ∷ rest))
+    (ap (λ (z : List ℕ). 32 ∷ z) (append_assoc (report.placed_text (report.placed origins t)) (10 ∷ []) rest))
+    ∙ ap (λ (d : List ℕ). d ++ 32 ∷ (report.placed_text (report.placed origins t) ++ 10 ∷ rest)) (decimal_numeral n small)
+    ∙ ap (λ (z : List ℕ). numeral 10 n ++ 32 ∷ z) (placed_line origins t rest sizes)
+    ∙ ap (λ (h : ℕ). numeral 10 n ++ 32 ∷ 104 ∷ (numeral 10 h ++ (32 ∷ (place_text (place_words origins t) ++ act_text (printed_event t.event) rest)))) (sym (same_hart t.event))
 
-lines_shown : (lines : ℕ → Option ℕ) (n : ℕ) (ts : List TracedEvent) (rest : List ℕ) → n + length ts < 2 ^ 64 → All (HasSizes lines) ts
-    → flat_map (report.numbered_line lines) (enumerate_from n ts) ++ rest ≡ lines_from n (map (entry_of lines) ts) rest
-lines_shown lines n [] rest small all = refl
-lines_shown lines n (t ∷ ts) rest small all =
-    append_assoc (report.numbered_line lines (n, t)) (flat_map (report.numbered_line lines) (enumerate_from (n + 1) ts)) rest
-    ∙ line_shown lines n t (flat_map (report.numbered_line lines) (enumerate_from (n + 1) ts) ++ rest) (omega arith) (All-head (HasSizes lines) t ts all)
-    ∙ ap (λ (z : List ℕ). entry_line n (entry_of lines t) z) (lines_shown lines (n + 1) ts rest (omega arith) (All-tail (HasSizes lines) t ts all))
+lines_shown : (origins : ℕ → KnownOrigin) (n : ℕ) (ts : List TracedEvent) (rest : List ℕ) → n + length ts < 2 ^ 64 → All (HasSizes origins) ts
+    → flat_map (report.numbered_line origins) (enumerate_from n ts) ++ rest ≡ lines_from n (map (entry_of origins) ts) rest
+lines_shown origins n [] rest small all = refl
+lines_shown origins n (t ∷ ts) rest small all =
+    append_assoc (report.numbered_line origins (n, t)) (flat_map (report.numbered_line origins) (enumerate_from (n + 1) ts)) rest
+    ∙ line_shown origins n t (flat_map (report.numbered_line origins) (enumerate_from (n + 1) ts) ++ rest) (omega arith) (All-head (HasSizes origins) t ts all)
+    ∙ ap (λ (z : List ℕ). entry_line n (entry_of origins t) z) (lines_shown origins (n + 1) ts rest (omega arith) (All-tail (HasSizes origins) t ts all))
 
-pub printed : (lines : ℕ → Option ℕ) (ts : List TracedEvent) → All (HasSizes lines) ts → length ts ≤ 65536 → length (lines_of (map (entry_of lines) ts)) ≤ 16384
-    → IsTraceFile (report.trace_text lines ts) (map (entry_of lines) ts)
-printed lines ts all few few_lines =
-    let same : length (map (entry_of lines) ts) ≡ length ts = length-map ts (entry_of lines) in
+pub printed : (origins : ℕ → KnownOrigin) (ts : List TracedEvent) → All (HasSizes origins) ts → length ts ≤ 65536 → length (lines_of (map (entry_of origins) ts)) ≤ 16384
+    → IsTraceFile (report.trace_text origins ts) (map (entry_of origins) ts)
+printed origins ts all few few_lines =
+    let same : length (map (entry_of origins) ts) ≡ length ts = length-map ts (entry_of origins) in
     record {
       allowed = record {
-        each = All-map IsAllowed (entry_of lines) ts (λ k d inside. allowed lines (get_or ts k d) (all k d inside));
+        each = All-map IsAllowed (entry_of origins) ts (λ k d inside. allowed origins (get_or ts k d) (all k d inside));
         few = omega arith;
         few_lines = few_lines;
       };
-      whole = lines_shown lines 1 ts (codes "events " ++ (decimal (length ts) ++ 10 ∷ [])) (omega arith) all
-          ∙ ap (λ (d : List ℕ). lines_from 1 (map (entry_of lines) ts) (codes "events " ++ (d ++ 10 ∷ []))) (decimal_numeral (length ts) (omega arith))
-          ∙ ap (λ (n : ℕ). lines_from 1 (map (entry_of lines) ts) (last_line n [])) (sym same);
+      whole = lines_shown origins 1 ts (codes "events " ++ (decimal (length ts) ++ 10 ∷ [])) (omega arith) all
+          ∙ ap (λ (d : List ℕ). lines_from 1 (map (entry_of origins) ts) (codes "events " ++ (d ++ 10 ∷ []))) (decimal_numeral (length ts) (omega arith))
+          ∙ ap (λ (n : ℕ). lines_from 1 (map (entry_of origins) ts) (last_line n [])) (sym same);
     }

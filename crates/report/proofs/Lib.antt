@@ -9,3 +9,4 @@ mod TextWords
 mod SourceLines
 mod DisassemblyListing
 mod EntryLines
+pub mod PrintedNames

@@ -1,12 +1,12 @@
 -- What one more item adds to the text of a loop.
-use Rattle.std.proofs.Common.{◌≡◌, ◌∙◌, ℕ, ◌+◌, ◌<◌, ◌≤◌, List, [], ◌∷◌, ◌++◌, Option, length, get_or, take, ap, sym, arith}
+use Rattle.std.proofs.Common.{◌≡◌, ◌∙◌, ℕ, ◌+◌, ◌<◌, ◌≤◌, List, [], ◌∷◌, ◌++◌, length, get_or, take, ap, sym, arith}
 use Rattle.std.specs.List.{enumerate_from, flat_map}
 use Rattle.std.proofs.lemmas.Grind.{flat_map-append}
 use Rattle.std.proofs.lemmas.List.{append-nil, take_all, take_more}
 use Rattle.std.proofs.lemmas.List.FromFn.{length-enumerate_from, get_or-enumerate_from}
 use Rattle.report.specs.Causes.{cause_line}
-use Rattle.report.specs.Events.{placed}
-use Rattle.report.specs.declared.events.PlacedEvent.{PlacedEvent}
+use Rattle.report.specs.Events.{KnownEvent, placed}
+use Rattle.report.specs.Places.{KnownOrigin}
 use Rattle.machine.specs.declared.run_trace.traced_event.TracedEvent.{TracedEvent}
 use Rattle.unfinished.specs.declared.unfinished.Unfinished.{Unfinished}
 
@@ -38,27 +38,27 @@ pub lines_then : (line : ℕ × TracedEvent → List ℕ) (traced : List TracedE
 lines_then line traced i before last after past was is = is ∙ ap (λ (l : List ℕ). l ++ last) (was ∙ lines_all line traced i past)
 
 -- what one more event adds, by the text of a placed event with its number
-pub line_more : (shape : ℕ → PlacedEvent → List ℕ) (lines : ℕ → Option ℕ) (traced : List TracedEvent) (i : ℕ) (d : TracedEvent)
-    (one : PlacedEvent) (before after : List ℕ) → i < length traced → one ≡ placed lines (get_or traced i d)
+pub line_more : (shape : ℕ → KnownEvent → List ℕ) (lines : ℕ → KnownOrigin) (traced : List TracedEvent) (i : ℕ) (d : TracedEvent)
+    (one : KnownEvent) (before after : List ℕ) → i < length traced → one ≡ placed lines (get_or traced i d)
     → before ≡ lines_below (λ t. shape t.0 (placed lines t.1)) traced i → after ≡ before ++ shape (i + 1) one
     → after ≡ lines_below (λ t. shape t.0 (placed lines t.1)) traced (i + 1)
 line_more shape lines traced i d one before after within told was is =
     let below : List ℕ = lines_below (λ t. shape t.0 (placed lines t.1)) traced i in
     is ∙ ap (λ (l : List ℕ). l ++ shape (i + 1) one) was
-    ∙ ap (λ (o : PlacedEvent). below ++ shape (i + 1) o) told
+    ∙ ap (λ (o : KnownEvent). below ++ shape (i + 1) o) told
     ∙ sym (lines_more (λ t. shape t.0 (placed lines t.1)) traced i d within)
 
 -- the lines of the first causes
-abbrev pub causes_below : (ℕ → Option ℕ) → List Unfinished → ℕ → List ℕ
+abbrev pub causes_below : (ℕ → KnownOrigin) → List Unfinished → ℕ → List ℕ
 causes_below lines causes i = flat_map (cause_line lines) (take i causes)
 
-pub cause_more : (lines : ℕ → Option ℕ) (causes : List Unfinished) (i : ℕ) (d : Unfinished) → i < length causes
+pub cause_more : (lines : ℕ → KnownOrigin) (causes : List Unfinished) (i : ℕ) (d : Unfinished) → i < length causes
     → causes_below lines causes (i + 1) ≡ causes_below lines causes i ++ cause_line lines (get_or causes i d)
 cause_more lines causes i d below =
     ap (flat_map (cause_line lines)) (take_more causes i d below)
     ∙ flat_map-append (cause_line lines) (take i causes) (get_or causes i d ∷ [])
     ∙ ap (λ (l : List ℕ). causes_below lines causes i ++ l) (append-nil (cause_line lines (get_or causes i d)))
 
-pub causes_all : (lines : ℕ → Option ℕ) (causes : List Unfinished) (i : ℕ) → length causes ≤ i
+pub causes_all : (lines : ℕ → KnownOrigin) (causes : List Unfinished) (i : ℕ) → length causes ≤ i
     → causes_below lines causes i ≡ flat_map (cause_line lines) causes
 causes_all lines causes i h = ap (flat_map (cause_line lines)) (take_all i causes h)

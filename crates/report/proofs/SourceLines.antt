@@ -6,6 +6,8 @@ use Rattle.asm_lex.specs.Lines.{cut_at_feeds, lines_of, without_returns}
 use Rattle.assemble.specs.LineNumbers.{lines_before, number_at, number_from}
 use Rattle.assemble.specs.Places.{base_of}
 use Rattle.asm_lex.specs.declared.asm_names.kinds.Section.TheVariants.{Text}
+use Rattle.report.specs.Begun.{line_in}
+use Rattle.report.specs.Places.{by_line}
 
 -- one more line
 pub lines_pushed : {X : Type 0} (text : X → List ℕ) (lines : List X) (line : X) (rest after source : List ℕ) → lines_of rest ≡ text line ∷ lines_of after
@@ -39,3 +41,8 @@ unfolding number_at
 from_one numbers address =
     let before = lines_before numbers (address - base_of Text) in
     chosen (nat_le (base_of Text) address) (number_from numbers (address - base_of Text)) (counted (nat_lt before (length numbers)) before)
+
+-- what is known by a line's number gives the number
+pub line_known : (number : Option ℕ) → line_in (by_line number) ≡ number
+line_known None = refl
+line_known (Some line) = refl

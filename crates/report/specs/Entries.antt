@@ -1,9 +1,11 @@
 -- The entries of a trace file that a run's events are.
-use Rattle.std.specs.Prelude.{ℕ, ◌<◌, ◌%◌, ◌^◌, ◌*◌, List, [], ◌∷◌, ◌++◌, Option, Some, None, IfSome, codes}
+use Rattle.std.specs.Prelude.{⊤, ℕ, ◌<◌, ◌%◌, ◌^◌, ◌*◌, List, [], ◌∷◌, ◌++◌, Some, None, codes}
 use Rattle.machine.specs.declared.run_trace.traced_event.TracedEvent.{TracedEvent}
 use Rattle.store_trace.specs.TraceView.{IsEvent}
 use Rattle.store_trace.specs.declared.event.Event.{Event}
 use Rattle.store_trace.specs.declared.event.Event.TheVariants.{Store, Clean, Fence, Begin, End}
+use Rattle.report.specs.Places.{KnownOrigin, executable, nowhere, source_line}
+use Rattle.report.specs.PrintedNames.{printed_name}
 use Rattle.trace_file.specs.Entries.{Entry}
 use Rattle.trace_file.specs.Files.{IsWithinLimits}
 use Rattle.trace_file.specs.Numerals.{numeral}
@@ -16,23 +18,33 @@ printed_event (Fence hart) = Fence hart
 printed_event (Begin hart op) = Begin hart op
 printed_event (End hart op) = End hart op
 
--- `line=N` where the line is known
-abbrev pub line_words : Option ℕ → List (List ℕ)
-line_words None = []
-line_words (Some line) = (codes "line=" ++ numeral 10 line) ∷ []
+-- `line=N` of a source, `in=NAME+0xOFF` of an executable; no word where nothing is known
+abbrev pub origin_words : KnownOrigin → List (List ℕ)
+origin_words nowhere = []
+origin_words (source_line line) = (codes "line=" ++ numeral 10 line) ∷ []
+origin_words (executable None) = []
+origin_words (executable (Some place)) = (codes "in=" ++ (printed_name place.0 ++ (codes "+0x" ++ numeral 16 place.1))) ∷ []
 
--- `step=S pc=0xP line=N`
-abbrev pub place_words : (ℕ → Option ℕ) → TracedEvent → List (List ℕ)
-place_words lines traced = (codes "step=" ++ numeral 10 traced.step) ∷ (codes "pc=0x" ++ numeral 16 traced.pc) ∷ line_words (lines traced.pc)
+-- `step=S pc=0xP`, and what is known there
+abbrev pub place_words : (ℕ → KnownOrigin) → TracedEvent → List (List ℕ)
+place_words origins traced =
+    (codes "step=" ++ numeral 10 traced.step) ∷ (codes "pc=0x" ++ numeral 16 traced.pc) ∷ origin_words (origins traced.pc)
 
--- the entry of an event, by the line of the source at each pc
-abbrev pub entry_of : (ℕ → Option ℕ) → TracedEvent → Entry
-entry_of lines traced = record { places = place_words lines traced; event = printed_event traced.event }
+-- the entry of an event, by what is known of each pc
+abbrev pub entry_of : (ℕ → KnownOrigin) → TracedEvent → Entry
+entry_of origins traced = record { places = place_words origins traced; event = printed_event traced.event }
+
+-- a line below 2^32, an offset below 2^64
+abbrev pub HasNumbers : KnownOrigin → Type 0
+HasNumbers nowhere = ⊤
+HasNumbers (source_line line) = line < 2 ^ 32
+HasNumbers (executable None) = ⊤
+HasNumbers (executable (Some place)) = place.1 < 2 ^ 64
 
 -- an event that a trace may have, whose numbers have 32 or 64 bits
-pub record HasSizes (lines : ℕ → Option ℕ) (traced : TracedEvent) : Type 0 where
+pub record HasSizes (origins : ℕ → KnownOrigin) (traced : TracedEvent) : Type 0 where
   pub step : traced.step < 2 ^ 32
   pub pc : traced.pc < 2 ^ 64
-  pub line : IfSome (lines traced.pc) (λ line. line < 2 ^ 32)
+  pub origin : HasNumbers (origins traced.pc)
   pub event : IsEvent traced.event
   pub within : IsWithinLimits traced.event

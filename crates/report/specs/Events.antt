@@ -1,13 +1,12 @@
 -- What is printed of a run's events.
-use Rattle.std.specs.Prelude.{ℕ, ◌%◌, ◌^◌, ◌*◌, List, [], ◌++◌, Option, codes, decimal, length}
+use Rattle.std.specs.Prelude.{ℕ, ◌%◌, ◌^◌, ◌*◌, List, [], ◌++◌, codes, decimal, length}
 use Rattle.std.specs.List.{enumerate_from, flat_map}
 use Rattle.hart.specs.HartLines.{hexadecimal}
 use Rattle.machine.specs.declared.run_trace.traced_event.TracedEvent.{TracedEvent}
 use Rattle.store_trace.specs.declared.event.Event.{Event}
 use Rattle.store_trace.specs.declared.event.Event.TheVariants.{Store, Clean, Fence, Begin, End}
-use Rattle.report.specs.Places.{code_place, code_text, line_end}
+use Rattle.report.specs.Places.{KnownCode, KnownOrigin, KnownPlace, code_place, code_text, known_code, line_end}
 use Rattle.report.specs.declared.events.PlacedEvent.{PlacedEvent}
-use Rattle.report.specs.declared.place.Place.{Place}
 
 -- the hart that made an event
 abbrev pub hart_of : Event → ℕ
@@ -17,13 +16,22 @@ hart_of (Fence hart) = hart
 hart_of (Begin hart op) = hart
 hart_of (End hart op) = hart
 
--- where an event was made, by the line of the source at each pc
-abbrev pub place_of : (ℕ → Option ℕ) → TracedEvent → Place
-place_of lines traced = record { hart = hart_of traced.event; at = code_place lines traced.pc }
+-- where an event was made, by what is known of each pc
+abbrev pub place_of : (ℕ → KnownOrigin) → TracedEvent → KnownPlace
+place_of origins traced = record { hart = hart_of traced.event; at = code_place origins traced.pc }
 
--- an event with the hart step that made it, the pc before that step, and the line of the source there
-abbrev pub placed : (ℕ → Option ℕ) → TracedEvent → PlacedEvent
-placed lines traced = record { step = traced.step; at = code_place lines traced.pc; event = traced.event }
+-- an event with the hart step that made it, the pc before that step, and what is known there
+pub record KnownEvent : Type 0 where
+  pub step : ℕ
+  pub at : KnownCode
+  pub event : Event
+
+abbrev pub placed : (ℕ → KnownOrigin) → TracedEvent → KnownEvent
+placed origins traced = record { step = traced.step; at = code_place origins traced.pc; event = traced.event }
+
+-- the same of the program's own value
+abbrev pub known_event : PlacedEvent → KnownEvent
+known_event one = record { step = one.step; at = known_code one.at; event = one.event }
 
 -- the kind of an event in a word
 abbrev pub kind_of : Event → List ℕ
@@ -42,16 +50,16 @@ act_text (Fence hart) = []
 act_text (Begin hart op) = codes " " ++ decimal op
 act_text (End hart op) = codes " " ++ decimal op
 
--- `hH step=S pc=0xP line=L` and what the event did
-abbrev pub placed_text : PlacedEvent → List ℕ
+-- `hH step=S pc=0xP`, what is known there, and what the event did
+abbrev pub placed_text : KnownEvent → List ℕ
 placed_text one = codes "h" ++ (decimal (hart_of one.event) ++ (codes " step=" ++ (decimal one.step
     ++ (codes " " ++ (code_text one.at ++ (codes " " ++ (kind_of one.event ++ act_text one.event)))))))
 
--- the line of an event with its number, from 1, by the line of the source at each pc
-abbrev pub numbered_line : (ℕ → Option ℕ) → ℕ × TracedEvent → List ℕ
-numbered_line lines t = decimal t.0 ++ (codes " " ++ (placed_text (placed lines t.1) ++ line_end))
+-- the line of an event with its number, from 1, by what is known of each pc
+abbrev pub numbered_line : (ℕ → KnownOrigin) → ℕ × TracedEvent → List ℕ
+numbered_line origins t = decimal t.0 ++ (codes " " ++ (placed_text (placed origins t.1) ++ line_end))
 
 -- a line for each event, and `events N`
-abbrev pub trace_text : (ℕ → Option ℕ) → List TracedEvent → List ℕ
-trace_text lines traced =
-    flat_map (numbered_line lines) (enumerate_from 1 traced) ++ (codes "events " ++ (decimal (length traced) ++ line_end))
+abbrev pub trace_text : (ℕ → KnownOrigin) → List TracedEvent → List ℕ
+trace_text origins traced =
+    flat_map (numbered_line origins) (enumerate_from 1 traced) ++ (codes "events " ++ (decimal (length traced) ++ line_end))

@@ -5,10 +5,9 @@ use Rattle.hart.specs.HartLines.{hexadecimal}
 use Rattle.machine.specs.declared.run_trace.traced_event.TracedEvent.{TracedEvent}
 use Rattle.store_trace.specs.declared.event.Event.{Event}
 use Rattle.store_trace.specs.declared.event.Event.TheVariants.{Store, Clean, Fence, Begin, End}
-use Rattle.report.specs.Events.{hart_of, kind_of, placed}
-use Rattle.report.specs.Places.{line_end}
-use Rattle.report.specs.declared.events.PlacedEvent.{PlacedEvent}
-use Rattle.report.specs.declared.place.CodePlace.{CodePlace}
+use Rattle.report.specs.Events.{KnownEvent, hart_of, kind_of, placed}
+use Rattle.report.specs.Places.{InFunction, KnownCode, KnownOrigin, executable, line_end, nowhere, source_line}
+use Rattle.report.specs.PrintedNames.{json_name}
 
 -- no value
 abbrev pub null : List ℕ
@@ -19,9 +18,21 @@ abbrev pub number_or_null : Option ℕ → List ℕ
 number_or_null None = codes "null"
 number_or_null (Some number) = decimal number
 
--- `"pc":"0xP","source_line":L`
-abbrev pub pc_members : CodePlace → List ℕ
-pc_members at = codes "\"pc\":\"0x" ++ (hexadecimal at.pc ++ (codes "\",\"source_line\":" ++ number_or_null at.line))
+-- `"function":"NAME","function_offset":OFF`
+abbrev pub function_members : Option InFunction → List ℕ
+function_members None = codes "\"function\":null,\"function_offset\":null"
+function_members (Some place) =
+    codes "\"function\":\"" ++ (json_name place.0 ++ (codes "\",\"function_offset\":" ++ decimal place.1))
+
+-- `"source_line":L`; of an executable its source file and its function too
+abbrev pub origin_members : KnownOrigin → List ℕ
+origin_members nowhere = codes "\"source_line\":null"
+origin_members (source_line line) = codes "\"source_line\":" ++ decimal line
+origin_members (executable place) = codes "\"source_line\":null,\"source_file\":null," ++ function_members place
+
+-- `"pc":"0xP"`, and what is known there
+abbrev pub pc_members : KnownCode → List ℕ
+pc_members at = codes "\"pc\":\"0x" ++ (hexadecimal at.pc ++ (codes "\"," ++ origin_members at.origin))
 
 -- what an event did, each member behind a comma: of a store the value is the number of the bytes that were stored
 abbrev pub act_members : Event → List ℕ
@@ -32,9 +43,9 @@ act_members (Fence hart) = []
 act_members (Begin hart op) = codes ",\"operation\":\"" ++ (decimal op ++ codes "\"")
 act_members (End hart op) = codes ",\"operation\":\"" ++ (decimal op ++ codes "\"")
 
--- the members of an event's object: its kind, its number, from 1, its hart, the hart step that made it, the pc before that step, the
--- line of the source there, and what it did
-abbrev pub event_members : ℕ → PlacedEvent → List ℕ
+-- the members of an event's object: its kind, its number, from 1, its hart, the hart step that made it, the pc before that step, what is
+-- known there, and what it did
+abbrev pub event_members : ℕ → KnownEvent → List ℕ
 event_members number one = codes "\"kind\":\"" ++ (kind_of one.event ++ (codes "\",\"event\":" ++ (decimal number
     ++ (codes ",\"hart\":" ++ (decimal (hart_of one.event) ++ (codes ",\"step\":" ++ (decimal one.step
     ++ (codes "," ++ (pc_members one.at ++ act_members one.event)))))))))
@@ -43,11 +54,11 @@ event_members number one = codes "\"kind\":\"" ++ (kind_of one.event ++ (codes "
 abbrev pub object_end : List ℕ
 object_end = codes "}" ++ line_end
 
--- the object of an event with its number, by the line of the source at each pc
-abbrev pub numbered_object : (ℕ → Option ℕ) → ℕ × TracedEvent → List ℕ
-numbered_object lines t = codes "{" ++ (event_members t.0 (placed lines t.1) ++ object_end)
+-- the object of an event with its number, by what is known of each pc
+abbrev pub numbered_object : (ℕ → KnownOrigin) → ℕ × TracedEvent → List ℕ
+numbered_object origins t = codes "{" ++ (event_members t.0 (placed origins t.1) ++ object_end)
 
 -- an object for each event, and one with their number
-abbrev pub trace_json : (ℕ → Option ℕ) → List TracedEvent → List ℕ
-trace_json lines traced = flat_map (numbered_object lines) (enumerate_from 1 traced)
+abbrev pub trace_json : (ℕ → KnownOrigin) → List TracedEvent → List ℕ
+trace_json origins traced = flat_map (numbered_object origins) (enumerate_from 1 traced)
     ++ (codes "{\"kind\":\"events\",\"events\":" ++ (decimal (length traced) ++ object_end))

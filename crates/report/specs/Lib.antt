@@ -1,3 +1,4 @@
+pub mod PrintedNames
 pub mod Places
 pub mod Events
 pub mod Causes

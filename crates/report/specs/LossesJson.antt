@@ -9,7 +9,7 @@ use Rattle.durability.specs.declared.cut.ToldCut.{ToldCut}
 use Rattle.durability.specs.declared.ends.EndLoss.{EndLoss}
 use Rattle.durability.specs.declared.ends.Unpersisted.{Unpersisted}
 use Rattle.report.specs.Json.{null, object_end, pc_members}
-use Rattle.report.specs.declared.place.Place.{Place}
+use Rattle.report.specs.Places.{KnownOrigin, KnownPlace}
 use Rattle.machine.specs.declared.run_trace.traced_event.TracedEvent.{TracedEvent}
 use Rattle.machine.specs.Joined.{joined, text_of}
 use Rattle.machine.specs.declared.schedule.items.Item.{Item}
@@ -17,15 +17,15 @@ use Rattle.report.specs.LossesEvents.{place_in}
 use Rattle.report.specs.MendsJson.{mend_object}
 use Rattle.report.specs.Unpersisted.{count_of}
 
--- `{"event":N,"hart":H,"pc":"0xP","source_line":L}`; each but N is `null` where the run has no such event
-abbrev pub object_of : ℕ → Option Place → List ℕ
+-- `{"event":N,"hart":H,"pc":"0xP","source_line":L}`, with what else is known of the pc; each but N is `null` where the run has no such event
+abbrev pub object_of : ℕ → Option KnownPlace → List ℕ
 object_of number None = codes "{\"event\":" ++ (decimal number ++ codes ",\"hart\":null,\"pc\":null,\"source_line\":null}")
 object_of number (Some place) = codes "{\"event\":" ++ (decimal number
     ++ (codes ",\"hart\":" ++ (decimal place.hart ++ (codes "," ++ (pc_members place.at ++ codes "}")))))
 
--- the object of event n of a run, by the line of the source at each pc
-abbrev pub event_object : (ℕ → Option ℕ) → List TracedEvent → ℕ → List ℕ
-event_object lines traced n = object_of n (place_in lines traced n)
+-- the object of event n of a run, by what is known of each pc
+abbrev pub event_object : (ℕ → KnownOrigin) → List TracedEvent → ℕ → List ℕ
+event_object origins traced n = object_of n (place_in origins traced n)
 
 -- the members that tell a cause: its words, and the objects of its clean, of another hart's clean that the fence completes, and of its fence
 abbrev pub members_of : List ℕ → List ℕ → List ℕ → List ℕ → List ℕ

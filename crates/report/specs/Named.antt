@@ -1,9 +1,10 @@
 -- Causes, losses and mends with the places of their events, as they are printed.
-use Rattle.std.specs.Prelude.{ℕ, List, [], ◌++◌, codes, decimal}
+use Rattle.std.specs.Prelude.{ℕ, List, [], ◌++◌, codes, decimal, option_map}
 use Rattle.report.specs.LossesEvents.{named_text}
 use Rattle.report.specs.Json.{null}
 use Rattle.report.specs.LossesJson.{end_members, members_of, object_of, outside_members}
 use Rattle.report.specs.MendsJson.{before_members, mend_of, no_deadline, quoted_number}
+use Rattle.report.specs.Places.{known_place}
 use Rattle.report.specs.declared.losses.cause.NamedCause.{NamedCause}
 use Rattle.report.specs.declared.losses.cause.NamedCause.TheVariants.{NeverCleaned, CleanedTooLate, NeverFenced, FencedTooLate, FencedByAnother}
 use Rattle.report.specs.declared.losses.event.NamedEvent.{NamedEvent}
@@ -16,7 +17,7 @@ use Rattle.report.specs.declared.losses.objects.Due.{Due}
 use Rattle.report.specs.declared.losses.objects.Due.TheVariants.{AtTheCut, AtEnd, AtRunEnd}
 
 abbrev pub named_event_text : NamedEvent → List ℕ
-named_event_text event = named_text event.number event.place
+named_event_text event = named_text event.number (option_map known_place event.place)
 
 abbrev pub named_cause_text : NamedCause → List ℕ
 named_cause_text NeverCleaned = codes "never cleaned"
@@ -33,7 +34,7 @@ named_loss_text loss = codes "lost l" ++ (decimal loss.line
     ++ (codes " store " ++ (named_event_text loss.store ++ (codes ": " ++ named_cause_text loss.cause))))
 
 abbrev pub named_event_object : NamedEvent → List ℕ
-named_event_object event = object_of event.number event.place
+named_event_object event = object_of event.number (option_map known_place event.place)
 
 abbrev pub named_cause_members : NamedCause → List ℕ
 named_cause_members NeverCleaned = members_of (codes "never cleaned") null null null

@@ -1,32 +1,88 @@
--- Where in a program an instruction stands: its hart, its pc, and the line of the source that it comes from.
-use Rattle.std.specs.Prelude.{ℕ, List, [], ◌∷◌, ◌++◌, Option, Some, None, codes, decimal}
+-- Where in a program an instruction stands: its hart, its pc, and what is known of where it comes from.
+use Rattle.std.specs.Prelude.{ℕ, ◌-◌, List, [], ◌∷◌, ◌++◌, Option, Some, None, codes, decimal, option_map}
 use Rattle.assemble.specs.LineNumbers.{number_at}
+use Rattle.elf_file.specs.FunctionSymbols.{FunctionSymbol}
+use Rattle.elf_file.specs.Functions.{function_at}
 use Rattle.hart.specs.HartLines.{hexadecimal}
+use Rattle.report.specs.PrintedNames.{printed_name}
+use Rattle.report.specs.declared.origin.FunctionPlace.{FunctionPlace}
+use Rattle.report.specs.declared.origin.Origin.{Origin}
+use Rattle.report.specs.declared.origin.Origin.TheVariants as origins
 use Rattle.report.specs.declared.place.CodePlace.{CodePlace}
 use Rattle.report.specs.declared.place.Place.{Place}
 use Rattle.report.specs.declared.place.Places.{Places}
-use Rattle.report.specs.declared.place.Places.TheVariants.{Source, Unknown}
+use Rattle.report.specs.declared.place.Places.TheVariants.{Executable, Source, Unknown}
 
--- the line at a pc, by the line numbers of a program's source, where it has one
-abbrev pub line_in : Places → ℕ → Option ℕ
-line_in Unknown pc = None
-line_in (Source numbers) pc = number_at numbers pc
+-- a function's name, and how many bytes behind its first one an instruction is
+abbrev pub InFunction : Type 0
+InFunction = List ℕ × ℕ
 
--- a pc, with the line there
-abbrev pub code_place : (ℕ → Option ℕ) → ℕ → CodePlace
-code_place lines pc = record { pc = pc; line = lines pc }
+-- what is known of where an instruction comes from: nothing; a line of its source; of an executable the function that it is in, if any
+pub data KnownOrigin : Type 0 where
+  nowhere : KnownOrigin
+  source_line : ℕ → KnownOrigin
+  executable : Option InFunction → KnownOrigin
 
--- ` line=N`; nothing where there is no line
-abbrev pub line_text : Option ℕ → List ℕ
-line_text None = []
-line_text (Some line) = codes " line=" ++ decimal line
+-- a pc, with what is known of it; the hart there
+pub record KnownCode : Type 0 where
+  pub pc : ℕ
+  pub origin : KnownOrigin
 
--- `pc=0xP line=N`
-abbrev pub code_text : CodePlace → List ℕ
-code_text at = codes "pc=0x" ++ (hexadecimal at.pc ++ line_text at.line)
+pub record KnownPlace : Type 0 where
+  pub hart : ℕ
+  pub at : KnownCode
 
--- `hH pc=0xP line=N`
-abbrev pub place_text : Place → List ℕ
+-- the line of a source
+abbrev pub by_line : Option ℕ → KnownOrigin
+by_line None = nowhere
+by_line (Some line) = source_line line
+
+-- the place in a function
+abbrev pub in_function : ℕ → FunctionSymbol → InFunction
+in_function pc function = (function.name, pc - function.address)
+
+-- what is known at a pc, by the line numbers of a program's source, or the functions of an executable
+abbrev pub origin_in : Places → ℕ → KnownOrigin
+origin_in Unknown pc = nowhere
+origin_in (Source numbers) pc = by_line (number_at numbers pc)
+origin_in (Executable functions) pc = executable (option_map (in_function pc) (function_at functions pc))
+
+-- a pc, with what is known there
+abbrev pub code_place : (ℕ → KnownOrigin) → ℕ → KnownCode
+code_place origins pc = record { pc = pc; origin = origins pc }
+
+-- the same of the program's own values, which refer to names
+abbrev pub known_function : FunctionPlace → InFunction
+known_function place = (place.name.now, place.offset)
+
+abbrev pub known_origin : Origin → KnownOrigin
+known_origin origins.Unknown = nowhere
+known_origin (origins.Line line) = source_line line
+known_origin (origins.Executable place) = executable (option_map known_function place)
+
+abbrev pub known_code : CodePlace → KnownCode
+known_code at = record { pc = at.pc; origin = known_origin at.origin }
+
+abbrev pub known_place : Place → KnownPlace
+known_place place = record { hart = place.hart; at = known_code place.at }
+
+-- `in=NAME+0xOFF`
+abbrev pub function_text : InFunction → List ℕ
+function_text place = codes "in=" ++ (printed_name place.0 ++ (codes "+0x" ++ hexadecimal place.1))
+
+-- ` line=N` of a source, ` in=NAME+0xOFF` of an executable; nothing where nothing is known
+abbrev pub origin_text : KnownOrigin → List ℕ
+origin_text nowhere = []
+origin_text (source_line line) = codes " line=" ++ decimal line
+origin_text (executable None) = []
+origin_text (executable (Some place)) = codes " " ++ function_text place
+
+-- `pc=0xP`, and what is known there
+abbrev pub code_text : KnownCode → List ℕ
+code_text at = codes "pc=0x" ++ (hexadecimal at.pc ++ origin_text at.origin)
+
+-- `hH pc=0xP`, and what is known there
+abbrev pub place_text : KnownPlace → List ℕ
 place_text place = codes "h" ++ (decimal place.hart ++ (codes " " ++ code_text place.at))
 
 -- the end of a line, LF

@@ -1,5 +1,5 @@
 -- What is printed of a run's needless cleans and fences as JSON: an object a line.
-use Rattle.std.specs.Prelude.{ℕ, List, ◌++◌, Option, codes, decimal}
+use Rattle.std.specs.Prelude.{ℕ, List, ◌++◌, codes, decimal}
 use Rattle.std.specs.List.{count_by}
 use Rattle.durability.specs.Words.{words_of}
 use Rattle.durability.specs.declared.redundant.reason.Reason.{Reason}
@@ -7,21 +7,21 @@ use Rattle.report.specs.Events.{placed}
 use Rattle.report.specs.Json.{event_members, number_or_null, object_end, pc_members}
 use Rattle.machine.specs.declared.run_trace.traced_event.TracedEvent.{TracedEvent}
 use Rattle.report.specs.Uses.{Always, Judged, is_unfenced, is_use, is_vain}
-use Rattle.report.specs.Waste.{IsWaste, shown_always}
-use Rattle.report.specs.declared.redundant.always.ShownAlways.{ShownAlways}
+use Rattle.report.specs.Places.{KnownOrigin}
+use Rattle.report.specs.Waste.{IsWaste, KnownAlways, shown_always}
 
 -- the object of an event as the trace has it, and why it is needless
-abbrev pub reason_object : (ℕ → Option ℕ) → ℕ → TracedEvent → Reason → List ℕ
-reason_object lines number traced reason = codes "{" ++ (event_members number (placed lines traced)
+abbrev pub reason_object : (ℕ → KnownOrigin) → ℕ → TracedEvent → Reason → List ℕ
+reason_object origins number traced reason = codes "{" ++ (event_members number (placed origins traced)
     ++ (codes ",\"reason\":\"" ++ (words_of reason ++ (codes "\"" ++ object_end))))
 
--- `"kind":"always","hart":H,"pc":"0xP","source_line":L,"count":N`, the hart being `null` where several made them
-abbrev pub always_members : ShownAlways → List ℕ
+-- `"kind":"always","hart":H,"pc":"0xP","source_line":L,"count":N`, with what else is known of the pc, the hart being `null` where several made them
+abbrev pub always_members : KnownAlways → List ℕ
 always_members one = codes "\"kind\":\"always\",\"hart\":" ++ (number_or_null one.hart
     ++ (codes "," ++ (pc_members one.at ++ (codes ",\"count\":" ++ decimal one.count))))
 
-abbrev pub always_object : (ℕ → Option ℕ) → Always → List ℕ
-always_object lines one = codes "{" ++ (always_members (shown_always lines one) ++ object_end)
+abbrev pub always_object : (ℕ → KnownOrigin) → Always → List ℕ
+always_object origins one = codes "{" ++ (always_members (shown_always origins one) ++ object_end)
 
 -- `{"kind":"needless","needless":N,"of":M,"unfenced":K}`
 abbrev pub summary_object : List Judged → List ℕ
@@ -29,5 +29,5 @@ summary_object all = codes "{\"kind\":\"needless\",\"needless\":" ++ (decimal (c
     ++ (codes ",\"of\":" ++ (decimal (count_by is_use all) ++ (codes ",\"unfenced\":" ++ (decimal (count_by is_unfenced all) ++ object_end)))))
 
 -- an object for each of these
-abbrev pub IsWasteJson : (ℕ → Option ℕ) → List Judged → List ℕ → Type 0
-IsWasteJson lines all text = IsWaste (reason_object lines) (always_object lines) summary_object all text
+abbrev pub IsWasteJson : (ℕ → KnownOrigin) → List Judged → List ℕ → Type 0
+IsWasteJson origins all text = IsWaste (reason_object origins) (always_object origins) summary_object all text

@@ -4,15 +4,15 @@ use Rattle.std.specs.List.{count_by, enumerate_from, flat_map}
 use Rattle.durability.specs.Words.{words_of}
 use Rattle.durability.specs.declared.redundant.reason.Reason.{Reason}
 use Rattle.report.specs.Events.{placed, placed_text}
-use Rattle.report.specs.Places.{code_place, code_text, line_end}
+use Rattle.report.specs.Places.{KnownCode, KnownOrigin, code_place, code_text, known_code, line_end}
 use Rattle.report.specs.declared.redundant.always.ShownAlways.{ShownAlways}
 use Rattle.machine.specs.declared.run_trace.traced_event.TracedEvent.{TracedEvent}
 use Rattle.report.specs.Uses.{Always, AreAlways, Judged, is_unfenced, is_use, is_vain}
 
 -- the line of an event as `trace` prints it, and why it is needless
-abbrev pub reason_line : (ℕ → Option ℕ) → ℕ → TracedEvent → Reason → List ℕ
-reason_line lines number traced reason =
-    decimal number ++ (codes " " ++ (placed_text (placed lines traced) ++ (codes ": " ++ (words_of reason ++ line_end))))
+abbrev pub reason_line : (ℕ → KnownOrigin) → ℕ → TracedEvent → Reason → List ℕ
+reason_line origins number traced reason =
+    decimal number ++ (codes " " ++ (placed_text (placed origins traced) ++ (codes ": " ++ (words_of reason ++ line_end))))
 
 -- what is told of an event that is needless, and nothing where it isn't
 abbrev pub judged_text : (ℕ → TracedEvent → Reason → List ℕ) → ℕ → TracedEvent → Option Reason → List ℕ
@@ -28,16 +28,25 @@ maker_text None = []
 maker_text (Some hart) = codes "h" ++ (decimal hart ++ codes " ")
 
 -- an instruction that is needless each time, with its place
-abbrev pub shown_always : (ℕ → Option ℕ) → Always → ShownAlways
-shown_always lines one = record { at = code_place lines one.pc; hart = one.hart; count = one.count }
+pub record KnownAlways : Type 0 where
+  pub at : KnownCode
+  pub hart : Option ℕ
+  pub count : ℕ
 
--- `always hH pc=0xP line=L, N of N`
-abbrev pub always_text : ShownAlways → List ℕ
+abbrev pub shown_always : (ℕ → KnownOrigin) → Always → KnownAlways
+shown_always origins one = record { at = code_place origins one.pc; hart = one.hart; count = one.count }
+
+-- the same of the program's own value
+abbrev pub known_always : ShownAlways → KnownAlways
+known_always one = record { at = known_code one.at; hart = one.hart; count = one.count }
+
+-- `always hH pc=0xP, N of N`, with what is known of the pc behind it
+abbrev pub always_text : KnownAlways → List ℕ
 always_text one = codes "always " ++ (maker_text one.hart ++ (code_text one.at
     ++ (codes ", " ++ (decimal one.count ++ (codes " of " ++ decimal one.count)))))
 
-abbrev pub always_line : (ℕ → Option ℕ) → Always → List ℕ
-always_line lines one = always_text (shown_always lines one) ++ line_end
+abbrev pub always_line : (ℕ → KnownOrigin) → Always → List ℕ
+always_line origins one = always_text (shown_always origins one) ++ line_end
 
 -- `needless N of M, unfenced K`
 abbrev pub summary_line : List Judged → List ℕ
@@ -50,5 +59,5 @@ IsWaste needless always sums all text = (found : List Always) × AreAlways all f
     × (text ≡ flat_map (judged_line needless) (enumerate_from 1 all) ++ (flat_map always found ++ sums all))
 
 -- a line for each of these
-abbrev pub IsWasteText : (ℕ → Option ℕ) → List Judged → List ℕ → Type 0
-IsWasteText lines all text = IsWaste (reason_line lines) (always_line lines) summary_line all text
+abbrev pub IsWasteText : (ℕ → KnownOrigin) → List Judged → List ℕ → Type 0
+IsWasteText origins all text = IsWaste (reason_line origins) (always_line origins) summary_line all text

@@ -1,7 +1,7 @@
 //! What is printed of a run that isn't whole.
 
 ghost use Rattle.report.specs.Causes.{cause_line, unfinished_text};
-ghost use Rattle.report.specs.Places.{line_in};
+ghost use Rattle.report.specs.Places.{origin_in};
 ghost use Rattle.std.specs.Prelude.{◌≡◌, ◌++◌, IfOk, OnOk, string_bytes};
 
 use crate::place::{CodePlace, Places};
@@ -18,7 +18,7 @@ pub fn unfinished_text(
     causes: &[Unfinished],
     places: &Places,
 ) -> Result<String, AllocError>
-    ensures { IfOk result (λ text. string_bytes text ≡ unfinished_text (line_in places.now) causes.now) }
+    ensures { IfOk result (λ text. string_bytes text ≡ unfinished_text (origin_in places.now) causes.now) }
 {
     let mut text = String::new(alloc);
     for cause in causes {
@@ -28,7 +28,7 @@ pub fn unfinished_text(
 }
 
 fn tell_cause(text: &mut String, cause: Unfinished, places: &Places) -> Result<(), AllocError>
-    ensures { OnOk result (string_bytes text.new ≡ string_bytes text.old ++ cause_line (line_in places.now) cause) }
+    ensures { OnOk result (string_bytes text.new ≡ string_bytes text.old ++ cause_line (origin_in places.now) cause) }
 {
     match cause {
         Unfinished::Hart { hart, status, pc } => {
@@ -43,16 +43,17 @@ fn tell_cause(text: &mut String, cause: Unfinished, places: &Places) -> Result<(
 
 /// A hart's status, and where it stands if it runs or has trapped.
 #[derive(Clone, Copy)]
-struct Standing {
+struct Standing<'a> {
     status: Status,
-    at: CodePlace,
+    at: CodePlace<'a>,
 }
 
-impl fmt::Display for Standing {
+impl fmt::Display for Standing<'_> {
     ghost use Rattle.std.specs.Prelude.{Some};
     ghost use Rattle.report.specs.Causes.{standing_text};
+    ghost use Rattle.report.specs.Places.{known_code};
 
-    ghost output = { λ standing. Some (standing_text standing.status standing.at) };
+    ghost output = { λ standing. Some (standing_text standing.status (known_code standing.at)) };
 
     fn fmt<W: fmt::Write>(&self, f: &mut fmt::Formatter<W>) -> fmt::Result {
         let at = self.at;

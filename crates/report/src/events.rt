@@ -1,7 +1,7 @@
 //! What is printed of a run's events.
 
 ghost use Rattle.report.specs.Events.{hart_of, trace_text};
-ghost use Rattle.report.specs.Places.{line_in};
+ghost use Rattle.report.specs.Places.{origin_in};
 ghost use Rattle.std.specs.Prelude.{◌≡◌, ◌%◌, ◌^◌, ◌*◌, IfOk, string_bytes};
 
 use crate::place::{CodePlace, Places};
@@ -17,14 +17,14 @@ use word_bits::low_bits;
 /// `2 h0 step=9 pc=0x10020 line=9 store l256+0 w8 0x1`
 ///
 /// A line of the medium is `lN`, `+O` the offset in it, `wW` the width in bytes, and the value that was stored is that of
-/// these bytes. ` line=N` is left out where the program has no source, and past the end of its text.
+/// these bytes. In the place of ` line=N` stands ` in=NAME+0xOFF` of an executable, and nothing where nothing is known of the pc.
 #[tactic(auto, using(crate::proofs::Lines::lines_all))]
 pub fn trace_text(
     alloc: Global,
     traced: &[TracedEvent],
     places: &Places,
 ) -> Result<String, AllocError>
-    ensures { IfOk result (λ text. string_bytes text ≡ trace_text (line_in places.now) traced.now) }
+    ensures { IfOk result (λ text. string_bytes text ≡ trace_text (origin_in places.now) traced.now) }
 {
     let mut text = String::new(alloc);
     for (index, told) in traced.iter().enumerate() {
@@ -38,18 +38,18 @@ pub fn trace_text(
 
 /// An event of a run, and where its instruction stands, as they are printed: `h0 step=9 pc=0x10020 line=9 store l256+0 w8 0x1`.
 #[derive(Clone, Copy)]
-pub struct PlacedEvent {
+pub struct PlacedEvent<'a> {
     /// How many hart steps there are up to and with the one that made it.
     pub step: u32,
-    pub at: CodePlace,
+    pub at: CodePlace<'a>,
     pub event: Event,
 }
 
-impl fmt::Display for PlacedEvent {
+impl fmt::Display for PlacedEvent<'_> {
     ghost use Rattle.std.specs.Prelude.{Some};
-    ghost use Rattle.report.specs.Events.{placed_text};
+    ghost use Rattle.report.specs.Events.{known_event, placed_text};
 
-    ghost output = { λ placed. Some (placed_text placed) };
+    ghost output = { λ placed. Some (placed_text (known_event placed)) };
 
     fn fmt<W: fmt::Write>(&self, f: &mut fmt::Formatter<W>) -> fmt::Result {
         let PlacedEvent { step, at, event } = *self;
@@ -98,8 +98,8 @@ impl fmt::Display for EventKind {
 
 /// What an event did, as it is printed behind its kind.
 #[derive(Clone, Copy)]
-struct ActText {
-    event: Event,
+pub(crate) struct ActText {
+    pub(crate) event: Event,
 }
 
 impl fmt::Display for ActText {

@@ -1,10 +1,11 @@
 //! What is printed of a run's events as JSON (RFC 8259): an object a line.
 
 ghost use Rattle.report.specs.Json.{trace_json};
-ghost use Rattle.report.specs.Places.{line_in};
+ghost use Rattle.report.specs.Places.{origin_in};
 ghost use Rattle.std.specs.Prelude.{◌≡◌, IfOk, string_bytes};
 
 use crate::events::{EventKind, PlacedEvent, hart_of, stored};
+use crate::origin::OriginMembers;
 use crate::place::{CodePlace, Places};
 use machine::TracedEvent;
 use std::alloc::{AllocError, Global};
@@ -22,13 +23,14 @@ use store_trace::Event;
 /// ```
 ///
 /// What may have 64 bits is a string, since a reader of JSON may keep 53 bits of a number: a pc and a stored value in hex, an operation's
-/// number in decimal. A line of the source that isn't known is `null`.
+/// number in decimal. A line of the source that isn't known is `null`. Of an executable `source_file`, `function` and `function_offset`, how many
+/// bytes behind the function's first one the pc is, follow the line.
 pub fn trace_json(
     alloc: Global,
     traced: &[TracedEvent],
     places: &Places,
 ) -> Result<String, AllocError>
-    ensures { IfOk result (λ text. string_bytes text ≡ trace_json (line_in places.now) traced.now) }
+    ensures { IfOk result (λ text. string_bytes text ≡ trace_json (origin_in places.now) traced.now) }
 {
     let mut text = String::new(alloc);
     for (index, told) in traced.iter().enumerate() {
@@ -45,16 +47,17 @@ pub fn trace_json(
 
 /// The members of an event's object: `"kind":"clean","event":3,"hart":0,"step":10,"pc":"0x10024","source_line":10,"cache_line":256`.
 #[derive(Clone, Copy)]
-pub(crate) struct EventMembers {
+pub(crate) struct EventMembers<'a> {
     pub(crate) number: u64,
-    pub(crate) placed: PlacedEvent,
+    pub(crate) placed: PlacedEvent<'a>,
 }
 
-impl fmt::Display for EventMembers {
+impl fmt::Display for EventMembers<'_> {
     ghost use Rattle.std.specs.Prelude.{Some};
+    ghost use Rattle.report.specs.Events.{known_event};
     ghost use Rattle.report.specs.Json.{event_members};
 
-    ghost output = { λ members. Some (event_members members.number members.placed) };
+    ghost output = { λ members. Some (event_members members.number (known_event members.placed)) };
 
     fn fmt<W: fmt::Write>(&self, f: &mut fmt::Formatter<W>) -> fmt::Result {
         let EventMembers { number, placed } = *self;
@@ -106,22 +109,23 @@ impl fmt::Display for ActMembers {
     }
 }
 
-/// A pc and its line as members of an object: `"pc":"0x10020","source_line":9`.
+/// A pc and what is known of it as members of an object: `"pc":"0x10020","source_line":9`.
 #[derive(Clone, Copy)]
-pub(crate) struct PcMembers {
-    pub(crate) at: CodePlace,
+pub(crate) struct PcMembers<'a> {
+    pub(crate) at: CodePlace<'a>,
 }
 
-impl fmt::Display for PcMembers {
+impl fmt::Display for PcMembers<'_> {
     ghost use Rattle.std.specs.Prelude.{Some};
     ghost use Rattle.report.specs.Json.{pc_members};
+    ghost use Rattle.report.specs.Places.{known_code};
 
-    ghost output = { λ members. Some (pc_members members.at) };
+    ghost output = { λ members. Some (pc_members (known_code members.at)) };
 
     fn fmt<W: fmt::Write>(&self, f: &mut fmt::Formatter<W>) -> fmt::Result {
-        let CodePlace { pc, line } = self.at;
-        let line = NumberOrNull { number: line };
-        write!(f, "\"pc\":\"0x{pc:x}\",\"source_line\":{line}")
+        let CodePlace { pc, origin } = self.at;
+        let origin = OriginMembers { origin };
+        write!(f, "\"pc\":\"0x{pc:x}\",{origin}")
     }
 }
 

@@ -3,13 +3,14 @@
 ghost use Rattle.machine.specs.declared.run_trace.traced_event.TracedEvent.{TracedEvent as ATracedEvent};
 ghost use Rattle.report.specs.Entries.{HasSizes, entry_of};
 ghost use Rattle.report.specs.Events.{trace_text};
-ghost use Rattle.std.specs.Prelude.{◌≤◌, ℕ, List, All, Option, length, map};
+ghost use Rattle.report.specs.Places.{KnownOrigin};
+ghost use Rattle.std.specs.Prelude.{◌≤◌, ℕ, List, All, length, map};
 ghost use Rattle.trace_file.specs.Files.{IsTraceFile, lines_of};
 
-/// What is printed of events is the trace file of these events, each with its step, its pc and its source's line as place
-/// words, where they are at most 65,536, of at most 16,384 different lines.
+/// What is printed of events is the trace file of these events, each with its step, its pc and its line or its function as
+/// place words, where they are at most 65,536, of at most 16,384 different lines.
 #[tactic(auto, using(crate::proofs::EntryLines::printed))]
 pub fn printed_is_a_trace_file()
-    ensures { (lines : ℕ → Option ℕ) (traced : List ATracedEvent) → All (HasSizes lines) traced → length traced ≤ 65536
-        → length (lines_of (map (entry_of lines) traced)) ≤ 16384 → IsTraceFile (trace_text lines traced) (map (entry_of lines) traced) }
+    ensures { (origins : ℕ → KnownOrigin) (traced : List ATracedEvent) → All (HasSizes origins) traced → length traced ≤ 65536
+        → length (lines_of (map (entry_of origins) traced)) ≤ 16384 → IsTraceFile (trace_text origins traced) (map (entry_of origins) traced) }
 {}

@@ -5,6 +5,7 @@ mod marks;
 mod picturing;
 mod rows;
 mod svg;
+mod title;
 
 pub use picturing::picture_run;
 pub use svg::{ImageLine, picture_text};

@@ -1,11 +1,15 @@
 //! Where in a program an instruction stands.
 
-ghost use Rattle.report.specs.Events.{place_of, placed};
-ghost use Rattle.report.specs.Places.{code_place, line_in};
-ghost use Rattle.std.specs.Prelude.{◌≡◌, ◌≤◌, IfSome};
+ghost use Rattle.elf_file.specs.Functions.{function_at};
+ghost use Rattle.report.specs.Events.{known_event, place_of, placed};
+ghost use Rattle.report.specs.Begun.{line_in};
+ghost use Rattle.report.specs.Places.{code_place, in_function, known_code, known_function, known_origin, known_place, origin_in};
+ghost use Rattle.std.specs.Prelude.{◌≡◌, ◌≤◌, IfSome, option_map};
 
 use crate::events::{PlacedEvent, hart_of};
+use crate::origin::{FunctionPlace, Origin};
 use assemble::LineNumbers;
+use elf_file::Functions;
 use machine::TracedEvent;
 use std::fmt;
 
@@ -14,36 +18,52 @@ use std::fmt;
 pub enum Places {
     /// The line numbers of its source.
     Source(LineNumbers),
+    /// The functions of an executable.
+    Executable(Functions),
     /// Nothing does.
     Unknown,
 }
 
 impl Places {
+    /// What is known of where an instruction comes from.
+    pub fn origin_at(&self, pc: u64) -> Origin<'_>
+        ensures { known_origin result ≡ origin_in self.now pc }
+    {
+        match self {
+            Places::Source(numbers) => match numbers.at(pc) {
+                Some(line) => Origin::Line(line),
+                None => Origin::Unknown,
+            },
+            Places::Executable(functions) => Origin::Executable(function_place(functions, pc)),
+            Places::Unknown => Origin::Unknown,
+        }
+    }
+
     /// The line of the source that an instruction comes from, where it is known.
-    #[tactic(auto, using(crate::proofs::SourceLines::from_one))]
+    #[tactic(auto, using(crate::proofs::SourceLines::from_one, crate::proofs::SourceLines::line_known))]
     pub fn line_of(&self, pc: u64) -> Option<u32>
-        ensures line { result ≡ line_in self.now pc }
+        ensures line { result ≡ line_in (origin_in self.now pc) }
         ensures from_one { IfSome result (λ line. 1 ≤ line) }
     {
         match self {
             Places::Source(numbers) => numbers.at(pc),
-            Places::Unknown => None,
+            Places::Executable(_) | Places::Unknown => None,
         }
     }
 
     /// Where an instruction stands.
-    pub fn at(&self, pc: u64) -> CodePlace
-        ensures { result ≡ code_place (line_in self.now) pc }
+    pub fn at(&self, pc: u64) -> CodePlace<'_>
+        ensures { known_code result ≡ code_place (origin_in self.now) pc }
     {
         CodePlace {
             pc,
-            line: self.line_of(pc),
+            origin: self.origin_at(pc),
         }
     }
 
     /// Where an event of a run was made.
-    pub fn place_of(&self, traced: &TracedEvent) -> Place
-        ensures { result ≡ place_of (line_in self.now) traced.now }
+    pub fn place_of(&self, traced: &TracedEvent) -> Place<'_>
+        ensures { known_place result ≡ place_of (origin_in self.now) traced.now }
     {
         Place {
             hart: hart_of(traced.event),
@@ -52,8 +72,8 @@ impl Places {
     }
 
     /// An event of a run, with where its instruction stands.
-    pub fn placed(&self, traced: &TracedEvent) -> PlacedEvent
-        ensures { result ≡ placed (line_in self.now) traced.now }
+    pub fn placed(&self, traced: &TracedEvent) -> PlacedEvent<'_>
+        ensures { known_event result ≡ placed (origin_in self.now) traced.now }
     {
         PlacedEvent {
             step: traced.step,
@@ -63,39 +83,50 @@ impl Places {
     }
 }
 
-/// The pc of an instruction, and the line of the source that it comes from where it is known: `pc=0xP line=N`.
-#[derive(Clone, Copy)]
-pub struct CodePlace {
-    pub pc: u64,
-    pub line: Option<u32>,
+/// The function that an instruction is in, if it is in one.
+fn function_place(functions: &Functions, pc: u64) -> Option<FunctionPlace<'_>>
+    ensures { option_map known_function result ≡ option_map (in_function pc) (function_at functions.now pc) }
+{
+    let (name, offset) = functions.at(pc)?;
+    Some(FunctionPlace { name, offset })
 }
 
-impl fmt::Display for CodePlace {
-    ghost use Rattle.std.specs.Prelude.{Some};
-    ghost use Rattle.report.specs.Places.{code_text};
+/// The pc of an instruction, and what is known of where it comes from: `pc=0xP line=N` of a source, `pc=0xP in=NAME+0xOFF` of an
+/// executable.
+#[derive(Clone, Copy)]
+pub struct CodePlace<'a> {
+    pub pc: u64,
+    pub origin: Origin<'a>,
+}
 
-    ghost output = { λ at. Some (code_text at) };
+impl fmt::Display for CodePlace<'_> {
+    ghost use Rattle.std.specs.Prelude.{Some};
+    ghost use Rattle.report.specs.Places.{code_text, known_code};
+
+    ghost output = { λ at. Some (code_text (known_code at)) };
 
     fn fmt<W: fmt::Write>(&self, f: &mut fmt::Formatter<W>) -> fmt::Result {
-        match self.line {
-            Some(line) => write!(f, "pc=0x{:x} line={line}", self.pc),
-            None => write!(f, "pc=0x{:x}", self.pc),
+        let pc = self.pc;
+        match self.origin {
+            Origin::Unknown | Origin::Executable(None) => write!(f, "pc=0x{pc:x}"),
+            Origin::Line(line) => write!(f, "pc=0x{pc:x} line={line}"),
+            Origin::Executable(Some(place)) => write!(f, "pc=0x{pc:x} {place}"),
         }
     }
 }
 
 /// The hart of an instruction, and where it stands: `hH pc=0xP line=N`.
 #[derive(Clone, Copy)]
-pub struct Place {
+pub struct Place<'a> {
     pub hart: u32,
-    pub at: CodePlace,
+    pub at: CodePlace<'a>,
 }
 
-impl fmt::Display for Place {
+impl fmt::Display for Place<'_> {
     ghost use Rattle.std.specs.Prelude.{Some};
-    ghost use Rattle.report.specs.Places.{place_text};
+    ghost use Rattle.report.specs.Places.{known_place, place_text};
 
-    ghost output = { λ place. Some (place_text place) };
+    ghost output = { λ place. Some (place_text (known_place place)) };
 
     fn fmt<W: fmt::Write>(&self, f: &mut fmt::Formatter<W>) -> fmt::Result {
         write!(f, "h{} {}", self.hart, self.at)

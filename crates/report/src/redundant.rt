@@ -1,7 +1,6 @@
 //! What is printed of the cleans and fences that a run makes in vain.
 
 mod always;
-mod form;
 mod json;
 mod uses;
 mod waste;

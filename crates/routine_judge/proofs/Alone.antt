@@ -1,5 +1,5 @@
 -- A moment has one window.
-use Rattle.std.proofs.Common.{◌≡◌, ℕ, ◌<◌, ◌≤◌, false, inl, inr, List, length, get_or, take, refl, sym, ap, ◌∙◌, subst, arith, Some}
+use Rattle.std.proofs.Common.{◌≡◌, ℕ, ◌<◌, ◌≤◌, inl, inr, List, length, get_or, take, refl, sym, ap, ◌∙◌, subst, arith, Some}
 use Rattle.std.specs.Prelude.{◌↔◌, min}
 use Rattle.std.specs.List.{Contains}
 use Rattle.std.proofs.lemmas.Bool.{cases_lt}
@@ -18,6 +18,7 @@ use Rattle.routine_judge.specs.declared.history.fault.MarkFault.TheVariants.{Ove
 use Rattle.routine_judge.specs.declared.history.moments.Window.{Window}
 use Rattle.routine_judge.specs.declared.history.moments.Window.TheVariants.{Itself, Either, Through}
 use Rattle.store_trace.specs.declared.event.Event.{Event}
+use Rattle.routine_judge.specs.declared.history.overlap.Overlap.TheVariants.{Never}
 use Rattle.store_trace.specs.declared.event.Event.TheVariants.{Begin}
 
 -- an operation that is pending later was pending from its Begin on
@@ -105,11 +106,11 @@ pending_iff events m op = (
 )
 
 -- where operations don't overlap, none is pending at a Begin
-apart : (events : List Event) (i op k other : ℕ) → AreSound false events (length events) → IsBegunAt events i op → ¬ IsPendingFrom events i k other
+apart : (events : List Event) (i op k other : ℕ) → AreSound Never events (length events) → IsBegunAt events i op → ¬ IsPendingFrom events i k other
 apart events i op k other sound begins p =
-    sound i (Begin begins.0 op) Overlaps (begin_inside events i op begins) begins.1 (refl, (other, (pending_iff events i other).1 (k, p)))
+    sound i (Begin begins.0 op) Overlaps (begin_inside events i op begins) begins.1 (other, (pending_iff events i other).1 (k, p))
 
-alone_apart : (events : List Event) (m b op : ℕ) → AreSound false events (length events) → IsPendingFrom events m b op → IsAlonePending events m b (end_moment events op)
+alone_apart : (events : List Event) (m b op : ℕ) → AreSound Never events (length events) → IsPendingFrom events m b op → IsAlonePending events m b (end_moment events op)
 alone_apart events m b op sound p = record {
   op = op;
   pending = p;
@@ -122,7 +123,7 @@ alone_apart events m b op sound p = record {
   };
 }
 
-pub none_through : (events : List Event) (m b e : ℕ) → AreSound false events (length events) → ¬ IsWindow events m (Through b e)
+pub none_through : (events : List Event) (m b e : ℕ) → AreSound Never events (length events) → ¬ IsWindow events m (Through b e)
 none_through events m b e sound w = w.2 b (end_moment events w.0.op) (alone_apart events m b w.0.op sound w.0.pending)
 
 -- the moments of a window

@@ -1,5 +1,5 @@
 -- Whether an operation begins in some events.
-use Rattle.std.proofs.Common.{◌≡◌, ◌≢◌, ℕ, ◌+◌, ◌<◌, Bool, true, false, List, [], ◌∷◌, ◌++◌, length, get_or, take, refl, ap, ◌∙◌, subst, arith, None, Option, Some}
+use Rattle.std.proofs.Common.{◌≡◌, ◌≢◌, ℕ, ◌+◌, ◌<◌, true, false, List, [], ◌∷◌, ◌++◌, length, get_or, take, refl, ap, ◌∙◌, subst, arith, None, Option, Some}
 use Rattle.std.specs.Prelude.{is_some}
 use Rattle.std.specs.List.{Contains, cons_option}
 use Rattle.std.proofs.lemmas.List.{append-nil, take_more}
@@ -9,6 +9,7 @@ use Rattle.store_trace.proofs.Members.{contains_first, from_mapped, mapped_here,
 use Rattle.store_trace.specs.Marks.{begun, begun_by}
 use Rattle.routine_judge.proofs.Marked.{begin_of}
 use Rattle.routine_judge.specs.MarkFaults.{AreSound, HasSoundBegin}
+use Rattle.routine_judge.specs.declared.history.overlap.Overlap.{Overlap}
 use Rattle.store_trace.specs.declared.event.Event.{Event}
 
 none_of : (o : Option ℕ) → is_some o ≡ false → o ≡ None
@@ -37,8 +38,8 @@ first_of [] some = absurd (some refl)
 first_of (op ∷ ops) some = (op, contains_first op ops op refl)
 
 -- where no event is at fault, and an operation begins
-pub sound_begin : (overlapping : Bool) (events : List Event) → AreSound overlapping events (length events) → begun events ≢ [] → HasSoundBegin overlapping events
-sound_begin overlapping events sound some =
+pub sound_begin : (overlap : Overlap) (events : List Event) → AreSound overlap events (length events) → begun events ≢ [] → HasSoundBegin overlap events
+sound_begin overlap events sound some =
     let op = first_of (begun events) some in
     let from = from_mapped begun_by events op.0 op.1 in
     let begins = begin_of from.0 op.0 from.2 in

@@ -1,5 +1,5 @@
 -- The words of sequential events, and which of them fit.
-use Rattle.std.proofs.Common.{◌≡◌, ℕ, zero, suc, ◌<◌, false, inl, inr, List, [], ◌∷◌, ◌++◌, length, take, map, refl, sym, ap, ◌∙◌, subst, arith, Option, Some, None}
+use Rattle.std.proofs.Common.{◌≡◌, ℕ, zero, suc, ◌<◌, inl, inr, List, [], ◌∷◌, ◌++◌, length, take, map, refl, sym, ap, ◌∙◌, subst, arith, Option, Some, None}
 use Rattle.std.specs.Prelude.{IsTrue, slice_get}
 use Rattle.std.specs.List.{Contains, cons_option}
 use Rattle.std.proofs.lemmas.Bool.{cases_lt}
@@ -9,7 +9,8 @@ use Rattle.store_trace.proofs.Marking.{open_true}
 use Rattle.store_trace.proofs.Members.{contains_first, contains_later, from_mapped, in_filter, mapped_here}
 use Rattle.store_trace.specs.Marks.{begun, ended, is_open}
 use Rattle.image_check.specs.OrderFaults.{IsBegunTwice, IsNotPending}
-use Rattle.routine_judge.proofs.Preceding.{ended_begun, found, from_map}
+use Rattle.routine_judge.proofs.Faulting.{ended_begun}
+use Rattle.routine_judge.proofs.Preceding.{found, from_map}
 use Rattle.routine_judge.proofs.Splitting.{NoneIs, beginner, begun_in, ended_began, in_if_not_out, none_at, none_front}
 use Rattle.routine_judge.specs.Fitting.{Fits, HasAllEnded, MayFollowAll, beginning, beginnings, operation_of}
 use Rattle.routine_judge.specs.MarkFaults.{AreSound, IsOverlap, SomePending}
@@ -17,6 +18,7 @@ use Rattle.routine_judge.specs.Order.{AreAtRest, AreOperations, Begun, EndsBefor
 use Rattle.routine_judge.specs.declared.history.fault.MarkFault.TheVariants.{BegunTwice, NotPending, Overlaps}
 use Rattle.routine_judge.specs.declared.order.operation.Operation.{Operation}
 use Rattle.store_trace.specs.declared.event.Event.{Event}
+use Rattle.routine_judge.specs.declared.history.overlap.Overlap.TheVariants.{BetweenHarts, Never}
 use Rattle.store_trace.specs.declared.event.Event.TheVariants.{Store, Clean, Fence, Begin, End}
 
 -- what begins, with its hart
@@ -113,14 +115,14 @@ joined : (before after : List Event) (hart op : ℕ) → beginnings (before ++ B
 joined before after hart op = filter_map-append beginning before (Begin hart op ∷ after)
 
 -- sequential events
-module _ (w : List Event) (sound : AreSound false w (length w)) where
+module _ (w : List Event) (sound : AreSound Never w (length w)) where
   ends_sound : NoneIs IsNotPending w
   ends_sound i event inside at = sound i event NotPending inside at
 
   begins_sound : NoneIs IsBegunTwice w
   begins_sound i event inside at = sound i event BegunTwice inside at
 
-  apart : NoneIs (λ before event. IsOverlap false before event) w
+  apart : NoneIs (λ before event. IsOverlap Never before event) w
   apart i event inside at = sound i event Overlaps inside at
 
   front_ended : (before after : List Event) (hart op x : ℕ) → w ≡ before ++ Begin hart op ∷ after → Contains (begun before) x → Contains (ended before) x
@@ -128,7 +130,7 @@ module _ (w : List Event) (sound : AreSound false w (length w)) where
       in_if_not_out (ended before) x
       (λ lacks.
       let pending : SomePending before = (x, in_filter (is_open before) (begun before) x c (open_true before x lacks)) in
-      none_at (λ front event. IsOverlap false front event) w before after (Begin hart op) is apart (refl, pending))
+      none_at (λ front event. IsOverlap Never front event) w before after (Begin hart op) is apart pending)
 
   front_begun : (before after : List Event) (hart op x : ℕ) → w ≡ before ++ Begin hart op ∷ after → Contains (ended before) x → Contains (begun before) x
   front_begun before after hart op x is c =
@@ -193,7 +195,7 @@ module _ (w : List Event) (sound : AreSound false w (length w)) where
         subst (λ (on : ℕ). Contains p (Begin on op)) m.hart_is
         (subst (λ (q : ℕ). Contains p (Begin m.operation.hart q)) m.op_is (h.each m.operation m.among).begins);
     ends = λ op c.
-        let o = found p ops op h (ended_begun p ops op h c) in
+        let o = found p ops op h (ended_begun BetweenHarts p op h.sound c) in
         let so : IsTrue o.0.has_ended = (h.each o.0 o.1).ends.1 (subst (λ (q : ℕ). Contains (ended p) q) (sym o.2) c) in
         let among : Contains (begun w) op =
         numbers_begun w op (subst (λ (q : ℕ). Contains (map (λ (b : Operation). b.op) (beginnings w)) q) o.2 (over o.0 o.1 so)) in

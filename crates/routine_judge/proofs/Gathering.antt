@@ -16,7 +16,7 @@ use Rattle.std.specs.declared.alloc.Global.{Global}
 use Rattle.std.specs.declared.vec.Vec.{Vec}
 use Rattle.routine_judge.specs.Gathered.{AreAnswers, AreKept, IsAdded}
 use Rattle.routine_judge.specs.Images.{full_cut}
-use Rattle.routine_judge.specs.RightAnswers.{HasLastCause, IsFoundOf, RunsOn, Shows, ShowsFull, Source, is_among, of_moments, of_window}
+use Rattle.routine_judge.specs.RightAnswers.{HasLastCause, IsFoundOf, RunsOn, Shows, ShowsFull, Source, of_moments, of_window}
 use Rattle.routine_judge.specs.Views.{JudgeView}
 use Rattle.routine_judge.specs.declared.cause.Cause.{Cause}
 use Rattle.routine_judge.specs.declared.cause.Cause.TheVariants.{Missing, Different, Full, Unmatched}

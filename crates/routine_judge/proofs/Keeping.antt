@@ -1,17 +1,17 @@
 -- A pass is kept from a moment to the next by an event that is no mark and that no image shows.
-use Rattle.std.proofs.Common.{◌≡◌, ℕ, ◌+◌, ◌<◌, Bool, List, [], ◌∷◌, length, get_or, slice_get, inl, inr, refl, sym, ap, ◌∙◌, subst, arith, Result, Ok, true}
-use Rattle.std.specs.Prelude.{◌≢◌}
+use Rattle.std.proofs.Common.{◌≡◌, ℕ, ◌+◌, ◌<◌, Bool, List, [], ◌∷◌, length, get_or, slice_get, inl, inr, refl, sym, ap, ◌∙◌, subst, arith, Result, Ok, Err, None, true}
 use Rattle.std.proofs.lemmas.Bool.{cases_lt}
 use Rattle.std.proofs.lemmas.List.{get_or_past}
 use Rattle.store_trace.proofs.Images.{image_line, length_image}
 use Rattle.routine_judge.proofs.Gathering.{found_alike}
+use Rattle.routine_judge.proofs.Sourcing.{shows_before, shows_next}
+use Rattle.store_trace.specs.Marks.{begun_by, ended_by}
+use Rattle.recovery.specs.declared.recovery_run.Cause.TheVariants.{Running}
 use Rattle.verdict.specs.CutImages.{AreMedia, image_at}
-use Rattle.routine_judge.specs.RightAnswers.{IsFoundOf, IsRightOf, AsksOf, RunsOn, of_window, same_bytes, Shows}
-use Rattle.routine_judge.specs.Standing.{IsPassed}
+use Rattle.routine_judge.specs.RightAnswers.{AsksOf, IsFoundOf, Shows, same_bytes}
+use Rattle.routine_judge.specs.Standing.{IsBasis, IsPassed, StaysBy, source_at}
 use Rattle.routine_judge.specs.Views.{JudgeView}
-use Rattle.routine_judge.specs.Windows.{IsWindow}
 use Rattle.routine_judge.specs.declared.history.moments.Window.{Window}
-use Rattle.routine_judge.specs.declared.history.moments.Window.TheVariants.{Itself, Either, Through}
 use Rattle.machine.specs.Run.{Config, started}
 use Rattle.verdict.proofs.Keeping.{AgreeIn, IsByLines, IsUnchanged, like_next, pass_kept}
 use Rattle.verdict.specs.Keeping.{IsUnseen}
@@ -69,32 +69,20 @@ shows_later view m n whole next c k questions found x agree a =
       comes = a.comes ∙ sym (r.3 ∙ ap (λ (full : Bool). answer x.end full) same.1 ∙ ap (λ (end : Config). answer end a.full) same.0);
     }
 
--- a window that doesn't move with its moment has the same right answers
-right_later : (view : JudgeView) (window : Window) (m n : ℕ) (bytes : List ℕ) → window ≢ Itself → IsRightOf view (of_window window m) bytes →
-    IsRightOf view (of_window window n) bytes
-right_later view Itself m n bytes fixed r = absurd (fixed refl)
-right_later view (Either before after) m n bytes fixed r = r
-right_later view (Through first last) m n bytes fixed r = r
-
--- and it runs on on their full images or on none
-runs_on_before : (view : JudgeView) (window : Window) (m n : ℕ) → window ≢ Itself → RunsOn view (of_window window n) → RunsOn view (of_window window m)
-runs_on_before view Itself m n fixed r = absurd (fixed refl)
-runs_on_before view (Either before after) m n fixed r = r
-runs_on_before view (Through first last) m n fixed r = r
-
-by_lines : (view : JudgeView) (window : Window) (m n : ℕ) → AreMedia view.start view.events m → AreMedia view.start view.events n → window ≢ Itself →
-    IsByLines view.start (at_moment view.events m) (at_moment view.events n) (AsksOf view m) (AsksOf view n) (IsFoundOf view (of_window window m) m)
-    (IsFoundOf view (of_window window n) n)
-by_lines view window m n whole next fixed = record {
+by_lines : (view : JudgeView) (window : Window) (m : ℕ) (d : Event) → AreMedia view.start view.events m → AreMedia view.start view.events (m + 1) →
+    m < length view.events → begun_by (get_or view.events m d) ≡ None → ended_by (get_or view.events m d) ≡ None → StaysBy view.right window →
+    IsByLines view.start (at_moment view.events m) (at_moment view.events (m + 1)) (AsksOf view m) (AsksOf view (m + 1))
+    (IsFoundOf view (source_at view window m) m) (IsFoundOf view (source_at view window (m + 1)) (m + 1))
+by_lines view window m d whole next there begins ends stays = record {
   asked = λ c good. asks_of view m c (Ok good.0) good.1;
-  same = λ c k questions asks agree. asks_later view m n whole next c k questions asks agree;
-  once = λ k questions others a b. asks_once view n k questions others a b;
+  same = λ c k questions asks agree. asks_later view m (m + 1) whole next c k questions asks agree;
+  once = λ k questions others a b. asks_once view (m + 1) k questions others a b;
   good = λ c k questions asks agree good. (
     good.0,
-    shows_later view m n whole next c k questions (Ok good.0) asks agree good.1,
-    right_later view window m n good.0 fixed good.2,
+    shows_later view m (m + 1) whole next c k questions (Ok good.0) asks agree good.1,
+    shows_next view.right view window m d there begins ends stays (Ok good.0) good.2,
   );
-  alike = λ k c found same f. found_alike view (of_window window m) m k c found same f;
+  alike = λ k c found same f. found_alike view (source_at view window m) m k c found same f;
 }
 
 -- the bytes of a line in the images of a moment
@@ -114,19 +102,20 @@ bytes_unchanged view m later l n same = elim (cases_lt l (length view.start)) [
 ]
 
 pub kept_next : (view : JudgeView) (m : ℕ) (d : Event) (flags : List Bool) (window : Window) → AreMedia view.start view.events m →
-    AreMedia view.start view.events (m + 1) → m < length view.events → window ≢ Itself → IsUnseen flags (get_or view.events m d) →
-    IsWindow view.events (m + 1) window → IsPassed view flags window m → IsPassed view flags window (m + 1)
-kept_next view m d flags window whole next there fixed unseen is passed =
+    AreMedia view.start view.events (m + 1) → m < length view.events → StaysBy view.right window → IsUnseen flags (get_or view.events m d) →
+    begun_by (get_or view.events m d) ≡ None → ended_by (get_or view.events m d) ≡ None → IsBasis view window (m + 1) → IsPassed view flags window m →
+    IsPassed view flags window (m + 1)
+kept_next view m d flags window whole next there stays unseen begins ends is passed =
     let kept = pass_kept true view.start (at_moment view.events m) (at_moment view.events (m + 1)) flags (same_bytes view m) (same_bytes view (m + 1))
     (AsksOf view m) (AsksOf view (m + 1))
-    (IsFoundOf view (of_window window m) m) (IsFoundOf view (of_window window (m + 1)) (m + 1))
+    (IsFoundOf view (source_at view window m) m) (IsFoundOf view (source_at view window (m + 1)) (m + 1))
     (λ q n o x y e. ap (λ (xs : List ℕ). same_at q.bytes 0 xs (bytes_of view (m + 1) q.line o)) (bytes_unchanged view m (m + 1) q.line n x)
     ∙ ap (λ (ys : List ℕ). same_at q.bytes 0 (bytes_of view m q.line n) ys) (bytes_unchanged view m (m + 1) q.line o y) ∙ e) (like_next view.start view.events m d flags there unseen)
-    (by_lines view window m (m + 1) whole next fixed) passed.flagged passed.passes in
+    (by_lines view window m d whole next there begins ends stays) passed.flagged passed.passes in
     record {
       there = omega arith;
-      is_window = is;
+      is_basis = is;
       flagged = kept.0;
-      ends = λ r. passed.ends (runs_on_before view window m (m + 1) fixed r);
+      ends = λ r. passed.ends (shows_before view.right view window m d there begins ends stays (Err Running) r);
       passes = kept.1;
     }

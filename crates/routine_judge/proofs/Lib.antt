@@ -2,6 +2,8 @@ pub mod Beginning
 pub mod Gathering
 pub mod Noting
 pub mod Finding
+pub mod Sourcing
+pub mod OrderedSoFar
 pub mod Keeping
 pub mod Running
 pub mod Alone

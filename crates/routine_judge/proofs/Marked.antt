@@ -1,6 +1,6 @@
 -- The operations of some events, one event more.
-use Rattle.std.proofs.Common.{◌≡◌, ◌⊎◌, ℕ, zero, suc, Bool, true, false, inl, inr, List, [], ◌∷◌, ◌++◌, length, refl, sym, ap, ◌∙◌, subst, arith, Option, Some, None, true≢false, eqb-true, eq-eqb, rules}
-use Rattle.std.specs.Prelude.{◌↔◌, ◌==◌, IsTrue}
+use Rattle.std.proofs.Common.{◌≡◌, ◌⊎◌, ℕ, zero, suc, Bool, true, false, not, inl, inr, List, [], ◌∷◌, ◌++◌, length, refl, sym, ap, ◌∙◌, subst, arith, Option, Some, None, true≢false, eqb-true, eq-eqb, rules}
+use Rattle.std.specs.Prelude.{◌↔◌, ◌==◌, ◌||◌, IsTrue}
 use Rattle.std.specs.BTreeMap as tree
 use Rattle.std.specs.BTreeSet as set
 use Rattle.std.specs.List.{Contains, cons_option, filter_map, list_any}
@@ -8,9 +8,13 @@ use Rattle.std.specs.Map.{lookup}
 use Rattle.std.specs.Ordering.{is_eq, nat_cmp}
 use Rattle.std.proofs.lemmas.Bool.{cases_Bool}
 use Rattle.std.proofs.lemmas.Bool.Decides.{nat_tests}
+use Rattle.std.proofs.lemmas.Map.Lookups.{exact_unsigned}
+use Rattle.std.proofs.lemmas.Map.Made.{Contains-from_values_of, Contains-values_of}
+use Rattle.std.proofs.lemmas.Map.Views.{btree_map_get_iff}
+use Rattle.std.proofs.lemmas.Cmp.{nat_cmp_total}
 use Rattle.std.proofs.lemmas.List.Elements.{Contains-append_cases, Contains-append_left, Contains-append_right, filter_map-append}
 use Rattle.store_trace.proofs.Marking.{open_true, open_unended}
-use Rattle.store_trace.proofs.Members.{contains_cases, contains_first, from_filter, from_mapped, from_some, in_filter, mapped_here, no_members}
+use Rattle.store_trace.proofs.Members.{contains_cases, contains_first, contains_later, from_filter, from_mapped, from_some, in_filter, mapped_here, no_members}
 use Rattle.store_trace.specs.Marks.{begun, begun_by, ended_by, is_open}
 use Rattle.routine_judge.specs.MarkFaults.{SomePending}
 use Rattle.routine_judge.specs.Operations.{AreMarked, IsPendingBy}
@@ -134,6 +138,50 @@ pub one_pending : (before : List Event) (now : Operations) → AreMarked before 
 one_pending before now a some =
     let got = first_got now.pending.entries some in
     pending_some before got.1 got.0 ((a.each_pending got.0 got.1).0 got.2)
+
+-- an operation of a hart is pending, as the map's values tell
+or_parts : (a b : Bool) → (a || b) ≡ true → (a ≡ true) ⊎ (b ≡ true)
+or_parts true b e = inl refl
+or_parts false b e = inr e
+
+or_here : (a b : Bool) → a ≡ true → (a || b) ≡ true
+or_here true b e = refl
+or_here false b e = absurd cc
+
+or_there : (a b : Bool) → b ≡ true → (a || b) ≡ true
+or_there true b e = refl
+or_there false b e = e
+
+any_value : (xs : List ℕ) (x : ℕ) → list_any (λ y. y == x) xs ≡ true → Contains xs x
+any_value [] x e = absurd cc
+any_value (y ∷ ys) x e = elim (or_parts (y == x) (list_any (λ z. z == x) ys) e) [
+  | inl here ↦ contains_first y ys x (eqb-true y x here)
+  | inr there ↦ contains_later y ys x (any_value ys x there)
+]
+
+value_any : (xs : List ℕ) (x : ℕ) → Contains xs x → list_any (λ y. y == x) xs ≡ true
+value_any [] x c = absurd (no_members x c)
+value_any (y ∷ ys) x c = elim (contains_cases y ys x c) [
+  | inl here ↦ or_here (y == x) (list_any (λ z. z == x) ys) (eq-eqb y x here)
+  | inr there ↦ or_there (y == x) (list_any (λ z. z == x) ys) (value_any ys x there)
+]
+
+pub hart_pending : (before : List Event) (now : Operations) (hart : ℕ) (any : Bool) → AreMarked before now → tree.IsOrdered nat_cmp now.pending →
+    any ≡ list_any (λ beginner. beginner == hart) (tree.values now.pending) → IsTrue any ↔ ((other : ℕ) × IsPendingBy before hart other)
+hart_pending before now hart any a ordered is = (
+  λ t.
+      let e = Contains-from_values_of now.pending.entries hart (any_value (tree.values now.pending) hart (sym is ∙ t)) in
+      (e.0, (a.each_pending e.0 hart).0 ((btree_map_get_iff nat_cmp_total exact_unsigned now.pending ordered e.0 hart).1 e.1)),
+  λ p.
+      let c = (btree_map_get_iff nat_cmp_total exact_unsigned now.pending ordered p.0 hart).0 ((a.each_pending p.0 hart).1 p.1) in
+      is ∙ value_any (tree.values now.pending) hart (Contains-values_of now.pending.entries p.0 hart c),
+)
+
+-- an operation is pending, as the map's length tells
+pub some_told : (before : List Event) (now : Operations) (none : Bool) → AreMarked before now → IsTrue none ↔ (tree.btree_map_len now.pending ≡ 0) →
+    IsTrue (not none) ↔ SomePending before
+some_told before now true a is = (λ t. absurd (not_true false refl t), λ s. absurd (none_pending before now a (is.0 is_true) s))
+some_told before now false a is = (λ t. one_pending before now a (λ e. is_false (is.1 e)), λ s. is_true)
 
 first_key : (ks : List ℕ) → (length ks ≡ 0 → ⊥) → (op : ℕ) × (list_any (tree.is_at (nat_cmp op)) ks ≡ true)
 first_key [] some = absurd (some refl)

@@ -8,14 +8,13 @@ use Rattle.std.proofs.lemmas.List.Kept.{AllPairs-filter}
 use Rattle.std.proofs.lemmas.List.Sorted.{Contains-permutation, IsPermutation-sym}
 use Rattle.store_trace.proofs.Members.{contains_cases, contains_first, contains_later, from_filter, in_filter, no_members}
 use Rattle.store_trace.specs.Marks.{begun, begun_by, ended, ended_by}
-use Rattle.image_check.specs.OrderFaults.{IsBegunTwice, IsNotPending}
+use Rattle.routine_judge.proofs.Faulting.{ended_begun, no_fault, other_faultless}
 use Rattle.routine_judge.proofs.Marked.{not_true, true_of}
-use Rattle.routine_judge.proofs.Splitting.{before_cases, before_last, beginner, begun_behind, begun_in, ended_began, from_more, in_last, in_more, kept_before, none_more}
-use Rattle.routine_judge.specs.MarkFaults.{code_of}
-use Rattle.routine_judge.specs.Operations.{IsPendingBy}
-use Rattle.routine_judge.specs.Order.{AreInOrder, AreOperations, AreSoundByHart, Begun, HasHartFault, IsBegun, IsHartOverlap, IsLowestHartFault, begins_in, with_end}
+use Rattle.routine_judge.proofs.Splitting.{before_cases, before_last, beginner, begun_behind, begun_in, from_more, in_last, in_more, kept_before}
+use Rattle.routine_judge.specs.Order.{AreInOrder, AreOperations, Begun, HasHartFault, IsBegun, begins_in, with_end}
 use Rattle.routine_judge.specs.declared.history.fault.MarkFault.{MarkFault}
-use Rattle.routine_judge.specs.declared.history.fault.MarkFault.TheVariants.{BegunTwice, NotPending, Overlaps, NoOperation, Memory}
+use Rattle.routine_judge.specs.declared.history.fault.MarkFault.TheVariants.{BegunTwice}
+use Rattle.routine_judge.specs.declared.history.overlap.Overlap.TheVariants.{BetweenHarts}
 use Rattle.store_trace.specs.declared.event.Event.{Event}
 use Rattle.store_trace.specs.declared.event.Event.TheVariants.{Store, Clean, Fence, Begin, End}
 
@@ -75,15 +74,6 @@ number_of a b e = cc
 same_begin : (hart op h q : ℕ) → Begin hart op ≡ Begin h q → (hart ≡ h) × (op ≡ q)
 same_begin hart op h q e = (cc, cc)
 
-no_fault : (events : List Event) (event : Event) → AreSoundByHart events (length events) → ((fault : MarkFault) → ¬ HasHartFault events event fault) →
-    AreSoundByHart (events ++ event ∷ []) (length (events ++ event ∷ []))
-no_fault events event h last i e fault inside at f =
-    none_more (λ before one. HasHartFault before one fault) events event (λ k one within there. h k one fault within there) (last fault) i e inside at f
-
--- an operation that has ended has begun
-pub ended_begun : (events : List Event) (ops : List Begun) (op : ℕ) → AreOperations events ops → Contains (ended events) op → Contains (begun events) op
-ended_begun events ops op h c = ended_began events op (λ i event inside at. h.sound i event NotPending inside at) c
-
 -- the operation of a number
 pub found : (events : List Event) (ops : List Begun) (op : ℕ) → AreOperations events ops → Contains (begun events) op → (o : Begun) × Contains ops o × (o.op ≡ op)
 found events ops op h c =
@@ -110,7 +100,7 @@ ended_numbered events ops op h = (
       let kept = from_filter (λ (b : Begun). b.has_ended) ops o.0 o.1 in
       subst (λ (q : ℕ). Contains (ended events) q) o.2 ((h.each o.0 kept.0).ends.0 (true_of o.0.has_ended kept.1)),
   λ c.
-      let o = found events ops op h (ended_begun events ops op h c) in
+      let o = found events ops op h (ended_begun BetweenHarts events op h.sound c) in
       let over : IsTrue o.0.has_ended = (h.each o.0 o.1).ends.1 (subst (λ (q : ℕ). Contains (ended events) q) (sym o.2) c) in
       subst (λ (q : ℕ). Contains (map (λ (b : Begun). b.op) (filter (λ (b : Begun). b.has_ended) ops)) q) o.2
       (in_map (λ (b : Begun). b.op) (filter (λ (b : Begun). b.has_ended) ops) o.0 (in_filter (λ (b : Begun). b.has_ended) ops o.0 o.1 (is_so o.0.has_ended over))),
@@ -137,7 +127,7 @@ begun_now events ops hart op h new = record {
   ends = (
     λ t. absurd (not_true false refl t),
     λ c. elim (from_more ended_by events (Begin hart op) op c) [
-      | inl d ↦ absurd (new (ended_begun events ops op h d))
+      | inl d ↦ absurd (new (ended_begun BetweenHarts events op h.sound d))
       | inr e ↦ absurd (no_number op e)
     ],
   );
@@ -160,7 +150,7 @@ begin_operations events ops more hart op h none moved in_order =
     let new : ¬ Contains (begun events) op = none BegunTwice in
     let one = begins_in ops hart op in
     record {
-      sound = no_fault events (Begin hart op) h.sound none;
+      sound = no_fault BetweenHarts events (Begin hart op) h.sound none;
       each = λ o c. elim (contains_cases one ops o (Contains-permutation more (one ∷ ops) o (IsPermutation-sym (one ∷ ops) more moved) c)) [
         | inl e ↦ subst (λ (b : Begun). IsBegun (events ++ Begin hart op ∷ []) b) e (begun_now events ops hart op h new)
         | inr d ↦
@@ -220,7 +210,7 @@ ended_now events hart op o h = record {
 pub end_operations : (events : List Event) (ops : List Begun) (hart op : ℕ) → AreOperations events ops →
     ((fault : MarkFault) → ¬ HasHartFault events (End hart op) fault) → AreOperations (events ++ End hart op ∷ []) (map (with_end op) ops)
 end_operations events ops hart op h none = record {
-  sound = no_fault events (End hart op) h.sound none;
+  sound = no_fault BetweenHarts events (End hart op) h.sound none;
   each = λ o c.
       let from = from_map (with_end op) ops o c in
       subst (λ (b : Begun). IsBegun (events ++ End hart op ∷ []) b) from.2 (ended_now events hart op from.0 (h.each from.0 from.1));
@@ -232,38 +222,10 @@ end_operations events ops hart op h none = record {
 }
 
 -- an event that is no mark
-not_twice : (before : List Event) (event : Event) → begun_by event ≡ None → ¬ IsBegunTwice before event
-not_twice before (Store hart line offset width value) b f = f
-not_twice before (Clean hart line) b f = f
-not_twice before (Fence hart) b f = f
-not_twice before (Begin hart op) b f = absurd cc
-not_twice before (End hart op) b f = f
-
-not_unended : (before : List Event) (event : Event) → ended_by event ≡ None → ¬ IsNotPending before event
-not_unended before (Store hart line offset width value) b f = f
-not_unended before (Clean hart line) b f = f
-not_unended before (Fence hart) b f = f
-not_unended before (Begin hart op) b f = f
-not_unended before (End hart op) b f = absurd cc
-
-not_overlapping : (before : List Event) (event : Event) → begun_by event ≡ None → ¬ IsHartOverlap before event
-not_overlapping before (Store hart line offset width value) b f = f
-not_overlapping before (Clean hart line) b f = f
-not_overlapping before (Fence hart) b f = f
-not_overlapping before (Begin hart op) b f = absurd cc
-not_overlapping before (End hart op) b f = f
-
-pub other_faultless : (before : List Event) (event : Event) → begun_by event ≡ None → ended_by event ≡ None → (fault : MarkFault) → ¬ HasHartFault before event fault
-other_faultless before event b e BegunTwice f = not_twice before event b f
-other_faultless before event b e NotPending f = not_unended before event e f
-other_faultless before event b e Overlaps f = not_overlapping before event b f
-other_faultless before event b e NoOperation f = f
-other_faultless before event b e Memory f = f
-
 pub other_operations : (events : List Event) (event : Event) (ops : List Begun) → begun_by event ≡ None → ended_by event ≡ None →
     AreOperations events ops → AreOperations (events ++ event ∷ []) ops
 other_operations events event ops b e h = record {
-  sound = no_fault events event h.sound (other_faultless events event b e);
+  sound = no_fault BetweenHarts events event h.sound (other_faultless BetweenHarts events event b e);
   each = λ o c.
       kept events event o (λ hart is. no_number o.op (sym b ∙ ap (λ (y : Event). begun_by y) is)) (λ is. no_number o.op (sym e ∙ is)) (h.each o c);
   all = λ by q c. elim (Contains-push_cases events event (Begin by q) c) [
@@ -271,50 +233,6 @@ other_operations events event ops b e h = record {
     | inr is ↦ absurd (no_number q (sym b ∙ ap (λ (y : Event). begun_by y) is))
   ];
   in_order = h.in_order;
-}
-
--- faults of marks
-pub begin_faultless : (events : List Event) (hart op : ℕ) → ¬ Contains (begun events) op → ((other : ℕ) → ¬ IsPendingBy events hart other) →
-    (fault : MarkFault) → ¬ HasHartFault events (Begin hart op) fault
-begin_faultless events hart op new apart BegunTwice f = new f
-begin_faultless events hart op new apart NotPending f = f
-begin_faultless events hart op new apart Overlaps f = apart f.0 f.1
-begin_faultless events hart op new apart NoOperation f = f
-begin_faultless events hart op new apart Memory f = f
-
-pub end_faultless : (events : List Event) (hart op : ℕ) → IsPendingBy events hart op → (fault : MarkFault) → ¬ HasHartFault events (End hart op) fault
-end_faultless events hart op pending BegunTwice f = f
-end_faultless events hart op pending NotPending f = f pending
-end_faultless events hart op pending Overlaps f = f
-end_faultless events hart op pending NoOperation f = f
-end_faultless events hart op pending Memory f = f
-
-none_lower : (events : List Event) (event : Event) (n : ℕ) → (2 < n → ¬ HasHartFault events event BegunTwice) →
-    (3 < n → ¬ HasHartFault events event NotPending) → (5 < n → ¬ HasHartFault events event Overlaps) →
-    (lower : MarkFault) → code_of lower < n → ¬ HasHartFault events event lower
-none_lower events event n twice unended overlaps BegunTwice l = twice l
-none_lower events event n twice unended overlaps NotPending l = unended l
-none_lower events event n twice unended overlaps Overlaps l = overlaps l
-none_lower events event n twice unended overlaps NoOperation l = λ f. f
-none_lower events event n twice unended overlaps Memory l = λ f. f
-
-pub begin_twice : (events : List Event) (hart op : ℕ) → Contains (begun events) op → IsLowestHartFault events (Begin hart op) BegunTwice
-begin_twice events hart op c = record {
-  has = c;
-  lowest = none_lower events (Begin hart op) 2 (λ l. absurd (omega (arith, l))) (λ l. absurd (omega (arith, l))) (λ l. absurd (omega (arith, l)));
-}
-
-pub begin_overlaps : (events : List Event) (hart op other : ℕ) → ¬ Contains (begun events) op → IsPendingBy events hart other →
-    IsLowestHartFault events (Begin hart op) Overlaps
-begin_overlaps events hart op other new pending = record {
-  has = (other, pending);
-  lowest = none_lower events (Begin hart op) 5 (λ l. new) (λ l f. f) (λ l. absurd (omega (arith, l)));
-}
-
-pub end_not_pending : (events : List Event) (hart op : ℕ) → ¬ IsPendingBy events hart op → IsLowestHartFault events (End hart op) NotPending
-end_not_pending events hart op lacks = record {
-  has = lacks;
-  lowest = none_lower events (End hart op) 3 (λ l f. f) (λ l. absurd (omega (arith, l))) (λ l. absurd (omega (arith, l)));
 }
 
 -- the operations after one event more

@@ -1,26 +1,26 @@
 -- The state of sequential events, one event more.
-use Rattle.std.proofs.Common.{◌≡◌, ◌⊎◌, ℕ, Bool, true, false, not, inl, inr, List, [], ◌∷◌, ◌++◌, length, map, append-nil, refl, sym, ap, ◌∙◌, subst, arith, Option, Some, None, eqb-true, eq-eqb}
+use Rattle.std.proofs.Common.{◌≡◌, ◌⊎◌, ℕ, Bool, true, false, not, inl, inr, List, [], ◌∷◌, ◌++◌, map, append-nil, refl, sym, ap, ◌∙◌, subst, arith, Option, Some, None, eqb-true, eq-eqb}
 use Rattle.std.specs.Prelude.{◌↔◌, ◌==◌, ◌||◌, IsTrue, is_some, option_to_list}
 use Rattle.std.specs.List.{Contains, cons_option}
 use Rattle.std.proofs.lemmas.List.Elements.{Contains-append_left, Contains-push, Contains-push_cases, filter_map-append}
 use Rattle.store_trace.proofs.Marking.{open_true, open_unended}
 use Rattle.store_trace.proofs.Members.{contains_cases, contains_first, contains_later, from_filter, in_filter, no_members}
-use Rattle.store_trace.specs.Marks.{begun, begun_by, ended, ended_by, is_open}
-use Rattle.image_check.specs.OrderFaults.{IsBegunTwice, IsNotPending}
-use Rattle.routine_judge.proofs.Faulting.{begin_faultless, end_faultless}
+use Rattle.store_trace.specs.Marks.{begun, begun_by, ended_by, is_open}
+use Rattle.routine_judge.proofs.Faulting.{begin_faultless, end_faultless, ended_begun, no_fault, other_faultless}
 use Rattle.routine_judge.proofs.Fitted.{begun_numbers, in_numbers}
 use Rattle.routine_judge.proofs.Preceding.{from_map, in_map}
-use Rattle.routine_judge.proofs.Splitting.{beginner, begun_in, ended_began, from_more, in_last, in_more, none_more, same_or_not}
+use Rattle.routine_judge.proofs.Splitting.{beginner, begun_in, from_more, in_last, in_more, same_or_not}
 use Rattle.routine_judge.specs.Fitting.{IsStateOf, IsWordOf, beginning, beginnings, has, operation_of}
-use Rattle.routine_judge.specs.MarkFaults.{AreSound, HasFault, IsOverlap, SomePending}
+use Rattle.routine_judge.specs.MarkFaults.{HasFault, SomePending}
 use Rattle.routine_judge.specs.Operations.{IsPendingBy}
 use Rattle.routine_judge.specs.Order.{AreAtRest}
 use Rattle.routine_judge.specs.declared.history.fault.MarkFault.{MarkFault}
-use Rattle.routine_judge.specs.declared.history.fault.MarkFault.TheVariants.{BegunTwice, NotPending, Overlaps, NoOperation, Memory}
+use Rattle.routine_judge.specs.declared.history.fault.MarkFault.TheVariants.{BegunTwice, NotPending, Overlaps}
 use Rattle.routine_judge.specs.declared.order.operation.Operation.{Operation}
 use Rattle.routine_judge.specs.declared.order.sequential.SequentialState.{SequentialState}
 use Rattle.routine_judge.specs.declared.order.word.Word.{Word}
 use Rattle.store_trace.specs.declared.event.Event.{Event}
+use Rattle.routine_judge.specs.declared.history.overlap.Overlap.TheVariants.{Never}
 use Rattle.store_trace.specs.declared.event.Event.TheVariants.{Store, Clean, Fence, Begin, End}
 
 no_number : (op : ℕ) → None ≡ Some op → ⊥
@@ -72,43 +72,6 @@ at_rest events state is = (
   λ rest. none_if_not state.pending (λ hart op e. rest hart op ((is.pends hart op).1 e)),
 )
 
--- faults
-not_twice : (before : List Event) (event : Event) → begun_by event ≡ None → ¬ IsBegunTwice before event
-not_twice before (Store hart line offset width value) b f = f
-not_twice before (Clean hart line) b f = f
-not_twice before (Fence hart) b f = f
-not_twice before (Begin hart op) b f = absurd cc
-not_twice before (End hart op) b f = f
-
-not_unended : (before : List Event) (event : Event) → ended_by event ≡ None → ¬ IsNotPending before event
-not_unended before (Store hart line offset width value) b f = f
-not_unended before (Clean hart line) b f = f
-not_unended before (Fence hart) b f = f
-not_unended before (Begin hart op) b f = f
-not_unended before (End hart op) b f = absurd cc
-
-not_overlapping : (before : List Event) (event : Event) → begun_by event ≡ None → ¬ IsOverlap false before event
-not_overlapping before (Store hart line offset width value) b f = f
-not_overlapping before (Clean hart line) b f = f
-not_overlapping before (Fence hart) b f = f
-not_overlapping before (Begin hart op) b f = absurd cc
-not_overlapping before (End hart op) b f = f
-
-pub other_faultless : (before : List Event) (event : Event) → begun_by event ≡ None → ended_by event ≡ None → (fault : MarkFault) → ¬ HasFault false before event fault
-other_faultless before event b e BegunTwice f = not_twice before event b f
-other_faultless before event b e NotPending f = not_unended before event e f
-other_faultless before event b e Overlaps f = not_overlapping before event b f
-other_faultless before event b e NoOperation f = f
-other_faultless before event b e Memory f = f
-
-no_fault : (events : List Event) (event : Event) → AreSound false events (length events) → ((fault : MarkFault) → ¬ HasFault false events event fault) →
-    AreSound false (events ++ event ∷ []) (length (events ++ event ∷ []))
-no_fault events event h last i e fault inside at f =
-    none_more (λ before one. HasFault false before one fault) events event (λ k one within there. h k one fault within there) (last fault) i e inside at f
-
-ended_begun : (events : List Event) (op : ℕ) → AreSound false events (length events) → Contains (ended events) op → Contains (begun events) op
-ended_begun events op sound c = ended_began events op (λ i event inside at. sound i event NotPending inside at) c
-
 -- the word, one event further
 one_more : (events : List Event) (event : Event) → beginnings (events ++ event ∷ []) ≡ beginnings events ++ cons_option (beginning event) []
 one_more events event = filter_map-append beginning events (event ∷ [])
@@ -137,7 +100,7 @@ kept_word events event none =
 pub other_state : (events : List Event) (event : Event) (old new : SequentialState) → begun_by event ≡ None → ended_by event ≡ None →
     new.done.operations.items ≡ old.done.operations.items → new.pending ≡ old.pending → IsStateOf events old → IsStateOf (events ++ event ∷ []) new
 other_state events event old new b e done pending is = record {
-  sound = no_fault events event is.sound (other_faultless events event b e);
+  sound = no_fault Never events event is.sound (other_faultless Never events event b e);
   begins =
       kept_word events event (other_begins event b)
       ∙ is.begins
@@ -161,16 +124,16 @@ other_state events event old new b e done pending is = record {
 }
 
 -- a Begin
-pub begin_state : (events : List Event) (hart op : ℕ) (old new : SequentialState) → ((fault : MarkFault) → ¬ HasFault false events (Begin hart op) fault) →
+pub begin_state : (events : List Event) (hart op : ℕ) (old new : SequentialState) → ((fault : MarkFault) → ¬ HasFault Never events (Begin hart op) fault) →
     new.done.operations.items ≡ old.done.operations.items → new.pending ≡ Some (operation_of hart op) → IsStateOf events old →
     IsStateOf (events ++ Begin hart op ∷ []) new
 begin_state events hart op old new none done pending is =
-    let unpended : ¬ SomePending events = λ s. none Overlaps (refl, s) in
+    let unpended : ¬ SomePending events = λ s. none Overlaps s in
     let before : old.pending ≡ None = none_pending events old is unpended in
     let word : beginnings events ≡ old.done.operations.items =
     is.begins ∙ ap (λ (o : Option Operation). old.done.operations.items ++ option_to_list o) before ∙ append-nil old.done.operations.items in
     record {
-      sound = no_fault events (Begin hart op) is.sound none;
+      sound = no_fault Never events (Begin hart op) is.sound none;
       begins =
           one_more events (Begin hart op)
           ∙ ap (λ (os : List Operation). os ++ operation_of hart op ∷ []) (word ∙ sym done)
@@ -187,7 +150,7 @@ begin_state events hart op old new none done pending is =
             let here : Begin hart op ≡ Begin h q = ap (λ (n : ℕ). Begin n op) same.0 ∙ ap (λ (n : ℕ). Begin h n) same.1 in (
               subst (λ (x : Event). Contains (events ++ Begin hart op ∷ []) x) here (Contains-push events (Begin hart op)),
               λ c. elim (from_more ended_by events (Begin hart op) q c) [
-                | inl d ↦ none BegunTwice (subst (λ (n : ℕ). Contains (begun events) n) (sym same.1) (ended_begun events q is.sound d))
+                | inl d ↦ none BegunTwice (subst (λ (n : ℕ). Contains (begun events) n) (sym same.1) (ended_begun Never events q is.sound d))
                 | inr f ↦ no_number q f
               ],
             ),
@@ -195,14 +158,14 @@ begin_state events hart op old new none done pending is =
     }
 
 -- an End
-pub end_state : (events : List Event) (hart op : ℕ) (old new : SequentialState) → ((fault : MarkFault) → ¬ HasFault false events (End hart op) fault) →
+pub end_state : (events : List Event) (hart op : ℕ) (old new : SequentialState) → ((fault : MarkFault) → ¬ HasFault Never events (End hart op) fault) →
     new.done.operations.items ≡ old.done.operations.items ++ operation_of hart op ∷ [] → new.pending ≡ None → IsStateOf events old →
     IsStateOf (events ++ End hart op ∷ []) new
 end_state events hart op old new none done pending is =
     let before : old.pending ≡ Some (operation_of hart op) =
     this_if_not_other old.pending hart op (λ other. none NotPending (λ p. other ((is.pends hart op).0 p))) in
     record {
-      sound = no_fault events (End hart op) is.sound none;
+      sound = no_fault Never events (End hart op) is.sound none;
       begins =
           kept_word events (End hart op) refl
           ∙ is.begins
@@ -224,23 +187,23 @@ end_state events hart op old new none done pending is =
 
 -- whether the next mark has a fault
 pub begin_taken : (events : List Event) (hart op : ℕ) (state : SequentialState) → IsStateOf events state → state.pending ≡ None →
-    ¬ Contains (map (λ o. o.op) state.done.operations.items) op → (fault : MarkFault) → ¬ HasFault false events (Begin hart op) fault
+    ¬ Contains (map (λ o. o.op) state.done.operations.items) op → (fault : MarkFault) → ¬ HasFault Never events (Begin hart op) fault
 begin_taken events hart op state is none lacks =
-    begin_faultless false events hart op
+    begin_faultless Never events hart op
     (λ c.
     let all : beginnings events ≡ state.done.operations.items =
     is.begins ∙ ap (λ (o : Option Operation). state.done.operations.items ++ option_to_list o) none ∙ append-nil state.done.operations.items in
     lacks (subst (λ (os : List Operation). Contains (map (λ (o : Operation). o.op) os) op) all (in_numbers events op c)))
-    (λ both.
-    let p = some_pending events both.1 in
+    (λ some.
+    let p = some_pending events some in
     no_operation p.0 p.1 (sym none ∙ (is.pends p.0 p.1).0 p.2))
 
 pub begin_overlapping : (events : List Event) (hart op : ℕ) (state : SequentialState) (o : Operation) → IsStateOf events state → state.pending ≡ Some o →
-    (fault : MarkFault) × HasFault false events (Begin hart op) fault
-begin_overlapping events hart op state o is some = (Overlaps, (refl, pending_some events o.hart o.op ((is.pends o.hart o.op).1 some)))
+    (fault : MarkFault) × HasFault Never events (Begin hart op) fault
+begin_overlapping events hart op state o is some = (Overlaps, pending_some events o.hart o.op ((is.pends o.hart o.op).1 some))
 
 pub begin_again : (events : List Event) (hart op : ℕ) (state : SequentialState) → IsStateOf events state →
-    Contains (map (λ o. o.op) state.done.operations.items) op → (fault : MarkFault) × HasFault false events (Begin hart op) fault
+    Contains (map (λ o. o.op) state.done.operations.items) op → (fault : MarkFault) × HasFault Never events (Begin hart op) fault
 begin_again events hart op state is c =
     let o = from_map (λ (p : Operation). p.op) state.done.operations.items op c in
     let among : Contains (beginnings events) o.0 =
@@ -252,11 +215,11 @@ begin_again events hart op state is c =
     )
 
 pub end_taken : (events : List Event) (hart op : ℕ) (state : SequentialState) → IsStateOf events state → state.pending ≡ Some (operation_of hart op) →
-    (fault : MarkFault) → ¬ HasFault false events (End hart op) fault
-end_taken events hart op state is some = end_faultless false events hart op ((is.pends hart op).1 some)
+    (fault : MarkFault) → ¬ HasFault Never events (End hart op) fault
+end_taken events hart op state is some = end_faultless Never events hart op ((is.pends hart op).1 some)
 
 pub end_refused : (events : List Event) (hart op : ℕ) (state : SequentialState) → IsStateOf events state → ¬ (state.pending ≡ Some (operation_of hart op)) →
-    (fault : MarkFault) × HasFault false events (End hart op) fault
+    (fault : MarkFault) × HasFault Never events (End hart op) fault
 end_refused events hart op state is other = (NotPending, λ p. other ((is.pends hart op).0 p))
 
 -- the word of a run at rest

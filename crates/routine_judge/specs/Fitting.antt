@@ -1,7 +1,7 @@
 -- Sequential runs, and which of them fit what a run has begun and ended.
 -- Source: durable linearizability (Izraelevitz, Mendes, Scott, DISC 2016): after a crash the state is that of a sequential run of all
 -- operations that had ended and some that were pending, in an order that keeps that of operations which don't overlap.
-use Rattle.std.specs.Prelude.{◌≡◌, ◌↔◌, ℕ, ◌==◌, false, Bool, List, ◌∷◌, ◌++◌, length, map, Option, Some, None, option_to_list, slice_get, take, IsTrue}
+use Rattle.std.specs.Prelude.{◌≡◌, ◌↔◌, ℕ, ◌==◌, Bool, List, ◌∷◌, ◌++◌, length, map, Option, Some, None, option_to_list, slice_get, take, IsTrue}
 use Rattle.std.specs.List.{Contains, filter_map, list_any}
 use Rattle.machine.specs.Replies.{trace_in}
 use Rattle.machine.specs.Run.{Config, RunsTo}
@@ -11,6 +11,7 @@ use Rattle.store_trace.specs.Marks.{begun, ended}
 use Rattle.routine_judge.specs.MarkFaults.{AreSound}
 use Rattle.routine_judge.specs.Operations.{IsPendingBy}
 use Rattle.routine_judge.specs.Order.{Begun, EndsBefore}
+use Rattle.routine_judge.specs.declared.history.overlap.Overlap.TheVariants.{Never}
 use Rattle.routine_judge.specs.declared.order.operation.Operation.{Operation}
 use Rattle.routine_judge.specs.declared.order.sequential.SequentialState.{SequentialState}
 use Rattle.routine_judge.specs.declared.order.word.Word.{Word}
@@ -47,12 +48,12 @@ beginnings events = filter_map beginning events
 -- the word of sequential events: the operations that they begin, in order. Their marks are sound, so each has ended before the next
 -- begins, and none begins twice.
 pub record IsWordOf (events : List Event) (word : Word) : Type 0 where
-  pub sound : AreSound false events (length events)
+  pub sound : AreSound Never events (length events)
   pub begins : beginnings events ≡ word.operations.items
 
 -- what sequential events have done: these operations have ended, and this one is pending, if one is
 pub record IsStateOf (events : List Event) (state : SequentialState) : Type 0 where
-  pub sound : AreSound false events (length events)
+  pub sound : AreSound Never events (length events)
   pub begins : beginnings events ≡ state.done.operations.items ++ option_to_list state.pending
   pub pends : (hart op : ℕ) → IsPendingBy events hart op ↔ (state.pending ≡ Some (operation_of hart op))
 

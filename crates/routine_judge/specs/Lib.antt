@@ -16,3 +16,5 @@ pub mod Order
 pub mod Fitting
 pub mod SequentialRuns
 pub mod CutsInRecovery
+pub mod Rules
+pub mod Sources

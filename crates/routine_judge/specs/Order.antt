@@ -1,17 +1,16 @@
 -- Which operations of a run have begun, which have ended, and which of them had ended before which began.
 -- Source: linearizability (Herlihy and Wing, TOPLAS 1990): an operation that ends before another begins stands before it.
-use Rattle.std.specs.Prelude.{◌≡◌, ◌↔◌, ℕ, ◌<◌, ◌==◌, ◌&&◌, ◌||◌, Bool, false, not, filter, List, ◌∷◌, ◌++◌, length, map, Some, slice_get, take, IsTrue}
+use Rattle.std.specs.Prelude.{◌≡◌, ◌↔◌, ℕ, ◌<◌, ◌==◌, ◌&&◌, ◌||◌, Bool, false, not, filter, List, ◌∷◌, ◌++◌, length, map, IsTrue}
 use Rattle.std.specs.List.{AllPairs, Contains, list_any}
 use Rattle.store_trace.specs.Marks.{ended}
-use Rattle.image_check.specs.OrderFaults.{IsBegunTwice, IsNotPending}
-use Rattle.routine_judge.specs.MarkFaults.{code_of}
+use Rattle.routine_judge.specs.MarkFaults.{AreSound, HasFault, IsLowestFault}
 use Rattle.routine_judge.specs.Operations.{IsPendingBy}
 use Rattle.routine_judge.specs.declared.history.fault.MarkFault.{MarkFault}
-use Rattle.routine_judge.specs.declared.history.fault.MarkFault.TheVariants.{BegunTwice, NotPending, Overlaps, NoOperation, Memory}
+use Rattle.routine_judge.specs.declared.history.overlap.Overlap.TheVariants.{BetweenHarts}
 use Rattle.routine_judge.specs.declared.order.entry.Entry.{Entry}
 use Rattle.routine_judge.specs.declared.order.precedence.Precedence.{Precedence}
 use Rattle.store_trace.specs.declared.event.Event.{Event}
-use Rattle.store_trace.specs.declared.event.Event.TheVariants.{Store, Clean, Fence, Begin, End}
+use Rattle.store_trace.specs.declared.event.Event.TheVariants.{Begin}
 
 -- no operation is pending
 abbrev pub AreAtRest : List Event → Type 0
@@ -25,31 +24,17 @@ pub record EndsBefore (events : List Event) (x y : ℕ) : Type 0 where
   pub is : events ≡ before ++ Begin hart y ∷ after
   pub ended_then : Contains (ended before) x
 
--- O5 where operations of several harts may overlap: a Begin while an operation of the same hart is pending
-abbrev pub IsHartOverlap : List Event → Event → Type 0
-IsHartOverlap before (Store hart line offset width value) = ⊥
-IsHartOverlap before (Clean hart line) = ⊥
-IsHartOverlap before (Fence hart) = ⊥
-IsHartOverlap before (Begin hart op) = (other : ℕ) × IsPendingBy before hart other
-IsHartOverlap before (End hart op) = ⊥
-
 -- the event after these has the fault, where operations of several harts may overlap
 abbrev pub HasHartFault : List Event → Event → MarkFault → Type 0
-HasHartFault before event BegunTwice = IsBegunTwice before event
-HasHartFault before event NotPending = IsNotPending before event
-HasHartFault before event Overlaps = IsHartOverlap before event
-HasHartFault before event NoOperation = ⊥
-HasHartFault before event Memory = ⊥
+HasHartFault before event fault = HasFault BetweenHarts before event fault
 
--- the event after these has the fault, and none of a lower code
-pub record IsLowestHartFault (before : List Event) (event : Event) (fault : MarkFault) : Type 0 where
-  pub has : HasHartFault before event fault
-  pub lowest : (lower : MarkFault) → code_of lower < code_of fault → ¬ HasHartFault before event lower
+-- and none of a lower code
+abbrev pub IsLowestHartFault : List Event → Event → MarkFault → Type 0
+IsLowestHartFault before event fault = IsLowestFault BetweenHarts before event fault
 
 -- the first `count` events have no fault
 abbrev pub AreSoundByHart : List Event → ℕ → Type 0
-AreSoundByHart events count =
-    (i : ℕ) (event : Event) (fault : MarkFault) → i < count → slice_get events i ≡ Some event → ¬ HasHartFault (take i events) event fault
+AreSoundByHart events count = AreSound BetweenHarts events count
 
 -- of an operation that has begun: the hart that began it, whether it has ended, and those that had ended before it began
 pub record Begun : Type 0 where

@@ -1,10 +1,12 @@
 -- Which answers of the routine are right at a moment, and what is found of an image.
 -- This project's own: a routine shows the structure as before or after the operation under way, as a reader that met no power cut
 -- would have seen it.
-use Rattle.std.specs.Prelude.{◌≡◌, ℕ, ◌≤◌, ◌==◌, ◌&&◌, ◌||◌, nat_le, Bool, true, List, Option, Some, None, Result, Ok, Err}
+use Rattle.std.specs.Prelude.{◌≡◌, ℕ, ◌≤◌, ◌==◌, ◌&&◌, ◌||◌, nat_le, Bool, true, List, Option, Some, None, Result, Ok, Err, take}
 use Rattle.routine_judge.specs.Images.{full_cut}
 use Rattle.routine_judge.specs.SequentialRuns.{FittingShows, NoneFits}
-use Rattle.routine_judge.specs.Views.{JudgeView, ProgramView}
+use Rattle.routine_judge.specs.Views.{JudgeView, ProgramView, RightBy, own_moments, sequential_runs}
+use Rattle.routine_judge.specs.Windows.{IsWindow}
+use Rattle.program.specs.Sections.{Sections}
 use Rattle.routine_judge.specs.declared.cause.Cause.{Cause}
 use Rattle.routine_judge.specs.declared.cause.Cause.TheVariants.{Missing, Different, Full, Unmatched}
 use Rattle.routine_judge.specs.declared.history.moments.Window.{Window}
@@ -48,6 +50,19 @@ pub data Source : Type 0 where
 -- the moments of the window that moment m has
 abbrev pub of_window : Window → ℕ → Source
 of_window window m = of_moments (is_among window m)
+
+-- a program over the run's medium, recovered by the routine
+abbrev pub program_of : JudgeView → Sections → ℕ → ProgramView
+program_of view program harts = record { program = program; medium = view.start; harts = harts; routine = view.routine; steps = view.steps }
+
+-- the right answers of moment m come from there, where those full images give them
+abbrev pub IsSourceBy : RightBy → JudgeView → ℕ → Source → Type 0
+IsSourceBy own_moments view m source = (window : Window) × IsWindow view.events m window × (source ≡ of_window window m)
+IsSourceBy (sequential_runs program harts) view m source = source ≡ of_sequential (program_of view program harts) (take m view.events)
+
+-- so of the run
+abbrev pub IsSource : JudgeView → ℕ → Source → Type 0
+IsSource view m source = IsSourceBy view.right view m source
 
 -- on one of these full images the routine comes to this
 abbrev pub SourceShows : JudgeView → Source → Result (List ℕ) run.Cause → Type 0

@@ -1,20 +1,20 @@
 -- The sequential runs of a program, and which answers they make right.
 -- Source: durable linearizability (Izraelevitz, Mendes, Scott, DISC 2016), with the program itself as the specification: after a power cut
 -- recovery shows what it would show after a run in which each operation is made alone.
-use Rattle.std.specs.Prelude.{◌≡◌, ℕ, false, List, length, Result, Ok}
+use Rattle.std.specs.Prelude.{◌≡◌, ℕ, List, length, Result, Ok}
 use Rattle.std.specs.List.{Contains}
 use Rattle.machine.specs.Replies.{trace_in}
 use Rattle.machine.specs.Run.{Config, RunsTo, started}
 use Rattle.machine.specs.declared.schedule.items.Step.{Step}
 use Rattle.recovery.specs.Images.{AnswersOn}
 use Rattle.recovery.specs.declared.recovery_run.Cause as run
-use Rattle.recovery.specs.declared.recovery_run.Cause.TheVariants.{Running}
 use Rattle.store_trace.specs.declared.event.Event.{Event}
 use Rattle.routine_judge.specs.Fitting.{Fits, IsSequential, IsWordOf}
 use Rattle.routine_judge.specs.Images.{full_image}
 use Rattle.routine_judge.specs.MarkFaults.{AreSound}
 use Rattle.routine_judge.specs.Order.{AreAtRest}
 use Rattle.routine_judge.specs.Views.{ProgramView}
+use Rattle.routine_judge.specs.declared.history.overlap.Overlap.TheVariants.{Never}
 use Rattle.routine_judge.specs.declared.order.sequential_runs.SequentialRun.{SequentialRun}
 use Rattle.routine_judge.specs.declared.order.sequential_runs.SequentialRuns.{SequentialRuns}
 
@@ -23,7 +23,7 @@ pub record IsSequentialRun (start end : Config) : Type 0 where
   pub steps : List Step
   pub runs : RunsTo start steps end
   pub sequential : IsSequential start steps
-  pub sound : AreSound false (trace_in end.common) (length (trace_in end.common))
+  pub sound : AreSound Never (trace_in end.common) (length (trace_in end.common))
   pub rests : AreAtRest (trace_in end.common)
 
 -- so of a program

@@ -3,12 +3,20 @@ use Rattle.std.specs.Prelude.{ℕ, List}
 use Rattle.program.specs.Sections.{Sections}
 use Rattle.store_trace.specs.declared.event.Event.{Event}
 
--- the routine and the most steps that it makes on an image; the lines of the medium from which the run started, and its events
+-- whose full images give the right answers of a moment: some of the run's own moments, or the sequential runs of a program on so many harts
+-- that fit the moment's events
+pub data RightBy : Type 0 where
+  own_moments : RightBy
+  sequential_runs : Sections → ℕ → RightBy
+
+-- the routine and the most steps that it makes on an image; the lines of the medium from which the run started, and its events; and whose
+-- full images give the right answers
 pub record JudgeView : Type 0 where
   pub routine : Sections
   pub steps : ℕ
   pub start : List (List ℕ)
   pub events : List Event
+  pub right : RightBy
 
 -- a program on so many harts, over a medium, and the routine that recovers it, with the most steps that it makes on an image
 pub record ProgramView : Type 0 where

@@ -6,6 +6,7 @@ mod fault;
 mod laws;
 mod moments;
 mod operations;
+mod overlap;
 
 pub use check::check_marks;
 pub use fault::MarkFault;
@@ -15,3 +16,4 @@ pub use laws::{
 };
 pub(crate) use moments::begins;
 pub use moments::{Window, Windows, is_judged};
+pub use overlap::Overlap;

@@ -1,17 +1,15 @@
 //! Judging the moments of a run one by one.
 
-ghost use Rattle.routine_judge.specs.Gathered.{AreKept};
-ghost use Rattle.routine_judge.specs.Standing.{IsPassed};
+ghost use Rattle.routine_judge.specs.Standing.{AreKeptFor, IsPassed};
 ghost use Rattle.routine_judge.specs.Verdicts.{IsJudged};
 ghost use Rattle.verdict.specs.Verdicts.{IfPassed};
 ghost use Rattle.std.specs.Prelude.{◌≡◌, ◌≤◌, length, IfOk};
 
 use crate::Cause;
 use crate::answer_images::AnswerImages;
-use crate::history::windows_lie_in_the_run;
+use crate::answers::MomentAnswers;
 use crate::passing::still_passes;
 use crate::run::MarkedRun;
-use crate::window::WindowAnswers;
 use crash_image::images_between;
 use recovery::Routine;
 use std::alloc::{AllocError, Global};
@@ -19,13 +17,13 @@ use std::thread::Threads;
 use verdict::{MomentCuts, MomentVerdict, Moments, Opener, open_moment};
 
 /// What a worker keeps from one moment to the next: the routine runs once for each branch of a moment, and once on each full image that
-/// gives a right answer. While the same operation is pending the right answers are made once, and a moment right after one that passes is
-/// opened only where the event between them changes what the routine loads.
+/// gives a right answer of its own. While the same operation is pending the right answers are made once, and a moment right after one that
+/// passes is opened only where the event between them changes what the routine loads.
 #[derive(Drop)]
 pub struct MomentJudge {
     pub(crate) opener: Opener,
     pub(crate) routine: Routine,
-    pub(crate) answers: WindowAnswers,
+    pub(crate) answers: MomentAnswers,
     /// The moment that was judged last, if it passes: the opener then has the lines that the routine loads there.
     pub(crate) passed: Option<u32>,
 }
@@ -48,7 +46,7 @@ impl Moments for MarkedRun<'_> {
         Ok(MomentJudge {
             opener: Opener::new(alloc, self.lines)?,
             routine: self.routine(alloc)?,
-            answers: WindowAnswers::none(alloc),
+            answers: MomentAnswers::none(alloc),
             passed: None,
         })
     }
@@ -97,25 +95,23 @@ fn open_at<T: Threads + Sync>(
     run: &MarkedRun<'_>,
     moment: u32,
     routine: &mut Routine,
-    answers: &mut WindowAnswers,
+    answers: &mut MomentAnswers,
     opener: &mut Opener,
 ) -> Result<MomentVerdict<Cause>, AllocError>
     requires there { moment ≤ length run.now.events }
     requires size { length opener.old ≡ length run.now.start }
     requires program { routine.old.program ≡ run.now.routine }
     requires lines { routine.old.lines ≡ length run.now.start }
-    requires kept { AreKept run.now answers.old.window answers.old.right }
+    requires kept { AreKeptFor run.now answers.old }
     ensures ok { IfOk result (IsJudged run.now moment) }
     ensures passed { IfOk result (λ verdict. IfPassed verdict (IsPassed run.now opener.new answers.new.window moment)) }
     ensures size { length opener.new ≡ length opener.old }
     ensures program { routine.new.program ≡ run.now.routine }
     ensures lines { routine.new.lines ≡ length run.now.start }
-    ensures kept { AreKept run.now answers.new.window answers.new.right }
+    ensures kept { AreKeptFor run.now answers.new }
 {
-    windows_lie_in_the_run();
     let (medium, trace) = (run.medium, run.trace);
-    let window = run.window(moment);
-    answers.renew(alloc, run, routine, window, moment)?;
+    answers.renew(alloc, run, routine, moment)?;
     if answers.right.runs_on {
         return Ok(MomentVerdict::TooLong);
     }

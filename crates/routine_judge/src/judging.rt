@@ -2,12 +2,14 @@
 
 ghost use Rattle.crash_image.specs.View.{HasLines};
 ghost use Rattle.store_trace.specs.Marks.{begun};
+ghost use Rattle.routine_judge.specs.Rules.{AreNotedFor, overlap_of, right_by};
 ghost use Rattle.routine_judge.specs.Verdicts.{IsRefusal, judged_from};
 ghost use Rattle.routine_judge.specs.MarkFaults.{AreSound};
 ghost use Rattle.verdict.specs.Rows.{end_of};
 ghost use Rattle.std.specs.Prelude.{◌≡◌, ◌≢◌, ◌≤◌, [], length, IfErr, IfOk, IfSome};
 
 use crate::JudgeFault;
+use crate::rule::Rule;
 use crate::run::MarkedRun;
 use line_memory::Medium;
 use program::Program;
@@ -22,8 +24,8 @@ pub struct Judgement<'a> {
     pub recovery: &'a Program,
     /// How many steps it makes at most on an image.
     pub steps: u32,
-    /// Whether operations may overlap.
-    pub overlapping: bool,
+    /// Which answers are right.
+    pub rule: Rule<'a>,
 }
 
 /// Those of the moments of the trace from `first` to `last`, or to the last one of the run where none is given, that are judged: from the
@@ -44,25 +46,22 @@ pub fn judged_part<'a>(
 ) -> Result<Part<MarkedRun<'a>>, JudgeFault>
     requires lines { HasLines medium.now trace.now.events }
     requires order { IfSome last (λ moment. first ≤ moment) }
+    requires runs { AreNotedFor medium.now judgement.recovery.now judgement.steps judgement.rule }
     ensures run { IfOk result (λ part. part.run ≡ record {
       routine = judgement.entry.recovery.now;
       steps = judgement.entry.steps;
       start = medium.now;
       events = trace.now.events;
+      right = right_by judgement.entry.rule;
     }) }
     ensures first { IfOk result (λ part. part.first ≡ judged_from trace.now.events first part.end) }
     ensures end { IfOk result (λ part. part.end ≡ end_of trace.now.events last) }
-    ensures sound { IfOk result (λ part. AreSound judgement.entry.overlapping trace.now.events (length trace.now.events)) }
+    ensures sound { IfOk result (λ part. AreSound (overlap_of judgement.entry.rule) trace.now.events (length trace.now.events)) }
     ensures begins { IfOk result (λ part. begun trace.now.events ≢ []) }
-    ensures err { IfErr result (IsRefusal judgement.entry.overlapping trace.now.events first) }
+    ensures err { IfErr result (IsRefusal (overlap_of judgement.entry.rule) trace.now.events first) }
 {
     let is_past = first as usize > trace.events().len();
-    let Judgement {
-        recovery,
-        steps,
-        overlapping,
-    } = judgement;
-    let run = MarkedRun::new(alloc, medium, trace, recovery, steps, overlapping)?;
+    let run = MarkedRun::new(alloc, medium, trace, judgement)?;
     if is_past {
         return Err(JudgeFault::NoSuchMoment);
     }

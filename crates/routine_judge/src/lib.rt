@@ -6,6 +6,7 @@
 #![tactic(auto)]
 
 mod answer_images;
+mod answers;
 mod bytes;
 mod cause;
 mod cuts;
@@ -19,8 +20,9 @@ mod judging;
 mod order;
 mod passing;
 mod right;
+mod rule;
 mod run;
-mod window;
+mod sources;
 
 pub use answer_images::AnswerImages;
 pub use cause::Cause;
@@ -28,7 +30,7 @@ pub use cuts::closed_boxes_stay_recovered;
 pub use fault::JudgeFault;
 pub use held::HeldAnswer;
 pub use history::{
-    MarkFault, Window, Windows, alone_is_the_only_one, check_marks, is_judged, one_window,
+    MarkFault, Overlap, Window, Windows, alone_is_the_only_one, check_marks, is_judged, one_window,
     operations_apart_have_few, pending_operations_began, windows_lie_in_the_run,
     windows_stay_between_marks,
 };
@@ -40,5 +42,6 @@ pub use order::{
     sequential_states_stand,
 };
 pub use right::RightAnswers;
+pub use rule::{ProgramRuns, Rule};
 pub use run::MarkedRun;
 pub use verdict::{ImageName, ImagesVerdict, MomentVerdict, Verdict};

@@ -10,6 +10,7 @@ mod operation;
 mod precedence;
 mod sequential;
 mod sequential_runs;
+mod so_far;
 mod word;
 
 pub use laws::{precedences_stand, sequential_states_stand};
@@ -17,4 +18,5 @@ pub use operation::Operation;
 pub use precedence::Precedence;
 pub use sequential::SequentialState;
 pub use sequential_runs::{SequentialRun, SequentialRuns};
+pub(crate) use so_far::OrderSoFar;
 pub use word::Word;

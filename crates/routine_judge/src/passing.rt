@@ -1,19 +1,20 @@
 //! When a moment passes because the one before it does.
 
 ghost use Rattle.store_trace.specs.Marks.{begun_by, ended_by};
-ghost use Rattle.routine_judge.specs.Standing.{IsPassed};
+ghost use Rattle.routine_judge.specs.Standing.{IsPassed, StaysBy};
 ghost use Rattle.verdict.specs.Keeping.{IsUnseen};
 ghost use Rattle.store_trace.specs.declared.event.Event.{Event as AnEvent};
 ghost use Rattle.std.specs.Prelude.{◌≡◌, ◌<◌, ◌≤◌, None, length, slice_index_or, IfSome, IsTrue};
 
+use crate::answers::is_fixed;
 use crate::history::{Window, windows_stay_between_marks};
 use crate::run::MarkedRun;
-use crate::window::is_fixed;
+use crate::sources::Sources;
 use store_trace::{Event, Trace};
 use verdict::{Opener, is_unseen};
 
 /// Whether a moment passes because the one before it does, if that is the one which is known to pass: the event between them is no mark, and
-/// changes nothing that the routine loads. The window is that of the moment known to pass, and doesn't move with its moment.
+/// changes nothing that the routine loads. The window is that of the moment known to pass; where it counts, it doesn't move with its moment.
 pub fn still_passes(
     run: &MarkedRun<'_>,
     passed: Option<u32>,
@@ -28,9 +29,19 @@ pub fn still_passes(
     windows_stay_between_marks();
     match passed {
         Some(last) if moment > 0 && last == moment - 1 => {
-            is_fixed(window) && is_quiet_at(run.trace, last, opener)
+            stays(run, window) && is_quiet_at(run.trace, last, opener)
         }
         _ => false,
+    }
+}
+
+/// Whether a moment has the right answers of the one before it, whose window this is, where the event between them is no mark.
+fn stays(run: &MarkedRun<'_>, window: Window) -> bool
+    ensures { IsTrue result → StaysBy run.now.right window }
+{
+    match run.sources {
+        Sources::Moments(_) => is_fixed(window),
+        Sources::Sequential(_) => true,
     }
 }
 

@@ -4,12 +4,17 @@ ghost use Rattle.crash_image.specs.View.{HasLines};
 ghost use Rattle.store_trace.specs.Marks.{begun};
 ghost use Rattle.routine_judge.specs.Verdicts.{IsRefusal, first_judged, judged_from};
 ghost use Rattle.routine_judge.specs.MarkFaults.{AreSound};
-ghost use Rattle.routine_judge.specs.Windows.{IsWindow};
-ghost use Rattle.std.specs.Prelude.{◌≡◌, ◌≢◌, ◌+◌, ◌<◌, ◌≤◌, ℕ, [], length, IfErr, IfOk};
+ghost use Rattle.routine_judge.specs.Rules.{AreNotedFor, overlap_of, right_by};
+ghost use Rattle.routine_judge.specs.Sources.{AreSources, right_from};
+ghost use Rattle.program.specs.Sections.{Sections};
+ghost use Rattle.std.specs.Prelude.{◌≡◌, ◌≢◌, ◌+◌, ◌<◌, ◌≤◌, ℕ, List, [], length, IfErr, IfOk};
 
 use crate::JudgeFault;
 use crate::answer_images::copied_routine;
-use crate::history::{MarkFault, Window, Windows, begins, check_marks};
+use crate::history::{MarkFault, Windows, begins, check_marks};
+use crate::judging::Judgement;
+use crate::rule::Rule;
+use crate::sources::Sources;
 use crash_image::TraceIndex;
 use line_memory::Medium;
 use program::Program;
@@ -29,7 +34,7 @@ pub struct MarkedRun<'a> {
     /// How many steps the routine makes at most on an image.
     pub(crate) steps: u32,
     pub(crate) index: TraceIndex<'a>,
-    windows: Windows,
+    pub(crate) sources: Sources<'a>,
     /// The number of lines of the medium.
     pub(crate) lines: u32,
     /// The number of moments: one more than there are events.
@@ -42,19 +47,19 @@ impl<'a> Model for MarkedRun<'a> {
     ghost use Rattle.crash_image.specs.View.{HasLines};
     ghost use Rattle.routine_judge.specs.Verdicts.{first_judged};
     ghost use Rattle.routine_judge.specs.Views.{JudgeView};
-    ghost use Rattle.routine_judge.specs.Spans.{AreWindows};
+    ghost use Rattle.routine_judge.specs.Sources.{AreSources, right_from};
     ghost use Rattle.line_memory.specs.Lines.{IsMedium};
     ghost use Rattle.store_trace.specs.TraceView.{IsEvent};
     ghost use Rattle.std.specs.Prelude.{◌≡◌, ◌+◌, ◌≤◌, length, All};
 
     ghost Value = { JudgeView };
 
-    ghost view = { λ r. record { routine = r.routine.now; steps = r.steps; start = r.medium.now; events = r.trace.now.events } };
+    ghost view = { λ r. record { routine = r.routine.now; steps = r.steps; start = r.medium.now; events = r.trace.now.events; right = right_from r.sources } };
 
     ghost invariant = { λ r. HasLines r.medium.now r.trace.now.events
         × (r.index.start ≡ r.medium.now)
         × (r.index.events ≡ r.trace.now.events)
-        × AreWindows r.trace.now.events r.windows
+        × AreSources r.medium.now r.routine.now r.steps r.trace.now.events r.sources
         × IsMedium r.medium.now
         × All IsEvent r.trace.now.events
         × (r.lines ≡ length r.medium.now)
@@ -64,8 +69,7 @@ impl<'a> Model for MarkedRun<'a> {
 }
 
 impl<'a> MarkedRun<'a> {
-    /// The run of this trace, which started from the medium, judged by a routine that makes at most so many steps on an image.
-    /// Operations may overlap where `overlapping` says so. The medium has every line that the trace names.
+    /// The run of this trace, which started from the medium, judged as the judgement says. The medium has every line that the trace names.
     ///
     /// # Errors
     /// A wrong mark of an operation, or that there is none. Memory where a growth is refused, behind a Begin that is right.
@@ -74,22 +78,27 @@ impl<'a> MarkedRun<'a> {
         alloc: Global,
         medium: &'a Medium,
         trace: &'a Trace,
-        routine: &'a Program,
-        steps: u32,
-        overlapping: bool,
+        judgement: Judgement<'a>,
     ) -> Result<MarkedRun<'a>, JudgeFault>
-        requires { HasLines medium.now trace.now.events }
-        ensures ok { IfOk result (λ run. run ≡ record { routine = routine.now; steps = steps; start = medium.now; events = trace.now.events }) }
-        ensures sound { IfOk result (λ run. AreSound overlapping trace.now.events (length trace.now.events)) }
+        requires lines { HasLines medium.now trace.now.events }
+        requires runs { AreNotedFor medium.now judgement.recovery.now judgement.steps judgement.rule }
+        ensures ok { IfOk result (λ run. run ≡ record {
+          routine = judgement.entry.recovery.now;
+          steps = judgement.entry.steps;
+          start = medium.now;
+          events = trace.now.events;
+          right = right_by judgement.entry.rule;
+        }) }
+        ensures sound { IfOk result (λ run. AreSound (overlap_of judgement.entry.rule) trace.now.events (length trace.now.events)) }
         ensures begins { IfOk result (λ run. begun trace.now.events ≢ []) }
-        ensures err { IfErr result (IsRefusal overlapping trace.now.events 0) }
+        ensures err { IfErr result (IsRefusal (overlap_of judgement.entry.rule) trace.now.events 0) }
     {
-        match check_marks(alloc, trace, overlapping) {
+        match check_marks(alloc, trace, judgement.rule.overlap()) {
             Ok(()) => {}
             Err(MarkFault::Memory) => return Err(JudgeFault::Memory),
             Err(fault) => return Err(JudgeFault::Marks(fault)),
         }
-        let run = MarkedRun::of(alloc, medium, trace, routine, steps)?;
+        let run = MarkedRun::of(alloc, medium, trace, judgement)?;
         Ok(run)
     }
 
@@ -98,13 +107,20 @@ impl<'a> MarkedRun<'a> {
         alloc: Global,
         medium: &'a Medium,
         trace: &'a Trace,
-        routine: &'a Program,
-        steps: u32,
+        judgement: Judgement<'a>,
     ) -> Result<MarkedRun<'a>, AllocError>
-        requires { HasLines medium.now trace.now.events }
-        ensures { IfOk result (λ run. run ≡ record { routine = routine.now; steps = steps; start = medium.now; events = trace.now.events }) }
+        requires lines { HasLines medium.now trace.now.events }
+        requires runs { AreNotedFor medium.now judgement.recovery.now judgement.steps judgement.rule }
+        requires sound { AreSound (overlap_of judgement.rule) trace.now.events (length trace.now.events) }
+        ensures { IfOk result (λ run. run ≡ record {
+          routine = judgement.entry.recovery.now;
+          steps = judgement.entry.steps;
+          start = medium.now;
+          events = trace.now.events;
+          right = right_by judgement.entry.rule;
+        }) }
     {
-        let windows = Windows::of(alloc, trace)?;
+        let sources = sources_of(alloc, trace, judgement.rule)?;
         let index = TraceIndex::new(alloc, medium, trace)?;
         let lines = index.lines();
         let moments = trace.events().len() as u32 + 1;
@@ -112,10 +128,10 @@ impl<'a> MarkedRun<'a> {
         Ok(MarkedRun {
             medium,
             trace,
-            routine,
-            steps,
+            routine: judgement.recovery,
+            steps: judgement.steps,
             index,
-            windows,
+            sources,
             lines,
             moments,
             begin,
@@ -145,14 +161,17 @@ impl<'a> MarkedRun<'a> {
     {
         copied_routine(alloc, self.routine, self.lines)
     }
+}
 
-    /// Which full images give the right answers of a moment.
-    pub(crate) fn window(&self, moment: u32) -> Window
-        requires { moment ≤ length self.now.events }
-        ensures window { IsWindow self.now.events moment result }
-        ensures few { length self.now.events ≤ 65536 }
-    {
-        self.windows.at(self.trace.events(), moment as usize)
+/// Whose full images give the right answers of the moments of a trace, whose marks are right.
+fn sources_of<'a>(alloc: Global, trace: &Trace, rule: Rule<'a>) -> Result<Sources<'a>, AllocError>
+    ensures right { IfOk result (λ sources. right_from sources ≡ right_by rule.entry) }
+    ensures sources { IfOk result (λ sources. (medium : List (List ℕ)) (routine : Sections) (steps : ℕ) → AreNotedFor medium routine steps rule.entry →
+        AreSound (overlap_of rule.entry) trace.now.events (length trace.now.events) → AreSources medium routine steps trace.now.events sources) }
+{
+    match rule {
+        Rule::InTurn | Rule::Overlapping => Ok(Sources::Moments(Windows::of(alloc, trace)?)),
+        Rule::Atomic(runs) => Ok(Sources::Sequential(runs)),
     }
 }
 

@@ -7,7 +7,6 @@ ghost use Rattle.unfinished.specs.Whole.{IsWhole};
 use crate::marks::begun;
 use crate::operations::unended;
 use hart::{HartState, Status};
-use machine::Run;
 use plan::Operation;
 use std::alloc::{AllocError, Global};
 use store_trace::Event;
@@ -23,20 +22,21 @@ pub enum Unfinished {
     NeverBegan { op: u64 },
 }
 
-/// What keeps a run from being whole: first its harts by their numbers, then the operations, of those that are planned and those that have
-/// begun, by their numbers. There is none exactly where each hart has exited with 0, each planned operation has begun, and each operation
-/// that has begun has ended.
+/// What keeps a run from being whole, by its harts at its end and its events: first the harts by their numbers, then the operations, of those
+/// that are planned and those that have begun, by their numbers. There is none exactly where each hart has exited with 0, each planned operation
+/// has begun, and each operation that has begun has ended. Events that no harts made have operations alone.
 pub fn find_unfinished(
     alloc: Global,
-    run: &Run,
+    harts: &[HartState],
+    events: &[Event],
     planned: &[Operation],
 ) -> Result<Vec<Unfinished>, AllocError>
-    ensures ok { IfOk result (λ causes. AreCauses (numbers_of planned.now) run.now.harts run.now.events causes.items) }
-    ensures whole { IfOk result (λ causes. (causes.items ≡ []) ↔ IsWhole (numbers_of planned.now) run.now.harts run.now.events) }
+    requires few { length harts.now ≤ 8 }
+    ensures ok { IfOk result (λ causes. AreCauses (numbers_of planned.now) harts.now events.now causes.items) }
+    ensures whole { IfOk result (λ causes. (causes.items ≡ []) ↔ IsWhole (numbers_of planned.now) harts.now events.now) }
 {
-    let events = run.trace().events();
     let mut causes = Vec::new(alloc);
-    note_harts(&mut causes, run.harts())?;
+    note_harts(&mut causes, harts)?;
     let numbers = unended(alloc, planned, events)?;
     note_operations(alloc, &mut causes, &numbers, events)?;
     Ok(causes)

@@ -7,6 +7,7 @@ mod executables;
 mod operations;
 mod runs;
 mod sources;
+mod traces;
 mod traps;
 mod volumes;
 mod words;
@@ -27,12 +28,13 @@ pub struct Meaning {
 pub(crate) type Row = (&'static str, &'static str, &'static str);
 
 /// The rows of each family, in the order in which they are listed.
-pub(crate) fn families() -> [&'static [Row]; 7]
+pub(crate) fn families() -> [&'static [Row]; 8]
     ensures { texts_of_families result ≡ table }
 {
     [
         sources::rows(),
         executables::rows(),
+        traces::rows(),
         runs::rows(),
         volumes::rows(),
         operations::rows(),

@@ -1,6 +1,6 @@
 //! The commands of the program in groups, as help lists them.
 
-use crate::grammar::{JUDGING, MAKING, RUNNING, SHOWING, Subcommand, TELLING};
+use crate::grammar::{ASKING_OF_RUNS, JUDGING, MAKING, RUNNING, SHOWING, Subcommand, TELLING};
 use std::alloc::{AllocError, Global};
 use std::fmt::Write;
 
@@ -34,6 +34,7 @@ pub(crate) fn overview(alloc: Global) -> Result<String, AllocError> {
         write!(text, "\n{heading}:\n")?;
         push_commands(&mut text, *group, &JUDGING)?;
         push_commands(&mut text, *group, &RUNNING)?;
+        push_commands(&mut text, *group, &ASKING_OF_RUNS)?;
         push_commands(&mut text, *group, &TELLING)?;
         push_commands(&mut text, *group, &MAKING)?;
         push_commands(&mut text, *group, &SHOWING)?;

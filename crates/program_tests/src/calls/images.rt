@@ -4,7 +4,7 @@ use crate::calls::starts::{
     END, ENTRY, FENCE, FIRST_RUN, ONE_APPEND, STRAYS, TAIL, TWO_IMAGES, is_written_so, run_of,
 };
 use crash_image::ImageFault;
-use crash_test::{count_images, explain_image};
+use crash_test::{count_images, explain_image, image_lines};
 use machine::Schedule;
 use std::alloc::Global;
 use text::ImageName;
@@ -33,7 +33,7 @@ static COUNTS: [(&str, u32, Result<Option<u32>, Lacking>); 2] = [
 /// How many images a moment of the first program has.
 fn counted(alloc: Global, schedule: &str, moment: u32) -> Option<Result<Option<u32>, Lacking>> {
     let run = run_of(alloc, None, &[FIRST_RUN], schedule)?.ok()?;
-    Some(count_images(alloc, &run, moment).map_err(missing))
+    Some(count_images(alloc, run.start(), run.trace(), moment).map_err(missing))
 }
 
 #[test]
@@ -44,6 +44,24 @@ fn images_are_counted(rt: HostRuntime) {
         *moment,
     ) != Some(*wanted));
     assert_eq!(rt; differing, None);
+}
+
+/// The one line of an image of the first program behind its store, with the first byte that it has there.
+fn stored_byte(alloc: Global, image: u32) -> Option<(usize, u32, u8)> {
+    let run = run_of(alloc, None, &[FIRST_RUN], "h0*8")?.ok()?;
+    let name = ImageName::Number(image);
+    let lines = image_lines(alloc, run.start(), run.trace(), 1, &name).ok()?;
+    match lines.as_slice() {
+        [only, ..] => Some((lines.len(), only.line, only.bytes[0])),
+        [] => None,
+    }
+}
+
+#[test]
+fn lines_of_an_image_are_found(rt: HostRuntime) {
+    assert_eq!(rt; stored_byte(rt.alloc(), 0), Some((1, 0, 0)));
+    assert_eq!(rt; stored_byte(rt.alloc(), 1), Some((1, 0, 7)));
+    assert_eq!(rt; stored_byte(rt.alloc(), 2), None);
 }
 
 /// A run, the name of an image of one of its moments, and the schedule that leaves it.

@@ -386,7 +386,8 @@ fn shown_by<T: Threads + Sync>(
 
 /// That the run isn't whole, if it is so for these causes.
 fn unfinished_by(alloc: Global, plan: &Plan, run: &Run, causes: &[Unfinished]) -> Option<Known> {
-    let others = find_unfinished(alloc, run, plan.operations()).ok()?;
+    let events = run.trace().events();
+    let others = find_unfinished(alloc, run.harts(), events, plan.operations()).ok()?;
     if others.as_slice() == causes {
         Some(Known::NotWhole(causes.len()))
     } else {

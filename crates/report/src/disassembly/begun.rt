@@ -1,12 +1,12 @@
-//! The lines of a source, each at the first word that it gives.
+//! The lines of a source and the functions of an executable, each at the first word that it gives.
 
 ghost use Rattle.asm_lex.specs.Lines.{lines_of};
-ghost use Rattle.report.specs.Begun.{begun_at, begun_text, line_named};
-ghost use Rattle.report.specs.Places.{line_in};
-ghost use Rattle.std.specs.Prelude.{◌≡◌, ◌++◌, ◌≤◌, IfOk, IfSome, OnOk, map};
+ghost use Rattle.report.specs.Begun.{begun_at, begun_text, entered_at, entered_text, function_in, goes_on, line_named};
+ghost use Rattle.report.specs.Places.{known_function, known_origin, origin_in};
+ghost use Rattle.std.specs.Prelude.{◌≡◌, ◌++◌, ◌≤◌, IfOk, IfSome, OnOk, map, option_map};
 
-use crate::Places;
 use crate::disassembly::words::WORD_SIZE;
+use crate::{FunctionPlace, Origin, Places};
 use asm_lex::next_line;
 use std::alloc::{AllocError, Global};
 
@@ -27,7 +27,7 @@ pub(crate) fn lines_of(alloc: Global, source: &[u8]) -> Result<Vec<&[u8]>, Alloc
 /// The number of the line whose first word stands at an address of text.
 pub(crate) fn begun_at(places: &Places, address: u64) -> Option<u32>
     requires { 4 ≤ address }
-    ensures begun { result ≡ begun_at (line_in places.now) address }
+    ensures begun { result ≡ begun_at (origin_in places.now) address }
     ensures from_one { IfSome result (λ number. 1 ≤ number) }
 {
     let here = places.line_of(address)?;
@@ -54,6 +54,52 @@ pub(crate) fn tell_begun(
     listing.extend_from_slice(shown.as_bytes())?;
     listing.extend_from_slice(line_named(lines, number))?;
     Ok(())
+}
+
+/// The place in a function of the word at an address of text, where the word before isn't in the same function.
+pub(crate) fn entered_at(places: &Places, address: u64) -> Option<FunctionPlace<'_>>
+    requires { 4 ≤ address }
+    ensures { option_map known_function result ≡ entered_at (origin_in places.now) address }
+{
+    let here = function_in(places.origin_at(address))?;
+    match function_in(places.origin_at(address - WORD_SIZE as u64)) {
+        Some(before) if goes_on(before, here) => None,
+        _ => Some(here),
+    }
+}
+
+/// The place in a function of an executable, if there is one.
+fn function_in(origin: Origin<'_>) -> Option<FunctionPlace<'_>>
+    ensures { option_map known_function result ≡ function_in (known_origin origin.entry) }
+{
+    match origin {
+        Origin::Executable(place) => place,
+        Origin::Unknown | Origin::Line(_) => None,
+    }
+}
+
+/// Whether a word of a function goes on where the word before it stood.
+fn goes_on(before: FunctionPlace<'_>, here: FunctionPlace<'_>) -> bool
+    ensures { result ≡ goes_on (known_function before.entry) (known_function here.entry) }
+{
+    here.offset >= WORD_SIZE as u64
+        && here.offset - WORD_SIZE as u64 == before.offset
+        && before.name == here.name
+}
+
+/// Adds the place in a function that is entered, behind a tab.
+pub(crate) fn tell_entered(
+    alloc: Global,
+    listing: &mut Vec<u8>,
+    entered: Option<FunctionPlace<'_>>,
+) -> Result<(), AllocError>
+    ensures { OnOk result (listing.new.items ≡ listing.old.items ++ entered_text (option_map known_function entered.entry)) }
+{
+    let Some(place) = entered else {
+        return Ok(());
+    };
+    let shown = format!(in alloc; "\t{place}")?;
+    listing.extend_from_slice(shown.as_bytes())
 }
 
 /// The line of a number, from 1.

@@ -4,7 +4,7 @@ ghost use Rattle.report.specs.LossesCauses.{cause_text};
 ghost use Rattle.report.specs.LossesEvents.{event_text};
 ghost use Rattle.report.specs.LossesJson.{cause_members, event_object};
 ghost use Rattle.report.specs.Named.{named_cause_members, named_cause_text};
-ghost use Rattle.report.specs.Places.{line_in};
+ghost use Rattle.report.specs.Places.{origin_in};
 ghost use Rattle.std.specs.Prelude.{◌≡◌};
 
 use crate::Places;
@@ -15,27 +15,27 @@ use std::fmt;
 
 /// Why a store can be lost, by the events that are too late or that nothing follows.
 #[derive(Clone, Copy)]
-pub(crate) enum NamedCause {
+pub(crate) enum NamedCause<'a> {
     NeverCleaned,
     CleanedTooLate {
-        clean: NamedEvent,
+        clean: NamedEvent<'a>,
     },
     NeverFenced {
-        clean: NamedEvent,
+        clean: NamedEvent<'a>,
     },
     FencedTooLate {
-        clean: NamedEvent,
-        fence: NamedEvent,
+        clean: NamedEvent<'a>,
+        fence: NamedEvent<'a>,
     },
     FencedByAnother {
-        clean: NamedEvent,
+        clean: NamedEvent<'a>,
         hart: u32,
-        completed: NamedEvent,
-        fence: NamedEvent,
+        completed: NamedEvent<'a>,
+        fence: NamedEvent<'a>,
     },
 }
 
-impl fmt::Display for NamedCause {
+impl fmt::Display for NamedCause<'_> {
     ghost use Rattle.report.specs.Named.{named_cause_text};
     ghost use Rattle.std.specs.Prelude.{Some};
 
@@ -63,9 +63,13 @@ impl fmt::Display for NamedCause {
 }
 
 /// The cause, with the places of its events.
-pub(crate) fn named_cause(cause: Cause, traced: &[TracedEvent], places: &Places) -> NamedCause
-    ensures text { named_cause_text result ≡ cause_text (event_text (line_in places.now) traced.now) cause }
-    ensures json { named_cause_members result ≡ cause_members (event_object (line_in places.now) traced.now) cause }
+pub(crate) fn named_cause<'a>(
+    cause: Cause,
+    traced: &[TracedEvent],
+    places: &'a Places,
+) -> NamedCause<'a>
+    ensures text { named_cause_text result ≡ cause_text (event_text (origin_in places.now) traced.now) cause }
+    ensures json { named_cause_members result ≡ cause_members (event_object (origin_in places.now) traced.now) cause }
 {
     match cause {
         Cause::NeverCleaned => NamedCause::NeverCleaned,

@@ -3,7 +3,7 @@
 ghost use Rattle.report.specs.LossesJson.{end_object, event_object, kept_object, lost_object, schedule_object, unpersisted_json, unread_object, why_json};
 ghost use Rattle.report.specs.MendsJson.{mend_object};
 ghost use Rattle.report.specs.Named.{due_members};
-ghost use Rattle.report.specs.Places.{line_in};
+ghost use Rattle.report.specs.Places.{origin_in};
 ghost use Rattle.machine.specs.Grammar.{hart_steps};
 ghost use Rattle.std.specs.List.{flat_map};
 ghost use Rattle.std.specs.Prelude.{◌≡◌, ◌++◌, ◌^◌, ◌<◌, IfOk, OnOk, string_bytes};
@@ -36,7 +36,7 @@ pub fn unpersisted_json(
     traced: &[TracedEvent],
     places: &Places,
 ) -> Result<String, AllocError>
-    ensures { IfOk result (λ text. string_bytes text ≡ unpersisted_json (event_object (line_in places.now) traced.now) told.now) }
+    ensures { IfOk result (λ text. string_bytes text ≡ unpersisted_json (event_object (origin_in places.now) traced.now) told.now) }
 {
     let mut text = String::new(alloc);
     tell_ends(&mut text, &told.ends, traced, places)?;
@@ -67,7 +67,7 @@ pub fn why_json(
 ) -> Result<String, AllocError>
     requires { hart_steps schedule.now < 2 ^ 32 }
     ensures { IfOk result (λ text. string_bytes text
-        ≡ why_json (event_object (line_in places.now) traced.now) told.now unread schedule.now) }
+        ≡ why_json (event_object (origin_in places.now) traced.now) told.now unread schedule.now) }
 {
     let mut text = String::new(alloc);
     tell_losses(&mut text, Due::AtTheCut, &told.lost, traced, places)?;
@@ -86,7 +86,7 @@ fn tell_ends(
     places: &Places,
 ) -> Result<(), AllocError>
     ensures { OnOk result (string_bytes text.new
-        ≡ string_bytes text.old ++ flat_map (end_object (event_object (line_in places.now) traced.now)) ends.now) }
+        ≡ string_bytes text.old ++ flat_map (end_object (event_object (origin_in places.now) traced.now)) ends.now) }
 {
     for loss in ends {
         let due = Due::AtEnd {
@@ -107,7 +107,7 @@ fn tell_losses(
     places: &Places,
 ) -> Result<(), AllocError>
     ensures { OnOk result (string_bytes text.new
-        ≡ string_bytes text.old ++ flat_map (lost_object (due_members due) (event_object (line_in places.now) traced.now)) losses.now) }
+        ≡ string_bytes text.old ++ flat_map (lost_object (due_members due) (event_object (origin_in places.now) traced.now)) losses.now) }
 {
     for lost in losses {
         tell_lost(text, due, *lost, traced, places)?;
@@ -123,7 +123,7 @@ fn tell_lost(
     places: &Places,
 ) -> Result<(), AllocError>
     ensures { OnOk result (string_bytes text.new
-        ≡ string_bytes text.old ++ lost_object (due_members due) (event_object (line_in places.now) traced.now) lost) }
+        ≡ string_bytes text.old ++ lost_object (due_members due) (event_object (origin_in places.now) traced.now) lost) }
 {
     let loss = LossMembers {
         loss: named_loss(lost, traced, places),
@@ -139,7 +139,7 @@ fn tell_kept(
     places: &Places,
 ) -> Result<(), AllocError>
     ensures { OnOk result (string_bytes text.new
-        ≡ string_bytes text.old ++ flat_map (kept_object (event_object (line_in places.now) traced.now)) kept.now) }
+        ≡ string_bytes text.old ++ flat_map (kept_object (event_object (origin_in places.now) traced.now)) kept.now) }
 {
     for one in kept {
         let line = one.line;
@@ -162,7 +162,7 @@ fn tell_mends(
     places: &Places,
 ) -> Result<(), AllocError>
     ensures { OnOk result (string_bytes text.new
-        ≡ string_bytes text.old ++ flat_map (mend_object (event_object (line_in places.now) traced.now)) mends.now) }
+        ≡ string_bytes text.old ++ flat_map (mend_object (event_object (origin_in places.now) traced.now)) mends.now) }
 {
     for one in mends {
         let mend = MendMembers {

@@ -4,7 +4,7 @@ ghost use Rattle.report.specs.LossesCauses.{loss_text};
 ghost use Rattle.report.specs.LossesEvents.{event_text};
 ghost use Rattle.report.specs.LossesJson.{event_object, loss_members};
 ghost use Rattle.report.specs.Named.{named_loss_members, named_loss_text};
-ghost use Rattle.report.specs.Places.{line_in};
+ghost use Rattle.report.specs.Places.{origin_in};
 ghost use Rattle.std.specs.Prelude.{◌≡◌};
 
 use crate::Places;
@@ -16,13 +16,13 @@ use std::fmt;
 
 /// A store of a line that can be lost, and why: `lost lL store N hH pc=0xP line=L: CAUSE`.
 #[derive(Clone, Copy)]
-pub(crate) struct NamedLoss {
+pub(crate) struct NamedLoss<'a> {
     pub(crate) line: u32,
-    pub(crate) store: NamedEvent,
-    pub(crate) cause: NamedCause,
+    pub(crate) store: NamedEvent<'a>,
+    pub(crate) cause: NamedCause<'a>,
 }
 
-impl fmt::Display for NamedLoss {
+impl fmt::Display for NamedLoss<'_> {
     ghost use Rattle.report.specs.Named.{named_loss_text};
     ghost use Rattle.std.specs.Prelude.{Some};
 
@@ -35,9 +35,13 @@ impl fmt::Display for NamedLoss {
 }
 
 /// The loss, with the places of its events.
-pub(crate) fn named_loss(lost: Lost, traced: &[TracedEvent], places: &Places) -> NamedLoss
-    ensures text { named_loss_text result ≡ loss_text (event_text (line_in places.now) traced.now) lost }
-    ensures json { named_loss_members result ≡ loss_members (event_object (line_in places.now) traced.now) lost }
+pub(crate) fn named_loss<'a>(
+    lost: Lost,
+    traced: &[TracedEvent],
+    places: &'a Places,
+) -> NamedLoss<'a>
+    ensures text { named_loss_text result ≡ loss_text (event_text (origin_in places.now) traced.now) lost }
+    ensures json { named_loss_members result ≡ loss_members (event_object (origin_in places.now) traced.now) lost }
 {
     NamedLoss {
         line: lost.line,

@@ -5,7 +5,7 @@ ghost use Rattle.report.specs.LossesJson.{event_object};
 ghost use Rattle.report.specs.Mends.{deadline_text, mend_text};
 ghost use Rattle.report.specs.MendsJson.{deadline_members, mend_members};
 ghost use Rattle.report.specs.Named.{named_deadline_members, named_deadline_text, named_mend_members, named_mend_text};
-ghost use Rattle.report.specs.Places.{line_in};
+ghost use Rattle.report.specs.Places.{origin_in};
 ghost use Rattle.std.specs.Prelude.{◌≡◌};
 
 use crate::Places;
@@ -17,13 +17,21 @@ use std::fmt;
 
 /// The event before which a lost store had to be durable, and what that is: `7 h0 pc=0x10030 line=47 (end 1)`.
 #[derive(Clone, Copy)]
-pub(crate) enum NamedDeadline {
-    Kept { event: NamedEvent },
-    End { event: NamedEvent, operation: u64 },
-    Begin { event: NamedEvent, operation: u64 },
+pub(crate) enum NamedDeadline<'a> {
+    Kept {
+        event: NamedEvent<'a>,
+    },
+    End {
+        event: NamedEvent<'a>,
+        operation: u64,
+    },
+    Begin {
+        event: NamedEvent<'a>,
+        operation: u64,
+    },
 }
 
-impl fmt::Display for NamedDeadline {
+impl fmt::Display for NamedDeadline<'_> {
     ghost use Rattle.report.specs.Named.{named_deadline_text};
     ghost use Rattle.std.specs.Prelude.{Some};
 
@@ -40,25 +48,25 @@ impl fmt::Display for NamedDeadline {
 
 /// What would have made a lost store durable in time, with the places of its events.
 #[derive(Clone, Copy)]
-pub(crate) enum NamedMend {
+pub(crate) enum NamedMend<'a> {
     Fence {
-        behind: NamedEvent,
-        deadline: NamedDeadline,
+        behind: NamedEvent<'a>,
+        deadline: NamedDeadline<'a>,
     },
     CleanAndFence {
         line: u32,
-        behind: NamedEvent,
-        deadline: NamedDeadline,
+        behind: NamedEvent<'a>,
+        deadline: NamedDeadline<'a>,
     },
     Later {
-        store: NamedEvent,
+        store: NamedEvent<'a>,
     },
     Earlier {
-        store: NamedEvent,
+        store: NamedEvent<'a>,
     },
 }
 
-impl fmt::Display for NamedMend {
+impl fmt::Display for NamedMend<'_> {
     ghost use Rattle.report.specs.Named.{named_mend_text};
     ghost use Rattle.std.specs.Prelude.{Some};
 
@@ -89,11 +97,11 @@ impl fmt::Display for NamedMend {
 
 /// A deadline as members of an object: `"before":E,"deadline":"end","operation":"1"`, E being the object of an event.
 #[derive(Clone, Copy)]
-struct DeadlineMembers {
-    deadline: NamedDeadline,
+struct DeadlineMembers<'a> {
+    deadline: NamedDeadline<'a>,
 }
 
-impl fmt::Display for DeadlineMembers {
+impl fmt::Display for DeadlineMembers<'_> {
     ghost use Rattle.report.specs.Named.{named_deadline_members};
     ghost use Rattle.std.specs.Prelude.{Some};
 
@@ -122,11 +130,11 @@ impl fmt::Display for DeadlineMembers {
 
 /// A mend as members of an object: `"mend":"fence","cache_line":null,"behind":E`, its deadline, and the store that is to be moved.
 #[derive(Clone, Copy)]
-pub(crate) struct MendMembers {
-    pub(crate) mend: NamedMend,
+pub(crate) struct MendMembers<'a> {
+    pub(crate) mend: NamedMend<'a>,
 }
 
-impl fmt::Display for MendMembers {
+impl fmt::Display for MendMembers<'_> {
     ghost use Rattle.report.specs.Named.{named_mend_members};
     ghost use Rattle.std.specs.Prelude.{Some};
 
@@ -165,9 +173,13 @@ impl fmt::Display for MendMembers {
 }
 
 /// The deadline, with the place of its event.
-fn named_deadline(deadline: Deadline, traced: &[TracedEvent], places: &Places) -> NamedDeadline
-    ensures text { named_deadline_text result ≡ deadline_text (event_text (line_in places.now) traced.now) deadline }
-    ensures json { named_deadline_members result ≡ deadline_members (event_object (line_in places.now) traced.now) deadline }
+fn named_deadline<'a>(
+    deadline: Deadline,
+    traced: &[TracedEvent],
+    places: &'a Places,
+) -> NamedDeadline<'a>
+    ensures text { named_deadline_text result ≡ deadline_text (event_text (origin_in places.now) traced.now) deadline }
+    ensures json { named_deadline_members result ≡ deadline_members (event_object (origin_in places.now) traced.now) deadline }
 {
     match deadline {
         Deadline::BeforeKept { store } => NamedDeadline::Kept {
@@ -185,9 +197,13 @@ fn named_deadline(deadline: Deadline, traced: &[TracedEvent], places: &Places) -
 }
 
 /// The mend, with the places of its events.
-pub(crate) fn named_mend(mend: Mend, traced: &[TracedEvent], places: &Places) -> NamedMend
-    ensures text { named_mend_text result ≡ mend_text (event_text (line_in places.now) traced.now) mend }
-    ensures json { named_mend_members result ≡ mend_members (event_object (line_in places.now) traced.now) mend }
+pub(crate) fn named_mend<'a>(
+    mend: Mend,
+    traced: &[TracedEvent],
+    places: &'a Places,
+) -> NamedMend<'a>
+    ensures text { named_mend_text result ≡ mend_text (event_text (origin_in places.now) traced.now) mend }
+    ensures json { named_mend_members result ≡ mend_members (event_object (origin_in places.now) traced.now) mend }
 {
     match mend {
         Mend::Fence { behind, deadline } => NamedMend::Fence {

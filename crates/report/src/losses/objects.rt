@@ -9,11 +9,11 @@ use std::fmt;
 
 /// An event of a run: `{"event":2,"hart":0,"pc":"0x10018","source_line":7}`.
 #[derive(Clone, Copy)]
-pub(crate) struct EventObject {
-    pub(crate) event: NamedEvent,
+pub(crate) struct EventObject<'a> {
+    pub(crate) event: NamedEvent<'a>,
 }
 
-impl fmt::Display for EventObject {
+impl fmt::Display for EventObject<'_> {
     ghost use Rattle.report.specs.Named.{named_event_object};
     ghost use Rattle.std.specs.Prelude.{Some};
 
@@ -36,11 +36,11 @@ impl fmt::Display for EventObject {
 
 /// A cause as members of an object: `"cause":"never fenced","clean":E,"completed":null,"fence":null`, E being the object of an event.
 #[derive(Clone, Copy)]
-struct CauseMembers {
-    cause: NamedCause,
+struct CauseMembers<'a> {
+    cause: NamedCause<'a>,
 }
 
-impl fmt::Display for CauseMembers {
+impl fmt::Display for CauseMembers<'_> {
     ghost use Rattle.report.specs.Named.{named_cause_members};
     ghost use Rattle.std.specs.Prelude.{Some};
 
@@ -86,11 +86,11 @@ impl fmt::Display for CauseMembers {
 
 /// A loss as members of an object: `"cache_line":256,"store":E` and its cause.
 #[derive(Clone, Copy)]
-pub(crate) struct LossMembers {
-    pub(crate) loss: NamedLoss,
+pub(crate) struct LossMembers<'a> {
+    pub(crate) loss: NamedLoss<'a>,
 }
 
-impl fmt::Display for LossMembers {
+impl fmt::Display for LossMembers<'_> {
     ghost use Rattle.report.specs.Named.{named_loss_members};
     ghost use Rattle.std.specs.Prelude.{Some};
 

@@ -2,7 +2,7 @@
 
 ghost use Rattle.report.specs.LossesEvents.{event_text};
 ghost use Rattle.report.specs.Unpersisted.{end_line, outside_line, unpersisted_text};
-ghost use Rattle.report.specs.Places.{line_in};
+ghost use Rattle.report.specs.Places.{origin_in};
 ghost use Rattle.std.specs.List.{flat_map};
 ghost use Rattle.std.specs.Prelude.{◌≡◌, ◌+◌, ◌++◌, IfOk, OnOk, length, string_bytes};
 
@@ -26,7 +26,7 @@ pub fn unpersisted_text(
     traced: &[TracedEvent],
     places: &Places,
 ) -> Result<String, AllocError>
-    ensures { IfOk result (λ text. string_bytes text ≡ unpersisted_text (event_text (line_in places.now) traced.now) told.now) }
+    ensures { IfOk result (λ text. string_bytes text ≡ unpersisted_text (event_text (origin_in places.now) traced.now) told.now) }
 {
     let mut text = String::new(alloc);
     tell_ends(&mut text, &told.ends, traced, places)?;
@@ -44,7 +44,7 @@ fn tell_ends(
     places: &Places,
 ) -> Result<(), AllocError>
     ensures { OnOk result (string_bytes text.new
-        ≡ string_bytes text.old ++ flat_map (end_line (event_text (line_in places.now) traced.now)) ends.now) }
+        ≡ string_bytes text.old ++ flat_map (end_line (event_text (origin_in places.now) traced.now)) ends.now) }
 {
     for end in ends {
         let loss = named_loss(end.lost, traced, places);
@@ -65,7 +65,7 @@ fn tell_outside(
     places: &Places,
 ) -> Result<(), AllocError>
     ensures { OnOk result (string_bytes text.new
-        ≡ string_bytes text.old ++ flat_map (outside_line (event_text (line_in places.now) traced.now)) outside.now) }
+        ≡ string_bytes text.old ++ flat_map (outside_line (event_text (origin_in places.now) traced.now)) outside.now) }
 {
     for lost in outside {
         let loss = named_loss(*lost, traced, places);

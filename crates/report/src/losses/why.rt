@@ -4,7 +4,7 @@ ghost use Rattle.report.specs.LossesCauses.{loss_text};
 ghost use Rattle.report.specs.LossesEvents.{event_text};
 ghost use Rattle.report.specs.Mends.{mend_line};
 ghost use Rattle.report.specs.Why.{kept_line, lost_line, schedule_line, unread_line, why_text};
-ghost use Rattle.report.specs.Places.{line_in};
+ghost use Rattle.report.specs.Places.{origin_in};
 ghost use Rattle.machine.specs.Grammar.{hart_steps};
 ghost use Rattle.machine.specs.Joined.{joined, text_of};
 ghost use Rattle.std.specs.List.{flat_map};
@@ -38,7 +38,7 @@ pub fn why_text(
 ) -> Result<String, AllocError>
     requires { hart_steps schedule.now < 2 ^ 32 }
     ensures { IfOk result (λ text. string_bytes text
-        ≡ why_text (event_text (line_in places.now) traced.now) told.now unread schedule.now) }
+        ≡ why_text (event_text (origin_in places.now) traced.now) told.now unread schedule.now) }
 {
     let mut text = String::new(alloc);
     tell_lost(&mut text, &told.lost, traced, places)?;
@@ -57,7 +57,7 @@ fn tell_lost(
     places: &Places,
 ) -> Result<(), AllocError>
     ensures { OnOk result (string_bytes text.new
-        ≡ string_bytes text.old ++ flat_map (lost_line (event_text (line_in places.now) traced.now)) lost.now) }
+        ≡ string_bytes text.old ++ flat_map (lost_line (event_text (origin_in places.now) traced.now)) lost.now) }
 {
     for one in lost {
         let loss = named_loss(*one, traced, places);
@@ -74,7 +74,7 @@ fn tell_kept(
     places: &Places,
 ) -> Result<(), AllocError>
     ensures { OnOk result (string_bytes text.new
-        ≡ string_bytes text.old ++ flat_map (kept_line (event_text (line_in places.now) traced.now)) kept.now) }
+        ≡ string_bytes text.old ++ flat_map (kept_line (event_text (origin_in places.now) traced.now)) kept.now) }
 {
     for one in kept {
         let store = named_event(one.store, traced, places);
@@ -91,7 +91,7 @@ fn tell_mends(
     places: &Places,
 ) -> Result<(), AllocError>
     ensures { OnOk result (string_bytes text.new
-        ≡ string_bytes text.old ++ flat_map (mend_line (event_text (line_in places.now) traced.now)) mends.now) }
+        ≡ string_bytes text.old ++ flat_map (mend_line (event_text (origin_in places.now) traced.now)) mends.now) }
 {
     for one in mends {
         let mend = named_mend(*one, traced, places);

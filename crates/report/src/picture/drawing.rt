@@ -12,7 +12,7 @@ use store_trace::Event;
 /// Draws rows over the columns of events, which are the last ones of the run.
 pub(crate) fn draw(
     alloc: Global,
-    events: &[PlacedEvent],
+    events: &[PlacedEvent<'_>],
     rows: &[Row],
     image: Option<&[ImageLine]>,
 ) -> Result<String, AllocError> {
@@ -48,7 +48,7 @@ fn push_head(text: &mut String, width: u64, height: u64) -> Result<(), AllocErro
 }
 
 /// How many stores of a row come before these events.
-fn stores_before(events: &[PlacedEvent], row: &Row) -> u32 {
+fn stores_before(events: &[PlacedEvent<'_>], row: &Row) -> u32 {
     let mut before = row.stores;
     for told in events {
         if is_store_to(told.event, row.line) {

@@ -2,6 +2,7 @@
 
 use crate::events::{PlacedEvent, hart_of};
 use crate::picture::rows::{Row, place_of};
+use crate::picture::title::Title;
 use std::alloc::AllocError;
 use std::fmt;
 use store_trace::Event;
@@ -32,18 +33,18 @@ pub(crate) fn top_of(row: usize) -> u64 {
 
 /// A mark of an event, at a place.
 #[derive(Clone, Copy)]
-pub(crate) struct Mark {
-    pub(crate) told: PlacedEvent,
+pub(crate) struct Mark<'a> {
+    pub(crate) told: PlacedEvent<'a>,
     pub(crate) left: u64,
     pub(crate) top: u64,
     /// Whether a power cut may lose it.
     pub(crate) may_be_lost: bool,
 }
 
-impl fmt::Display for Mark {
+impl fmt::Display for Mark<'_> {
     fn fmt<W: fmt::Write>(&self, f: &mut fmt::Formatter<W>) -> fmt::Result {
         let colour = COLOURS[place_of(hart_of(self.told.event))];
-        let title = self.told;
+        let title = Title { told: self.told };
         let left = self.left;
         let top = self.top;
         match self.told.event {
@@ -89,7 +90,7 @@ pub(crate) fn push_legend(text: &mut String) -> Result<(), AllocError> {
 /// Adds the marks of the events in a row: of its stores, the first of which has the number after `before`, and of its cleans.
 pub(crate) fn push_row_marks(
     text: &mut String,
-    events: &[PlacedEvent],
+    events: &[PlacedEvent<'_>],
     row: &Row,
     before: u32,
     top: u64,
@@ -124,7 +125,7 @@ pub(crate) fn is_in_row(event: Event, line: u32) -> bool {
 /// Adds the marks of the events that belong to no row, above the rows.
 pub(crate) fn push_other_marks(
     text: &mut String,
-    events: &[PlacedEvent],
+    events: &[PlacedEvent<'_>],
 ) -> Result<(), AllocError> {
     for (column, told) in events.iter().enumerate() {
         if matches!(

@@ -110,11 +110,11 @@ fn draw(
 }
 
 /// Events, each with where its instruction stands.
-fn placed(
+fn placed<'a>(
     alloc: Global,
     traced: &[TracedEvent],
-    places: &Places,
-) -> Result<Vec<PlacedEvent>, AllocError> {
+    places: &'a Places,
+) -> Result<Vec<PlacedEvent<'a>>, AllocError> {
     let mut events = Vec::new(alloc);
     for one in traced {
         events.push(places.placed(one))?;

@@ -50,7 +50,7 @@ pub(crate) fn place_of(hart: u32) -> usize
 }
 
 /// The rows of the cache lines that events store to, upwards.
-pub(crate) fn rows_of(alloc: Global, events: &[PlacedEvent]) -> Result<Vec<Row>, AllocError> {
+pub(crate) fn rows_of(alloc: Global, events: &[PlacedEvent<'_>]) -> Result<Vec<Row>, AllocError> {
     let mut rows = Vec::new(alloc);
     for told in events {
         note(&mut rows, told.event)?;

@@ -27,7 +27,7 @@ const MOST_EVENTS: usize = 200;
 /// Of more than 40 cache lines only those are shown whose stores may be lost, and of more than 200 events only the last 200.
 pub fn picture_text(
     alloc: Global,
-    events: &[PlacedEvent],
+    events: &[PlacedEvent<'_>],
     image: Option<&[ImageLine]>,
 ) -> Result<String, AllocError> {
     let mut rows = rows_of(alloc, events)?;
@@ -38,7 +38,7 @@ pub fn picture_text(
 }
 
 /// The last 200 events.
-fn last_events(events: &[PlacedEvent]) -> &[PlacedEvent]
+fn last_events<'a, 'b>(events: &'a [PlacedEvent<'b>]) -> &'a [PlacedEvent<'b>]
     ensures { length result.now ≤ 200 }
 {
     let (_, last) = events.split_at(events.len().saturating_sub(MOST_EVENTS));

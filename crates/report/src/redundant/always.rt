@@ -1,16 +1,17 @@
 //! Instructions all of whose cleans and fences are needless.
 
 ghost use Rattle.report.specs.Forms.{always_form, shown_form};
+ghost use Rattle.report.specs.Waste.{known_always};
 ghost use Rattle.report.specs.Tallies.{AreUses};
 ghost use Rattle.report.specs.Uses.{AreAlways, Judged};
-ghost use Rattle.report.specs.Places.{line_in};
+ghost use Rattle.report.specs.Places.{origin_in};
 ghost use Rattle.std.specs.BTreeMap.{get};
 ghost use Rattle.std.specs.List.{flat_map};
 ghost use Rattle.std.specs.Ordering.{nat_cmp};
 ghost use Rattle.std.specs.Prelude.{◌≡◌, ◌++◌, List, OnOk, string_bytes};
 
+use crate::form::Form;
 use crate::json::{NumberOrNull, PcMembers};
-use crate::redundant::form::Form;
 use crate::redundant::uses::Uses;
 use crate::{CodePlace, Places};
 use std::alloc::AllocError;
@@ -20,17 +21,17 @@ use std::fmt::Write;
 
 /// An instruction all of whose cleans and fences are needless, as it is printed: `always hH pc=0xP line=L, N of N`.
 #[derive(Clone, Copy)]
-pub(crate) struct ShownAlways {
-    pub(crate) at: CodePlace,
+pub(crate) struct ShownAlways<'a> {
+    pub(crate) at: CodePlace<'a>,
     pub(crate) hart: Option<u32>,
     pub(crate) count: u64,
 }
 
-impl fmt::Display for ShownAlways {
+impl fmt::Display for ShownAlways<'_> {
     ghost use Rattle.std.specs.Prelude.{Some};
-    ghost use Rattle.report.specs.Waste.{always_text};
+    ghost use Rattle.report.specs.Waste.{always_text, known_always};
 
-    ghost output = { λ shown. Some (always_text shown) };
+    ghost output = { λ shown. Some (always_text (known_always shown)) };
 
     fn fmt<W: fmt::Write>(&self, f: &mut fmt::Formatter<W>) -> fmt::Result {
         let ShownAlways { at, hart, count } = *self;
@@ -43,15 +44,16 @@ impl fmt::Display for ShownAlways {
 
 /// The same as members of an object: `"kind":"always","hart":H,"pc":"0xP","source_line":L,"count":N`.
 #[derive(Clone, Copy)]
-struct AlwaysMembers {
-    shown: ShownAlways,
+struct AlwaysMembers<'a> {
+    shown: ShownAlways<'a>,
 }
 
-impl fmt::Display for AlwaysMembers {
+impl fmt::Display for AlwaysMembers<'_> {
     ghost use Rattle.std.specs.Prelude.{Some};
     ghost use Rattle.report.specs.RedundantJson.{always_members};
+    ghost use Rattle.report.specs.Waste.{known_always};
 
-    ghost output = { λ members. Some (always_members members.shown) };
+    ghost output = { λ members. Some (always_members (known_always members.shown)) };
 
     fn fmt<W: fmt::Write>(&self, f: &mut fmt::Formatter<W>) -> fmt::Result {
         let ShownAlways { at, hart, count } = self.shown;
@@ -72,7 +74,7 @@ pub(crate) fn tell_always(
     places: &Places,
 ) -> Result<(), AllocError>
     ensures { (all : List Judged) → AreUses all (get nat_cmp uses) → OnOk result ((found : List _) × AreAlways all found
-        × (string_bytes text.new ≡ string_bytes text.old ++ flat_map (always_form form (line_in places.now)) found)) }
+        × (string_bytes text.new ≡ string_bytes text.old ++ flat_map (always_form form (origin_in places.now)) found)) }
 {
     for (pc, one) in uses {
         if one.vain == one.count {
@@ -87,8 +89,8 @@ pub(crate) fn tell_always(
     Ok(())
 }
 
-fn tell_shown(text: &mut String, form: Form, shown: ShownAlways) -> Result<(), AllocError>
-    ensures { OnOk result (string_bytes text.new ≡ string_bytes text.old ++ shown_form form shown) }
+fn tell_shown(text: &mut String, form: Form, shown: ShownAlways<'_>) -> Result<(), AllocError>
+    ensures { OnOk result (string_bytes text.new ≡ string_bytes text.old ++ shown_form form (known_always shown.entry)) }
 {
     match form {
         Form::Text => writeln!(text, "{shown}"),

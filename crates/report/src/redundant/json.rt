@@ -1,12 +1,12 @@
 //! A run's needless cleans and fences as JSON (RFC 8259): an object a line.
 
 ghost use Rattle.report.specs.RedundantJson.{IsWasteJson};
-ghost use Rattle.report.specs.Places.{line_in};
+ghost use Rattle.report.specs.Places.{origin_in};
 ghost use Rattle.std.specs.List.{zip};
 ghost use Rattle.std.specs.Prelude.{◌≡◌, IfOk, length, string_bytes};
 
 use crate::Places;
-use crate::redundant::form::Form;
+use crate::form::Form;
 use crate::redundant::waste::waste_in;
 use durability::Reason;
 use machine::TracedEvent;
@@ -30,7 +30,7 @@ pub fn waste_json(
     places: &Places,
 ) -> Result<String, AllocError>
     requires { length reasons.now ≡ length traced.now }
-    ensures { IfOk result (λ text. IsWasteJson (line_in places.now) (zip traced.now reasons.now) (string_bytes text)) }
+    ensures { IfOk result (λ text. IsWasteJson (origin_in places.now) (zip traced.now reasons.now) (string_bytes text)) }
 {
     waste_in(Form::Json, alloc, traced, reasons, places)
 }

@@ -3,14 +3,14 @@
 ghost use Rattle.report.specs.Forms.{always_form, reason_form, summary_form};
 ghost use Rattle.report.specs.Uses.{is_unfenced, is_use, is_vain};
 ghost use Rattle.report.specs.Waste.{IsWaste, IsWasteText, judged_line};
-ghost use Rattle.report.specs.Places.{line_in};
+ghost use Rattle.report.specs.Places.{origin_in};
 ghost use Rattle.std.specs.List.{count_by, enumerate_from, flat_map, zip};
 ghost use Rattle.std.specs.Prelude.{◌≡◌, ◌++◌, cond, IfOk, OnOk, length, string_bytes};
 
 use crate::Places;
+use crate::form::Form;
 use crate::json::EventMembers;
 use crate::redundant::always::tell_always;
-use crate::redundant::form::Form;
 use crate::redundant::uses::{is_clean_or_fence, is_paid_in_vain, is_unfenced, uses_by_pc};
 use durability::Reason;
 use machine::TracedEvent;
@@ -35,7 +35,7 @@ pub fn waste_text(
     places: &Places,
 ) -> Result<String, AllocError>
     requires { length reasons.now ≡ length traced.now }
-    ensures { IfOk result (λ text. IsWasteText (line_in places.now) (zip traced.now reasons.now) (string_bytes text)) }
+    ensures { IfOk result (λ text. IsWasteText (origin_in places.now) (zip traced.now reasons.now) (string_bytes text)) }
 {
     waste_in(Form::Text, alloc, traced, reasons, places)
 }
@@ -49,7 +49,7 @@ pub(crate) fn waste_in(
     places: &Places,
 ) -> Result<String, AllocError>
     requires { length reasons.now ≡ length traced.now }
-    ensures { IfOk result (λ text. IsWaste (reason_form form (line_in places.now)) (always_form form (line_in places.now)) (summary_form form)
+    ensures { IfOk result (λ text. IsWaste (reason_form form (origin_in places.now)) (always_form form (origin_in places.now)) (summary_form form)
         (zip traced.now reasons.now) (string_bytes text)) }
 {
     let mut text = String::new(alloc);
@@ -69,7 +69,7 @@ fn tell_needless(
 ) -> Result<(), AllocError>
     requires { length reasons.now ≡ length traced.now }
     ensures { OnOk result (string_bytes text.new ≡ string_bytes text.old
-        ++ flat_map (judged_line (reason_form form (line_in places.now))) (enumerate_from 1 (zip traced.now reasons.now))) }
+        ++ flat_map (judged_line (reason_form form (origin_in places.now))) (enumerate_from 1 (zip traced.now reasons.now))) }
 {
     for at in 0..traced.len() {
         if let Some(reason) = reasons[at] {
@@ -87,7 +87,7 @@ fn tell_event(
     reason: Reason,
     places: &Places,
 ) -> Result<(), AllocError>
-    ensures { OnOk result (string_bytes text.new ≡ string_bytes text.old ++ reason_form form (line_in places.now) number traced reason) }
+    ensures { OnOk result (string_bytes text.new ≡ string_bytes text.old ++ reason_form form (origin_in places.now) number traced reason) }
 {
     let placed = places.placed(&traced);
     match form {

@@ -4,7 +4,8 @@ ghost use Rattle.store_trace.specs.Marks.{begun_by, ended_by, pending};
 ghost use Rattle.routine_judge.specs.MarkFaults.{AreSound};
 ghost use Rattle.routine_judge.specs.Windows.{IsAlonePending, IsPendingFrom, IsWindow};
 ghost use Rattle.routine_judge.specs.declared.history.moments.Window.{Window as AWindow};
-ghost use Rattle.std.specs.Prelude.{◌≡◌, ◌↔◌, ◌+◌, ◌<◌, ◌≤◌, ℕ, false, Contains, List, None, length, slice_index_or, take};
+ghost use Rattle.routine_judge.specs.declared.history.overlap.Overlap.TheVariants.{Never};
+ghost use Rattle.std.specs.Prelude.{◌≡◌, ◌↔◌, ◌+◌, ◌<◌, ◌≤◌, ℕ, Contains, List, None, length, slice_index_or, take};
 ghost use Rattle.store_trace.specs.declared.event.Event.{Event as AnEvent};
 
 use crate::history::Window;
@@ -27,7 +28,7 @@ pub fn alone_is_the_only_one()
 
 /// Where operations don't overlap, the full images of one moment or of two give the right answers.
 pub fn operations_apart_have_few()
-    ensures { (events : List AnEvent) (moment first last : ℕ) → AreSound false events (length events) → ¬ IsWindow events moment (Window.Through first last) }
+    ensures { (events : List AnEvent) (moment first last : ℕ) → AreSound Never events (length events) → ¬ IsWindow events moment (Window.Through first last) }
 {}
 
 /// A window begins before its moment, ends at it or behind it, and lies in the run.

@@ -5,6 +5,7 @@ ghost use Rattle.routine_judge.specs.MarkFaults.{HasFault};
 ghost use Rattle.routine_judge.specs.Operations.{IsPendingBy};
 ghost use Rattle.routine_judge.specs.Order.{AreAtRest};
 ghost use Rattle.routine_judge.specs.declared.history.fault.MarkFault.{MarkFault as AFault};
+ghost use Rattle.routine_judge.specs.declared.history.overlap.Overlap.TheVariants.{Never};
 ghost use Rattle.std.specs.Prelude.{◌≡◌, ◌↔◌, ℕ, false, List, [], ◌∷◌, ◌++◌, IfErr, IfNone, IfOk, IfSome, IsTrue, Some, option_to_list};
 ghost use Rattle.store_trace.specs.declared.event.Event.{Event as AnEvent};
 
@@ -35,8 +36,8 @@ impl SequentialState {
     /// began before, or an End of one that isn't pending on this hart.
     pub fn after(&self, alloc: Global, mark: Event) -> Result<Option<SequentialState>, AllocError>
         ensures some { IfOk result (λ answer. IfSome answer (λ next. (events : List AnEvent) → IsStateOf events self.now → IsStateOf (events ++ mark ∷ []) next)) }
-        ensures none { IfOk result (λ answer. IfNone answer ((events : List AnEvent) → IsStateOf events self.now → (fault : AFault) × HasFault false events mark fault)) }
-        ensures memory { IfErr result (λ refused. (events : List AnEvent) (fault : AFault) → IsStateOf events self.now → ¬ HasFault false events mark fault) }
+        ensures none { IfOk result (λ answer. IfNone answer ((events : List AnEvent) → IsStateOf events self.now → (fault : AFault) × HasFault Never events mark fault)) }
+        ensures memory { IfErr result (λ refused. (events : List AnEvent) (fault : AFault) → IsStateOf events self.now → ¬ HasFault Never events mark fault) }
     {
         if !self.takes(mark) {
             return Ok(None);
@@ -73,8 +74,8 @@ impl SequentialState {
 
     /// Whether a sequential run makes the event next.
     fn takes(&self, mark: Event) -> bool
-        ensures yes { (events : List AnEvent) (fault : AFault) → IsStateOf events self.now → IsTrue result → ¬ HasFault false events mark fault }
-        ensures no { (events : List AnEvent) → IsStateOf events self.now → result ≡ false → (fault : AFault) × HasFault false events mark fault }
+        ensures yes { (events : List AnEvent) (fault : AFault) → IsStateOf events self.now → IsTrue result → ¬ HasFault Never events mark fault }
+        ensures no { (events : List AnEvent) → IsStateOf events self.now → result ≡ false → (fault : AFault) × HasFault Never events mark fault }
     {
         match mark {
             Event::Begin { op, .. } => self.pending.is_none() && !has(self.done.operations(), op),
@@ -94,7 +95,7 @@ impl SequentialState {
 
     /// The state after one event more, which a sequential run makes.
     fn taken(&self, alloc: Global, mark: Event) -> Result<SequentialState, AllocError>
-        ensures { IfOk result (λ next. (events : List AnEvent) → IsStateOf events self.now → ((fault : AFault) → ¬ HasFault false events mark fault) →
+        ensures { IfOk result (λ next. (events : List AnEvent) → IsStateOf events self.now → ((fault : AFault) → ¬ HasFault Never events mark fault) →
             IsStateOf (events ++ mark ∷ []) next) }
     {
         match mark {

@@ -1,6 +1,8 @@
 //! Runs that are judged, and what is said of them.
 
-ghost use Rattle.std.specs.Prelude.{◌<◌, ◌≤◌, IfSome};
+ghost use Rattle.program.specs.Sections.{Sections};
+ghost use Rattle.routine_judge.specs.Rules.{AreNotedFor};
+ghost use Rattle.std.specs.Prelude.{◌<◌, ◌≤◌, ℕ, List, IfSome};
 
 use crate::judging::sources::{READ, REPLACED};
 use crash_test::{
@@ -9,7 +11,7 @@ use crash_test::{
 use line_memory::Medium;
 use machine::{Schedule, Setup};
 use program::Program;
-use routine_judge::{Cause, ImageName, JudgeFault, Verdict};
+use routine_judge::{Cause, ImageName, JudgeFault, Rule, Verdict};
 use std::alloc::Global;
 use std::thread::Threads;
 use verdict::{LineContents, OpenMoments};
@@ -103,6 +105,17 @@ fn verdict_by<R: Threads + Sync + AllocGlobal>(
     verdict_over(rt, case, recovery, medium, workers)
 }
 
+/// How the answers of a run whose operations may overlap or not are judged.
+fn rule(overlapping: bool) -> Rule<'static>
+    ensures { (medium : List (List ℕ)) (routine : Sections) (steps : ℕ) → AreNotedFor medium routine steps result }
+{
+    if overlapping {
+        Rule::Overlapping
+    } else {
+        Rule::InTurn
+    }
+}
+
 fn verdict_over<R: Threads + Sync + AllocGlobal>(
     rt: &R,
     case: &Case,
@@ -118,7 +131,7 @@ fn verdict_over<R: Threads + Sync + AllocGlobal>(
     let judgement = Judgement {
         recovery,
         steps: case.steps,
-        overlapping: case.overlapping,
+        rule: rule(case.overlapping),
     };
     let setup = Setup::with_room(program, medium, case.harts);
     let run = record_run(alloc, setup, &schedule).ok()?;

@@ -32,6 +32,9 @@ returns-in-Waste-clause-carries g c = rw c.in-Waste.is (record { found = c.waste
 pub returns-in-Images-clause-carries : goal.returns-in-Images-clause-carries
 returns-in-Images-clause-carries g c = rw c.in-Images.is (record { found = c.count_file.result; finding = c.count_file.ensures; leads = c.printed-in-Images.ensures.is })
 
+pub returns-in-Image-clause-carries : goal.returns-in-Image-clause-carries
+returns-in-Image-clause-carries g c = rw c.in-Image.is (record { found = c.image_file.result; finding = c.image_file.ensures; leads = c.printed-in-Image.ensures.is })
+
 pub returns-in-Explain-clause-carries : goal.returns-in-Explain-clause-carries
 returns-in-Explain-clause-carries g c = rw c.in-Explain.is (record { found = c.explain_file.result; finding = c.explain_file.ensures; leads = c.printed-in-Explain.ensures.is })
 

@@ -1,4 +1,4 @@
--- The text by the file's places is that by its source's lines.
+-- The text by the program's places is that by its file.
 use Rattle.command_line.proofs.reasons.told_why.Goals as goal
 
 pub returns-in_ok-places-in-Some : goal.returns-in_ok-places-in-Some

@@ -1,4 +1,4 @@
--- The text by the file's places is that by its source's lines.
+-- The text by the program's places is that by its file.
 use Rattle.std.proofs.Common.{◌∙◌}
 use Rattle.command_line.proofs.trace.trace_answer.Goals as goal
 

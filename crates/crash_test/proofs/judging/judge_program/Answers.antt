@@ -1,4 +1,5 @@
 use Rattle.std.proofs.Common.{◌≡◌}
+use Rattle.routine_judge.specs.Rules.{judgement_view}
 use Rattle.routine_judge.specs.Verdicts.{IsJudged, judged_from}
 use Rattle.routine_judge.specs.Views.{JudgeView}
 use Rattle.verdict.specs.GoingOn.{settled}
@@ -16,7 +17,7 @@ returns-clause-ok g c =
     let made = c.in_ok-part.ensures in
     let run = c.args.run.now in
     let work = c.args.work in
-    let view = view_of run.setup c.args.judgement.recovery.now c.args.judgement.steps run.events in
+    let view = view_of run.setup (judgement_view c.args.judgement) run.events in
     let same : part.run ≡ view = rw (c.trace.ensures.value, c.start.ensures.value) at made.run in
     let until = end_of run.events work.last in
     let from = judged_from run.events work.first until in
@@ -32,12 +33,12 @@ returns-clause-ok g c =
 pub returns-clause-pass : goal.returns-clause-pass
 returns-clause-pass g c = λ moments images passed zero all.
     let same : c.in_ok-judge_watched.field-0 ≡ Pass moments images = cc in
-    always_recovers _ _ _ _ _ _ _ c.args.work.goes_on c.in_ok-judge_watched.field-0 (has_trace c.args.run.now c.trace.ensures.run) (returns-clause-ok g c).verdict_is
+    always_recovers _ _ (judgement_view c.args.judgement) _ _ _ c.args.work.goes_on c.in_ok-judge_watched.field-0 (has_trace c.args.run.now c.trace.ensures.run) (returns-clause-ok g c).verdict_is
     moments images same zero all
 
 pub returns-clause-survives : goal.returns-clause-survives
 returns-clause-survives g c = λ moments images passed zero all.
-    answers_after c.args.run.now.setup c.args.run.now.schedule c.args.judgement.recovery.now c.args.judgement.steps
+    answers_after c.args.run.now.setup c.args.run.now.schedule (judgement_view c.args.judgement)
     (returns-clause-pass g c moments images passed zero all)
 
 pub returns-clause-told : goal.returns-clause-told
@@ -46,7 +47,7 @@ returns-clause-told g c =
     let made = c.in_ok-part.ensures in
     let run = c.args.run.now in
     let work = c.args.work in
-    let view = view_of run.setup c.args.judgement.recovery.now c.args.judgement.steps run.events in
+    let view = view_of run.setup (judgement_view c.args.judgement) run.events in
     let same : part.run ≡ view = rw (c.trace.ensures.value, c.start.ensures.value) at made.run in
     let until = end_of run.events work.last in
     let from = judged_from run.events work.first until in
@@ -61,7 +62,7 @@ returns-in_err-judge_watched-clause-told g c =
     let made = c.in_ok-part.ensures in
     let run = c.args.run.now in
     let work = c.args.work in
-    let view = view_of run.setup c.args.judgement.recovery.now c.args.judgement.steps run.events in
+    let view = view_of run.setup (judgement_view c.args.judgement) run.events in
     let same : part.run ≡ view = rw (c.trace.ensures.value, c.start.ensures.value) at made.run in
     let until = end_of run.events work.last in
     let from = judged_from run.events work.first until in
@@ -73,6 +74,6 @@ returns-in_err-judge_watched-clause-told g c =
 pub returns-in_err-part-clause-told : goal.returns-in_err-part-clause-told
 returns-in_err-part-clause-told g c =
     let run = c.args.run.now in
-    let view = view_of run.setup c.args.judgement.recovery.now c.args.judgement.steps run.events in
+    let view = view_of run.setup (judgement_view c.args.judgement) run.events in
     let until = end_of run.events c.args.work.last in
     told_nothing g.P.Progress.hears (settled c.args.work.goes_on (IsJudged view)) run.events (judged_from run.events c.args.work.first until) until c.args.progress.now

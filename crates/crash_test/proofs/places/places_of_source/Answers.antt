@@ -1,4 +1,4 @@
-use Rattle.crash_test.proofs.LineNumbers.{no_other_fault}
+use Rattle.crash_test.proofs.OriginsOfFiles.{no_other_fault}
 use Rattle.crash_test.proofs.places.places_of_source.Goals as goal
 
 pub unreachable-requires : goal.unreachable-requires

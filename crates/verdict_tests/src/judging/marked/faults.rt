@@ -2,7 +2,7 @@
 
 use crate::judging::marked::events::Made::{Begin, Clean, End, Fence, Store};
 use crate::judging::marked::events::{Parts, trace_of};
-use routine_judge::{MarkFault, check_marks};
+use routine_judge::{MarkFault, Overlap, check_marks};
 use std::process::Abort;
 use std::test::Fail;
 
@@ -129,10 +129,10 @@ static OVERLAPS: [Case; 4] = [
 fn fault_of(
     rt: &(impl AllocGlobal + Abort),
     run: Parts,
-    overlapping: bool,
+    overlap: Overlap,
 ) -> Result<Option<MarkFault>, Fail> {
     let trace = trace_of(rt, run)?;
-    match check_marks(rt.alloc(), &trace, overlapping) {
+    match check_marks(rt.alloc(), &trace, overlap) {
         Ok(()) => Ok(None),
         Err(fault) => Ok(Some(fault)),
     }
@@ -141,9 +141,9 @@ fn fault_of(
 #[test]
 fn faults_of_marks(rt: HostRuntime) -> Result<(), Fail> {
     for (number, case) in EITHER.iter().enumerate() {
-        for overlapping in [false, true] {
+        for overlap in [Overlap::Never, Overlap::BetweenHarts, Overlap::Always] {
             assert!(rt;
-                fault_of(&rt, case.run, overlapping)? == case.fault,
+                fault_of(&rt, case.run, overlap)? == case.fault,
                 "case {number}"
             );
         }
@@ -155,11 +155,11 @@ fn faults_of_marks(rt: HostRuntime) -> Result<(), Fail> {
 fn overlaps(rt: HostRuntime) -> Result<(), Fail> {
     for (number, case) in OVERLAPS.iter().enumerate() {
         assert!(rt;
-            fault_of(&rt, case.run, false)? == Some(MarkFault::Overlaps),
+            fault_of(&rt, case.run, Overlap::Never)? == Some(MarkFault::Overlaps),
             "case {number}"
         );
         assert!(rt;
-            fault_of(&rt, case.run, true)? == case.fault,
+            fault_of(&rt, case.run, Overlap::Always)? == case.fault,
             "case {number}, overlapping"
         );
     }

@@ -1,6 +1,6 @@
 //! A run of many operations, all of which begin before the first one ends.
 
-use routine_judge::{Window, Windows, check_marks};
+use routine_judge::{Overlap, Window, Windows, check_marks};
 use std::test::Fail;
 use store_trace::{Event, Trace, TraceFault};
 
@@ -21,7 +21,7 @@ fn many(rt: &impl AllocGlobal) -> Result<Trace, TraceFault> {
 /// Whether the marks are taken, and the last moment's window is that moment itself.
 fn are_taken(rt: &impl AllocGlobal) -> Result<bool, Fail> {
     let trace = many(rt)?;
-    check_marks(rt.alloc(), &trace, true)?;
+    check_marks(rt.alloc(), &trace, Overlap::Always)?;
     let windows = Windows::of(rt.alloc(), &trace)?;
     let events = trace.events();
     Ok(windows.at(events, events.len()) == Window::Itself)

@@ -1,7 +1,7 @@
 //! Pictures.
 
 use crate::reports::pictures::samples::{EVENTS, IMAGE};
-use report::{CodePlace, PlacedEvent, picture_text};
+use report::{CodePlace, Origin, PlacedEvent, picture_text};
 use std::alloc::{AllocError, Global};
 use std::test::Fail;
 use store_trace::Event;
@@ -53,18 +53,18 @@ fn lines_with(text: &str, start: &str) -> usize {
     count
 }
 
-fn made(event: Event) -> PlacedEvent {
+fn made(event: Event) -> PlacedEvent<'static> {
     PlacedEvent {
         event,
         step: 1,
         at: CodePlace {
             pc: 0x1_0000,
-            line: None,
+            origin: Origin::Unknown,
         },
     }
 }
 
-fn store_to(line: u32) -> PlacedEvent {
+fn store_to(line: u32) -> PlacedEvent<'static> {
     made(Event::Store {
         hart: 0,
         line,
@@ -75,7 +75,7 @@ fn store_to(line: u32) -> PlacedEvent {
 }
 
 /// A store to each of so many cache lines, the first of which is made durable.
-fn stores(alloc: Global, lines: u32) -> Result<Vec<PlacedEvent>, AllocError> {
+fn stores(alloc: Global, lines: u32) -> Result<Vec<PlacedEvent<'static>>, AllocError> {
     let mut events = Vec::new(alloc);
     for line in 0..lines {
         events.push(store_to(line))?;

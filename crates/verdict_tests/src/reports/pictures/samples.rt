@@ -1,16 +1,16 @@
 //! Events, and what their picture is.
 
-use report::{CodePlace, ImageLine, PlacedEvent};
+use report::{CodePlace, ImageLine, Origin, PlacedEvent};
 use store_trace::Event;
 
 /// An operation of hart 1 that stores to two lines and makes one of the stores durable, and a store of hart 2 beside it.
-pub(crate) static EVENTS: [PlacedEvent; 7] = [
+pub(crate) static EVENTS: [PlacedEvent<'static>; 7] = [
     PlacedEvent {
         event: Event::Begin { hart: 1, op: 7 },
         step: 3,
         at: CodePlace {
             pc: 0x1_0008,
-            line: Some(3),
+            origin: Origin::Line(3),
         },
     },
     PlacedEvent {
@@ -24,7 +24,7 @@ pub(crate) static EVENTS: [PlacedEvent; 7] = [
         step: 7,
         at: CodePlace {
             pc: 0x1_0018,
-            line: Some(7),
+            origin: Origin::Line(7),
         },
     },
     PlacedEvent {
@@ -32,7 +32,7 @@ pub(crate) static EVENTS: [PlacedEvent; 7] = [
         step: 8,
         at: CodePlace {
             pc: 0x1_001c,
-            line: None,
+            origin: Origin::Unknown,
         },
     },
     PlacedEvent {
@@ -46,7 +46,7 @@ pub(crate) static EVENTS: [PlacedEvent; 7] = [
         step: 9,
         at: CodePlace {
             pc: 0x1_0018,
-            line: Some(7),
+            origin: Origin::Line(7),
         },
     },
     PlacedEvent {
@@ -54,7 +54,7 @@ pub(crate) static EVENTS: [PlacedEvent; 7] = [
         step: 10,
         at: CodePlace {
             pc: 0x1_0020,
-            line: Some(9),
+            origin: Origin::Line(9),
         },
     },
     PlacedEvent {
@@ -68,7 +68,7 @@ pub(crate) static EVENTS: [PlacedEvent; 7] = [
         step: 11,
         at: CodePlace {
             pc: 0x1_0024,
-            line: Some(10),
+            origin: Origin::Line(10),
         },
     },
     PlacedEvent {
@@ -76,7 +76,7 @@ pub(crate) static EVENTS: [PlacedEvent; 7] = [
         step: 13,
         at: CodePlace {
             pc: 0x1_002c,
-            line: Some(12),
+            origin: Origin::Line(12),
         },
     },
 ];

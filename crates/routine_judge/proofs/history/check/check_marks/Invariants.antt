@@ -4,4 +4,4 @@ use Rattle.routine_judge.specs.Operations.{AreMarked}
 use Rattle.routine_judge.proofs.history.check.check_marks.Given as goal
 
 abbrev pub invariant-loop-at : goal.invariant-loop-at
-invariant-loop-at l = AreSound l.overlapping l.events l.at × AreMarked (take l.at l.events) l.operations
+invariant-loop-at l = AreSound l.overlap l.events l.at × AreMarked (take l.at l.events) l.operations

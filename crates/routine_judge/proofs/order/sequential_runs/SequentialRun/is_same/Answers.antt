@@ -1,6 +1,5 @@
-use Rattle.std.proofs.Common.{◌≡◌, ◌∙◌, List, true, sym, true≢false}
+use Rattle.std.proofs.Common.{◌≡◌, ◌∙◌, sym, true≢false}
 use Rattle.routine_judge.proofs.Equal.{operations_told, told_operations}
-use Rattle.routine_judge.specs.declared.order.operation.Operation.{Operation}
 use Rattle.routine_judge.proofs.order.sequential_runs.SequentialRun.is_same.Goals as goal
 
 pub returns-then-eq : goal.returns-then-eq

@@ -1,0 +1,42 @@
+//! Codes of trace files.
+
+ghost use Rattle.std.specs.Prelude.{◌≡◌};
+ghost use Rattle.arguments.specs.Codes.{texts_of_rows, traces};
+
+use crate::codes::table::Row;
+
+static TRACES: [Row; 5] = [
+    (
+        "V1",
+        "no line of a trace file",
+        "Write an event as `1 h0 at=a.c:30 store l2+0 w8 0x1`, and `events N` at the end: docs/TRACES.md.",
+    ),
+    (
+        "V2",
+        "an event whose number isn't the next one, or a last line with another number of events",
+        "Number the events from 1 on, and end with `events N`, the number of the last.",
+    ),
+    (
+        "V3",
+        "a store that isn't aligned, leaves its cache line, or has too large a value for its width",
+        "Split it into stores of 1, 2, 4 or 8 bytes, each at a multiple of its width.",
+    ),
+    (
+        "V4",
+        "a trace past a limit: 65,536 events, 8 harts, lines below 2^32, 16,384 different lines, marks below 2^64",
+        "Record less of the program: from just before the operations in question to behind them.",
+    ),
+    (
+        "V5",
+        "a trace file that ends before `events N`, or goes on behind it",
+        "Let the program that writes it run to its end, and write one trace to a file.",
+    ),
+];
+
+/// The rows of trace files.
+#[tactic(auto, unfolding(crate::specs::Codes::traces))]
+pub(super) fn rows() -> &'static [Row]
+    ensures { texts_of_rows result.now ≡ traces }
+{
+    &TRACES
+}

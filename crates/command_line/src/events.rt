@@ -1,0 +1,140 @@
+//! The events of which commands tell: those of a run, or of a trace file.
+
+ghost use Rattle.command_line.specs.Traces.{IsOpen, IsOpened, OpensEvents, OpensScheduled, OpensTrace, OpensTraceFile, SaysTrace, events_of, medium_of};
+ghost use Rattle.command_line.specs.declared.failure.Failure.TheVariants.{Memory};
+ghost use Rattle.std.specs.Prelude.{◌≡◌, ◌≤◌, All, IfErr, IfOk, length};
+ghost use Rattle.store_trace.specs.TraceView.{NamesLine};
+
+use crate::failure::Failure;
+use crate::files::Files;
+use crate::made_run::{MadeRun, open_run};
+use crate::reading::read_file;
+use crate::whole::{demand_ended, demand_whole};
+use arguments::{EventSource, ScheduledRun, TracedEvents};
+use line_memory::Medium;
+use std::alloc::Global;
+use store_trace::Trace;
+use trace_file::{RankedTrace, TraceFile};
+
+/// The fewest lines of a medium.
+const FEWEST_LINES: usize = 512;
+
+/// The events of a trace file, over a medium that has their lines by their ranks.
+#[derive(Drop)]
+pub(crate) struct OpenTrace {
+    pub(crate) ranked: RankedTrace,
+    pub(crate) medium: Medium,
+}
+
+/// Events, and the medium that they start from.
+#[derive(Drop)]
+pub(crate) enum OpenEvents {
+    Run(MadeRun),
+    Trace(OpenTrace),
+}
+
+impl OpenEvents {
+    pub(crate) fn trace(&self) -> &Trace
+        ensures { result.now.events ≡ events_of self.now }
+    {
+        match self {
+            OpenEvents::Run(made) => made.run.trace(),
+            OpenEvents::Trace(open) => &open.ranked.trace,
+        }
+    }
+
+    pub(crate) fn medium(&self) -> &Medium
+        ensures { result.now ≡ medium_of self.now }
+    {
+        match self {
+            OpenEvents::Run(made) => made.run.start(),
+            OpenEvents::Trace(open) => &open.medium,
+        }
+    }
+}
+
+/// The events of a run, or of a trace file over zeros, where a command asks for nothing but events.
+pub(crate) fn open_events<F: Files>(
+    alloc: Global,
+    source: &EventSource,
+    files: &mut F,
+) -> Result<OpenEvents, Failure>
+    ensures opens { OpensEvents F.read_gives source.now files.old result files.new }
+    ensures ready { IfOk result IsOpen }
+{
+    match source {
+        EventSource::Run(run) => open_scheduled(alloc, run, files),
+        EventSource::Trace(events) => open_trace(alloc, events, files),
+    }
+}
+
+fn open_scheduled<F: Files>(
+    alloc: Global,
+    run: &ScheduledRun,
+    files: &mut F,
+) -> Result<OpenEvents, Failure>
+    ensures opens { OpensScheduled F.read_gives run.now files.old result files.new }
+    ensures ready { IfOk result IsOpen }
+{
+    let made = open_run(alloc, run, files)?;
+    demand_whole(alloc, run.whole, &made, &[])?;
+    opened(made)
+}
+
+fn opened(made: MadeRun) -> Result<OpenEvents, Failure>
+    ensures opens { IsOpened made result }
+    ensures ready { IfOk result IsOpen }
+{
+    // Its events name lines of its medium.
+    let _medium = made.run.start();
+    Ok(OpenEvents::Run(made))
+}
+
+fn open_trace<F: Files>(
+    alloc: Global,
+    events: &TracedEvents,
+    files: &mut F,
+) -> Result<OpenEvents, Failure>
+    ensures opens { OpensTraceFile F.read_gives events.now files.old result files.new }
+    ensures ready { IfOk result IsOpen }
+{
+    let text = read_file(events.file.as_str(), files)?;
+    let ranked = trace_of(alloc, &text)?;
+    demand_ended(alloc, events.whole, &ranked)?;
+    over_zeros(alloc, ranked)
+}
+
+/// The events of a trace file's text, by ranks of lines.
+#[tactic(auto, using(crate::proofs::TraceFiles::is_read, crate::proofs::TraceFiles::is_fault))]
+pub(crate) fn trace_of(alloc: Global, text: &[u8]) -> Result<RankedTrace, Failure>
+    ensures says { SaysTrace text.now result }
+    ensures lines { IfOk result (λ ranked. All (NamesLine (length ranked.names.items)) ranked.trace.events) }
+    ensures few { IfOk result (λ ranked. length ranked.names.items ≤ 16384) }
+{
+    let file = TraceFile::read(alloc, text)?;
+    Ok(file.into_ranked())
+}
+
+fn over_zeros(alloc: Global, ranked: RankedTrace) -> Result<OpenEvents, Failure>
+    requires lines { All (NamesLine (length ranked.names.items)) ranked.trace.events }
+    requires few { length ranked.names.items ≤ 16384 }
+    ensures opens { OpensTrace ranked result }
+    ensures ready { IfOk result IsOpen }
+{
+    let medium = zeros_for(alloc, ranked.names.len())?;
+    Ok(OpenEvents::Trace(OpenTrace { ranked, medium }))
+}
+
+/// A medium of zeros with so many lines, and no fewer than a medium has.
+#[tactic(auto, using(crate::proofs::RankedLines::zeros_length))]
+pub(crate) fn zeros_for(alloc: Global, lines: usize) -> Result<Medium, Failure>
+    requires { lines ≤ 16384 }
+    ensures room { IfOk result (λ medium. lines ≤ length medium) }
+    ensures err { IfErr result (λ failure. failure ≡ Memory) }
+{
+    let count = lines.max(FEWEST_LINES) as u32;
+    match Medium::zero(alloc, count) {
+        Ok(medium) => Ok(medium),
+        Err(_) => Err(Failure::Memory),
+    }
+}

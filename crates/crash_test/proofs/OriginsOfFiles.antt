@@ -1,0 +1,38 @@
+-- What a program's file tells of its pcs.
+use Rattle.std.proofs.Common.{◌≡◌, ℕ, List, sym, ap, subst, ◌∙◌}
+use Rattle.std.proofs.Math.Path.{fun_ext}
+use Rattle.assemble.specs.Assembly.{IsFirstFault, lines_back}
+use Rattle.assemble.specs.LineNumbers.{line_number, number_at}
+use Rattle.assemble.specs.declared.fault.AsmFault.{AsmFault}
+use Rattle.assemble.proofs.OneAnswer.{no_fault}
+use Rattle.elf_file.specs.FunctionSymbols.{FunctionSymbol}
+use Rattle.elf_file.specs.Functions.{functions_of}
+use Rattle.program.specs.Sections.{Sections}
+use Rattle.crash_test.specs.Origins.{origin_by_kind, origin_of}
+use Rattle.report.specs.Places.{by_line, origin_in}
+use Rattle.report.specs.declared.place.Places.TheVariants.{Executable, Source, Unknown}
+use Rattle.crash_test.specs.Programs.{IsObjectOf, IsProgramOf, file_kind}
+use Rattle.crash_test.specs.declared.file_kind.FileKind.{FileKind}
+use Rattle.crash_test.specs.declared.file_kind.FileKind.TheVariants as kinds
+
+-- those of an object
+pub nothing_known : (file : List ℕ) → file_kind file ≡ kinds.Object → origin_in Unknown ≡ origin_of file
+nothing_known file is = fun_ext (λ pc. ap (λ (kind : FileKind). origin_by_kind kind file pc) (sym is))
+
+-- those of an ELF file
+pub functions_known : (file : List ℕ) (functions : List FunctionSymbol) → file_kind file ≡ kinds.Elf → functions ≡ functions_of file
+    → origin_in (Executable functions) ≡ origin_of file
+functions_known file functions is same = fun_ext (λ pc.
+    ap (λ (fs : List FunctionSymbol). origin_in (Executable fs) pc) same ∙ ap (λ (kind : FileKind). origin_by_kind kind file pc) (sym is))
+
+-- those of a source
+pub lines_known : (file numbers : List ℕ) → file_kind file ≡ kinds.Source
+    → ((pc : ℕ) → number_at numbers pc ≡ line_number (lines_back file) pc) → origin_in (Source numbers) ≡ origin_of file
+lines_known file numbers is same =
+    fun_ext (λ pc. ap by_line (same pc) ∙ ap (λ (kind : FileKind). origin_by_kind kind file pc) (sym is))
+
+-- a source that gives a program has no fault
+pub no_other_fault : (file : List ℕ) (program : Sections) (fault : AsmFault) → IsProgramOf file program → file_kind file ≡ kinds.Source
+    → IsFirstFault file fault → ⊥
+no_other_fault file program fault is source first =
+    no_fault file is.object fault (subst (λ (kind : FileKind). IsObjectOf kind file is.object) source is.is_object) first

@@ -1,0 +1,21 @@
+-- What one more byte adds to a printed name.
+use Rattle.std.proofs.Common.{◌≡◌, ◌∙◌, ◌==◌, ℕ, ◌+◌, ◌<◌, Bool, false, List, [], ◌∷◌, ◌++◌, length, get_or, take, ap, sym, if◌then◌else◌}
+use Rattle.std.specs.List.{flat_map}
+use Rattle.std.proofs.lemmas.Grind.{flat_map-append}
+use Rattle.std.proofs.lemmas.List.{append-nil, take_more}
+use Rattle.report.specs.PrintedNames.{is_graphic, json_byte}
+use Rattle.report.specs.Rows.{two_digits}
+
+pub byte_more : (shape : ℕ → List ℕ) (name : List ℕ) (i d : ℕ) → i < length name
+    → flat_map shape (take i name) ++ shape (get_or name i d) ≡ flat_map shape (take (i + 1) name)
+byte_more shape name i d within =
+    sym (
+    ap (flat_map shape) (take_more name i d within)
+    ∙ flat_map-append shape (take i name) (get_or name i d ∷ [])
+    ∙ ap (λ (l : List ℕ). flat_map shape (take i name) ++ l) (append-nil (shape (get_or name i d))))
+
+-- a byte that is escaped in a string of JSON
+pub json_escaped : (byte : ℕ) → (byte == 34) ≡ false → is_graphic byte ≡ false → json_byte byte ≡ 92 ∷ 92 ∷ 120 ∷ two_digits byte
+json_escaped byte other escaped =
+    ap (λ (b : Bool). if b then 92 ∷ 34 ∷ [] else (if is_graphic byte then byte ∷ [] else 92 ∷ 92 ∷ 120 ∷ two_digits byte)) other
+    ∙ ap (λ (b : Bool). if b then byte ∷ [] else 92 ∷ 92 ∷ 120 ∷ two_digits byte) escaped

@@ -1,8 +1,0 @@
-//! The forms in which a run's needless cleans and fences are printed.
-
-/// Lines for a reader, or objects of JSON (RFC 8259), one a line.
-#[derive(Clone, Copy)]
-pub(crate) enum Form {
-    Text,
-    Json,
-}
