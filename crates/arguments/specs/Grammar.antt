@@ -52,20 +52,20 @@ upgrade_shape = record (new_shape (codes "upgrade")) {
       ∷ help_option ∷ [];
 }
 
--- `run PROGRAM [--medium FILE --harts N --capacity N --steps N --record FILE --out FILE]`
+-- `run PROGRAM [--medium FILE --harts N --capacity N --steps N --record FILE --out FILE --whole]`
 unfoldable pub run_shape : Shape
 run_shape = record (new_shape (codes "run")) {
   rules = needed_word (codes "PROGRAM") ∷ valued_option (codes "medium") ∷ valued_option (codes "harts")
       ∷ valued_option (codes "capacity") ∷ valued_option (codes "steps") ∷ valued_option (codes "record")
-      ∷ valued_option (codes "out") ∷ help_option ∷ [];
+      ∷ valued_option (codes "out") ∷ flag_option (codes "whole") ∷ help_option ∷ [];
 }
 
--- `replay PROGRAM SCHEDULE [--medium FILE --harts N --capacity N --out FILE]`
+-- `replay PROGRAM SCHEDULE [--medium FILE --harts N --capacity N --out FILE --whole]`
 unfoldable pub replay_shape : Shape
 replay_shape = record (new_shape (codes "replay")) {
   rules = needed_word (codes "PROGRAM") ∷ needed_word (codes "SCHEDULE") ∷ valued_option (codes "medium")
       ∷ valued_option (codes "harts") ∷ valued_option (codes "capacity") ∷ valued_option (codes "out")
-      ∷ help_option ∷ [];
+      ∷ flag_option (codes "whole") ∷ help_option ∷ [];
 }
 
 -- `debug PROGRAM [--medium FILE --harts N --capacity N]`

@@ -72,13 +72,15 @@ pub record IsRun (rows : List Row) (command : RunCommand) : Type 0 where
   pub steps : IsSteps rows command.steps
   pub recorded : IsOptional (codes "record") rows command.record
   pub out : IsOptional (codes "out") rows command.out
+  pub whole : command.whole ≡ is_set (first_of (codes "whole") rows)
 
 -- `replay` with these files and options
 pub record IsReplay (rows : List Row) (command : ReplayCommand) : Type 0 where
-  pub program : IsWord (codes "PROGRAM") rows command.program
-  pub schedule : IsWord (codes "SCHEDULE") rows command.schedule
-  pub machine : IsCachedMachine rows command.machine
+  pub program : IsWord (codes "PROGRAM") rows command.run.program
+  pub schedule : IsWord (codes "SCHEDULE") rows command.run.schedule
+  pub machine : IsCachedMachine rows command.run.machine
   pub out : IsOptional (codes "out") rows command.out
+  pub whole : command.run.whole ≡ is_set (first_of (codes "whole") rows)
 
 -- `debug` with this program and these options
 pub record IsDebug (rows : List Row) (command : DebugCommand) : Type 0 where
@@ -259,7 +261,7 @@ IsWithinLimits (Assemble command) = ⊤
 IsWithinLimits (MakeVolume command) = command.lines < 2 ^ 32
 IsWithinLimits (Upgrade command) = (command.pages < 2 ^ 32) × (command.lines < 2 ^ 32)
 IsWithinLimits (Run command) = IsMachineWithin command.machine × IsWithin 1 500000000 command.steps
-IsWithinLimits (Replay command) = IsMachineWithin command.machine
+IsWithinLimits (Replay command) = IsMachineWithin command.run.machine
 IsWithinLimits (Debug command) = IsMachineWithin command.machine
 IsWithinLimits (Trace command) = IsMachineWithin command.run.machine
 IsWithinLimits (Unpersisted command) = IsMachineWithin command.run.machine

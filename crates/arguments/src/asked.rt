@@ -104,6 +104,8 @@ pub struct RunCommand {
     pub machine: MachineOptions,
     /// The most steps of each hart, from 1 to 500,000,000; 1,000,000 where the line doesn't say.
     pub steps: u32,
+    /// Whether the run has to be whole: each hart exits with 0, and each operation ends.
+    pub whole: bool,
     /// The name of the file that gets the schedule of the run, where the line has `--record`.
     pub record: Option<String>,
     /// The name of the file that gets the medium of a power cut at the end, where the line has
@@ -114,12 +116,8 @@ pub struct RunCommand {
 /// What `replay` is to do.
 #[derive(Drop)]
 pub struct ReplayCommand {
-    /// The name of the program's file.
-    pub program: String,
-    /// The name of the schedule's file.
-    pub schedule: String,
-    /// The machine, whose capacity is Some.
-    pub machine: MachineOptions,
+    /// The run, the capacity of whose machine is Some.
+    pub run: ScheduledRun,
     /// The name of the file that gets the medium of a power cut at the end, where the line has
     /// `--out`.
     pub out: Option<String>,
@@ -134,14 +132,14 @@ pub struct DebugCommand {
     pub machine: MachineOptions,
 }
 
-/// A run of a program by a schedule, over a cache that holds the whole medium.
+/// A run of a program by a schedule: over a cache that holds the whole medium, but for `replay`.
 #[derive(Drop)]
 pub struct ScheduledRun {
     /// The name of the program's file.
     pub program: String,
     /// The name of the schedule's file.
     pub schedule: String,
-    /// The machine, whose capacity is None.
+    /// The machine, whose capacity is None but for `replay`.
     pub machine: MachineOptions,
     /// Whether the run has to be whole: each hart exits with 0, and each operation ends.
     pub whole: bool,

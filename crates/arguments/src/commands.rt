@@ -199,6 +199,7 @@ pub(crate) fn run(alloc: Global, found: &ArgMatches<'_>) -> Result<Command, Line
         program: started.program,
         machine: started.machine,
         steps,
+        whole: flag(found, "whole"),
         record,
         out,
     }))
@@ -214,12 +215,13 @@ pub(crate) fn replay(alloc: Global, found: &ArgMatches<'_>) -> Result<Command, L
     let started = start_of(alloc, found)?;
     let schedule = word(alloc, found, "SCHEDULE")?;
     let out = optional(alloc, found, "out")?;
-    Ok(Command::Replay(ReplayCommand {
+    let run = ScheduledRun {
         program: started.program,
         schedule,
         machine: started.machine,
-        out,
-    }))
+        whole: flag(found, "whole"),
+    };
+    Ok(Command::Replay(ReplayCommand { run, out }))
 }
 
 /// What `debug` is to do.

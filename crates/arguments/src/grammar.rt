@@ -305,14 +305,14 @@ static RUNNING: [Subcommand; 3] = [
         name: "run",
         group: Group::Look,
         about: "Run a program",
-        arguments: &[PROGRAM, MEDIUM, HARTS, CAPACITY, STEPS, RECORD, OUT],
+        arguments: &[PROGRAM, MEDIUM, HARTS, CAPACITY, STEPS, RECORD, OUT, WHOLE],
         ending: ending!("run append.s --medium append.medium --record whole.schedule"),
     },
     Subcommand {
         name: "replay",
         group: Group::Look,
         about: "Run a program by a schedule",
-        arguments: &[PROGRAM, SCHEDULE, MEDIUM, HARTS, CAPACITY, OUT],
+        arguments: &[PROGRAM, SCHEDULE, MEDIUM, HARTS, CAPACITY, OUT, WHOLE],
         ending: ending!("replay append.s append.schedule --medium append.medium --out left.medium"),
     },
     Subcommand {

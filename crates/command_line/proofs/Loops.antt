@@ -42,9 +42,3 @@ harts_all harts hart h =
     let f : ℕ × HartState → List ℕ = λ h. hart_line h.0 h.1 ++ line_end in
     let all : List (ℕ × HartState) = enumerate_from 0 harts in
     ap (flat_map f) (take_all hart all (omega (arith, length-enumerate_from 0 harts)))
-
--- one more hart
-pub take_with : (xs : List HartState) (i : ℕ) (x : HartState) → slice_get xs i ≡ Some x → take (i + 1) xs ≡ take i xs ++ x ∷ []
-take_with xs i x got =
-    let inside : i < length xs = slice_get_within xs i x got in
-    take_more xs i x inside ∙ ap (λ (y : HartState). take i xs ++ y ∷ []) (get_or_from_slice_get xs i x x got)

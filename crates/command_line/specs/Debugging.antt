@@ -14,8 +14,7 @@ use Rattle.debugger.specs.Sessions.{BreaksOff, Session}
 use Rattle.crash_test.specs.Runs.{IsAtStart}
 use Rattle.machine.specs.declared.recording.setup.Setup.{Setup}
 use Rattle.command_line.specs.Failures.{failure_of_session, failure_of_step}
-use Rattle.command_line.specs.Reading.{ReadsMedium, ReadsProgram}
-use Rattle.command_line.specs.Running.{machine_of}
+use Rattle.command_line.specs.Reading.{ReadsMedium, ReadsProgram, machine_of}
 use Rattle.command_line.specs.Steps.{First, Reads, Step, Still, Tells}
 use Rattle.command_line.specs.declared.failure.Failure.{Failure}
 use Rattle.command_line.specs.declared.failure.Failure.TheVariants as failures

@@ -1,7 +1,10 @@
 -- `--whole`: what comes of a run that was to be whole.
-use Rattle.std.specs.Prelude.{◌≡◌, ◌≢◌, ◌⊎◌, ⊤, ℕ, Bool, true, false, List, [], Result, MatchResult, string_bytes}
+use Rattle.std.specs.Prelude.{◌≡◌, ◌≢◌, ◌⊎◌, ⊤, ℕ, Bool, true, false, List, [], Result, Err, MatchResult, length, string_bytes}
 use Rattle.crash_test.specs.Lines.{line_of}
-use Rattle.machine.specs.RunValues.{RunView}
+use Rattle.crash_test.specs.Programs.{IsProgramOf}
+use Rattle.crash_test.specs.Runs.{IsRunBy}
+use Rattle.machine.specs.Recorded.{RecordedView}
+use Rattle.machine.specs.RunValues.{RunView, setup}
 use Rattle.report.specs.Causes.{unfinished_text}
 use Rattle.unfinished.specs.Causes.{AreCauses}
 use Rattle.unfinished.specs.Whole.{IsWhole}
@@ -39,3 +42,27 @@ MeetsIf true made planned outcome = IsWholeOrTold made planned outcome
 
 pub record MeetsWhole (whole : Bool) (made : MadeRun) (planned : List ℕ) (outcome : Result (Unit {0}) Failure) : Type 0 where
   pub meets : MeetsIf whole made planned outcome
+
+-- the run that a record's schedule makes from the record's start, of the program in a file
+pub record IsMadeAgain (file : List ℕ) (recorded : RecordedView) (made : MadeRun) : Type 0 where
+  pub file_is : made.file.items ≡ file
+  pub program : IsProgramOf file made.run.setup.program
+  pub is_run : IsRunBy (setup made.run.setup.program recorded.start (length recorded.harts) recorded.capacity) recorded.items made.run
+
+-- memory for it may be refused
+pub record MakesAgain (file : List ℕ) (recorded : RecordedView) (outcome : Result MadeRun Failure) : Type 0 where
+  pub makes : MatchResult outcome (IsMadeAgain file recorded) (λ failure. failure ≡ Memory)
+
+-- the run of that record is whole, or it is told why it isn't; there is no plan
+pub record IsWholeAgain (file : List ℕ) (recorded : RecordedView) (outcome : Result (Unit {0}) Failure) : Type 0 where
+  pub made : MadeRun
+  pub is_made : IsMadeAgain file recorded made
+  pub whole : IsWholeOrTold made [] outcome
+
+-- nothing is asked of a record without `--whole`; memory may be refused
+abbrev pub RecordMeetsIf : Bool → List ℕ → RecordedView → Result (Unit {0}) Failure → Type 0
+RecordMeetsIf false file recorded outcome = IsDone outcome
+RecordMeetsIf true file recorded outcome = IsWholeAgain file recorded outcome ⊎ (outcome ≡ Err Memory)
+
+pub record RecordMeetsWhole (whole : Bool) (file : List ℕ) (recorded : RecordedView) (outcome : Result (Unit {0}) Failure) : Type 0 where
+  pub meets : RecordMeetsIf whole file recorded outcome

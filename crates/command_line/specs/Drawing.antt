@@ -8,8 +8,7 @@ use Rattle.machine.specs.Represents.{MachineView, Represents}
 use Rattle.machine.specs.declared.schedule.items.Item.{Item}
 use Rattle.command_line.specs.Debugging.{Starts}
 use Rattle.command_line.specs.Failures.{failure_of_drawing}
-use Rattle.command_line.specs.Reading.{ReadsMedium, ReadsProgram}
-use Rattle.command_line.specs.Running.{machine_of}
+use Rattle.command_line.specs.Reading.{ReadsMedium, ReadsProgram, machine_of}
 use Rattle.command_line.specs.Steps.{First, Prints, Reads, Step, Still, Tells}
 use Rattle.command_line.specs.Writing.{schedule_line}
 use Rattle.command_line.specs.declared.answer.Answer.{Answer}

@@ -1,6 +1,7 @@
 -- What the files say that a command reads.
-use Rattle.std.specs.Prelude.{◌≡◌, ◌≢◌, ◌⊎◌, ◌%◌, ◌/◌, ◌<◌, ℕ, List, Option, Some, None, Result, MatchResult, length, option_map, string_bytes}
+use Rattle.std.specs.Prelude.{◌≡◌, ◌≢◌, ◌⊎◌, ◌%◌, ◌/◌, ◌<◌, ℕ, List, Option, Some, None, Result, MatchResult, length, option_map, string_bytes, unwrap_or}
 use Rattle.std.specs.List.{concat}
+use Rattle.arguments.specs.declared.asked.MachineOptions.{MachineOptions}
 use Rattle.arguments.specs.declared.asked.ScheduledRun.{ScheduledRun}
 use Rattle.line_memory.specs.Lines.{IsMedium, zero_lines}
 use Rattle.line_memory.specs.declared.MediumFault.{MediumFault}
@@ -16,7 +17,7 @@ use Rattle.machine.specs.declared.schedule.fault.ScheduleFault.{ScheduleFault}
 use Rattle.machine.specs.declared.schedule.fault.ScheduleFault.TheVariants as schedules
 use Rattle.machine.specs.declared.schedule.items.Item.{Item}
 use Rattle.crash_test.specs.Programs.{IsLoadFault, IsProgramOf}
-use Rattle.machine.specs.RunValues.{with_room}
+use Rattle.machine.specs.RunValues.{setup}
 use Rattle.machine.specs.declared.recording.setup.Setup.{Setup}
 use Rattle.command_line.specs.Failures.{failure_of_medium, failure_of_plan, failure_of_program, failure_of_recovery, failure_of_schedule}
 use Rattle.command_line.specs.Steps.{First, Reads, ReadsFile, Step, Still, Tells}
@@ -105,6 +106,11 @@ ReadsRun reads command =
     First (ReadsMedium reads (option_map string_bytes command.machine.medium)) (λ medium.
     Still (GivesRun file program schedule medium)))))
 
--- what the run starts from: a cache with a line for each of the medium's
+-- the machine that the options ask for, at the start of the program over the medium; the cache has a line for each of the
+-- medium's where they don't say
+abbrev pub machine_of : MachineOptions → Sections → List (List ℕ) → Setup
+machine_of options program medium = setup program medium options.harts (unwrap_or options.capacity (length medium))
+
+-- what the run starts from
 abbrev pub setup_of : ScheduledRun → RunFiles → Setup
-setup_of command run = with_room run.program run.medium command.machine.harts
+setup_of command run = machine_of command.machine run.program run.medium

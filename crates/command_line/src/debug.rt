@@ -4,7 +4,7 @@ ghost use Rattle.std.specs.Prelude.{◌≡◌, IfErr};
 ghost use Rattle.std.specs.Result.{result_map_both};
 ghost use Rattle.command_line.specs.Debugging.{FailsBy, HoldsSession, OpensFile, Starts};
 ghost use Rattle.command_line.specs.Failures.{failure_of_session};
-ghost use Rattle.command_line.specs.Running.{machine_of};
+ghost use Rattle.command_line.specs.Reading.{machine_of};
 
 use crate::failure::Failure;
 use crate::files::Files;

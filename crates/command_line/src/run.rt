@@ -3,27 +3,31 @@
 ghost use Rattle.std.specs.Prelude.{◌≡◌, ◌<◌, ◌≤◌, ◌^◌, IfOk, length, option_map, string_bytes, unwrap_or};
 ghost use Rattle.machine.specs.Grammar.{hart_steps};
 ghost use Rattle.command_line.specs.Reports.{run_report};
-ghost use Rattle.command_line.specs.Running.{FinishesMachine, Finishes, RecordsRun, ReplaysFile, RunsBySchedule, RunsFile, RunsTogether, machine_of};
+ghost use Rattle.command_line.specs.Reading.{machine_of};
+ghost use Rattle.command_line.specs.Running.{Finishes, RecordsRun, ReplaysFile, RunsFile, RunsTogether};
 ghost use Rattle.command_line.specs.Steps.{Prints};
 
 use crate::answer::Answer;
 use crate::failure::Failure;
 use crate::files::Files;
-use crate::reading::{read_medium, read_program, read_schedule};
+use crate::made_run::open_run;
+use crate::reading::{program_of, read_file, read_medium};
 use crate::reporting::report;
+use crate::whole::{demand_whole, demand_whole_record};
 use crate::writing::{write_medium_file, write_schedule_file};
 use arguments::{MachineOptions, ReplayCommand, RunCommand};
-use crash_test::{replay, run_program};
+use crash_test::run_program;
 use hart::HartState;
 use line_memory::Medium;
-use machine::{Machine, Recorded, Schedule};
+use machine::{Recorded, Run};
 use program::Program;
-use std::alloc::{AllocError, Global};
+use std::alloc::Global;
 use std::sync::Wait;
 use std::thread::Threads;
 
 /// `run`: reads the files of a program and of a medium, runs the program on harts that run together, and writes the files of
-/// the schedule that they made and of what a power cut leaves.
+/// the schedule that they made and of what a power cut leaves. With `--whole` a run that isn't whole is refused behind the file of its
+/// schedule, since the harts may not make it again.
 pub(crate) fn run_file<T: Threads + Wait + Sync, F: Files>(
     rt: &T,
     alloc: Global,
@@ -32,13 +36,14 @@ pub(crate) fn run_file<T: Threads + Wait + Sync, F: Files>(
 ) -> Result<Answer, Failure>
     ensures { RunsFile F.read_gives F.write_gives command.now files.old result files.new }
 {
-    let program = read_program(alloc, command.program.as_str(), files)?;
+    let file = read_file(command.program.as_str(), files)?;
+    let program = program_of(alloc, &file)?;
     let medium = read_medium(alloc, &command.machine.medium, files)?;
     let recorded = run(rt, alloc, &command.machine, program, medium, command.steps)?;
-    record_run(alloc, command, &recorded, files)
+    record_run(alloc, command, file, &recorded, files)
 }
 
-/// `replay`: the same by the schedule in a file.
+/// `replay`: the same by the schedule in a file, without a file of the schedule.
 pub(crate) fn replay_file<F: Files>(
     alloc: Global,
     command: &ReplayCommand,
@@ -46,11 +51,9 @@ pub(crate) fn replay_file<F: Files>(
 ) -> Result<Answer, Failure>
     ensures { ReplaysFile F.read_gives F.write_gives command.now files.old result files.new }
 {
-    let program = read_program(alloc, command.program.as_str(), files)?;
-    let schedule = read_schedule(alloc, command.schedule.as_str(), files)?;
-    let medium = read_medium(alloc, &command.machine.medium, files)?;
-    let replayed = run_by(alloc, &command.machine, program, medium, &schedule)?;
-    finish_machine(alloc, replayed, &command.out, files)
+    let made = open_run(alloc, &command.run, files)?;
+    demand_whole(alloc, command.run.whole, &made, &[])?;
+    finish_run(alloc, &made.run, &command.out, files)
 }
 
 /// What harts make that run together.
@@ -70,20 +73,6 @@ fn run<T: Threads + Wait + Sync>(
     Ok(run_program(rt, alloc, program, medium, options.harts, capacity, steps)?)
 }
 
-/// The machine that has run by a schedule.
-fn run_by(
-    alloc: Global,
-    options: &MachineOptions,
-    program: Program,
-    medium: Medium,
-    schedule: &Schedule,
-) -> Result<Machine, Failure>
-    ensures { RunsBySchedule (machine_of options.now program medium) schedule.now result }
-{
-    let capacity = capacity(options, &medium);
-    Ok(replay(alloc, program, medium, options.harts, capacity, schedule)?)
-}
-
 /// The most lines of the cache.
 pub(crate) fn capacity(options: &MachineOptions, medium: &Medium) -> u32
     ensures { result ≡ unwrap_or options.now.capacity (length medium.now) }
@@ -98,14 +87,16 @@ pub(crate) fn capacity(options: &MachineOptions, medium: &Medium) -> u32
 fn record_run<F: Files>(
     alloc: Global,
     command: &RunCommand,
+    file: Vec<u8>,
     recorded: &Recorded,
     files: &mut F,
 ) -> Result<Answer, Failure>
     requires few { hart_steps recorded.now.items < 2 ^ 32 }
     requires harts { length recorded.now.harts ≤ 8 }
-    ensures { RecordsRun F.write_gives command.now recorded.now files.old result files.new }
+    ensures { RecordsRun F.write_gives command.now file.items recorded.now files.old result files.new }
 {
     write_schedule_file(alloc, &command.record, recorded.schedule(), files)?;
+    demand_whole_record(alloc, command.whole, file, recorded)?;
     finish(alloc, recorded, &command.out, files)
 }
 
@@ -124,19 +115,19 @@ fn finish<F: Files>(
     Ok(answer)
 }
 
-/// The same of a machine.
-fn finish_machine<F: Files>(
+/// The same of a run by a schedule.
+fn finish_run<F: Files>(
     alloc: Global,
-    machine: Machine,
+    run: &Run,
     out: &Option<String>,
     files: &mut F,
 ) -> Result<Answer, Failure>
-    ensures { FinishesMachine F.write_gives (option_map string_bytes out.now) machine files.old result files.new }
+    ensures { Finishes F.write_gives (option_map string_bytes out.now) run.now.harts (length run.now.events) run.now.left files.old result files.new }
 {
-    let answer = report_of_machine(alloc, &machine)?;
-    let (left, _trace) = machine.power_cut();
-    write_medium_file(alloc, out, &left, files)?;
-    Ok(answer)
+    let recorded = run.recorded();
+    // There are eight harts at most.
+    prove!(run.harts().len() <= 8);
+    finish(alloc, recorded, out, files)
 }
 
 fn report_of(alloc: Global, harts: &[HartState], events: usize) -> Result<Answer, Failure>
@@ -145,24 +136,4 @@ fn report_of(alloc: Global, harts: &[HartState], events: usize) -> Result<Answer
 {
     let text = report(alloc, harts, events)?;
     Ok(Answer::of(text, 0))
-}
-
-fn report_of_machine(alloc: Global, machine: &Machine) -> Result<Answer, Failure>
-    ensures { Prints (run_report machine.now.harts (length machine.now.shared.trace)) 0 result }
-{
-    let harts = states_of(alloc, machine)?;
-    report_of(alloc, &harts, machine.events().len())
-}
-
-/// The states of a machine's harts, by their number.
-#[tactic(auto, using(crate::proofs::Loops::take_with))]
-fn states_of(alloc: Global, machine: &Machine) -> Result<Vec<HartState>, AllocError>
-    ensures ok { IfOk result (λ states. states.items ≡ machine.now.harts) }
-    ensures few { IfOk result (λ states. length states.items ≤ 8) }
-{
-    let mut states = Vec::new(alloc);
-    for hart in 0..machine.harts() {
-        states.push(*machine.hart(hart))?;
-    }
-    Ok(states)
 }

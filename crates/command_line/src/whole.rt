@@ -1,16 +1,18 @@
 //! Runs that were to be whole.
 
-ghost use Rattle.command_line.specs.Demanding.{IsToldBy, IsWholeOrTold, MeetsWhole};
+ghost use Rattle.command_line.specs.Demanding.{IsToldBy, IsWholeOrTold, MeetsWhole, RecordMeetsWhole};
 ghost use Rattle.crash_test.specs.Lines.{line_of};
 ghost use Rattle.crash_test.specs.Programs.{IsProgramOf};
+ghost use Rattle.machine.specs.Grammar.{hart_steps};
 ghost use Rattle.program.specs.Sections.{Sections};
 ghost use Rattle.report.specs.Causes.{unfinished_text};
-ghost use Rattle.std.specs.Prelude.{◌≡◌, IfOk, string_bytes};
+ghost use Rattle.std.specs.Prelude.{◌≡◌, ◌^◌, ◌<◌, ◌≤◌, IfOk, length, string_bytes};
 ghost use Rattle.unfinished.specs.Causes.{numbers_of};
 
 use crate::failure::Failure;
-use crate::made_run::MadeRun;
+use crate::made_run::{MadeRun, make_again};
 use crash_test::places_of;
+use machine::Recorded;
 use plan::Operation;
 use report::unfinished_text;
 use std::alloc::{AllocError, Global};
@@ -31,6 +33,24 @@ pub(crate) fn demand_whole(
     } else {
         Ok(())
     }
+}
+
+/// The same of what harts made together of the program in a file, whose run is made again by its schedule.
+pub(crate) fn demand_whole_record(
+    alloc: Global,
+    whole: bool,
+    file: Vec<u8>,
+    recorded: &Recorded,
+) -> Result<(), Failure>
+    requires few { hart_steps recorded.now.items < 2 ^ 32 }
+    requires harts { length recorded.now.harts ≤ 8 }
+    ensures { RecordMeetsWhole whole file.items recorded.now result }
+{
+    if !whole {
+        return Ok(());
+    }
+    let made = make_again(alloc, file, recorded)?;
+    refuse_unfinished(alloc, &made, &[])
 }
 
 fn refuse_unfinished(alloc: Global, made: &MadeRun, planned: &[Operation]) -> Result<(), Failure>

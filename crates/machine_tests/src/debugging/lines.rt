@@ -18,7 +18,8 @@ fn run_of(alloc: Global, run: &RunCommand) -> Result<String, AllocError> {
     let capacity = run.machine.capacity.unwrap_or(0);
     let medium = value_of(&run.machine.medium);
     let (record, out) = (value_of(&run.record), value_of(&run.out));
-    format!(in alloc; "{program} {medium} {harts} {capacity} {steps} {record} {out}")
+    let whole = run.whole;
+    format!(in alloc; "{program} {medium} {harts} {capacity} {steps} {record} {out} {whole}")
 }
 
 /// The words and options of a check of all schedules.
@@ -49,11 +50,15 @@ fn read(alloc: Global, line: &str) -> Result<String, AllocError> {
 }
 
 /// Lines, and what they are read as.
-const LINES: [(&str, &str); 14] = [
-    ("novacrash run a.s", "a.s - 1 16 1000000 - -"),
+const LINES: [(&str, &str); 15] = [
+    ("novacrash run a.s", "a.s - 1 16 1000000 - - false"),
     (
         "novacrash run --out=o --record=r --steps=4 a.s --capacity=3 --harts=2 --medium=m",
-        "a.s m 2 3 4 r o",
+        "a.s m 2 3 4 r o false",
+    ),
+    (
+        "novacrash run --whole a.s --steps=4",
+        "a.s - 1 16 4 - - true",
     ),
     (
         "novacrash check-all p a.s",
