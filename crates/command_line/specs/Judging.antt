@@ -1,11 +1,18 @@
 -- What `judge` comes to.
-use Rattle.std.specs.Prelude.{◌≡◌, ℕ, zero, suc, List, [], Option, Result, Ok, MatchResult, ◌++◌, codes, decimal, string_bytes}
+use Rattle.std.specs.Prelude.{◌≡◌, ℕ, zero, suc, Bool, true, false, List, [], Option, Some, None, Result, Ok, MatchResult, ◌++◌, codes, decimal, string_bytes}
+use Rattle.std.specs.List.{flat_map}
 use Rattle.arguments.specs.Line.{IsJudgedWithin}
 use Rattle.arguments.specs.declared.asked.JudgeCommand.{JudgeCommand}
 use Rattle.hart.specs.HartLines.{trap_number}
 use Rattle.crash_test.specs.Judging.{HasJudgement, IsToldOf}
 use Rattle.crash_test.specs.Loading.{IsLoaded}
+use Rattle.crash_test.specs.Told.{LacksImage}
+use Rattle.crash_test.specs.ToldAnswers.{IsAnsweredBy}
+use Rattle.crash_test.specs.declared.answers.RightAnswer.{RightAnswer}
+use Rattle.crash_test.specs.declared.answers.ToldAnswers.{ToldAnswers}
 use Rattle.crash_test.specs.declared.losses.ExplainedImage.{ExplainedImage}
+use Rattle.report.specs.Answers.{answer_line, answer_object, right_line, right_object}
+use Rattle.text.specs.declared.image_name.name.ImageName.{ImageName}
 use Rattle.routine_judge.specs.Verdicts.{IsRefusal}
 use Rattle.routine_judge.specs.declared.cause.Cause.{Cause}
 use Rattle.routine_judge.specs.declared.cause.Cause.TheVariants as causes
@@ -17,7 +24,7 @@ use Rattle.recovery.specs.declared.recovery_run.Cause.TheVariants as runs
 use Rattle.debugger.specs.StreamFailures.{AppendsFront}
 use Rattle.crash_test.specs.Programs.{IsProgramOf}
 use Rattle.command_line.specs.Demanding.{MeetsWhole}
-use Rattle.command_line.specs.Failures.{failure_of_judge}
+use Rattle.command_line.specs.Failures.{failure_of_image, failure_of_judge}
 use Rattle.command_line.specs.MakingRuns.{MakesRun}
 use Rattle.command_line.specs.Progress.{IsToldIf, Progresses, gets_line}
 use Rattle.command_line.specs.Reading.{ReadsRecovery, ReadsRun, setup_of}
@@ -70,6 +77,43 @@ abbrev pub ExplainsFailing : OpenJudge → Verdict Cause → Result (Option Expl
 ExplainsFailing judge verdict =
     Explains (IsLoaded judge.recovery judge.command.steps) judge.made.run (failing judge.command.judged.why verdict)
 
+-- what the routine answers on this image, and the right answers of its moment; or why there is no such image
+pub record TellsAnswersAt (judge : OpenJudge) (moment : ℕ) (image : ImageName) (outcome : Result (Option ToldAnswers) Failure) : Type 0 where
+  pub tells : MatchResult outcome (IsAnsweredBy judge.made.run judge.recovery judge.command.steps moment image)
+      (Tells (LacksImage judge.made.run.events moment image) failure_of_image)
+
+-- nothing is told of answers
+pub record TellsNoAnswers (outcome : Result (Option ToldAnswers) Failure) : Type 0 where
+  pub none : outcome ≡ Ok None
+
+-- that of a failing image whose answer isn't a right one, where it is asked for, and nothing of another verdict
+abbrev pub TellsAnswersOf : OpenJudge → Bool → Verdict Cause → Result (Option ToldAnswers) Failure → Type 0
+TellsAnswersOf judge true (verdicts.Fail moment image causes.Different of_too_many) outcome = TellsAnswersAt judge moment image outcome
+TellsAnswersOf judge why verdict outcome = TellsNoAnswers outcome
+
+pub record TellsAnswers (judge : OpenJudge) (verdict : Verdict Cause) (outcome : Result (Option ToldAnswers) Failure) : Type 0 where
+  pub tells : TellsAnswersOf judge judge.command.judged.why verdict outcome
+
+-- the answer on an image, as text or as JSON
+abbrev pub told_answer : Bool → List ℕ → List ℕ
+told_answer true bytes = answer_object bytes
+told_answer false bytes = answer_line bytes
+
+-- a right one
+abbrev pub told_right : Bool → RightAnswer → List ℕ
+told_right true right = right_object right.answer right.moment
+told_right false right = right_line right.answer right.moment
+
+-- the answer, and behind it each right one
+abbrev pub told_answers : Bool → Option ToldAnswers → List ℕ
+told_answers json None = []
+told_answers json (Some told) = told_answer json told.answer ++ flat_map (told_right json) told.right.items
+
+-- what is printed of a verdict, of a failing image, and of the answers there
+abbrev pub judged_text : OpenJudge → Verdict Cause → Option ExplainedImage → Option ToldAnswers → List ℕ
+judged_text judge verdict why answers = (told_verdict cause_text judge.command.judged.json verdict ++ told_why judge.command.judged.json judge.made why)
+    ++ told_answers judge.command.judged.json answers
+
 -- the verdict on what is asked for, or why there is none
 abbrev pub IsVerdictOf : OpenJudge → Verdict Cause → Type 0
 IsVerdictOf judge =
@@ -117,5 +161,6 @@ abbrev pub JudgesRun : {E : Type 0} → (E → Option (List ℕ)) → OpenJudge 
 JudgesRun said judge =
     First (Watches said judge) (λ verdict.
     First (Still (ExplainsFailing judge verdict)) (λ why.
-    First (Still (Prints (told_verdict cause_text judge.command.judged.json verdict ++ told_why judge.command.judged.json judge.made why) (verdict_status verdict)))
-    (Answers said verdict)))
+    First (Still (TellsAnswers judge verdict)) (λ answers.
+    First (Still (Prints (judged_text judge verdict why answers) (verdict_status verdict)))
+    (Answers said verdict))))

@@ -1,7 +1,10 @@
 //! The command that judges a run by a recovery routine.
 
 ghost use Rattle.arguments.specs.Line.{IsJudgedWithin};
-ghost use Rattle.command_line.specs.Judging.{ExplainsFailing, IsOpen, JudgesOpen, JudgesRun, Notes, OpensJudge, TellsProgress, Watches, cause_text, missing_text, note_of};
+ghost use Rattle.command_line.specs.Judging.{ExplainsFailing, IsOpen, JudgesOpen, JudgesRun, Notes, OpensJudge, TellsAnswers, TellsAnswersAt, TellsProgress, Watches, cause_text, judged_text, missing_text, note_of, told_answer, told_answers, told_right};
+ghost use Rattle.command_line.specs.Steps.{Prints};
+ghost use Rattle.command_line.specs.Verdicts.{verdict_status};
+ghost use Rattle.crash_test.specs.Programs.{IsProgramOf};
 ghost use Rattle.command_line.specs.Progress.{IsToldIf};
 ghost use Rattle.command_line.specs.Reasons.{ExplainsOne};
 ghost use Rattle.crash_test.specs.Loading.{IsLoaded};
@@ -17,12 +20,16 @@ use crate::opened::OpenJudge;
 use crate::progress::Reporter;
 use crate::reading::{read_recovery, read_run};
 use crate::streams::print;
-use crate::verdicts::{ToldCause, failing, verdict_answer, work};
+use crate::verdicts::{ToldCause, failing, verdict_status, verdict_text, work};
 use crate::whole::demand_whole;
 use arguments::JudgeCommand;
-use crash_test::{ExplainedImage, Judgement, RoutineReader, explain_losses, judge_program};
+use crash_test::{
+    ExplainedImage, Judgement, RightAnswer, RoutineReader, ToldAnswers, explain_losses,
+    judge_program, tell_answers,
+};
 use debugger::Failed;
 use recovery::Cause as RunCause;
+use report::{answer_line, answer_object, right_line, right_object};
 use routine_judge::{Cause, Verdict};
 use std::alloc::{AllocError, Global};
 use std::io::Write;
@@ -69,15 +76,29 @@ pub(crate) fn judge_run<T: Threads + Sync + Clock, E: Write>(
 {
     let verdict = verdict(rt, alloc, judge, errors)?;
     let why = why(alloc, judge, &verdict)?;
-    let answer = verdict_answer(
-        alloc,
-        &judge.made,
-        &verdict,
-        &why,
-        judge.command.judged.json,
-    )?;
+    let answers = answers(alloc, judge, &verdict)?;
+    let answer = judge_answer(alloc, judge, &verdict, &why, &answers)?;
     let _ = note_none(&verdict, errors);
     Ok(answer)
+}
+
+/// What is printed of the verdict, of a failing image, and of the answers there, and the status.
+fn judge_answer(
+    alloc: Global,
+    judge: &OpenJudge,
+    verdict: &Verdict<Cause>,
+    why: &Option<ExplainedImage>,
+    answers: &Option<ToldAnswers>,
+) -> Result<Answer, Failure>
+    requires program { IsProgramOf judge.now.made.file.items judge.now.made.run.setup.program }
+    requires few { IfSome why.now (λ explained. hart_steps explained.schedule < 2 ^ 32) }
+    ensures { Prints (judged_text judge.now verdict.now why.now answers.now) (verdict_status verdict.now) result }
+{
+    let json = judge.command.judged.json;
+    let mut text = verdict_text(alloc, &judge.made, verdict, why, json)?;
+    let lines = told_answers(alloc, answers, json)?;
+    text.push_str(lines.as_str())?;
+    Ok(Answer::of(text, verdict_status(verdict)))
 }
 
 /// The verdict; with `--progress` standard error gets on the way how many of the moments pass.
@@ -162,11 +183,90 @@ fn explained(
     ensures told { ExplainsOne (IsLoaded judge.now.recovery judge.now.command.steps) judge.now.made.run moment image.now result }
     ensures few { IfOk result (λ explained. hart_steps explained.schedule < 2 ^ 32) }
 {
-    let reader = RoutineReader {
+    let reader = reader(judge);
+    Ok(explain_losses(alloc, &judge.made.run, moment, image, &reader)?)
+}
+
+/// The recovery routine, as it reads an image.
+fn reader(judge: &OpenJudge) -> RoutineReader<'_>
+    ensures program { result.program.now ≡ judge.now.recovery }
+    ensures steps { result.steps ≡ judge.now.command.steps }
+{
+    RoutineReader {
         program: &judge.recovery,
         steps: judge.command.steps,
+    }
+}
+
+/// `--why`: of a failing image whose answer isn't a right one, that answer and the right ones.
+fn answers(
+    alloc: Global,
+    judge: &OpenJudge,
+    verdict: &Verdict<Cause>,
+) -> Result<Option<ToldAnswers>, Failure>
+    ensures { TellsAnswers judge.now verdict.now result }
+{
+    match verdict {
+        Verdict::Fail {
+            moment,
+            image,
+            cause: Cause::Different,
+            ..
+        } if judge.command.judged.why => answers_at(alloc, judge, *moment, image),
+        _ => Ok(None),
+    }
+}
+
+fn answers_at(
+    alloc: Global,
+    judge: &OpenJudge,
+    moment: u32,
+    image: &ImageName,
+) -> Result<Option<ToldAnswers>, Failure>
+    ensures { TellsAnswersAt judge.now moment image.now result }
+{
+    let reader = reader(judge);
+    Ok(tell_answers(alloc, &judge.made.run, moment, image, &reader)?)
+}
+
+/// A line or an object for the answer on the image, and one for each right one.
+fn told_answers(
+    alloc: Global,
+    answers: &Option<ToldAnswers>,
+    json: bool,
+) -> Result<String, AllocError>
+    ensures { IfOk result (λ text. string_bytes text ≡ told_answers json answers.now) }
+{
+    let Some(told) = answers else {
+        return Ok(String::new(alloc));
     };
-    Ok(explain_losses(alloc, &judge.made.run, moment, image, &reader)?)
+    let mut text = told_answer(alloc, told.answer.bytes(), json)?;
+    for right in &told.right {
+        let line = told_right(alloc, right, json)?;
+        text.push_str(line.as_str())?;
+    }
+    Ok(text)
+}
+
+fn told_answer(alloc: Global, answer: &[u8], json: bool) -> Result<String, AllocError>
+    ensures { IfOk result (λ text. string_bytes text ≡ told_answer json answer.now) }
+{
+    if json {
+        answer_object(alloc, answer)
+    } else {
+        answer_line(alloc, answer)
+    }
+}
+
+fn told_right(alloc: Global, right: &RightAnswer, json: bool) -> Result<String, AllocError>
+    ensures { IfOk result (λ text. string_bytes text ≡ told_right json right.now) }
+{
+    let RightAnswer { moment, answer } = right;
+    if json {
+        right_object(alloc, answer.bytes(), *moment)
+    } else {
+        right_line(alloc, answer.bytes(), *moment)
+    }
 }
 
 impl ToldCause for Cause {

@@ -42,10 +42,26 @@ pub(crate) fn verdict_answer<C: ToldCause>(
     requires few { IfSome why.now (λ explained. hart_steps explained.schedule < 2 ^ 32) }
     ensures { Prints (told_verdict C.told json verdict.now ++ told_why json made.now why.now) (verdict_status verdict.now) result }
 {
+    let text = verdict_text(alloc, made, verdict, why, json)?;
+    Ok(Answer::of(text, verdict_status(verdict)))
+}
+
+/// The text of that.
+pub(crate) fn verdict_text<C: ToldCause>(
+    alloc: Global,
+    made: &MadeRun,
+    verdict: &Verdict<C>,
+    why: &Option<ExplainedImage>,
+    json: bool,
+) -> Result<String, AllocError>
+    requires program { IsProgramOf made.now.file.items made.now.run.setup.program }
+    requires few { IfSome why.now (λ explained. hart_steps explained.schedule < 2 ^ 32) }
+    ensures { IfOk result (λ text. string_bytes text ≡ told_verdict C.told json verdict.now ++ told_why json made.now why.now) }
+{
     let mut text = told_verdict(alloc, verdict, json)?;
     let lines = told_why(alloc, made, why, json)?;
     text.push_str(lines.as_str())?;
-    Ok(Answer::of(text, verdict_status(verdict)))
+    Ok(text)
 }
 
 /// The verdict, as text or as JSON.

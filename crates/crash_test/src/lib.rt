@@ -3,6 +3,7 @@
 #![tactic(auto)]
 
 mod answering;
+mod answers;
 mod checking;
 mod explaining;
 mod file_kind;
@@ -18,6 +19,7 @@ mod volumes;
 mod work;
 
 pub use answering::answer_on;
+pub use answers::{RightAnswer, ToldAnswers, tell_answers};
 pub use checking::check_program;
 pub use explaining::explain_image;
 pub use image_causes::{

@@ -13,7 +13,7 @@ mod picture;
 mod place;
 mod redundant;
 
-pub use answer::answer_text;
+pub use answer::{answer_line, answer_object, right_line, right_object};
 pub use causes::unfinished_text;
 pub use disassembly::listing_text;
 pub use events::{PlacedEvent, hart_of, trace_text};
