@@ -57,38 +57,52 @@ fn has_places(file: &TraceFile) -> bool {
     true
 }
 
-#[test]
-fn the_example_is_read(rt: HostRuntime) -> Result<(), AllocError> {
-    let Ok(file) = TraceFile::read(rt.alloc(), EXAMPLE) else {
-        return Err(AllocError);
-    };
-    assert!(rt; file.events() == EVENTS.as_slice());
-    assert!(rt; file.trace().events() == EVENTS.as_slice());
-    assert!(rt; has_places(&file));
-    assert!(rt; file.names() == [2u32, 70_000].as_slice());
-    assert!(rt;
-        file.rank_of(2) == Some(0) && file.rank_of(70_000) == Some(1) && file.rank_of(3).is_none()
-    );
-    Ok(())
+/// Whether it has its events, as a trace too, its places, its lines and their ranks.
+fn is_example(file: &TraceFile) -> [bool; 5] {
+    [
+        file.events() == EVENTS.as_slice(),
+        file.trace().events() == EVENTS.as_slice(),
+        has_places(file),
+        file.names() == [2u32, 70_000].as_slice(),
+        [file.rank_of(2), file.rank_of(70_000), file.rank_of(3)] == [Some(0), Some(1), None],
+    ]
 }
 
 #[test]
-fn a_line_is_named_by_its_rank(rt: HostRuntime) -> Result<(), AllocError> {
-    let Ok(file) = TraceFile::read(rt.alloc(), EXAMPLE) else {
-        return Err(AllocError);
-    };
-    let named = file.names().len() == 2 && file.line_name(0) == 2 && file.line_name(1) == 70_000;
-    assert!(rt; named);
-    Ok(())
+fn the_example_is_read(rt: HostRuntime) {
+    let read = TraceFile::read(rt.alloc(), EXAMPLE).map(|file| is_example(&file));
+    assert_eq!(rt; read, Ok([true; 5]));
+}
+
+/// The names of the lines of ranks 0 and 1, where there are two.
+fn names(file: &TraceFile) -> Option<[u32; 2]> {
+    if file.names().len() != 2 {
+        return None;
+    }
+    Some([file.line_name(0), file.line_name(1)])
+}
+
+#[test]
+fn a_line_is_named_by_its_rank(rt: HostRuntime) {
+    let read = TraceFile::read(rt.alloc(), EXAMPLE).map(|file| names(&file));
+    assert_eq!(rt; read, Ok(Some([2, 70_000])));
+}
+
+/// Whether a text is a trace file of so many events, which is written back.
+fn is_written_back(alloc: Global, text: &[u8], count: usize) -> Result<bool, AllocError> {
+    match TraceFile::read(alloc, text) {
+        Ok(file) => {
+            let written = file.write(alloc)?;
+            Ok(file.events().len() == count && written.as_slice() == text)
+        }
+        Err(_) => Ok(false),
+    }
 }
 
 #[test]
 fn the_example_is_written_back(rt: HostRuntime) -> Result<(), AllocError> {
-    let Ok(file) = TraceFile::read(rt.alloc(), EXAMPLE) else {
-        return Err(AllocError);
-    };
-    let written = file.write(rt.alloc())?;
-    assert!(rt; written.as_slice() == EXAMPLE);
+    let is_same = is_written_back(rt.alloc(), EXAMPLE, 7)?;
+    assert!(rt; is_same);
     Ok(())
 }
 
@@ -197,11 +211,7 @@ static ENDS: [(&[u8], usize); 10] = [
 /// The row of the first text that isn't a trace file of so many events, which is written back.
 fn first_unread(alloc: Global) -> Result<Option<usize>, AllocError> {
     for (row, (text, count)) in FILES.iter().enumerate() {
-        let Ok(file) = TraceFile::read(alloc, *text) else {
-            return Ok(Some(row));
-        };
-        let written = file.write(alloc)?;
-        if file.events().len() != *count || written.as_slice() != *text {
+        if !is_written_back(alloc, *text, *count)? {
             return Ok(Some(row));
         }
     }
@@ -211,7 +221,7 @@ fn first_unread(alloc: Global) -> Result<Option<usize>, AllocError> {
 #[test]
 fn trace_files_are_read(rt: HostRuntime) -> Result<(), AllocError> {
     let row = first_unread(rt.alloc())?;
-    assert!(rt; row.is_none());
+    assert_eq!(rt; row, None);
     Ok(())
 }
 
@@ -228,11 +238,14 @@ fn are_refused(alloc: Global, texts: &[(&[u8], usize)], code: TraceFileCode) -> 
 
 #[test]
 fn the_first_line_at_fault_is_reported(rt: HostRuntime) {
-    assert!(rt; are_refused(rt.alloc(), &FORMS, TraceFileCode::Form));
-    assert!(rt; are_refused(rt.alloc(), &NUMBERS, TraceFileCode::Number));
-    assert!(rt; are_refused(rt.alloc(), &STORES, TraceFileCode::Store));
-    assert!(rt; are_refused(rt.alloc(), &LIMITS, TraceFileCode::Limit));
-    assert!(rt; are_refused(rt.alloc(), &ENDS, TraceFileCode::End));
+    let refused = [
+        are_refused(rt.alloc(), &FORMS, TraceFileCode::Form),
+        are_refused(rt.alloc(), &NUMBERS, TraceFileCode::Number),
+        are_refused(rt.alloc(), &STORES, TraceFileCode::Store),
+        are_refused(rt.alloc(), &LIMITS, TraceFileCode::Limit),
+        are_refused(rt.alloc(), &ENDS, TraceFileCode::End),
+    ];
+    assert_eq!(rt; refused, [true; 5]);
 }
 
 /// The text of so many cleans, of as many different lines in no order.
@@ -246,16 +259,26 @@ fn cleans(alloc: Global, count: u32) -> Result<String, AllocError> {
     Ok(text)
 }
 
+/// How many lines and events a trace file has.
+type Counts = (usize, usize);
+
+/// The counts of a text that is a trace file, or what is wrong with it.
+fn counts(alloc: Global, text: &str) -> Result<Counts, TraceFileFault> {
+    let file = TraceFile::read(alloc, text.as_bytes())?;
+    Ok((file.names().len(), file.events().len()))
+}
+
+/// Past a limit at this line.
+fn past_limit(line: usize) -> Result<Counts, TraceFileFault> {
+    let code = TraceFileCode::Limit;
+    Err(TraceFileFault { line, code })
+}
+
 #[test]
 fn no_more_than_16384_different_lines(rt: HostRuntime) -> Result<(), AllocError> {
-    let text = cleans(rt.alloc(), 16_384)?;
-    let names = TraceFile::read(rt.alloc(), text.as_bytes()).map(|file| file.names().len());
-    assert!(rt; names == Ok(16_384));
-    let text = cleans(rt.alloc(), 16_385)?;
-    let fault = TraceFile::read(rt.alloc(), text.as_bytes()).err();
-    let line = 16_385;
-    let code = TraceFileCode::Limit;
-    assert!(rt; fault == Some(TraceFileFault { line, code }));
+    let most = counts(rt.alloc(), &cleans(rt.alloc(), 16_384)?);
+    let more = counts(rt.alloc(), &cleans(rt.alloc(), 16_385)?);
+    assert_eq!(rt; [most, more], [Ok((16_384, 16_384)), past_limit(16_385)]);
     Ok(())
 }
 
@@ -271,26 +294,23 @@ fn fences(alloc: Global, count: u32) -> Result<String, AllocError> {
 
 #[test]
 fn no_more_than_65536_events(rt: HostRuntime) -> Result<(), AllocError> {
-    let text = fences(rt.alloc(), 65_536)?;
-    let events = TraceFile::read(rt.alloc(), text.as_bytes()).map(|file| file.events().len());
-    assert!(rt; events == Ok(65_536));
-    let text = fences(rt.alloc(), 65_537)?;
-    let fault = TraceFile::read(rt.alloc(), text.as_bytes()).err();
-    let line = 65_537;
-    let code = TraceFileCode::Limit;
-    assert!(rt; fault == Some(TraceFileFault { line, code }));
+    let most = counts(rt.alloc(), &fences(rt.alloc(), 65_536)?);
+    let more = counts(rt.alloc(), &fences(rt.alloc(), 65_537)?);
+    assert_eq!(rt; [most, more], [Ok((0, 65_536)), past_limit(65_537)]);
     Ok(())
 }
 
 #[test]
 fn codes_have_their_names(rt: HostRuntime) {
-    let named = TraceFileCode::Form.name() == "V1"
-        && TraceFileCode::Number.name() == "V2"
-        && TraceFileCode::Store.name() == "V3"
-        && TraceFileCode::Limit.name() == "V4"
-        && TraceFileCode::End.name() == "V5"
-        && TraceFileCode::Memory.name() == "memory";
-    assert!(rt; named);
+    let names = [
+        TraceFileCode::Form.name(),
+        TraceFileCode::Number.name(),
+        TraceFileCode::Store.name(),
+        TraceFileCode::Limit.name(),
+        TraceFileCode::End.name(),
+        TraceFileCode::Memory.name(),
+    ];
+    assert_eq!(rt; names, ["V1", "V2", "V3", "V4", "V5", "memory"]);
 }
 
 /// Faults, with what they say of themselves.
@@ -311,11 +331,16 @@ static MESSAGES: [(TraceFileFault, &str); 2] = [
     ),
 ];
 
+/// Whether a fault says this of itself.
+fn says(alloc: Global, fault: TraceFileFault, said: &str) -> Result<bool, AllocError> {
+    Ok(format!(in alloc; "{fault}")?.as_str() == said)
+}
+
 #[test]
 fn faults_say_what_is_wrong(rt: HostRuntime) -> Result<(), AllocError> {
     for (fault, said) in &MESSAGES {
-        let message = format!(in rt.alloc(); "{fault}")?;
-        assert!(rt; message.as_str() == *said);
+        let is_said = says(rt.alloc(), *fault, *said)?;
+        assert!(rt; is_said, "{said}");
     }
     Ok(())
 }

@@ -1,6 +1,6 @@
 //! ELF files: which are executables, of what text and data, and the first fault of each other; their functions and sections.
 
-use crate::assembler::examples::{LongExample, first_long_difference, joined};
+use crate::assembler::examples::{LongExample, expect_long_answers, joined};
 use crate::assembler::readings::Reading;
 use elf_file::{ElfFault, Functions, is_elf, read, section};
 use std::alloc::{AllocError, Global};
@@ -319,12 +319,8 @@ static ONE_LONG_TEXT: [(&[u8], usize); 6] = [
 ];
 
 #[test]
-fn executables_have_their_sections_or_faults(rt: HostRuntime) -> Result<(), Fail> {
-    assert_eq!(rt;
-        first_long_difference(rt.alloc(), Reading::Elf, &ENTRIES)?,
-        None
-    );
-    Ok(())
+fn executables_have_their_sections_or_faults(rt: HostRuntime) -> Result<(), AllocError> {
+    expect_long_answers(&rt, Reading::Elf, &ENTRIES)
 }
 
 /// The small file with other bytes.
@@ -363,15 +359,16 @@ fn first_whole(alloc: Global, file: &[u8]) -> Option<usize> {
 
 #[test]
 fn each_beginning_of_an_executable_is_truncated(rt: HostRuntime) -> Result<(), Fail> {
-    let file = changed(rt.alloc(), &[])?;
-    assert!(rt; first_whole(rt.alloc(), &file) == Some(132));
+    let whole = first_whole(rt.alloc(), &changed(rt.alloc(), &[])?);
+    assert_eq!(rt; whole, Some(132));
     Ok(())
 }
 
 #[test]
 fn elf_files_begin_with_their_magic(rt: HostRuntime) {
-    assert!(rt; is_elf(HEADER) && is_elf(b"\x7fELF"));
-    assert!(rt; !is_elf(b"\x7fEL") && !is_elf(b"RVXPROG1") && !is_elf(b""));
+    let files = [is_elf(HEADER), is_elf(b"\x7fELF")];
+    let others = [is_elf(b"\x7fEL"), is_elf(b"RVXPROG1"), is_elf(b"")];
+    assert_eq!(rt; (files, others), ([true; 2], [false; 3]));
 }
 
 /// The functions of a file, and the one at each address from 0xffff to 0x1000d.
@@ -389,45 +386,82 @@ fn functions_shown(alloc: Global, file: &[u8]) -> Result<String, AllocError> {
     Ok(shown)
 }
 
+/// The addresses of three names in a file, of which the last is none of a function.
+fn addresses(alloc: Global, file: &[u8]) -> Result<[Option<u64>; 3], AllocError> {
+    let functions = Functions::read(alloc, file)?;
+    Ok([
+        functions.address_of(b"inner.0"),
+        functions.address_of(b"late"),
+        functions.address_of(b"inner"),
+    ])
+}
+
+/// Whether the functions of the file `NAMED` are shown so, and the addresses of its three names.
+fn named(alloc: Global) -> Result<(bool, [Option<u64>; 3]), AllocError> {
+    let file = joined(alloc, &NAMED)?;
+    let is_shown = functions_shown(alloc, &file)?.as_str() == FUNCTIONS;
+    Ok((is_shown, addresses(alloc, &file)?))
+}
+
 #[test]
-fn functions_are_those_of_the_symbol_table(rt: HostRuntime) -> Result<(), Fail> {
-    let file = joined(rt.alloc(), &NAMED)?;
-    assert!(rt; functions_shown(rt.alloc(), &file)?.as_str() == FUNCTIONS);
-    let functions = Functions::read(rt.alloc(), &file)?;
-    assert_eq!(rt; functions.address_of(b"inner.0"), Some(0x1_0004));
-    assert_eq!(rt; functions.address_of(b"late"), Some(0x1_0008));
-    assert_eq!(rt; functions.address_of(b"inner"), None);
+fn functions_are_those_of_the_symbol_table(rt: HostRuntime) -> Result<(), AllocError> {
+    let found = named(rt.alloc())?;
+    assert_eq!(rt; found, (true, [Some(0x1_0004), Some(0x1_0008), None]));
+    Ok(())
+}
+
+/// How many functions the file of parts has.
+fn count_of(alloc: Global, parts: &[(&[u8], usize)]) -> Result<usize, AllocError> {
+    let file = joined(alloc, parts)?;
+    Ok(Functions::read(alloc, &file)?.count())
+}
+
+/// How many functions the file `LONG_NAMES` has, and whether there is one at each of its addresses.
+fn long_named(alloc: Global) -> Result<(usize, [bool; 2]), AllocError> {
+    let file = joined(alloc, &LONG_NAMES)?;
+    let functions = Functions::read(alloc, &file)?;
+    let named = [
+        functions.at(0x1_0000).is_some(),
+        functions.at(0x1_0004).is_some(),
+    ];
+    Ok((functions.count(), named))
+}
+
+#[test]
+fn a_function_has_a_name_of_at_most_255_bytes(rt: HostRuntime) -> Result<(), AllocError> {
+    let found = long_named(rt.alloc())?;
+    assert_eq!(rt; found, (1, [false, true]));
     Ok(())
 }
 
 #[test]
-fn a_function_has_a_name_of_at_most_255_bytes(rt: HostRuntime) -> Result<(), Fail> {
-    let file = joined(rt.alloc(), &LONG_NAMES)?;
-    let functions = Functions::read(rt.alloc(), &file)?;
-    assert_eq!(rt; functions.count(), 1);
-    assert!(rt; functions.at(0x1_0000).is_none() && functions.at(0x1_0004).is_some());
+fn a_file_without_a_symbol_table_has_no_functions(rt: HostRuntime) -> Result<(), AllocError> {
+    let count = count_of(rt.alloc(), ENTRIES[0].0)?;
+    assert_eq!(rt; count, 0);
     Ok(())
 }
 
 #[test]
-fn a_file_without_a_symbol_table_has_no_functions(rt: HostRuntime) -> Result<(), Fail> {
-    let file = changed(rt.alloc(), &[])?;
-    assert_eq!(rt; Functions::read(rt.alloc(), &file)?.count(), 0);
+fn a_long_text_costs_no_more_for_each_name(rt: HostRuntime) -> Result<(), AllocError> {
+    let count = count_of(rt.alloc(), &ONE_LONG_TEXT)?;
+    assert_eq!(rt; count, 0);
     Ok(())
 }
 
-#[test]
-fn a_long_text_costs_no_more_for_each_name(rt: HostRuntime) -> Result<(), Fail> {
-    let file = joined(rt.alloc(), &ONE_LONG_TEXT)?;
-    assert_eq!(rt; Functions::read(rt.alloc(), &file)?.count(), 0);
-    Ok(())
+/// Whether the sections of the file `NAMED` have their bytes, and its other names and the file `HEADER` have none.
+fn sections_are_found(alloc: Global) -> Result<[bool; 4], AllocError> {
+    let file = joined(alloc, &NAMED)?;
+    Ok([
+        section(&file, b".note") == b"second".as_slice(),
+        section(&file, b".strtab").len() == 32,
+        section(&file, b".not").is_empty(),
+        section(HEADER, b".note").is_empty(),
+    ])
 }
 
 #[test]
-fn sections_have_their_bytes(rt: HostRuntime) -> Result<(), Fail> {
-    let file = joined(rt.alloc(), &NAMED)?;
-    assert!(rt; section(&file, b".note") == b"second".as_slice());
-    assert!(rt; section(&file, b".strtab").len() == 32 && section(&file, b".not").is_empty());
-    assert!(rt; section(HEADER, b".note").is_empty());
+fn sections_have_their_bytes(rt: HostRuntime) -> Result<(), AllocError> {
+    let found = sections_are_found(rt.alloc())?;
+    assert_eq!(rt; found, [true; 4]);
     Ok(())
 }

@@ -2,14 +2,37 @@
 
 use crate::assembler::readings::{Reading, answer_to};
 use std::alloc::{AllocError, Global};
+use std::process::Abort;
 
 pub(crate) type Example = (&'static [u8], &'static str);
 
 /// An example of many bytes: parts, each so many times, and the answer to them together.
 pub(crate) type LongExample = (&'static [(&'static [u8], usize)], &'static str);
 
+/// Each of these examples is answered as is said there. (One function, since each `assert!` is proved anew; so are the next.)
+pub(crate) fn expect_answers(
+    rt: &(impl AllocGlobal + Abort),
+    reading: Reading,
+    examples: &[Example],
+) -> Result<(), AllocError> {
+    let difference = first_difference(rt.alloc(), reading, examples)?;
+    assert_eq!(rt; difference, None);
+    Ok(())
+}
+
+/// The same of long examples.
+pub(crate) fn expect_long_answers(
+    rt: &(impl AllocGlobal + Abort),
+    reading: Reading,
+    examples: &[LongExample],
+) -> Result<(), AllocError> {
+    let difference = first_long_difference(rt.alloc(), reading, examples)?;
+    assert_eq!(rt; difference, None);
+    Ok(())
+}
+
 /// The first of these examples that is answered in another way, with its answer.
-pub(crate) fn first_difference(
+fn first_difference(
     alloc: Global,
     reading: Reading,
     examples: &[Example],
@@ -25,7 +48,7 @@ pub(crate) fn first_difference(
 }
 
 /// The answer that is expected to the first of these examples that is answered in another way, and its answer.
-pub(crate) fn first_long_difference(
+fn first_long_difference(
     alloc: Global,
     reading: Reading,
     examples: &[LongExample],

@@ -1,10 +1,10 @@
 //! The files of objects, read, written and loaded, and the fault of each file that is cut or changed.
 
-use crate::assembler::examples::{Example, LongExample, first_difference, first_long_difference};
+use crate::assembler::examples::{Example, LongExample, expect_answers, expect_long_answers};
 use crate::assembler::readings::Reading;
 use assemble::assemble;
 use program::{DATA_LIMIT, LoadFault, MAGIC, Object, TEXT_LIMIT};
-use std::alloc::Global;
+use std::alloc::{AllocError, Global};
 use std::test::Fail;
 
 /// The file of `addi x1, x0, 5` alone.
@@ -58,11 +58,9 @@ static FULL_FILES: [LongExample; 2] = [
 ];
 
 #[test]
-fn files_have_their_objects_or_faults(rt: HostRuntime) -> Result<(), Fail> {
-    assert_eq!(rt; first_difference(rt.alloc(), Reading::File, &FILES)?, None);
-    let difference = first_long_difference(rt.alloc(), Reading::File, &FULL_FILES)?;
-    assert_eq!(rt; difference, None);
-    Ok(())
+fn files_have_their_objects_or_faults(rt: HostRuntime) -> Result<(), AllocError> {
+    expect_answers(&rt, Reading::File, &FILES)?;
+    expect_long_answers(&rt, Reading::File, &FULL_FILES)
 }
 
 /// The length of the first beginning of a file that isn't refused as cut off.
@@ -87,12 +85,13 @@ fn each_beginning_of_a_file_is_truncated(rt: HostRuntime) {
 
 #[test]
 fn an_assembled_object_has_its_file(rt: HostRuntime) -> Result<(), Fail> {
-    assert!(rt; file_of(rt.alloc(), b"addi x1, x0, 5")?.as_slice() == ONE_WORD);
+    let is_one_word = file_of(rt.alloc(), b"addi x1, x0, 5")?.as_slice() == ONE_WORD;
+    assert!(rt; is_one_word);
     Ok(())
 }
 
 #[test]
 fn limits_are_the_sizes_of_the_regions(rt: HostRuntime) {
-    assert!(rt; TEXT_LIMIT == 0x1_0000 && DATA_LIMIT == 0x10_0000);
-    assert!(rt; MAGIC == [0x52, 0x56, 0x58, 0x50, 0x52, 0x4f, 0x47, 0x31]);
+    let magic = [0x52, 0x56, 0x58, 0x50, 0x52, 0x4f, 0x47, 0x31];
+    assert!(rt; (TEXT_LIMIT, DATA_LIMIT, MAGIC) == (0x1_0000, 0x10_0000, magic));
 }

@@ -4,10 +4,10 @@
 //! that waits for a label's place, or the code of its fault.
 //! The words of instructions are those that `riscv64-linux-gnu-as` of binutils 2.40 gives.
 
-use crate::assembler::examples::{Example, first_difference, first_listed_difference};
+use crate::assembler::examples::{Example, expect_answers, first_listed_difference};
 use crate::assembler::readings::Reading;
 use assemble::halves;
-use std::test::Fail;
+use std::alloc::AllocError;
 
 const JUMPS_AND_BRANCHES: &str = "\
 fffff2b7 | lui t0, 1048575
@@ -288,28 +288,30 @@ A3 | a: add x1
 A1 | nop @
 ";
 
+static LISTINGS: [&str; 17] = [
+    JUMPS_AND_BRANCHES,
+    LOADS_AND_STORES,
+    OPERATIONS_ON_NUMBERS,
+    OPERATIONS_ON_REGISTERS,
+    FENCES_AND_CACHE_OPERATIONS,
+    ATOMICS,
+    PSEUDO_INSTRUCTIONS,
+    PSEUDO_BRANCHES,
+    LONG_NUMBERS,
+    NAMING,
+    DEFINING,
+    NUMBERS,
+    DIRECTIVES,
+    OTHER_OPERANDS,
+    OTHER_OPERANDS_OF_PSEUDO_INSTRUCTIONS,
+    UNFIT,
+    LABELLED,
+];
+
 #[test]
-fn lines_say_their_statements(rt: HostRuntime) -> Result<(), Fail> {
-    let listings = [
-        JUMPS_AND_BRANCHES,
-        LOADS_AND_STORES,
-        OPERATIONS_ON_NUMBERS,
-        OPERATIONS_ON_REGISTERS,
-        FENCES_AND_CACHE_OPERATIONS,
-        ATOMICS,
-        PSEUDO_INSTRUCTIONS,
-        PSEUDO_BRANCHES,
-        LONG_NUMBERS,
-        NAMING,
-        DEFINING,
-        NUMBERS,
-        DIRECTIVES,
-        OTHER_OPERANDS,
-        OTHER_OPERANDS_OF_PSEUDO_INSTRUCTIONS,
-        UNFIT,
-        LABELLED,
-    ];
-    assert_eq!(rt; first_listed_difference(rt.alloc(), &listings)?, None);
+fn lines_say_their_statements(rt: HostRuntime) -> Result<(), AllocError> {
+    let difference = first_listed_difference(rt.alloc(), &LISTINGS)?;
+    assert_eq!(rt; difference, None);
     Ok(())
 }
 
@@ -325,12 +327,11 @@ static SHOWN: [Example; 4] = [
 ];
 
 #[test]
-fn shown_words_read_back(rt: HostRuntime) -> Result<(), Fail> {
-    assert_eq!(rt; first_difference(rt.alloc(), Reading::Shown, &SHOWN)?, None);
-    Ok(())
+fn shown_words_read_back(rt: HostRuntime) -> Result<(), AllocError> {
+    expect_answers(&rt, Reading::Shown, &SHOWN)
 }
 
 #[test]
 fn halves_of_numbers(rt: HostRuntime) {
-    assert!(rt; halves(0xf_0000) == (0xf0, 0) && halves(-1) == (0, -1));
+    assert!(rt; [halves(0xf_0000), halves(-1)] == [(0xf0, 0), (0, -1)]);
 }

@@ -30,13 +30,26 @@ fn sets_by_their_letters(rt: HostRuntime) {
         memory_reads: false,
         memory_writes: true,
     };
-    assert!(rt; set_of(b"w") == Some(writes));
-    assert!(rt; set_of(b"wr").is_none() && set_of(b"").is_none());
+    assert!(rt; [set_of(b"w"), set_of(b"wr"), set_of(b"")] == [Some(writes), None, None]);
 }
 
 #[test]
 fn mnemonics_by_their_names(rt: HostRuntime) {
-    assert!(rt; matches!(mnemonic_of(b"ret"), Some(Mnemonic::Return)));
-    assert!(rt; matches!(mnemonic_of(b"amoadd.w.aqrl"), Some(Mnemonic::Atomic(_, _))));
-    assert!(rt; mnemonic_of(b"amoadd").is_none() && mnemonic_of(b"fence.tso").is_none());
+    let mnemonics = [
+        mnemonic_of(b"ret"),
+        mnemonic_of(b"amoadd.w.aqrl"),
+        mnemonic_of(b"amoadd"),
+        mnemonic_of(b"fence.tso"),
+    ];
+    assert!(rt;
+        matches!(
+            mnemonics,
+            [
+                Some(Mnemonic::Return),
+                Some(Mnemonic::Atomic(_, _)),
+                None,
+                None
+            ]
+        )
+    );
 }

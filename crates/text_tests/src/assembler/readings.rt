@@ -1,6 +1,6 @@
 //! What bytes are read as, and what each reading answers, as text.
 
-use asm_lex::{Kind, LexFault, next_line, tokens};
+use asm_lex::{Kind, LexFault, Token, next_line, tokens};
 use assemble::{AsmCode, AsmFault, Line, Section, Statement, assemble, read_line};
 use decode::{decode, show};
 use isa_table::encode;
@@ -19,84 +19,103 @@ pub(crate) enum Reading {
     Elf,
 }
 
+/// The answer of a reading. What is read adds to a text that is lent, so that no text is let go at each `?`.
 pub(crate) fn answer_to(
     alloc: Global,
     reading: Reading,
     bytes: &[u8],
 ) -> Result<String, AllocError> {
+    let mut answer = String::new(alloc);
+    push_answer(alloc, &mut answer, reading, bytes)?;
+    Ok(answer)
+}
+
+fn push_answer(
+    alloc: Global,
+    answer: &mut String,
+    reading: Reading,
+    bytes: &[u8],
+) -> Result<(), AllocError> {
     match reading {
-        Reading::Lines => lines(alloc, bytes),
-        Reading::Tokens => line_tokens(alloc, bytes),
-        Reading::Statement => line_statement(alloc, bytes),
-        Reading::Shown => shown_again(alloc, bytes),
-        Reading::Source => object_of(alloc, bytes),
-        Reading::File => contents(alloc, bytes),
-        Reading::Elf => executable(alloc, bytes),
+        Reading::Lines => push_lines(alloc, answer, bytes),
+        Reading::Tokens => push_tokens(alloc, answer, bytes),
+        Reading::Statement => push_line(alloc, answer, bytes),
+        Reading::Shown => push_shown(alloc, answer, bytes),
+        Reading::Source => push_object(alloc, answer, bytes),
+        Reading::File => push_contents(alloc, answer, bytes),
+        Reading::Elf => push_executable(alloc, answer, bytes),
     }
 }
 
+/// Bytes as text.
+fn push_bytes(alloc: Global, answer: &mut String, bytes: &[u8]) -> Result<(), AllocError> {
+    answer.push_str(String::from_utf8_lossy(alloc, bytes)?.as_str())
+}
+
 /// The lines of a source, each with an LF, and how many bytes are left.
-fn lines(alloc: Global, source: &[u8]) -> Result<String, AllocError> {
-    let mut answer = String::new(alloc);
+fn push_lines(alloc: Global, answer: &mut String, source: &[u8]) -> Result<(), AllocError> {
     let mut rest = source;
     for _ in 0..=source.len() {
         let Some((line, after)) = next_line(rest) else {
             break;
         };
-        write!(answer, "{}\n", String::from_utf8_lossy(alloc, line)?)?;
+        push_bytes(alloc, answer, line)?;
+        answer.push_str("\n")?;
         rest = after;
     }
-    write!(answer, "{} left", rest.len())?;
-    Ok(answer)
+    write!(answer, "{} left", rest.len())
 }
 
 /// The tokens of line 7, one in each line: where it stands, its kind and its text.
-fn line_tokens(alloc: Global, line: &[u8]) -> Result<String, AllocError> {
-    let found = match tokens(alloc, line, 7) {
-        Ok(found) => found,
-        Err(LexFault::BadToken) => return format!(in alloc; "bad token"),
-        Err(LexFault::Memory) => return Err(AllocError),
-    };
-    let mut answer = String::new(alloc);
-    for token in &found {
-        let kind = kind_name(alloc, token.kind)?;
-        let text = String::from_utf8_lossy(alloc, token.text)?;
-        write!(answer, "{}:{} {kind} {text}\n", token.line, token.start)?;
+fn push_tokens(alloc: Global, answer: &mut String, line: &[u8]) -> Result<(), AllocError> {
+    match tokens(alloc, line, 7) {
+        Ok(found) => push_each(alloc, answer, &found),
+        Err(LexFault::BadToken) => answer.push_str("bad token"),
+        Err(LexFault::Memory) => Err(AllocError),
     }
-    Ok(answer)
+}
+
+fn push_each(alloc: Global, answer: &mut String, tokens: &[Token<'_>]) -> Result<(), AllocError> {
+    for token in tokens {
+        write!(answer, "{}:{} ", token.line, token.start)?;
+        push_kind(answer, token.kind)?;
+        answer.push_str(" ")?;
+        push_bytes(alloc, answer, token.text)?;
+        answer.push_str("\n")?;
+    }
+    Ok(())
 }
 
 /// A token's kind, without its text.
-fn kind_name(alloc: Global, kind: Kind) -> Result<String, AllocError> {
+fn push_kind(answer: &mut String, kind: Kind) -> Result<(), AllocError> {
     match kind {
-        Kind::Name(_) => format!(in alloc; "Name"),
-        Kind::Number { value, .. } => format!(in alloc; "Number({value:?})"),
-        mark => format!(in alloc; "{mark:?}"),
+        Kind::Name(_) => answer.push_str("Name"),
+        Kind::Number { value, .. } => write!(answer, "Number({value:?})"),
+        mark => write!(answer, "{mark:?}"),
     }
 }
 
 /// The label that a line defines, and its statement; or the code of its fault.
-fn line_statement(alloc: Global, line: &[u8]) -> Result<String, AllocError> {
-    let mut answer = String::new(alloc);
+fn push_line(alloc: Global, answer: &mut String, line: &[u8]) -> Result<(), AllocError> {
     match read_line(alloc, line) {
         Ok(Line { label, statement }) => {
-            push_label(alloc, &mut answer, label)?;
+            push_label(alloc, answer, label)?;
             match statement {
-                Statement::Instruction(instr) => write!(answer, "{:08x}", encode(instr))?,
+                Statement::Instruction(instr) => write!(answer, "{:08x}", encode(instr)),
                 Statement::Pair(first, second) => {
-                    write!(answer, "{:08x} {:08x}", encode(first), encode(second))?
+                    write!(answer, "{:08x} {:08x}", encode(first), encode(second))
                 }
-                other => push_statement(alloc, &mut answer, other)?,
+                other => push_statement(alloc, answer, &other),
             }
         }
-        Err(code) => write!(answer, "{code}")?,
+        Err(code) => write!(answer, "{code}"),
     }
-    Ok(answer)
 }
 
 fn push_label(alloc: Global, answer: &mut String, label: Option<&[u8]>) -> Result<(), AllocError> {
     if let Some(label) = label {
-        write!(answer, "{}: ", String::from_utf8_lossy(alloc, label)?)?;
+        push_bytes(alloc, answer, label)?;
+        answer.push_str(": ")?;
     }
     Ok(())
 }
@@ -105,7 +124,7 @@ fn push_label(alloc: Global, answer: &mut String, label: Option<&[u8]>) -> Resul
 fn push_statement(
     alloc: Global,
     answer: &mut String,
-    statement: Statement<'_>,
+    statement: &Statement<'_>,
 ) -> Result<(), AllocError> {
     match statement {
         Statement::Branch {
@@ -114,22 +133,16 @@ fn push_statement(
             rs2,
             label,
         } => {
-            let label = String::from_utf8_lossy(alloc, label)?;
-            write!(
-                answer,
-                "{} x{}, x{}, {label}",
-                op.name(),
-                rs1.number,
-                rs2.number
-            )
+            write!(answer, "{} x{}, x{}, ", op.name(), rs1.number, rs2.number)?;
+            push_bytes(alloc, answer, *label)
         }
         Statement::Jump { rd, label } => {
-            let label = String::from_utf8_lossy(alloc, label)?;
-            write!(answer, "jal x{}, {label}", rd.number)
+            write!(answer, "jal x{}, ", rd.number)?;
+            push_bytes(alloc, answer, *label)
         }
         Statement::Address { rd, label } => {
-            let label = String::from_utf8_lossy(alloc, label)?;
-            write!(answer, "la x{}, {label}", rd.number)
+            write!(answer, "la x{}, ", rd.number)?;
+            push_bytes(alloc, answer, *label)
         }
         Statement::Section(Section::Text) => answer.push_str("the text"),
         Statement::Section(Section::Data) => answer.push_str("the data"),
@@ -143,7 +156,7 @@ fn push_statement(
 }
 
 /// The word of a line's instruction, and the text of the instruction that the word is decoded to.
-fn shown_again(alloc: Global, line: &[u8]) -> Result<String, AllocError> {
+fn push_shown(alloc: Global, answer: &mut String, line: &[u8]) -> Result<(), AllocError> {
     let word = match read_line(alloc, line) {
         Ok(
             Line {
@@ -151,66 +164,89 @@ fn shown_again(alloc: Global, line: &[u8]) -> Result<String, AllocError> {
                 statement: Statement::Instruction(instr),
             },
         ) => encode(instr),
-        _ => return format!(in alloc; "no instruction"),
+        _ => return answer.push_str("no instruction"),
     };
+    write!(answer, "{word:08x}")?;
     match decode(word) {
-        Some(instr) => format!(in alloc; "{word:08x} {}", show(alloc, instr)?),
-        None => format!(in alloc; "{word:08x}"),
+        Some(instr) => write!(answer, " {}", show(alloc, instr)?),
+        None => Ok(()),
     }
 }
 
 /// The sections of a source's object, or the code and the line of its fault.
-fn object_of(alloc: Global, source: &[u8]) -> Result<String, AllocError> {
+fn push_object(alloc: Global, answer: &mut String, source: &[u8]) -> Result<(), AllocError> {
     match assemble(alloc, source) {
-        Ok(object) => sections(alloc, object.text_bytes(), object.data_bytes()),
-        Err(AsmFault { line, code }) => format!(in alloc; "{code} line {line}"),
+        Ok(object) => push_sections(alloc, answer, object.text_bytes(), object.data_bytes()),
+        Err(AsmFault { line, code }) => write!(answer, "{code} line {line}"),
     }
 }
 
 /// The sections of an object's file, or the code of its fault.
-fn contents(alloc: Global, file: &[u8]) -> Result<String, AllocError> {
-    match written_and_loaded(alloc, file) {
-        Ok(answer) => Ok(answer),
-        Err(fault) => format!(in alloc; "{fault}"),
+fn push_contents(alloc: Global, answer: &mut String, file: &[u8]) -> Result<(), AllocError> {
+    match push_written_and_loaded(alloc, answer, file) {
+        Ok(()) => Ok(()),
+        Err(fault) => write!(answer, "{fault}"),
     }
 }
 
 /// The sections of an ELF file's program, or the code of its fault.
-fn executable(alloc: Global, file: &[u8]) -> Result<String, AllocError> {
+fn push_executable(alloc: Global, answer: &mut String, file: &[u8]) -> Result<(), AllocError> {
     match elf_file::read(alloc, file) {
-        Ok(object) => sections(alloc, object.text_bytes(), object.data_bytes()),
-        Err(fault) => format!(in alloc; "{fault}"),
+        Ok(object) => push_sections(alloc, answer, object.text_bytes(), object.data_bytes()),
+        Err(fault) => write!(answer, "{fault}"),
     }
 }
 
-/// Whether a file's object is written as the same file, the object of its sections again, and a copy of the program that it
-/// is loaded as.
-fn written_and_loaded(alloc: Global, file: &[u8]) -> Result<String, LoadFault> {
+/// The object of a file's sections, a copy of the program that it is loaded as, and whether the file's object is written as the
+/// same file.
+fn push_written_and_loaded(
+    alloc: Global,
+    answer: &mut String,
+    file: &[u8],
+) -> Result<(), LoadFault> {
     let object = Object::read(alloc, file)?;
     let is_same = object.to_bytes(alloc)?.as_slice() == file;
     let (text, static_data) = object.into_sections();
-    let object = Object::new(text, static_data);
-    let answer = sections(alloc, object.text_bytes(), object.data_bytes())?;
+    push_loaded(alloc, answer, Object::new(text, static_data))?;
+    Ok(write!(answer, "{is_same}")?)
+}
+
+/// The sections of an object, and of a copy of the program that it is loaded as, each with an LF.
+fn push_loaded(alloc: Global, answer: &mut String, object: Object) -> Result<(), LoadFault> {
+    push_sections(alloc, answer, object.text_bytes(), object.data_bytes())?;
+    answer.push_str("\n")?;
     let program = load(object)?.copy(alloc)?;
-    let loaded = sections(alloc, program.text_bytes(), program.data_bytes())?;
-    Ok(format!(in alloc; "{answer}\n{loaded}\n{is_same}")?)
+    push_sections(alloc, answer, program.text_bytes(), program.data_bytes())?;
+    Ok(answer.push_str("\n")?)
 }
 
 /// The words of a text and the bytes of data.
-fn sections(alloc: Global, text: &[u8], static_data: &[u8]) -> Result<String, AllocError> {
+fn push_sections(
+    alloc: Global,
+    answer: &mut String,
+    text: &[u8],
+    static_data: &[u8],
+) -> Result<(), AllocError> {
+    answer.push_str("text")?;
+    push_words(alloc, answer, text)?;
+    answer.push_str(" data")?;
+    push_data(alloc, answer, static_data)
+}
+
+fn push_words(alloc: Global, answer: &mut String, text: &[u8]) -> Result<(), AllocError> {
     let words: Vec<u32> = text
         .chunks_exact(4)
         .map(|chunk| word_of(chunk))
         .collect(alloc)?;
+    push_runs(answer, &words, 8)
+}
+
+fn push_data(alloc: Global, answer: &mut String, static_data: &[u8]) -> Result<(), AllocError> {
     let bytes: Vec<u32> = static_data
         .iter()
         .map(|byte| u32::from(*byte))
         .collect(alloc)?;
-    format!(in alloc;
-        "text{} data{}",
-        runs(alloc, &words, 8)?,
-        runs(alloc, &bytes, 2)?
-    )
+    push_runs(answer, &bytes, 2)
 }
 
 fn word_of(bytes: &[u8]) -> u32 {
@@ -221,15 +257,14 @@ fn word_of(bytes: &[u8]) -> u32 {
 }
 
 /// Numbers in hexadecimal digits, each with how often it stands there in a row where that isn't once.
-fn runs(alloc: Global, numbers: &[u32], digits: usize) -> Result<String, AllocError> {
-    let mut shown = String::new(alloc);
+fn push_runs(answer: &mut String, numbers: &[u32], digits: usize) -> Result<(), AllocError> {
     let mut run = Run {
         number: 0,
         times: 0,
     };
     for number in numbers {
         if run.number != *number {
-            run.push_to(&mut shown, digits)?;
+            run.push_to(answer, digits)?;
             run = Run {
                 number: *number,
                 times: 0,
@@ -237,8 +272,7 @@ fn runs(alloc: Global, numbers: &[u32], digits: usize) -> Result<String, AllocEr
         }
         run.times = run.times.saturating_add(1);
     }
-    run.push_to(&mut shown, digits)?;
-    Ok(shown)
+    run.push_to(answer, digits)
 }
 
 /// A number, and how often it stands in a row.

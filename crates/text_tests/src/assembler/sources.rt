@@ -1,8 +1,8 @@
 //! Objects from the manuals' encodings, the places of labels, and each fault that a whole source can have.
 
-use crate::assembler::examples::{Example, LongExample, first_difference, first_long_difference};
+use crate::assembler::examples::{Example, LongExample, expect_answers, expect_long_answers};
 use crate::assembler::readings::Reading;
-use std::test::Fail;
+use std::alloc::AllocError;
 
 /// A program that stores a word, cleans its line and ends.
 const FIRST_PROGRAM: &[u8] =
@@ -80,12 +80,10 @@ static LOWEST_CODES: [Example; 16] = [
 ];
 
 #[test]
-fn sources_have_their_objects_or_first_faults(rt: HostRuntime) -> Result<(), Fail> {
-    for examples in [PROGRAMS.as_slice(), &NEEDS_NO_PLACE, &LOWEST_CODES] {
-        let difference = first_difference(rt.alloc(), Reading::Source, examples)?;
-        assert_eq!(rt; difference, None);
-    }
-    Ok(())
+fn sources_have_their_objects_or_first_faults(rt: HostRuntime) -> Result<(), AllocError> {
+    expect_answers(&rt, Reading::Source, &PROGRAMS)?;
+    expect_answers(&rt, Reading::Source, &NEEDS_NO_PLACE)?;
+    expect_answers(&rt, Reading::Source, &LOWEST_CODES)
 }
 
 /// Branches at the ends of their reach, sections at their limits, and sources at theirs.
@@ -122,8 +120,6 @@ static LONG_SOURCES: [LongExample; 11] = [
 ];
 
 #[test]
-fn long_sources_reach_their_limits_and_do_not_pass_them(rt: HostRuntime) -> Result<(), Fail> {
-    let difference = first_long_difference(rt.alloc(), Reading::Source, &LONG_SOURCES)?;
-    assert_eq!(rt; difference, None);
-    Ok(())
+fn long_sources_reach_their_limits_and_do_not_pass_them(rt: HostRuntime) -> Result<(), AllocError> {
+    expect_long_answers(&rt, Reading::Source, &LONG_SOURCES)
 }

@@ -1,8 +1,8 @@
 //! Lines and tokens of small sources; the expected values come from the grammar.
 
-use crate::assembler::examples::{Example, first_difference};
+use crate::assembler::examples::{Example, expect_answers};
 use crate::assembler::readings::Reading;
-use std::test::Fail;
+use std::alloc::AllocError;
 
 /// Lines end at line feeds, and an LF at the end begins no line.
 static LINES: [Example; 2] = [
@@ -11,9 +11,8 @@ static LINES: [Example; 2] = [
 ];
 
 #[test]
-fn lines_end_at_line_feeds(rt: HostRuntime) -> Result<(), Fail> {
-    assert_eq!(rt; first_difference(rt.alloc(), Reading::Lines, &LINES)?, None);
-    Ok(())
+fn lines_end_at_line_feeds(rt: HostRuntime) -> Result<(), AllocError> {
+    expect_answers(&rt, Reading::Lines, &LINES)
 }
 
 const TOKENS_OF_EVERY_KIND: &str = "\
@@ -74,10 +73,6 @@ static TOKENS: [Example; 22] = [
 ];
 
 #[test]
-fn lines_have_their_tokens(rt: HostRuntime) -> Result<(), Fail> {
-    assert_eq!(rt;
-        first_difference(rt.alloc(), Reading::Tokens, &TOKENS)?,
-        None
-    );
-    Ok(())
+fn lines_have_their_tokens(rt: HostRuntime) -> Result<(), AllocError> {
+    expect_answers(&rt, Reading::Tokens, &TOKENS)
 }

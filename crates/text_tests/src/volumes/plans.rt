@@ -1,7 +1,7 @@
 //! Texts that are plans, and texts that are none.
 
 use nova_log::{Entry, EntryKind, Layout, Name};
-use plan::{Action, Operation, Plan, PlanCode, PlanFault, PlannedEntry};
+use plan::{Action, Operation, Plan, PlanCode, PlanFault, PlannedEntries, PlannedEntry};
 use std::alloc::{AllocError, Global};
 
 /// What a plan counts.
@@ -341,46 +341,31 @@ fn has_operations(alloc: Global, text: &[u8], operations: &[Operation]) -> bool 
     }
 }
 
-/// The entry of operation 1 of this kind.
-fn entry(kind: EntryKind, name: Name, value: u64) -> Entry {
-    Entry {
-        operation: 1,
+/// The entry of operation 1 of this kind for an inode.
+fn planned(inode: u32, kind: EntryKind, name: Name, value: u64) -> PlannedEntry {
+    let operation = 1;
+    let entry = Entry {
+        operation,
         kind,
         name,
         value,
-    }
+    };
+    PlannedEntry { inode, entry }
 }
 
 #[test]
 fn operations_are_read_and_plan_entries(rt: HostRuntime) {
     let text = b"inodes 2\npages 3\njournals 4\nop 1 rename 0 1 a 9\nop 7 append 1 77\n";
-    assert!(rt; has_operations(rt.alloc(), text, &[rename(), append(7, 1)]));
-    let written = entry(EntryKind::Write, Name::empty(), 77);
-    let appended = append(1, 0).entries();
-    assert!(rt;
-        appended.first
-            == PlannedEntry {
-                inode: 0,
-                entry: written
-            }
-    );
-    assert!(rt; appended.second.is_none());
+    let are_read = has_operations(rt.alloc(), text, &[rename(), append(7, 1)]);
+    let appended = PlannedEntries {
+        first: planned(0, EntryKind::Write, Name::empty(), 77),
+        second: None,
+    };
     let name = Name::from_bytes(b"a");
-    let removed = entry(EntryKind::RemoveName, name, 9);
-    let added = entry(EntryKind::AddName, name, 9);
-    let renamed = rename().entries();
-    assert!(rt;
-        renamed.first
-            == PlannedEntry {
-                inode: 0,
-                entry: removed
-            }
-    );
-    assert!(rt;
-        renamed.second
-            == Some(PlannedEntry {
-                inode: 1,
-                entry: added
-            })
-    );
+    let renamed = PlannedEntries {
+        first: planned(0, EntryKind::RemoveName, name, 9),
+        second: Some(planned(1, EntryKind::AddName, name, 9)),
+    };
+    let entries = [append(1, 0).entries(), rename().entries()];
+    assert!(rt; are_read && entries == [appended, renamed]);
 }

@@ -483,10 +483,9 @@ fn is_found_so(
     found: Result<Volume, VolumeFault>,
     expected: Result<&[ExpectedLog], VolumeFault>,
 ) -> bool {
-    match (found, expected) {
-        (Ok(volume), Ok(logs)) => has_logs(&volume, logs),
-        (Err(fault), Err(expected)) => fault == expected,
-        _ => false,
+    match found {
+        Ok(volume) => expected.is_ok_and(|logs| has_logs(&volume, logs)),
+        Err(fault) => expected.err() == Some(fault),
     }
 }
 

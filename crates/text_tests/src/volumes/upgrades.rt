@@ -196,9 +196,12 @@ fn holds(medium: &Medium, numbers: &[(u32, u64)]) -> bool {
 
 /// Whether recovery finds the same in two media.
 fn have_one_volume(alloc: Global, one: &Medium, other: &Medium) -> bool {
-    match (recovered(alloc, one), recovered(alloc, other)) {
-        (Ok(found), Ok(expected)) => found.equals(&expected),
-        _ => false,
+    let Ok(found) = recovered(alloc, one) else {
+        return false;
+    };
+    match recovered(alloc, other) {
+        Ok(expected) => found.equals(&expected),
+        Err(_) => false,
     }
 }
 
@@ -223,22 +226,26 @@ fn is_its_upgrade(alloc: Global, medium: &Medium, pages: u32) -> bool {
     }
 }
 
+/// Whether a medium is the upgrade that is expected of an old one.
+fn is_expected(alloc: Global, upgrade: &Upgrade, old: &Medium, medium: &Medium) -> bool {
+    match upgrade.expected {
+        Ok(numbers) => {
+            medium.lines() == upgrade.lines
+                && holds(medium, numbers)
+                && have_one_volume(alloc, medium, old)
+                && is_its_upgrade(alloc, medium, upgrade.pages)
+        }
+        Err(_) => false,
+    }
+}
+
 fn is_upgraded_so(alloc: Global, upgrade: &Upgrade) -> bool {
     let Ok(old) = old_medium(alloc, &upgrade.old) else {
         return false;
     };
-    match (
-        upgraded(alloc, &old, upgrade.pages, upgrade.lines),
-        upgrade.expected,
-    ) {
-        (Ok(medium), Ok(numbers)) => {
-            medium.lines() == upgrade.lines
-                && holds(&medium, numbers)
-                && have_one_volume(alloc, &medium, &old)
-                && is_its_upgrade(alloc, &medium, upgrade.pages)
-        }
-        (Err(fault), Err(expected)) => fault == expected,
-        _ => false,
+    match upgraded(alloc, &old, upgrade.pages, upgrade.lines) {
+        Ok(medium) => is_expected(alloc, upgrade, &old, &medium),
+        Err(fault) => upgrade.expected.err() == Some(fault),
     }
 }
 

@@ -42,9 +42,17 @@ fn holds(bytes: &[u8]) -> bool {
 
 #[test]
 fn names_hold_up_to_96_bytes(rt: HostRuntime) {
-    assert!(rt; Name::empty().as_bytes().is_empty() && holds(b"a") && holds(&[b'n'; 96]));
+    let is_empty = Name::empty().as_bytes().is_empty();
+    let are_held = [holds(b"a"), holds(&[b'n'; 96])];
     let short = Name::from_bytes(b"a");
-    assert!(rt; short.equals(&Name::from_bytes(b"a")) && !short.equals(&Name::from_bytes(b"a\0")));
+    let equals = [
+        short.equals(&Name::from_bytes(b"a")),
+        short.equals(&Name::from_bytes(b"a\0")),
+    ];
+    assert_eq!(rt;
+        (is_empty, are_held, equals),
+        (true, [true; 2], [true, false])
+    );
 }
 
 #[test]
@@ -70,9 +78,9 @@ fn entries_differ_by_each_part(rt: HostRuntime) {
         other_name,
         renamed(1, EntryKind::AddName, 8),
     ];
-    assert!(rt; entry.equals(&renamed(1, EntryKind::AddName, 9)));
+    let is_itself = entry.equals(&renamed(1, EntryKind::AddName, 9));
     let equal = others.iter().position(|other| entry.equals(other));
-    assert_eq!(rt; equal, None);
+    assert_eq!(rt; (is_itself, equal), (true, None));
 }
 
 /// The logs of `after_rename`.

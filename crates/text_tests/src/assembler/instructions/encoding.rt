@@ -51,59 +51,83 @@ fn words_are_canonical(rt: HostRuntime) -> Result<(), Fail> {
 
 #[test]
 fn registers_are_numbered_from_0_to_31(rt: HostRuntime) {
-    assert!(rt; Reg::new(5) == Some(X5) && Reg::new(6) == Some(X6) && Reg::new(32).is_none());
+    let registers = [Reg::new(5), Reg::new(6), Reg::new(32)];
+    assert!(rt; registers == [Some(X5), Some(X6), None]);
 }
 
-fn addi(immediate: i32) -> Instr {
-    Instr::Immediate {
-        op: ImmediateOp::Addi,
-        rd: ZERO,
-        rs1: ZERO,
-        immediate,
+/// The operand of an `addi`, a `jal`, a `beq` or a shift whose registers are x0.
+#[derive(Clone, Copy)]
+enum Operand {
+    Immediate(i32),
+    Jump(i32),
+    Branch(i32),
+    Shift(ShiftOp, u32),
+}
+
+fn instruction_with(operand: Operand) -> Instr {
+    match operand {
+        Operand::Immediate(immediate) => Instr::Immediate {
+            op: ImmediateOp::Addi,
+            rd: ZERO,
+            rs1: ZERO,
+            immediate,
+        },
+        Operand::Jump(distance) => Instr::Jump { rd: ZERO, distance },
+        Operand::Branch(distance) => Instr::Branch {
+            op: BranchOp::Beq,
+            rs1: ZERO,
+            rs2: ZERO,
+            distance,
+        },
+        Operand::Shift(op, amount) => Instr::Shift {
+            op,
+            rd: ZERO,
+            rs1: ZERO,
+            amount,
+        },
     }
 }
 
-fn jal(distance: i32) -> Instr {
-    Instr::Jump { rd: ZERO, distance }
-}
-
-fn beq(distance: i32) -> Instr {
-    Instr::Branch {
-        op: BranchOp::Beq,
-        rs1: ZERO,
-        rs2: ZERO,
-        distance,
-    }
-}
-
-fn shift(op: ShiftOp, amount: u32) -> Instr {
-    Instr::Shift {
-        op,
-        rd: ZERO,
-        rs1: ZERO,
-        amount,
-    }
-}
+/// Operands at and past the ends of their ranges, and what is wrong with them.
+static OPERANDS: [(Operand, Option<FieldFault>); 14] = [
+    (Operand::Immediate(2047), None),
+    (Operand::Immediate(-2048), None),
+    (
+        Operand::Immediate(2048),
+        Some(FieldFault::ImmediateOutOfRange),
+    ),
+    (
+        Operand::Immediate(-2049),
+        Some(FieldFault::ImmediateOutOfRange),
+    ),
+    (Operand::Jump(1048574), None),
+    (Operand::Jump(1048575), Some(FieldFault::OddOffset)),
+    (
+        Operand::Jump(1048577),
+        Some(FieldFault::ImmediateOutOfRange),
+    ),
+    (Operand::Branch(-4096), None),
+    (Operand::Branch(-4095), Some(FieldFault::OddOffset)),
+    (
+        Operand::Branch(-4097),
+        Some(FieldFault::ImmediateOutOfRange),
+    ),
+    (Operand::Shift(ShiftOp::Slli, 63), None),
+    (
+        Operand::Shift(ShiftOp::Slli, 64),
+        Some(FieldFault::ShiftOutOfRange),
+    ),
+    (Operand::Shift(ShiftOp::Slliw, 31), None),
+    (
+        Operand::Shift(ShiftOp::Slliw, 32),
+        Some(FieldFault::ShiftOutOfRange),
+    ),
+];
 
 #[test]
 fn operands_at_and_past_the_ends_of_their_ranges(rt: HostRuntime) {
-    let cases = [
-        (addi(2047), None),
-        (addi(-2048), None),
-        (addi(2048), Some(FieldFault::ImmediateOutOfRange)),
-        (addi(-2049), Some(FieldFault::ImmediateOutOfRange)),
-        (jal(1048574), None),
-        (jal(1048575), Some(FieldFault::OddOffset)),
-        (jal(1048577), Some(FieldFault::ImmediateOutOfRange)),
-        (beq(-4096), None),
-        (beq(-4095), Some(FieldFault::OddOffset)),
-        (beq(-4097), Some(FieldFault::ImmediateOutOfRange)),
-        (shift(ShiftOp::Slli, 63), None),
-        (shift(ShiftOp::Slli, 64), Some(FieldFault::ShiftOutOfRange)),
-        (shift(ShiftOp::Slliw, 31), None),
-        (shift(ShiftOp::Slliw, 32), Some(FieldFault::ShiftOutOfRange)),
-    ];
-    for (instr, fault) in cases {
+    for &(operand, fault) in &OPERANDS {
+        let instr = instruction_with(operand);
         let expected = match fault {
             None => Ok(instr),
             Some(fault) => Err(fault),
@@ -115,20 +139,32 @@ fn operands_at_and_past_the_ends_of_their_ranges(rt: HostRuntime) {
 #[test]
 fn mnemonics_have_their_names(rt: HostRuntime) {
     let names = [
-        (UpperOp::Auipc.name(), "auipc"),
-        (BranchOp::Bgeu.name(), "bgeu"),
-        (LoadOp::Lwu.name(), "lwu"),
-        (StoreOp::Sh.name(), "sh"),
-        (ImmediateOp::Addiw.name(), "addiw"),
-        (ShiftOp::Sraiw.name(), "sraiw"),
-        (RegisterOp::Sltu.name(), "sltu"),
-        (CacheOp::Flush.name(), "cbo.flush"),
-        (SystemOp::Ebreak.name(), "ebreak"),
-        (AtomicOp::Amomaxu.name(), "amomaxu"),
-        (AtomicWidth::Doubleword.suffix(), ".d"),
-        (ordering_suffix(true, true), ".aqrl"),
+        UpperOp::Auipc.name(),
+        BranchOp::Bgeu.name(),
+        LoadOp::Lwu.name(),
+        StoreOp::Sh.name(),
+        ImmediateOp::Addiw.name(),
+        ShiftOp::Sraiw.name(),
+        RegisterOp::Sltu.name(),
+        CacheOp::Flush.name(),
+        SystemOp::Ebreak.name(),
+        AtomicOp::Amomaxu.name(),
+        AtomicWidth::Doubleword.suffix(),
+        ordering_suffix(true, true),
     ];
-    for (name, expected) in names {
-        assert!(rt; name == expected, "{expected}");
-    }
+    let expected = [
+        "auipc",
+        "bgeu",
+        "lwu",
+        "sh",
+        "addiw",
+        "sraiw",
+        "sltu",
+        "cbo.flush",
+        "ebreak",
+        "amomaxu",
+        ".d",
+        ".aqrl",
+    ];
+    assert_eq!(rt; names, expected);
 }

@@ -39,15 +39,10 @@ pub(crate) fn expect_step(
     after: &HartState,
     asked: Option<Request>,
 ) {
-    let found = step(state, word, reply);
-    assert_eq!(rt; found, (*after, asked), "at {word}");
     let mut changed = *state;
     let asked_in_place = step_in_place(&mut changed, word, reply);
-    assert_eq!(rt;
-        (changed, asked_in_place),
-        (*after, asked),
-        "in place, at {word}"
-    );
+    let found = [step(state, word, reply), (changed, asked_in_place)];
+    assert_eq!(rt; found, [(*after, asked); 2], "at {word}, and in place");
 }
 
 /// The hart after one instruction, with what it asked, where every request is answered in this way.
@@ -120,11 +115,11 @@ fn started(hart: u64, stack: u64) -> HartState {
 
 #[test]
 fn starts(rt: HostRuntime) {
-    assert!(rt; HartState::start(0) == started(0, 0x20_0000));
-    assert!(rt; HartState::start(7) == started(7, 0x1f_9000));
-    let registers = HartState::start(7).registers;
-    let shown = [registers.get(x(11)), registers.get(x(5))];
-    assert!(rt; shown == [0x4000_0000, 0]);
+    let last = HartState::start(7);
+    let first_and_last = [HartState::start(0), last];
+    let shown = [last.registers.get(x(11)), last.registers.get(x(5))];
+    let expected = [started(0, 0x20_0000), started(7, 0x1f_9000)];
+    assert!(rt; first_and_last == expected && shown == [0x4000_0000, 0]);
 }
 
 const STORE: Request = Request::Store {
@@ -255,6 +250,9 @@ fn traps(rt: HostRuntime) {
 fn a_fence_asks_by_its_predecessors(rt: HostRuntime) {
     let state = HartState::start(0);
     // fence w, r and fence r, w
-    assert!(rt; matches!(next(&state, Some(0x0120_000f)), Need::Ask(Request::Fence)));
-    assert!(rt; matches!(next(&state, Some(0x0210_000f)), Need::Local(_)));
+    let needs = [
+        next(&state, Some(0x0120_000f)),
+        next(&state, Some(0x0210_000f)),
+    ];
+    assert!(rt; matches!(needs, [Need::Ask(Request::Fence), Need::Local(_)]));
 }

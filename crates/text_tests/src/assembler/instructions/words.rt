@@ -27,10 +27,11 @@ fn set(accesses: [bool; 4]) -> AccessSet {
 
 fn assert_both_ways(rt: &impl Abort, word: u32, instr: Instr) {
     let decoded = decode(word);
-    assert_eq!(rt; decoded, Some(instr));
-    if let Some(found) = decoded {
-        assert_eq!(rt; encode(found), word);
-    }
+    let encoded = match decoded {
+        Some(found) => Some(encode(found)),
+        None => None,
+    };
+    assert_eq!(rt; (decoded, encoded), (Some(instr), Some(word)));
 }
 
 #[rattlefmt::skip]
