@@ -69,9 +69,6 @@ fn the_example_is_read(rt: HostRuntime) -> Result<(), AllocError> {
     assert!(rt;
         file.rank_of(2) == Some(0) && file.rank_of(70_000) == Some(1) && file.rank_of(3).is_none()
     );
-    let ranked = file.into_ranked();
-    assert!(rt; ranked.trace.events() == EVENTS.as_slice());
-    assert!(rt; ranked.names.as_slice() == [2u32, 70_000].as_slice());
     Ok(())
 }
 
