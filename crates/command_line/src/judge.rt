@@ -103,7 +103,8 @@ fn judge_atomic<T: Threads + Sync + Clock, E: Write>(
     ensures { JudgesRun E.contents judge.now errors.old result errors.new }
 {
     let OpenJudge { command, start, .. } = judge;
-    match runs_for(rt, alloc, judge)? {
+    let found = runs_for(rt, alloc, judge)?;
+    match found {
         Sequential::All { runs, .. } => {
             let runs = ProgramRuns {
                 program: &start.program,
