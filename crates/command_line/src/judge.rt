@@ -103,12 +103,12 @@ fn judge_atomic<T: Threads + Sync + Clock, E: Write>(
     let found = runs_for(rt, alloc, judge)?;
     match found {
         Sequential::All { runs, .. } => {
-            let runs = ProgramRuns {
+            let rule = Rule::Atomic(ProgramRuns {
                 program: &start.program,
                 harts: start.harts,
                 runs: &runs,
-            };
-            judge_by(rt, alloc, judge, Rule::Atomic(runs), errors)
+            });
+            judge_by(rt, alloc, judge, rule, errors)
         }
         Sequential::TooMany(bound) => {
             let text = told_bound(alloc, command.states, bound, command.judged.json)?;
