@@ -30,6 +30,7 @@ use Rattle.store_trace.specs.Cut.{IsCutImage, number_in}
 use Rattle.store_trace.specs.History.{history}
 use Rattle.store_trace.specs.Marks.{begun}
 use Rattle.store_trace.specs.declared.event.Event.{Event}
+use Rattle.verdict.specs.declared.images_verdict.ImagesVerdict.{ImagesVerdict}
 use Rattle.verdict.specs.declared.images_verdict.ImagesVerdict.TheVariants.{Pass}
 use Rattle.witness.proofs.HartRuns.{run_start}
 use Rattle.witness.proofs.Leaving.{leaves_a_cut}
@@ -48,7 +49,7 @@ answered view events left right (Ok bytes) rights answers among = record { bytes
 answered view events left right (Err cause) rights answers told = absurd cc
 
 -- a state is good where all its images pass by the right answers after its events
-pub images_right : (view : ProgramView) (notes : List SequentialRun) (precedence : Precedence) (right : RightAnswers) (m : MemoryView) (lines : ℕ) →
+images_right : (view : ProgramView) (notes : List SequentialRun) (precedence : Precedence) (right : RightAnswers) (m : MemoryView) (lines : ℕ) →
     ((view : ProgramView) (events : List Event) → AreSequentialRuns view notes → AreOrdered events precedence → AreRightAfter view events right) →
     IsImagesVerdict right view.routine view.steps lines (λ (k : ℕ → ℕ). image_in m k) (λ (l : ℕ). 0) (λ (l : ℕ). highest_in m l) Pass →
     AreGoodImages (λ (p : Precedence) (events : List Event). AreOrdered events p)
@@ -56,6 +57,20 @@ pub images_right : (view : ProgramView) (notes : List SequentialRun) (precedence
 images_right view notes precedence right m lines rights passed events k is choice begins are =
     let found : IsFoundIn right view.routine view.steps (image_in m k) None = passed.1 k (record { least = λ l. omega arith; most = choice }) in
     answered view events (image_in m k) right found.0 (rights view events are is) found.1 found.2
+
+-- the same of the images as they are judged, where the verdict on them is that they pass
+pub cuts_right : (view : ProgramView) (notes : List SequentialRun) (precedence : Precedence) (right : RightAnswers) (m judged : MemoryView) (lines : ℕ)
+    (verdict : ImagesVerdict Cause) → judged ≡ m → verdict ≡ Pass →
+    ((view : ProgramView) (events : List Event) → AreSequentialRuns view notes → AreOrdered events precedence → AreRightAfter view events right) →
+    IsImagesVerdict right view.routine view.steps lines (λ (k : ℕ → ℕ). image_in judged k) (λ (l : ℕ). 0) (λ (l : ℕ). highest_in judged l) verdict →
+    AreGoodImages (λ (p : Precedence) (events : List Event). AreOrdered events p)
+    (λ (events : List Event) (full left : List (List ℕ)). IsGoodAfter view notes events left) m precedence
+cuts_right view notes precedence right m judged lines verdict same passed rights shown =
+    subst (λ (memory : MemoryView). AreGoodImages (λ (p : Precedence) (events : List Event). AreOrdered events p)
+    (λ (events : List Event) (full left : List (List ℕ)). IsGoodAfter view notes events left) memory precedence) same
+    (images_right view notes precedence right judged lines rights
+    (subst (λ (v : ImagesVerdict Cause). IsImagesVerdict right view.routine view.steps lines (λ (k : ℕ → ℕ). image_in judged k) (λ (l : ℕ). 0)
+    (λ (l : ℕ). highest_in judged l) v) passed shown))
 
 -- a state of runs in which no operation has begun
 pub none_right : (view : ProgramView) (notes : List SequentialRun) (precedence : Precedence) (m : MemoryView) →

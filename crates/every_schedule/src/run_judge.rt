@@ -18,6 +18,7 @@ pub trait RunJudge {
     ghost use Rattle.every_schedule.specs.declared.outcome.Finding.{Finding as AFinding};
     ghost use Rattle.machine.specs.RunValues.{RunView};
     ghost use Rattle.std.specs.Prelude.{IfOk, IfSome};
+    ghost use Rattle.std.specs.Thread.{IsSync};
 
     /// Why an image is bad.
     type Cause: Drop;
@@ -38,7 +39,8 @@ pub trait RunJudge {
         alloc: Global,
         run: &Run,
     ) -> Result<Option<Finding<Self::Cause, Self::Fault>>, AllocError>
-        requires { suits self.now run.now }
+        requires sync { IsSync T.row }
+        requires suits { suits self.now run.now }
         ensures { IfOk result (λ found. IfSome found (says self.now run.now)) };
 
     /// What keeps the run from being whole, if that is a hart that has stopped otherwise than by an exit with 0.
