@@ -169,6 +169,15 @@ check_all_shape = record (new_shape (codes "check-all")) {
       ∷ flag_option (codes "why") ∷ flag_option (codes "json") ∷ flag_option (codes "progress") ∷ help_option ∷ [];
 }
 
+-- `judge-all PROGRAM RECOVERY [--medium FILE --harts N --steps N --states N --any-end --why --json --progress]`
+unfoldable pub judge_all_shape : Shape
+judge_all_shape = record (new_shape (codes "judge-all")) {
+  rules = needed_word (codes "PROGRAM") ∷ needed_word (codes "RECOVERY") ∷ valued_option (codes "medium")
+      ∷ valued_option (codes "harts") ∷ valued_option (codes "steps") ∷ valued_option (codes "states")
+      ∷ flag_option (codes "any-end") ∷ flag_option (codes "why") ∷ flag_option (codes "json") ∷ flag_option (codes "progress")
+      ∷ help_option ∷ [];
+}
+
 -- `answer RECOVERY [--medium FILE --steps N]`
 unfoldable pub answer_shape : Shape
 answer_shape = record (new_shape (codes "answer")) {
@@ -253,7 +262,7 @@ unfoldable pub telling : List Shape
 telling = unpersisted_shape ∷ waste_shape ∷ explain_shape ∷ []
 
 unfoldable pub judging : List Shape
-judging = check_shape ∷ judge_shape ∷ check_all_shape ∷ answer_shape ∷ []
+judging = check_shape ∷ judge_shape ∷ check_all_shape ∷ judge_all_shape ∷ answer_shape ∷ []
 
 unfoldable pub showing : List Shape
 showing = picture_shape ∷ interleave_shape ∷ show_shape ∷ listing_shape ∷ code_shape ∷ help_shape ∷ []

@@ -38,6 +38,8 @@ pub enum Command {
     Judge(JudgeCommand),
     /// `check-all PLAN PROGRAM [--medium FILE --harts N --states N --any-end --why --json --progress]`.
     CheckAll(CheckAllCommand),
+    /// `judge-all PROGRAM RECOVERY [--medium FILE --harts N --steps N --states N --any-end --why --json --progress]`.
+    JudgeAll(JudgeAllCommand),
     /// `answer RECOVERY [--medium FILE --steps N]`.
     Answer(AnswerCommand),
     /// `picture PROGRAM SCHEDULE MOMENT FILE [--image IMAGE --medium FILE --harts N]`.
@@ -265,11 +267,9 @@ pub enum RightAnswers {
     Atomic,
 }
 
-/// What `check-all` is to do.
+/// A program of which `check-all` or `judge-all` judges every schedule.
 #[derive(Drop)]
-pub struct CheckAllCommand {
-    /// The name of the plan's file.
-    pub plan: String,
+pub struct JudgedProgram {
     /// The name of the program's file.
     pub program: String,
     /// The machine, whose capacity is None.
@@ -284,6 +284,24 @@ pub struct CheckAllCommand {
     pub json: bool,
     /// Whether standard error reports how far the search has come.
     pub progress: bool,
+}
+
+/// What `check-all` is to do.
+#[derive(Drop)]
+pub struct CheckAllCommand {
+    /// The name of the plan's file.
+    pub plan: String,
+    pub judged: JudgedProgram,
+}
+
+/// What `judge-all` is to do.
+#[derive(Drop)]
+pub struct JudgeAllCommand {
+    /// The name of the file of the recovery routine.
+    pub recovery: String,
+    /// The most steps of recovery on a crash image, from 1 to 500,000,000; 100,000 where the line doesn't say.
+    pub steps: u32,
+    pub judged: JudgedProgram,
 }
 
 /// Moments of a run, one after another.

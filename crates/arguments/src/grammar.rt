@@ -445,7 +445,7 @@ static TELLING: [Subcommand; 3] = [
 ];
 
 /// The subcommands that judge a run or every one of a program, behind those.
-static JUDGING: [Subcommand; 4] = [
+static JUDGING: [Subcommand; 5] = [
     Subcommand {
         name: "check",
         group: Group::Judge,
@@ -490,6 +490,24 @@ static JUDGING: [Subcommand; 4] = [
             PLAN, PROGRAM, MEDIUM, HARTS, STATES, ANY_END, WHY, JSON, PROGRESS,
         ],
         ending: ending!("check-all append.plan append.s --medium append.medium --why"),
+    },
+    Subcommand {
+        name: "judge-all",
+        group: Group::Judge,
+        about: "Judge every crash image of every schedule of a program by a recovery routine of one's own",
+        arguments: &[
+            PROGRAM,
+            RECOVERY,
+            MEDIUM,
+            HARTS,
+            RECOVERY_STEPS,
+            STATES,
+            ANY_END,
+            WHY,
+            JSON,
+            PROGRESS,
+        ],
+        ending: ending!("judge-all push.s push-recovery.s --harts 2 --why"),
     },
     Subcommand {
         name: "answer",

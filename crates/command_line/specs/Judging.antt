@@ -27,7 +27,7 @@ use Rattle.recovery.specs.declared.recovery_run.Cause.{Cause as RunCause}
 use Rattle.recovery.specs.declared.recovery_run.Cause.TheVariants as runs
 use Rattle.debugger.specs.StreamFailures.{AppendsFront}
 use Rattle.crash_test.specs.Programs.{IsProgramOf}
-use Rattle.command_line.specs.CheckingAll.{told_bound}
+use Rattle.command_line.specs.AllSchedules.{told_bound}
 use Rattle.command_line.specs.Demanding.{MeetsWhole}
 use Rattle.command_line.specs.Failures.{failure_of_judge}
 use Rattle.command_line.specs.MakingRuns.{MakesRun}

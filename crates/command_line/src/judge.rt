@@ -2,18 +2,15 @@
 
 ghost use Rattle.arguments.specs.Line.{IsJudgedWithin};
 ghost use Rattle.arguments.specs.declared.asked.RightAnswers.TheVariants.{Atomic};
-ghost use Rattle.command_line.specs.Judging.{AreRunsFor, ExplainsFailing, IsOpen, IsRuleOf, JudgesOpen, JudgesRight, JudgesRun, KeepsStart, Notes, OpensJudge, TellsProgress, Watches, cause_text, judgement_asked, missing_text, note_of};
+ghost use Rattle.command_line.specs.Judging.{AreRunsFor, IsOpen, IsRuleOf, JudgesOpen, JudgesRight, JudgesRun, KeepsStart, Notes, OpensJudge, TellsProgress, Watches, cause_text, judgement_asked, missing_text, note_of};
 ghost use Rattle.command_line.specs.Reading.{setup_of};
 ghost use Rattle.routine_judge.specs.Rules.{AreNotedFor, judgement_view};
 ghost use Rattle.command_line.specs.Progress.{IsToldIf};
-ghost use Rattle.command_line.specs.Reasons.{ExplainsOne};
-ghost use Rattle.crash_test.specs.Loading.{IsLoaded};
-ghost use Rattle.machine.specs.Grammar.{hart_steps};
-ghost use Rattle.std.specs.Prelude.{◌≡◌, ◌^◌, ◌<◌, IfOk, IfSome, OnOk, string_bytes};
+ghost use Rattle.std.specs.Prelude.{◌≡◌, IfOk, OnOk, string_bytes};
 ghost use Rattle.std.specs.Io.KnownBytes.{Appends};
 
 use crate::answer::Answer;
-use crate::check_all::told_bound;
+use crate::all_schedules::told_bound;
 use crate::failure::Failure;
 use crate::files::Files;
 use crate::made_run::{make_run, setup};
@@ -21,10 +18,11 @@ use crate::opened::OpenJudge;
 use crate::progress::Reporter;
 use crate::reading::{RunFiles, read_recovery, read_run};
 use crate::streams::print;
-use crate::verdicts::{ToldCause, failing, verdict_answer, work};
+use crate::reasons::why;
+use crate::verdicts::{ToldCause, verdict_answer, work};
 use crate::whole::demand_whole;
 use arguments::{JudgeCommand, RightAnswers, ScheduledRun};
-use crash_test::{ExplainedImage, Judgement, RoutineReader, explain_losses, judge_program};
+use crash_test::{Judgement, RoutineReader, judge_program};
 use debugger::Failed;
 use every_schedule::{Recovery, Sequential, sequential_runs};
 use machine::Setup;
@@ -34,7 +32,6 @@ use std::alloc::{AllocError, Global};
 use std::io::Write;
 use std::thread::Threads;
 use std::time::Clock;
-use text::ImageName;
 
 /// What is said of a verdict on no moment.
 const NONE_JUDGED: &[u8] = b"no moment is judged: all lie before the first Begin\n";
@@ -149,14 +146,13 @@ fn judge_by<T: Threads + Sync + Clock, E: Write>(
     ensures { JudgesRight E.contents judge.now errors.old result errors.new }
 {
     let verdict = verdict(rt, alloc, judge, rule, errors)?;
-    let why = why(alloc, judge, &verdict)?;
-    let answer = verdict_answer(
-        alloc,
-        &judge.made,
-        &verdict,
-        &why,
-        judge.command.judged.json,
-    )?;
+    let judged = &judge.command.judged;
+    let reader = RoutineReader {
+        program: &judge.recovery,
+        steps: judge.command.steps,
+    };
+    let why = why(alloc, judged.why, &judge.made.run, &verdict, &reader)?;
+    let answer = verdict_answer(alloc, &judge.made, &verdict, &why, judged.json)?;
     let _ = note_none(&verdict, errors);
     Ok(answer)
 }
@@ -222,37 +218,6 @@ fn note_none<C, E: Write>(verdict: &Verdict<C>, errors: &mut E) -> Result<(), Fa
         Verdict::Pass { moments: 0, .. } => print(NONE_JUDGED, errors),
         _ => Ok(()),
     }
-}
-
-/// `--why`: of a failing image what it lacks and keeps, and how it comes about.
-fn why(
-    alloc: Global,
-    judge: &OpenJudge,
-    verdict: &Verdict<Cause>,
-) -> Result<Option<ExplainedImage>, Failure>
-    ensures told { ExplainsFailing judge.now verdict.now result }
-    ensures few { IfOk result (λ why. IfSome why (λ explained. hart_steps explained.schedule < 2 ^ 32)) }
-{
-    match failing(judge.command.judged.why, verdict) {
-        Some((moment, image)) => Ok(Some(explained(alloc, judge, moment, image)?)),
-        None => Ok(None),
-    }
-}
-
-fn explained(
-    alloc: Global,
-    judge: &OpenJudge,
-    moment: u32,
-    image: &ImageName,
-) -> Result<ExplainedImage, Failure>
-    ensures told { ExplainsOne (IsLoaded judge.now.recovery judge.now.command.steps) judge.now.made.run moment image.now result }
-    ensures few { IfOk result (λ explained. hart_steps explained.schedule < 2 ^ 32) }
-{
-    let reader = RoutineReader {
-        program: &judge.recovery,
-        steps: judge.command.steps,
-    };
-    Ok(explain_losses(alloc, &judge.made.run, moment, image, &reader)?)
 }
 
 impl ToldCause for Cause {
