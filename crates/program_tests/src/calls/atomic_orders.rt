@@ -30,15 +30,44 @@ enum Shown {
     Checked,
 }
 
-/// The requests between Begin and End of either hart, a letter each, and whether all schedules are right.
+/// The requests between Begin and End of either hart, a letter each, and what recovery answers.
+#[derive(Clone, Copy)]
 struct Case {
     first: &'static str,
     second: &'static str,
     shown: Shown,
-    passes: bool,
 }
 
-static CASES: [Case; 0] = [];
+/// Cases, and whether all their schedules are right. Of those that aren't, some have one or two bad orders among hundreds.
+static CASES: [(&str, &str, Shown, bool); 27] = [
+    ("SCf", "XCf", Shown::Both, true),
+    ("xcf", "xcf", Shown::Both, true),
+    ("SCf", "xcf", Shown::Committed, true),
+    ("scf", "scf", Shown::Committed, true),
+    ("cff", "SCf", Shown::Both, true),
+    ("fxcf", "c", Shown::Both, true),
+    ("L", "scfl", Shown::Both, true),
+    ("Lf", "lS", Shown::Committed, true),
+    ("lS", "ScC", Shown::Committed, true),
+    ("X", "lcfC", Shown::Committed, true),
+    ("ScC", "SCf", Shown::Checked, false),
+    ("SCf", "xcf", Shown::Checked, false),
+    ("scf", "lSc", Shown::Both, false),
+    ("LlS", "XCf", Shown::Both, false),
+    ("SCf", "lS", Shown::Both, false),
+    ("scf", "lS", Shown::Committed, false),
+    ("lS", "scf", Shown::Both, false),
+    ("lS", "SCf", Shown::Both, false),
+    ("s", "LcLs", Shown::Both, false),
+    ("X", "lSLs", Shown::Both, false),
+    ("cf", "sf", Shown::Both, false),
+    ("cf", "sf", Shown::Committed, false),
+    ("Cscf", "s", Shown::Committed, false),
+    ("sCf", "xx", Shown::Checked, false),
+    ("Cf", "xcf", Shown::Checked, false),
+    ("sC", "Cf", Shown::Both, false),
+    ("xX", "LX", Shown::Checked, false),
+];
 
 /// A turn of a hart, and how many events there are behind it.
 #[derive(Clone, Copy)]
@@ -115,7 +144,7 @@ fn body(alloc: Global, letters: &str) -> Option<String> {
 }
 
 /// What the runs of a case start from.
-fn setup_of(alloc: Global, case: &Case) -> Option<Setup> {
+fn setup_of(alloc: Global, case: Case) -> Option<Setup> {
     let first = body(alloc, case.first)?;
     let second = body(alloc, case.second)?;
     let pieces = [BEGIN, first.as_str(), END, OTHER, second.as_str(), END];
@@ -142,7 +171,7 @@ fn take_all(
 }
 
 /// The schedule by which the harts take their turns in an order, and the turns; empty where one of them stops before its last turn.
-fn turns_in(alloc: Global, case: &Case, order: Order) -> Option<(String, Vec<Turn>)> {
+fn turns_in(alloc: Global, case: Case, order: Order) -> Option<(String, Vec<Turn>)> {
     let Setup {
         program,
         medium,
@@ -160,13 +189,13 @@ fn turns_in(alloc: Global, case: &Case, order: Order) -> Option<(String, Vec<Tur
 }
 
 /// The run of a case by the text of a schedule.
-fn run_by(alloc: Global, case: &Case, schedule: &str) -> Option<Run> {
+fn run_by(alloc: Global, case: Case, schedule: &str) -> Option<Run> {
     let schedule = Schedule::read(alloc, schedule.as_bytes()).ok()?;
     record_run(alloc, setup_of(alloc, case)?, &schedule).ok()
 }
 
 /// The runs of a case in all orders of its requests.
-fn walks_of(alloc: Global, case: &Case) -> Option<Vec<Walk>> {
+fn walks_of(alloc: Global, case: Case) -> Option<Vec<Walk>> {
     let requests = case.first.len().checked_add(case.second.len())?;
     let turns = u32::try_from(requests.checked_add(4)?).ok()?;
     let mut walks = Vec::new(alloc);
@@ -365,7 +394,7 @@ fn is_good(alloc: Global, shown: Shown, notes: &[Note], walk: &Walk) -> Option<b
 }
 
 /// Whether all schedules of a case are right, one by one.
-fn are_good(alloc: Global, case: &Case) -> Option<bool> {
+fn are_good(alloc: Global, case: Case) -> Option<bool> {
     let walks = walks_of(alloc, case)?;
     let mut notes = Vec::new(alloc);
     for walk in &walks {
@@ -379,7 +408,7 @@ fn are_good(alloc: Global, case: &Case) -> Option<bool> {
 }
 
 /// Whether all schedules of a case pass.
-fn passes<T: Threads + Sync>(rt: &T, alloc: Global, case: &Case) -> Option<bool> {
+fn passes<T: Threads + Sync>(rt: &T, alloc: Global, case: Case) -> Option<bool> {
     let program = load_program(alloc, case.shown.source().as_bytes()).ok()?;
     let recovery = Recovery {
         program: &program,
@@ -402,9 +431,13 @@ fn passes<T: Threads + Sync>(rt: &T, alloc: Global, case: &Case) -> Option<bool>
 
 #[test]
 fn schedules_are_judged_by_a_routine_as_one_by_one(rt: HostRuntime) {
-    for (number, case) in CASES.iter().enumerate() {
-        let known = Some(case.passes);
+    for (first, second, shown, known) in &CASES {
+        let case = Case {
+            first: *first,
+            second: *second,
+            shown: *shown,
+        };
         let found = (are_good(rt.alloc(), case), passes(&rt, rt.alloc(), case));
-        assert!(rt; found == (known, known), "{number} {found:?}");
+        assert!(rt; found == (Some(*known), Some(*known)), "{first} {second} {found:?}");
     }
 }
