@@ -438,6 +438,9 @@ fn schedules_are_judged_by_a_routine_as_one_by_one(rt: HostRuntime) {
             shown: *shown,
         };
         let found = (are_good(rt.alloc(), case), passes(&rt, rt.alloc(), case));
-        assert!(rt; found == (Some(*known), Some(*known)), "{first} {second} {found:?}");
+        assert!(rt;
+            found == (Some(*known), Some(*known)),
+            "{first} {second} {found:?}"
+        );
     }
 }
