@@ -84,7 +84,7 @@ struct Walk {
 }
 
 /// What recovery answers, None where it fails.
-type Answer = Option<[u8; 2]>;
+type Answer = Option<(u8, u8)>;
 
 /// The operations of a sequential run at rest, in order, and what recovery answers on its full image.
 #[derive(Drop)]
@@ -112,9 +112,9 @@ impl Shown {
     /// What the routine answers by both words.
     fn answer(self, first: u8, second: u8) -> Answer {
         match self {
-            Shown::Committed if first == 0 => Some([0, 0]),
+            Shown::Committed if first == 0 => Some((0, 0)),
             Shown::Checked if first != 0 && second == 0 => None,
-            _ => Some([first, second]),
+            _ => Some((first, second)),
         }
     }
 }
