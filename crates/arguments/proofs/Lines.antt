@@ -18,7 +18,7 @@ use Rattle.clap.specs.declared.parser.matches.ArgMatches.TheViews.{out-SubComman
 use Rattle.clap.proofs.WalkLemmas.{first_value-rows}
 use Rattle.arguments.specs.Codes.{IsMeaningOf}
 use Rattle.arguments.specs.declared.codes.table.Meaning.{Meaning}
-use Rattle.arguments.specs.Grammar.{IsGrammar, novacrash, grammar_of, is_of_file, making, running, asking_of_runs, asking_of_files, telling, judging, showing, assemble_shape, make_volume_shape, upgrade_shape, run_shape, replay_shape, debug_shape, trace_shape, images_shape, image_shape, trace_of_file_shape, images_of_file_shape, image_of_file_shape, unpersisted_shape, waste_shape, explain_shape, check_shape, judge_shape, check_all_shape, answer_shape, picture_shape, interleave_shape, show_shape, listing_shape, code_shape, help_shape}
+use Rattle.arguments.specs.Grammar.{IsGrammar, novacrash, grammar_of, is_of_file, making, running, asking_of_runs, asking_of_files, telling, judging, showing, assemble_shape, make_volume_shape, upgrade_shape, run_shape, replay_shape, debug_shape, trace_shape, images_shape, image_shape, trace_of_file_shape, images_of_file_shape, image_of_file_shape, unpersisted_shape, waste_shape, explain_shape, check_shape, judge_shape, check_all_shape, judge_all_shape, answer_shape, picture_shape, interleave_shape, show_shape, listing_shape, code_shape, help_shape}
 use Rattle.arguments.specs.Line.{IsAsked, IsCommand, IsEventSource, IsFault, IsHelp, IsKindOf, IsNoCommand, IsOf, IsTrace, OnFault, Refuses}
 use Rattle.arguments.specs.Values.{IsCodeWord, IsOptional}
 use Rattle.arguments.specs.declared.asked.Command.{Command}
@@ -58,12 +58,12 @@ refused_by_kind words kind (Fault text) (inr among) is =
 refused_by_kind words kind Memory among is = tt
 
 simple_and_free : (of_file : Bool) → is_simple_and_free (novacrash of_file) ≡ true
-unfolding novacrash making running telling judging showing assemble_shape make_volume_shape upgrade_shape run_shape replay_shape debug_shape asking_of_runs asking_of_files trace_shape images_shape image_shape trace_of_file_shape images_of_file_shape image_of_file_shape unpersisted_shape waste_shape explain_shape check_shape judge_shape check_all_shape answer_shape picture_shape interleave_shape show_shape listing_shape code_shape help_shape
+unfolding novacrash making running telling judging showing assemble_shape make_volume_shape upgrade_shape run_shape replay_shape debug_shape asking_of_runs asking_of_files trace_shape images_shape image_shape trace_of_file_shape images_of_file_shape image_of_file_shape unpersisted_shape waste_shape explain_shape check_shape judge_shape check_all_shape judge_all_shape answer_shape picture_shape interleave_shape show_shape listing_shape code_shape help_shape
 simple_and_free false = refl
 simple_and_free true = refl
 
 simple : (of_file : Bool) → is_simple (novacrash of_file) ≡ true
-unfolding novacrash making running telling judging showing assemble_shape make_volume_shape upgrade_shape run_shape replay_shape debug_shape asking_of_runs asking_of_files trace_shape images_shape image_shape trace_of_file_shape images_of_file_shape image_of_file_shape unpersisted_shape waste_shape explain_shape check_shape judge_shape check_all_shape answer_shape picture_shape interleave_shape show_shape listing_shape code_shape help_shape
+unfolding novacrash making running telling judging showing assemble_shape make_volume_shape upgrade_shape run_shape replay_shape debug_shape asking_of_runs asking_of_files trace_shape images_shape image_shape trace_of_file_shape images_of_file_shape image_of_file_shape unpersisted_shape waste_shape explain_shape check_shape judge_shape check_all_shape judge_all_shape answer_shape picture_shape interleave_shape show_shape listing_shape code_shape help_shape
 simple false = refl
 simple true = refl
 
@@ -178,6 +178,7 @@ no_trace_of name rows is none (commands.Explain command) asked = let e : 101 ≡
 no_trace_of name rows is none (commands.Check command) asked = let e : 99 ≡ 116 = ap (λ (t : Text). slice_index t 0) (sym asked.0 ∙ is) in absurd (omega (arith, e))
 no_trace_of name rows is none (commands.Judge command) asked = let e : 106 ≡ 116 = ap (λ (t : Text). slice_index t 0) (sym asked.0 ∙ is) in absurd (omega (arith, e))
 no_trace_of name rows is none (commands.CheckAll command) asked = let e : 99 ≡ 116 = ap (λ (t : Text). slice_index t 0) (sym asked.0 ∙ is) in absurd (omega (arith, e))
+no_trace_of name rows is none (commands.JudgeAll command) asked = let e : 106 ≡ 116 = ap (λ (t : Text). slice_index t 0) (sym asked.0 ∙ is) in absurd (omega (arith, e))
 no_trace_of name rows is none (commands.Answer command) asked = let e : 97 ≡ 116 = ap (λ (t : Text). slice_index t 0) (sym asked.0 ∙ is) in absurd (omega (arith, e))
 no_trace_of name rows is none (commands.Picture command) asked = let e : 112 ≡ 116 = ap (λ (t : Text). slice_index t 0) (sym asked.0 ∙ is) in absurd (omega (arith, e))
 no_trace_of name rows is none (commands.Interleave command) asked = let e : 105 ≡ 116 = ap (λ (t : Text). slice_index t 0) (sym asked.0 ∙ is) in absurd (omega (arith, e))

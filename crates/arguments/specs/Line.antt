@@ -1,5 +1,5 @@
 -- Which command a line asks for, by what clap's specification says of its words.
-use Rattle.std.specs.Prelude.{string_bytes, ◌≡◌, ◌≢◌, ◌≤◌, ◌<◌, ◌^◌, ◌⊎◌, ℕ, List, [], ◌∷◌, Option, Some, None, IfSome, codes, ⊤}
+use Rattle.std.specs.Prelude.{string_bytes, ◌≡◌, ◌≢◌, ◌≤◌, ◌<◌, ◌^◌, ◌⊎◌, ℕ, Bool, true, false, List, [], ◌∷◌, Option, Some, None, IfSome, codes, ⊤}
 use Rattle.clap.specs.Words.{Row, Text, fault_of, first_of, subcommand_of}
 use Rattle.clap.specs.Kinds.{IsAmong}
 use Rattle.clap.specs.declared.error.ErrorKind.{ErrorKind}
@@ -14,7 +14,7 @@ use Rattle.arguments.specs.declared.asked.CheckAllCommand.{CheckAllCommand}
 use Rattle.arguments.specs.declared.asked.CheckCommand.{CheckCommand}
 use Rattle.arguments.specs.declared.asked.CodeCommand.{CodeCommand}
 use Rattle.arguments.specs.declared.asked.Command.{Command}
-use Rattle.arguments.specs.declared.asked.Command.TheVariants.{Answer, Assemble, Check, CheckAll, Code, Debug, Explain, Image, Images, Interleave, Judge, Listing, MakeVolume, Picture, Replay, Run, Show, Trace, Unpersisted, Upgrade, Waste}
+use Rattle.arguments.specs.declared.asked.Command.TheVariants.{Answer, Assemble, Check, CheckAll, Code, Debug, Explain, Image, Images, Interleave, Judge, JudgeAll, Listing, MakeVolume, Picture, Replay, Run, Show, Trace, Unpersisted, Upgrade, Waste}
 use Rattle.arguments.specs.declared.asked.DebugCommand.{DebugCommand}
 use Rattle.arguments.specs.declared.asked.EventSource.{EventSource}
 use Rattle.arguments.specs.declared.asked.EventSource.TheVariants as sources
@@ -22,7 +22,9 @@ use Rattle.arguments.specs.declared.asked.ExplainCommand.{ExplainCommand}
 use Rattle.arguments.specs.declared.asked.ImageCommand.{ImageCommand}
 use Rattle.arguments.specs.declared.asked.ImagesCommand.{ImagesCommand}
 use Rattle.arguments.specs.declared.asked.InterleaveCommand.{InterleaveCommand}
+use Rattle.arguments.specs.declared.asked.JudgeAllCommand.{JudgeAllCommand}
 use Rattle.arguments.specs.declared.asked.JudgeCommand.{JudgeCommand}
+use Rattle.arguments.specs.declared.asked.JudgedProgram.{JudgedProgram}
 use Rattle.arguments.specs.declared.asked.JudgedRun.{JudgedRun}
 use Rattle.arguments.specs.declared.asked.LineFault.{LineFault}
 use Rattle.arguments.specs.declared.asked.LineFault.TheVariants.{Help, Fault, Memory}
@@ -32,6 +34,8 @@ use Rattle.arguments.specs.declared.asked.MakeVolumeCommand.{MakeVolumeCommand}
 use Rattle.arguments.specs.declared.asked.PictureCommand.{PictureCommand}
 use Rattle.arguments.specs.declared.asked.ReplayCommand.{ReplayCommand}
 use Rattle.arguments.specs.declared.asked.ReportCommand.{ReportCommand}
+use Rattle.arguments.specs.declared.asked.RightAnswers.{RightAnswers}
+use Rattle.arguments.specs.declared.asked.RightAnswers.TheVariants.{Atomic, InTurn, Overlapping}
 use Rattle.arguments.specs.declared.asked.RunCommand.{RunCommand}
 use Rattle.arguments.specs.declared.asked.ScheduledRun.{ScheduledRun}
 use Rattle.arguments.specs.declared.asked.ShowCommand.{ShowCommand}
@@ -155,24 +159,47 @@ pub record IsCheck (rows : List Row) (command : CheckCommand) : Type 0 where
   pub plan : IsWord (codes "PLAN") rows command.plan
   pub judged : IsJudgedRun rows command.judged
 
--- `judge` of this run by this recovery routine, so many steps of it on an image, and whether operations may overlap
+-- The right answers by `--atomic` and `--overlapping`: those of sequential runs by the one, those of the run itself by the other, where operations
+-- may then overlap, and without any. With both none are right.
+abbrev pub AreRightBy : Bool → Bool → RightAnswers → Type 0
+AreRightBy false false right = right ≡ InTurn
+AreRightBy false true right = right ≡ Overlapping
+AreRightBy true false right = right ≡ Atomic
+AreRightBy true true right = ⊥
+
+abbrev pub IsRight : List Row → RightAnswers → Type 0
+IsRight rows right = AreRightBy (is_set (first_of (codes "atomic") rows)) (is_set (first_of (codes "overlapping") rows)) right
+
+-- `judge` of this run by this recovery routine, so many steps of it on an image, the answers of it that are right, and at most so many states of the
+-- search for sequential runs
 pub record IsJudge (rows : List Row) (command : JudgeCommand) : Type 0 where
   pub recovery : IsWord (codes "RECOVERY") rows command.recovery
   pub steps : IsRecoverySteps rows command.steps
-  pub overlapping : command.overlapping ≡ is_set (first_of (codes "overlapping") rows)
+  pub right : IsRight rows command.right
+  pub states : IsStates rows command.states
   pub judged : IsJudgedRun rows command.judged
 
--- `check-all` of this program by this plan with these options: at most so many states, whether harts may stop in any way, whether a failure is
+-- What `check-all` and `judge-all` have in common: this program, at most so many states, whether harts may stop in any way, whether a failure is
 -- explained, as text or as JSON, and whether it is reported how far the search has come.
+pub record IsJudgedProgram (rows : List Row) (judged : JudgedProgram) : Type 0 where
+  pub program : IsWord (codes "PROGRAM") rows judged.program
+  pub machine : IsWholeMachine rows judged.machine
+  pub states : IsStates rows judged.states
+  pub any_end : judged.any_end ≡ is_set (first_of (codes "any-end") rows)
+  pub why : judged.why ≡ is_set (first_of (codes "why") rows)
+  pub json : judged.json ≡ is_set (first_of (codes "json") rows)
+  pub progress : judged.progress ≡ is_set (first_of (codes "progress") rows)
+
+-- `check-all` of this program by this plan
 pub record IsCheckAll (rows : List Row) (command : CheckAllCommand) : Type 0 where
   pub plan : IsWord (codes "PLAN") rows command.plan
-  pub program : IsWord (codes "PROGRAM") rows command.program
-  pub machine : IsWholeMachine rows command.machine
-  pub states : IsStates rows command.states
-  pub any_end : command.any_end ≡ is_set (first_of (codes "any-end") rows)
-  pub why : command.why ≡ is_set (first_of (codes "why") rows)
-  pub json : command.json ≡ is_set (first_of (codes "json") rows)
-  pub progress : command.progress ≡ is_set (first_of (codes "progress") rows)
+  pub judged : IsJudgedProgram rows command.judged
+
+-- `judge-all` of this program by this recovery routine, and so many steps of it on an image
+pub record IsJudgeAll (rows : List Row) (command : JudgeAllCommand) : Type 0 where
+  pub recovery : IsWord (codes "RECOVERY") rows command.recovery
+  pub steps : IsRecoverySteps rows command.steps
+  pub judged : IsJudgedProgram rows command.judged
 
 -- `answer` of this recovery routine on this medium, in so many steps at most
 pub record IsAnswer (rows : List Row) (command : AnswerCommand) : Type 0 where
@@ -225,6 +252,7 @@ IsOf name rows (Explain command) = (name ≡ codes "explain") × IsExplain rows 
 IsOf name rows (Check command) = (name ≡ codes "check") × IsCheck rows command
 IsOf name rows (Judge command) = (name ≡ codes "judge") × IsJudge rows command
 IsOf name rows (CheckAll command) = (name ≡ codes "check-all") × IsCheckAll rows command
+IsOf name rows (JudgeAll command) = (name ≡ codes "judge-all") × IsJudgeAll rows command
 IsOf name rows (Answer command) = (name ≡ codes "answer") × IsAnswer rows command
 IsOf name rows (Picture command) = (name ≡ codes "picture") × IsPicture rows command
 IsOf name rows (Interleave command) = (name ≡ codes "interleave") × IsInterleave rows command
@@ -258,6 +286,7 @@ pub record JudgesNone (name : Text) : Type 0 where
   pub check : name ≢ codes "check"
   pub judge : name ≢ codes "judge"
   pub check_all : name ≢ codes "check-all"
+  pub judge_all : name ≢ codes "judge-all"
   pub answer : name ≢ codes "answer"
 
 -- the command that the subcommand of a line asks for
@@ -290,6 +319,11 @@ pub record IsJudgedWithin (judged : JudgedRun) : Type 0 where
   pub workers : IsWithin 1 8 judged.workers
   pub moments : IfSome judged.moments IsUpward
 
+-- the numbers of a program of which every schedule is judged are within their limits
+pub record IsProgramWithin (judged : JudgedProgram) : Type 0 where
+  pub machine : IsMachineWithin judged.machine
+  pub states : IsWithin 1 4294967295 judged.states
+
 -- a command's numbers are within their limits
 abbrev pub IsWithinLimits : Command → Type 0
 IsWithinLimits (Assemble command) = ⊤
@@ -305,8 +339,9 @@ IsWithinLimits (Images command) = IsSourceWithin command.source × (command.mome
 IsWithinLimits (Image command) = IsSourceWithin command.source × (command.moment < 2 ^ 32) × IsProper command.image
 IsWithinLimits (Explain command) = IsMachineWithin command.run.machine × (command.moment < 2 ^ 32) × IsProper command.image
 IsWithinLimits (Check command) = IsJudgedWithin command.judged
-IsWithinLimits (Judge command) = IsJudgedWithin command.judged × IsWithin 1 500000000 command.steps
-IsWithinLimits (CheckAll command) = IsMachineWithin command.machine × IsWithin 1 4294967295 command.states
+IsWithinLimits (Judge command) = IsJudgedWithin command.judged × IsWithin 1 500000000 command.steps × IsWithin 1 4294967295 command.states
+IsWithinLimits (CheckAll command) = IsProgramWithin command.judged
+IsWithinLimits (JudgeAll command) = IsProgramWithin command.judged × IsWithin 1 500000000 command.steps
 IsWithinLimits (Answer command) = IsWithin 1 500000000 command.steps
 IsWithinLimits (Picture command) = IsMachineWithin command.run.machine × (command.moment < 2 ^ 32) × IfSome command.image IsProper
 IsWithinLimits (Interleave command) = IsMachineWithin command.machine × IsWithin 1 500000000 command.steps × IsWithin 0 65536 command.evictions

@@ -3,8 +3,8 @@
 ghost use Rattle.std.specs.Prelude.{◌<◌, ◌^◌, ℕ, IfOk, IfErr, IfSome, String, codes};
 ghost use Rattle.std.specs.declared.alloc.Global.{Global as AGlobal};
 ghost use Rattle.clap.specs.Words.{found_of, rows_of};
-ghost use Rattle.arguments.specs.Line.{IsAnswer, IsAssemble, IsCheck, IsCheckAll, IsCode, IsDebug, IsEventSource, IsExplain, IsImage, IsImages, IsInterleave, IsJudge, IsListing, IsMakeVolume, IsPicture, IsReplay, IsReport, IsRun, IsScheduledRun, IsShow, IsTrace, IsTracedEvents, IsUpgrade};
-ghost use Rattle.arguments.specs.Line.{IsCachedMachine, IsSourceWithin, IsJudgedRun, IsJudgedWithin, IsMachineWithin, IsOf, IsWithin, IsWithinLimits, OnFault};
+ghost use Rattle.arguments.specs.Line.{IsAnswer, IsAssemble, IsCheck, IsCheckAll, IsCode, IsDebug, IsEventSource, IsExplain, IsImage, IsImages, IsInterleave, IsJudge, IsJudgeAll, IsListing, IsMakeVolume, IsPicture, IsReplay, IsReport, IsRun, IsScheduledRun, IsShow, IsTrace, IsTracedEvents, IsUpgrade};
+ghost use Rattle.arguments.specs.Line.{IsCachedMachine, IsSourceWithin, IsJudgedProgram, IsJudgedRun, IsJudgedWithin, IsMachineWithin, IsOf, IsProgramWithin, IsRight, IsWithin, IsWithinLimits, OnFault};
 ghost use Rattle.arguments.specs.Started.{IsStarted};
 ghost use Rattle.arguments.specs.Values.{IsWord};
 ghost use Rattle.text.specs.Texts.{IsProper};
@@ -22,6 +22,7 @@ ghost use Rattle.arguments.specs.declared.asked.EventSource.{EventSource as AnEv
 ghost use Rattle.arguments.specs.declared.asked.ExplainCommand.{ExplainCommand as AExplainCommand};
 ghost use Rattle.arguments.specs.declared.asked.CheckCommand.{CheckCommand as ACheckCommand};
 ghost use Rattle.arguments.specs.declared.asked.CheckAllCommand.{CheckAllCommand as ACheckAllCommand};
+ghost use Rattle.arguments.specs.declared.asked.JudgeAllCommand.{JudgeAllCommand as AJudgeAllCommand};
 ghost use Rattle.arguments.specs.declared.asked.JudgeCommand.{JudgeCommand as AJudgeCommand};
 ghost use Rattle.arguments.specs.declared.asked.InterleaveCommand.{InterleaveCommand as AnInterleaveCommand};
 ghost use Rattle.arguments.specs.declared.asked.PictureCommand.{PictureCommand as APictureCommand};
@@ -30,15 +31,17 @@ ghost use Rattle.arguments.specs.declared.asked.ShowCommand.{ShowCommand as ASho
 ghost use Rattle.arguments.specs.declared.asked.ListingCommand.{ListingCommand as AListingCommand};
 ghost use Rattle.arguments.specs.declared.asked.CodeCommand.{CodeCommand as ACodeCommand};
 ghost use Rattle.arguments.specs.declared.asked.MachineOptions.{MachineOptions as AMachine};
+ghost use Rattle.arguments.specs.declared.asked.JudgedProgram.{JudgedProgram as AJudgedProgram};
 ghost use Rattle.arguments.specs.declared.asked.JudgedRun.{JudgedRun as AJudgedRun};
+ghost use Rattle.arguments.specs.declared.asked.RightAnswers.{RightAnswers as SomeRightAnswers};
 ghost use Rattle.arguments.specs.declared.asked.ScheduledRun.{ScheduledRun as AScheduledRun};
 
 use crate::asked::{
     AnswerCommand, AssembleCommand, CheckAllCommand, CheckCommand, CodeCommand, Command,
     DebugCommand, EventSource, ExplainCommand, ImageCommand, ImagesCommand, InterleaveCommand,
-    JudgeCommand, JudgedRun, LineFault, ListingCommand, MachineOptions, MakeVolumeCommand,
-    PictureCommand, ReplayCommand, ReportCommand, RunCommand, ScheduledRun, ShowCommand,
-    TraceCommand, TracedEvents, UpgradeCommand,
+    JudgeAllCommand, JudgeCommand, JudgedProgram, JudgedRun, LineFault, ListingCommand,
+    MachineOptions, MakeVolumeCommand, PictureCommand, ReplayCommand, ReportCommand, RightAnswers,
+    RunCommand, ScheduledRun, ShowCommand, TraceCommand, TracedEvents, UpgradeCommand,
 };
 use crate::machine::{cached_machine, whole_machine};
 use crate::moments::optional_moments;
@@ -57,7 +60,7 @@ const STEPS: NumberOption = NumberOption {
     high: 500_000_000,
 };
 
-/// The most steps of recovery that `judge` makes on a crash image, and `answer` on a medium.
+/// The most steps of recovery that `judge` and `judge-all` make on a crash image, and `answer` on a medium.
 const RECOVERY_STEPS: NumberOption = NumberOption {
     name: "steps",
     default: 100_000,
@@ -81,7 +84,7 @@ const WORKERS: NumberOption = NumberOption {
     high: 8,
 };
 
-/// The most states that `check-all` meets.
+/// The most states that `check-all` and `judge-all` meet, and `judge` in its search for sequential runs.
 const STATES: NumberOption = NumberOption {
     name: "states",
     default: 1_000_000,
@@ -156,6 +159,23 @@ fn judged_run(alloc: Global, found: &ArgMatches<'_>) -> Result<JudgedRun, LineFa
         workers: number(alloc, found, &WORKERS)?,
         moments: optional_moments(alloc, found, "moments")?,
         run: scheduled_run(alloc, found)?,
+    })
+}
+
+/// The program of `check-all` or `judge-all`, and how it is judged.
+fn judged_program(alloc: Global, found: &ArgMatches<'_>) -> Result<JudgedProgram, LineFault>
+    ensures ok { IfOk result (IsJudgedProgram (rows_of (found_of found.now))) }
+    ensures within { IfOk result IsProgramWithin }
+    ensures err { IfErr result (OnFault ((judged : AJudgedProgram) → ¬ (IsJudgedProgram (rows_of (found_of found.now)) judged))) }
+{
+    Ok(JudgedProgram {
+        any_end: flag(found, "any-end"),
+        why: flag(found, "why"),
+        json: flag(found, "json"),
+        progress: flag(found, "progress"),
+        states: number(alloc, found, &STATES)?,
+        machine: whole_machine(alloc, found)?,
+        program: word(alloc, found, "PROGRAM")?,
     })
 }
 
@@ -357,6 +377,21 @@ pub(crate) fn check(alloc: Global, found: &ArgMatches<'_>) -> Result<Command, Li
     Ok(Command::Check(CheckCommand { plan, judged }))
 }
 
+/// Which answers `judge` takes for right.
+fn right_answers(alloc: Global, found: &ArgMatches<'_>) -> Result<RightAnswers, LineFault>
+    ensures ok { IfOk result (IsRight (rows_of (found_of found.now))) }
+    ensures err { IfErr result (OnFault ((right : SomeRightAnswers) → ¬ (IsRight (rows_of (found_of found.now)) right))) }
+{
+    match (flag(found, "atomic"), flag(found, "overlapping")) {
+        (false, false) => Ok(RightAnswers::InTurn),
+        (false, true) => Ok(RightAnswers::Overlapping),
+        (true, false) => Ok(RightAnswers::Atomic),
+        (true, true) => Err(LineFault::Fault(format!(in alloc;
+            "error: --atomic and --overlapping can't stand together\n"
+        )?)),
+    }
+}
+
 /// What `judge` is to do.
 pub(crate) fn judge(alloc: Global, found: &ArgMatches<'_>) -> Result<Command, LineFault>
     ensures ok { IfOk result (IsOf (codes "judge") (rows_of (found_of found.now))) }
@@ -364,14 +399,16 @@ pub(crate) fn judge(alloc: Global, found: &ArgMatches<'_>) -> Result<Command, Li
     ensures err { IfErr result (OnFault ((command : AJudgeCommand)
         → ¬ (IsJudge (rows_of (found_of found.now)) command))) }
 {
-    let overlapping = flag(found, "overlapping");
+    let right = right_answers(alloc, found)?;
     let steps = number(alloc, found, &RECOVERY_STEPS)?;
+    let states = number(alloc, found, &STATES)?;
     let recovery = word(alloc, found, "RECOVERY")?;
     let judged = judged_run(alloc, found)?;
     Ok(Command::Judge(JudgeCommand {
         recovery,
         steps,
-        overlapping,
+        right,
+        states,
         judged,
     }))
 }
@@ -383,15 +420,23 @@ pub(crate) fn check_all(alloc: Global, found: &ArgMatches<'_>) -> Result<Command
     ensures err { IfErr result (OnFault ((command : ACheckAllCommand)
         → ¬ (IsCheckAll (rows_of (found_of found.now)) command))) }
 {
-    Ok(Command::CheckAll(CheckAllCommand {
-        any_end: flag(found, "any-end"),
-        why: flag(found, "why"),
-        json: flag(found, "json"),
-        progress: flag(found, "progress"),
-        states: number(alloc, found, &STATES)?,
-        machine: whole_machine(alloc, found)?,
-        plan: word(alloc, found, "PLAN")?,
-        program: word(alloc, found, "PROGRAM")?,
+    let plan = word(alloc, found, "PLAN")?;
+    let judged = judged_program(alloc, found)?;
+    Ok(Command::CheckAll(CheckAllCommand { plan, judged }))
+}
+
+/// What `judge-all` is to do.
+pub(crate) fn judge_all(alloc: Global, found: &ArgMatches<'_>) -> Result<Command, LineFault>
+    ensures ok { IfOk result (IsOf (codes "judge-all") (rows_of (found_of found.now))) }
+    ensures within { IfOk result IsWithinLimits }
+    ensures err { IfErr result (OnFault ((command : AJudgeAllCommand)
+        → ¬ (IsJudgeAll (rows_of (found_of found.now)) command))) }
+{
+    let judged = judged_program(alloc, found)?;
+    Ok(Command::JudgeAll(JudgeAllCommand {
+        steps: number(alloc, found, &RECOVERY_STEPS)?,
+        recovery: word(alloc, found, "RECOVERY")?,
+        judged,
     }))
 }
 

@@ -238,9 +238,20 @@ const MOMENTS: Argument = Argument::Valued {
     about: "The moments that are judged: A-B, A- to the last one, or A alone [default: all]",
 };
 
+const ATOMIC: Argument = Argument::Flag {
+    name: "atomic",
+    about: "Count overlapping operations as made one after another: right is what sequential runs of the program show",
+};
+
+const SEQUENTIAL_STATES: Argument = Argument::Valued {
+    name: "states",
+    value: "N",
+    about: "With --atomic, the most states that the search for sequential runs meets, from 1 to 4294967295 [default: 1000000]",
+};
+
 const OVERLAPPING: Argument = Argument::Flag {
     name: "overlapping",
-    about: "Let an operation begin while another is pending",
+    about: "Let operations overlap: right is also what the run shows amid them",
 };
 
 const STATES: Argument = Argument::Valued {
@@ -434,7 +445,7 @@ static TELLING: [Subcommand; 3] = [
 ];
 
 /// The subcommands that judge a run or every one of a program, behind those.
-static JUDGING: [Subcommand; 4] = [
+static JUDGING: [Subcommand; 5] = [
     Subcommand {
         name: "check",
         group: Group::Judge,
@@ -459,6 +470,8 @@ static JUDGING: [Subcommand; 4] = [
             HARTS,
             RECOVERY_STEPS,
             WORKERS,
+            ATOMIC,
+            SEQUENTIAL_STATES,
             OVERLAPPING,
             MOMENTS,
             GO_ON,
@@ -477,6 +490,24 @@ static JUDGING: [Subcommand; 4] = [
             PLAN, PROGRAM, MEDIUM, HARTS, STATES, ANY_END, WHY, JSON, PROGRESS,
         ],
         ending: ending!("check-all append.plan append.s --medium append.medium --why"),
+    },
+    Subcommand {
+        name: "judge-all",
+        group: Group::Judge,
+        about: "Judge every crash image of every schedule of a program by a recovery routine of one's own",
+        arguments: &[
+            PROGRAM,
+            RECOVERY,
+            MEDIUM,
+            HARTS,
+            RECOVERY_STEPS,
+            STATES,
+            ANY_END,
+            WHY,
+            JSON,
+            PROGRESS,
+        ],
+        ending: ending!("judge-all push.s push-recovery.s --harts 2 --why"),
     },
     Subcommand {
         name: "answer",

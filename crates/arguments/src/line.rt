@@ -10,7 +10,8 @@ ghost use Rattle.arguments.specs.declared.asked.Command.{Command as ACommand};
 use crate::asked::{Command, LineFault};
 use crate::commands::{
     answer, assemble, check, check_all, code, debug, explain, image, images, interleave, judge,
-    listing, make_volume, picture, replay, run, show, trace, unpersisted, upgrade, waste,
+    judge_all, listing, make_volume, picture, replay, run, show, trace, unpersisted, upgrade,
+    waste,
 };
 use crate::grammar::{grammar, overview};
 use clap::ArgMatches;
@@ -166,6 +167,7 @@ fn asked_to_judge(alloc: Global, name: &str, found: &ArgMatches<'_>) -> Result<C
         "check" => check(alloc, found),
         "judge" => judge(alloc, found),
         "check-all" => check_all(alloc, found),
+        "judge-all" => judge_all(alloc, found),
         "answer" => answer(alloc, found),
         _ => asked_to_show(alloc, name, found),
     }
@@ -217,8 +219,9 @@ fn asked_to_show(alloc: Global, name: &str, found: &ArgMatches<'_>) -> Result<Co
 /// - `image --trace FILE MOMENT IMAGE OUT [--medium FILE --whole]`
 /// - `explain PROGRAM SCHEDULE MOMENT IMAGE [--medium FILE --harts N --whole]`
 /// - `check PLAN PROGRAM SCHEDULE [--medium FILE --harts N --workers N --moments A-B --go-on --whole --why --json --progress]`
-/// - `judge PROGRAM SCHEDULE RECOVERY [--medium FILE --harts N --steps N --workers N --overlapping --moments A-B --go-on --whole --why --json --progress]`
+/// - `judge PROGRAM SCHEDULE RECOVERY [--medium FILE --harts N --steps N --workers N --atomic --states N --overlapping --moments A-B --go-on --whole --why --json --progress]`
 /// - `check-all PLAN PROGRAM [--medium FILE --harts N --states N --any-end --why --json --progress]`
+/// - `judge-all PROGRAM RECOVERY [--medium FILE --harts N --steps N --states N --any-end --why --json --progress]`
 /// - `answer RECOVERY [--medium FILE --steps N]`
 /// - `picture PROGRAM SCHEDULE MOMENT FILE [--image IMAGE --medium FILE --harts N]`
 /// - `interleave PROGRAM --seed N [--medium FILE --harts N --steps N --evictions N]`

@@ -1,6 +1,6 @@
 -- What is concluded by a failure is so by what is known of that.
 use Rattle.std.proofs.Common.{◌≡◌, List, ℕ, Result, Ok, Err, subst, sym}
-use Rattle.command_line.specs.CheckingAll.{Concludes, IsRefused}
+use Rattle.command_line.specs.AllSchedules.{Concludes, IsRefused}
 use Rattle.command_line.specs.declared.answer.Conclusion.{Conclusion}
 use Rattle.command_line.specs.declared.answer.Conclusion.TheVariants.{Answered, Refused}
 use Rattle.command_line.specs.declared.failure.Failure.{Failure}

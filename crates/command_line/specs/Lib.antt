@@ -1,3 +1,4 @@
+pub mod AllSchedules
 pub mod Answering
 pub mod Assembling
 pub mod Checking
@@ -11,6 +12,7 @@ pub mod Failures
 pub mod ImageFiles
 pub mod Imaging
 pub mod Judging
+pub mod JudgingAll
 pub mod Listing
 pub mod Making
 pub mod Naming

@@ -4,14 +4,15 @@ use Rattle.std.specs.Io.KnownBytes.{Appends}
 use Rattle.std.specs.Result.{result_map_both}
 use Rattle.arguments.specs.Line.{IsCommand, Refuses}
 use Rattle.arguments.specs.declared.asked.Command.{Command}
-use Rattle.arguments.specs.declared.asked.Command.TheVariants.{Answer as AnswerCommand, Assemble, Check, CheckAll, Code, Debug, Explain, Image, Images, Interleave, Judge, Listing, MakeVolume, Picture, Replay, Run, Show, Trace, Unpersisted, Upgrade, Waste}
+use Rattle.arguments.specs.declared.asked.Command.TheVariants.{Answer as AnswerCommand, Assemble, Check, CheckAll, Code, Debug, Explain, Image, Images, Interleave, Judge, JudgeAll, Listing, MakeVolume, Picture, Replay, Run, Show, Trace, Unpersisted, Upgrade, Waste}
 use Rattle.arguments.specs.declared.asked.LineFault.{LineFault}
 use Rattle.arguments.specs.declared.asked.LineFault.TheVariants as line_faults
 use Rattle.debugger.specs.StreamFailures.{AppendsFront}
 use Rattle.command_line.specs.Answering.{AnswersFile}
 use Rattle.command_line.specs.Assembling.{AssemblesFile}
 use Rattle.command_line.specs.Checking.{IsOpen, JudgesCheck, OpensCheck}
-use Rattle.command_line.specs.CheckingAll.{FailsBehind, IsOpen as IsOpenCheckAll, JudgesAll, OpensCheckAll}
+use Rattle.command_line.specs.AllSchedules.{FailsBehind}
+use Rattle.command_line.specs.CheckingAll.{ChecksAll, IsOpen as IsOpenCheckAll, OpensCheckAll}
 use Rattle.command_line.specs.Coding.{code_text}
 use Rattle.command_line.specs.Debugging.{HoldsSession, OpensFile}
 use Rattle.command_line.specs.Drawing.{InterleavesFile}
@@ -20,6 +21,7 @@ use Rattle.command_line.specs.Failures.{failure_status, failure_text}
 use Rattle.command_line.specs.ImageFiles.{ImageFile}
 use Rattle.command_line.specs.Imaging.{CountsFile}
 use Rattle.command_line.specs.Judging.{IsOpen as IsOpenJudge, JudgesRun, OpensJudge}
+use Rattle.command_line.specs.JudgingAll.{IsOpen as IsOpenJudgeAll, JudgesAll, OpensJudgeAll}
 use Rattle.command_line.specs.Listing.{ListsFile}
 use Rattle.command_line.specs.Making.{MakesFile}
 use Rattle.command_line.specs.Persisting.{UnpersistedFile}
@@ -37,7 +39,6 @@ use Rattle.command_line.specs.declared.answer.Conclusion.{Conclusion}
 use Rattle.command_line.specs.declared.answer.Conclusion.TheVariants.{Answered, Refused}
 use Rattle.command_line.specs.declared.failure.Failure.{Failure}
 use Rattle.command_line.specs.declared.opened.OpenCheck.{OpenCheck}
-use Rattle.command_line.specs.declared.opened.OpenCheckAll.{OpenCheckAll}
 use Rattle.command_line.specs.declared.opened.OpenJudge.{OpenJudge}
 use Rattle.command_line.specs.declared.failure.Failure.TheVariants.{Line, Memory, File}
 
@@ -64,6 +65,7 @@ CarriesOut reads writes (Explain command) = LeadsTo (ExplainsFile reads command)
 CarriesOut reads writes (Check command) = LeadsTo (OpensCheck reads command) actions.Check
 CarriesOut reads writes (Judge command) = LeadsTo (OpensJudge reads command) actions.Judge
 CarriesOut reads writes (CheckAll command) = LeadsTo (OpensCheckAll reads command) actions.CheckAll
+CarriesOut reads writes (JudgeAll command) = LeadsTo (OpensJudgeAll reads command) actions.JudgeAll
 CarriesOut reads writes (AnswerCommand command) = LeadsTo (AnswersFile reads command) actions.Print
 CarriesOut reads writes (Picture command) = LeadsTo (PicturesFile reads writes command) actions.Print
 CarriesOut reads writes (Interleave command) = LeadsTo (InterleavesFile reads command) actions.Print
@@ -77,6 +79,7 @@ IsReady (actions.Print answer) = Unit {0}
 IsReady (actions.Check check) = IsOpen check
 IsReady (actions.Judge judge) = IsOpenJudge judge
 IsReady (actions.CheckAll check) = IsOpenCheckAll check
+IsReady (actions.JudgeAll judge) = IsOpenJudgeAll judge
 IsReady (actions.Debug machine) = Unit {0}
 
 -- the text is to be printed with status 0
@@ -142,10 +145,10 @@ IsConcluded contents old new (Ok (Refused schedule failure)) (Err told) = FailsB
 IsConcluded contents old new (Err failure) ended = (ended ≡ Err failure) × (new ≡ old)
 
 -- what is found of every schedule of a program whose files have been read, printed
-pub record DeliversCheckAll {W E : Type 0} (contents : W → Option (List ℕ)) (said : E → Option (List ℕ)) (check : OpenCheckAll) (old new : W)
-    (errors errors' : E) (ended : Result ℕ Failure) : Type 0 where
+pub record DeliversConclusion {W E : Type 0} (contents : W → Option (List ℕ)) (judges_all : Step E Conclusion) (old new : W) (errors errors' : E)
+    (ended : Result ℕ Failure) : Type 0 where
   pub found : Result Conclusion Failure
-  pub judges : JudgesAll said check errors found errors'
+  pub judges : judges_all errors found errors'
   pub printed : IsConcluded contents old new found ended
 
 -- what is done on standard input and standard output, a pair, and on standard error before a failure is told: an answer is printed, a run
@@ -160,7 +163,9 @@ Delivers remaining contents said old new errors errors' (Ok (actions.Check check
 Delivers remaining contents said old new errors errors' (Ok (actions.Judge judge)) ended =
     (new.0 ≡ old.0) × DeliversJudge contents said judge old.1 new.1 errors errors' ended
 Delivers remaining contents said old new errors errors' (Ok (actions.CheckAll check)) ended =
-    (new.0 ≡ old.0) × DeliversCheckAll contents said check old.1 new.1 errors errors' ended
+    (new.0 ≡ old.0) × DeliversConclusion contents (ChecksAll said check) old.1 new.1 errors errors' ended
+Delivers remaining contents said old new errors errors' (Ok (actions.JudgeAll judge)) ended =
+    (new.0 ≡ old.0) × DeliversConclusion contents (JudgesAll said judge) old.1 new.1 errors errors' ended
 Delivers remaining contents said old new errors errors' (Ok (actions.Debug machine)) ended =
     HoldsSession machine (remaining old.0) (remaining new.0) (contents old.1) (contents new.1) ended × (errors' ≡ errors)
 Delivers remaining contents said old new errors errors' (Err failure) ended = (ended ≡ Err failure) × (new ≡ old) × (errors' ≡ errors)

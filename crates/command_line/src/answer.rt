@@ -3,7 +3,7 @@
 ghost use Rattle.std.specs.Prelude.{◌≡◌, string_bytes};
 
 use crate::failure::Failure;
-use crate::opened::{OpenCheck, OpenCheckAll, OpenJudge};
+use crate::opened::{OpenCheck, OpenCheckAll, OpenJudge, OpenJudgeAll};
 use machine::Machine;
 
 /// What a command prints on standard output, of whole lines, and the status that the program then ends with.
@@ -46,6 +46,8 @@ pub enum Action {
     Judge(OpenJudge),
     /// Every schedule of a program is to be judged.
     CheckAll(OpenCheckAll),
+    /// The same by a recovery routine.
+    JudgeAll(OpenJudgeAll),
     /// A session is to be held on a machine that has made no step.
     Debug(Machine),
 }

@@ -3,11 +3,7 @@
 ghost use Rattle.arguments.specs.Line.{IsJudgedWithin};
 ghost use Rattle.command_line.specs.Checking.{IsOpen, JudgesCheck, JudgesOpen, OpensCheck, TellsProgress, Watches};
 ghost use Rattle.command_line.specs.Progress.{IsToldIf};
-ghost use Rattle.command_line.specs.Reasons.{Explains, ExplainsOne};
-ghost use Rattle.command_line.specs.Verdicts.{failing};
-ghost use Rattle.crash_test.specs.Told.{IsAsked};
-ghost use Rattle.machine.specs.Grammar.{hart_steps};
-ghost use Rattle.std.specs.Prelude.{◌≡◌, ◌^◌, ◌<◌, IfOk, IfSome};
+ghost use Rattle.std.specs.Prelude.{◌≡◌, IfOk};
 
 use crate::answer::Answer;
 use crate::failure::Failure;
@@ -16,17 +12,16 @@ use crate::made_run::open_run;
 use crate::opened::OpenCheck;
 use crate::progress::Reporter;
 use crate::reading::read_plan;
-use crate::verdicts::{ToldCause, failing, verdict_answer, work};
+use crate::reasons::why;
+use crate::verdicts::{ToldCause, verdict_answer, work};
 use crate::whole::demand_whole;
 use arguments::CheckCommand;
-use crash_test::{ExplainedImage, LogReader, check_program, explain_losses};
+use crash_test::{LogReader, check_program};
 use image_check::{Cause, Verdict};
-use machine::Run;
 use std::alloc::{AllocError, Global};
 use std::io::Write;
 use std::thread::Threads;
 use std::time::Clock;
-use text::ImageName;
 
 /// `check`: reads the files of a plan, a program, a schedule and a medium, makes the run, and with `--whole` demands that it is whole.
 pub(crate) fn open_check<F: Files>(
@@ -63,7 +58,7 @@ pub(crate) fn judge_check<T: Threads + Sync + Clock, E: Write>(
     let OpenCheck { command, made, .. } = check;
     let verdict = verdict(rt, alloc, check, errors)?;
     let judged = &command.judged;
-    let why = why(alloc, judged.why, &made.run, &verdict)?;
+    let why = why(alloc, judged.why, &made.run, &verdict, &LogReader)?;
     verdict_answer(alloc, made, &verdict, &why, judged.json)
 }
 
@@ -102,34 +97,6 @@ fn told_verdict<T: Threads + Sync + Clock, E: Write>(
     } = check;
     let work = work(&command.judged);
     Ok(check_program(rt, alloc, plan, &made.run, work, reporter)?)
-}
-
-/// `--why`: of a failing image what it lacks and keeps, and how it comes about.
-pub(crate) fn why(
-    alloc: Global,
-    asked: bool,
-    run: &Run,
-    verdict: &Verdict<Cause>,
-) -> Result<Option<ExplainedImage>, Failure>
-    ensures told { Explains IsAsked run.now (failing asked verdict.now) result }
-    ensures few { IfOk result (λ why. IfSome why (λ explained. hart_steps explained.schedule < 2 ^ 32)) }
-{
-    match failing(asked, verdict) {
-        Some((moment, image)) => Ok(Some(explained(alloc, run, moment, image)?)),
-        None => Ok(None),
-    }
-}
-
-fn explained(
-    alloc: Global,
-    run: &Run,
-    moment: u32,
-    image: &ImageName,
-) -> Result<ExplainedImage, Failure>
-    ensures told { ExplainsOne IsAsked run.now moment image.now result }
-    ensures few { IfOk result (λ explained. hart_steps explained.schedule < 2 ^ 32) }
-{
-    Ok(explain_losses(alloc, run, moment, image, &LogReader)?)
 }
 
 impl ToldCause for Cause {

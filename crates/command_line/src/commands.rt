@@ -6,8 +6,9 @@ ghost use Rattle.arguments.specs.Line.{IsWithinLimits};
 ghost use Rattle.command_line.specs.Checking.{IsOpen};
 ghost use Rattle.command_line.specs.CheckingAll.{IsOpen as IsOpenCheckAll};
 ghost use Rattle.command_line.specs.Judging.{IsOpen as IsOpenJudge};
+ghost use Rattle.command_line.specs.JudgingAll.{IsOpen as IsOpenJudgeAll};
 ghost use Rattle.command_line.specs.Outcomes.{AnswersFault, CarriesOut, ComesTo, IsReady};
-ghost use Rattle.command_line.specs.declared.answer.Action.TheVariants.{Check, CheckAll, Debug, Judge, Print};
+ghost use Rattle.command_line.specs.declared.answer.Action.TheVariants.{Check, CheckAll, Debug, Judge, JudgeAll, Print};
 
 use crate::answer::{Action, Answer};
 use crate::answering::answer_file;
@@ -23,9 +24,10 @@ use crate::image::image_file;
 use crate::images::count_file;
 use crate::interleave::interleave_file;
 use crate::judge::open_judge;
+use crate::judge_all::open_judge_all;
 use crate::listing::list_file;
 use crate::mkfs::make_file;
-use crate::opened::{OpenCheck, OpenCheckAll, OpenJudge};
+use crate::opened::{OpenCheck, OpenCheckAll, OpenJudge, OpenJudgeAll};
 use crate::picture::picture_file;
 use crate::run::{replay_file, run_file};
 use crate::show::show_file;
@@ -82,6 +84,7 @@ fn carry_out<T: Threads + Wait + Sync, F: Files>(
         Command::Check(command) => opened(open_check(alloc, command, files)),
         Command::Judge(command) => judged(open_judge(alloc, command, files)),
         Command::CheckAll(command) => all_opened(open_check_all(alloc, command, files)),
+        Command::JudgeAll(command) => all_judged(open_judge_all(alloc, command, files)),
         Command::Answer(command) => printed(answer_file(alloc, &command, files)),
         Command::Picture(command) => printed(picture_file(alloc, &command, files)),
         Command::Interleave(command) => printed(interleave_file(alloc, &command, files)),
@@ -124,6 +127,15 @@ fn all_opened(check: Result<OpenCheckAll, Failure>) -> Result<Action, Failure>
     ensures ready { IfOk result IsReady }
 {
     Ok(Action::CheckAll(check?))
+}
+
+/// Every schedule of a program is judged by a recovery routine.
+fn all_judged(judge: Result<OpenJudgeAll, Failure>) -> Result<Action, Failure>
+    requires { IfOk judge IsOpenJudgeAll }
+    ensures is { result ≡ result_map_both JudgeAll (λ failure. failure) judge }
+    ensures ready { IfOk result IsReady }
+{
+    Ok(Action::JudgeAll(judge?))
 }
 
 /// A session is held on a machine.

@@ -2,19 +2,22 @@
 
 ghost use Rattle.std.specs.Prelude.{IfOk, Ok, map, string_bytes};
 ghost use Rattle.command_line.specs.Checking.{IsOpen};
-ghost use Rattle.command_line.specs.CheckingAll.{FailsBehind, IsOpen as IsOpenCheckAll};
+ghost use Rattle.command_line.specs.AllSchedules.{FailsBehind};
+ghost use Rattle.command_line.specs.CheckingAll.{ChecksAll, IsOpen as IsOpenCheckAll};
 ghost use Rattle.command_line.specs.Judging.{IsOpen as IsOpenJudge};
-ghost use Rattle.command_line.specs.Outcomes.{Delivers, DeliversCheck, DeliversCheckAll, DeliversJudge, Ends, EndsWith, IsConcluded, IsPrinted, IsReady};
+ghost use Rattle.command_line.specs.JudgingAll.{IsOpen as IsOpenJudgeAll, JudgesAll};
+ghost use Rattle.command_line.specs.Outcomes.{Delivers, DeliversCheck, DeliversConclusion, DeliversJudge, Ends, EndsWith, IsConcluded, IsPrinted, IsReady};
 
 use crate::answer::{Action, Answer, Conclusion};
 use crate::check::judge_check;
-use crate::check_all::judge_all;
+use crate::check_all::check_every;
 use crate::commands::outcome;
 use crate::debug::hold_session;
 use crate::failure::Failure;
 use crate::files::Files;
 use crate::judge::judge_run;
-use crate::opened::{OpenCheck, OpenCheckAll, OpenJudge};
+use crate::judge_all::judge_every;
+use crate::opened::{OpenCheck, OpenCheckAll, OpenJudge, OpenJudgeAll};
 use crate::streams::print;
 use crate::telling::report_failure;
 use std::alloc::Global;
@@ -28,11 +31,11 @@ use std::time::Clock;
 /// 3 a verdict with too many branches or a search that passes a bound, 4 want of memory, 5 a file, standard input or standard output that
 /// couldn't be read or written. `words` begins with the program's name.
 ///
-/// An answer goes to standard output, and nothing of a failure does, but the schedule that `check-all` found of a run which is refused. The lines
-/// of a failure go to standard error, and where they can't be written the status still stands. With `--progress` `check`, `judge` and `check-all`
-/// tell there, before that, how far they have come. Only the session of `debug` reads standard input, once its files have been read and its
-/// machine made. `run` of several harts, `check`, `judge` and `check-all` start threads, of `rt`; what the last three print doesn't depend on
-/// how many, and what `run` prints is the run that its harts made.
+/// An answer goes to standard output, and nothing of a failure does, but the schedule that `check-all` or `judge-all` found of a run which is
+/// refused. The lines of a failure go to standard error, and where they can't be written the status still stands. With `--progress` `check`, `judge`,
+/// `check-all` and `judge-all` tell there, before that, how far they have come. Only the session of `debug` reads standard input, once its files have been read and its
+/// machine made. `run` of several harts, `check`, `judge`, `check-all` and `judge-all` start threads, of `rt`; what the last four print
+/// doesn't depend on how many, and what `run` prints is the run that its harts made.
 pub fn execute<T: Threads + Wait + Sync + Clock, F: Files, R: Read, W: Write, E: Write>(
     rt: &T,
     alloc: Global,
@@ -85,6 +88,7 @@ fn deliver<T: Threads + Sync + Clock, R: Read, W: Write, E: Write>(
         Action::Check(check) => deliver_check(rt, alloc, &check, output, errors),
         Action::Judge(judge) => deliver_judge(rt, alloc, &judge, output, errors),
         Action::CheckAll(check) => deliver_check_all(rt, alloc, check, output, errors),
+        Action::JudgeAll(judge) => deliver_judge_all(rt, alloc, judge, output, errors),
         Action::Debug(machine) => hold_session(alloc, machine, input, output),
     }
 }
@@ -125,9 +129,23 @@ fn deliver_check_all<T: Threads + Sync + Clock, W: Write, E: Write>(
     errors: &mut E,
 ) -> Result<u8, Failure>
     requires { IsOpenCheckAll check }
-    ensures { DeliversCheckAll W.contents E.contents check output.old output.new errors.old errors.new result }
+    ensures { DeliversConclusion W.contents (ChecksAll E.contents check) output.old output.new errors.old errors.new result }
 {
-    let conclusion = judge_all(rt, alloc, check, errors)?;
+    let conclusion = check_every(rt, alloc, check, errors)?;
+    print_conclusion(conclusion, output)
+}
+
+fn deliver_judge_all<T: Threads + Sync + Clock, W: Write, E: Write>(
+    rt: &T,
+    alloc: Global,
+    judge: OpenJudgeAll,
+    output: &mut W,
+    errors: &mut E,
+) -> Result<u8, Failure>
+    requires { IsOpenJudgeAll judge }
+    ensures { DeliversConclusion W.contents (JudgesAll E.contents judge) output.old output.new errors.old errors.new result }
+{
+    let conclusion = judge_every(rt, alloc, judge, errors)?;
     print_conclusion(conclusion, output)
 }
 

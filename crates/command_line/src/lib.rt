@@ -1,6 +1,7 @@
 //! The program's commands: what each reads, writes and prints, and the status that it ends with.
 #![tactic(auto)]
 
+mod all_schedules;
 mod answer;
 mod answering;
 mod asm;
@@ -19,6 +20,7 @@ mod image;
 mod images;
 mod interleave;
 mod judge;
+mod judge_all;
 mod listing;
 mod made_run;
 mod mkfs;
@@ -46,6 +48,6 @@ pub use commands::outcome;
 pub use executing::{answer_line, execute};
 pub use failure::{Failure, Refusal};
 pub use files::{FileFault, Files};
-pub use opened::{OpenCheck, OpenCheckAll, OpenJudge};
+pub use opened::{OpenCheck, OpenCheckAll, OpenJudge, OpenJudgeAll};
 pub use reporting::report;
 pub use telling::report_failure;

@@ -1,7 +1,7 @@
 //! Runs that are to be judged.
 
 use crate::made_run::MadeRun;
-use arguments::{CheckAllCommand, CheckCommand, JudgeCommand};
+use arguments::{CheckAllCommand, CheckCommand, JudgeAllCommand, JudgeCommand};
 use machine::Setup;
 use plan::Plan;
 use program::Program;
@@ -18,6 +18,8 @@ pub struct OpenCheck {
 #[derive(Drop)]
 pub struct OpenJudge {
     pub(crate) command: JudgeCommand,
+    /// What the run starts from.
+    pub(crate) start: Setup,
     pub(crate) made: MadeRun,
     pub(crate) recovery: Program,
 }
@@ -27,6 +29,17 @@ pub struct OpenJudge {
 pub struct OpenCheckAll {
     pub(crate) command: CheckAllCommand,
     pub(crate) plan: Plan,
+    /// The bytes of the program's file.
+    pub(crate) file: Vec<u8>,
+    /// What every schedule starts from.
+    pub(crate) setup: Setup,
+}
+
+/// A program of which every schedule is to be judged by a recovery routine. Its files have been read.
+#[derive(Drop)]
+pub struct OpenJudgeAll {
+    pub(crate) command: JudgeAllCommand,
+    pub(crate) recovery: Program,
     /// The bytes of the program's file.
     pub(crate) file: Vec<u8>,
     /// What every schedule starts from.

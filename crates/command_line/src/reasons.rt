@@ -1,17 +1,52 @@
 //! What is told of a failing image.
 
-ghost use Rattle.command_line.specs.Reasons.{image_losses, told_image, told_losses, told_why};
+ghost use Rattle.command_line.specs.Reasons.{Explains, ExplainsOne, image_losses, told_image, told_losses, told_why};
+ghost use Rattle.command_line.specs.Verdicts.{failing};
 ghost use Rattle.crash_test.specs.Programs.{IsProgramOf};
 ghost use Rattle.report.specs.Places.{origin_in};
 ghost use Rattle.machine.specs.Grammar.{hart_steps};
 ghost use Rattle.std.specs.Prelude.{◌≡◌, ◌++◌, ◌^◌, ◌<◌, ℕ, List, IfOk, IfSome, string_bytes};
 
+use crate::failure::Failure;
 use crate::made_run::MadeRun;
 use crate::naming::named_schedule;
-use crash_test::{ExplainedImage, places_of};
-use machine::TracedEvent;
+use crate::verdicts::failing;
+use crash_test::{ExplainedImage, Reader, explain_losses, places_of};
+use machine::{Run, TracedEvent};
 use report::{Places, why_json, why_text};
 use std::alloc::{AllocError, Global};
+use text::ImageName;
+use verdict::Verdict;
+
+/// `--why`: of a failing image what it lacks and keeps of the lines that a recovery reads, and how it comes about.
+pub(crate) fn why<C, R: Reader>(
+    alloc: Global,
+    asked: bool,
+    run: &Run,
+    verdict: &Verdict<C>,
+    reader: &R,
+) -> Result<Option<ExplainedImage>, Failure>
+    ensures told { Explains (R.reads reader.now) run.now (failing asked verdict.now) result }
+    ensures few { IfOk result (λ why. IfSome why (λ explained. hart_steps explained.schedule < 2 ^ 32)) }
+{
+    match failing(asked, verdict) {
+        Some((moment, image)) => Ok(Some(explained(alloc, run, moment, image, reader)?)),
+        None => Ok(None),
+    }
+}
+
+fn explained<R: Reader>(
+    alloc: Global,
+    run: &Run,
+    moment: u32,
+    image: &ImageName,
+    reader: &R,
+) -> Result<ExplainedImage, Failure>
+    ensures told { ExplainsOne (R.reads reader.now) run.now moment image.now result }
+    ensures few { IfOk result (λ explained. hart_steps explained.schedule < 2 ^ 32) }
+{
+    Ok(explain_losses(alloc, run, moment, image, reader)?)
+}
 
 /// What is told of it as text or as JSON, by the lines of the program's source.
 pub(crate) fn told_why(

@@ -65,7 +65,7 @@ all_told (known.Found stop requests) one other so is = tt
 all_told known.TooMany one other so is = tt
 
 -- an outcome that is no pass claims nothing of all schedules
-pub no_pass : (outcome : Outcome) (claim : Type 0) → PassesNot outcome → IfPass outcome claim
+pub no_pass : {C F : Type 0} (outcome : Outcome C F) (claim : Type 0) → PassesNot outcome → IfPass outcome claim
 no_pass (outcomes.Pass states moments) claim other = absurd other
 no_pass (outcomes.Found run finding) claim other = tt
 no_pass (outcomes.TooMany bound) claim other = tt

@@ -47,6 +47,9 @@ returns-in-Judge-clause-carries g c = rw c.in-Judge.is (record { found = c.open_
 pub returns-in-CheckAll-clause-carries : goal.returns-in-CheckAll-clause-carries
 returns-in-CheckAll-clause-carries g c = rw c.in-CheckAll.is (record { found = c.open_check_all.result; finding = c.open_check_all.ensures.opens; leads = c.all_opened.ensures.is })
 
+pub returns-in-JudgeAll-clause-carries : goal.returns-in-JudgeAll-clause-carries
+returns-in-JudgeAll-clause-carries g c = rw c.in-JudgeAll.is (record { found = c.open_judge_all.result; finding = c.open_judge_all.ensures.opens; leads = c.all_judged.ensures.is })
+
 pub returns-in-Answer-clause-carries : goal.returns-in-Answer-clause-carries
 returns-in-Answer-clause-carries g c = rw c.in-Answer.is (record { found = c.answer_file.result; finding = c.answer_file.ensures; leads = c.printed-in-Answer.ensures.is })
 

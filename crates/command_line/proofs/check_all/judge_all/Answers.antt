@@ -1,7 +1,0 @@
--- A run that was found is one of the program.
-use Rattle.command_line.proofs.OfFile.{of_file}
-use Rattle.command_line.proofs.check_all.judge_all.Goals as goal
-
-pub conclusion-requires : goal.conclusion-requires
-conclusion-requires g c =
-    of_file c.args.check.plan.operations c.args.check.setup c.args.check.file.items c.in_ok-outcome.outcome c.requires.program c.in_ok-outcome.ensures.searches.found
