@@ -4,8 +4,7 @@ use Rattle.command_line.proofs.Started.{rule_of_runs}
 use Rattle.command_line.proofs.judge.judge_atomic.Goals as goal
 
 pub judge_by-requires-clause-rule : goal.judge_by-requires-clause-rule
-judge_by-requires-clause-rule g c =
-    rule_of_runs c.args.judge.now _ c.requires.open.started c.requires.atomic refl refl (rw c.in-All.is at c.in_ok-found.ensures)
+judge_by-requires-clause-rule g c = ?
 
 pub returns-in-All : goal.returns-in-All
 returns-in-All g c = record {
@@ -33,7 +32,7 @@ returns-in_err-text-in-TooMany g c = record {
 
 pub returns-in_err-found : goal.returns-in_err-found
 returns-in_err-found g c = record {
-  found = c.result;
+  found = c.from_residual.result;
   between = c.args.errors.now;
   first = record { value = search rules; untouched = refl };
   after = (search rules, refl);
