@@ -9,16 +9,16 @@ ghost use Rattle.command_line.specs.Progress.{IsToldIf};
 ghost use Rattle.std.specs.Prelude.{◌≡◌, IfOk, OnOk, string_bytes};
 ghost use Rattle.std.specs.Io.KnownBytes.{Appends};
 
-use crate::answer::Answer;
 use crate::all_schedules::told_bound;
+use crate::answer::Answer;
 use crate::failure::Failure;
 use crate::files::Files;
 use crate::made_run::{make_run, setup};
 use crate::opened::OpenJudge;
 use crate::progress::Reporter;
 use crate::reading::{RunFiles, read_recovery, read_run};
-use crate::streams::print;
 use crate::reasons::why;
+use crate::streams::print;
 use crate::verdicts::{ToldCause, verdict_answer, work};
 use crate::whole::demand_whole;
 use arguments::{JudgeCommand, RightAnswers, ScheduledRun};
