@@ -1,3 +1,4 @@
+pub mod Answering
 pub mod Cutting
 pub mod Counting
 pub mod Judged

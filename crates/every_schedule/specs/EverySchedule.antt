@@ -10,6 +10,7 @@ use Rattle.hart.specs.declared.state.Status.TheVariants.{Exited, Running, Trappe
 use Rattle.image_check.specs.Images.{Passes}
 use Rattle.image_check.specs.OrderFaults.{AreSound, IsFirstFault}
 use Rattle.image_check.specs.declared.cause.Cause.{Cause}
+use Rattle.image_check.specs.declared.fault.OpFault.{OpFault}
 use Rattle.machine.specs.Replies.{trace_in}
 use Rattle.machine.specs.Represents.{MachineView, Represents}
 use Rattle.machine.specs.Run.{Config, RunsTo}
@@ -21,6 +22,7 @@ use Rattle.plan.specs.declared.operation.Operation.{Operation}
 use Rattle.store_trace.specs.Cut.{IsCut}
 use Rattle.store_trace.specs.History.{history}
 use Rattle.unfinished.specs.Causes.{AreCauses, numbers_of}
+use Rattle.unfinished.specs.declared.unfinished.Unfinished.{Unfinished}
 use Rattle.verdict.specs.declared.moment_verdict.verdict.Verdict.{Verdict}
 use Rattle.verdict.specs.declared.moment_verdict.verdict.Verdict.TheVariants as verdicts
 use Rattle.every_schedule.specs.declared.outcome.Finding.{Finding}
@@ -46,7 +48,7 @@ AllEndWell s = (steps : List Step) (end : Config) (h : ℕ) (hart : HartState) �
     hart.status ≢ Running → hart.status ≡ Exited 0
 
 -- the claim holds where all schedules pass
-abbrev pub IfPass : Outcome → Type 0 → Type 0
+abbrev pub IfPass : {C F : Type 0} → Outcome C F → Type 0 → Type 0
 IfPass (outcomes.Pass states moments) claim = claim
 IfPass (outcomes.Found run finding) claim = Unit {0}
 IfPass (outcomes.TooMany bound) claim = Unit {0}
@@ -69,19 +71,25 @@ is_bad_stop Running = false
 is_bad_stop (Exited code) = not (code == 0)
 is_bad_stop (Trapped trap) = true
 
+-- a hart of the run has stopped badly, and this keeps it from being whole, where these operations are planned
+abbrev pub IsBadlyStopped : List ℕ → RunView → List Unfinished → Type 0
+IsBadlyStopped planned run causes = AreCauses planned run.harts run.events causes × (list_any (λ hart. is_bad_stop hart.status) run.harts ≡ true)
+
 -- this is said of one run: its verdict, its first wrong mark, or what keeps it from being whole, where a hart has stopped badly
-abbrev pub IsSaidOf : List Operation → RunView → Finding → Type 0
+abbrev pub IsSaidOf : List Operation → RunView → Finding Cause OpFault → Type 0
 IsSaidOf plan run (findings.Verdict verdict) = HasVerdict plan run all_moments verdict × IsNoPass verdict
 IsSaidOf plan run (findings.Refused fault) = IsFirstFault plan run.events fault
-IsSaidOf plan run (findings.NotWhole causes) = AreCauses (numbers_of plan) run.harts run.events causes.items
-    × (list_any (λ hart. is_bad_stop hart.status) run.harts ≡ true)
+IsSaidOf plan run (findings.NotWhole causes) = IsBadlyStopped (numbers_of plan) run causes.items
 
 -- a run of this setup by some schedule
 abbrev pub IsRunOf : Setup → RunView → Type 0
 IsRunOf s run = (schedule : List Item) × IsRunBy s schedule run
 
 -- what was found is said of such a run
-abbrev pub IsFoundOf : List Operation → Setup → Outcome → Type 0
-IsFoundOf plan s (outcomes.Pass states moments) = Unit {0}
-IsFoundOf plan s (outcomes.Found run finding) = IsRunOf s run × IsSaidOf plan run finding
-IsFoundOf plan s (outcomes.TooMany bound) = Unit {0}
+abbrev pub IsFoundBy : {C F : Type 0} → (RunView → Finding C F → Type 0) → Setup → Outcome C F → Type 0
+IsFoundBy said s (outcomes.Pass states moments) = Unit {0}
+IsFoundBy said s (outcomes.Found run finding) = IsRunOf s run × said run finding
+IsFoundBy said s (outcomes.TooMany bound) = Unit {0}
+
+abbrev pub IsFoundOf : List Operation → Setup → Outcome Cause OpFault → Type 0
+IsFoundOf plan s outcome = IsFoundBy (IsSaidOf plan) s outcome

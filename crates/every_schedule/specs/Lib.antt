@@ -1,3 +1,4 @@
+pub mod AllAnswers
 pub mod EverySchedule
 pub mod KeptRuns
 pub mod Sequential

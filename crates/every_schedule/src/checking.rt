@@ -7,7 +7,9 @@ ghost use Rattle.std.specs.Prelude.{◌≡◌, ◌≤◌, false, IfOk};
 
 use crate::outcome::{Bound, Outcome};
 use crate::plan_judge::PlanJudge;
+use crate::plan_run::PlanRun;
 use crate::showing::{Sought, show};
+use image_check::{Cause, OpFault};
 use machine::Setup;
 use plan::Plan;
 use schedule_states::{Explored, Start, StateJudge, Watcher, explore};
@@ -36,7 +38,7 @@ pub fn check_all<T: Threads + Sync, W: Watcher>(
     setup: Setup,
     limits: Limits,
     watcher: &mut W,
-) -> Result<Outcome, AllocError>
+) -> Result<Outcome<Cause, OpFault>, AllocError>
     requires few { setup.harts ≤ 8 }
     // whatever schedule was run: right marks, and all that a power cut may leave recovers to a legal volume
     ensures pass { IfOk result (λ outcome. IfPass outcome (AllPass plan.now.operations setup)) }
@@ -51,11 +53,8 @@ pub fn check_all<T: Threads + Sync, W: Watcher>(
     match explore_all(rt, alloc, plan, &setup, limits, watcher)? {
         Explored::All { states, moments } => Ok(Outcome::Pass { states, moments }),
         Explored::Found { stop, requests } => {
-            let sought = Sought {
-                stop,
-                requests: &requests,
-            };
-            show(rt, alloc, plan, setup, sought)
+            let sought = Sought::behind(stop, &requests);
+            show(rt, alloc, &PlanRun { plan }, &setup, sought)
         }
         Explored::TooMany => Ok(Outcome::TooMany(Bound::States)),
     }

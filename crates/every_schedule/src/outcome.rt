@@ -1,12 +1,12 @@
 //! What is found out about every schedule of a program.
 
-use image_check::{Cause, OpFault, Verdict};
 use machine::Run;
 use unfinished::Unfinished;
+use verdict::Verdict;
 
-/// What is found out about every schedule of a program.
+/// What is found out about every schedule of a program. `Cause` is why an image is bad, and `Fault` why a mark is wrong.
 #[derive(Drop)]
-pub enum Outcome {
+pub enum Outcome<Cause, Fault> {
     /// Whatever the schedule: marks are right, what a power cut leaves is good, and harts stop as they may.
     Pass {
         /// How many states stand for all schedules.
@@ -17,7 +17,7 @@ pub enum Outcome {
     /// A run shows what is wrong.
     Found {
         run: Run,
-        finding: Finding,
+        finding: Finding<Cause, Fault>,
     },
     /// Nothing is found out: a bound is passed.
     TooMany(Bound),
@@ -25,11 +25,11 @@ pub enum Outcome {
 
 /// What is wrong with a run.
 #[derive(Drop)]
-pub enum Finding {
+pub enum Finding<Cause, Fault> {
     /// A power cut may leave what is bad, or at some moment there are over 65,536 branches.
     Verdict(Verdict<Cause>),
     /// The mark of an operation is wrong.
-    Refused(OpFault),
+    Refused(Fault),
     /// The run isn't whole, for these causes.
     NotWhole(Vec<Unfinished>),
 }
@@ -39,6 +39,8 @@ pub enum Finding {
 pub enum Bound {
     /// There are more states than were asked for.
     States,
+    /// Sequential runs alone have more states, or a line of one of these has over 65,536 contents.
+    Sequential,
     /// A hart makes 100,000 steps without a request.
     Steps,
     /// What is wrong shows in no run that is known of at most 65,536 events.

@@ -1,12 +1,8 @@
 //! A plan judges the states of a search.
 
-ghost use Rattle.std.specs.Prelude.{◌≡◌};
-
-use crate::state_cuts::StateCuts;
+use crate::state_cuts::{StateCuts, verdict_of};
 use hart::Status;
-use image_check::{
-    Cause, CheckFault, ImagesVerdict, ImagesWorkspace, PlanState, judge_images, starting_volume,
-};
+use image_check::{CheckFault, ImagesWorkspace, PlanState, judge_images, starting_volume};
 use line_memory::Medium;
 use plan::Plan;
 use schedule_states::{StateImages, StateJudge, StateVerdict};
@@ -97,15 +93,4 @@ impl StateJudge for PlanJudge<'_> {
 
     ghost equal = { λ s state other events same kept.
         state_same s.plan.now.operations (result_ok (volume_of s.medium.now)) events state other same kept };
-}
-
-/// The verdict on a state, by that on its images.
-fn verdict_of(verdict: &ImagesVerdict<Cause>) -> StateVerdict
-    ensures { result ≡ StateVerdict.Good → verdict.now ≡ ImagesVerdict.Pass }
-{
-    match verdict {
-        ImagesVerdict::Pass => StateVerdict::Good,
-        ImagesVerdict::Bad { .. } => StateVerdict::Bad,
-        ImagesVerdict::TooMany => StateVerdict::TooManyBranches,
-    }
 }

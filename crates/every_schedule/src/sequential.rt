@@ -82,6 +82,6 @@ fn noted_by(explored: &Explored, notes: Notes) -> Sequential
             stop: Stop::TooLong(_),
             ..
         } => Sequential::TooMany(Bound::Steps),
-        Explored::Found { .. } | Explored::TooMany => Sequential::TooMany(Bound::States),
+        Explored::Found { .. } | Explored::TooMany => Sequential::TooMany(Bound::Sequential),
     }
 }

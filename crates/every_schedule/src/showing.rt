@@ -1,89 +1,115 @@
 //! A run that shows why a search has stopped.
 
-ghost use Rattle.every_schedule.specs.EverySchedule.{IsFoundOf, IsRunOf, IsSaidOf, is_bad_stop};
-ghost use Rattle.every_schedule.specs.Showing.{IsVerdictThat, PassesNot};
+ghost use Rattle.every_schedule.specs.EverySchedule.{IsFoundBy, IsRunOf};
+ghost use Rattle.every_schedule.specs.Showing.{PassesNot};
 ghost use Rattle.machine.specs.Grammar.{hart_steps};
-ghost use Rattle.std.specs.List.{list_any};
+ghost use Rattle.machine.specs.RunValues.{RunView};
 ghost use Rattle.std.specs.Prelude.{◌≡◌, ◌<◌, ◌^◌, None, IfOk, IfSome};
 
 use crate::following::Follower;
 use crate::outcome::{Bound, Finding, Outcome};
-use crash_test::{Unwatched, Work, check_program, record_run};
-use hart::{HartState, Status};
-use image_check::{Cause, CheckFault, Verdict};
+use crate::run_judge::RunJudge;
+use crash_test::record_run;
 use machine::{Run, Schedule, Setup, StepFault};
-use plan::Plan;
 use schedule_states::Stop;
 use std::alloc::{AllocError, Global};
 use std::thread::Threads;
-use unfinished::find_unfinished;
 
-/// Why a search has stopped, and behind the requests of which harts.
+/// Why a run is looked for, and the harts whose requests it begins with.
 #[derive(Clone, Copy)]
 pub(crate) struct Sought<'a> {
-    pub(crate) stop: Stop,
-    pub(crate) requests: &'a [u32],
+    why: Why,
+    requests: &'a [u32],
 }
 
-/// A run of the setup that shows why a search has stopped: one that goes on up to where all harts have stopped, if that one shows it too.
-pub(crate) fn show<T: Threads + Sync>(
+/// Why a run is looked for.
+#[derive(Clone, Copy)]
+enum Why {
+    /// A search has stopped.
+    Stop(Stop),
+    /// No schedule begins an operation.
+    NoOperation,
+}
+
+impl<'a> Sought<'a> {
+    /// It shows why a search has stopped behind these requests.
+    pub(crate) fn behind(stop: Stop, requests: &'a [u32]) -> Sought<'a> {
+        Sought {
+            why: Why::Stop(stop),
+            requests,
+        }
+    }
+
+    /// It begins no operation, as none does.
+    pub(crate) fn no_operation() -> Sought<'a> {
+        Sought {
+            why: Why::NoOperation,
+            requests: &[],
+        }
+    }
+}
+
+/// A run of the setup that shows what is sought: one that goes on up to where all harts have stopped, if that one shows it too.
+pub(crate) fn show<T: Threads + Sync, J: RunJudge>(
     rt: &T,
     alloc: Global,
-    plan: &Plan,
-    setup: Setup,
+    judge: &J,
+    setup: &Setup,
     sought: Sought<'_>,
-) -> Result<Outcome, AllocError>
-    ensures found { IfOk result (IsFoundOf plan.now.operations setup) }
+) -> Result<Outcome<J::Cause, J::Fault>, AllocError>
+    requires { (run : RunView) → IsRunOf setup.now run → J.suits judge.now run }
+    ensures found { IfOk result (IsFoundBy (J.says judge.now) setup.now) }
     ensures no_pass { IfOk result PassesNot }
 {
-    if let Stop::TooLong(_) = sought.stop {
+    if let Why::Stop(Stop::TooLong(_)) = sought.why {
         return Ok(Outcome::TooMany(Bound::Steps));
     }
-    if let Some(outcome) = show_whole(rt, alloc, plan, &setup, sought)? {
+    if let Some(outcome) = show_whole(rt, alloc, judge, setup, sought)? {
         return Ok(outcome);
     }
-    match show_by(rt, alloc, plan, setup, sought, false)? {
+    match show_by(rt, alloc, judge, setup, sought, false)? {
         Some(outcome) => Ok(outcome),
         None => Ok(Outcome::TooMany(Bound::Events)),
     }
 }
 
 /// A run that goes on; None where a mark was refused or a moment has too many branches, behind which nothing is judged.
-fn show_whole<T: Threads + Sync>(
+fn show_whole<T: Threads + Sync, J: RunJudge>(
     rt: &T,
     alloc: Global,
-    plan: &Plan,
+    judge: &J,
     setup: &Setup,
     sought: Sought<'_>,
-) -> Result<Option<Outcome>, AllocError>
-    ensures found { IfOk result (λ found. IfSome found (IsFoundOf plan.now.operations setup.now)) }
+) -> Result<Option<Outcome<J::Cause, J::Fault>>, AllocError>
+    requires { (run : RunView) → IsRunOf setup.now run → J.suits judge.now run }
+    ensures found { IfOk result (λ found. IfSome found (IsFoundBy (J.says judge.now) setup.now)) }
     ensures no_pass { IfOk result (λ found. IfSome found PassesNot) }
 {
-    match sought.stop {
-        Stop::Bad | Stop::Ended(_) => {
-            let copy = copy_of(alloc, setup)?;
-            show_by(rt, alloc, plan, copy, sought, true)
+    match sought.why {
+        Why::Stop(Stop::Bad | Stop::Ended(_)) | Why::NoOperation => {
+            show_by(rt, alloc, judge, setup, sought, true)
         }
-        Stop::TooManyBranches | Stop::Refused(_) | Stop::TooLong(_) => Ok(None),
+        Why::Stop(Stop::TooManyBranches | Stop::Refused(_) | Stop::TooLong(_)) => Ok(None),
     }
 }
 
 /// A run of the setup that shows it, which goes on where that is asked for; None where it doesn't.
-fn show_by<T: Threads + Sync>(
+fn show_by<T: Threads + Sync, J: RunJudge>(
     rt: &T,
     alloc: Global,
-    plan: &Plan,
-    setup: Setup,
+    judge: &J,
+    setup: &Setup,
     sought: Sought<'_>,
     goes_on: bool,
-) -> Result<Option<Outcome>, AllocError>
-    ensures found { IfOk result (λ found. IfSome found (IsFoundOf plan.now.operations setup)) }
+) -> Result<Option<Outcome<J::Cause, J::Fault>>, AllocError>
+    requires { (run : RunView) → IsRunOf setup.now run → J.suits judge.now run }
+    ensures found { IfOk result (λ found. IfSome found (IsFoundBy (J.says judge.now) setup.now)) }
     ensures no_pass { IfOk result (λ found. IfSome found PassesNot) }
 {
     let Some(run) = run_of(alloc, setup, sought, goes_on)? else {
         return Ok(None);
     };
-    match finding_in(rt, alloc, plan, &run, sought.stop)? {
+    match finding_in(rt, alloc, judge, &run, sought.why)? {
         Some(finding) => Ok(Some(Outcome::Found { run, finding })),
         None => Ok(None),
     }
@@ -93,19 +119,20 @@ fn show_by<T: Threads + Sync>(
 /// 65,536 events, or a hart that goes on doesn't stop.
 fn run_of(
     alloc: Global,
-    setup: Setup,
+    setup: &Setup,
     sought: Sought<'_>,
     goes_on: bool,
 ) -> Result<Option<Run>, AllocError>
-    ensures { IfOk result (λ found. IfSome found (IsRunOf setup)) }
+    ensures { IfOk result (λ found. IfSome found (IsRunOf setup.now)) }
 {
-    let copy = copy_of(alloc, &setup)?;
-    let schedule = match schedule_of(alloc, copy, sought, goes_on) {
+    let followed = copy_of(alloc, setup)?;
+    let schedule = match schedule_of(alloc, followed, sought, goes_on) {
         Ok(Some(schedule)) => schedule,
         Ok(None) => return Ok(None),
         Err(fault) => return none_by(fault),
     };
-    match record_run(alloc, setup, &schedule) {
+    let recorded = copy_of(alloc, setup)?;
+    match record_run(alloc, recorded, &schedule) {
         Ok(run) => Ok(Some(run)),
         Err(fault) => none_by(fault),
     }
@@ -145,10 +172,10 @@ fn schedule_of(
 /// Makes these requests, and the steps that show why the search has stopped. Where harts are to go on, it says whether all have stopped.
 fn follow(follower: &mut Follower, sought: Sought<'_>, goes_on: bool) -> Result<bool, StepFault> {
     follower.make_requests(sought.requests)?;
-    match sought.stop {
-        Stop::Refused(hart) => follower.make_request(hart)?,
-        Stop::Ended(hart) => follower.run_ahead(hart)?,
-        Stop::Bad | Stop::TooManyBranches | Stop::TooLong(_) => {}
+    match sought.why {
+        Why::Stop(Stop::Refused(hart)) => follower.make_request(hart)?,
+        Why::Stop(Stop::Ended(hart)) => follower.run_ahead(hart)?,
+        Why::Stop(Stop::Bad | Stop::TooManyBranches | Stop::TooLong(_)) | Why::NoOperation => {}
     }
     if goes_on {
         follower.take_turns()
@@ -157,86 +184,30 @@ fn follow(follower: &mut Follower, sought: Sought<'_>, goes_on: bool) -> Result<
     }
 }
 
-/// What is wrong with the run, if it shows why a search has stopped.
-fn finding_in<T: Threads + Sync>(
+/// What is wrong with the run, if it shows why it was looked for.
+fn finding_in<T: Threads + Sync, J: RunJudge>(
     rt: &T,
     alloc: Global,
-    plan: &Plan,
+    judge: &J,
     run: &Run,
-    stop: Stop,
-) -> Result<Option<Finding>, AllocError>
-    ensures { IfOk result (λ found. IfSome found (IsSaidOf plan.now.operations run.now)) }
+    why: Why,
+) -> Result<Option<Finding<J::Cause, J::Fault>>, AllocError>
+    requires { J.suits judge.now run.now }
+    ensures { IfOk result (λ found. IfSome found (J.says judge.now run.now)) }
 {
-    match stop {
-        Stop::Ended(_) => unfinished_in(alloc, plan, run),
-        Stop::Bad | Stop::TooManyBranches | Stop::Refused(_) | Stop::TooLong(_) => {
-            let finding = judged(rt, alloc, plan, run)?;
-            Ok(finding.filter(|finding| shows(stop, finding)))
-        }
+    if let Why::Stop(Stop::Ended(_)) = why {
+        return judge.unfinished(alloc, run);
     }
+    let finding = judge.judge_run(rt, alloc, run)?;
+    Ok(finding.filter(|finding| shows(why, finding)))
 }
 
-/// Whether that is why the search has stopped. Where it judged few contents, there can be many branches by numbers of stores.
-fn shows(stop: Stop, finding: &Finding) -> bool {
+/// Whether that is why the run was looked for. Where the search judged few contents, there can be many branches by numbers of stores.
+fn shows<C, F>(why: Why, finding: &Finding<C, F>) -> bool {
     match finding {
-        Finding::Verdict(_) => matches!(stop, Stop::Bad | Stop::TooManyBranches),
-        Finding::Refused(_) => matches!(stop, Stop::Refused(_)),
-        Finding::NotWhole(_) => matches!(stop, Stop::Ended(_)),
-    }
-}
-
-/// What keeps the run from being whole, if that is a hart that has stopped otherwise than by an exit with 0.
-fn unfinished_in(alloc: Global, plan: &Plan, run: &Run) -> Result<Option<Finding>, AllocError>
-    ensures { IfOk result (λ found. IfSome found (IsSaidOf plan.now.operations run.now)) }
-{
-    if !has_stopped_badly(run.harts()) {
-        return Ok(None);
-    }
-    let causes = find_unfinished(alloc, run.harts(), run.trace().events(), plan.operations())?;
-    Ok(Some(Finding::NotWhole(causes)))
-}
-
-/// Whether one of the harts has trapped, or exited with another code than 0.
-fn has_stopped_badly(harts: &[HartState]) -> bool
-    ensures { result ≡ list_any (λ hart. is_bad_stop hart.status) harts.now }
-{
-    harts.iter().any(|hart| match hart.status {
-        Status::Running => false,
-        Status::Exited(code) => code != 0,
-        Status::Trapped(_) => true,
-    })
-}
-
-/// What the verdict on the run finds; None where it passes.
-fn judged<T: Threads + Sync>(
-    rt: &T,
-    alloc: Global,
-    plan: &Plan,
-    run: &Run,
-) -> Result<Option<Finding>, AllocError>
-    ensures { IfOk result (λ found. IfSome found (IsSaidOf plan.now.operations run.now)) }
-{
-    let work = Work {
-        first: 0,
-        last: None,
-        workers: 1,
-        goes_on: false,
-    };
-    match check_program(rt, alloc, plan, run, work, &mut Unwatched) {
-        Ok(verdict) => Ok(wrong(verdict)),
-        Err(CheckFault::Operation(fault)) => Ok(Some(Finding::Refused(fault))),
-        Err(CheckFault::NoSuchMoment) => Ok(None),
-        Err(CheckFault::Memory) => Err(AllocError),
-    }
-}
-
-/// The verdict, unless it is a pass.
-fn wrong(verdict: Verdict<Cause>) -> Option<Finding>
-    ensures { IfSome result (IsVerdictThat verdict) }
-{
-    match verdict {
-        Verdict::Pass { .. } | Verdict::Open { .. } | Verdict::TooLong { .. } => None,
-        Verdict::Fail { .. } | Verdict::TooMany { .. } => Some(Finding::Verdict(verdict)),
+        Finding::Verdict(_) => matches!(why, Why::Stop(Stop::Bad | Stop::TooManyBranches)),
+        Finding::Refused(_) => matches!(why, Why::Stop(Stop::Refused(_)) | Why::NoOperation),
+        Finding::NotWhole(_) => matches!(why, Why::Stop(Stop::Ended(_))),
     }
 }
 

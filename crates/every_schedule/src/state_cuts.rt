@@ -4,8 +4,8 @@ ghost use Rattle.line_memory.specs.Lines.{IsMedium, line_at};
 ghost use Rattle.schedule_states.specs.Images.{image_in};
 ghost use Rattle.std.specs.Prelude.{◌≡◌, ℕ, length};
 
-use schedule_states::StateImages;
-use verdict::Images;
+use schedule_states::{StateImages, StateVerdict};
+use verdict::{Images, ImagesVerdict};
 
 /// The images of a state of a search. A cut gives each line the number of its content.
 #[derive(Drop)]
@@ -118,4 +118,15 @@ impl Images for FullCuts<'_, '_, '_> {
     ghost count = { λ s k. s.cuts.count (λ l. 0) };
 
     ghost by_line = { λ s k other l same. refl };
+}
+
+/// The verdict on a state, by that on its images.
+pub fn verdict_of<Cause>(verdict: &ImagesVerdict<Cause>) -> StateVerdict
+    ensures { result ≡ StateVerdict.Good → verdict.now ≡ ImagesVerdict.Pass }
+{
+    match verdict {
+        ImagesVerdict::Pass => StateVerdict::Good,
+        ImagesVerdict::Bad { .. } => StateVerdict::Bad,
+        ImagesVerdict::TooMany => StateVerdict::TooManyBranches,
+    }
 }
