@@ -127,3 +127,10 @@ until_positive events op = elim (some_or_none (first_end events op)) [
   | inl none ↦ omega (arith, until_none events op none)
   | inr some ↦ omega (arith, until_some events op some.0 some.1)
 ]
+
+-- an operation has ended by the moment until which it is pending
+pub ended_until : (events : List Event) (m op : ℕ) → m ≤ length events → until events op ≤ m → Contains (ended (take m events)) op
+ended_until events m op there low = elim (some_or_none (first_end events op)) [
+  | inl none ↦ absurd (omega (arith, there, low, until_none events op none))
+  | inr some ↦ is_ended events 0 m op some.0 some.1 (omega (arith, low, until_some events op some.0 some.1))
+]

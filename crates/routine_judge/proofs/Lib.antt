@@ -14,6 +14,8 @@ pub mod Looping
 pub mod Marked
 pub mod Spanning
 pub mod Staying
+pub mod Lasting
+pub mod Spanned
 pub mod Telling
 pub mod Bytewise
 pub mod Splitting

@@ -10,11 +10,11 @@ use Rattle.routine_judge.proofs.Marked.{no_number}
 use Rattle.routine_judge.proofs.Splitting.{before_cases, from_more, in_more, kept_before}
 use Rattle.routine_judge.specs.Fitting.{Fits}
 use Rattle.routine_judge.specs.Gathered.{AreAnswers, AreKept, AreRightAfter}
-use Rattle.routine_judge.specs.RightAnswers.{IsSourceBy, SourceShows, of_window, program_of}
+use Rattle.routine_judge.specs.RightAnswers.{IsRightWindow, IsSourceBy, SourceShows, of_window, program_of}
 use Rattle.routine_judge.specs.Standing.{AreKeptBy, AreKeptFor, IsBasis, IsBasisBy, IsOrderOf, StaysBy, source_at, source_by}
 use Rattle.routine_judge.specs.declared.answers.MomentAnswers.{MomentAnswers}
 use Rattle.routine_judge.specs.Views.{JudgeView, RightBy, own_moments, sequential_runs}
-use Rattle.routine_judge.specs.Windows.{IsWindow}
+use Rattle.routine_judge.specs.SpanAnswers.{IsSpan}
 use Rattle.routine_judge.specs.declared.history.moments.Window.{Window}
 use Rattle.routine_judge.specs.declared.history.moments.Window.TheVariants.{Itself, Either, Through}
 use Rattle.store_trace.specs.declared.event.Event.{Event}
@@ -80,16 +80,16 @@ pub basis_source : (right : RightBy) (view : JudgeView) (window : Window) (m : �
 basis_source own_moments view window m is = (window, is, refl)
 basis_source (sequential_runs program harts) view window m is = refl
 
-pub basis_next : (right : RightBy) (view : JudgeView) (window : Window) (m n : ℕ) → (IsWindow view.events m window → IsWindow view.events n window) →
+pub basis_next : (right : RightBy) (view : JudgeView) (window : Window) (m n : ℕ) → (IsRightWindow view m window → IsRightWindow view n window) →
     IsBasisBy right view window m → IsBasisBy right view window n
 basis_next own_moments view window m n next is = next is
 basis_next (sequential_runs program harts) view window m n next is = tt
 
 -- what is kept of no moment
 pub none_kept : (right : RightBy) (view : JudgeView) (answers : MomentAnswers) → answers.window ≡ Itself → IsOrderOf view.events answers.order →
-    AreKeptBy right view answers
-none_kept own_moments view answers none order = subst (λ (w : Window). AreKept view w answers.right) (sym none) tt
-none_kept (sequential_runs program harts) view answers none order = order
+    IsSpan view answers.span → AreKeptBy right view answers
+none_kept own_moments view answers none order span = (subst (λ (w : Window). AreKept view w answers.right) (sym none) tt, span)
+none_kept (sequential_runs program harts) view answers none order span = order
 
 -- where the run's own moments give the right answers
 module _ (view : JudgeView) (answers : MomentAnswers) (own : view.right ≡ own_moments) where
@@ -99,14 +99,14 @@ module _ (view : JudgeView) (answers : MomentAnswers) (own : view.right ≡ own_
       subst (λ (r : RightBy). AreAnswers view (source_by r view answers.window m) answers.right) (sym own)
       (subst (λ (w : Window). AreAnswers view (of_window w m) answers.right) (sym same) are)
 
-  pub own_basis : (window : Window) (m : ℕ) → answers.window ≡ window → IsWindow view.events m window → IsBasis view answers.window m
+  pub own_basis : (window : Window) (m : ℕ) → answers.window ≡ window → IsRightWindow view m window → IsBasis view answers.window m
   own_basis window m same is =
-      subst (λ (r : RightBy). IsBasisBy r view answers.window m) (sym own) (subst (λ (w : Window). IsWindow view.events m w) (sym same) is)
+      subst (λ (r : RightBy). IsBasisBy r view answers.window m) (sym own) (subst (λ (w : Window). IsRightWindow view m w) (sym same) is)
 
-  pub own_kept : AreKept view answers.window answers.right → AreKeptFor view answers
-  own_kept kept = subst (λ (r : RightBy). AreKeptBy r view answers) (sym own) kept
+  pub own_kept : AreKept view answers.window answers.right → IsSpan view answers.span → AreKeptFor view answers
+  own_kept kept span = subst (λ (r : RightBy). AreKeptBy r view answers) (sym own) (kept, span)
 
-  pub kept_own : AreKeptFor view answers → AreKept view answers.window answers.right
+  pub kept_own : AreKeptFor view answers → AreKept view answers.window answers.right × IsSpan view answers.span
   kept_own kept = subst (λ (r : RightBy). AreKeptBy r view answers) own kept
 
 -- where sequential runs do

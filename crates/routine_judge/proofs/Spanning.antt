@@ -22,7 +22,7 @@ pub begin_inside : (events : List Event) (i op : ℕ) → IsBegunAt events i op 
 begin_inside events i op b = slice_get_within events i (Begin b.0 op) b.1
 
 -- the number of a Begin
-begin_number : (events : List Event) (i op : ℕ) → IsBegunAt events i op → number events i ≡ until events op
+pub begin_number : (events : List Event) (i op : ℕ) → IsBegunAt events i op → number events i ≡ until events op
 begin_number events i op b =
     let event : Event = Begin b.0 op in
     get_or-map (until_of events) events i event 0 (begin_inside events i op b)
@@ -55,10 +55,10 @@ begin_op events i op other b c =
     cc
 
 -- an operation is pending exactly where its number is above the moment
-pending_above : (events : List Event) (m i op : ℕ) → m ≤ length events → IsPendingFrom events m i op → m < number events i
+pub pending_above : (events : List Event) (m i op : ℕ) → m ≤ length events → IsPendingFrom events m i op → m < number events i
 pending_above events m i op there p = omega (arith, begin_number events i op p.begins, unended_above events m op there p.pending)
 
-above_pending : (events : List Event) (m i : ℕ) → m ≤ length events → i < m → m < number events i →
+pub above_pending : (events : List Event) (m i : ℕ) → m ≤ length events → i < m → m < number events i →
     (op : ℕ) × IsPendingFrom events m i op × (number events i ≡ until events op)
 above_pending events m i there before above =
     let h = number_begin events i (omega (arith, there, before)) (omega (arith, above)) in

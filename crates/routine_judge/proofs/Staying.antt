@@ -19,7 +19,7 @@ pub record IsNoMark (events : List Event) (m : ℕ) (d : Event) : Type 0 where
   pub none_begins : begun_by (get_or events m d) ≡ None
   pub none_ends : ended_by (get_or events m d) ≡ None
 
-same_ended : (events : List Event) (m : ℕ) (d : Event) → IsNoMark events m d → ended (take (m + 1) events) ≡ ended (take m events)
+pub same_ended : (events : List Event) (m : ℕ) (d : Event) → IsNoMark events m d → ended (take (m + 1) events) ≡ ended (take m events)
 same_ended events m d n =
     ap (λ (es : List Event). ended es) (take_more events m d n.there) ∙ ended_kept (take m events) (get_or events m d) n.none_ends
 

@@ -5,29 +5,27 @@ use Rattle.recovery.specs.Closed.{AreClosed, AreClosedTo, BoundBox, IsCovered}
 use Rattle.store_trace.specs.Cut.{IsCutImage}
 use Rattle.store_trace.specs.History.{at_moment}
 use Rattle.routine_judge.specs.CutsInRecovery.{StaysRight}
-use Rattle.routine_judge.specs.RightAnswers.{IsRightOf, of_window}
+use Rattle.routine_judge.specs.RightAnswers.{IsRightOf, IsSource, Source}
 use Rattle.routine_judge.specs.Views.{JudgeView}
-use Rattle.routine_judge.specs.Windows.{IsWindow}
-use Rattle.routine_judge.specs.declared.history.moments.Window.{Window}
 
-pub stays_right : (view : JudgeView) (m : ℕ) (window : Window) (boxes : List BoundBox) → IsWindow view.events m window
+pub stays_right : (view : JudgeView) (m : ℕ) (source : Source) (boxes : List BoundBox) → IsSource view m source
     → ((image : List (List ℕ)) → IsCutImage view.start (at_moment view.events m) image → IsCovered boxes 0 image None)
-    → AreClosed view.routine view.steps (IsRightOf view (of_window window m)) boxes → StaysRight view None m
-stays_right view m window boxes is starts closed = record {
-  window = window;
-  is_window = is;
+    → AreClosed view.routine view.steps (IsRightOf view source) boxes → StaysRight view None m
+stays_right view m source boxes is starts closed = record {
+  source = source;
+  is_source = is;
   answers = λ cuts image shown allowed left.
-      closed_stays view.routine view.steps (IsRightOf view (of_window window m)) (λ (first : List (List ℕ)). IsCutImage view.start (at_moment view.events m) first) boxes
+      closed_stays view.routine view.steps (IsRightOf view source) (λ (first : List (List ℕ)). IsCutImage view.start (at_moment view.events m) first) boxes
       starts closed cuts image shown left;
 }
 
-pub stays_right_to : (view : JudgeView) (m most : ℕ) (window : Window) (boxes : List BoundBox) → IsWindow view.events m window
+pub stays_right_to : (view : JudgeView) (m most : ℕ) (source : Source) (boxes : List BoundBox) → IsSource view m source
     → ((image : List (List ℕ)) → IsCutImage view.start (at_moment view.events m) image → IsCovered boxes 0 image None)
-    → AreClosedTo view.routine view.steps (IsRightOf view (of_window window m)) most boxes → StaysRight view (Some most) m
-stays_right_to view m most window boxes is starts closed = record {
-  window = window;
-  is_window = is;
+    → AreClosedTo view.routine view.steps (IsRightOf view source) most boxes → StaysRight view (Some most) m
+stays_right_to view m most source boxes is starts closed = record {
+  source = source;
+  is_source = is;
   answers = λ cuts image shown allowed left.
-      closed_to_stays view.routine view.steps (IsRightOf view (of_window window m)) (λ (first : List (List ℕ)). IsCutImage view.start (at_moment view.events m) first) most boxes
+      closed_to_stays view.routine view.steps (IsRightOf view source) (λ (first : List (List ℕ)). IsCutImage view.start (at_moment view.events m) first) most boxes
       starts closed cuts image shown allowed left;
 }

@@ -15,7 +15,7 @@ pub sizes : (events : List Event) (numbers : List ℕ) → numbers ≡ numbers_o
 sizes events numbers w = ap (λ (ns : List ℕ). length ns) w ∙ length-map events (until_of events)
 
 -- a number, as an index tells it
-told_number : (numbers : List ℕ) (b u : ℕ) → b < length numbers → u ≡ get_or numbers b u → u ≡ get_or numbers b 0
+pub told_number : (numbers : List ℕ) (b u : ℕ) → b < length numbers → u ≡ get_or numbers b u → u ≡ get_or numbers b 0
 told_number numbers b u inside told = told ∙ sym (get_or_from_slice_get numbers b (get_or numbers b u) 0 (slice_get-get_or numbers b u inside))
 
 -- the End of the operation that begins there

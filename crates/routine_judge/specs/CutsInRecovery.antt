@@ -4,10 +4,8 @@ use Rattle.std.specs.Prelude.{ℕ, ◌≤◌, List, Option, Some, None}
 use Rattle.recovery.specs.Cuts.{AnswersWell, IsLeft}
 use Rattle.store_trace.specs.Cut.{IsCutImage}
 use Rattle.store_trace.specs.History.{at_moment}
-use Rattle.routine_judge.specs.RightAnswers.{IsRightOf, of_window}
+use Rattle.routine_judge.specs.RightAnswers.{IsRightOf, IsSource, Source}
 use Rattle.routine_judge.specs.Views.{JudgeView}
-use Rattle.routine_judge.specs.Windows.{IsWindow}
-use Rattle.routine_judge.specs.declared.history.moments.Window.{Window}
 
 -- a cut at moment m of the run and so many further ones in recovery leave this image, and this was shown until then
 abbrev pub Left : JudgeView → ℕ → ℕ → List (List ℕ) → Option (List ℕ) → Type 0
@@ -20,7 +18,7 @@ IsAllowed (Some most) cuts = cuts ≤ most
 
 -- Whatever the cuts leave, the routine has an answer, it is a right one of the moment, and it is the one that was shown where one was.
 pub record StaysRight (view : JudgeView) (most : Option ℕ) (m : ℕ) : Type 0 where
-  pub window : Window
-  pub is_window : IsWindow view.events m window
+  pub source : Source
+  pub is_source : IsSource view m source
   pub answers : (cuts : ℕ) (image : List (List ℕ)) (shown : Option (List ℕ)) → IsAllowed most cuts → Left view m cuts image shown
-      → AnswersWell view.routine view.steps (IsRightOf view (of_window window m)) image shown
+      → AnswersWell view.routine view.steps (IsRightOf view source) image shown

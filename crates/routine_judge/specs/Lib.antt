@@ -6,6 +6,7 @@ pub mod Branchwise
 pub mod Gathered
 pub mod ImagesVerdicts
 pub mod Verdicts
+pub mod SpanAnswers
 pub mod Standing
 pub mod MarkFaults
 pub mod Operations

@@ -1,11 +1,13 @@
 -- Which answers of the routine are right at a moment, and what is found of an image.
 -- This project's own: a routine shows the structure as before or after the operation under way, as a reader that met no power cut
 -- would have seen it.
-use Rattle.std.specs.Prelude.{◌≡◌, ℕ, ◌≤◌, ◌==◌, ◌&&◌, ◌||◌, nat_le, Bool, true, List, Option, Some, None, Result, Ok, Err, take}
+use Rattle.std.specs.Prelude.{◌≡◌, ◌≢◌, ℕ, ◌+◌, ◌<◌, ◌≤◌, ◌==◌, ◌&&◌, ◌||◌, nat_le, Bool, true, List, Option, Some, None, Result, Ok, Err, slice_get, take}
+use Rattle.std.specs.List.{Contains}
+use Rattle.store_trace.specs.Marks.{ended}
 use Rattle.routine_judge.specs.Images.{full_cut}
 use Rattle.routine_judge.specs.SequentialRuns.{FittingShows, NoneFits}
 use Rattle.routine_judge.specs.Views.{JudgeView, ProgramView, RightBy, own_moments, sequential_runs}
-use Rattle.routine_judge.specs.Windows.{IsWindow}
+use Rattle.routine_judge.specs.Windows.{IsPendingOn, IsWindow}
 use Rattle.program.specs.Sections.{Sections}
 use Rattle.routine_judge.specs.declared.cause.Cause.{Cause}
 use Rattle.routine_judge.specs.declared.cause.Cause.TheVariants.{Missing, Different, Full, Unmatched}
@@ -17,6 +19,7 @@ use Rattle.recovery.specs.declared.recovery_run.Cause as run
 use Rattle.recovery.specs.declared.recovery_run.Cause.TheVariants.{Running}
 use Rattle.store_trace.specs.History.{at_moment}
 use Rattle.store_trace.specs.declared.event.Event.{Event}
+use Rattle.store_trace.specs.declared.event.Event.TheVariants.{Store, Clean, Fence, Begin, End}
 use Rattle.verdict.specs.CutImages.{image_at}
 
 -- on the image of a cut of moment m the routine comes to this
@@ -34,6 +37,46 @@ same_bytes view m q n o = has_same_bytes (λ cut. image_at view.start view.event
 -- on the full image of moment m it comes to this
 abbrev pub ShowsFull : JudgeView → ℕ → Result (List ℕ) run.Cause → Type 0
 ShowsFull view m found = Shows view m (full_cut view.events m) found
+
+-- the hart that stores in this event
+abbrev pub stored_by : Event → Option ℕ
+stored_by (Store hart line offset width value) = Some hart
+stored_by (Clean hart line) = None
+stored_by (Fence hart) = None
+stored_by (Begin hart op) = None
+stored_by (End hart op) = None
+
+-- event i, a store of the hart, changes what the routine comes to on the full image
+pub record IsChangeBy (view : JudgeView) (i hart : ℕ) : Type 0 where
+  pub event : Event
+  pub is_event : slice_get view.events i ≡ Some event
+  pub is_store : stored_by event ≡ Some hart
+  pub before : Result (List ℕ) run.Cause
+  pub after : Result (List ℕ) run.Cause
+  pub shows_before : ShowsFull view i before
+  pub shows_after : ShowsFull view (i + 1) after
+  pub differ : before ≢ after
+
+-- Event i changes it, and that has to last at moment m: an operation was pending then on its hart, and each one that was has ended by m.
+pub record IsLasting (view : JudgeView) (m i : ℕ) : Type 0 where
+  pub hart : ℕ
+  pub changes : IsChangeBy view i hart
+  pub op : ℕ
+  pub pending : IsPendingOn view.events i hart op
+  pub all_ended : (other : ℕ) → IsPendingOn view.events i hart other → Contains (ended (take m view.events)) other
+
+-- `from` is the first of the moments from `first` on that lies behind each change which has to last at moment m
+pub record IsFirstBehind (view : JudgeView) (m first from : ℕ) : Type 0 where
+  pub order : first ≤ from
+  pub behind : (i : ℕ) → IsLasting view m i → i < from
+  pub least : (n : ℕ) → first ≤ n → ((i : ℕ) → IsLasting view m i → i < n) → from ≤ n
+
+-- The window of moment m, without the moments before a change that has to last: what an operation did that has ended stays, also while
+-- others are pending.
+abbrev pub IsRightWindow : JudgeView → ℕ → Window → Type 0
+IsRightWindow view m Itself = IsWindow view.events m Itself
+IsRightWindow view m (Either before after) = IsWindow view.events m (Either before after)
+IsRightWindow view m (Through from last) = (first : ℕ) × IsWindow view.events m (Through first last) × IsFirstBehind view m first from
 
 -- whether moment i is one of those whose full images give the right answers of moment m, which has this window
 abbrev pub is_among : Window → ℕ → ℕ → Bool
@@ -57,7 +100,7 @@ program_of view program harts = record { program = program; medium = view.start;
 
 -- the right answers of moment m come from there, where those full images give them
 abbrev pub IsSourceBy : RightBy → JudgeView → ℕ → Source → Type 0
-IsSourceBy own_moments view m source = (window : Window) × IsWindow view.events m window × (source ≡ of_window window m)
+IsSourceBy own_moments view m source = (window : Window) × IsRightWindow view m window × (source ≡ of_window window m)
 IsSourceBy (sequential_runs program harts) view m source = source ≡ of_sequential (program_of view program harts) (take m view.events)
 
 -- so of the run

@@ -2,7 +2,7 @@
 use Rattle.std.specs.Prelude.{◌≡◌, ℕ, ◌+◌, ◌<◌, ◌≤◌, List, length, map, slice_index}
 use Rattle.std.specs.Option.{option_map_or}
 use Rattle.store_trace.specs.Marks.{begun_by}
-use Rattle.routine_judge.specs.Windows.{first_end}
+use Rattle.routine_judge.specs.Windows.{IsPendingOn, first_end}
 use Rattle.routine_judge.specs.declared.history.moments.Windows.{Windows}
 use Rattle.store_trace.specs.declared.event.Event.{Event}
 
@@ -13,6 +13,11 @@ until events op = option_map_or (λ at. at + 1) (first_end events op) (length ev
 -- that of the operation that begins in this event, and 0 where none does
 abbrev pub until_of : List Event → Event → ℕ
 until_of events event = option_map_or (until events) (begun_by event) 0
+
+-- n is the moment from which on each operation has ended that is pending on the hart at moment m, and 0 where none is
+pub record IsFreeFrom (events : List Event) (m hart n : ℕ) : Type 0 where
+  pub each : (op : ℕ) → IsPendingOn events m hart op → until events op ≤ n
+  pub some : 0 < n → (op : ℕ) × IsPendingOn events m hart op × (until events op ≡ n)
 
 -- these are the windows of the moments of these events
 abbrev pub AreWindows : List Event → Windows → Type 0

@@ -2,12 +2,12 @@
 use Rattle.std.specs.Prelude.{◌≡◌, ◌≢◌, ◌≤◌, ℕ, Bool, List, IfSome, length, take, true}
 use Rattle.routine_judge.specs.Gathered.{AreKept}
 use Rattle.routine_judge.specs.Order.{AreOrdered}
-use Rattle.routine_judge.specs.RightAnswers.{AsksOf, IsFoundOf, RunsOn, Source, of_sequential, of_window, program_of, same_bytes}
+use Rattle.routine_judge.specs.SpanAnswers.{IsSpan}
+use Rattle.routine_judge.specs.RightAnswers.{AsksOf, IsFoundOf, IsRightWindow, RunsOn, Source, of_sequential, of_window, program_of, same_bytes}
 use Rattle.routine_judge.specs.Views.{JudgeView, RightBy, own_moments, sequential_runs}
 use Rattle.routine_judge.specs.declared.answers.MomentAnswers.{MomentAnswers}
 use Rattle.routine_judge.specs.declared.judge.MomentJudge.{MomentJudge}
 use Rattle.routine_judge.specs.declared.order.so_far.OrderSoFar.{OrderSoFar}
-use Rattle.routine_judge.specs.Windows.{IsWindow}
 use Rattle.routine_judge.specs.declared.history.moments.Window.{Window}
 use Rattle.routine_judge.specs.declared.history.moments.Window.TheVariants.{Itself}
 use Rattle.verdict.specs.Verdicts.{AreFlagged, IsMomentVerdict}
@@ -30,7 +30,7 @@ source_at view window m = source_by view.right view window m
 
 -- the window is that of moment m, where it counts
 abbrev pub IsBasisBy : RightBy → JudgeView → Window → ℕ → Type 0
-IsBasisBy own_moments view window m = IsWindow view.events m window
+IsBasisBy own_moments view window m = IsRightWindow view m window
 IsBasisBy (sequential_runs program harts) view window m = Unit {0}
 
 abbrev pub IsBasis : JudgeView → Window → ℕ → Type 0
@@ -41,9 +41,10 @@ abbrev pub StaysBy : RightBy → Window → Type 0
 StaysBy own_moments window = window ≢ Itself
 StaysBy (sequential_runs program harts) window = Unit {0}
 
--- what is kept from one moment to the next: right answers of a window that doesn't move, or the precedence of the first events
+-- what is kept from one moment to the next: right answers of a window that doesn't move, and what was found of a span; or the precedence of
+-- the first events
 abbrev pub AreKeptBy : RightBy → JudgeView → MomentAnswers → Type 0
-AreKeptBy own_moments view answers = AreKept view answers.window answers.right
+AreKeptBy own_moments view answers = AreKept view answers.window answers.right × IsSpan view answers.span
 AreKeptBy (sequential_runs program harts) view answers = IsOrderOf view.events answers.order
 
 abbrev pub AreKeptFor : JudgeView → MomentAnswers → Type 0

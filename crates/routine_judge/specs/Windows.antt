@@ -34,6 +34,12 @@ pub record IsPendingFrom (events : List Event) (m i op : ℕ) : Type 0 where
   pub before : i < m
   pub pending : ¬ Contains (ended (take m events)) op
 
+-- the operation is pending at moment m, and this hart began it
+pub record IsPendingOn (events : List Event) (m hart op : ℕ) : Type 0 where
+  pub at : ℕ
+  pub begins : slice_get events at ≡ Some (Begin hart op)
+  pub pending : IsPendingFrom events m at op
+
 -- an operation from moment b to moment e overlaps no other: none is pending at its Begin, and none begins before its End
 pub record OverlapsNone (events : List Event) (b e : ℕ) : Type 0 where
   pub none_pending : (i op : ℕ) → ¬ IsPendingFrom events b i op

@@ -5,17 +5,19 @@ ghost use Rattle.routine_judge.specs.Order.{AreSoundByHart};
 ghost use Rattle.routine_judge.specs.SequentialRuns.{AreSequentialRuns, notes_in};
 ghost use Rattle.routine_judge.specs.Standing.{AreKeptFor, IsBasis, IsOrderOf, source_at};
 ghost use Rattle.routine_judge.specs.Views.{JudgeView, ProgramView};
-ghost use Rattle.routine_judge.specs.RightAnswers.{ShowsFull, of_moments, of_window};
-ghost use Rattle.routine_judge.specs.Windows.{IsWindow};
+ghost use Rattle.routine_judge.specs.RightAnswers.{IsRightWindow, ShowsFull, of_moments, of_window};
+ghost use Rattle.routine_judge.specs.SpanAnswers.{Covers, IsSpan};
+ghost use Rattle.routine_judge.specs.Spans.{AreWindows};
 ghost use Rattle.routine_judge.specs.declared.history.moments.Window.TheVariants.{Itself};
 ghost use Rattle.std.specs.Prelude.{◌≡◌, ◌≢◌, ◌||◌, ◌&&◌, ◌==◌, ◌<◌, ◌≤◌, ℕ, Bool, true, false, nat_le, nat_lt, length, take, IfOk, IsTrue, OnOk};
 
 use crate::full_image::full_answer;
-use crate::history::{Window, windows_lie_in_the_run};
+use crate::history::{Window, Windows, windows_lie_in_the_run};
 use crate::order::{OrderSoFar, SequentialRuns};
 use crate::right::RightAnswers;
 use crate::run::MarkedRun;
 use crate::sources::Sources;
+use crate::span::SpanAnswers;
 use recovery::{Answer, Cause as RunCause, Routine};
 use std::alloc::{AllocError, Global};
 use store_trace::Event;
@@ -28,6 +30,8 @@ pub struct MomentAnswers {
     pub window: Window,
     /// Which operations had ended before which began, where sequential runs give them.
     pub order: OrderSoFar,
+    /// What the full images of the moments show among which it lies, where it is of several in a row.
+    pub span: SpanAnswers,
     pub right: RightAnswers,
 }
 
@@ -39,6 +43,7 @@ impl MomentAnswers {
         MomentAnswers {
             window: Window::Itself,
             order: OrderSoFar::none(alloc),
+            span: SpanAnswers::none(alloc),
             right: RightAnswers::none(alloc),
         }
     }
@@ -63,7 +68,7 @@ impl MomentAnswers {
     {
         match &run.sources {
             Sources::Moments(windows) => {
-                let window = windows.at(run.trace.events(), moment as usize);
+                let window = self.right_window(alloc, run, routine, windows, moment)?;
                 self.renew_by_window(alloc, run, routine, window, moment)?;
                 Ok(())
             }
@@ -93,6 +98,41 @@ impl MomentAnswers {
         Ok(())
     }
 
+    /// The window of a moment, without the moments before a change that has to last.
+    fn right_window(
+        &mut self,
+        alloc: Global,
+        run: &MarkedRun<'_>,
+        routine: &mut Routine,
+        windows: &Windows,
+        moment: u32,
+    ) -> Result<Window, AllocError>
+        requires windows { AreWindows run.now.events windows.now }
+        requires span { IsSpan run.now self.old.span }
+        requires there { moment ≤ length run.now.events }
+        requires few { length run.now.events ≤ 65536 }
+        requires program { routine.old.program ≡ run.now.routine }
+        requires lines { routine.old.lines ≡ length run.now.start }
+        ensures right { IfOk result (IsRightWindow run.now moment) }
+        ensures covers { IfOk result (Covers self.new.span) }
+        ensures span { IsSpan run.now self.new.span }
+        ensures window { self.new.window ≡ self.old.window }
+        ensures answers { self.new.right ≡ self.old.right }
+        ensures program { routine.new.program ≡ run.now.routine }
+        ensures lines { routine.new.lines ≡ length run.now.start }
+    {
+        windows_lie_in_the_run();
+        let window = windows.at(run.trace.events(), moment as usize);
+        let Window::Through { first, last } = window else {
+            return Ok(window);
+        };
+        if !self.span.is_of(first, last) {
+            self.span = SpanAnswers::of(alloc, run, routine, windows, first, last)?;
+        }
+        let from = self.span.behind_lasting(moment as usize);
+        Ok(Window::Through { first: from, last })
+    }
+
     /// Makes them those of the window of a moment, unless they are: a window that doesn't move with its moment has the same ones.
     #[tactic(auto, using(crate::proofs::Gathering::kept_answers, crate::proofs::Gathering::answers_kept, crate::proofs::Gathering::answers_of_none))]
     fn renew_by_window(
@@ -106,12 +146,15 @@ impl MomentAnswers {
         requires kept { AreKept run.now self.old.window self.old.right }
         requires there { moment ≤ length run.now.events }
         requires few { length run.now.events ≤ 65536 }
-        requires window { IsWindow run.now.events moment window }
+        requires window { IsRightWindow run.now moment window }
+        requires span { IsSpan run.now self.old.span }
+        requires covers { Covers self.old.span window }
         requires program { routine.old.program ≡ run.now.routine }
         requires lines { routine.old.lines ≡ length run.now.start }
         ensures right { OnOk result (AreAnswers run.now (of_window window moment) self.new.right) }
         ensures window { OnOk result (self.new.window ≡ window) }
         ensures kept { AreKept run.now self.new.window self.new.right }
+        ensures span { self.new.span ≡ self.old.span }
         ensures program { routine.new.program ≡ run.now.routine }
         ensures lines { routine.new.lines ≡ length run.now.start }
     {
@@ -137,11 +180,14 @@ impl MomentAnswers {
         requires none { AreAnswers run.now (of_moments (λ _. false)) self.old.right }
         requires there { moment ≤ length run.now.events }
         requires few { length run.now.events ≤ 65536 }
-        requires window { IsWindow run.now.events moment window }
+        requires window { IsRightWindow run.now moment window }
+        requires span { IsSpan run.now self.old.span }
+        requires covers { Covers self.old.span window }
         requires program { routine.old.program ≡ run.now.routine }
         requires lines { routine.old.lines ≡ length run.now.start }
         ensures right { OnOk result (AreAnswers run.now (of_window window moment) self.new.right) }
         ensures window { self.new.window ≡ self.old.window }
+        ensures span { self.new.span ≡ self.old.span }
         ensures program { routine.new.program ≡ run.now.routine }
         ensures lines { routine.new.lines ≡ length run.now.start }
     {
@@ -153,7 +199,8 @@ impl MomentAnswers {
                 self.take_in(alloc, run, routine, after)
             }
             Window::Through { first, last } => {
-                self.take_in_all(alloc, run, routine, first, last)
+                self.right = self.span.between(alloc, first, last)?;
+                Ok(())
             }
         }
     }
@@ -172,37 +219,12 @@ impl MomentAnswers {
         ensures right { OnOk result ((among : ℕ → Bool) → ((i : ℕ) → among i ≡ true → i < moment) → AreAnswers run.now (of_moments among) self.old.right →
             AreAnswers run.now (of_moments (λ i. among i || (i == moment))) self.new.right) }
         ensures window { self.new.window ≡ self.old.window }
+        ensures span { self.new.span ≡ self.old.span }
         ensures program { routine.new.program ≡ run.now.routine }
         ensures lines { routine.new.lines ≡ length run.now.start }
     {
         let found = run_full(alloc, run, routine, moment)?;
         self.right.add(found)?;
-        Ok(())
-    }
-
-    /// Takes in those on the full images of all moments from one to another; none is there yet.
-    fn take_in_all(
-        &mut self,
-        alloc: Global,
-        run: &MarkedRun<'_>,
-        routine: &mut Routine,
-        first: usize,
-        last: usize,
-    ) -> Result<(), AllocError>
-        requires none { AreAnswers run.now (of_moments (λ _. false)) self.old.right }
-        requires order { first ≤ last }
-        requires there { last ≤ length run.now.events }
-        requires few { length run.now.events ≤ 65536 }
-        requires program { routine.old.program ≡ run.now.routine }
-        requires lines { routine.old.lines ≡ length run.now.start }
-        ensures right { OnOk result (AreAnswers run.now (of_moments (λ i. nat_le first i && nat_le i last)) self.new.right) }
-        ensures window { self.new.window ≡ self.old.window }
-        ensures program { routine.new.program ≡ run.now.routine }
-        ensures lines { routine.new.lines ≡ length run.now.start }
-    {
-        for moment in first..last + 1 {
-            self.take_in(alloc, run, routine, moment)?;
-        }
         Ok(())
     }
 }
@@ -224,7 +246,7 @@ fn is_same(one: Window, other: Window) -> bool
 }
 
 /// What the routine comes to on the full image of a moment.
-fn run_full(
+pub(crate) fn run_full(
     alloc: Global,
     run: &MarkedRun<'_>,
     routine: &mut Routine,

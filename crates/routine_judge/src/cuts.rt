@@ -2,10 +2,8 @@
 
 ghost use Rattle.recovery.specs.Closed.{AreClosed, AreClosedTo, BoundBox, IsCovered};
 ghost use Rattle.routine_judge.specs.CutsInRecovery.{StaysRight};
-ghost use Rattle.routine_judge.specs.RightAnswers.{IsRightOf, of_window};
+ghost use Rattle.routine_judge.specs.RightAnswers.{IsRightOf, IsSource, Source as ASource};
 ghost use Rattle.routine_judge.specs.Views.{JudgeView};
-ghost use Rattle.routine_judge.specs.Windows.{IsWindow};
-ghost use Rattle.routine_judge.specs.declared.history.moments.Window.{Window as AWindow};
 ghost use Rattle.std.specs.Prelude.{ℕ, List, None, Some};
 ghost use Rattle.store_trace.specs.Cut.{IsCutImage};
 ghost use Rattle.store_trace.specs.History.{at_moment};
@@ -14,10 +12,10 @@ ghost use Rattle.store_trace.specs.History.{at_moment};
 /// recovery runs or after it has ended; where they are closed to some number of cuts, it does so up to that number.
 #[tactic(auto, using(crate::proofs::StayingRight::stays_right, crate::proofs::StayingRight::stays_right_to))]
 pub fn closed_boxes_stay_recovered()
-    ensures any { (view : JudgeView) (m : ℕ) (window : AWindow) (boxes : List BoundBox) → IsWindow view.events m window →
+    ensures any { (view : JudgeView) (m : ℕ) (source : ASource) (boxes : List BoundBox) → IsSource view m source →
         ((image : List (List ℕ)) → IsCutImage view.start (at_moment view.events m) image → IsCovered boxes 0 image None) →
-        AreClosed view.routine view.steps (IsRightOf view (of_window window m)) boxes → StaysRight view None m }
-    ensures counted { (view : JudgeView) (m most : ℕ) (window : AWindow) (boxes : List BoundBox) → IsWindow view.events m window →
+        AreClosed view.routine view.steps (IsRightOf view source) boxes → StaysRight view None m }
+    ensures counted { (view : JudgeView) (m most : ℕ) (source : ASource) (boxes : List BoundBox) → IsSource view m source →
         ((image : List (List ℕ)) → IsCutImage view.start (at_moment view.events m) image → IsCovered boxes 0 image None) →
-        AreClosedTo view.routine view.steps (IsRightOf view (of_window window m)) most boxes → StaysRight view (Some most) m }
+        AreClosedTo view.routine view.steps (IsRightOf view source) most boxes → StaysRight view (Some most) m }
 {}

@@ -23,6 +23,7 @@ mod right;
 mod rule;
 mod run;
 mod sources;
+mod span;
 
 pub use answer_images::AnswerImages;
 pub use cause::Cause;

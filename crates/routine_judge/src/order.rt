@@ -17,6 +17,7 @@ pub use laws::{precedences_stand, sequential_states_stand};
 pub use operation::Operation;
 pub use precedence::Precedence;
 pub use sequential::SequentialState;
+pub(crate) use sequential_runs::comes_to_same;
 pub use sequential_runs::{SequentialRun, SequentialRuns};
 pub(crate) use so_far::OrderSoFar;
 pub use word::Word;

@@ -77,7 +77,7 @@ impl RightAnswers {
     ///
     /// # Errors
     /// A growth was refused. They are the same then.
-    fn add_copy(
+    pub(crate) fn add_copy(
         &mut self,
         alloc: Global,
         found: &Result<Answer, RunCause>,

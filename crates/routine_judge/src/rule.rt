@@ -12,7 +12,8 @@ use program::Program;
 pub enum Rule<'a> {
     /// Those on full images of the run itself: before or after the operation that is pending, else now. Operations don't overlap.
     InTurn,
-    /// The same, where operations may overlap: of a pending one that does all full images from before the first to behind the last count.
+    /// The same, where operations may overlap: of a pending one that does all full images from before the first to behind the last count, but
+    /// those before a change that an operation made which has ended.
     Overlapping,
     /// Those on the full images of the program's sequential runs that fit what has begun and ended. Each hart makes one operation at a time.
     Atomic(ProgramRuns<'a>),

@@ -6,7 +6,9 @@ use crate::calls::orders::{Order, take_turn};
 use crate::calls::starts::loaded;
 use crash_test::{count_images, image_lines, load_program, record_run};
 use every_schedule::{Limits, Outcome, Recovery, Unwatched, judge_all};
+use line_memory::Medium;
 use machine::{Machine, Run, Schedule, Setup};
+use program::Program;
 use std::alloc::Global;
 use std::thread::Threads;
 use store_trace::Event;
@@ -39,33 +41,20 @@ struct Case {
 }
 
 /// Cases, and whether all their schedules are right. Of those that aren't, some have one or two bad orders among hundreds.
-static CASES: [(&str, &str, Shown, bool); 27] = [
+static CASES: [(&str, &str, Shown, bool); 14] = [
     ("SCf", "XCf", Shown::Both, true),
-    ("xcf", "xcf", Shown::Both, true),
-    ("SCf", "xcf", Shown::Committed, true),
-    ("scf", "scf", Shown::Committed, true),
-    ("cff", "SCf", Shown::Both, true),
-    ("fxcf", "c", Shown::Both, true),
     ("L", "scfl", Shown::Both, true),
     ("Lf", "lS", Shown::Committed, true),
     ("lS", "ScC", Shown::Committed, true),
-    ("X", "lcfC", Shown::Committed, true),
-    ("ScC", "SCf", Shown::Checked, false),
     ("SCf", "xcf", Shown::Checked, false),
     ("scf", "lSc", Shown::Both, false),
-    ("LlS", "XCf", Shown::Both, false),
     ("SCf", "lS", Shown::Both, false),
     ("scf", "lS", Shown::Committed, false),
     ("lS", "scf", Shown::Both, false),
-    ("lS", "SCf", Shown::Both, false),
     ("s", "LcLs", Shown::Both, false),
     ("X", "lSLs", Shown::Both, false),
     ("cf", "sf", Shown::Both, false),
-    ("cf", "sf", Shown::Committed, false),
     ("Cscf", "s", Shown::Committed, false),
-    ("sCf", "xx", Shown::Checked, false),
-    ("Cf", "xcf", Shown::Checked, false),
-    ("sC", "Cf", Shown::Both, false),
     ("xX", "LX", Shown::Checked, false),
 ];
 
@@ -144,11 +133,17 @@ fn body(alloc: Global, letters: &str) -> Option<String> {
 }
 
 /// What the runs of a case start from.
-fn setup_of(alloc: Global, case: Case) -> Option<Setup> {
+fn start_of(alloc: Global, case: Case) -> Option<(Program, Medium)> {
     let first = body(alloc, case.first)?;
     let second = body(alloc, case.second)?;
     let pieces = [BEGIN, first.as_str(), END, OTHER, second.as_str(), END];
-    let (program, medium) = loaded(alloc, None, &pieces)?;
+    loaded(alloc, None, &pieces)
+}
+
+/// A setup of both harts with this start.
+fn setup_of(alloc: Global, program: &Program, medium: &Medium) -> Option<Setup> {
+    let program = program.copy(alloc).ok()?;
+    let medium = medium.copy(alloc).ok()?;
     Some(Setup::with_room(program, medium, 2))
 }
 
@@ -170,40 +165,48 @@ fn take_all(
     Some(true)
 }
 
-/// The schedule by which the harts take their turns in an order, and the turns; empty where one of them stops before its last turn.
-fn turns_in(alloc: Global, case: Case, order: Order) -> Option<(String, Vec<Turn>)> {
-    let Setup {
-        program,
-        medium,
-        harts,
-        capacity,
-    } = setup_of(alloc, case)?;
-    let mut machine = Machine::new(alloc, program, medium, harts, capacity).ok()?;
-    let mut schedule = Schedule::new(alloc);
-    let mut turns = Vec::new(alloc);
-    if take_all(&mut machine, &mut schedule, &mut turns, order)? {
-        Some((schedule.write(alloc).ok()?, turns))
-    } else {
-        Some((String::new(alloc), turns))
+/// How many turns of an order are those of hart 1.
+fn turns_of_second(order: Order) -> u32 {
+    let mut count: u32 = 0;
+    for turn in 0..order.turns.min(31) {
+        count = count.saturating_add((order.bits >> turn) & 1);
     }
+    count
 }
 
-/// The run of a case by the text of a schedule.
-fn run_by(alloc: Global, case: Case, schedule: &str) -> Option<Run> {
-    let schedule = Schedule::read(alloc, schedule.as_bytes()).ok()?;
-    record_run(alloc, setup_of(alloc, case)?, &schedule).ok()
+/// The run in which the harts take their turns in an order, if each makes its last one.
+fn walk(alloc: Global, program: &Program, medium: &Medium, order: Order) -> Option<Option<Walk>> {
+    let Setup {
+        program: text,
+        medium: start,
+        harts,
+        capacity,
+    } = setup_of(alloc, program, medium)?;
+    let mut machine = Machine::new(alloc, text, start, harts, capacity).ok()?;
+    let mut schedule = Schedule::new(alloc);
+    let mut turns = Vec::new(alloc);
+    if !take_all(&mut machine, &mut schedule, &mut turns, order)? {
+        return Some(None);
+    }
+    let written = schedule.write(alloc).ok()?;
+    let schedule = Schedule::read(alloc, written.as_bytes()).ok()?;
+    let run = record_run(alloc, setup_of(alloc, program, medium)?, &schedule).ok()?;
+    Some(Some(Walk { turns, run }))
 }
 
 /// The runs of a case in all orders of its requests.
 fn walks_of(alloc: Global, case: Case) -> Option<Vec<Walk>> {
-    let requests = case.first.len().checked_add(case.second.len())?;
-    let turns = u32::try_from(requests.checked_add(4)?).ok()?;
+    let (program, medium) = start_of(alloc, case)?;
+    let second = u32::try_from(case.second.len().checked_add(2)?).ok()?;
+    let first = u32::try_from(case.first.len().checked_add(2)?).ok()?;
+    let turns = first.checked_add(second)?;
     let mut walks = Vec::new(alloc);
     for bits in 0..1 << turns.min(31) {
-        let (schedule, turns) = turns_in(alloc, case, Order { bits, turns })?;
-        if !schedule.is_empty() {
-            let run = run_by(alloc, case, schedule.as_str())?;
-            walks.push(Walk { turns, run }).ok()?;
+        let order = Order { bits, turns };
+        if turns_of_second(order) == second {
+            if let Some(made) = walk(alloc, &program, &medium, order)? {
+                walks.push(made).ok()?;
+            }
         }
     }
     Some(walks)
@@ -383,10 +386,22 @@ fn are_right(
     Some(true)
 }
 
-/// Whether each image of a walk has a right answer behind each turn, of which the first one begins an operation.
+/// Whether the turns are those of hart 0 first.
+fn is_first(turns: &[Turn]) -> bool {
+    for at in 1..turns.len() {
+        if turns[at].hart < turns[at - 1].hart {
+            return false;
+        }
+    }
+    true
+}
+
+/// Whether each image of a walk has a right answer behind each turn, of which the first one begins an operation. What several walks begin with
+/// is looked at in one of them.
 fn is_good(alloc: Global, shown: Shown, notes: &[Note], walk: &Walk) -> Option<bool> {
-    for turn in &walk.turns {
-        if !are_right(alloc, shown, notes, &walk.run, turn.events)? {
+    let Walk { turns, run } = walk;
+    for at in 0..turns.len() {
+        if is_first(&turns[at + 1..]) && !are_right(alloc, shown, notes, run, turns[at].events)? {
             return Some(false);
         }
     }
@@ -414,14 +429,12 @@ fn passes<T: Threads + Sync>(rt: &T, alloc: Global, case: Case) -> Option<bool> 
         program: &program,
         steps: 100,
     };
-    let setup = setup_of(alloc, case)?;
+    let (text, medium) = start_of(alloc, case)?;
+    let setup = Setup::with_room(text, medium, 2);
     let limits = Limits {
         states: 10_000,
         any_end: false,
     };
-    if setup.harts > 8 {
-        return None;
-    }
     match judge_all(rt, alloc, recovery, setup, limits, &mut Unwatched).ok()? {
         Outcome::Pass { .. } => Some(true),
         Outcome::Found { .. } => Some(false),

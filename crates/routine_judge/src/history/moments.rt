@@ -1,7 +1,7 @@
 //! Which full images give the right answers of a moment.
 
 ghost use Rattle.store_trace.specs.Marks.{begun, begun_by};
-ghost use Rattle.routine_judge.specs.Spans.{AreWindows, IsAloneIn, IsFirstAbove, IsHighest, NoneAbove, until_of};
+ghost use Rattle.routine_judge.specs.Spans.{AreWindows, IsAloneIn, IsFirstAbove, IsFreeFrom, IsHighest, NoneAbove, until_of};
 ghost use Rattle.routine_judge.specs.Windows.{IsWindow, first_end};
 ghost use Rattle.std.specs.BTreeMap.{get};
 ghost use Rattle.std.specs.Ordering.{nat_cmp};
@@ -99,6 +99,21 @@ impl Windows {
         true
     }
 
+    /// From which moment on the operations have ended that are pending on a hart at a moment; 0 where none is.
+    pub(crate) fn free_from(&self, events: &[Event], hart: u32, moment: usize) -> usize
+        requires windows { AreWindows events.now self.now }
+        requires within { moment ≤ length events.now }
+        ensures { IsFreeFrom events.now moment hart result }
+    {
+        let mut latest = 0;
+        for at in 0..moment {
+            if begins_on(events[at], hart) && self.until[at] > moment {
+                latest = latest.max(self.until[at]);
+            }
+        }
+        latest
+    }
+
     /// The highest number of the first `count` events.
     fn highest(&self, count: usize) -> usize
         requires { count ≤ vec_len self.now.until }
@@ -160,6 +175,16 @@ fn any_begins(events: &[Event]) -> bool
         }
     }
     false
+}
+
+/// Whether the event begins an operation of the hart.
+fn begins_on(event: Event, hart: u32) -> bool
+    ensures { IsTrue result ↔ ((op : ℕ) × (event ≡ Event.Begin hart op)) }
+{
+    match event {
+        Event::Begin { hart: beginner, .. } => beginner == hart,
+        _ => false,
+    }
 }
 
 /// Whether the event begins an operation.

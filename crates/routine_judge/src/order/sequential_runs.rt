@@ -79,7 +79,10 @@ fn has(notes: &[SequentialRun], note: &SequentialRun) -> bool
 }
 
 /// Whether both are the same answer, or the same reason why there is none.
-fn comes_to_same(one: &Result<Answer, RunCause>, other: &Result<Answer, RunCause>) -> bool
+pub(crate) fn comes_to_same(
+    one: &Result<Answer, RunCause>,
+    other: &Result<Answer, RunCause>,
+) -> bool
     ensures { IsTrue result ↔ (one.now ≡ other.now) }
 {
     match (one, other) {

@@ -2,6 +2,7 @@
 use Rattle.std.proofs.Common.{◌≡◌, ℕ, ◌+◌, ◌<◌, List, length, get_or, None, ap, subst, arith}
 use Rattle.store_trace.specs.Marks.{begun_by, ended_by}
 use Rattle.routine_judge.proofs.Keeping.{kept_next}
+use Rattle.routine_judge.proofs.Lasting.{right_window_next}
 use Rattle.routine_judge.proofs.Sourcing.{basis_next}
 use Rattle.verdict.proofs.CutLines.{images_whole}
 use Rattle.verdict.specs.CutImages.{AreMedia}
@@ -28,7 +29,8 @@ returns-then-stays c = λ quiet.
     let begins = subst (λ (es : List Event). begun_by (get_or es last d) ≡ None) events (c.is_quiet_at.ensures.begins quiet d) in
     let ends = subst (λ (es : List Event). ended_by (get_or es last d) ≡ None) events (c.is_quiet_at.ensures.ends quiet d) in
     let basis = basis_next view.right view c.args.window last (last + 1)
-    (c.windows_stay_between_marks.ensures view.events last d c.args.window there begins ends) passed.is_basis in
+    (right_window_next view last d (record { there = there; none_begins = begins; none_ends = ends }) c.args.window
+    (λ window. c.windows_stay_between_marks.ensures view.events last d window there begins ends)) passed.is_basis in
     let whole : (m : ℕ) → AreMedia view.start view.events m = λ m.
     subst (λ (v : JudgeView). AreMedia v.start v.events m) c.run.view_is (images_whole i.medium.now i.trace.now.events m c.run.invariant.4 c.run.invariant.5) in
     subst (λ (m : ℕ). IsPassed view flags c.args.window m) next

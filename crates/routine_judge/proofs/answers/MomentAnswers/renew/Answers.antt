@@ -32,14 +32,14 @@ by_noted : (view : JudgeView) (sources : Sources) (noted : ProgramRuns) → sour
     view.right ≡ sequential_runs noted.program.now noted.harts
 by_noted view sources noted is right = sym right ∙ ap right_from is
 
-pub at-window-requires-clause-windows : goal.at-window-requires-clause-windows
-at-window-requires-clause-windows c =
+pub right_window-requires-clause-windows : goal.right_window-requires-clause-windows
+right_window-requires-clause-windows c =
     let i = c.run.inside in
-    subst (λ (es : List Event). AreWindows es c.in-Moments.windows) (sym c.events.ensures.value)
+    subst (λ (es : List Event). AreWindows es c.in-Moments.windows) (ap (λ (v : JudgeView). v.events) c.run.view_is)
     (windows_of i.medium.now i.routine.now i.steps i.trace.now.events i.sources c.in-Moments.windows c.in-Moments.is c.run.invariant.3)
 
 pub returns-in_ok-renew_by_window-in-Moments-clause-right : goal.returns-in_ok-renew_by_window-in-Moments-clause-right
 returns-in_ok-renew_by_window-in-Moments-clause-right c =
     let view = c.args.run.now in
     let own = by_moments view c.run.inside.sources c.in-Moments.windows c.in-Moments.is (ap (λ (v : JudgeView). v.right) c.run.view_is) in
-    own_answers view c.renew_by_window.new.self own c.at-window.result c.args.moment c.in_ok-renew_by_window-in-Moments.ensures.window c.in_ok-renew_by_window-in-Moments.ensures.right
+    own_answers view c.renew_by_window.new.self own c.in_ok-window-in-Moments.window c.args.moment c.in_ok-renew_by_window-in-Moments.ensures.window c.in_ok-renew_by_window-in-Moments.ensures.right
