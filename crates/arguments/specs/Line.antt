@@ -1,5 +1,5 @@
 -- Which command a line asks for, by what clap's specification says of its words.
-use Rattle.std.specs.Prelude.{string_bytes, ◌≡◌, ◌≢◌, ◌≤◌, ◌<◌, ◌^◌, ◌⊎◌, ℕ, List, [], ◌∷◌, Option, Some, None, IfSome, codes, ⊤}
+use Rattle.std.specs.Prelude.{string_bytes, ◌≡◌, ◌≢◌, ◌≤◌, ◌<◌, ◌^◌, ◌⊎◌, ℕ, Bool, true, false, List, [], ◌∷◌, Option, Some, None, IfSome, codes, ⊤}
 use Rattle.clap.specs.Words.{Row, Text, fault_of, first_of, subcommand_of}
 use Rattle.clap.specs.Kinds.{IsAmong}
 use Rattle.clap.specs.declared.error.ErrorKind.{ErrorKind}
@@ -32,6 +32,8 @@ use Rattle.arguments.specs.declared.asked.MakeVolumeCommand.{MakeVolumeCommand}
 use Rattle.arguments.specs.declared.asked.PictureCommand.{PictureCommand}
 use Rattle.arguments.specs.declared.asked.ReplayCommand.{ReplayCommand}
 use Rattle.arguments.specs.declared.asked.ReportCommand.{ReportCommand}
+use Rattle.arguments.specs.declared.asked.RightAnswers.{RightAnswers}
+use Rattle.arguments.specs.declared.asked.RightAnswers.TheVariants.{Atomic, InTurn, Overlapping}
 use Rattle.arguments.specs.declared.asked.RunCommand.{RunCommand}
 use Rattle.arguments.specs.declared.asked.ScheduledRun.{ScheduledRun}
 use Rattle.arguments.specs.declared.asked.ShowCommand.{ShowCommand}
@@ -155,11 +157,24 @@ pub record IsCheck (rows : List Row) (command : CheckCommand) : Type 0 where
   pub plan : IsWord (codes "PLAN") rows command.plan
   pub judged : IsJudgedRun rows command.judged
 
--- `judge` of this run by this recovery routine, so many steps of it on an image, and whether operations may overlap
+-- The right answers by `--atomic` and `--overlapping`: those of sequential runs by the one, those of the run itself by the other, where operations
+-- may then overlap, and without any. With both none are right.
+abbrev pub AreRightBy : Bool → Bool → RightAnswers → Type 0
+AreRightBy false false right = right ≡ InTurn
+AreRightBy false true right = right ≡ Overlapping
+AreRightBy true false right = right ≡ Atomic
+AreRightBy true true right = ⊥
+
+abbrev pub IsRight : List Row → RightAnswers → Type 0
+IsRight rows right = AreRightBy (is_set (first_of (codes "atomic") rows)) (is_set (first_of (codes "overlapping") rows)) right
+
+-- `judge` of this run by this recovery routine, so many steps of it on an image, the answers of it that are right, and at most so many states of the
+-- search for sequential runs
 pub record IsJudge (rows : List Row) (command : JudgeCommand) : Type 0 where
   pub recovery : IsWord (codes "RECOVERY") rows command.recovery
   pub steps : IsRecoverySteps rows command.steps
-  pub overlapping : command.overlapping ≡ is_set (first_of (codes "overlapping") rows)
+  pub right : IsRight rows command.right
+  pub states : IsStates rows command.states
   pub judged : IsJudgedRun rows command.judged
 
 -- `check-all` of this program by this plan with these options: at most so many states, whether harts may stop in any way, whether a failure is
@@ -305,7 +320,7 @@ IsWithinLimits (Images command) = IsSourceWithin command.source × (command.mome
 IsWithinLimits (Image command) = IsSourceWithin command.source × (command.moment < 2 ^ 32) × IsProper command.image
 IsWithinLimits (Explain command) = IsMachineWithin command.run.machine × (command.moment < 2 ^ 32) × IsProper command.image
 IsWithinLimits (Check command) = IsJudgedWithin command.judged
-IsWithinLimits (Judge command) = IsJudgedWithin command.judged × IsWithin 1 500000000 command.steps
+IsWithinLimits (Judge command) = IsJudgedWithin command.judged × IsWithin 1 500000000 command.steps × IsWithin 1 4294967295 command.states
 IsWithinLimits (CheckAll command) = IsMachineWithin command.machine × IsWithin 1 4294967295 command.states
 IsWithinLimits (Answer command) = IsWithin 1 500000000 command.steps
 IsWithinLimits (Picture command) = IsMachineWithin command.run.machine × (command.moment < 2 ^ 32) × IfSome command.image IsProper

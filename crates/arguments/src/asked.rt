@@ -34,7 +34,7 @@ pub enum Command {
     Explain(ExplainCommand),
     /// `check PLAN PROGRAM SCHEDULE [--medium FILE --harts N --workers N --moments A-B --go-on --whole --why --json --progress]`.
     Check(CheckCommand),
-    /// `judge PROGRAM SCHEDULE RECOVERY [--medium FILE --harts N --steps N --workers N --overlapping --moments A-B --go-on --whole --why --json --progress]`.
+    /// `judge PROGRAM SCHEDULE RECOVERY [--medium FILE --harts N --steps N --workers N --atomic --states N --overlapping --moments A-B --go-on --whole --why --json --progress]`.
     Judge(JudgeCommand),
     /// `check-all PLAN PROGRAM [--medium FILE --harts N --states N --any-end --why --json --progress]`.
     CheckAll(CheckAllCommand),
@@ -248,9 +248,21 @@ pub struct JudgeCommand {
     pub recovery: String,
     /// The most steps of recovery on a crash image, from 1 to 500,000,000; 100,000 where the line doesn't say.
     pub steps: u32,
-    /// Whether an operation may begin while another is pending.
-    pub overlapping: bool,
+    pub right: RightAnswers,
+    /// The most states of the search for sequential runs, from 1 to 4,294,967,295; 1,000,000 where the line doesn't say.
+    pub states: u32,
     pub judged: JudgedRun,
+}
+
+/// Which answers of a recovery routine `judge` takes for right.
+#[derive(Clone, Copy, Debug, PartialEq, Eq)]
+pub enum RightAnswers {
+    /// Those of the run itself, in which each operation ends before the next one begins.
+    InTurn,
+    /// Those of the run itself, in which operations may overlap: the line has `--overlapping`.
+    Overlapping,
+    /// Those of sequential runs of the program: the line has `--atomic`.
+    Atomic,
 }
 
 /// What `check-all` is to do.

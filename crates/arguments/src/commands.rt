@@ -4,7 +4,7 @@ ghost use Rattle.std.specs.Prelude.{◌<◌, ◌^◌, ℕ, IfOk, IfErr, IfSome, 
 ghost use Rattle.std.specs.declared.alloc.Global.{Global as AGlobal};
 ghost use Rattle.clap.specs.Words.{found_of, rows_of};
 ghost use Rattle.arguments.specs.Line.{IsAnswer, IsAssemble, IsCheck, IsCheckAll, IsCode, IsDebug, IsEventSource, IsExplain, IsImage, IsImages, IsInterleave, IsJudge, IsListing, IsMakeVolume, IsPicture, IsReplay, IsReport, IsRun, IsScheduledRun, IsShow, IsTrace, IsTracedEvents, IsUpgrade};
-ghost use Rattle.arguments.specs.Line.{IsCachedMachine, IsSourceWithin, IsJudgedRun, IsJudgedWithin, IsMachineWithin, IsOf, IsWithin, IsWithinLimits, OnFault};
+ghost use Rattle.arguments.specs.Line.{IsCachedMachine, IsSourceWithin, IsJudgedRun, IsJudgedWithin, IsMachineWithin, IsOf, IsRight, IsWithin, IsWithinLimits, OnFault};
 ghost use Rattle.arguments.specs.Started.{IsStarted};
 ghost use Rattle.arguments.specs.Values.{IsWord};
 ghost use Rattle.text.specs.Texts.{IsProper};
@@ -31,14 +31,15 @@ ghost use Rattle.arguments.specs.declared.asked.ListingCommand.{ListingCommand a
 ghost use Rattle.arguments.specs.declared.asked.CodeCommand.{CodeCommand as ACodeCommand};
 ghost use Rattle.arguments.specs.declared.asked.MachineOptions.{MachineOptions as AMachine};
 ghost use Rattle.arguments.specs.declared.asked.JudgedRun.{JudgedRun as AJudgedRun};
+ghost use Rattle.arguments.specs.declared.asked.RightAnswers.{RightAnswers as SomeRightAnswers};
 ghost use Rattle.arguments.specs.declared.asked.ScheduledRun.{ScheduledRun as AScheduledRun};
 
 use crate::asked::{
     AnswerCommand, AssembleCommand, CheckAllCommand, CheckCommand, CodeCommand, Command,
     DebugCommand, EventSource, ExplainCommand, ImageCommand, ImagesCommand, InterleaveCommand,
     JudgeCommand, JudgedRun, LineFault, ListingCommand, MachineOptions, MakeVolumeCommand,
-    PictureCommand, ReplayCommand, ReportCommand, RunCommand, ScheduledRun, ShowCommand,
-    TraceCommand, TracedEvents, UpgradeCommand,
+    PictureCommand, ReplayCommand, ReportCommand, RightAnswers, RunCommand, ScheduledRun,
+    ShowCommand, TraceCommand, TracedEvents, UpgradeCommand,
 };
 use crate::machine::{cached_machine, whole_machine};
 use crate::moments::optional_moments;
@@ -81,7 +82,7 @@ const WORKERS: NumberOption = NumberOption {
     high: 8,
 };
 
-/// The most states that `check-all` meets.
+/// The most states that `check-all` meets, and `judge` in its search for sequential runs.
 const STATES: NumberOption = NumberOption {
     name: "states",
     default: 1_000_000,
@@ -357,6 +358,21 @@ pub(crate) fn check(alloc: Global, found: &ArgMatches<'_>) -> Result<Command, Li
     Ok(Command::Check(CheckCommand { plan, judged }))
 }
 
+/// Which answers `judge` takes for right.
+fn right_answers(alloc: Global, found: &ArgMatches<'_>) -> Result<RightAnswers, LineFault>
+    ensures ok { IfOk result (IsRight (rows_of (found_of found.now))) }
+    ensures err { IfErr result (OnFault ((right : SomeRightAnswers) → ¬ (IsRight (rows_of (found_of found.now)) right))) }
+{
+    match (flag(found, "atomic"), flag(found, "overlapping")) {
+        (false, false) => Ok(RightAnswers::InTurn),
+        (false, true) => Ok(RightAnswers::Overlapping),
+        (true, false) => Ok(RightAnswers::Atomic),
+        (true, true) => Err(LineFault::Fault(format!(in alloc;
+            "error: --atomic and --overlapping can't stand together\n"
+        )?)),
+    }
+}
+
 /// What `judge` is to do.
 pub(crate) fn judge(alloc: Global, found: &ArgMatches<'_>) -> Result<Command, LineFault>
     ensures ok { IfOk result (IsOf (codes "judge") (rows_of (found_of found.now))) }
@@ -364,14 +380,16 @@ pub(crate) fn judge(alloc: Global, found: &ArgMatches<'_>) -> Result<Command, Li
     ensures err { IfErr result (OnFault ((command : AJudgeCommand)
         → ¬ (IsJudge (rows_of (found_of found.now)) command))) }
 {
-    let overlapping = flag(found, "overlapping");
+    let right = right_answers(alloc, found)?;
     let steps = number(alloc, found, &RECOVERY_STEPS)?;
+    let states = number(alloc, found, &STATES)?;
     let recovery = word(alloc, found, "RECOVERY")?;
     let judged = judged_run(alloc, found)?;
     Ok(Command::Judge(JudgeCommand {
         recovery,
         steps,
-        overlapping,
+        right,
+        states,
         judged,
     }))
 }

@@ -238,9 +238,20 @@ const MOMENTS: Argument = Argument::Valued {
     about: "The moments that are judged: A-B, A- to the last one, or A alone [default: all]",
 };
 
+const ATOMIC: Argument = Argument::Flag {
+    name: "atomic",
+    about: "Count overlapping operations as made one after another: right is what sequential runs of the program show",
+};
+
+const SEQUENTIAL_STATES: Argument = Argument::Valued {
+    name: "states",
+    value: "N",
+    about: "With --atomic, the most states that the search for sequential runs meets, from 1 to 4294967295 [default: 1000000]",
+};
+
 const OVERLAPPING: Argument = Argument::Flag {
     name: "overlapping",
-    about: "Let an operation begin while another is pending",
+    about: "Let operations overlap: right is also what the run shows amid them",
 };
 
 const STATES: Argument = Argument::Valued {
@@ -459,6 +470,8 @@ static JUDGING: [Subcommand; 4] = [
             HARTS,
             RECOVERY_STEPS,
             WORKERS,
+            ATOMIC,
+            SEQUENTIAL_STATES,
             OVERLAPPING,
             MOMENTS,
             GO_ON,

@@ -7,6 +7,7 @@ pub mod Written
 mod ObjectPrograms
 pub mod OfFile
 pub mod OnTheWay
+mod Started
 pub mod StatesTold
 mod RankedLines
 mod TraceFiles

@@ -1,18 +1,25 @@
 -- What `judge` comes to.
-use Rattle.std.specs.Prelude.{◌≡◌, ℕ, zero, suc, Bool, true, false, List, [], Option, Result, Ok, MatchResult, ◌++◌, codes, decimal, string_bytes}
+use Rattle.std.specs.Prelude.{◌≡◌, ◌≢◌, ◌≤◌, ℕ, zero, suc, List, [], Option, Some, None, Result, Ok, MatchResult, ◌++◌, codes, decimal, string_bytes}
 use Rattle.arguments.specs.Line.{IsJudgedWithin}
 use Rattle.arguments.specs.declared.asked.JudgeCommand.{JudgeCommand}
+use Rattle.arguments.specs.declared.asked.RightAnswers.{RightAnswers}
+use Rattle.arguments.specs.declared.asked.RightAnswers.TheVariants as rights
 use Rattle.hart.specs.HartLines.{trap_number}
 use Rattle.crash_test.specs.Judging.{HasJudgement, IsToldOf}
 use Rattle.crash_test.specs.Loading.{IsLoaded}
 use Rattle.crash_test.specs.declared.losses.ExplainedImage.{ExplainedImage}
-use Rattle.routine_judge.specs.Rules.{JudgementView}
+use Rattle.every_schedule.specs.Sequential.{AreAllNoted, program_of}
+use Rattle.every_schedule.specs.declared.sequential.Sequential.{Sequential}
+use Rattle.every_schedule.specs.declared.sequential.Sequential.TheVariants as known
+use Rattle.machine.specs.declared.recording.setup.Setup.{Setup}
+use Rattle.routine_judge.specs.Rules.{AreNotedFor, JudgementView, overlap_of, right_by}
 use Rattle.routine_judge.specs.Verdicts.{IsRefusal}
-use Rattle.routine_judge.specs.Views.{own_moments}
+use Rattle.routine_judge.specs.Views.{RightBy, own_moments, sequential_runs}
 use Rattle.routine_judge.specs.declared.history.overlap.Overlap.{Overlap}
 use Rattle.routine_judge.specs.declared.history.overlap.Overlap.TheVariants as overlaps
 use Rattle.routine_judge.specs.declared.cause.Cause.{Cause}
 use Rattle.routine_judge.specs.declared.cause.Cause.TheVariants as causes
+use Rattle.routine_judge.specs.declared.rule.Rule.{Rule}
 use Rattle.verdict.specs.declared.moment_verdict.verdict.Verdict.{Verdict}
 use Rattle.verdict.specs.declared.moment_verdict.verdict.Verdict.TheVariants as verdicts
 use Rattle.program.specs.Sections.{Sections}
@@ -20,6 +27,7 @@ use Rattle.recovery.specs.declared.recovery_run.Cause.{Cause as RunCause}
 use Rattle.recovery.specs.declared.recovery_run.Cause.TheVariants as runs
 use Rattle.debugger.specs.StreamFailures.{AppendsFront}
 use Rattle.crash_test.specs.Programs.{IsProgramOf}
+use Rattle.command_line.specs.CheckingAll.{told_bound}
 use Rattle.command_line.specs.Demanding.{MeetsWhole}
 use Rattle.command_line.specs.Failures.{failure_of_judge}
 use Rattle.command_line.specs.MakingRuns.{MakesRun}
@@ -31,6 +39,7 @@ use Rattle.command_line.specs.Steps.{First, Prints, Reads, Step, Still, Tells}
 use Rattle.command_line.specs.Verdicts.{failing, first_of, row_asked, told_verdict, verdict_status}
 use Rattle.command_line.specs.declared.answer.Answer.{Answer}
 use Rattle.command_line.specs.declared.failure.Failure.{Failure}
+use Rattle.command_line.specs.declared.failure.Failure.TheVariants.{Memory}
 use Rattle.command_line.specs.declared.opened.OpenJudge.{OpenJudge}
 use Rattle.command_line.specs.declared.made_run.MadeRun.{MadeRun}
 
@@ -52,40 +61,67 @@ cause_text causes.Unmatched = codes "unmatched"
 
 -- With `--whole` a run that is whole is judged alone: a pass then also says that each hart has exited with 0, and that each operation
 -- which has begun has ended.
-pub record Opens (command : JudgeCommand) (made : MadeRun) (recovery : Sections) (outcome : Result OpenJudge Failure) : Type 0 where
-  pub opens : MatchResult outcome (λ judge. (judge.command ≡ command) × (judge.made ≡ made) × (judge.recovery ≡ recovery)) (λ failure. ⊥)
+pub record HasOpened (command : JudgeCommand) (start : Setup) (made : MadeRun) (recovery : Sections) (judge : OpenJudge) : Type 0 where
+  pub command_is : judge.command ≡ command
+  pub start_is : judge.start ≡ start
+  pub made_is : judge.made ≡ made
+  pub recovery_is : judge.recovery ≡ recovery
+
+pub record Opens (command : JudgeCommand) (start : Setup) (made : MadeRun) (recovery : Sections) (outcome : Result OpenJudge Failure) : Type 0 where
+  pub opens : MatchResult outcome (HasOpened command start made recovery) (λ failure. ⊥)
+
+-- what the run starts from is kept beside it; memory for that may be refused
+pub record KeepsStart (s : Setup) (outcome : Result Setup Failure) : Type 0 where
+  pub keeps : MatchResult outcome (λ start. start ≡ s) (λ failure. failure ≡ Memory)
 
 -- all files are read before the run is made
 abbrev pub OpensJudge : {F : Type 0} → Reads F → JudgeCommand → Step F OpenJudge
 OpensJudge reads command =
     First (ReadsRun reads command.judged.run) (λ files.
     First (ReadsRecovery reads (string_bytes command.recovery)) (λ recovery.
+    First (Still (KeepsStart (setup_of command.judged.run files))) (λ start.
     First (Still (MakesRun (setup_of command.judged.run files) files)) (λ made.
     First (Still (MeetsWhole command.judged.run.whole made [])) (λ _.
-    Still (Opens command made recovery)))))
+    Still (Opens command start made recovery))))))
 
 -- what is known of a run that is to be judged
 pub record IsOpen (judge : OpenJudge) : Type 0 where
   pub within : IsJudgedWithin judge.command.judged
   pub program : IsProgramOf judge.made.file.items judge.made.run.setup.program
+  pub started : judge.start ≡ judge.made.run.setup
+  pub few : judge.made.run.setup.harts ≤ 8
 
 -- what is told of a failing image, by the lines of which the routine loads bytes that it hasn't stored itself, where that is asked for
 abbrev pub ExplainsFailing : OpenJudge → Verdict Cause → Result (Option ExplainedImage) Failure → Type 0
 ExplainsFailing judge verdict =
     Explains (IsLoaded judge.recovery judge.command.steps) judge.made.run (failing judge.command.judged.why verdict)
 
--- which operations may overlap, and by what the run is judged
-abbrev pub overlap_asked : Bool → Overlap
-overlap_asked true = overlaps.Always
-overlap_asked false = overlaps.Never
+-- which operations may overlap
+abbrev pub overlap_asked : RightAnswers → Overlap
+overlap_asked rights.InTurn = overlaps.Never
+overlap_asked rights.Overlapping = overlaps.Always
+overlap_asked rights.Atomic = overlaps.BetweenHarts
 
+-- whose full images give the right answers of a run that starts so
+abbrev pub right_asked : RightAnswers → Setup → RightBy
+right_asked rights.InTurn s = own_moments
+right_asked rights.Overlapping s = own_moments
+right_asked rights.Atomic s = sequential_runs s.program s.harts
+
+-- by what the run is judged
 abbrev pub judgement_asked : OpenJudge → JudgementView
 judgement_asked judge = record {
   routine = judge.recovery;
   steps = judge.command.steps;
-  overlap = overlap_asked judge.command.overlapping;
-  right = own_moments;
+  overlap = overlap_asked judge.command.right;
+  right = right_asked judge.command.right judge.made.run.setup;
 }
+
+-- a rule that says so, which has all sequential runs where these are needed
+pub record IsRuleOf (judge : OpenJudge) (rule : Rule) : Type 0 where
+  pub overlap : overlap_of rule ≡ overlap_asked judge.command.right
+  pub right : right_by rule ≡ right_asked judge.command.right judge.made.run.setup
+  pub noted : AreNotedFor judge.made.run.setup.medium judge.recovery judge.command.steps rule
 
 -- the verdict on what is asked for, or why there is none
 abbrev pub IsVerdictOf : OpenJudge → Verdict Cause → Type 0
@@ -94,7 +130,7 @@ IsVerdictOf judge =
 
 pub record JudgesOpen (judge : OpenJudge) (outcome : Result (Verdict Cause) Failure) : Type 0 where
   pub judges : MatchResult outcome (IsVerdictOf judge)
-      (Tells (IsRefusal (overlap_asked judge.command.overlapping) judge.made.run.events (first_of judge.command.judged.moments)) failure_of_judge)
+      (Tells (IsRefusal (overlap_asked judge.command.right) judge.made.run.events (first_of judge.command.judged.moments)) failure_of_judge)
 
 -- how far the judging of the moments that are asked for had come was told
 abbrev pub TellsProgress : OpenJudge → Option (List ℕ) → Option (List ℕ) → Type 0
@@ -129,10 +165,32 @@ pub record Answers {E : Type 0} (said : E → Option (List ℕ)) (verdict : Verd
   pub answers : outcome ≡ Ok answer
   pub notes : Notes said verdict errors errors'
 
--- what it comes to
-abbrev pub JudgesRun : {E : Type 0} → (E → Option (List ℕ)) → OpenJudge → Step E Answer
-JudgesRun said judge =
+-- what the run comes to by the right answers
+abbrev pub JudgesRight : {E : Type 0} → (E → Option (List ℕ)) → OpenJudge → Step E Answer
+JudgesRight said judge =
     First (Watches said judge) (λ verdict.
     First (Still (ExplainsFailing judge verdict)) (λ why.
     First (Still (Prints (told_verdict cause_text judge.command.judged.json verdict ++ told_why judge.command.judged.json judge.made why) (verdict_status verdict)))
     (Answers said verdict)))
+
+-- the sequential runs of the program are known, all of them, or a bound that the search for them passes
+abbrev pub AreRunsFor : OpenJudge → Sequential → Type 0
+AreRunsFor judge = AreAllNoted (program_of judge.made.run.setup judge.recovery judge.command.steps)
+
+-- they are found with `--atomic` alone, and memory for them may be refused
+abbrev pub AreRunsAsked : OpenJudge → Option Sequential → Type 0
+AreRunsAsked judge None = judge.command.right ≢ rights.Atomic
+AreRunsAsked judge (Some runs) = (judge.command.right ≡ rights.Atomic) × AreRunsFor judge runs
+
+pub record FindsRuns (judge : OpenJudge) (outcome : Result (Option Sequential) Failure) : Type 0 where
+  pub finds : MatchResult outcome (AreRunsAsked judge) (λ failure. (judge.command.right ≡ rights.Atomic) × (failure ≡ Memory))
+
+-- without all of them there is no verdict, but the bound
+abbrev pub JudgesBy : {E : Type 0} → (E → Option (List ℕ)) → OpenJudge → Option Sequential → Step E Answer
+JudgesBy said judge None = JudgesRight said judge
+JudgesBy said judge (Some (known.All runs states)) = JudgesRight said judge
+JudgesBy said judge (Some (known.TooMany bound)) = Still (Prints (told_bound judge.command.judged.json judge.command.states bound) 3)
+
+-- what the run comes to
+abbrev pub JudgesRun : {E : Type 0} → (E → Option (List ℕ)) → OpenJudge → Step E Answer
+JudgesRun said judge = First (Still (FindsRuns judge)) (λ runs. JudgesBy said judge runs)

@@ -226,7 +226,12 @@ fn told_pass(alloc: Global, states: usize, moments: usize, json: bool) -> Result
 }
 
 /// The search came to a bound, that of so many states or another.
-fn told_bound(alloc: Global, states: u32, bound: Bound, json: bool) -> Result<String, AllocError>
+pub(crate) fn told_bound(
+    alloc: Global,
+    states: u32,
+    bound: Bound,
+    json: bool,
+) -> Result<String, AllocError>
     ensures { IfOk result (λ text. string_bytes text ≡ told_bound json states bound) }
 {
     if json {

@@ -1,30 +1,35 @@
 //! The command that judges a run by a recovery routine.
 
 ghost use Rattle.arguments.specs.Line.{IsJudgedWithin};
-ghost use Rattle.command_line.specs.Judging.{ExplainsFailing, IsOpen, JudgesOpen, JudgesRun, Notes, OpensJudge, TellsProgress, Watches, cause_text, judgement_asked, missing_text, note_of};
+ghost use Rattle.arguments.specs.declared.asked.RightAnswers.TheVariants.{Atomic};
+ghost use Rattle.command_line.specs.Judging.{AreRunsFor, ExplainsFailing, IsOpen, IsRuleOf, JudgesOpen, JudgesRight, JudgesRun, KeepsStart, Notes, OpensJudge, TellsProgress, Watches, cause_text, judgement_asked, missing_text, note_of};
+ghost use Rattle.command_line.specs.Reading.{setup_of};
 ghost use Rattle.routine_judge.specs.Rules.{AreNotedFor, judgement_view};
 ghost use Rattle.command_line.specs.Progress.{IsToldIf};
 ghost use Rattle.command_line.specs.Reasons.{ExplainsOne};
 ghost use Rattle.crash_test.specs.Loading.{IsLoaded};
 ghost use Rattle.machine.specs.Grammar.{hart_steps};
-ghost use Rattle.std.specs.Prelude.{◌≡◌, ◌^◌, ◌<◌, ℕ, List, IfOk, IfSome, OnOk, string_bytes};
+ghost use Rattle.std.specs.Prelude.{◌≡◌, ◌^◌, ◌<◌, IfOk, IfSome, OnOk, string_bytes};
 ghost use Rattle.std.specs.Io.KnownBytes.{Appends};
 
 use crate::answer::Answer;
+use crate::check_all::told_bound;
 use crate::failure::Failure;
 use crate::files::Files;
-use crate::made_run::make_run;
+use crate::made_run::{make_run, setup};
 use crate::opened::OpenJudge;
 use crate::progress::Reporter;
-use crate::reading::{read_recovery, read_run};
+use crate::reading::{RunFiles, read_recovery, read_run};
 use crate::streams::print;
 use crate::verdicts::{ToldCause, failing, verdict_answer, work};
 use crate::whole::demand_whole;
-use arguments::JudgeCommand;
+use arguments::{JudgeCommand, RightAnswers, ScheduledRun};
 use crash_test::{ExplainedImage, Judgement, RoutineReader, explain_losses, judge_program};
 use debugger::Failed;
+use every_schedule::{Recovery, Sequential, sequential_runs};
+use machine::Setup;
 use recovery::Cause as RunCause;
-use routine_judge::{Cause, Rule, Verdict};
+use routine_judge::{Cause, ProgramRuns, Rule, Verdict};
 use std::alloc::{AllocError, Global};
 use std::io::Write;
 use std::thread::Threads;
@@ -48,17 +53,28 @@ pub(crate) fn open_judge<F: Files>(
     let run = &command.judged.run;
     let read = read_run(alloc, run, files)?;
     let recovery = read_recovery(alloc, command.recovery.as_str(), files)?;
+    let start = start_of(alloc, run, &read)?;
     let made = make_run(alloc, run, read)?;
     demand_whole(alloc, run.whole, &made, &[])?;
     Ok(OpenJudge {
         command,
+        start,
         made,
         recovery,
     })
 }
 
-/// Gives the verdict on a run by a recovery routine. With `--progress` standard error gets how far it has come, and where no moment is judged
-/// a line that says so.
+/// What a run starts from, beside the run that is made of the same files.
+fn start_of(alloc: Global, run: &ScheduledRun, read: &RunFiles) -> Result<Setup, Failure>
+    ensures { KeepsStart (setup_of run.now read.now) result }
+{
+    let program = read.program.copy(alloc)?;
+    let medium = read.medium.copy(alloc)?;
+    Ok(setup(&run.machine, program, medium))
+}
+
+/// Gives the verdict on a run by a recovery routine, with `--atomic` once the sequential runs of its program are found. With `--progress`
+/// standard error gets how far it has come, and where no moment is judged a line that says so.
 pub(crate) fn judge_run<T: Threads + Sync + Clock, E: Write>(
     rt: &T,
     alloc: Global,
@@ -68,7 +84,71 @@ pub(crate) fn judge_run<T: Threads + Sync + Clock, E: Write>(
     requires { IsOpen judge.now }
     ensures { JudgesRun E.contents judge.now errors.old result errors.new }
 {
-    let verdict = verdict(rt, alloc, judge, errors)?;
+    match judge.command.right {
+        RightAnswers::InTurn => judge_by(rt, alloc, judge, Rule::InTurn, errors),
+        RightAnswers::Overlapping => judge_by(rt, alloc, judge, Rule::Overlapping, errors),
+        RightAnswers::Atomic => judge_atomic(rt, alloc, judge, errors),
+    }
+}
+
+/// Finds the sequential runs of the program, and gives the verdict by them, or the bound that they pass.
+fn judge_atomic<T: Threads + Sync + Clock, E: Write>(
+    rt: &T,
+    alloc: Global,
+    judge: &OpenJudge,
+    errors: &mut E,
+) -> Result<Answer, Failure>
+    requires open { IsOpen judge.now }
+    requires atomic { judge.now.command.right ≡ Atomic }
+    ensures { JudgesRun E.contents judge.now errors.old result errors.new }
+{
+    let OpenJudge { command, start, .. } = judge;
+    let found = runs_for(rt, alloc, judge)?;
+    match found {
+        Sequential::All { runs, .. } => {
+            let rule = Rule::Atomic(ProgramRuns {
+                program: &start.program,
+                harts: start.harts,
+                runs: &runs,
+            });
+            judge_by(rt, alloc, judge, rule, errors)
+        }
+        Sequential::TooMany(bound) => {
+            let text = told_bound(alloc, command.states, bound, command.judged.json)?;
+            Ok(Answer::of(text, 3))
+        }
+    }
+}
+
+/// The sequential runs of the program, with what the recovery routine answers behind each of them.
+fn runs_for<T: Threads + Sync>(
+    rt: &T,
+    alloc: Global,
+    judge: &OpenJudge,
+) -> Result<Sequential, AllocError>
+    requires { IsOpen judge.now }
+    ensures { IfOk result (AreRunsFor judge.now) }
+{
+    let recovery = Recovery {
+        program: &judge.recovery,
+        steps: judge.command.steps,
+    };
+    sequential_runs(rt, alloc, &judge.start, recovery, judge.command.states)
+}
+
+/// Gives the verdict on a run by a rule for right answers.
+fn judge_by<T: Threads + Sync + Clock, E: Write>(
+    rt: &T,
+    alloc: Global,
+    judge: &OpenJudge,
+    rule: Rule<'_>,
+    errors: &mut E,
+) -> Result<Answer, Failure>
+    requires open { IsOpen judge.now }
+    requires rule { IsRuleOf judge.now rule }
+    ensures { JudgesRight E.contents judge.now errors.old result errors.new }
+{
+    let verdict = verdict(rt, alloc, judge, rule, errors)?;
     let why = why(alloc, judge, &verdict)?;
     let answer = verdict_answer(
         alloc,
@@ -86,14 +166,16 @@ fn verdict<T: Threads + Sync + Clock, E: Write>(
     rt: &T,
     alloc: Global,
     judge: &OpenJudge,
+    rule: Rule<'_>,
     errors: &mut E,
 ) -> Result<Verdict<Cause>, Failure>
-    requires { IsOpen judge.now }
+    requires open { IsOpen judge.now }
+    requires rule { IsRuleOf judge.now rule }
     ensures { Watches E.contents judge.now errors.old result errors.new }
 {
     let judged = &judge.command.judged;
     let mut reporter = Reporter::new(alloc, rt, errors, judged.progress, judged.workers);
-    told_verdict(rt, alloc, judge, &mut reporter)
+    told_verdict(rt, alloc, judge, rule, &mut reporter)
 }
 
 /// The verdict, of which the reporter is told.
@@ -101,9 +183,11 @@ fn told_verdict<T: Threads + Sync + Clock, E: Write>(
     rt: &T,
     alloc: Global,
     judge: &OpenJudge,
+    rule: Rule<'_>,
     reporter: &mut Reporter<T, E>,
 ) -> Result<Verdict<Cause>, Failure>
-    requires { IsOpen judge.now }
+    requires open { IsOpen judge.now }
+    requires rule { IsRuleOf judge.now rule }
     ensures same { reporter.new.errors.ghost_name ≡ reporter.old.errors.ghost_name }
     ensures judges { JudgesOpen judge.now result }
     ensures told { IsToldIf reporter.old.is_wanted (TellsProgress judge.now (E.contents reporter.old.errors.now) (E.contents reporter.new.errors.now))
@@ -111,19 +195,16 @@ fn told_verdict<T: Threads + Sync + Clock, E: Write>(
 {
     let OpenJudge { command, made, .. } = judge;
     let work = work(&command.judged);
-    Ok(judge_program(rt, alloc, &made.run, judgement(judge), work, reporter)?)
+    let judgement = judgement(judge, rule);
+    Ok(judge_program(rt, alloc, &made.run, judgement, work, reporter)?)
 }
 
 /// How the command says that the run is judged.
-fn judgement(judge: &OpenJudge) -> Judgement<'_>
+fn judgement<'a>(judge: &'a OpenJudge, rule: Rule<'a>) -> Judgement<'a>
+    requires { IsRuleOf judge.now rule }
     ensures asked { judgement_view result ≡ judgement_asked judge.now }
-    ensures noted { (medium : List (List ℕ)) → AreNotedFor medium result.recovery.now result.steps result.rule }
+    ensures noted { AreNotedFor judge.now.made.run.setup.medium result.recovery.now result.steps result.rule }
 {
-    let rule = if judge.command.overlapping {
-        Rule::Overlapping
-    } else {
-        Rule::InTurn
-    };
     Judgement {
         recovery: &judge.recovery,
         steps: judge.command.steps,

@@ -61,7 +61,7 @@ pub(crate) fn make_run(
 }
 
 /// What a run of a program starts from, on the machine that the options ask for.
-fn setup(options: &MachineOptions, program: Program, medium: Medium) -> Setup
+pub(crate) fn setup(options: &MachineOptions, program: Program, medium: Medium) -> Setup
     ensures { result ≡ machine_of options.now program medium }
 {
     let capacity = capacity(options, &medium);

@@ -18,6 +18,8 @@ pub struct OpenCheck {
 #[derive(Drop)]
 pub struct OpenJudge {
     pub(crate) command: JudgeCommand,
+    /// What the run starts from.
+    pub(crate) start: Setup,
     pub(crate) made: MadeRun,
     pub(crate) recovery: Program,
 }

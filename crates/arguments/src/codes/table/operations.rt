@@ -29,7 +29,7 @@ static OPERATIONS: [Row; 11] = [
     (
         "O5",
         "an operation that begins while another one is pending",
-        "End one before the other begins, or let `judge` take them by `--overlapping`.",
+        "End one before the other begins, or let `judge` take those of different harts by `--atomic`, or all by `--overlapping`.",
     ),
     (
         "O6",

@@ -1,52 +1,21 @@
--- Each step in its turn.
-use Rattle.std.proofs.Common.{Ok, Err, refl, rules}
+-- Sequential runs are found with `--atomic` alone.
+use Rattle.std.proofs.Common.{◌≡◌, ◌∙◌, Ok, None, refl, sym}
+use Rattle.arguments.specs.declared.asked.RightAnswers.{RightAnswers}
+use Rattle.arguments.specs.declared.asked.RightAnswers.TheVariants.{Atomic, InTurn, Overlapping}
 use Rattle.command_line.proofs.judge.judge_run.Goals as goal
 
-pub returns : goal.returns
-returns g c = record {
-  found = Ok c.in_ok-verdict.verdict;
-  between = c.verdict.new.errors;
-  first = rw c.in_ok-verdict.was at c.verdict.ensures;
-  after = record {
-    found = Ok c.in_ok-why.why;
-    between = c.verdict.new.errors;
-    first = record { value = rw c.in_ok-why.was at c.why.ensures.told; untouched = refl };
-    after = record {
-      found = Ok c.in_ok-answer.answer;
-      between = c.verdict.new.errors;
-      first = record { value = rw c.in_ok-answer.was at c.verdict_answer.ensures; untouched = refl };
-      after = record { answers = refl; notes = c.note_none.ensures.front };
-    };
-  };
+pub returns-in-InTurn : goal.returns-in-InTurn
+returns-in-InTurn g c = record {
+  found = Ok None;
+  between = c.args.errors.now;
+  first = record { value = record { finds = λ e. let never : InTurn ≡ Atomic = sym c.in-InTurn.is ∙ e in absurd cc }; untouched = refl };
+  after = c.judge_by.ensures;
 }
 
-pub returns-in_err-why : goal.returns-in_err-why
-returns-in_err-why g c = record {
-  found = Ok c.in_ok-verdict.verdict;
-  between = c.verdict.new.errors;
-  first = rw c.in_ok-verdict.was at c.verdict.ensures;
-  after = record {
-    found = Err c.in_err-why.field-0.0;
-    between = c.verdict.new.errors;
-    first = record { value = rw c.in_err-why.was at c.why.ensures.told; untouched = refl };
-    after = (search rules, refl);
-  };
-}
-
-pub returns-in_err-answer : goal.returns-in_err-answer
-returns-in_err-answer g c = record {
-  found = Ok c.in_ok-verdict.verdict;
-  between = c.verdict.new.errors;
-  first = rw c.in_ok-verdict.was at c.verdict.ensures;
-  after = record {
-    found = Ok c.in_ok-why.why;
-    between = c.verdict.new.errors;
-    first = record { value = rw c.in_ok-why.was at c.why.ensures.told; untouched = refl };
-    after = record {
-      found = Err c.in_err-answer.field-0.0;
-      between = c.verdict.new.errors;
-      first = record { value = rw c.in_err-answer.was at c.verdict_answer.ensures; untouched = refl };
-      after = (search rules, refl);
-    };
-  };
+pub returns-in-Overlapping : goal.returns-in-Overlapping
+returns-in-Overlapping g c = record {
+  found = Ok None;
+  between = c.args.errors.now;
+  first = record { value = record { finds = λ e. let never : Overlapping ≡ Atomic = sym c.in-Overlapping.is ∙ e in absurd cc }; untouched = refl };
+  after = c.judge_by-in-Overlapping.ensures;
 }

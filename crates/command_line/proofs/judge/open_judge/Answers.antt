@@ -12,14 +12,19 @@ returns-clause-opens g c = record {
     between = c.read_recovery.new.files;
     first = rw (c.in_ok-recovery.was, c.as_str.ensures.value) at c.read_recovery.ensures;
     after = record {
-      found = Ok c.in_ok-made.made;
+      found = Ok c.in_ok-start.start;
       between = c.read_recovery.new.files;
-      first = record { value = rw c.in_ok-made.was at c.make_run.ensures.makes; untouched = refl };
+      first = record { value = rw c.in_ok-start.was at c.start_of-start.ensures; untouched = refl };
       after = record {
-        found = Ok tt;
+        found = Ok c.in_ok-made.made;
         between = c.read_recovery.new.files;
-        first = record { value = rw c.in_ok-demand_whole.was at c.demand_whole.ensures; untouched = refl };
-        after = record { value = record { opens = (refl, refl, refl) }; untouched = refl };
+        first = record { value = rw c.in_ok-made.was at c.make_run.ensures.makes; untouched = refl };
+        after = record {
+          found = Ok tt;
+          between = c.read_recovery.new.files;
+          first = record { value = rw c.in_ok-demand_whole.was at c.demand_whole.ensures; untouched = refl };
+          after = record { value = record { opens = record { command_is = refl; start_is = refl; made_is = refl; recovery_is = refl } }; untouched = refl };
+        };
       };
     };
   };
@@ -35,14 +40,19 @@ returns-in_err-demand_whole-clause-opens g c = record {
     between = c.read_recovery.new.files;
     first = rw (c.in_ok-recovery.was, c.as_str.ensures.value) at c.read_recovery.ensures;
     after = record {
-      found = Ok c.in_ok-made.made;
+      found = Ok c.in_ok-start.start;
       between = c.read_recovery.new.files;
-      first = record { value = rw c.in_ok-made.was at c.make_run.ensures.makes; untouched = refl };
+      first = record { value = rw c.in_ok-start.was at c.start_of-start.ensures; untouched = refl };
       after = record {
-        found = Err c.in_err-demand_whole.field-0.0;
+        found = Ok c.in_ok-made.made;
         between = c.read_recovery.new.files;
-        first = record { value = rw c.in_err-demand_whole.was at c.demand_whole.ensures; untouched = refl };
-        after = (search (rules, c.from_residual-in_err-demand_whole.ensures), refl);
+        first = record { value = rw c.in_ok-made.was at c.make_run.ensures.makes; untouched = refl };
+        after = record {
+          found = Err c.in_err-demand_whole.field-0.0;
+          between = c.read_recovery.new.files;
+          first = record { value = rw c.in_err-demand_whole.was at c.demand_whole.ensures; untouched = refl };
+          after = (search (rules, c.from_residual-in_err-demand_whole.ensures), refl);
+        };
       };
     };
   };
@@ -58,10 +68,15 @@ returns-in_err-made-clause-opens g c = record {
     between = c.read_recovery.new.files;
     first = rw (c.in_ok-recovery.was, c.as_str.ensures.value) at c.read_recovery.ensures;
     after = record {
-      found = Err c.in_err-made.field-0.0;
+      found = Ok c.in_ok-start.start;
       between = c.read_recovery.new.files;
-      first = record { value = rw c.in_err-made.was at c.make_run.ensures.makes; untouched = refl };
-      after = (search (rules, c.from_residual-in_err-made.ensures), refl);
+      first = record { value = rw c.in_ok-start.was at c.start_of-start.ensures; untouched = refl };
+      after = record {
+        found = Err c.in_err-made.field-0.0;
+        between = c.read_recovery.new.files;
+        first = record { value = rw c.in_err-made.was at c.make_run.ensures.makes; untouched = refl };
+        after = (search (rules, c.from_residual-in_err-made.ensures), refl);
+      };
     };
   };
 }
@@ -76,5 +91,23 @@ returns-in_err-recovery-clause-opens g c = record {
     between = c.read_recovery.new.files;
     first = rw (c.in_err-recovery.was, c.as_str.ensures.value) at c.read_recovery.ensures;
     after = (search (rules, c.from_residual-in_err-recovery.ensures), refl);
+  };
+}
+
+pub returns-in_err-start-clause-opens : goal.returns-in_err-start-clause-opens
+returns-in_err-start-clause-opens g c = record {
+  found = Ok c.in_ok-read.read;
+  between = c.read_run.new.files;
+  first = rw c.in_ok-read.was at c.read_run.ensures.reads;
+  after = record {
+    found = Ok c.in_ok-recovery.recovery;
+    between = c.read_recovery.new.files;
+    first = rw (c.in_ok-recovery.was, c.as_str.ensures.value) at c.read_recovery.ensures;
+    after = record {
+      found = Err c.in_err-start.field-0.0;
+      between = c.read_recovery.new.files;
+      first = record { value = rw c.in_err-start.was at c.start_of-start.ensures; untouched = refl };
+      after = (search (rules, c.from_residual-in_err-start.ensures), refl);
+    };
   };
 }

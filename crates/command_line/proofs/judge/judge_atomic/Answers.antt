@@ -1,0 +1,40 @@
+-- First the sequential runs, and then the verdict by all of them, or the bound that they pass.
+use Rattle.std.proofs.Common.{Ok, Err, Some, refl, rules}
+use Rattle.command_line.proofs.Started.{rule_of_runs}
+use Rattle.command_line.proofs.judge.judge_atomic.Goals as goal
+
+pub judge_by-requires-clause-rule : goal.judge_by-requires-clause-rule
+judge_by-requires-clause-rule g c =
+    rule_of_runs c.args.judge.now _ c.requires.open.started c.requires.atomic refl refl (rw c.in-All.is at c.in_ok-found.ensures)
+
+pub returns-in-All : goal.returns-in-All
+returns-in-All g c = record {
+  found = Ok (Some c.in_ok-found.found);
+  between = c.args.errors.now;
+  first = record { value = record { finds = (c.requires.atomic, c.in_ok-found.ensures) }; untouched = refl };
+  after = rw c.in-All.is c.judge_by.ensures;
+}
+
+pub returns-in_ok-text-in-TooMany : goal.returns-in_ok-text-in-TooMany
+returns-in_ok-text-in-TooMany g c = record {
+  found = Ok (Some c.in_ok-found.found);
+  between = c.args.errors.now;
+  first = record { value = record { finds = (c.requires.atomic, c.in_ok-found.ensures) }; untouched = refl };
+  after = rw c.in-TooMany.is (record { value = search rules; untouched = refl });
+}
+
+pub returns-in_err-text-in-TooMany : goal.returns-in_err-text-in-TooMany
+returns-in_err-text-in-TooMany g c = record {
+  found = Ok (Some c.in_ok-found.found);
+  between = c.args.errors.now;
+  first = record { value = record { finds = (c.requires.atomic, c.in_ok-found.ensures) }; untouched = refl };
+  after = rw c.in-TooMany.is (record { value = search rules; untouched = refl });
+}
+
+pub returns-in_err-found : goal.returns-in_err-found
+returns-in_err-found g c = record {
+  found = c.result;
+  between = c.args.errors.now;
+  first = record { value = search rules; untouched = refl };
+  after = (search rules, refl);
+}
