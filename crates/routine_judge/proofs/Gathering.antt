@@ -196,9 +196,6 @@ answers_kept view (Either before after) moment right a = a
 answers_kept view (Through first last) moment right a = a
 
 -- moments in a row, one more at a time
-pub none_yet : (first i : ℕ) → false ≡ (nat_le first i && nat_lt i first)
-none_yet first i = grind (arith, nat_tests)
-
 pub one_more : (first moment i : ℕ) → first ≤ moment → ((nat_le first i && nat_lt i moment) || (i == moment)) ≡ (nat_le first i && nat_lt i (moment + 1))
 one_more first moment i f = grind (arith, nat_tests)
 

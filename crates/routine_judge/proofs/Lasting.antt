@@ -1,5 +1,5 @@
 -- Which changes have to last, and from when on.
-use Rattle.std.proofs.Common.{◌≡◌, ◌≢◌, ◌∙◌, ℕ, ◌+◌, ◌-◌, ◌<◌, ◌≤◌, Bool, true, false, inl, inr, List, length, get_or, slice_get, take, refl, sym, ap, subst, arith, Option, Some, None, Result}
+use Rattle.std.proofs.Common.{◌≡◌, ◌∙◌, ℕ, ◌+◌, ◌-◌, ◌<◌, ◌≤◌, Bool, true, false, inl, inr, List, length, get_or, slice_get, take, refl, sym, ap, subst, arith, Some, None}
 use Rattle.std.specs.List.{Contains}
 use Rattle.std.specs.Prelude.{◌↔◌, IsTrue, max}
 use Rattle.std.proofs.lemmas.Option.{slice_get-get_or, get_or_from_slice_get}
@@ -18,13 +18,9 @@ use Rattle.routine_judge.specs.Views.{JudgeView}
 use Rattle.routine_judge.specs.Windows.{IsBegunAt, IsPendingFrom, IsPendingOn, IsWindow}
 use Rattle.routine_judge.specs.declared.history.moments.Window.{Window}
 use Rattle.routine_judge.specs.declared.history.moments.Window.TheVariants.{Itself, Either, Through}
-use Rattle.recovery.specs.declared.recovery_run.Cause as run
-use Rattle.store_trace.specs.Marks.{begun_by, ended, ended_by}
+use Rattle.store_trace.specs.Marks.{ended}
 use Rattle.store_trace.specs.declared.event.Event.{Event}
 use Rattle.store_trace.specs.declared.event.Event.TheVariants.{Begin}
-
-abbrev Found : Type 0
-Found = Result (List ℕ) run.Cause
 
 -- of the operations that the hart began in the first `at` events, until when those are pending that are pending at moment m
 pub record IsFreeUpTo (events : List Event) (numbers : List ℕ) (m hart at latest : ℕ) : Type 0 where

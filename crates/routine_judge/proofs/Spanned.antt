@@ -1,36 +1,19 @@
 -- What a span of moments shows, one moment more.
-use Rattle.std.proofs.Common.{◌≡◌, ◌≢◌, ◌∙◌, ◌&&◌, ◌||◌, ◌==◌, ℕ, ◌+◌, ◌-◌, ◌<◌, ◌≤◌, ◌⊎◌, Bool, true, false, inl, inr, List, [], ◌∷◌, ◌++◌, length, length-append, get_or, nat_lt, refl, sym, ap, subst, arith, Result}
+use Rattle.std.proofs.Common.{◌≡◌, ◌&&◌, ◌||◌, ◌==◌, ℕ, ◌+◌, ◌-◌, ◌<◌, ◌≤◌, Bool, true, false, inl, inr, List, [], ◌∷◌, ◌++◌, length, length-append, get_or, nat_lt, refl, sym, subst, arith, Result}
 use Rattle.std.specs.Prelude.{◌↔◌, IsTrue, nat_le, not}
 use Rattle.routine_judge.proofs.Marked.{not_true, true_of}
 use Rattle.std.proofs.lemmas.Bool.{cases_lt}
 use Rattle.std.proofs.lemmas.List.{get_or_append_left, get_or_at}
-use Rattle.routine_judge.proofs.Gathering.{added, all_taken, answers_of_none, before_it, none_yet, one_more, same_answers}
+use Rattle.routine_judge.proofs.Gathering.{added, before_it, one_more, same_answers}
 use Rattle.routine_judge.specs.Gathered.{AreAnswers, IsAdded}
 use Rattle.routine_judge.specs.RightAnswers.{ShowsFull, of_moments}
-use Rattle.routine_judge.specs.SpanAnswers.{AreFullAnswers, AreLasting, IsBehind, LastsFrom, TellsChange}
+use Rattle.routine_judge.specs.SpanAnswers.{AreFullAnswers, AreLasting, LastsFrom, TellsChange}
 use Rattle.routine_judge.specs.Views.{JudgeView}
 use Rattle.routine_judge.specs.declared.right.RightAnswers.{RightAnswers}
 use Rattle.recovery.specs.declared.recovery_run.Cause as run
 
 abbrev Found : Type 0
 Found = Result (List ℕ) run.Cause
-
-pub founds_none : (view : JudgeView) (first : ℕ) → AreFullAnswers view first []
-founds_none view first = λ k d inside. absurd (omega (arith, inside))
-
-pub founds_more : (view : JudgeView) (first m : ℕ) (founds : List Found) (found : Found) → AreFullAnswers view first founds → first + length founds ≡ m →
-    ShowsFull view m found → AreFullAnswers view first (founds ++ found ∷ [])
-founds_more view first m founds found are count shown = λ k d inside. elim (cases_lt k (length founds)) [
-  | inl earlier ↦ subst (λ (x : Found). ShowsFull view (first + k) x) (sym (get_or_append_left founds (found ∷ []) d k earlier)) (are k d earlier)
-  | inr late ↦
-      let size = length-append founds (found ∷ []) in
-      let same : length founds ≡ k = omega (arith, late, inside, size) in
-      let place : m ≡ first + k = omega (arith, same, count) in
-      subst (λ (x : Found). ShowsFull view (first + k) x) (sym (get_or_at founds found [] d k same)) (subst (λ (n : ℕ). ShowsFull view n found) place shown)
-]
-
-pub lasts_none : (view : JudgeView) (first : ℕ) → AreLasting view first []
-lasts_none view first = λ k inside. absurd (omega (arith, inside))
 
 pub lasts_more : (view : JudgeView) (first i : ℕ) (lasts : List ℕ) (n : ℕ) → AreLasting view first lasts → first + length lasts ≡ i → LastsFrom view i n →
     AreLasting view first (lasts ++ n ∷ [])
@@ -42,37 +25,6 @@ lasts_more view first i lasts n are count tells = λ k inside. elim (cases_lt k 
       let place : i ≡ first + k = omega (arith, same, count) in
       subst (λ (x : ℕ). LastsFrom view (first + k) x) (sym (get_or_at lasts n [] 0 k same)) (subst (λ (j : ℕ). LastsFrom view j n) place tells)
 ]
-
-pub behind_none : (lasts : List ℕ) (first m : ℕ) → IsBehind lasts first m 0 first
-behind_none lasts first m = record {
-  within = omega arith;
-  behind = λ k before. absurd (omega (arith, before));
-  least = inl refl;
-}
-
-pub behind_taken : (lasts : List ℕ) (first m at from : ℕ) → IsBehind lasts first m at from → 0 < get_or lasts at 0 → get_or lasts at 0 ≤ m →
-    IsBehind lasts first m (at + 1) (first + at + 1)
-behind_taken lasts first m at from b positive low = record {
-  within = omega arith;
-  behind = λ k before. λ p l. omega (arith, before);
-  least = inr (at, omega arith, positive, low, refl);
-}
-
-pub behind_left : (lasts : List ℕ) (first m at from : ℕ) → IsBehind lasts first m at from → (0 < get_or lasts at 0 → get_or lasts at 0 ≤ m → ⊥) →
-    IsBehind lasts first m (at + 1) from
-behind_left lasts first m at from b none = record {
-  within = let w = b.within in omega (arith, w);
-  behind = λ k before p l. elim (cases_lt k at) [
-    | inl earlier ↦ b.behind k earlier p l
-    | inr late ↦
-        let same : k ≡ at = omega (arith, late, before) in
-        absurd (none (subst (λ (j : ℕ). 0 < get_or lasts j 0) same p) (subst (λ (j : ℕ). get_or lasts j 0 ≤ m) same l))
-  ];
-  least = elim b.least [
-    | inl same ↦ inl same
-    | inr later ↦ inr (later.0, let before = later.1 in omega (arith, before), later.2, later.3, later.4)
-  ];
-}
 
 -- the right answers of some moments in a row, one more
 pub answers_more : (view : JudgeView) (from moment : ℕ) (found : Found) (old new : RightAnswers) → from ≤ moment → IsAdded found old new → ShowsFull view moment found →

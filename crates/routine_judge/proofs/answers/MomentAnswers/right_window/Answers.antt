@@ -1,5 +1,5 @@
 -- The window of a moment, without the moments before a change that has to last.
-use Rattle.std.proofs.Common.{◌≡◌, ◌∙◌, ℕ, ◌+◌, ◌<◌, ◌≤◌, List, length, vec_len, ap, refl, subst, sym, arith}
+use Rattle.std.proofs.Common.{◌≡◌, ◌∙◌, ℕ, ◌+◌, ◌≤◌, List, length, vec_len, ap, refl, subst, sym, arith}
 use Rattle.routine_judge.proofs.Lasting.{first_behind}
 use Rattle.routine_judge.proofs.Marked.{true_of}
 use Rattle.routine_judge.specs.RightAnswers.{IsFirstBehind, IsRightWindow}

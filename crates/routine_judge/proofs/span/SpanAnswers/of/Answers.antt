@@ -2,7 +2,6 @@ use Rattle.std.proofs.Common.{◌≡◌, ◌∙◌, ap, sym, subst, arith, lengt
 use Rattle.recovery.specs.declared.recovery_run.Cause as run
 use Rattle.routine_judge.specs.SpanAnswers.{AreFullAnswers}
 use Rattle.routine_judge.specs.Views.{JudgeView}
-use Rattle.store_trace.specs.declared.event.Event.{Event}
 use Rattle.routine_judge.proofs.span.SpanAnswers.of.Goals as goal
 
 pub returns-clause-span : goal.returns-clause-span
