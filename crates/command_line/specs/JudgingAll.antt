@@ -4,7 +4,7 @@ use Rattle.arguments.specs.declared.asked.JudgeAllCommand.{JudgeAllCommand}
 use Rattle.arguments.specs.declared.asked.JudgedProgram.{JudgedProgram}
 use Rattle.crash_test.specs.Loading.{IsLoaded}
 use Rattle.crash_test.specs.Programs.{IsProgramOf}
-use Rattle.every_schedule.specs.AllAnswers.{AllAnswer, AllSurviveRightly, IsFoundRightly, SomeBegins}
+use Rattle.every_schedule.specs.AllAnswers.{AllAnswer, AllAnswerOnMachines, IsFoundByRoutine, SomeBegins}
 use Rattle.every_schedule.specs.EverySchedule.{AllEndWell, IfPass}
 use Rattle.every_schedule.specs.Sequential.{program_of}
 use Rattle.every_schedule.specs.declared.outcome.Outcome.{Outcome}
@@ -54,9 +54,9 @@ pub record IsOpen (judge : OpenJudgeAll) : Type 0 where
 -- `judge --atomic` finds this fault of it. Memory may be refused.
 pub record FindsAll (judged : JudgedProgram) (view : ProgramView) (s : Setup) (outcome : Result (Outcome Cause MarkFault) Failure) : Type 0 where
   pub pass : IfOk outcome (λ found. IfPass found (AllAnswer view × SomeBegins s))
-  pub survives : IfOk outcome (λ found. IfPass found (AllSurviveRightly view))
+  pub survives : IfOk outcome (λ found. IfPass found (AllAnswerOnMachines view))
   pub whole : judged.any_end ≡ false → IfOk outcome (λ found. IfPass found (AllEndWell s))
-  pub found : IfOk outcome (IsFoundRightly view s)
+  pub found : IfOk outcome (IsFoundByRoutine view s)
   pub memory : IfErr outcome (λ failure. failure ≡ failures.Memory)
 
 -- how it is told

@@ -5,7 +5,6 @@
 //! What is tested stands in tables. A test asks for the first place of a table whose call comes to something else than is said
 //! there, and machines and memory stay in functions that give back plain data.
 
-mod atomic_orders;
 mod hostile;
 mod images;
 mod library_messages;
