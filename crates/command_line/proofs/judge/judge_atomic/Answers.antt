@@ -1,11 +1,12 @@
 -- First the sequential runs, and then the verdict by all of them, or the bound that they pass.
 use Rattle.std.proofs.Common.{Ok, Err, Some, refl, rules}
+use Rattle.command_line.specs.declared.failure.Failure.TheVariants.{Memory}
 use Rattle.command_line.proofs.Started.{rule_of_runs}
 use Rattle.command_line.proofs.judge.judge_atomic.Goals as goal
 
 pub judge_by-requires-clause-rule : goal.judge_by-requires-clause-rule
 judge_by-requires-clause-rule g c =
-    rule_of_runs c.args.judge.now _ c.requires.open.started c.requires.atomic refl refl (rw c.in-All.is at c.in_ok-found.ensures)
+    λ κs within. rule_of_runs c.args.judge.now _ c.requires.open.started c.requires.atomic refl refl (rw c.in-All.is at c.in_ok-found.ensures)
 
 pub returns-in-All : goal.returns-in-All
 returns-in-All g c = record {
@@ -33,8 +34,8 @@ returns-in_err-text-in-TooMany g c = record {
 
 pub returns-in_err-found : goal.returns-in_err-found
 returns-in_err-found g c = record {
-  found = c.result;
+  found = Err Memory;
   between = c.args.errors.now;
-  first = record { value = search rules; untouched = refl };
-  after = (search rules, refl);
+  first = record { value = record { finds = (c.requires.atomic, refl) }; untouched = refl };
+  after = (search (rules, c.from_residual.ensures), refl);
 }

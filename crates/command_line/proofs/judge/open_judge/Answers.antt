@@ -14,7 +14,7 @@ returns-clause-opens g c = record {
     after = record {
       found = Ok c.in_ok-start.start;
       between = c.read_recovery.new.files;
-      first = record { value = rw c.in_ok-start.was at c.start_of-start.ensures; untouched = refl };
+      first = record { value = rw c.in_ok-start.was at c.start_of.ensures; untouched = refl };
       after = record {
         found = Ok c.in_ok-made.made;
         between = c.read_recovery.new.files;
@@ -42,7 +42,7 @@ returns-in_err-demand_whole-clause-opens g c = record {
     after = record {
       found = Ok c.in_ok-start.start;
       between = c.read_recovery.new.files;
-      first = record { value = rw c.in_ok-start.was at c.start_of-start.ensures; untouched = refl };
+      first = record { value = rw c.in_ok-start.was at c.start_of.ensures; untouched = refl };
       after = record {
         found = Ok c.in_ok-made.made;
         between = c.read_recovery.new.files;
@@ -70,7 +70,7 @@ returns-in_err-made-clause-opens g c = record {
     after = record {
       found = Ok c.in_ok-start.start;
       between = c.read_recovery.new.files;
-      first = record { value = rw c.in_ok-start.was at c.start_of-start.ensures; untouched = refl };
+      first = record { value = rw c.in_ok-start.was at c.start_of.ensures; untouched = refl };
       after = record {
         found = Err c.in_err-made.field-0.0;
         between = c.read_recovery.new.files;
@@ -106,7 +106,7 @@ returns-in_err-start-clause-opens g c = record {
     after = record {
       found = Err c.in_err-start.field-0.0;
       between = c.read_recovery.new.files;
-      first = record { value = rw c.in_err-start.was at c.start_of-start.ensures; untouched = refl };
+      first = record { value = rw c.in_err-start.was at c.start_of.ensures; untouched = refl };
       after = (search (rules, c.from_residual-in_err-start.ensures), refl);
     };
   };

@@ -12,9 +12,9 @@ returns-clause-told g c = told_lines _ _ _ _ _ _ _ _ _ _ (rw (
   c.work-work.ensures.first,
   c.work-work.ensures.last,
   c.work-work.ensures.goes_on,
-  ap (λ (v : JudgementView). v.routine) c.judgement.ensures.asked,
-  ap (λ (v : JudgementView). v.steps) c.judgement.ensures.asked,
-  ap (λ (v : JudgementView). v.right) c.judgement.ensures.asked,
+  ap (λ (v : JudgementView). v.routine) c.judgement-judgement.ensures.asked,
+  ap (λ (v : JudgementView). v.steps) c.judgement-judgement.ensures.asked,
+  ap (λ (v : JudgementView). v.right) c.judgement-judgement.ensures.asked,
 ) at c.judge_program.ensures.told)
 
 pub returns-in_err-judge_program-clause-same : goal.returns-in_err-judge_program-clause-same
@@ -25,7 +25,7 @@ returns-in_err-judge_program-clause-told g c = told_lines _ _ _ _ _ _ _ _ _ _ (r
   c.work-work.ensures.first,
   c.work-work.ensures.last,
   c.work-work.ensures.goes_on,
-  ap (λ (v : JudgementView). v.routine) c.judgement.ensures.asked,
-  ap (λ (v : JudgementView). v.steps) c.judgement.ensures.asked,
-  ap (λ (v : JudgementView). v.right) c.judgement.ensures.asked,
+  ap (λ (v : JudgementView). v.routine) c.judgement-judgement.ensures.asked,
+  ap (λ (v : JudgementView). v.steps) c.judgement-judgement.ensures.asked,
+  ap (λ (v : JudgementView). v.right) c.judgement-judgement.ensures.asked,
 ) at c.judge_program.ensures.told)
