@@ -1,10 +1,9 @@
 -- What holds of every schedule where all states are good by a recovery routine.
-use Rattle.std.proofs.Common.{◌≡◌, ◌≢◌, ℕ, Bool, false, List, [], Option, None, Result, Ok, Err, refl, sym, ap, ◌∙◌, subst, arith}
-use Rattle.std.specs.List.{Contains}
+use Rattle.std.proofs.Common.{◌≡◌, ◌≢◌, ℕ, Bool, false, List, [], None, Result, Ok, Err, sym, ap, ◌∙◌, subst, arith}
 use Rattle.hart.specs.declared.state.Status.{Status}
 use Rattle.hart.specs.declared.state.Status.TheVariants.{Exited}
 use Rattle.machine.specs.Replies.{trace_in}
-use Rattle.machine.specs.Run.{Config, started}
+use Rattle.machine.specs.Run.{started}
 use Rattle.machine.specs.RunValues.{RunView}
 use Rattle.machine.specs.declared.recording.setup.Setup.{Setup}
 use Rattle.program.specs.Sections.{Sections}
@@ -14,7 +13,7 @@ use Rattle.routine_judge.specs.Gathered.{AreRightAfter, IsJudgedBy}
 use Rattle.routine_judge.specs.ImagesVerdicts.{IsFoundIn, IsImagesVerdict}
 use Rattle.routine_judge.specs.Order.{AreOrdered}
 use Rattle.routine_judge.specs.Rules.{program_with}
-use Rattle.routine_judge.specs.SequentialRuns.{AreSequentialRuns, IsRightAfter, notes_in}
+use Rattle.routine_judge.specs.SequentialRuns.{AreSequentialRuns, notes_in}
 use Rattle.routine_judge.specs.Views.{ProgramView}
 use Rattle.routine_judge.specs.declared.cause.Cause.{Cause}
 use Rattle.routine_judge.specs.declared.history.fault.MarkFault.{MarkFault}

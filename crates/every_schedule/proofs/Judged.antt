@@ -69,3 +69,8 @@ pub no_pass : {C F : Type 0} (outcome : Outcome C F) (claim : Type 0) → Passes
 no_pass (outcomes.Pass states moments) claim other = absurd other
 no_pass (outcomes.Found run finding) claim other = tt
 no_pass (outcomes.TooMany bound) claim other = tt
+
+pub all_passed : {C F : Type 0} (outcome : Outcome C F) (one other : Type 0) → (one → other) → IfPass outcome one → IfPass outcome other
+all_passed (outcomes.Pass states moments) one other so is = so is
+all_passed (outcomes.Found run finding) one other so is = tt
+all_passed (outcomes.TooMany bound) one other so is = tt

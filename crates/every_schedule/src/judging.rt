@@ -30,7 +30,6 @@ use std::thread::Threads;
 ///
 /// # Errors
 /// A growth was refused.
-#[tactic(auto, using(crate::proofs::Answering::all_answer_on_machines))]
 pub fn judge_all<T: Threads + Sync, W: Watcher>(
     rt: &T,
     alloc: Global,

@@ -1,7 +1,7 @@
 //! One run alone, by a plan.
 
 ghost use Rattle.every_schedule.specs.Showing.{IsVerdictThat};
-ghost use Rattle.std.specs.Prelude.{◌≡◌, IfSome};
+ghost use Rattle.std.specs.Prelude.{IfSome};
 
 use crate::outcome::Finding;
 use crate::run_judge::{RunJudge, unfinished_in};

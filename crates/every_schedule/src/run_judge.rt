@@ -2,7 +2,7 @@
 
 ghost use Rattle.every_schedule.specs.EverySchedule.{is_bad_stop};
 ghost use Rattle.std.specs.List.{list_any};
-ghost use Rattle.std.specs.Prelude.{◌≡◌, IfOk, IfSome};
+ghost use Rattle.std.specs.Prelude.{◌≡◌, true, IfOk, IfSome};
 ghost use Rattle.unfinished.specs.Causes.{AreCauses, numbers_of};
 
 use crate::outcome::Finding;

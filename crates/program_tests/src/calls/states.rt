@@ -319,7 +319,7 @@ impl Routine {
         alloc: Global,
         plan: &Plan,
         limits: Limits,
-    ) -> Option<Outcome> {
+    ) -> Option<Outcome<Cause, OpFault>> {
         let setup = self.setup(alloc)?;
         if setup.harts > 8 {
             return None;
@@ -369,7 +369,7 @@ fn shown_by<T: Threads + Sync>(
     alloc: Global,
     plan: &Plan,
     run: &Run,
-    finding: &Finding,
+    finding: &Finding<Cause, OpFault>,
 ) -> Option<Known> {
     match finding {
         Finding::NotWhole(causes) => unfinished_by(alloc, plan, run, causes),

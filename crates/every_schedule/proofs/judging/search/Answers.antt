@@ -6,7 +6,7 @@ use Rattle.schedule_states.specs.Watching.{nothing}
 use Rattle.every_schedule.proofs.judging.search.Goals as goal
 
 pub explore-requires-clause-happens : goal.explore-requires-clause-happens
-explore-requires-clause-happens g c = λ end led. record { steps = led.steps; end = end; runs = led.runs; events_are = refl }
+explore-requires-clause-happens g c κs ends end led = record { steps = led.steps; end = end; runs = led.runs; events_are = refl }
 
 pub returns : goal.returns
 returns g c =

@@ -15,7 +15,7 @@ pub returns-clause-good : goal.returns-clause-good
 returns-clause-good g c told =
     let judge = c.args.self.now in
     let view : ProgramView = program_of judge.setup.now judge.recovery.program.now judge.recovery.steps in
-    cuts_right view (notes_in judge.runs.now) c.args.standing.now c.in_ok-right.right c.args.images.now c.new.result.images.now _ c.in_ok-verdict.verdict c.new.ensures
+    cuts_right view (notes_in judge.runs.now) c.args.standing.now c.in_ok-right.right c.args.images.now c.new-cuts.result.images.now _ c.in_ok-verdict.verdict c.new-cuts.ensures
     (c.verdict_of.ensures told) c.in_ok-right.ensures c.in_ok-verdict.ensures.ok
 
 pub returns-clause-fits : goal.returns-clause-fits
