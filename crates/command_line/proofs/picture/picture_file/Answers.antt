@@ -5,12 +5,12 @@ use Rattle.command_line.proofs.picture.picture_file.Goals as goal
 
 pub returns-in_err-picture : goal.returns-in_err-picture
 returns-in_err-picture g c = record {
-  found = Ok c.in_ok-made.made;
-  between = c.open_run.new.files;
-  first = rw c.in_ok-made.was at c.open_run.ensures.opens;
+  found = Ok c.in_ok-opened.opened;
+  between = c.open_events.new.files;
+  first = rw c.in_ok-opened.was at c.open_events.ensures.opens;
   after = record {
     found = Err c.in_err-picture.field-0.0;
-    between = c.open_run.new.files;
+    between = c.open_events.new.files;
     first = record { value = rw c.in_err-picture.was at c.picture.ensures; untouched = refl };
     after = (search (rules, c.from_residual-in_err-picture.ensures), refl);
   };
@@ -18,12 +18,12 @@ returns-in_err-picture g c = record {
 
 pub returns-in_err-write_file : goal.returns-in_err-write_file
 returns-in_err-write_file g c = record {
-  found = Ok c.in_ok-made.made;
-  between = c.open_run.new.files;
-  first = rw c.in_ok-made.was at c.open_run.ensures.opens;
+  found = Ok c.in_ok-opened.opened;
+  between = c.open_events.new.files;
+  first = rw c.in_ok-opened.was at c.open_events.ensures.opens;
   after = record {
     found = Ok (string_bytes c.in_ok-picture.picture);
-    between = c.open_run.new.files;
+    between = c.open_events.new.files;
     first = record { value = rw c.in_ok-picture.was at c.picture.ensures; untouched = refl };
     after = record {
       found = Err c.in_err-write_file.field-0.0;
