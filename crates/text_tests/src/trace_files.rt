@@ -72,6 +72,25 @@ fn the_example_is_read(rt: HostRuntime) -> Result<(), AllocError> {
     Ok(())
 }
 
+/// Whether the events of the example are the same apart from its text.
+fn is_ranked(alloc: Global) -> Result<bool, AllocError> {
+    let Ok(file) = TraceFile::read(alloc, EXAMPLE) else {
+        return Err(AllocError);
+    };
+    let ranked = file.into_ranked();
+    Ok(
+        ranked.trace.events() == EVENTS.as_slice()
+            && ranked.names.as_slice() == [2u32, 70_000].as_slice(),
+    )
+}
+
+#[test]
+fn the_example_stands_apart_from_its_text(rt: HostRuntime) -> Result<(), AllocError> {
+    let same = is_ranked(rt.alloc())?;
+    assert!(rt; same);
+    Ok(())
+}
+
 #[test]
 fn a_line_is_named_by_its_rank(rt: HostRuntime) -> Result<(), AllocError> {
     let Ok(file) = TraceFile::read(rt.alloc(), EXAMPLE) else {
