@@ -175,7 +175,12 @@ fn turns_of_second(order: Order) -> u32 {
 }
 
 /// The run in which the harts take their turns in an order, if each makes its last one.
-fn walk(alloc: Global, program: &Program, medium: &Medium, order: Order) -> Option<Option<Walk>> {
+fn walk_in(
+    alloc: Global,
+    program: &Program,
+    medium: &Medium,
+    order: Order,
+) -> Option<Option<Walk>> {
     let Setup {
         program: text,
         medium: start,
@@ -204,7 +209,7 @@ fn walks_of(alloc: Global, case: Case) -> Option<Vec<Walk>> {
     for bits in 0..1 << turns.min(31) {
         let order = Order { bits, turns };
         if turns_of_second(order) == second {
-            if let Some(made) = walk(alloc, &program, &medium, order)? {
+            if let Some(made) = walk_in(alloc, &program, &medium, order)? {
                 walks.push(made).ok()?;
             }
         }
@@ -263,7 +268,7 @@ fn images_at(alloc: Global, run: &Run, moment: u32) -> Option<u32> {
 
 /// Notes the run behind so many events: its operations in the order in which they began, and the answer on the last image, which has all
 /// stores.
-fn note(
+fn add_note(
     alloc: Global,
     shown: Shown,
     run: &Run,
@@ -300,7 +305,7 @@ fn note_all(alloc: Global, shown: Shown, walk: &Walk, notes: &mut Vec<Note>) -> 
     let Walk { turns, run } = walk;
     let events = run.trace().events();
     let mut made = 0;
-    note(alloc, shown, run, made, notes)?;
+    add_note(alloc, shown, run, made, notes)?;
     for turn in turns {
         let other = if turn.hart == 0 { 1 } else { 0 };
         if is_pending(front(events, made), other) {
@@ -308,7 +313,7 @@ fn note_all(alloc: Global, shown: Shown, walk: &Walk, notes: &mut Vec<Note>) -> 
         }
         made = turn.events;
         if !is_pending(front(events, made), turn.hart) {
-            note(alloc, shown, run, made, notes)?;
+            add_note(alloc, shown, run, made, notes)?;
         }
     }
     Some(())
