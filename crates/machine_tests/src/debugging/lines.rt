@@ -24,10 +24,11 @@ fn run_of(alloc: Global, run: &RunCommand) -> Result<String, AllocError> {
 
 /// The words and options of a check of all schedules.
 fn check_all_of(alloc: Global, asked: &CheckAllCommand) -> Result<String, AllocError> {
-    let (plan, program) = (asked.plan.as_str(), asked.program.as_str());
-    let (medium, harts) = (value_of(&asked.machine.medium), asked.machine.harts);
-    let (states, any_end, why) = (asked.states, asked.any_end, asked.why);
-    let (json, progress) = (asked.json, asked.progress);
+    let judged = &asked.judged;
+    let (plan, program) = (asked.plan.as_str(), judged.program.as_str());
+    let (medium, harts) = (value_of(&judged.machine.medium), judged.machine.harts);
+    let (states, any_end, why) = (judged.states, judged.any_end, judged.why);
+    let (json, progress) = (judged.json, judged.progress);
     format!(in alloc;
         "{plan} {program} {medium} {harts} {states} {any_end} {why} {json} {progress}"
     )
