@@ -5,6 +5,8 @@
 //! What is tested stands in tables. A test asks for the first place of a table whose call comes to something else than is said
 //! there, and machines and memory stay in functions that give back plain data.
 
+mod answers;
+mod atomic_orders;
 mod hostile;
 mod images;
 mod library_messages;

@@ -81,9 +81,9 @@ impl Known {
 
 /// Who takes the next turns, two harts having so many: the lowest bit is the number of the hart that begins.
 #[derive(Clone, Copy)]
-struct Order {
-    bits: u32,
-    turns: u32,
+pub(crate) struct Order {
+    pub(crate) bits: u32,
+    pub(crate) turns: u32,
 }
 
 struct Case {
@@ -161,7 +161,7 @@ static CASES: [Case; 7] = [
 ];
 
 /// Makes the steps of a hart up to its next request, and that; false where it stops before. None where that isn't within its steps.
-fn take_turn(machine: &mut Machine, schedule: &mut Schedule, hart: u32) -> Option<bool> {
+pub(crate) fn take_turn(machine: &mut Machine, schedule: &mut Schedule, hart: u32) -> Option<bool> {
     for _step in 0..STEPS {
         if hart >= machine.harts() || machine.hart(hart).status != Status::Running {
             return Some(false);
