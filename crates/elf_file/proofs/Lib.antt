@@ -3,4 +3,11 @@ pub mod OneReading
 pub mod Symbols
 pub mod Tables
 pub mod Texts
+pub mod LineTexts
+pub mod Fields
+pub mod FileTables
+pub mod Headers
+pub mod Repeating
+pub mod Runs
+pub mod Signed
 mod Cells

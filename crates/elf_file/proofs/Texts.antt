@@ -17,7 +17,7 @@ one_more_passes : (passes : Bool) (near all n : ℕ) → near ≡ min n all → 
 one_more_passes true near all n e = omega (arith, e)
 one_more_passes false near all n e = omega arith
 
-prefix_len-take : (p : ℕ → Bool) (n : ℕ) (bytes : List ℕ) → prefix_len p (take n bytes) ≡ min n (prefix_len p bytes)
+pub prefix_len-take : (p : ℕ → Bool) (n : ℕ) (bytes : List ℕ) → prefix_len p (take n bytes) ≡ min n (prefix_len p bytes)
 prefix_len-take p zero bytes = omega arith
 prefix_len-take p (suc n) [] = omega arith
 prefix_len-take p (suc n) (byte ∷ bytes) = one_more_passes (p byte) (prefix_len p (take n bytes)) (prefix_len p bytes) n (prefix_len-take p n bytes)

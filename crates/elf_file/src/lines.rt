@@ -1,0 +1,9 @@
+//! Source lines by address: the line table of an executable (`.debug_line`), of DWARF 4 and 5.
+
+mod files;
+mod forms;
+mod header;
+mod numbers;
+mod program;
+mod texts;
+mod units;
