@@ -6,7 +6,9 @@ pub mod Texts
 pub mod LineTexts
 pub mod Fields
 pub mod FileTables
+pub mod Filling
 pub mod Headers
+pub mod Holding
 pub mod Repeating
 pub mod Runs
 pub mod Signed

@@ -1,5 +1,6 @@
 //! Source lines by address: the line table of an executable (`.debug_line`), of DWARF 4 and 5.
 
+mod cells;
 mod files;
 mod forms;
 mod header;
