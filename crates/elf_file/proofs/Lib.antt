@@ -9,6 +9,7 @@ pub mod FileTables
 pub mod Filling
 pub mod Headers
 pub mod Holding
+pub mod Reading
 pub mod Repeating
 pub mod Runs
 pub mod Signed

@@ -8,6 +8,7 @@ pub mod Functions
 pub mod FunctionNumbers
 pub mod Header
 pub mod LinePrograms
+pub mod LineTables
 pub mod Lines
 pub mod Numbers
 pub mod Repeated

@@ -88,9 +88,8 @@ units_of table = if nat_lt 4_194_304 (length table) then None ∷ [] else units_
 abbrev pub read_unit : TextsByPlace → Option (List ℕ) → Option (List KnownRow)
 read_unit texts unit = option_and_then (rows_of_unit texts) unit
 
--- the rows of all units that are read, in order, and how many these are
-abbrev pub rows_in_table : TextsByPlace → List ℕ → List KnownRow
-rows_in_table texts table = flat_map (λ unit. unwrap_or (read_unit texts unit) []) (units_of table)
+abbrev pub is_read : TextsByPlace → Option (List ℕ) → Bool
+is_read texts unit = is_some (read_unit texts unit)
 
-abbrev pub units_read : TextsByPlace → List ℕ → ℕ
-units_read texts table = count_by (λ unit. is_some (read_unit texts unit)) (units_of table)
+abbrev pub rows_given : TextsByPlace → Option (List ℕ) → List KnownRow
+rows_given texts unit = unwrap_or (read_unit texts unit) []

@@ -6,5 +6,9 @@ mod forms;
 mod header;
 mod numbers;
 mod program;
+mod reading;
+mod table;
 mod texts;
 mod units;
+
+pub use table::LineTable;
