@@ -1,5 +1,5 @@
 -- The fields of an entry, one behind the other.
-use Rattle.std.proofs.Common.{◌≡◌, ◌∙◌, ◌+◌, ◌<◌, ◌≤◌, ℕ, List, [], ◌∷◌, length, get_or, drop, sym, ap, Option, Some, None, option_and_then, option_map}
+use Rattle.std.proofs.Common.{◌≡◌, ◌∙◌, ◌+◌, ◌<◌, ◌≤◌, ℕ, List, length, get_or, drop, sym, ap, Option, Some, None, option_and_then, option_map}
 use Rattle.std.proofs.lemmas.List.{at_drop_all, at_drop_more}
 use Rattle.elf_file.specs.Forms.{TextsByPlace, Value, entry_at, path_in, path_with, text_value, value_at, with_path}
 use Rattle.elf_file.specs.Texts.{first_text, next_text}

@@ -4,7 +4,7 @@ use Rattle.std.proofs.lemmas.List.{get_or-map, get_or-take, length-map, length-t
 use Rattle.std.proofs.lemmas.Option.{slice_get-get_or}
 use Rattle.std.specs.Option.{option_or}
 use Rattle.std.specs.Bool.{then_some}
-use Rattle.std.specs.Prelude.{nat_le, nat_lt, slice_get}
+use Rattle.std.specs.Prelude.{slice_get}
 use Rattle.elf_file.specs.Lines.{AreCells, IsRowAt, holds, row_at, with_row}
 use Rattle.elf_file.specs.SourceRows.{KnownRow, known_row}
 use Rattle.elf_file.specs.declared.lines.units.SourceRow.{SourceRow}
@@ -54,7 +54,7 @@ step rows pc n d inside (Some m) some within e is =
       omega (arith, length-take (n + 1) rows),
       next rows pc n d some within
           ∙ ap (λ (o : Option KnownRow). option_or o (then_some (holds (get_or rows (n - 1) d) (get_or rows n d) pc) (get_or rows (n - 1) d)))
-                (is.1 ∙ got rows m n d less (omega arith))
+          (is.1 ∙ got rows m n d less (omega arith))
           ∙ sym (got rows m (n + 1) d (omega arith) (omega arith)),
     )
 step rows pc n d true None some within e is = (

@@ -1,12 +1,12 @@
 -- Texts of a line table.
-use Rattle.std.proofs.Common.{◌≡◌, ◌≢◌, ◌∙◌, ◌+◌, ◌-◌, ◌<◌, ◌≤◌, ◌==◌, ◌++◌, not, ℕ, Bool, true, false, cond, List, [], ◌∷◌, length, get_or, take, drop, refl, sym, ap, subst, arith, inl, inr, Option, Some, None, option_map, eq-eqb, ne_eqb}
-use Rattle.std.proofs.lemmas.Bool.{cases_Bool, cases_lt, le-ltb, lt-ltb, true≢false}
+use Rattle.std.proofs.Common.{◌≡◌, ◌∙◌, ◌+◌, ◌-◌, ◌<◌, ◌≤◌, ◌==◌, not, ℕ, Bool, true, false, cond, List, length, get_or, take, drop, refl, sym, ap, arith, inl, inr, Option, Some, None, option_map, eq-eqb, ne_eqb}
+use Rattle.std.proofs.lemmas.Bool.{cases_lt, le-ltb, lt-ltb, true≢false}
 use Rattle.std.proofs.lemmas.List.{drop-take, get_or-drop, length-drop, length-take, take-take, take_all}
 use Rattle.std.proofs.lemmas.List.Sums.{fails_before_first, position_or_len_is}
 use Rattle.std.proofs.lemmas.Option.{cond_some}
 use Rattle.std.proofs.Math.Path.{fun_ext}
 use Rattle.std.specs.List.{position, position_or_len}
-use Rattle.std.specs.Prelude.{min, nat_lt}
+use Rattle.std.specs.Prelude.{nat_lt}
 use Rattle.elf_file.specs.Sections.{text_at}
 use Rattle.elf_file.specs.Texts.{first_text, next_text, text_from}
 use Rattle.elf_file.proofs.Texts.{prefix_len-take}

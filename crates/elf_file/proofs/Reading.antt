@@ -7,15 +7,15 @@ use Rattle.std.specs.Option.{option_map_or}
 use Rattle.elf_file.specs.Forms.{TextsByPlace}
 use Rattle.elf_file.specs.LineTables.{KnownTable, table_of}
 use Rattle.elf_file.specs.SourceRows.{KnownRow}
-use Rattle.elf_file.specs.Units.{is_read, rows_given, unit_at, units_in, units_of}
+use Rattle.elf_file.specs.Units.{is_read, rows_given, unit_at, units_in}
 use Rattle.elf_file.proofs.LineTexts.{found}
 
 -- what some units give together
 abbrev table_by : TextsByPlace → List (Option (List ℕ)) → KnownTable
-table_by texts units = record { rows = flat_map (rows_given texts) units; units = length units; read = count_by (is_read texts) units }
+table_by texts units = record { rows = flat_map (rows_given texts) units; units = length units; units_read = count_by (is_read texts) units }
 
 abbrev known : List KnownRow → ℕ → ℕ → KnownTable
-known rows units read = record { rows = rows; units = units; read = read }
+known rows units read = record { rows = rows; units = units; units_read = read }
 
 same_table : (rows others : List KnownRow) (units more read seen : ℕ) → rows ≡ others → units ≡ more → read ≡ seen → known rows units read ≡ known others more seen
 same_table rows others units more read seen p q s =

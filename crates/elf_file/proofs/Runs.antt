@@ -1,10 +1,10 @@
 -- The run of a line program, opcode by opcode.
 use Rattle.std.proofs.Common.{◌≡◌, ℕ, zero, suc, ◌<◌, ◌≤◌, List, [], ◌∷◌, ◌++◌, length, refl, sym, ap, ◌∙◌, arith, option_map, option_and_then, Option, Some, None}
 use Rattle.std.proofs.lemmas.List.{append_assoc, append-nil}
-use Rattle.elf_file.specs.LinePrograms.{listed, rows_in, step}
-use Rattle.elf_file.specs.declared.lines.program.Coding.{Coding}
-use Rattle.elf_file.specs.declared.lines.program.Registers.{Registers}
-use Rattle.elf_file.specs.declared.lines.program.Row.{Row}
+use Rattle.elf_file.specs.Opcodes.{listed, rows_in, step}
+use Rattle.elf_file.specs.declared.lines.opcodes.Coding.{Coding}
+use Rattle.elf_file.specs.declared.lines.opcodes.Registers.{Registers}
+use Rattle.elf_file.specs.declared.lines.opcodes.Row.{Row}
 
 joined : (front middle : List Row) (rest : Option (List Row)) → option_map (λ more. (front ++ middle) ++ more) rest ≡ option_map (λ more. front ++ more) (option_map (λ rows. middle ++ rows) rest)
 joined front middle None = refl

@@ -4,12 +4,11 @@ use Rattle.std.proofs.lemmas.Bool.{cases_Bool, cases_lt, le-leb, le-ltb, lt-leb,
 use Rattle.std.proofs.lemmas.Grind.{common_steps}
 use Rattle.std.proofs.lemmas.List.{length-take, take-take}
 use Rattle.std.proofs.lemmas.List.Quantifiers.{position-Some}
-use Rattle.std.proofs.lemmas.List.Sums.{prefix_len-le-length}
 use Rattle.std.proofs.lemmas.Slice.Eq.{bytes_eq-Decides}
 use Rattle.std.specs.Bool.{then_some}
 use Rattle.std.specs.List.{position, position_or_len, prefix_len}
 use Rattle.std.specs.Option.{option_and_then, option_map, option_map_or}
-use Rattle.std.specs.Prelude.{min, nat_le, nat_lt, Option, None, Some}
+use Rattle.std.specs.Prelude.{min, nat_le, Option, None, Some}
 use Rattle.std.specs.Str.{bytes_eq}
 use Rattle.elf_file.specs.Sections.{short_text_at, text_at}
 

@@ -3,14 +3,14 @@ pub mod Executable
 pub mod Faults
 pub mod Files
 pub mod Forms
+pub mod FunctionNumbers
 pub mod FunctionSymbols
 pub mod Functions
-pub mod FunctionNumbers
 pub mod Header
-pub mod LinePrograms
 pub mod LineTables
 pub mod Lines
 pub mod Numbers
+pub mod Opcodes
 pub mod Repeated
 pub mod Sections
 pub mod Segments

@@ -11,14 +11,14 @@ use Rattle.elf_file.specs.declared.lines.reading.UnitRows.{UnitRows}
 pub record KnownTable : Type 0 where
   pub rows : List KnownRow
   pub units : ℕ
-  pub read : ℕ
+  pub units_read : ℕ
 
 -- by the text at each place of .debug_line_str, and the bytes of .debug_line
 abbrev pub table_of : TextsByPlace → List ℕ → KnownTable
 table_of texts table = record {
   rows = flat_map (rows_given texts) (units_of table);
   units = length (units_of table);
-  read = count_by (is_read texts) (units_of table);
+  units_read = count_by (is_read texts) (units_of table);
 }
 
 -- that of a file
@@ -27,4 +27,4 @@ line_table_of file = table_of (text_at (section_of file (codes ".debug_line_str"
 
 -- the same of the program's own value
 abbrev pub known_table : UnitRows → KnownTable
-known_table found = record { rows = map known_row found.rows.items; units = found.units; read = found.read }
+known_table found = record { rows = map known_row found.rows.items; units = found.units; units_read = found.units_read }

@@ -1,5 +1,4 @@
 -- The units of a line table, and their rows. Source: DWARF 5, sections 6.2.4 and 7.4; DWARF 4, section 6.2.4.
-use Rattle.std.specs.List.{count_by, flat_map}
 use Rattle.std.specs.Option.{option_map_or}
 use Rattle.std.specs.Prelude.{ℕ, zero, suc, ℤ, pos, ◌-ℤ◌, ◌-◌, ◌==◌, ◌&&◌, Bool, true, not, nat_le, nat_lt, List, [], ◌∷◌, length, drop, take, map, Option, Some, None, is_some, option_and_then, option_map, unwrap_or, slice_get, slice_index, if◌then◌else◌}
 use Rattle.std.specs.Str.{bytes_eq}
@@ -7,10 +6,10 @@ use Rattle.elf_file.specs.Files.{files_of, path_of}
 use Rattle.elf_file.specs.Forms.{TextsByPlace}
 use Rattle.elf_file.specs.Numbers.{fixed_at}
 use Rattle.elf_file.specs.UnitParts.{UnitParts}
-use Rattle.elf_file.specs.LinePrograms.{rows_of}
+use Rattle.elf_file.specs.Opcodes.{rows_of}
 use Rattle.elf_file.specs.SourceRows.{KnownRow}
-use Rattle.elf_file.specs.declared.lines.program.Coding.{Coding}
-use Rattle.elf_file.specs.declared.lines.program.Row.{Row}
+use Rattle.elf_file.specs.declared.lines.opcodes.Coding.{Coding}
+use Rattle.elf_file.specs.declared.lines.opcodes.Row.{Row}
 
 -- header_length, and the bytes of the header and of the program
 abbrev pub parts_behind : ℕ → List ℕ → Option UnitParts

@@ -5,7 +5,7 @@ mod files;
 mod forms;
 mod header;
 mod numbers;
-mod program;
+mod opcodes;
 mod reading;
 mod table;
 mod texts;

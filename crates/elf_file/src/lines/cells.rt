@@ -54,12 +54,7 @@ fn empty_cells(alloc: Global, words: usize) -> Result<Vec<Option<usize>>, AllocE
 }
 
 /// Puts the number of a row into the cells of the words at which it holds, where these have none.
-fn fill_row(
-    cells: &mut [Option<usize>],
-    number: usize,
-    row: &SourceRow<'_>,
-    next: &SourceRow<'_>,
-)
+fn fill_row(cells: &mut [Option<usize>], number: usize, row: &SourceRow<'_>, next: &SourceRow<'_>)
     requires { length cells.old ≡ TEXT_WORDS }
     ensures { (word : ℕ) → word < TEXT_WORDS → slice_index_or cells.new word None
         ≡ with_row (known_row row.now) (known_row next.now) number word (slice_index_or cells.old word None) }
@@ -67,7 +62,12 @@ fn fill_row(
     if row.ends {
         return;
     }
-    fill(cells, words_before(row.address), words_before(next.address), number);
+    fill(
+        cells,
+        words_before(row.address),
+        words_before(next.address),
+        number,
+    );
 }
 
 /// How many words of text begin before an address.

@@ -127,11 +127,7 @@ fn format_at(bytes: &[u8]) -> Option<(Format, &[u8])>
 }
 
 /// The path of an entry behind a field of this content, which holds a text or something else.
-fn path_with<'a>(
-    content: u64,
-    path: Option<&'a [u8]>,
-    value: Option<&'a [u8]>,
-) -> Option<&'a [u8]>
+fn path_with<'a>(content: u64, path: Option<&'a [u8]>, value: Option<&'a [u8]>) -> Option<&'a [u8]>
     ensures { option_map known_path result ≡ path_with content (option_map known_path path.entry) (option_map known_path value.entry) }
 {
     if content == PATH { value } else { path }

@@ -5,7 +5,7 @@ ghost use Rattle.elf_file.specs.Units.{behind_sizes, coding_at, is_coding, parts
 ghost use Rattle.std.specs.Prelude.{◌≡◌, ◌≤◌, IfSome, length, option_map};
 
 use crate::lines::numbers::{short_at, word_at};
-use crate::lines::program::Coding;
+use crate::lines::opcodes::Coding;
 
 /// A unit behind its length: its version, the rest of its header, and its program.
 #[derive(Clone, Copy)]

@@ -17,7 +17,7 @@ const TABLE_LIMIT: usize = 4_194_304;
 pub(crate) struct UnitRows<'a> {
     pub(crate) rows: Vec<SourceRow<'a>>,
     pub(crate) units: usize,
-    pub(crate) read: usize,
+    pub(crate) units_read: usize,
 }
 
 /// Those of a table. Texts elsewhere stand in these strings, whose last byte is a zero.
@@ -35,7 +35,7 @@ pub(crate) fn units_of<'a>(
         return Ok(UnitRows {
             rows: Vec::new(alloc),
             units: 1,
-            read: 0,
+            units_read: 0,
         });
     }
     units_in(alloc, table, strings)
@@ -52,19 +52,27 @@ fn units_in<'a>(
 {
     let mut rows = Vec::new(alloc);
     let mut units = 0;
-    let mut read = 0;
+    let mut units_read = 0;
     let mut rest = table;
     while !rest.is_empty() {
         units += 1;
         let Some((unit, behind)) = unit_at(rest) else {
-            return Ok(UnitRows { rows, units, read });
+            return Ok(UnitRows {
+                rows,
+                units,
+                units_read,
+            });
         };
         if add_unit(alloc, &mut rows, strings, unit)? {
-            read += 1;
+            units_read += 1;
         }
         rest = behind;
     }
-    Ok(UnitRows { rows, units, read })
+    Ok(UnitRows {
+        rows,
+        units,
+        units_read,
+    })
 }
 
 /// Puts the rows of a unit behind the others, and says whether it is read.

@@ -27,13 +27,13 @@ pub struct LineTable<'a> {
     /// The number of the row that holds at each word of text.
     cells: Vec<Option<usize>>,
     units: usize,
-    read: usize,
+    units_read: usize,
 }
 
 impl<'a> Model for LineTable<'a> {
     ghost Value = { KnownTable };
 
-    ghost view = { λ t. record { rows = map known_row t.rows.items; units = t.units; read = t.read } };
+    ghost view = { λ t. record { rows = map known_row t.rows.items; units = t.units; units_read = t.units_read } };
 
     ghost invariant = { λ t. AreCells (map known_row t.rows.items) t.cells.items };
 }
@@ -44,18 +44,22 @@ const NAME_LIMIT: usize = 255;
 impl<'a> LineTable<'a> {
     /// Reads the line table of an ELF file: `.debug_line`, and the paths that it has in `.debug_line_str`. The only error is
     /// that memory was refused. A file without these sections has no lines.
-    pub fn of_file(alloc: Global, file: &'a [u8]) -> Result<LineTable<'a>, AllocError>
+    pub fn read(alloc: Global, file: &'a [u8]) -> Result<LineTable<'a>, AllocError>
         ensures { IfOk result (λ table. table ≡ line_table_of file.now) }
     {
         let table = section(file, b".debug_line");
         let strings = through_last_zero(section(file, b".debug_line_str"));
-        let UnitRows { rows, units, read } = units_of(alloc, table, strings)?;
+        let UnitRows {
+            rows,
+            units,
+            units_read,
+        } = units_of(alloc, table, strings)?;
         let cells = cells_of(alloc, &rows)?;
         Ok(LineTable {
             rows,
             cells,
             units,
-            read,
+            units_read,
         })
     }
 
@@ -68,9 +72,9 @@ impl<'a> LineTable<'a> {
 
     /// How many of its units are read: where fewer are than there are, lines may be missing.
     pub fn read_count(&self) -> usize
-        ensures { result ≡ self.now.read }
+        ensures { result ≡ self.now.units_read }
     {
-        self.read
+        self.units_read
     }
 
     /// The name of the source file, without its folders, and the line that the instruction at an address comes from.

@@ -9,7 +9,7 @@ ghost use Rattle.std.specs.Prelude.{◌≡◌, ◌≤◌, ◌<◌, IfOk, IfSome,
 use crate::lines::files::{files_of, path_of};
 use crate::lines::header::{Parts, coding_at, parts_of};
 use crate::lines::numbers::word_at;
-use crate::lines::program::{Coding, Row, rows_of};
+use crate::lines::opcodes::{Coding, Row, rows_of};
 use std::alloc::{AllocError, Global};
 
 /// A row of a line table: instructions from its address on come from this line of the file of this path, where there is one.

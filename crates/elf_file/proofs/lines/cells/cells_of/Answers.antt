@@ -20,5 +20,5 @@ loop-number-preserved c =
     (cells_more rows n old new (omega arith) (omega arith) size
     (λ word less. c.fill_row.ensures word less
     ∙ ap (λ (l : List (Option ℕ)). with_row (known_row (get_or rows (n - 1) no_row)) (known_row (get_or rows n no_row)) (n - 1) word (get_or l word None))
-          c.deref_mut.ensures.value)
+    c.deref_mut.ensures.value)
     c.loop-number.invariant)

@@ -1,4 +1,4 @@
-use Rattle.std.proofs.Common.{◌∙◌, map, sym, arith}
+use Rattle.std.proofs.Common.{◌∙◌, map, sym}
 use Rattle.elf_file.specs.Texts.{known_path}
 use Rattle.elf_file.proofs.FileTables.{empty_path, file_passed, no_numbers, no_path}
 use Rattle.elf_file.proofs.lines.files.files_in.Goals as goal

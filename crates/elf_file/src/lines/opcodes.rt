@@ -1,6 +1,6 @@
 //! Line programs: the opcodes of a unit, and the rows that they make (DWARF 5, section 6.2.5).
 
-ghost use Rattle.elf_file.specs.LinePrograms.{Made, end_of, extended, extended_in, fresh, listed, moved, row_of, rows_of, special, standard, step, with_line, within};
+ghost use Rattle.elf_file.specs.Opcodes.{Made, end_of, extended, extended_in, fresh, listed, moved, row_of, rows_of, special, standard, step, with_line, within};
 ghost use Rattle.std.specs.Prelude.{◌≡◌, ◌≤◌, ◌<◌, ◌++◌, OnOk, pos, ◌+ℤ◌, IfOk, IfSome, List, length, option_map};
 
 use crate::lines::numbers::{short_at, signed_at, unsigned_at, wide_at};
@@ -201,7 +201,7 @@ fn push_listed(rows: &mut Vec<Row>, row: Option<Row>) -> Result<(), AllocError>
 }
 
 /// An opcode: the registers behind it, the row that it makes, if it makes one, and the bytes behind it.
-#[tactic(auto, unfolding(crate::specs::LinePrograms::step))]
+#[tactic(auto, unfolding(crate::specs::Opcodes::step))]
 fn step(
     coding: Coding,
     registers: Registers,

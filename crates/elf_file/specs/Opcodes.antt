@@ -1,9 +1,9 @@
 -- The rows that a line program makes.
 use Rattle.std.specs.Prelude.{ℕ, ℤ, pos, ◌+ℤ◌, int_le, int_lt, ◌&&◌, ◌+◌, ◌-◌, ◌*◌, ◌/◌, ◌%◌, ◌^◌, ◌==◌, List, [], ◌∷◌, ◌++◌, Option, Some, None, true, false, if◌then◌else◌, nat_lt, nat_abs, option_and_then, option_map, zero, suc, take, drop, length}
 use Rattle.elf_file.specs.Numbers.{fixed_at, signed_at, unsigned_at}
-use Rattle.elf_file.specs.declared.lines.program.Coding.{Coding}
-use Rattle.elf_file.specs.declared.lines.program.Registers.{Registers}
-use Rattle.elf_file.specs.declared.lines.program.Row.{Row}
+use Rattle.elf_file.specs.declared.lines.opcodes.Coding.{Coding}
+use Rattle.elf_file.specs.declared.lines.opcodes.Registers.{Registers}
+use Rattle.elf_file.specs.declared.lines.opcodes.Row.{Row}
 
 -- what an opcode makes: the registers behind it, and a row at most; and the bytes behind it
 abbrev pub Made : Type 0

@@ -1,6 +1,6 @@
 use Rattle.std.proofs.Common.{arith}
 use Rattle.elf_file.proofs.Runs.{goes_on, stops, is_done}
-use Rattle.elf_file.proofs.lines.program.rows_of.Goals as goal
+use Rattle.elf_file.proofs.lines.opcodes.rows_of.Goals as goal
 
 pub returns-in_default : goal.returns-in_default
 returns-in_default c = stops c.args.coding c.loop-rest.registers c.loop-rest.rows.items c.loop-rest.invariant.0 c.loop-rest.rest.now _ c.loop-rest.invariant.1 (grind arith) c.in_default.ensures.made c.loop-rest.invariant.2

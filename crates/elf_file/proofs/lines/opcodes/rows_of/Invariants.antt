@@ -1,6 +1,6 @@
 use Rattle.std.proofs.Common.{◌≡◌, ◌≤◌, ◌++◌, length, option_map, ℕ}
-use Rattle.elf_file.specs.LinePrograms.{rows_in, rows_of}
-use Rattle.elf_file.proofs.lines.program.rows_of.Given as goal
+use Rattle.elf_file.specs.Opcodes.{rows_in, rows_of}
+use Rattle.elf_file.proofs.lines.opcodes.rows_of.Given as goal
 
 abbrev pub invariant-loop-rest : goal.invariant-loop-rest
 invariant-loop-rest l =
