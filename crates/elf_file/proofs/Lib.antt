@@ -12,5 +12,6 @@ pub mod Holding
 pub mod Reading
 pub mod Repeating
 pub mod Runs
+pub mod SaidLines
 pub mod Signed
 mod Cells

@@ -27,6 +27,26 @@ said_line row = if row.line == 0 then None else option_map (λ name. (name, row.
 abbrev pub line_at : List KnownRow → ℕ → Option (List ℕ × ℕ)
 line_at rows pc = option_and_then said_line (row_at rows pc)
 
+-- a line of a file of this name
+abbrev pub file_line : List ℕ → ℕ → Option (List ℕ × ℕ)
+file_line name line = Some (name, line)
+
+-- an instruction comes from it
+abbrev pub HasLine : List KnownRow → List ℕ → ℕ → ℕ → Type 0
+HasLine rows name line pc = line_at rows pc ≡ file_line name line
+
+-- none of the first words of text does
+abbrev pub HasNoWord : List KnownRow → List ℕ → ℕ → ℕ → Type 0
+HasNoWord rows name line count = (word : ℕ) → word < count → ¬ HasLine rows name line (0x1_0000 + 4 * word)
+
+-- the first word of text that does begins at this address
+pub record IsFirstWord (rows : List KnownRow) (name : List ℕ) (line pc : ℕ) : Type 0 where
+  pub word : ℕ
+  pub within : word < 0x4000
+  pub address : pc ≡ 0x1_0000 + 4 * word
+  pub line_there : HasLine rows name line pc
+  pub none_before : HasNoWord rows name line word
+
 -- the number of the row that holds at a pc, where there is one
 abbrev pub IsRowAt : List KnownRow → ℕ → Option ℕ → Type 0
 IsRowAt rows pc None = row_at rows pc ≡ None

@@ -9,7 +9,7 @@ use crate::program_header::TEXT;
 use std::alloc::{AllocError, Global};
 
 /// How many words of text there are.
-const TEXT_WORDS: usize = 16_384;
+pub(crate) const TEXT_WORDS: usize = 16_384;
 
 /// The number of the row that holds at an address: of the first one.
 pub(crate) fn row_number_at(rows: &[SourceRow<'_>], pc: u64) -> Option<usize>

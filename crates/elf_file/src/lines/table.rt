@@ -1,15 +1,16 @@
 //! The line table of an executable.
 
 ghost use Rattle.elf_file.specs.LineTables.{KnownTable, line_table_of};
-ghost use Rattle.elf_file.specs.Lines.{AreCells, IsRowAt, file_name, line_at, said_line};
+ghost use Rattle.elf_file.specs.Lines.{AreCells, HasLine, HasNoWord, IsFirstWord, IsRowAt, file_name, line_at, said_line};
 ghost use Rattle.elf_file.specs.SourceRows.{known_row};
-ghost use Rattle.std.specs.Prelude.{◌≡◌, IfOk, map, option_map};
+ghost use Rattle.std.specs.Prelude.{◌≡◌, ◌↔◌, IfOk, IsTrue, MatchOption, map, option_map};
 
 use crate::functions::text_word;
-use crate::lines::cells::{cells_of, row_number_at};
+use crate::lines::cells::{TEXT_WORDS, cells_of, row_number_at};
 use crate::lines::reading::{UnitRows, units_of};
 use crate::lines::texts::{base_name, first_text, through_last_zero};
 use crate::lines::units::SourceRow;
+use crate::program_header::TEXT;
 use crate::section_header::section;
 use std::alloc::{AllocError, Global};
 use std::marker::Model;
@@ -86,6 +87,31 @@ impl<'a> LineTable<'a> {
     {
         let number = self.number_at(pc)?;
         said_line(self.rows[number])
+    }
+
+    /// The address of the first word of text whose instruction comes from a line of a file, by the file's name without its
+    /// folders.
+    pub fn address_of(&self, name: &[u8], line: u32) -> Option<u64>
+        ensures { MatchOption result (HasNoWord self.now.rows name.now line 0x4000) (IsFirstWord self.now.rows name.now line) }
+    {
+        for word in 0..TEXT_WORDS as u64 {
+            let pc = TEXT.base + 4 * word;
+            if self.comes_from(pc, name, line) {
+                return Some(pc);
+            }
+        }
+        None
+    }
+
+    /// Whether the instruction at an address comes from a line of a file of this name.
+    #[tactic(auto, using(crate::proofs::SaidLines::no_line, crate::proofs::SaidLines::said_line_is))]
+    fn comes_from(&self, pc: u64, name: &[u8], line: u32) -> bool
+        ensures { IsTrue result ↔ HasLine self.now.rows name.now line pc }
+    {
+        match self.at(pc) {
+            Some((found, number)) => number == line && found == name,
+            None => false,
+        }
     }
 
     /// The number of the row that holds at an address. In text it is looked up, and elsewhere searched for.
