@@ -11,7 +11,7 @@ unsigned_in (suc n) (byte ∷ bytes) = if nat_lt byte 128 then Some (byte, bytes
 
 -- a number below 2^64
 abbrev pub unsigned_64 : ℕ × List ℕ → Option (ℕ × List ℕ)
-unsigned_64 x = if nat_lt x.0 (2 ^ 64) then Some x else None
+unsigned_64 number = if nat_lt number.0 (2 ^ 64) then Some number else None
 
 abbrev pub unsigned_at : List ℕ → Option (ℕ × List ℕ)
 unsigned_at bytes = option_and_then unsigned_64 (unsigned_in 10 bytes)
@@ -27,10 +27,10 @@ signed_in (suc n) (byte ∷ bytes) =
 
 -- from -2^63 to 2^63 - 1
 abbrev pub signed_64 : ℤ → Option ℤ
-signed_64 z = if int_le (neg_ℤ (pos (2 ^ 63))) z && int_lt z (pos (2 ^ 63)) then Some z else None
+signed_64 number = if int_le (neg_ℤ (pos (2 ^ 63))) number && int_lt number (pos (2 ^ 63)) then Some number else None
 
 abbrev pub with_signed_64 : ℤ × List ℕ → Option (ℤ × List ℕ)
-with_signed_64 x = option_map (λ z. (z, x.1)) (signed_64 x.0)
+with_signed_64 number = option_map (λ fitting. (fitting, number.1)) (signed_64 number.0)
 
 abbrev pub signed_at : List ℕ → Option (ℤ × List ℕ)
 signed_at bytes = option_and_then with_signed_64 (signed_in 10 bytes)
