@@ -4,12 +4,11 @@ use Rattle.std.proofs.lemmas.Bool.{cases_Bool, cases_lt, le-leb, le-ltb, lt-leb,
 use Rattle.std.proofs.lemmas.Grind.{common_steps}
 use Rattle.std.proofs.lemmas.List.{length-take, take-take}
 use Rattle.std.proofs.lemmas.List.Quantifiers.{position-Some}
-use Rattle.std.proofs.lemmas.List.Sums.{prefix_len-le-length}
 use Rattle.std.proofs.lemmas.Slice.Eq.{bytes_eq-Decides}
 use Rattle.std.specs.Bool.{then_some}
 use Rattle.std.specs.List.{position, position_or_len, prefix_len}
 use Rattle.std.specs.Option.{option_and_then, option_map, option_map_or}
-use Rattle.std.specs.Prelude.{min, nat_le, nat_lt, Option, None, Some}
+use Rattle.std.specs.Prelude.{min, nat_le, Option, None, Some}
 use Rattle.std.specs.Str.{bytes_eq}
 use Rattle.elf_file.specs.Sections.{short_text_at, text_at}
 
@@ -17,7 +16,7 @@ one_more_passes : (passes : Bool) (near all n : ℕ) → near ≡ min n all → 
 one_more_passes true near all n e = omega (arith, e)
 one_more_passes false near all n e = omega arith
 
-prefix_len-take : (p : ℕ → Bool) (n : ℕ) (bytes : List ℕ) → prefix_len p (take n bytes) ≡ min n (prefix_len p bytes)
+pub prefix_len-take : (p : ℕ → Bool) (n : ℕ) (bytes : List ℕ) → prefix_len p (take n bytes) ≡ min n (prefix_len p bytes)
 prefix_len-take p zero bytes = omega arith
 prefix_len-take p (suc n) [] = omega arith
 prefix_len-take p (suc n) (byte ∷ bytes) = one_more_passes (p byte) (prefix_len p (take n bytes)) (prefix_len p bytes) n (prefix_len-take p n bytes)

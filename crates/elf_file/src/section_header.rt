@@ -104,7 +104,7 @@ pub(crate) fn section_numbered(file: &[u8], number: u32) -> &[u8]
 }
 
 /// The place of the first zero.
-fn first_zero(bytes: &[u8]) -> Option<usize>
+pub(crate) fn first_zero(bytes: &[u8]) -> Option<usize>
     ensures place { result ≡ position (λ byte. byte == 0) bytes.now }
     ensures within { IfSome result (λ place. place < length bytes.now) }
 {

@@ -7,6 +7,7 @@ mod elf_files;
 mod examples;
 mod files;
 mod instructions;
+mod line_tables;
 mod lines;
 mod names;
 mod numbers;

@@ -1,4 +1,4 @@
-use Rattle.std.proofs.Common.{◌≡◌, ◌∙◌, true, false, get_or, sym, ap}
+use Rattle.std.proofs.Common.{◌≡◌, ◌∙◌, get_or, sym, ap}
 use Rattle.elf_file.specs.FunctionSymbols.{FunctionSymbol}
 use Rattle.elf_file.specs.Functions.{has_address}
 use Rattle.elf_file.proofs.Cells.{kept_by_address, kept_by_order, taken_by_both}

@@ -1,0 +1,14 @@
+//! Source lines by address: the line table of an executable (`.debug_line`), of DWARF 4 and 5.
+
+mod cells;
+mod files;
+mod forms;
+mod header;
+mod numbers;
+mod opcodes;
+mod reading;
+mod table;
+mod texts;
+mod units;
+
+pub use table::LineTable;
