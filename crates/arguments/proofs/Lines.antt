@@ -18,8 +18,8 @@ use Rattle.clap.specs.declared.parser.matches.ArgMatches.TheViews.{out-SubComman
 use Rattle.clap.proofs.WalkLemmas.{first_value-rows}
 use Rattle.arguments.specs.Codes.{IsMeaningOf}
 use Rattle.arguments.specs.declared.codes.table.Meaning.{Meaning}
-use Rattle.arguments.specs.Grammar.{IsGrammar, novacrash, grammar_of, is_of_file, making, running, asking_of_runs, asking_of_files, telling, judging, showing, assemble_shape, make_volume_shape, upgrade_shape, run_shape, replay_shape, debug_shape, trace_shape, images_shape, image_shape, trace_of_file_shape, images_of_file_shape, image_of_file_shape, unpersisted_shape, waste_shape, explain_shape, check_shape, judge_shape, check_all_shape, judge_all_shape, answer_shape, picture_shape, interleave_shape, show_shape, listing_shape, code_shape, help_shape}
-use Rattle.arguments.specs.Line.{IsAsked, IsCommand, IsEventSource, IsFault, IsHelp, IsKindOf, IsNoCommand, IsOf, IsTrace, OnFault, Refuses}
+use Rattle.arguments.specs.Grammar.{IsGrammar, novacrash, grammar_of, is_of_file, making, running, asking_of_runs, asking_of_files, telling, judging, drawing_of_runs, drawing_of_files, showing, assemble_shape, make_volume_shape, upgrade_shape, run_shape, replay_shape, debug_shape, trace_shape, images_shape, image_shape, trace_of_file_shape, images_of_file_shape, image_of_file_shape, unpersisted_shape, waste_shape, unpersisted_of_file_shape, waste_of_file_shape, explain_shape, check_shape, judge_shape, check_all_shape, judge_all_shape, answer_shape, picture_shape, picture_of_file_shape, interleave_shape, show_shape, listing_shape, code_shape, help_shape}
+use Rattle.arguments.specs.Line.{IsAsked, IsCommand, IsEventSource, IsFault, IsHelp, IsKindOf, IsNoCommand, IsOf, IsReport, IsTrace, OnFault, Refuses}
 use Rattle.arguments.specs.Values.{IsCodeWord, IsOptional}
 use Rattle.arguments.specs.declared.asked.Command.{Command}
 use Rattle.arguments.specs.declared.asked.Command.TheVariants as commands
@@ -27,6 +27,7 @@ use Rattle.arguments.specs.declared.asked.EventSource.{EventSource}
 use Rattle.arguments.specs.declared.asked.EventSource.TheVariants.{Run, Trace}
 use Rattle.arguments.specs.declared.asked.LineFault.{LineFault}
 use Rattle.arguments.specs.declared.asked.LineFault.TheVariants.{Help, Fault, Memory}
+use Rattle.arguments.specs.declared.asked.ReportCommand.{ReportCommand}
 use Rattle.arguments.specs.declared.asked.TraceCommand.{TraceCommand}
 
 -- the getter of clap's matches, by the rows of the walk
@@ -58,12 +59,12 @@ refused_by_kind words kind (Fault text) (inr among) is =
 refused_by_kind words kind Memory among is = tt
 
 simple_and_free : (of_file : Bool) → is_simple_and_free (novacrash of_file) ≡ true
-unfolding novacrash making running telling judging showing assemble_shape make_volume_shape upgrade_shape run_shape replay_shape debug_shape asking_of_runs asking_of_files trace_shape images_shape image_shape trace_of_file_shape images_of_file_shape image_of_file_shape unpersisted_shape waste_shape explain_shape check_shape judge_shape check_all_shape judge_all_shape answer_shape picture_shape interleave_shape show_shape listing_shape code_shape help_shape
+unfolding novacrash making running telling judging showing assemble_shape make_volume_shape upgrade_shape run_shape replay_shape debug_shape asking_of_runs asking_of_files drawing_of_runs drawing_of_files trace_shape images_shape image_shape trace_of_file_shape images_of_file_shape image_of_file_shape unpersisted_shape waste_shape unpersisted_of_file_shape waste_of_file_shape explain_shape check_shape judge_shape check_all_shape judge_all_shape answer_shape picture_shape picture_of_file_shape interleave_shape show_shape listing_shape code_shape help_shape
 simple_and_free false = refl
 simple_and_free true = refl
 
 simple : (of_file : Bool) → is_simple (novacrash of_file) ≡ true
-unfolding novacrash making running telling judging showing assemble_shape make_volume_shape upgrade_shape run_shape replay_shape debug_shape asking_of_runs asking_of_files trace_shape images_shape image_shape trace_of_file_shape images_of_file_shape image_of_file_shape unpersisted_shape waste_shape explain_shape check_shape judge_shape check_all_shape judge_all_shape answer_shape picture_shape interleave_shape show_shape listing_shape code_shape help_shape
+unfolding novacrash making running telling judging showing assemble_shape make_volume_shape upgrade_shape run_shape replay_shape debug_shape asking_of_runs asking_of_files drawing_of_runs drawing_of_files trace_shape images_shape image_shape trace_of_file_shape images_of_file_shape image_of_file_shape unpersisted_shape waste_shape unpersisted_of_file_shape waste_of_file_shape explain_shape check_shape judge_shape check_all_shape judge_all_shape answer_shape picture_shape picture_of_file_shape interleave_shape show_shape listing_shape code_shape help_shape
 simple false = refl
 simple true = refl
 
@@ -190,3 +191,63 @@ pub no_trace : (name : Text) (rows : List Row) (result : Result Command LineFaul
     → IfErr result (OnFault ((command : TraceCommand) → ¬ (IsTrace rows command))) → IfErr result (OnFault ((command : Command) → ¬ (IsOf name rows command)))
 no_trace name rows (Ok command) is none = tt
 no_trace name rows (Err fault) is none = says_more fault (no_trace_of name rows is) none
+
+-- `unpersisted` asks for no command where its values give none
+no_unpersisted_of : (name : Text) (rows : List Row) → name ≡ codes "unpersisted" → ((command : ReportCommand) → ¬ IsReport rows command) → (command : Command) → ¬ IsOf name rows command
+no_unpersisted_of name rows is none (commands.Unpersisted command) asked = none command asked.1
+no_unpersisted_of name rows is none (commands.Trace command) asked = let e : 116 ≡ 117 = ap (λ (t : Text). slice_index t 0) (sym asked.0 ∙ is) in absurd (omega (arith, e))
+no_unpersisted_of name rows is none (commands.Assemble command) asked = let e : 97 ≡ 117 = ap (λ (t : Text). slice_index t 0) (sym asked.0 ∙ is) in absurd (omega (arith, e))
+no_unpersisted_of name rows is none (commands.MakeVolume command) asked = let e : 109 ≡ 117 = ap (λ (t : Text). slice_index t 0) (sym asked.0 ∙ is) in absurd (omega (arith, e))
+no_unpersisted_of name rows is none (commands.Upgrade command) asked = let e : 112 ≡ 110 = ap (λ (t : Text). slice_index t 1) (sym asked.0 ∙ is) in absurd (omega (arith, e))
+no_unpersisted_of name rows is none (commands.Run command) asked = let e : 114 ≡ 117 = ap (λ (t : Text). slice_index t 0) (sym asked.0 ∙ is) in absurd (omega (arith, e))
+no_unpersisted_of name rows is none (commands.Replay command) asked = let e : 114 ≡ 117 = ap (λ (t : Text). slice_index t 0) (sym asked.0 ∙ is) in absurd (omega (arith, e))
+no_unpersisted_of name rows is none (commands.Debug command) asked = let e : 100 ≡ 117 = ap (λ (t : Text). slice_index t 0) (sym asked.0 ∙ is) in absurd (omega (arith, e))
+no_unpersisted_of name rows is none (commands.Waste command) asked = let e : 119 ≡ 117 = ap (λ (t : Text). slice_index t 0) (sym asked.0 ∙ is) in absurd (omega (arith, e))
+no_unpersisted_of name rows is none (commands.Images command) asked = let e : 105 ≡ 117 = ap (λ (t : Text). slice_index t 0) (sym asked.0 ∙ is) in absurd (omega (arith, e))
+no_unpersisted_of name rows is none (commands.Image command) asked = let e : 105 ≡ 117 = ap (λ (t : Text). slice_index t 0) (sym asked.0 ∙ is) in absurd (omega (arith, e))
+no_unpersisted_of name rows is none (commands.Explain command) asked = let e : 101 ≡ 117 = ap (λ (t : Text). slice_index t 0) (sym asked.0 ∙ is) in absurd (omega (arith, e))
+no_unpersisted_of name rows is none (commands.Check command) asked = let e : 99 ≡ 117 = ap (λ (t : Text). slice_index t 0) (sym asked.0 ∙ is) in absurd (omega (arith, e))
+no_unpersisted_of name rows is none (commands.Judge command) asked = let e : 106 ≡ 117 = ap (λ (t : Text). slice_index t 0) (sym asked.0 ∙ is) in absurd (omega (arith, e))
+no_unpersisted_of name rows is none (commands.CheckAll command) asked = let e : 99 ≡ 117 = ap (λ (t : Text). slice_index t 0) (sym asked.0 ∙ is) in absurd (omega (arith, e))
+no_unpersisted_of name rows is none (commands.JudgeAll command) asked = let e : 106 ≡ 117 = ap (λ (t : Text). slice_index t 0) (sym asked.0 ∙ is) in absurd (omega (arith, e))
+no_unpersisted_of name rows is none (commands.Answer command) asked = let e : 97 ≡ 117 = ap (λ (t : Text). slice_index t 0) (sym asked.0 ∙ is) in absurd (omega (arith, e))
+no_unpersisted_of name rows is none (commands.Picture command) asked = let e : 112 ≡ 117 = ap (λ (t : Text). slice_index t 0) (sym asked.0 ∙ is) in absurd (omega (arith, e))
+no_unpersisted_of name rows is none (commands.Interleave command) asked = let e : 105 ≡ 117 = ap (λ (t : Text). slice_index t 0) (sym asked.0 ∙ is) in absurd (omega (arith, e))
+no_unpersisted_of name rows is none (commands.Show command) asked = let e : 115 ≡ 117 = ap (λ (t : Text). slice_index t 0) (sym asked.0 ∙ is) in absurd (omega (arith, e))
+no_unpersisted_of name rows is none (commands.Listing command) asked = let e : 108 ≡ 117 = ap (λ (t : Text). slice_index t 0) (sym asked.0 ∙ is) in absurd (omega (arith, e))
+no_unpersisted_of name rows is none (commands.Code command) asked = let e : 99 ≡ 117 = ap (λ (t : Text). slice_index t 0) (sym asked.0 ∙ is) in absurd (omega (arith, e))
+
+pub no_unpersisted : (name : Text) (rows : List Row) (result : Result Command LineFault) → name ≡ codes "unpersisted"
+    → IfErr result (OnFault ((command : ReportCommand) → ¬ (IsReport rows command))) → IfErr result (OnFault ((command : Command) → ¬ (IsOf name rows command)))
+no_unpersisted name rows (Ok command) is none = tt
+no_unpersisted name rows (Err fault) is none = says_more fault (no_unpersisted_of name rows is) none
+
+-- `waste` asks for no command where its values give none
+no_waste_of : (name : Text) (rows : List Row) → name ≡ codes "waste" → ((command : ReportCommand) → ¬ IsReport rows command) → (command : Command) → ¬ IsOf name rows command
+no_waste_of name rows is none (commands.Waste command) asked = none command asked.1
+no_waste_of name rows is none (commands.Trace command) asked = let e : 116 ≡ 119 = ap (λ (t : Text). slice_index t 0) (sym asked.0 ∙ is) in absurd (omega (arith, e))
+no_waste_of name rows is none (commands.Assemble command) asked = let e : 97 ≡ 119 = ap (λ (t : Text). slice_index t 0) (sym asked.0 ∙ is) in absurd (omega (arith, e))
+no_waste_of name rows is none (commands.MakeVolume command) asked = let e : 109 ≡ 119 = ap (λ (t : Text). slice_index t 0) (sym asked.0 ∙ is) in absurd (omega (arith, e))
+no_waste_of name rows is none (commands.Upgrade command) asked = let e : 117 ≡ 119 = ap (λ (t : Text). slice_index t 0) (sym asked.0 ∙ is) in absurd (omega (arith, e))
+no_waste_of name rows is none (commands.Run command) asked = let e : 114 ≡ 119 = ap (λ (t : Text). slice_index t 0) (sym asked.0 ∙ is) in absurd (omega (arith, e))
+no_waste_of name rows is none (commands.Replay command) asked = let e : 114 ≡ 119 = ap (λ (t : Text). slice_index t 0) (sym asked.0 ∙ is) in absurd (omega (arith, e))
+no_waste_of name rows is none (commands.Debug command) asked = let e : 100 ≡ 119 = ap (λ (t : Text). slice_index t 0) (sym asked.0 ∙ is) in absurd (omega (arith, e))
+no_waste_of name rows is none (commands.Unpersisted command) asked = let e : 117 ≡ 119 = ap (λ (t : Text). slice_index t 0) (sym asked.0 ∙ is) in absurd (omega (arith, e))
+no_waste_of name rows is none (commands.Images command) asked = let e : 105 ≡ 119 = ap (λ (t : Text). slice_index t 0) (sym asked.0 ∙ is) in absurd (omega (arith, e))
+no_waste_of name rows is none (commands.Image command) asked = let e : 105 ≡ 119 = ap (λ (t : Text). slice_index t 0) (sym asked.0 ∙ is) in absurd (omega (arith, e))
+no_waste_of name rows is none (commands.Explain command) asked = let e : 101 ≡ 119 = ap (λ (t : Text). slice_index t 0) (sym asked.0 ∙ is) in absurd (omega (arith, e))
+no_waste_of name rows is none (commands.Check command) asked = let e : 99 ≡ 119 = ap (λ (t : Text). slice_index t 0) (sym asked.0 ∙ is) in absurd (omega (arith, e))
+no_waste_of name rows is none (commands.Judge command) asked = let e : 106 ≡ 119 = ap (λ (t : Text). slice_index t 0) (sym asked.0 ∙ is) in absurd (omega (arith, e))
+no_waste_of name rows is none (commands.CheckAll command) asked = let e : 99 ≡ 119 = ap (λ (t : Text). slice_index t 0) (sym asked.0 ∙ is) in absurd (omega (arith, e))
+no_waste_of name rows is none (commands.JudgeAll command) asked = let e : 106 ≡ 119 = ap (λ (t : Text). slice_index t 0) (sym asked.0 ∙ is) in absurd (omega (arith, e))
+no_waste_of name rows is none (commands.Answer command) asked = let e : 97 ≡ 119 = ap (λ (t : Text). slice_index t 0) (sym asked.0 ∙ is) in absurd (omega (arith, e))
+no_waste_of name rows is none (commands.Picture command) asked = let e : 112 ≡ 119 = ap (λ (t : Text). slice_index t 0) (sym asked.0 ∙ is) in absurd (omega (arith, e))
+no_waste_of name rows is none (commands.Interleave command) asked = let e : 105 ≡ 119 = ap (λ (t : Text). slice_index t 0) (sym asked.0 ∙ is) in absurd (omega (arith, e))
+no_waste_of name rows is none (commands.Show command) asked = let e : 115 ≡ 119 = ap (λ (t : Text). slice_index t 0) (sym asked.0 ∙ is) in absurd (omega (arith, e))
+no_waste_of name rows is none (commands.Listing command) asked = let e : 108 ≡ 119 = ap (λ (t : Text). slice_index t 0) (sym asked.0 ∙ is) in absurd (omega (arith, e))
+no_waste_of name rows is none (commands.Code command) asked = let e : 99 ≡ 119 = ap (λ (t : Text). slice_index t 0) (sym asked.0 ∙ is) in absurd (omega (arith, e))
+
+pub no_waste : (name : Text) (rows : List Row) (result : Result Command LineFault) → name ≡ codes "waste"
+    → IfErr result (OnFault ((command : ReportCommand) → ¬ (IsReport rows command))) → IfErr result (OnFault ((command : Command) → ¬ (IsOf name rows command)))
+no_waste name rows (Ok command) is none = tt
+no_waste name rows (Err fault) is none = says_more fault (no_waste_of name rows is) none

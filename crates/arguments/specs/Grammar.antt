@@ -134,6 +134,18 @@ image_of_file_shape = record (new_shape (codes "image")) {
       ∷ valued_option (codes "medium") ∷ flag_option (codes "whole") ∷ help_option ∷ [];
 }
 
+-- `unpersisted --trace FILE [--whole --json]`
+unfoldable pub unpersisted_of_file_shape : Shape
+unpersisted_of_file_shape = record (new_shape (codes "unpersisted")) {
+  rules = needed_option (codes "trace") ∷ flag_option (codes "whole") ∷ flag_option (codes "json") ∷ help_option ∷ [];
+}
+
+-- `waste --trace FILE [--whole --json]`
+unfoldable pub waste_of_file_shape : Shape
+waste_of_file_shape = record (new_shape (codes "waste")) {
+  rules = needed_option (codes "trace") ∷ flag_option (codes "whole") ∷ flag_option (codes "json") ∷ help_option ∷ [];
+}
+
 -- `explain PROGRAM SCHEDULE MOMENT IMAGE [--medium FILE --harts N --whole]`
 unfoldable pub explain_shape : Shape
 explain_shape = record (new_shape (codes "explain")) {
@@ -192,6 +204,13 @@ picture_shape = record (new_shape (codes "picture")) {
       ∷ valued_option (codes "harts") ∷ help_option ∷ [];
 }
 
+-- `picture --trace FILE MOMENT FILE [--image IMAGE]`
+unfoldable pub picture_of_file_shape : Shape
+picture_of_file_shape = record (new_shape (codes "picture")) {
+  rules = needed_option (codes "trace") ∷ needed_word (codes "MOMENT") ∷ needed_word (codes "FILE") ∷ valued_option (codes "image")
+      ∷ help_option ∷ [];
+}
+
 -- `interleave PROGRAM --seed N [--medium FILE --harts N --steps N --evictions N]`
 unfoldable pub interleave_shape : Shape
 interleave_shape = record (new_shape (codes "interleave")) {
@@ -240,8 +259,8 @@ abbrev pub line : List Shape → App
 line shapes = record { top = record bare { is_leaf = is_none shapes }; subs = shapes }
 
 -- the subcommands that make files, those that run programs, those that tell of events, which a run makes or a file has, those that tell of a run
--- by a schedule alone, those that judge it or every run of a program, or say what a recovery routine answers, and those that draw a run, show
--- files, and tell of what is printed
+-- by a schedule alone, those that judge it or every run of a program, or say what a recovery routine answers, the one that draws events, and those
+-- that show files, and tell of what is printed
 unfoldable pub making : List Shape
 making = assemble_shape ∷ make_volume_shape ∷ upgrade_shape ∷ []
 
@@ -249,27 +268,37 @@ unfoldable pub running : List Shape
 running = run_shape ∷ replay_shape ∷ debug_shape ∷ []
 
 unfoldable pub asking_of_runs : List Shape
-asking_of_runs = trace_shape ∷ images_shape ∷ image_shape ∷ []
+asking_of_runs = trace_shape ∷ images_shape ∷ image_shape ∷ unpersisted_shape ∷ waste_shape ∷ []
 
 unfoldable pub asking_of_files : List Shape
-asking_of_files = trace_of_file_shape ∷ images_of_file_shape ∷ image_of_file_shape ∷ []
+asking_of_files = trace_of_file_shape ∷ images_of_file_shape ∷ image_of_file_shape ∷ unpersisted_of_file_shape ∷ waste_of_file_shape ∷ []
 
 abbrev pub asking : Bool → List Shape
 asking false = asking_of_runs
 asking true = asking_of_files
 
 unfoldable pub telling : List Shape
-telling = unpersisted_shape ∷ waste_shape ∷ explain_shape ∷ []
+telling = explain_shape ∷ []
 
 unfoldable pub judging : List Shape
 judging = check_shape ∷ judge_shape ∷ check_all_shape ∷ judge_all_shape ∷ answer_shape ∷ []
 
+unfoldable pub drawing_of_runs : List Shape
+drawing_of_runs = picture_shape ∷ []
+
+unfoldable pub drawing_of_files : List Shape
+drawing_of_files = picture_of_file_shape ∷ []
+
+abbrev pub drawing : Bool → List Shape
+drawing false = drawing_of_runs
+drawing true = drawing_of_files
+
 unfoldable pub showing : List Shape
-showing = picture_shape ∷ interleave_shape ∷ show_shape ∷ listing_shape ∷ code_shape ∷ help_shape ∷ []
+showing = interleave_shape ∷ show_shape ∷ listing_shape ∷ code_shape ∷ help_shape ∷ []
 
 -- the whole line, of a trace file or without one
 unfoldable pub novacrash : Bool → App
-novacrash of_file = line (((((making ++ running) ++ asking of_file) ++ telling) ++ judging) ++ showing)
+novacrash of_file = line ((((((making ++ running) ++ asking of_file) ++ telling) ++ judging) ++ drawing of_file) ++ showing)
 
 -- `--trace`, alone or with its value
 abbrev pub is_trace_option : Text → Bool

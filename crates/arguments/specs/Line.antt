@@ -119,9 +119,9 @@ pub record IsTrace (rows : List Row) (command : TraceCommand) : Type 0 where
   pub source : IsEventSource rows command.source
   pub json : command.json ≡ is_set (first_of (codes "json") rows)
 
--- `unpersisted` or `waste` of this run, as text or as JSON
+-- `unpersisted` or `waste` of these events, as text or as JSON
 pub record IsReport (rows : List Row) (command : ReportCommand) : Type 0 where
-  pub run : IsScheduledRun rows command.run
+  pub source : IsEventSource rows command.source
   pub json : command.json ≡ is_set (first_of (codes "json") rows)
 
 -- `images` of this moment of these events, as text or as JSON
@@ -207,9 +207,9 @@ pub record IsAnswer (rows : List Row) (command : AnswerCommand) : Type 0 where
   pub medium : IsOptional (codes "medium") rows command.medium
   pub steps : IsRecoverySteps rows command.steps
 
--- `picture` of this moment of this run, with this image of it or none, into this file
+-- `picture` of this moment of these events, with this image of it or none, into this file
 pub record IsPicture (rows : List Row) (command : PictureCommand) : Type 0 where
-  pub run : IsScheduledRun rows command.run
+  pub source : IsEventSource rows command.source
   pub moment : IsNumberWord (first_of (codes "MOMENT") rows) command.moment
   pub image : IsOptionalImage (first_of (codes "image") rows) command.image
   pub picture : IsWord (codes "FILE") rows command.picture
@@ -333,8 +333,8 @@ IsWithinLimits (Run command) = IsMachineWithin command.machine × IsWithin 1 500
 IsWithinLimits (Replay command) = IsMachineWithin command.run.machine
 IsWithinLimits (Debug command) = IsMachineWithin command.machine
 IsWithinLimits (Trace command) = IsSourceWithin command.source
-IsWithinLimits (Unpersisted command) = IsMachineWithin command.run.machine
-IsWithinLimits (Waste command) = IsMachineWithin command.run.machine
+IsWithinLimits (Unpersisted command) = IsSourceWithin command.source
+IsWithinLimits (Waste command) = IsSourceWithin command.source
 IsWithinLimits (Images command) = IsSourceWithin command.source × (command.moment < 2 ^ 32)
 IsWithinLimits (Image command) = IsSourceWithin command.source × (command.moment < 2 ^ 32) × IsProper command.image
 IsWithinLimits (Explain command) = IsMachineWithin command.run.machine × (command.moment < 2 ^ 32) × IsProper command.image
@@ -343,7 +343,7 @@ IsWithinLimits (Judge command) = IsJudgedWithin command.judged × IsWithin 1 500
 IsWithinLimits (CheckAll command) = IsProgramWithin command.judged
 IsWithinLimits (JudgeAll command) = IsProgramWithin command.judged × IsWithin 1 500000000 command.steps
 IsWithinLimits (Answer command) = IsWithin 1 500000000 command.steps
-IsWithinLimits (Picture command) = IsMachineWithin command.run.machine × (command.moment < 2 ^ 32) × IfSome command.image IsProper
+IsWithinLimits (Picture command) = IsSourceWithin command.source × (command.moment < 2 ^ 32) × IfSome command.image IsProper
 IsWithinLimits (Interleave command) = IsMachineWithin command.machine × IsWithin 1 500000000 command.steps × IsWithin 0 65536 command.evictions
 IsWithinLimits (Show command) = IfSome command.line (λ line. line < 2 ^ 32)
 IsWithinLimits (Listing command) = ⊤

@@ -22,9 +22,9 @@ pub enum Command {
     Debug(DebugCommand),
     /// `trace PROGRAM SCHEDULE [--medium FILE --harts N --whole --json]`, or `trace --trace FILE [--whole]`.
     Trace(TraceCommand),
-    /// `unpersisted PROGRAM SCHEDULE [--medium FILE --harts N --whole --json]`.
+    /// `unpersisted PROGRAM SCHEDULE [--medium FILE --harts N --whole --json]`, or `unpersisted --trace FILE [--whole --json]`.
     Unpersisted(ReportCommand),
-    /// `waste PROGRAM SCHEDULE [--medium FILE --harts N --whole --json]`.
+    /// `waste PROGRAM SCHEDULE [--medium FILE --harts N --whole --json]`, or `waste --trace FILE [--whole --json]`.
     Waste(ReportCommand),
     /// `images PROGRAM SCHEDULE MOMENT [--medium FILE --harts N --whole --json]`, or `images --trace FILE MOMENT [--whole --json]`.
     Images(ImagesCommand),
@@ -42,7 +42,7 @@ pub enum Command {
     JudgeAll(JudgeAllCommand),
     /// `answer RECOVERY [--medium FILE --steps N]`.
     Answer(AnswerCommand),
-    /// `picture PROGRAM SCHEDULE MOMENT FILE [--image IMAGE --medium FILE --harts N]`.
+    /// `picture PROGRAM SCHEDULE MOMENT FILE [--image IMAGE --medium FILE --harts N]`, or `picture --trace FILE MOMENT FILE [--image IMAGE]`.
     Picture(PictureCommand),
     /// `interleave PROGRAM --seed N [--medium FILE --harts N --steps N --evictions N]`.
     Interleave(InterleaveCommand),
@@ -180,7 +180,7 @@ pub struct TraceCommand {
 /// What `unpersisted` or `waste` is to do.
 #[derive(Drop)]
 pub struct ReportCommand {
-    pub run: ScheduledRun,
+    pub source: EventSource,
     /// Whether the answer is one JSON object a line.
     pub json: bool,
 }
@@ -327,8 +327,8 @@ pub struct AnswerCommand {
 /// What `picture` is to do.
 #[derive(Drop)]
 pub struct PictureCommand {
-    /// The run, which need not be whole.
-    pub run: ScheduledRun,
+    /// The events, which need not be whole.
+    pub source: EventSource,
     /// The number of events before the power cut: any number below 2^32.
     pub moment: u32,
     /// The crash image whose stores are told, where the line has `--image`. Its lines go strictly upwards.

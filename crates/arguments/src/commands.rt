@@ -279,13 +279,13 @@ pub(crate) fn debug(alloc: Global, found: &ArgMatches<'_>) -> Result<Command, Li
 /// What `unpersisted` or `waste` is to do.
 fn report(alloc: Global, found: &ArgMatches<'_>) -> Result<ReportCommand, LineFault>
     ensures ok { IfOk result (IsReport (rows_of (found_of found.now))) }
-    ensures within { IfOk result (λ command. IsMachineWithin command.run.machine) }
+    ensures within { IfOk result (λ command. IsSourceWithin command.source) }
     ensures err { IfErr result (OnFault ((command : AReportCommand)
         → ¬ (IsReport (rows_of (found_of found.now)) command))) }
 {
     Ok(ReportCommand {
         json: flag(found, "json"),
-        run: scheduled_run(alloc, found)?,
+        source: event_source(alloc, found)?,
     })
 }
 
@@ -464,8 +464,8 @@ pub(crate) fn picture(alloc: Global, found: &ArgMatches<'_>) -> Result<Command, 
     Ok(Command::Picture(PictureCommand {
         moment: number_word(alloc, found, "MOMENT")?,
         image: optional_image(alloc, found, "image")?,
-        run: scheduled_run(alloc, found)?,
         picture: word(alloc, found, "FILE")?,
+        source: event_source(alloc, found)?,
     }))
 }
 

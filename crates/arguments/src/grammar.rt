@@ -2,7 +2,7 @@
 
 ghost use Rattle.std.specs.Prelude.{◌≡◌, ◌++◌, [], IfOk, List, false, map};
 ghost use Rattle.clap.specs.Words.{Shape, rule_of};
-ghost use Rattle.arguments.specs.Grammar.{IsGrammar, asking, help_option, judging, leaf, line, making, novacrash, rule, running, shape, telling};
+ghost use Rattle.arguments.specs.Grammar.{IsGrammar, asking, drawing, help_option, judging, leaf, line, making, novacrash, rule, running, shape, telling};
 
 mod overview;
 
@@ -356,7 +356,7 @@ static RUNNING: [Subcommand; 3] = [
 ];
 
 /// The subcommands that tell of events, of a run by a schedule here, behind those.
-static ASKING_OF_RUNS: [Subcommand; 3] = [
+static ASKING_OF_RUNS: [Subcommand; 5] = [
     Subcommand {
         name: "trace",
         group: Group::Look,
@@ -389,10 +389,31 @@ static ASKING_OF_RUNS: [Subcommand; 3] = [
             "With --trace FILE in place of PROGRAM and SCHEDULE it takes the events of a trace file: docs/TRACES.md.\n\n"
         ),
     },
+    Subcommand {
+        name: "unpersisted",
+        group: Group::Look,
+        about: "Print the stores of a run that weren't durable when their operation ended",
+        arguments: &[PROGRAM, SCHEDULE, MEDIUM, HARTS, WHOLE, JSON],
+        ending: ending!(
+            "unpersisted append.s append.schedule --medium append.medium --whole",
+            "With --trace FILE in place of PROGRAM and SCHEDULE it takes the events of a trace file: docs/TRACES.md.\n\n"
+        ),
+    },
+    Subcommand {
+        name: "waste",
+        group: Group::Look,
+        about: "Print the cleans and fences that a run makes in vain",
+        arguments: &[PROGRAM, SCHEDULE, MEDIUM, HARTS, WHOLE, JSON],
+        ending: ending!(
+            "waste append.s append.schedule --medium append.medium --whole",
+            "This speaks of the run by this schedule alone: only an instruction with `always` can be deleted, where each run has it.\n\n\
+             With --trace FILE in place of PROGRAM and SCHEDULE it takes the events of a trace file: docs/TRACES.md.\n\n"
+        ),
+    },
 ];
 
 /// The same of a trace file.
-static ASKING_OF_FILES: [Subcommand; 3] = [
+static ASKING_OF_FILES: [Subcommand; 5] = [
     Subcommand {
         name: "trace",
         group: Group::Look,
@@ -414,35 +435,30 @@ static ASKING_OF_FILES: [Subcommand; 3] = [
         arguments: &[TRACE, MOMENT, IMAGE, IMAGE_OUT, START, WHOLE],
         ending: ending!("image --trace log.trace 3 2 cut.pool --medium log.pool"),
     },
-];
-
-/// The subcommands that tell of a run by a schedule alone, behind those.
-static TELLING: [Subcommand; 3] = [
     Subcommand {
         name: "unpersisted",
         group: Group::Look,
-        about: "Print the stores of a run that weren't durable when their operation ended",
-        arguments: &[PROGRAM, SCHEDULE, MEDIUM, HARTS, WHOLE, JSON],
-        ending: ending!("unpersisted append.s append.schedule --medium append.medium --whole"),
+        about: "Print the stores of a trace file that weren't durable when their operation ended",
+        arguments: &[TRACE, WHOLE, JSON],
+        ending: ending!("unpersisted --trace log.trace"),
     },
     Subcommand {
         name: "waste",
         group: Group::Look,
-        about: "Print the cleans and fences that a run makes in vain",
-        arguments: &[PROGRAM, SCHEDULE, MEDIUM, HARTS, WHOLE, JSON],
-        ending: ending!(
-            "waste append.s append.schedule --medium append.medium --whole",
-            "This speaks of the run by this schedule alone: only an instruction with `always` can be deleted, where each run has it.\n\n"
-        ),
-    },
-    Subcommand {
-        name: "explain",
-        group: Group::Look,
-        about: "Print a schedule that leaves a crash image of a moment of a run",
-        arguments: &[PROGRAM, SCHEDULE, MOMENT, IMAGE, MEDIUM, HARTS, WHOLE],
-        ending: ending!("explain append.s append.schedule 5 2 --medium append.medium --whole"),
+        about: "Print the cleans and fences of a trace file that are made in vain",
+        arguments: &[TRACE, WHOLE, JSON],
+        ending: ending!("waste --trace log.trace"),
     },
 ];
+
+/// The subcommands that tell of a run by a schedule alone, behind those.
+static TELLING: [Subcommand; 1] = [Subcommand {
+    name: "explain",
+    group: Group::Look,
+    about: "Print a schedule that leaves a crash image of a moment of a run",
+    arguments: &[PROGRAM, SCHEDULE, MOMENT, IMAGE, MEDIUM, HARTS, WHOLE],
+    ending: ending!("explain append.s append.schedule 5 2 --medium append.medium --whole"),
+}];
 
 /// The subcommands that judge a run or every one of a program, behind those.
 static JUDGING: [Subcommand; 5] = [
@@ -518,25 +534,37 @@ static JUDGING: [Subcommand; 5] = [
     },
 ];
 
-/// The subcommands that draw a run, that show files, and that tell of what the program prints, behind the others.
-static SHOWING: [Subcommand; 6] = [
-    Subcommand {
-        name: "picture",
-        group: Group::Look,
-        about: "Draw a run up to a moment: its stores, cleans and fences, and what a power cut may lose",
-        arguments: &[
-            PROGRAM,
-            SCHEDULE,
-            MOMENT,
-            PICTURE,
-            SHOWN_IMAGE,
-            MEDIUM,
-            HARTS,
-        ],
-        ending: ending!(
-            "picture append.s append.schedule 5 append.svg --image 2 --medium append.medium"
-        ),
-    },
+/// The subcommand that draws a run by a schedule, behind those.
+static DRAWING_OF_RUNS: [Subcommand; 1] = [Subcommand {
+    name: "picture",
+    group: Group::Look,
+    about: "Draw a run up to a moment: its stores, cleans and fences, and what a power cut may lose",
+    arguments: &[
+        PROGRAM,
+        SCHEDULE,
+        MOMENT,
+        PICTURE,
+        SHOWN_IMAGE,
+        MEDIUM,
+        HARTS,
+    ],
+    ending: ending!(
+        "picture append.s append.schedule 5 append.svg --image 2 --medium append.medium",
+        "With --trace FILE in place of PROGRAM and SCHEDULE it takes the events of a trace file: docs/TRACES.md.\n\n"
+    ),
+}];
+
+/// The one that draws the events of a trace file.
+static DRAWING_OF_FILES: [Subcommand; 1] = [Subcommand {
+    name: "picture",
+    group: Group::Look,
+    about: "Draw a trace file up to a moment: its stores, cleans and fences, and what a power cut may lose",
+    arguments: &[TRACE, MOMENT, PICTURE, SHOWN_IMAGE],
+    ending: ending!("picture --trace log.trace 3 log.svg --image 2"),
+}];
+
+/// The subcommands that show files, and that tell of what the program prints, behind the others.
+static SHOWING: [Subcommand; 5] = [
     Subcommand {
         name: "interleave",
         group: Group::Make,
@@ -650,7 +678,7 @@ fn with_running<'a>(alloc: Global) -> Result<clap::Command<'a>, AllocError>
 }
 
 /// The subcommands that tell of events, of a trace file or of a run.
-#[tactic(auto, unfolding(crate::specs::Grammar::asking_of_files, crate::specs::Grammar::asking_of_runs, crate::specs::Grammar::trace_shape, crate::specs::Grammar::images_shape, crate::specs::Grammar::image_shape, crate::specs::Grammar::trace_of_file_shape, crate::specs::Grammar::images_of_file_shape, crate::specs::Grammar::image_of_file_shape))]
+#[tactic(auto, unfolding(crate::specs::Grammar::asking_of_files, crate::specs::Grammar::asking_of_runs, crate::specs::Grammar::trace_shape, crate::specs::Grammar::images_shape, crate::specs::Grammar::image_shape, crate::specs::Grammar::trace_of_file_shape, crate::specs::Grammar::images_of_file_shape, crate::specs::Grammar::image_of_file_shape, crate::specs::Grammar::unpersisted_shape, crate::specs::Grammar::waste_shape, crate::specs::Grammar::unpersisted_of_file_shape, crate::specs::Grammar::waste_of_file_shape))]
 fn asking(of_file: bool) -> &'static [Subcommand]
     ensures { map shape result.now ≡ asking of_file }
 {
@@ -679,10 +707,28 @@ fn with_judging<'a>(alloc: Global, of_file: bool) -> Result<clap::Command<'a>, A
     with_all(alloc, with_telling(alloc, of_file)?, &JUDGING)
 }
 
+/// The subcommand that draws events, of a trace file or of a run.
+#[tactic(auto, unfolding(crate::specs::Grammar::drawing_of_files, crate::specs::Grammar::drawing_of_runs, crate::specs::Grammar::picture_shape, crate::specs::Grammar::picture_of_file_shape))]
+fn drawing(of_file: bool) -> &'static [Subcommand]
+    ensures { map shape result.now ≡ drawing of_file }
+{
+    if of_file {
+        &DRAWING_OF_FILES
+    } else {
+        &DRAWING_OF_RUNS
+    }
+}
+
+fn with_drawing<'a>(alloc: Global, of_file: bool) -> Result<clap::Command<'a>, AllocError>
+    ensures { IfOk result (IsGrammar (line (((((making ++ running) ++ asking of_file) ++ telling) ++ judging) ++ drawing of_file))) }
+{
+    with_all(alloc, with_judging(alloc, of_file)?, drawing(of_file))
+}
+
 fn with_showing<'a>(alloc: Global, of_file: bool) -> Result<clap::Command<'a>, AllocError>
     ensures { IfOk result (IsGrammar (novacrash of_file)) }
 {
-    with_all(alloc, with_judging(alloc, of_file)?, &SHOWING)
+    with_all(alloc, with_drawing(alloc, of_file)?, &SHOWING)
 }
 
 /// The line of the program, of a trace file or without one, with the text that `--help` prints where it stands alone.

@@ -20,7 +20,7 @@ use Rattle.command_line.specs.Demanding.{MeetsWhole}
 use Rattle.command_line.specs.Failures.{failure_of_image}
 use Rattle.command_line.specs.MakingRuns.{OpensRun}
 use Rattle.command_line.specs.Steps.{First, Prints, Reads, ReadsFile, Step, Still, Tells, Writes, WritesFile}
-use Rattle.command_line.specs.Traces.{MeetsEnded, SaysTrace, events_of, medium_of}
+use Rattle.command_line.specs.Traces.{MeetsEnded, SaysTrace, events_of, medium_of, name_in}
 use Rattle.command_line.specs.declared.answer.Answer.{Answer}
 use Rattle.command_line.specs.declared.events.OpenEvents.{OpenEvents}
 use Rattle.command_line.specs.declared.events.OpenEvents.TheVariants.{Run, Trace}
@@ -47,11 +47,6 @@ LacksLine names size = (rank : ℕ) × (rank < length names) × (size < 64 * sli
 
 abbrev pub IsUnranked : List ℕ → ℕ → Failure → Type 0
 IsUnranked names size failure = ((failure ≡ Refused (refusals.Step NoSuchLine)) × LacksLine names size) ⊎ (failure ≡ Memory)
-
--- the line that events name so: those of a file name it by its rank
-abbrev pub name_in : OpenEvents → ℕ → ℕ
-name_in (Run made) line = line
-name_in (Trace trace) rank = slice_index trace.ranked.names.items rank
 
 -- it is among so many bytes
 abbrev pub IsPlaced : OpenEvents → ℕ → ℕ → Type 0

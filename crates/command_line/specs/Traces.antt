@@ -1,15 +1,20 @@
 -- What a trace file says that a command reads, and the medium that its events start from.
-use Rattle.std.specs.Prelude.{◌≡◌, ◌≤◌, ℕ, Bool, List, [], Option, Result, Ok, MatchResult, length, map, string_bytes}
+use Rattle.std.specs.Prelude.{◌≡◌, ◌≤◌, ℕ, Bool, List, [], Option, None, Result, Ok, All, MatchResult, length, slice_index, string_bytes}
 use Rattle.arguments.specs.declared.asked.EventSource.{EventSource}
 use Rattle.arguments.specs.declared.asked.EventSource.TheVariants as sources
 use Rattle.arguments.specs.declared.asked.ScheduledRun.{ScheduledRun}
 use Rattle.arguments.specs.declared.asked.TracedEvents.{TracedEvents}
 use Rattle.crash_image.specs.View.{HasLines}
+use Rattle.crash_test.specs.Origins.{origin_of}
+use Rattle.crash_test.specs.Programs.{IsProgramOf}
+use Rattle.store_trace.specs.TraceView.{NamesLine}
 use Rattle.store_trace.specs.declared.event.Event.{Event}
-use Rattle.report.specs.Places.{nowhere}
-use Rattle.trace_file.specs.Entries.{Entry, place_text}
+use Rattle.report.specs.Places.{nowhere, origin_in}
+use Rattle.report.specs.Told.{AreOfFile}
+use Rattle.report.specs.declared.told.ToldEvents.{ToldEvents}
+use Rattle.trace_file.specs.Entries.{Entry}
 use Rattle.trace_file.specs.Files.{IsFirstFault, IsTraceFile}
-use Rattle.trace_file.specs.Ranks.{HasEntries}
+use Rattle.trace_file.specs.Ranks.{HasEntries, copies_of}
 use Rattle.trace_file.specs.declared.fault.TraceFileCode.{TraceFileCode}
 use Rattle.trace_file.specs.declared.fault.TraceFileCode.TheVariants as broken
 use Rattle.trace_file.specs.declared.fault.TraceFileFault.{TraceFileFault}
@@ -28,7 +33,7 @@ use Rattle.command_line.specs.declared.made_run.MadeRun.{MadeRun}
 pub record IsReadFrom (text : List ℕ) (ranked : RankedTrace) : Type 0 where
   pub entries : List Entry
   pub file : IsTraceFile text entries
-  pub has : HasEntries (record { events = ranked.trace.events; places = map (λ (entry : Entry). place_text entry.places) entries; names = ranked.names.items }) entries
+  pub has : HasEntries (record { events = ranked.trace.events; places = copies_of ranked.places.items; names = ranked.names.items }) entries
   pub few : length ranked.names.items ≤ 16384
 
 -- the first fault of a text that is none; memory is wanted for a trace file alone
@@ -88,3 +93,30 @@ OpensEvents reads (sources.Trace events) = OpensTraceFile reads events
 -- the medium has every line that the events name
 abbrev pub IsOpen : OpenEvents → Type 0
 IsOpen opened = HasLines (medium_of opened) (events_of opened)
+
+-- the line that events name so: those of a file name it by its rank
+abbrev pub name_in : OpenEvents → ℕ → ℕ
+name_in (Run made) line = line
+name_in (Trace trace) rank = slice_index trace.ranked.names.items rank
+
+-- the lines that the events name have names, of which there are few enough, and each event has its place words
+pub record HasNamesAndPlaces (ranked : RankedTrace) : Type 0 where
+  pub lines : All (NamesLine (length ranked.names.items)) ranked.trace.events
+  pub few : length ranked.names.items ≤ 16384
+  pub size : length ranked.places.items ≡ length ranked.trace.events
+
+-- what is known of events of which it can be told where each was made
+abbrev pub HasPlaces : OpenEvents → Type 0
+HasPlaces (Run made) = IsProgramOf made.file.items made.run.setup.program
+HasPlaces (Trace trace) = HasNamesAndPlaces trace.ranked
+
+-- the events of a run as they are told, by what is known of each pc by the program's file
+pub record AreOfRun (made : MadeRun) (told : ToldEvents) : Type 0 where
+  pub traced : told.traced.items ≡ made.run.traced
+  pub origins : origin_in told.places ≡ origin_of made.file.items
+  pub lines : told.lines ≡ None
+
+-- events as they are told, by the names of their lines
+abbrev pub AreTold : OpenEvents → ToldEvents → Type 0
+AreTold (Run made) told = AreOfRun made told
+AreTold (Trace trace) told = AreOfFile trace.ranked told

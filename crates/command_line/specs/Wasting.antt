@@ -1,21 +1,21 @@
 -- What `waste` comes to.
-use Rattle.std.specs.Prelude.{◌≡◌, ◌↔◌, ℕ, Bool, true, false, List, [], Option, Result, MatchResult, length}
+use Rattle.std.specs.Prelude.{◌≡◌, ◌↔◌, ℕ, Bool, true, false, List, Option, Result, MatchResult, length}
+use Rattle.std.specs.Global.{Vec}
 use Rattle.std.specs.List.{zip}
 use Rattle.arguments.specs.declared.asked.ReportCommand.{ReportCommand}
-use Rattle.report.specs.Uses.{Judged}
-use Rattle.report.specs.RedundantJson.{IsWasteJson}
-use Rattle.report.specs.Waste.{IsWasteText}
-use Rattle.report.specs.Places.{KnownOrigin}
-use Rattle.crash_test.specs.Origins.{origin_of}
 use Rattle.durability.specs.Found.{AreNeedless, with_reasons}
 use Rattle.durability.specs.declared.redundant.reason.Needless.{Needless}
 use Rattle.durability.specs.declared.redundant.reason.Reason.{Reason}
-use Rattle.machine.specs.RunValues.{RunView}
+use Rattle.report.specs.Places.{KnownOrigin, origin_in}
+use Rattle.report.specs.RedundantJson.{IsWasteJson}
+use Rattle.report.specs.Uses.{Judged}
+use Rattle.report.specs.Waste.{IsWasteText}
+use Rattle.report.specs.declared.told.ToldEvents.{ToldEvents}
 use Rattle.store_trace.specs.declared.event.Event.{Event}
-use Rattle.command_line.specs.Demanding.{MeetsWhole}
-use Rattle.command_line.specs.MakingRuns.{OpensRun}
 use Rattle.command_line.specs.Steps.{First, Reads, Step, Still}
+use Rattle.command_line.specs.Traces.{AreTold, OpensEvents, events_of}
 use Rattle.command_line.specs.declared.answer.Answer.{Answer}
+use Rattle.command_line.specs.declared.events.OpenEvents.{OpenEvents}
 use Rattle.command_line.specs.declared.failure.Failure.{Failure}
 use Rattle.command_line.specs.declared.failure.Failure.TheVariants.{Memory}
 
@@ -24,22 +24,28 @@ pub record AreReasons (events : List Event) (reasons : List (Option Reason)) : T
   pub size : length reasons ≡ length events
   pub needless : (found : List Needless) → AreNeedless events found ↔ (found ≡ with_reasons 1 reasons)
 
--- those of the run's events; memory for them may be refused
-pub record FindsNeedless (run : RunView) (outcome : Result (List (Option Reason)) Failure) : Type 0 where
-  pub finds : MatchResult outcome (AreReasons run.events) (λ failure. failure ≡ Memory)
+-- those of these events; memory for them may be refused
+pub record FindsNeedless (events : List Event) (outcome : Result (List (Option Reason)) Failure) : Type 0 where
+  pub finds : MatchResult outcome (AreReasons events) (λ failure. failure ≡ Memory)
 
--- what is told of events with their reasons, as text or as JSON, by the line of the source at each pc
-abbrev pub IsTold : Bool → (ℕ → KnownOrigin) → List Judged → List ℕ → Type 0
-IsTold true origins all text = IsWasteJson origins all text
-IsTold false origins all text = IsWasteText origins all text
+-- what is told of events with their reasons, as text or as JSON, by what is known of each pc, and by the place words of each line of a trace file
+abbrev pub IsTold : Bool → (ℕ → KnownOrigin) → Option (Vec (Vec ℕ)) → List Judged → List ℕ → Type 0
+IsTold true origins lines all text = IsWasteJson origins lines all text
+IsTold false origins lines all text = IsWasteText origins lines all text
 
--- it is printed, with status 0; memory for it may be refused
-pub record PrintsWaste (json : Bool) (origins : ℕ → KnownOrigin) (all : List Judged) (outcome : Result Answer Failure) : Type 0 where
-  pub answer : MatchResult outcome (λ answer. IsTold json origins all answer.text.items × (answer.status ≡ 0)) (λ failure. failure ≡ Memory)
+-- it is printed, with status 0
+pub record IsWasteAnswer (json : Bool) (opened : OpenEvents) (reasons : List (Option Reason)) (answer : Answer) : Type 0 where
+  pub told : ToldEvents
+  pub are_told : AreTold opened told
+  pub text : IsTold json (origin_in told.places) told.lines (zip told.traced.items reasons) answer.text.items
+  pub status : answer.status ≡ 0
+
+-- memory for it may be refused
+pub record PrintsWaste (json : Bool) (opened : OpenEvents) (reasons : List (Option Reason)) (outcome : Result Answer Failure) : Type 0 where
+  pub prints : MatchResult outcome (IsWasteAnswer json opened reasons) (λ failure. failure ≡ Memory)
 
 abbrev pub WasteFile : {F : Type 0} → Reads F → ReportCommand → Step F Answer
 WasteFile reads command =
-    First (OpensRun reads command.run) (λ made.
-    First (Still (MeetsWhole command.run.whole made [])) (λ _.
-    First (Still (FindsNeedless made.run)) (λ reasons.
-    Still (PrintsWaste command.json (origin_of made.file.items) (zip made.run.traced reasons)))))
+    First (OpensEvents reads command.source) (λ opened.
+    First (Still (FindsNeedless (events_of opened))) (λ reasons.
+    Still (PrintsWaste command.json opened reasons)))

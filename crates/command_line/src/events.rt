@@ -1,8 +1,9 @@
 //! The events of which commands tell: those of a run, or of a trace file.
 
-ghost use Rattle.command_line.specs.Traces.{IsOpen, IsOpened, OpensEvents, OpensScheduled, OpensTrace, OpensTraceFile, SaysTrace, events_of, medium_of};
+ghost use Rattle.command_line.specs.Traces.{AreOfRun, AreTold, HasPlaces, IsOpen, IsOpened, OpensEvents, OpensScheduled, OpensTrace, OpensTraceFile, SaysTrace, events_of, medium_of, name_in};
 ghost use Rattle.command_line.specs.declared.failure.Failure.TheVariants.{Memory};
-ghost use Rattle.std.specs.Prelude.{◌≡◌, ◌≤◌, All, IfErr, IfOk, length};
+ghost use Rattle.crash_test.specs.Programs.{IsProgramOf};
+ghost use Rattle.std.specs.Prelude.{◌≡◌, ◌≤◌, All, IfErr, IfOk, length, slice_index};
 ghost use Rattle.store_trace.specs.TraceView.{NamesLine};
 
 use crate::failure::Failure;
@@ -11,8 +12,10 @@ use crate::made_run::{MadeRun, open_run};
 use crate::reading::read_file;
 use crate::whole::{demand_ended, demand_whole};
 use arguments::{EventSource, ScheduledRun, TracedEvents};
+use crash_test::places_of;
 use line_memory::Medium;
-use std::alloc::Global;
+use report::ToldEvents;
+use std::alloc::{AllocError, Global};
 use store_trace::Trace;
 use trace_file::{RankedTrace, TraceFile};
 
@@ -51,6 +54,52 @@ impl OpenEvents {
             OpenEvents::Trace(open) => &open.medium,
         }
     }
+
+    /// The line that the events name so: those of a file name it by its rank.
+    pub(crate) fn line_name(&self, line: u32) -> u32
+        ensures { result ≡ name_in self.now line }
+    {
+        match self {
+            OpenEvents::Run(_) => line,
+            OpenEvents::Trace(open) => name_of(&open.ranked.names, line),
+        }
+    }
+
+    /// The events as they are told, each by the name of its line and with where it was made.
+    pub(crate) fn told(&self, alloc: Global) -> Result<ToldEvents, AllocError>
+        requires { HasPlaces self.now }
+        ensures told { IfOk result (AreTold self.now) }
+        ensures size { IfOk result (λ told. length told.traced.items ≡ length (events_of self.now)) }
+    {
+        match self {
+            OpenEvents::Run(made) => told_of(alloc, made),
+            OpenEvents::Trace(open) => ToldEvents::of_file(alloc, &open.ranked),
+        }
+    }
+}
+
+/// The name of a rank; 0 past all of them.
+fn name_of(names: &[u32], rank: u32) -> u32
+    ensures { result ≡ slice_index names.now rank }
+{
+    match names.get(rank as usize) {
+        Some(name) => *name,
+        None => 0,
+    }
+}
+
+/// The events of a run as they are told, by what is known of the pcs of its program.
+fn told_of(alloc: Global, made: &MadeRun) -> Result<ToldEvents, AllocError>
+    requires { IsProgramOf made.now.file.items made.now.run.setup.program }
+    ensures told { IfOk result (AreOfRun made.now) }
+    ensures size { IfOk result (λ told. length told.traced.items ≡ length made.now.run.events) }
+{
+    let traced = Vec::from_slice(alloc, made.run.traced())?;
+    Ok(ToldEvents {
+        traced,
+        places: places_of(alloc, &made.file)?,
+        lines: None,
+    })
 }
 
 /// The events of a run, or of a trace file over zeros, where a command asks for nothing but events.
@@ -61,6 +110,7 @@ pub(crate) fn open_events<F: Files>(
 ) -> Result<OpenEvents, Failure>
     ensures opens { OpensEvents F.read_gives source.now files.old result files.new }
     ensures ready { IfOk result IsOpen }
+    ensures places { IfOk result HasPlaces }
 {
     match source {
         EventSource::Run(run) => open_scheduled(alloc, run, files),
@@ -75,6 +125,7 @@ fn open_scheduled<F: Files>(
 ) -> Result<OpenEvents, Failure>
     ensures opens { OpensScheduled F.read_gives run.now files.old result files.new }
     ensures ready { IfOk result IsOpen }
+    ensures places { IfOk result HasPlaces }
 {
     let made = open_run(alloc, run, files)?;
     demand_whole(alloc, run.whole, &made, &[])?;
@@ -82,8 +133,10 @@ fn open_scheduled<F: Files>(
 }
 
 fn opened(made: MadeRun) -> Result<OpenEvents, Failure>
+    requires { IsProgramOf made.file.items made.run.setup.program }
     ensures opens { IsOpened made result }
     ensures ready { IfOk result IsOpen }
+    ensures places { IfOk result HasPlaces }
 {
     // Its events name lines of its medium.
     let _medium = made.run.start();
@@ -97,6 +150,7 @@ fn open_trace<F: Files>(
 ) -> Result<OpenEvents, Failure>
     ensures opens { OpensTraceFile F.read_gives events.now files.old result files.new }
     ensures ready { IfOk result IsOpen }
+    ensures places { IfOk result HasPlaces }
 {
     let text = read_file(events.file.as_str(), files)?;
     let ranked = trace_of(alloc, &text)?;
@@ -110,16 +164,19 @@ pub(crate) fn trace_of(alloc: Global, text: &[u8]) -> Result<RankedTrace, Failur
     ensures says { SaysTrace text.now result }
     ensures lines { IfOk result (λ ranked. All (NamesLine (length ranked.names.items)) ranked.trace.events) }
     ensures few { IfOk result (λ ranked. length ranked.names.items ≤ 16384) }
+    ensures size { IfOk result (λ ranked. length ranked.places.items ≡ length ranked.trace.events) }
 {
     let file = TraceFile::read(alloc, text)?;
-    Ok(file.into_ranked())
+    Ok(file.into_ranked(alloc)?)
 }
 
 fn over_zeros(alloc: Global, ranked: RankedTrace) -> Result<OpenEvents, Failure>
     requires lines { All (NamesLine (length ranked.names.items)) ranked.trace.events }
     requires few { length ranked.names.items ≤ 16384 }
+    requires size { length ranked.places.items ≡ length ranked.trace.events }
     ensures opens { OpensTrace ranked result }
     ensures ready { IfOk result IsOpen }
+    ensures places { IfOk result HasPlaces }
 {
     let medium = zeros_for(alloc, ranked.names.len())?;
     Ok(OpenEvents::Trace(OpenTrace { ranked, medium }))

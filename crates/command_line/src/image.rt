@@ -1,7 +1,7 @@
 //! The command that writes a crash image.
 
-ghost use Rattle.command_line.specs.ImageFiles.{AreThere, GivesImage, GivesLines, HasFewNames, HasRankedLines, HasRoom, ImageFile, IsPlaced, IsUnranked, ReadsBytes, StartsBytes, StartsEvents, StartsOver, StartsRun, StartsTrace, ZeroBytes, file_line, name_in, rank_in, ranked_entry, ranked_image, ranked_name, with_lines};
-ghost use Rattle.command_line.specs.Traces.{IsOpen, events_of};
+ghost use Rattle.command_line.specs.ImageFiles.{AreThere, GivesImage, GivesLines, HasFewNames, HasRankedLines, HasRoom, ImageFile, IsPlaced, IsUnranked, ReadsBytes, StartsBytes, StartsEvents, StartsOver, StartsRun, StartsTrace, ZeroBytes, file_line, rank_in, ranked_entry, ranked_image, ranked_name, with_lines};
+ghost use Rattle.command_line.specs.Traces.{IsOpen, events_of, name_in};
 ghost use Rattle.std.specs.Prelude.{◌≡◌, ◌+◌, ◌*◌, ◌<◌, ◌≤◌, ◌==◌, ℕ, All, IfErr, IfNone, IfOk, IfSome, length, map, option_map, position, string_bytes};
 ghost use Rattle.std.specs.Result.{result_map_both};
 ghost use Rattle.crash_test.specs.declared.images.ImageLine.{ImageLine as AnImageLine};
@@ -230,7 +230,11 @@ fn stored_lines(
 }
 
 /// The name of an image with the ranks of lines in place of the lines. A line that isn't among these gets a rank that no line has.
-fn ranked_name(alloc: Global, names: &[u32], image: &ImageName) -> Result<ImageName, AllocError>
+pub(crate) fn ranked_name(
+    alloc: Global,
+    names: &[u32],
+    image: &ImageName,
+) -> Result<ImageName, AllocError>
     requires { length names.now ≤ 16384 }
     ensures { IfOk result (λ name. name ≡ ranked_name names.now image.now) }
 {

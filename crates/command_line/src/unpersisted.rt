@@ -1,26 +1,21 @@
 //! The command that tells which stores weren't durable in time.
 
-ghost use Rattle.command_line.specs.Persisting.{Finds, UnpersistedFile, status_of, told_stores};
-ghost use Rattle.command_line.specs.Steps.{Prints};
-ghost use Rattle.crash_test.specs.Origins.{origin_of};
+ghost use Rattle.command_line.specs.Persisting.{AreNamed, Finds, PrintsStores, UnpersistedFile, named_end, named_loss, status_of, told_stores};
+ghost use Rattle.command_line.specs.Traces.{HasPlaces, IsOpen, events_of, name_in};
 ghost use Rattle.report.specs.Places.{origin_in};
-ghost use Rattle.std.specs.Prelude.{◌≡◌, ◌<◌, IfOk, string_bytes};
-ghost use Rattle.crash_test.specs.Programs.{IsProgramOf};
+ghost use Rattle.std.specs.Prelude.{◌≡◌, IfOk, map, string_bytes};
 
 use crate::answer::Answer;
+use crate::events::{OpenEvents, open_events};
 use crate::failure::Failure;
 use crate::files::Files;
-use crate::made_run::{MadeRun, open_run};
-use crate::whole::demand_whole;
 use arguments::ReportCommand;
-use crash_test::places_of;
-use durability::{Unpersisted, tell_unpersisted};
-use machine::{Run, TracedEvent};
-use report::{Places, unpersisted_json, unpersisted_text};
+use durability::{EndLoss, Lost, Unpersisted, tell_unpersisted};
+use report::{ToldEvents, unpersisted_json, unpersisted_text};
 use std::alloc::{AllocError, Global};
 
-/// `unpersisted`: reads the files of a program, a schedule and a medium, and prints the stores of the run that weren't durable when
-/// their operation ended, each with what it lacks.
+/// `unpersisted`: reads the files of a program, a schedule and a medium, or a trace file, and prints the stores that weren't durable
+/// when their operation ended, each with what it lacks.
 pub(crate) fn unpersisted_file<F: Files>(
     alloc: Global,
     command: &ReportCommand,
@@ -28,48 +23,100 @@ pub(crate) fn unpersisted_file<F: Files>(
 ) -> Result<Answer, Failure>
     ensures { UnpersistedFile F.read_gives command.now files.old result files.new }
 {
-    let made = open_run(alloc, &command.run, files)?;
-    demand_whole(alloc, command.run.whole, &made, &[])?;
-    let found = found(alloc, &made.run)?;
-    told_answer(alloc, &made, &found, command.json)
+    let opened = open_events(alloc, &command.source, files)?;
+    let found = found(alloc, &opened)?;
+    stores_answer(alloc, &opened, &found, command.json)
 }
 
-/// The stores of a run that weren't durable in time.
-fn found(alloc: Global, run: &Run) -> Result<Unpersisted, Failure>
-    ensures { Finds run.now result }
+/// The stores that weren't durable in time.
+fn found(alloc: Global, opened: &OpenEvents) -> Result<Unpersisted, Failure>
+    requires { IsOpen opened.now }
+    ensures { Finds (events_of opened.now) result }
 {
-    let lines = run.start().lines();
-    Ok(tell_unpersisted(alloc, run.trace(), lines)?)
+    let lines = opened.medium().lines();
+    Ok(tell_unpersisted(alloc, opened.trace(), lines)?)
 }
 
-fn told_answer(
+fn stores_answer(
     alloc: Global,
-    made: &MadeRun,
+    opened: &OpenEvents,
     found: &Unpersisted,
     json: bool,
 ) -> Result<Answer, Failure>
-    requires { IsProgramOf made.now.file.items made.now.run.setup.program }
-    ensures { Prints (told_stores json (origin_of made.now.file.items) made.now.run.traced found.now) (status_of found.now) result }
+    requires { HasPlaces opened.now }
+    ensures { PrintsStores json opened.now found.now result }
 {
-    let places = places_of(alloc, &made.file)?;
-    let text = told_stores(alloc, made.run.traced(), found, &places, json)?;
-    Ok(Answer::of(text, status_of(found)))
+    let told = opened.told(alloc)?;
+    let named = named(alloc, opened, found)?;
+    let text = told_stores(alloc, &told, &named, json)?;
+    Ok(Answer::of(text, status_of(&named)))
+}
+
+/// The same by the names of their lines.
+fn named(alloc: Global, opened: &OpenEvents, found: &Unpersisted) -> Result<Unpersisted, AllocError>
+    ensures { IfOk result (AreNamed (name_in opened.now) found.now) }
+{
+    Ok(Unpersisted {
+        ends: named_ends(alloc, opened, &found.ends)?,
+        outside: named_losses(alloc, opened, &found.outside)?,
+    })
+}
+
+fn named_ends(
+    alloc: Global,
+    opened: &OpenEvents,
+    ends: &[EndLoss],
+) -> Result<Vec<EndLoss>, AllocError>
+    ensures { IfOk result (λ named. named.items ≡ map (named_end (name_in opened.now)) ends.now) }
+{
+    let mut named = Vec::new(alloc);
+    for end in ends {
+        named.push(EndLoss {
+            operation: end.operation,
+            end: end.end,
+            lost: named_loss(opened, end.lost),
+        })?;
+    }
+    Ok(named)
+}
+
+fn named_losses(
+    alloc: Global,
+    opened: &OpenEvents,
+    losses: &[Lost],
+) -> Result<Vec<Lost>, AllocError>
+    ensures { IfOk result (λ named. named.items ≡ map (named_loss (name_in opened.now)) losses.now) }
+{
+    let mut named = Vec::new(alloc);
+    for lost in losses {
+        named.push(named_loss(opened, *lost))?;
+    }
+    Ok(named)
+}
+
+fn named_loss(opened: &OpenEvents, lost: Lost) -> Lost
+    ensures { result ≡ named_loss (name_in opened.now) lost }
+{
+    Lost {
+        line: opened.line_name(lost.line),
+        store: lost.store,
+        cause: lost.cause,
+    }
 }
 
 /// The stores that weren't durable in time, as text or as JSON.
 fn told_stores(
     alloc: Global,
-    traced: &[TracedEvent],
+    told: &ToldEvents,
     found: &Unpersisted,
-    places: &Places,
     json: bool,
 ) -> Result<String, AllocError>
-    ensures { IfOk result (λ text. string_bytes text ≡ told_stores json (origin_in places.now) traced.now found.now) }
+    ensures { IfOk result (λ text. string_bytes text ≡ told_stores json (origin_in told.now.places) told.now.traced.items found.now) }
 {
     if json {
-        unpersisted_json(alloc, found, traced, places)
+        unpersisted_json(alloc, found, &told.traced, &told.places)
     } else {
-        unpersisted_text(alloc, found, traced, places)
+        unpersisted_text(alloc, found, &told.traced, &told.places)
     }
 }
 

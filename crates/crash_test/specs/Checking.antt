@@ -1,4 +1,4 @@
--- The verdict on the run of a program by a schedule.
+-- The verdict on events, and on the run of a program by a schedule.
 use Rattle.std.specs.Prelude.{◌≡◌, ℕ, ◌≤◌, ◌++◌, List, Option, Ok, length, take}
 use Rattle.store_trace.specs.Cut.{IsCut}
 use Rattle.image_check.specs.Legal.{IsLegal}
@@ -26,15 +26,23 @@ use Rattle.machine.specs.RunValues.{RunView}
 use Rattle.nova_log.specs.declared.volume.entry.Entry.{Entry}
 use Rattle.crash_test.specs.Rows.{Row}
 
--- the verdict on these moments of the run, whose marks are right
-pub record HasVerdict (plan : List Operation) (run : RunView) (row : Row) (verdict : Verdict Cause) : Type 0 where
-  pub sound : AreSound plan run.events (length run.events)
-  pub verdict_is : IsVerdictOn row.goes_on (judged_at plan run.setup.medium run.events) run.events row.first (end_of run.events row.last) verdict
+-- the verdict on these moments of events that start from a medium, whose marks are right
+pub record HasVerdictOn (plan : List Operation) (start : List (List ℕ)) (events : List Event) (row : Row) (verdict : Verdict Cause) : Type 0 where
+  pub sound : AreSound plan events (length events)
+  pub verdict_is : IsVerdictOn row.goes_on (judged_at plan start events) events row.first (end_of events row.last) verdict
 
 -- on the way to that verdict somebody is told of moments behind which judging goes on; `hears` says what becomes of the hearer each time
+abbrev pub IsToldOn : {Hearer : Type 0} → (Hearer → ℕ → ℕ → Option ℕ → Hearer → Type 0) → List Operation → List (List ℕ) → List Event → Row
+    → Hearer → Hearer → Type 0
+IsToldOn hears plan start events row =
+    IsTold hears (settled row.goes_on (judged_at plan start events)) events row.first (end_of events row.last)
+
+-- the same of a run
+abbrev pub HasVerdict : List Operation → RunView → Row → Verdict Cause → Type 0
+HasVerdict plan run row verdict = HasVerdictOn plan run.setup.medium run.events row verdict
+
 abbrev pub IsToldOf : {Hearer : Type 0} → (Hearer → ℕ → ℕ → Option ℕ → Hearer → Type 0) → List Operation → RunView → Row → Hearer → Hearer → Type 0
-IsToldOf hears plan run row =
-    IsTold hears (settled row.goes_on (judged_at plan run.setup.medium run.events)) run.events row.first (end_of run.events row.last)
+IsToldOf hears plan run row = IsToldOn hears plan run.setup.medium run.events row
 
 -- whatever a power cut leaves at whatever moment of the run recovers to a legal volume
 abbrev pub AlwaysPasses : List Operation → Setup → List Item → Type 0

@@ -1,4 +1,4 @@
--- The verdict on the run of a program by a schedule, by a recovery routine.
+-- The verdict on events, and on the run of a program by a schedule, by a recovery routine.
 use Rattle.std.specs.Prelude.{◌≡◌, ◌≢◌, ℕ, ◌≤◌, Bool, List, [], Option, None, Ok, length}
 use Rattle.store_trace.specs.Cut.{IsCut, number_in}
 use Rattle.store_trace.specs.Marks.{begun}
@@ -26,27 +26,38 @@ use Rattle.machine.specs.RunValues.{start_of}
 use Rattle.machine.specs.declared.recording.setup.Setup.{Setup}
 use Rattle.machine.specs.RunValues.{RunView}
 
--- these events of a run from the setup's medium, judged like this
-abbrev pub view_of : Setup → JudgementView → List Event → JudgeView
-view_of s judgement events = record {
+-- these events from a medium, judged like this
+abbrev pub view_on : List (List ℕ) → JudgementView → List Event → JudgeView
+view_on start judgement events = record {
   routine = judgement.routine;
   steps = judgement.steps;
-  start = s.medium;
+  start = start;
   events = events;
   right = judgement.right;
 }
 
--- the verdict on those of these moments of the run that are judged; the run's marks are right
-pub record HasJudgement (run : RunView) (judgement : JudgementView) (row : Row) (verdict : Verdict Cause) : Type 0 where
-  pub sound : AreSound judgement.overlap run.events (length run.events)
-  pub begins : begun run.events ≢ []
-  pub verdict_is : IsVerdictOn row.goes_on (IsJudged (view_of run.setup judgement run.events)) run.events
-      (judged_from run.events row.first (end_of run.events row.last)) (end_of run.events row.last) verdict
+abbrev pub view_of : Setup → JudgementView → List Event → JudgeView
+view_of s judgement events = view_on s.medium judgement events
+
+-- the verdict on those of these moments of events from a medium that are judged; the events' marks are right
+pub record HasJudgementOn (start : List (List ℕ)) (events : List Event) (judgement : JudgementView) (row : Row) (verdict : Verdict Cause) : Type 0 where
+  pub sound : AreSound judgement.overlap events (length events)
+  pub begins : begun events ≢ []
+  pub verdict_is : IsVerdictOn row.goes_on (IsJudged (view_on start judgement events)) events
+      (judged_from events row.first (end_of events row.last)) (end_of events row.last) verdict
 
 -- on the way to that verdict somebody is told of moments behind which judging goes on; `hears` says what becomes of the hearer each time
+abbrev pub IsToldOn : {Hearer : Type 0} → (Hearer → ℕ → ℕ → Option ℕ → Hearer → Type 0) → List (List ℕ) → List Event → JudgementView → Row
+    → Hearer → Hearer → Type 0
+IsToldOn hears start events judgement row = IsTold hears (settled row.goes_on (IsJudged (view_on start judgement events))) events
+    (judged_from events row.first (end_of events row.last)) (end_of events row.last)
+
+-- the same of a run
+abbrev pub HasJudgement : RunView → JudgementView → Row → Verdict Cause → Type 0
+HasJudgement run judgement row verdict = HasJudgementOn run.setup.medium run.events judgement row verdict
+
 abbrev pub IsToldOf : {Hearer : Type 0} → (Hearer → ℕ → ℕ → Option ℕ → Hearer → Type 0) → RunView → JudgementView → Row → Hearer → Hearer → Type 0
-IsToldOf hears run judgement row = IsTold hears (settled row.goes_on (IsJudged (view_of run.setup judgement run.events))) run.events
-    (judged_from run.events row.first (end_of run.events row.last)) (end_of run.events row.last)
+IsToldOf hears run judgement row = IsToldOn hears run.setup.medium run.events judgement row
 
 -- whatever a power cut leaves at a moment of the run from its first Begin on: the routine has an answer, and a right one
 pub record IsRightAt (view : JudgeView) (moment : ℕ) (cut : ℕ → ℕ) : Type 0 where

@@ -1,10 +1,12 @@
-//! The verdict on a run, by a plan.
+//! The verdict on events and on a run, by a plan.
 
 ghost use Rattle.std.specs.Prelude.{◌≡◌, ℕ, IfErr, IfOk, None, Ok, Option};
-ghost use Rattle.crash_test.specs.Checking.{AlwaysPasses, HasVerdict, IsToldOf, SurvivesPowerCuts};
+ghost use Rattle.crash_image.specs.View.{HasLines};
+ghost use Rattle.crash_test.specs.Checking.{AlwaysPasses, HasVerdict, HasVerdictOn, IsToldOf, IsToldOn, SurvivesPowerCuts};
 ghost use Rattle.crash_test.specs.Rows.{row_of};
 ghost use Rattle.image_check.specs.Verdicts.{IsRefusal};
 
+use crate::events::Events;
 use crate::work::Work;
 use image_check::{Cause, CheckFault, Verdict, checked_part};
 use machine::Run;
@@ -12,6 +14,34 @@ use plan::Plan;
 use std::alloc::Global;
 use std::thread::Threads;
 use verdict::Progress;
+
+/// The verdict on the moments of events that the work names, as `check_program` gives it for those of a run. The medium has every line
+/// that the events name.
+///
+/// # Errors
+/// As those of `check_program`.
+pub fn check_events<T: Threads + Sync, P: Progress>(
+    rt: &T,
+    alloc: Global,
+    plan: &Plan,
+    events: Events<'_>,
+    work: Work,
+    progress: &mut P,
+) -> Result<Verdict<Cause>, CheckFault>
+    requires { HasLines events.medium.now events.trace.now.events }
+    ensures ok { IfOk result (HasVerdictOn plan.now.operations events.entry.medium.now events.entry.trace.now.events (row_of work)) }
+    ensures err { IfErr result (IsRefusal plan.now.operations events.entry.trace.now.events work.first) }
+    ensures told { IsToldOn P.hears plan.now.operations events.entry.medium.now events.entry.trace.now.events (row_of work) progress.old progress.new }
+{
+    let Work {
+        first,
+        last,
+        workers,
+        goes_on,
+    } = work;
+    let part = checked_part(alloc, plan, events.medium, events.trace, first, last)?;
+    Ok(part.judge_watched(rt, alloc, workers, goes_on, progress)?)
+}
 
 /// The verdict on the moments of a run that the work names: whether each state that a power cut may leave recovers to a volume that the
 /// plan's operations allow. The workers judge the moments in threads of their own where these can be started. The verdict is the same for
@@ -39,12 +69,9 @@ pub fn check_program<T: Threads + Sync, P: Progress>(
     ensures err { IfErr result (IsRefusal plan.now.operations run.now.events work.first) }
     ensures told { IsToldOf P.hears plan.now.operations run.now (row_of work) progress.old progress.new }
 {
-    let Work {
-        first,
-        last,
-        workers,
-        goes_on,
-    } = work;
-    let part = checked_part(alloc, plan, run.start(), run.trace(), first, last)?;
-    Ok(part.judge_watched(rt, alloc, workers, goes_on, progress)?)
+    let events = Events {
+        medium: run.start(),
+        trace: run.trace(),
+    };
+    check_events(rt, alloc, plan, events, work, progress)
 }

@@ -4,6 +4,7 @@
 
 mod answering;
 mod checking;
+mod events;
 mod explaining;
 mod file_kind;
 mod image_causes;
@@ -18,13 +19,14 @@ mod volumes;
 mod work;
 
 pub use answering::answer_on;
-pub use checking::check_program;
+pub use checking::{check_events, check_program};
+pub use events::Events;
 pub use explaining::explain_image;
 pub use image_causes::{
     LogReader, Reader, ToldImage, kept_lines_are_read, tell_image, tell_image_by,
 };
 pub use images::{ImageLine, count_images, image_lines};
-pub use judging::judge_program;
+pub use judging::{judge_events, judge_program};
 pub use loading::{ProgramFault, load_object, load_program};
 pub use losses::{ExplainedImage, explain_losses};
 pub use places::places_of;

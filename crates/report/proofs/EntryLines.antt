@@ -1,7 +1,7 @@
 -- What is printed of an event is the line of its entry.
-use Rattle.std.proofs.Common.{◌≡◌, ℕ, zero, suc, ◌+◌, ◌*◌, ◌%◌, ◌^◌, ◌<◌, ◌≤◌, Bool, true, false, not, ◌&&◌, List, [], ◌∷◌, ◌++◌, Option, Some, None, map, codes, length, get_or, refl, sym, ap, ◌∙◌, subst, arith, eqb, inl, inr, append_assoc, add-one}
+use Rattle.std.proofs.Common.{◌≡◌, ℕ, ◌+◌, ◌*◌, ◌%◌, ◌^◌, ◌<◌, ◌≤◌, Bool, true, false, not, ◌&&◌, List, [], ◌∷◌, ◌++◌, Some, None, map, codes, length, get_or, refl, sym, ap, ◌∙◌, arith, append_assoc}
 use Rattle.std.specs.Prelude.{All, decimal, ◌/◌, ◌==◌, nat_le, if◌then◌else◌}
-use Rattle.std.specs.Fmt.{digit_glyph, digits}
+use Rattle.std.specs.Fmt.{digit_glyph}
 use Rattle.std.specs.List.{enumerate_from, flat_map, list_all}
 use Rattle.std.proofs.Math.Nat.{mod-lt, pow-le-pow_right}
 use Rattle.std.proofs.lemmas.Bool.{and_from, and_parts, ne_eqb}
@@ -16,14 +16,14 @@ use Rattle.store_trace.specs.declared.event.Event.{Event}
 use Rattle.store_trace.specs.declared.event.Event.TheVariants.{Store, Clean, Fence, Begin, End}
 use Rattle.report.specs.Entries.{HasNumbers, HasSizes, entry_of, origin_words, place_words, printed_event}
 use Rattle.report.specs.Events as report
-use Rattle.report.specs.Places.{InFunction, KnownOrigin, code_place, code_text, executable, nowhere, origin_text, source_line}
+use Rattle.report.specs.Places.{InFunction, KnownOrigin, executable, nowhere, origin_text, source_line, told_words}
 use Rattle.report.specs.PrintedNames.{is_graphic, printed_name, text_byte}
 use Rattle.report.specs.Rows.{two_digits}
 use Rattle.trace_file.proofs.CutLemmas.{is_other}
 use Rattle.trace_file.proofs.NumeralLemmas.{numeral_plain, numeral_stop}
 use Rattle.trace_file.proofs.Printing.{decimal_numeral, hexadecimal_numeral}
-use Rattle.trace_file.specs.Entries.{ArePlaceWords, Entry, IsPlaceWord, act_text, entry_line, hart_of, is_letter, is_place_byte, last_line, lines_from, place_text}
-use Rattle.trace_file.specs.Files.{AreAllowed, FitsItsLine, IsAllowed, IsTraceFile, IsWithinLimits, lines_of}
+use Rattle.trace_file.specs.Entries.{ArePlaceWords, IsPlaceWord, act_text, entry_line, hart_of, is_place_byte, last_line, lines_from, place_text}
+use Rattle.trace_file.specs.Files.{FitsItsLine, IsAllowed, IsTraceFile, IsWithinLimits, lines_of}
 use Rattle.trace_file.specs.Numerals.{numeral}
 
 onto : (word more rest after : List ℕ) → more ++ rest ≡ after → (word ++ more) ++ rest ≡ word ++ after
@@ -128,6 +128,7 @@ origin_is_word nowhere = tt
 origin_is_word (source_line n) = (line_word n, tt)
 origin_is_word (executable None) = tt
 origin_is_word (executable (Some place)) = (function_word place, tt)
+origin_is_word (told_words words) = tt
 
 words : (origins : ℕ → KnownOrigin) (t : TracedEvent) → ArePlaceWords (place_words origins t)
 words origins t = (step_word t.step, (pc_word t.pc, origin_is_word (origins t.pc)))
@@ -219,6 +220,17 @@ origin_spelled pc (executable (Some place)) rest small =
     ap (λ (digits : List ℕ). (pc ++ (codes " in=" ++ (printed_name place.0 ++ (codes "+0x" ++ digits)))) ++ 32 ∷ rest) shown
     ∙ onto pc (codes " in=" ++ word) (32 ∷ rest) (32 ∷ (place_text (origin_words (executable (Some place))) ++ rest))
     (ap (λ (t : List ℕ). codes " in=" ++ t) (sym (append_assoc word (32 ∷ []) rest)))
+origin_spelled pc (told_words words) rest small = absurd small
+
+-- an event of a run, printed by its step and its pc
+placed_at : (step pc : ℕ) (origin : KnownOrigin) (event : Event) → HasNumbers origin
+    → report.placed_text (record { step = step; at = record { pc = pc; origin = origin }; event = event })
+    ≡ codes "h" ++ (decimal (report.hart_of event) ++ (codes " step=" ++ (decimal step
+    ++ (codes " " ++ ((codes "pc=0x" ++ (hexadecimal pc ++ origin_text origin)) ++ (codes " " ++ (report.kind_of event ++ report.act_text event)))))))
+placed_at step pc nowhere event small = refl
+placed_at step pc (source_line n) event small = refl
+placed_at step pc (executable place) event small = refl
+placed_at step pc (told_words words) event small = absurd small
 
 places_spelled : (origins : ℕ → KnownOrigin) (t : TracedEvent) (rest : List ℕ) → place_text (place_words origins t) ++ rest
     ≡ codes "step=" ++ (numeral 10 t.step ++ (32 ∷ (codes "pc=0x" ++ (numeral 16 t.pc ++ (32 ∷ (place_text (origin_words (origins t.pc)) ++ rest))))))
@@ -234,15 +246,16 @@ placed_line : (origins : ℕ → KnownOrigin) (t : TracedEvent) (rest : List ℕ
 placed_line origins t rest sizes =
     let h : ℕ = report.hart_of t.event in
     let done : List ℕ = act_text (printed_event t.event) rest in
-    let code : List ℕ = code_text (code_place origins t.pc) in
+    let code : List ℕ = codes "pc=0x" ++ (hexadecimal t.pc ++ origin_text (origins t.pc)) in
     let did : List ℕ = report.kind_of t.event ++ report.act_text t.event in
     let spelled : report.placed_text (report.placed origins t) ++ 10 ∷ rest
-    ≡ codes "h" ++ (decimal h ++ (codes " step=" ++ (decimal t.step ++ (codes " " ++ (code_text (code_place origins t.pc) ++ (codes " " ++ done)))))) =
-    onto (codes "h") _ (10 ∷ rest) _ (onto (decimal h) _ (10 ∷ rest) _ (onto (codes " step=") _ (10 ∷ rest) _ (onto (decimal t.step) _ (10 ∷ rest) _
+    ≡ codes "h" ++ (decimal h ++ (codes " step=" ++ (decimal t.step ++ (codes " " ++ (code ++ (codes " " ++ done)))))) =
+    ap (λ (text : List ℕ). text ++ 10 ∷ rest) (placed_at t.step t.pc (origins t.pc) t.event sizes.origin)
+    ∙ onto (codes "h") _ (10 ∷ rest) _ (onto (decimal h) _ (10 ∷ rest) _ (onto (codes " step=") _ (10 ∷ rest) _ (onto (decimal t.step) _ (10 ∷ rest) _
     (onto (codes " ") (code ++ (codes " " ++ did)) (10 ∷ rest) _ (onto code (codes " " ++ did) (10 ∷ rest) _
     (onto (codes " ") did (10 ∷ rest) done (act t.event rest (narrow t.event sizes.event sizes.within)))))))) in
     let pc : hexadecimal t.pc ≡ numeral 16 t.pc = hexadecimal_numeral t.pc sizes.pc in
-    let placed_code : code_text (code_place origins t.pc) ++ 32 ∷ done ≡ codes "pc=0x" ++ (numeral 16 t.pc ++ 32 ∷ (place_text (origin_words (origins t.pc)) ++ done)) =
+    let placed_code : code ++ 32 ∷ done ≡ codes "pc=0x" ++ (numeral 16 t.pc ++ 32 ∷ (place_text (origin_words (origins t.pc)) ++ done)) =
     ap (λ (digits : List ℕ). (codes "pc=0x" ++ (digits ++ origin_text (origins t.pc))) ++ 32 ∷ done) pc
     ∙ ap (λ (z : List ℕ). codes "pc=0x" ++ z) (origin_spelled (numeral 16 t.pc) (origins t.pc) done sizes.origin) in
     spelled

@@ -9,4 +9,5 @@ mod TextWords
 mod SourceLines
 mod DisassemblyListing
 mod EntryLines
+pub mod TracePlaces
 pub mod PrintedNames

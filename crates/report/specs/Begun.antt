@@ -1,18 +1,20 @@
 -- The lines of a source and the functions of an executable, each at the first word that it gives.
 use Rattle.std.specs.Prelude.{ℕ, ◌+◌, ◌-◌, Bool, ◌&&◌, List, [], ◌∷◌, ◌++◌, Option, Some, None, ◌==◌, if◌then◌else◌, decimal, slice_index_or}
 use Rattle.std.specs.Str.{bytes_eq}
-use Rattle.report.specs.Places.{InFunction, KnownOrigin, executable, function_text, nowhere, source_line}
+use Rattle.report.specs.Places.{InFunction, KnownOrigin, executable, function_text, nowhere, source_line, told_words}
 
 -- the line of a source, and the place in a function of an executable
 abbrev pub line_in : KnownOrigin → Option ℕ
 line_in nowhere = None
 line_in (source_line line) = Some line
 line_in (executable place) = None
+line_in (told_words words) = None
 
 abbrev pub function_in : KnownOrigin → Option InFunction
 function_in nowhere = None
 function_in (source_line line) = None
 function_in (executable place) = place
+function_in (told_words words) = None
 
 -- the line of a word, where it isn't that of the word before
 abbrev pub begun : Option ℕ → Option ℕ → Option ℕ

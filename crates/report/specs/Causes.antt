@@ -10,9 +10,9 @@ use Rattle.report.specs.Places.{KnownCode, KnownOrigin, code_place, code_text, l
 
 -- `running pc=0xP`, `exit C` or `trap TK pc=0xP`, with what is known of a pc behind it
 abbrev pub standing_text : Status → KnownCode → List ℕ
-standing_text Running at = codes "running " ++ code_text at
+standing_text Running at = codes "running" ++ code_text at
 standing_text (Exited code) at = codes "exit " ++ decimal code
-standing_text (Trapped trap) at = codes "trap T" ++ (decimal (trap_number trap) ++ (codes " " ++ code_text at))
+standing_text (Trapped trap) at = codes "trap T" ++ (decimal (trap_number trap) ++ code_text at)
 
 -- `not whole: hN` and how the hart stands, or which operation is pending or never began, by what is known of each pc
 abbrev pub cause_line : (ℕ → KnownOrigin) → Unfinished → List ℕ

@@ -4,7 +4,7 @@ use Rattle.machine.specs.declared.run_trace.traced_event.TracedEvent.{TracedEven
 use Rattle.store_trace.specs.TraceView.{IsEvent}
 use Rattle.store_trace.specs.declared.event.Event.{Event}
 use Rattle.store_trace.specs.declared.event.Event.TheVariants.{Store, Clean, Fence, Begin, End}
-use Rattle.report.specs.Places.{KnownOrigin, executable, nowhere, source_line}
+use Rattle.report.specs.Places.{KnownOrigin, executable, nowhere, source_line, told_words}
 use Rattle.report.specs.PrintedNames.{printed_name}
 use Rattle.trace_file.specs.Entries.{Entry}
 use Rattle.trace_file.specs.Files.{IsWithinLimits}
@@ -24,6 +24,7 @@ origin_words nowhere = []
 origin_words (source_line line) = (codes "line=" ++ numeral 10 line) ∷ []
 origin_words (executable None) = []
 origin_words (executable (Some place)) = (codes "in=" ++ (printed_name place.0 ++ (codes "+0x" ++ numeral 16 place.1))) ∷ []
+origin_words (told_words words) = []
 
 -- `step=S pc=0xP`, and what is known there
 abbrev pub place_words : (ℕ → KnownOrigin) → TracedEvent → List (List ℕ)
@@ -34,12 +35,13 @@ place_words origins traced =
 abbrev pub entry_of : (ℕ → KnownOrigin) → TracedEvent → Entry
 entry_of origins traced = record { places = place_words origins traced; event = printed_event traced.event }
 
--- a line below 2^32, an offset below 2^64
+-- a line below 2^32, an offset below 2^64; no events of a trace file, whose text is printed as it is
 abbrev pub HasNumbers : KnownOrigin → Type 0
 HasNumbers nowhere = ⊤
 HasNumbers (source_line line) = line < 2 ^ 32
 HasNumbers (executable None) = ⊤
 HasNumbers (executable (Some place)) = place.1 < 2 ^ 64
+HasNumbers (told_words words) = ⊥
 
 -- an event that a trace may have, whose numbers have 32 or 64 bits
 pub record HasSizes (origins : ℕ → KnownOrigin) (traced : TracedEvent) : Type 0 where

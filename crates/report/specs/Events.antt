@@ -1,11 +1,12 @@
 -- What is printed of a run's events.
-use Rattle.std.specs.Prelude.{ℕ, ◌%◌, ◌^◌, ◌*◌, List, [], ◌++◌, codes, decimal, length}
+use Rattle.std.specs.Prelude.{ℕ, ◌-◌, ◌%◌, ◌^◌, ◌*◌, List, [], ◌++◌, Option, Some, None, codes, decimal, length, slice_get}
+use Rattle.std.specs.Global.{Vec}
 use Rattle.std.specs.List.{enumerate_from, flat_map}
 use Rattle.hart.specs.HartLines.{hexadecimal}
 use Rattle.machine.specs.declared.run_trace.traced_event.TracedEvent.{TracedEvent}
 use Rattle.store_trace.specs.declared.event.Event.{Event}
 use Rattle.store_trace.specs.declared.event.Event.TheVariants.{Store, Clean, Fence, Begin, End}
-use Rattle.report.specs.Places.{KnownCode, KnownOrigin, KnownPlace, code_place, code_text, known_code, line_end}
+use Rattle.report.specs.Places.{KnownCode, KnownOrigin, KnownPlace, code_place, code_text, known_code, line_end, told_words}
 use Rattle.report.specs.declared.events.PlacedEvent.{PlacedEvent}
 
 -- the hart that made an event
@@ -29,6 +30,20 @@ pub record KnownEvent : Type 0 where
 abbrev pub placed : (ℕ → KnownOrigin) → TracedEvent → KnownEvent
 placed origins traced = record { step = traced.step; at = code_place origins traced.pc; event = traced.event }
 
+-- the words of a line of a trace file; none past its lines
+abbrev pub line_words : Option (Vec ℕ) → List ℕ
+line_words None = []
+line_words (Some words) = words.items
+
+-- The event of a number as it is printed whole: of a trace file with all place words of its line, each behind a blank.
+abbrev pub whole : (ℕ → KnownOrigin) → Option (Vec (Vec ℕ)) → ℕ → TracedEvent → KnownEvent
+whole origins None number traced = placed origins traced
+whole origins (Some lines) number traced = record {
+  step = traced.step;
+  at = record { pc = traced.pc; origin = told_words (line_words (slice_get lines.items (number - 1))) };
+  event = traced.event;
+}
+
 -- the same of the program's own value
 abbrev pub known_event : PlacedEvent → KnownEvent
 known_event one = record { step = one.step; at = known_code one.at; event = one.event }
@@ -50,10 +65,15 @@ act_text (Fence hart) = []
 act_text (Begin hart op) = codes " " ++ decimal op
 act_text (End hart op) = codes " " ++ decimal op
 
--- `hH step=S pc=0xP`, what is known there, and what the event did
+-- ` step=S`; place words say it themselves
+abbrev pub step_text : ℕ → KnownOrigin → List ℕ
+step_text step (told_words words) = []
+step_text step origin = codes " step=" ++ decimal step
+
+-- `hH step=S pc=0xP`, what is known there, and what the event did; or `hH` and place words
 abbrev pub placed_text : KnownEvent → List ℕ
-placed_text one = codes "h" ++ (decimal (hart_of one.event) ++ (codes " step=" ++ (decimal one.step
-    ++ (codes " " ++ (code_text one.at ++ (codes " " ++ (kind_of one.event ++ act_text one.event)))))))
+placed_text one = codes "h" ++ (decimal (hart_of one.event) ++ (step_text one.step one.at.origin
+    ++ (code_text one.at ++ (codes " " ++ (kind_of one.event ++ act_text one.event)))))
 
 -- the line of an event with its number, from 1, by what is known of each pc
 abbrev pub numbered_line : (ℕ → KnownOrigin) → ℕ × TracedEvent → List ℕ

@@ -1,13 +1,14 @@
 -- What is printed of a run's events as JSON: an object a line.
-use Rattle.std.specs.Prelude.{ℕ, ◌%◌, ◌^◌, ◌*◌, List, [], ◌++◌, Option, Some, None, codes, decimal, length}
+use Rattle.std.specs.Prelude.{ℕ, ◌%◌, ◌^◌, ◌*◌, List, [], ◌++◌, Option, Some, None, codes, decimal, drop, length}
 use Rattle.std.specs.List.{enumerate_from, flat_map}
 use Rattle.hart.specs.HartLines.{hexadecimal}
 use Rattle.machine.specs.declared.run_trace.traced_event.TracedEvent.{TracedEvent}
 use Rattle.store_trace.specs.declared.event.Event.{Event}
 use Rattle.store_trace.specs.declared.event.Event.TheVariants.{Store, Clean, Fence, Begin, End}
 use Rattle.report.specs.Events.{KnownEvent, hart_of, kind_of, placed}
-use Rattle.report.specs.Places.{InFunction, KnownCode, KnownOrigin, executable, line_end, nowhere, source_line}
+use Rattle.report.specs.Places.{InFunction, KnownCode, KnownOrigin, executable, line_end, nowhere, source_line, told_words}
 use Rattle.report.specs.PrintedNames.{json_name}
+use Rattle.report.specs.PrintedWords.{json_words}
 
 -- no value
 abbrev pub null : List ℕ
@@ -24,15 +25,25 @@ function_members None = codes "\"function\":null,\"function_offset\":null"
 function_members (Some place) =
     codes "\"function\":\"" ++ (json_name place.0 ++ (codes "\",\"function_offset\":" ++ decimal place.1))
 
--- `"source_line":L`; of an executable its source file and its function too
+-- `"source_line":L`; of an executable its source file and its function too; of a trace file `"at":"WORDS"`
 abbrev pub origin_members : KnownOrigin → List ℕ
 origin_members nowhere = codes "\"source_line\":null"
 origin_members (source_line line) = codes "\"source_line\":" ++ decimal line
 origin_members (executable place) = codes "\"source_line\":null,\"source_file\":null," ++ function_members place
+origin_members (told_words words) = codes "\"at\":\"" ++ (json_words (drop 1 words) ++ codes "\"")
 
--- `"pc":"0xP"`, and what is known there
+-- `"pc":"0xP"`, and what is known there; place words stand alone
+abbrev pub members_at : ℕ → KnownOrigin → List ℕ
+members_at pc (told_words words) = origin_members (told_words words)
+members_at pc origin = codes "\"pc\":\"0x" ++ (hexadecimal pc ++ (codes "\"," ++ origin_members origin))
+
 abbrev pub pc_members : KnownCode → List ℕ
-pc_members at = codes "\"pc\":\"0x" ++ (hexadecimal at.pc ++ (codes "\"," ++ origin_members at.origin))
+pc_members at = members_at at.pc at.origin
+
+-- `"step":S,`; place words say it themselves
+abbrev pub step_member : ℕ → KnownOrigin → List ℕ
+step_member step (told_words words) = []
+step_member step origin = codes "\"step\":" ++ (decimal step ++ codes ",")
 
 -- what an event did, each member behind a comma: of a store the value is the number of the bytes that were stored
 abbrev pub act_members : Event → List ℕ
@@ -47,8 +58,8 @@ act_members (End hart op) = codes ",\"operation\":\"" ++ (decimal op ++ codes "\
 -- known there, and what it did
 abbrev pub event_members : ℕ → KnownEvent → List ℕ
 event_members number one = codes "\"kind\":\"" ++ (kind_of one.event ++ (codes "\",\"event\":" ++ (decimal number
-    ++ (codes ",\"hart\":" ++ (decimal (hart_of one.event) ++ (codes ",\"step\":" ++ (decimal one.step
-    ++ (codes "," ++ (pc_members one.at ++ act_members one.event)))))))))
+    ++ (codes ",\"hart\":" ++ (decimal (hart_of one.event) ++ (codes "," ++ (step_member one.step one.at.origin
+    ++ (pc_members one.at ++ act_members one.event))))))))
 
 -- the end of an object and of its line
 abbrev pub object_end : List ℕ

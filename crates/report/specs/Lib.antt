@@ -1,4 +1,5 @@
 pub mod PrintedNames
+pub mod PrintedWords
 pub mod Places
 pub mod Events
 pub mod Causes
@@ -25,3 +26,4 @@ pub mod Begun
 pub mod Listing
 pub mod Picturing
 pub mod Entries
+pub mod Told

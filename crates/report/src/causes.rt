@@ -58,9 +58,9 @@ impl fmt::Display for Standing<'_> {
     fn fmt<W: fmt::Write>(&self, f: &mut fmt::Formatter<W>) -> fmt::Result {
         let at = self.at;
         match self.status {
-            Status::Running => write!(f, "running {at}"),
+            Status::Running => write!(f, "running{at}"),
             Status::Exited(code) => write!(f, "exit {code}"),
-            Status::Trapped(trap) => write!(f, "trap T{} {at}", trap.number()),
+            Status::Trapped(trap) => write!(f, "trap T{}{at}", trap.number()),
         }
     }
 }

@@ -4,6 +4,7 @@ ghost use Rattle.report.specs.Events.{hart_of, trace_text};
 ghost use Rattle.report.specs.Places.{origin_in};
 ghost use Rattle.std.specs.Prelude.{◌≡◌, ◌%◌, ◌^◌, ◌*◌, IfOk, string_bytes};
 
+use crate::origin::Origin;
 use crate::place::{CodePlace, Places};
 use machine::TracedEvent;
 use std::alloc::{AllocError, Global};
@@ -37,6 +38,7 @@ pub fn trace_text(
 }
 
 /// An event of a run, and where its instruction stands, as they are printed: `h0 step=9 pc=0x10020 line=9 store l256+0 w8 0x1`.
+/// Of a trace file place words stand in place of the step and the pc.
 #[derive(Clone, Copy)]
 pub struct PlacedEvent<'a> {
     /// How many hart steps there are up to and with the one that made it.
@@ -54,9 +56,35 @@ impl fmt::Display for PlacedEvent<'_> {
     fn fmt<W: fmt::Write>(&self, f: &mut fmt::Formatter<W>) -> fmt::Result {
         let PlacedEvent { step, at, event } = *self;
         let hart = hart_of(event);
+        let origin = at.origin;
+        let step = StepText { step, origin };
         let kind = EventKind { event };
         let act = ActText { event };
-        write!(f, "h{hart} step={step} {at} {kind}{act}")
+        write!(f, "h{hart}{step}{at} {kind}{act}")
+    }
+}
+
+/// The hart step that made an event, behind a blank: ` step=9`. Of a trace file nothing: its place words say it.
+#[derive(Clone, Copy)]
+struct StepText<'a> {
+    step: u32,
+    origin: Origin<'a>,
+}
+
+impl fmt::Display for StepText<'_> {
+    ghost use Rattle.std.specs.Prelude.{Some};
+    ghost use Rattle.report.specs.Events.{step_text};
+    ghost use Rattle.report.specs.Places.{known_origin};
+
+    ghost output = { λ shown. Some (step_text shown.step (known_origin shown.origin)) };
+
+    fn fmt<W: fmt::Write>(&self, f: &mut fmt::Formatter<W>) -> fmt::Result {
+        match self.origin {
+            Origin::Words(_) => Ok(()),
+            Origin::Unknown | Origin::Line(_) | Origin::Executable(_) => {
+                write!(f, " step={}", self.step)
+            }
+        }
     }
 }
 

@@ -5,7 +5,7 @@ ghost use Rattle.report.specs.Places.{origin_in};
 ghost use Rattle.std.specs.Prelude.{◌≡◌, IfOk, string_bytes};
 
 use crate::events::{EventKind, PlacedEvent, hart_of, stored};
-use crate::origin::OriginMembers;
+use crate::origin::{Origin, OriginMembers};
 use crate::place::{CodePlace, Places};
 use machine::TracedEvent;
 use std::alloc::{AllocError, Global};
@@ -63,13 +63,39 @@ impl fmt::Display for EventMembers<'_> {
         let EventMembers { number, placed } = *self;
         let PlacedEvent { step, at, event } = placed;
         let hart = hart_of(event);
+        let origin = at.origin;
+        let step = StepMember { step, origin };
         let place = PcMembers { at };
         let kind = EventKind { event };
         let act = ActMembers { event };
         write!(
             f,
-            "\"kind\":\"{kind}\",\"event\":{number},\"hart\":{hart},\"step\":{step},{place}{act}"
+            "\"kind\":\"{kind}\",\"event\":{number},\"hart\":{hart},{step}{place}{act}"
         )
+    }
+}
+
+/// The hart step that made an event as a member in front of others: `"step":10,`. Of a trace file nothing: its place words say it.
+#[derive(Clone, Copy)]
+struct StepMember<'a> {
+    step: u32,
+    origin: Origin<'a>,
+}
+
+impl fmt::Display for StepMember<'_> {
+    ghost use Rattle.std.specs.Prelude.{Some};
+    ghost use Rattle.report.specs.Json.{step_member};
+    ghost use Rattle.report.specs.Places.{known_origin};
+
+    ghost output = { λ shown. Some (step_member shown.step (known_origin shown.origin)) };
+
+    fn fmt<W: fmt::Write>(&self, f: &mut fmt::Formatter<W>) -> fmt::Result {
+        match self.origin {
+            Origin::Words(_) => Ok(()),
+            Origin::Unknown | Origin::Line(_) | Origin::Executable(_) => {
+                write!(f, "\"step\":{},", self.step)
+            }
+        }
     }
 }
 
@@ -109,7 +135,7 @@ impl fmt::Display for ActMembers {
     }
 }
 
-/// A pc and what is known of it as members of an object: `"pc":"0x10020","source_line":9`.
+/// A pc and what is known of it as members of an object: `"pc":"0x10020","source_line":9`; of a trace file `"at":"WORDS"`.
 #[derive(Clone, Copy)]
 pub(crate) struct PcMembers<'a> {
     pub(crate) at: CodePlace<'a>,
@@ -124,8 +150,13 @@ impl fmt::Display for PcMembers<'_> {
 
     fn fmt<W: fmt::Write>(&self, f: &mut fmt::Formatter<W>) -> fmt::Result {
         let CodePlace { pc, origin } = self.at;
-        let origin = OriginMembers { origin };
-        write!(f, "\"pc\":\"0x{pc:x}\",{origin}")
+        let members = OriginMembers { origin };
+        match origin {
+            Origin::Words(_) => write!(f, "{members}"),
+            Origin::Unknown | Origin::Line(_) | Origin::Executable(_) => {
+                write!(f, "\"pc\":\"0x{pc:x}\",{members}")
+            }
+        }
     }
 }
 

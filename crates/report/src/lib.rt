@@ -14,7 +14,9 @@ mod origin;
 mod picture;
 mod place;
 mod printed_name;
+mod printed_words;
 mod redundant;
+mod told;
 
 pub use answer::answer_text;
 pub use causes::unfinished_text;
@@ -25,6 +27,7 @@ pub use laws::printed_is_a_trace_file;
 pub use losses::{unpersisted_json, unpersisted_text, why_json, why_text};
 pub use medium::{line_text, volume_text};
 pub use origin::{FunctionPlace, Origin};
-pub use picture::{ImageLine, picture_run, picture_text};
+pub use picture::{ImageLine, image_stores, picture_at, picture_text};
 pub use place::{CodePlace, Place, Places};
 pub use redundant::{waste_json, waste_text};
+pub use told::ToldEvents;

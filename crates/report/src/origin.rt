@@ -1,7 +1,10 @@
 //! What is known of where an instruction comes from.
 
+ghost use Rattle.std.specs.Prelude.{◌≡◌, drop};
+
 use crate::form::Form;
 use crate::printed_name::PrintedName;
+use crate::printed_words::PrintedWords;
 use std::fmt;
 
 /// What is known of where an instruction comes from.
@@ -13,6 +16,8 @@ pub enum Origin<'a> {
     Line(u32),
     /// Of an executable the function that it is in, if it is in one.
     Executable(Option<FunctionPlace<'a>>),
+    /// The place words of a trace file, each behind a blank, which say all that is known of where an event was made.
+    Words(&'a [u8]),
 }
 
 /// The function that an instruction is in, and how many bytes behind its first one: `in=NAME+0xOFF`.
@@ -65,7 +70,8 @@ impl fmt::Display for FunctionMembers<'_> {
     }
 }
 
-/// What is known as members of an object: `"source_line":9`, and of an executable its source file and its function too.
+/// What is known as members of an object: `"source_line":9`, and of an executable its source file and its function too;
+/// `"at":"WORDS"` of a trace file.
 #[derive(Clone, Copy)]
 pub(crate) struct OriginMembers<'a> {
     pub(crate) origin: Origin<'a>,
@@ -86,6 +92,21 @@ impl fmt::Display for OriginMembers<'_> {
                 let function = FunctionMembers { place };
                 write!(f, "\"source_line\":null,\"source_file\":null,{function}")
             }
+            Origin::Words(words) => {
+                let words = PrintedWords {
+                    words: behind_blank(words),
+                    form: Form::Json,
+                };
+                write!(f, "\"at\":\"{words}\"")
+            }
         }
     }
+}
+
+/// Words without the blank that they begin with, if there are some.
+#[tactic(auto, using(crate::proofs::PrintedNames::none_behind))]
+fn behind_blank(words: &[u8]) -> &[u8]
+    ensures { result.now ≡ drop 1 words.now }
+{
+    if words.is_empty() { &[] } else { &words[1..] }
 }

@@ -1,4 +1,4 @@
-//! A picture of a run up to a moment: which stores, cleans and fences were made, and what a power cut may lose then.
+//! A picture of events up to a moment: which stores, cleans and fences were made, and what a power cut may lose then.
 
 mod drawing;
 mod marks;
@@ -7,5 +7,5 @@ mod rows;
 mod svg;
 mod title;
 
-pub use picturing::picture_run;
+pub use picturing::{image_stores, picture_at};
 pub use svg::{ImageLine, picture_text};

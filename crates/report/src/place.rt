@@ -7,7 +7,9 @@ ghost use Rattle.report.specs.Places.{code_place, in_function, known_code, known
 ghost use Rattle.std.specs.Prelude.{◌≡◌, ◌≤◌, IfSome, option_map};
 
 use crate::events::{PlacedEvent, hart_of};
+use crate::form::Form;
 use crate::origin::{FunctionPlace, Origin};
+use crate::printed_words::PrintedWords;
 use assemble::LineNumbers;
 use elf_file::Functions;
 use machine::TracedEvent;
@@ -20,6 +22,8 @@ pub enum Places {
     Source(LineNumbers),
     /// The functions of an executable.
     Executable(Functions),
+    /// The different places of a trace file's events, upwards by their bytes. Each has its number in place of a pc.
+    Traced(Vec<Vec<u8>>),
     /// Nothing does.
     Unknown,
 }
@@ -35,6 +39,10 @@ impl Places {
                 None => Origin::Unknown,
             },
             Places::Executable(functions) => Origin::Executable(function_place(functions, pc)),
+            Places::Traced(places) => match places.get(pc as usize) {
+                Some(words) => Origin::Words(words.as_slice()),
+                None => Origin::Unknown,
+            },
             Places::Unknown => Origin::Unknown,
         }
     }
@@ -47,7 +55,7 @@ impl Places {
     {
         match self {
             Places::Source(numbers) => numbers.at(pc),
-            Places::Executable(_) | Places::Unknown => None,
+            Places::Executable(_) | Places::Traced(_) | Places::Unknown => None,
         }
     }
 
@@ -91,8 +99,8 @@ fn function_place(functions: &Functions, pc: u64) -> Option<FunctionPlace<'_>>
     Some(FunctionPlace { name, offset })
 }
 
-/// The pc of an instruction, and what is known of where it comes from: `pc=0xP line=N` of a source, `pc=0xP in=NAME+0xOFF` of an
-/// executable.
+/// The pc of an instruction, and what is known of where it comes from, behind a blank: ` pc=0xP line=N` of a source,
+/// ` pc=0xP in=NAME+0xOFF` of an executable; of a trace file place words alone, each behind a blank.
 #[derive(Clone, Copy)]
 pub struct CodePlace<'a> {
     pub pc: u64,
@@ -108,14 +116,18 @@ impl fmt::Display for CodePlace<'_> {
     fn fmt<W: fmt::Write>(&self, f: &mut fmt::Formatter<W>) -> fmt::Result {
         let pc = self.pc;
         match self.origin {
-            Origin::Unknown | Origin::Executable(None) => write!(f, "pc=0x{pc:x}"),
-            Origin::Line(line) => write!(f, "pc=0x{pc:x} line={line}"),
-            Origin::Executable(Some(place)) => write!(f, "pc=0x{pc:x} {place}"),
+            Origin::Unknown | Origin::Executable(None) => write!(f, " pc=0x{pc:x}"),
+            Origin::Line(line) => write!(f, " pc=0x{pc:x} line={line}"),
+            Origin::Executable(Some(place)) => write!(f, " pc=0x{pc:x} {place}"),
+            Origin::Words(words) => {
+                let form = Form::Text;
+                write!(f, "{}", PrintedWords { words, form })
+            }
         }
     }
 }
 
-/// The hart of an instruction, and where it stands: `hH pc=0xP line=N`.
+/// The hart of an instruction, and where it stands: `hH pc=0xP line=N`; or `hH` and place words of a trace file.
 #[derive(Clone, Copy)]
 pub struct Place<'a> {
     pub hart: u32,
@@ -129,6 +141,6 @@ impl fmt::Display for Place<'_> {
     ghost output = { λ place. Some (place_text (known_place place)) };
 
     fn fmt<W: fmt::Write>(&self, f: &mut fmt::Formatter<W>) -> fmt::Result {
-        write!(f, "h{} {}", self.hart, self.at)
+        write!(f, "h{}{}", self.hart, self.at)
     }
 }

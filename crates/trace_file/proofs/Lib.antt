@@ -13,4 +13,5 @@ mod PlaceLemmas
 pub mod Printing
 mod Ranking
 mod Renaming
+mod Spacing
 mod Writing

@@ -10,3 +10,4 @@ pub mod Parts
 pub mod Printed
 pub mod Ranks
 pub mod Renamed
+pub mod Spaced

@@ -1,6 +1,7 @@
 -- The lines of a trace by their ranks: their places among all lines that it names, upwards.
 use Rattle.std.specs.Prelude.{◌≡◌, ◌+◌, ℕ, List, [], ◌∷◌, All, length, map, slice_index}
 use Rattle.std.specs.Borrow.{Bor}
+use Rattle.std.specs.Global.{Vec}
 use Rattle.store_trace.specs.TraceView.{NamesLine}
 use Rattle.store_trace.specs.declared.event.Event.{Event}
 use Rattle.store_trace.specs.declared.event.Event.TheVariants.{Store, Clean, Fence, Begin, End}
@@ -31,6 +32,10 @@ pub record HasEntries (file : FileView) (entries : List Entry) : Type 0 where
 -- the texts of lent places
 abbrev pub texts_of : List (Bor (List ℕ)) → List (List ℕ)
 texts_of places = map (λ (place : Bor (List ℕ)). place.now) places
+
+-- the texts of places that were copied
+abbrev pub copies_of : List (Vec ℕ) → List (List ℕ)
+copies_of places = map (λ (place : Vec ℕ). place.items) places
 
 -- the lines of events by ranks, with the texts of their places, numbered from one on, each line under its name; and the rest
 abbrev pub file_lines : ℕ → List ℕ → List Event → List (List ℕ) → List ℕ → List ℕ

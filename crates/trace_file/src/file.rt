@@ -7,7 +7,7 @@ ghost use Rattle.trace_file.specs.Entries.{Entry as AnEntry};
 ghost use Rattle.trace_file.specs.Files.{AreAllowed, IsFirstFault, IsTraceFile, lines_of};
 ghost use Rattle.trace_file.specs.Kept.{HoldsEntries};
 ghost use Rattle.trace_file.specs.Lines.{Has};
-ghost use Rattle.trace_file.specs.Ranks.{HasEntries, file_text};
+ghost use Rattle.trace_file.specs.Ranks.{HasEntries, copies_of, file_text, texts_of};
 
 use crate::fault::{TraceFileCode, TraceFileFault};
 use crate::kept::Kept;
@@ -30,12 +30,14 @@ pub struct TraceFile<'a> {
     names: Vec<u32>,
 }
 
-/// The events of a trace file without their places: they name lines by ranks.
+/// The events of a trace file apart from its text: they name lines by ranks.
 #[derive(Drop)]
 pub struct RankedTrace {
     pub trace: Trace,
     /// The lines that the events name, upwards: each at its rank.
     pub names: Vec<u32>,
+    /// The place words of each event, each word with a blank behind it.
+    pub places: Vec<Vec<u8>>,
 }
 
 impl<'a> Model for TraceFile<'a> {
@@ -67,6 +69,18 @@ fn finished<'a>(alloc: Global, kept: Kept<'a>, lines: &[u32]) -> Result<TraceFil
         places,
         names,
     })
+}
+
+/// Texts, each copied.
+fn copied(alloc: Global, texts: &[&[u8]]) -> Result<Vec<Vec<u8>>, AllocError>
+    ensures texts { IfOk result (λ copies. copies_of copies.items ≡ texts_of texts.now) }
+    ensures size { IfOk result (λ copies. length copies.items ≡ length texts.now) }
+{
+    let mut copies = Vec::new(alloc);
+    for text in texts {
+        copies.push(Vec::from_slice(alloc, text)?)?;
+    }
+    Ok(copies)
 }
 
 impl<'a> TraceFile<'a> {
@@ -161,19 +175,26 @@ impl<'a> TraceFile<'a> {
         self.names[rank as usize]
     }
 
-    /// The events without their places.
+    /// The events apart from the text, from which their place words are copied.
+    ///
+    /// # Errors
+    /// AllocError where a growth is refused.
     #[tactic(auto, using(crate::proofs::LineSets::increasing))]
-    pub fn into_ranked(self) -> RankedTrace
-        ensures events { result.trace.events ≡ self.entry.events }
-        ensures names { result.names.items ≡ self.entry.names }
+    pub fn into_ranked(self, alloc: Global) -> Result<RankedTrace, AllocError>
+        ensures events { IfOk result (λ ranked. ranked.trace.events ≡ self.entry.events) }
+        ensures names { IfOk result (λ ranked. ranked.names.items ≡ self.entry.names) }
+        ensures places { IfOk result (λ ranked. copies_of ranked.places.items ≡ self.entry.places) }
         ensures lines { All (NamesLine (length self.entry.names)) self.entry.events }
+        ensures size { IfOk result (λ ranked. length ranked.places.items ≡ length ranked.trace.events) }
         ensures upward { IsStrictlyIncreasing self.entry.names }
         ensures few { length self.entry.names ≤ 16384 }
     {
-        RankedTrace {
+        let places = copied(alloc, &self.places)?;
+        Ok(RankedTrace {
             trace: self.trace,
             names: self.names,
-        }
+            places,
+        })
     }
 
     /// The rank of a line, where the file names it.

@@ -51,8 +51,8 @@ impl fmt::Display for ActText {
     }
 }
 
-/// An event with the name of its line in place of the rank.
-fn with_name(names: &[u32], event: Event) -> Event
+/// An event with the name of its line in place of the line's rank, whose names go by rank.
+pub fn with_name(names: &[u32], event: Event) -> Event
     requires { NamesLine (length names.now) event }
     ensures { result ≡ named names.now event }
 {

@@ -1,6 +1,8 @@
 //! The commands of the program in groups, as help lists them.
 
-use crate::grammar::{ASKING_OF_RUNS, JUDGING, MAKING, RUNNING, SHOWING, Subcommand, TELLING};
+use crate::grammar::{
+    ASKING_OF_RUNS, DRAWING_OF_RUNS, JUDGING, MAKING, RUNNING, SHOWING, Subcommand, TELLING,
+};
 use std::alloc::{AllocError, Global};
 use std::fmt::Write;
 
@@ -37,6 +39,7 @@ pub(crate) fn overview(alloc: Global) -> Result<String, AllocError> {
         push_commands(&mut text, *group, &ASKING_OF_RUNS)?;
         push_commands(&mut text, *group, &TELLING)?;
         push_commands(&mut text, *group, &MAKING)?;
+        push_commands(&mut text, *group, &DRAWING_OF_RUNS)?;
         push_commands(&mut text, *group, &SHOWING)?;
     }
     text.push_str(END)?;

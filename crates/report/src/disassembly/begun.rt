@@ -74,7 +74,7 @@ fn function_in(origin: Origin<'_>) -> Option<FunctionPlace<'_>>
 {
     match origin {
         Origin::Executable(place) => place,
-        Origin::Unknown | Origin::Line(_) => None,
+        Origin::Unknown | Origin::Line(_) | Origin::Words(_) => None,
     }
 }
 

@@ -1,4 +1,4 @@
-//! The picture of a run up to a moment.
+//! The picture of events up to a moment.
 
 ghost use Rattle.crash_image.specs.Named.{IsNamed};
 ghost use Rattle.crash_image.specs.View.{HasLines};
@@ -7,38 +7,19 @@ ghost use Rattle.std.specs.Prelude.{◌≤◌, ℕ, List, IfErr, IfOk, OnOk, len
 
 use crate::events::PlacedEvent;
 use crate::picture::svg::{ImageLine, picture_text};
-use crate::place::Places;
+use crate::told::{ToldEvents, whole};
 use crash_image::{Cut, Cuts, ImageFault};
 use line_memory::Medium;
-use machine::{Run, TracedEvent};
 use std::alloc::{AllocError, Global};
 use store_trace::Trace;
 use text::ImageName;
 
-/// A picture, as the text of an SVG, of a run up to a moment, with where its instructions come from; and with the stores that one crash
-/// image of the moment has, where one is named. A moment is the number of events before it.
+/// How many stores of each line one crash image of a moment of events over a medium has, where an image is named. A moment is the
+/// number of events before it.
 ///
 /// # Errors
-/// NoSuchMoment past the events of the run; NotACut where no image of the moment is named so. Memory where a growth is refused.
-pub fn picture_run(
-    alloc: Global,
-    run: &Run,
-    places: &Places,
-    moment: u32,
-    image: &Option<ImageName>,
-) -> Result<String, ImageFault>
-    ensures ok { OnOk result (HasImageAt run.now.events moment image.now) }
-    ensures err { IfErr result (LacksPicture run.now.events moment image.now) }
-{
-    let image = image_lines(alloc, run.start(), run.trace(), moment, image)?;
-    match draw(alloc, run.traced(), places, moment, &image) {
-        Ok(text) => Ok(text),
-        Err(_) => Err(ImageFault::Memory),
-    }
-}
-
-/// How many stores of each line the image has, where one is named.
-fn image_lines(
+/// NoSuchMoment past the events; NotACut where no image of the moment is named so. Memory where a growth is refused.
+pub fn image_stores(
     alloc: Global,
     medium: &Medium,
     trace: &Trace,
@@ -92,32 +73,35 @@ fn lines_of(alloc: Global, cut: &Cut) -> Result<Vec<ImageLine>, AllocError> {
     Ok(lines)
 }
 
-/// The picture of the first events of a run.
-fn draw(
+/// A picture, as the text of an SVG, of events up to a moment, each with where it was made; and with the stores of each line that an
+/// image has, where one is shown.
+pub fn picture_at(
     alloc: Global,
-    traced: &[TracedEvent],
-    places: &Places,
+    told: &ToldEvents,
     moment: u32,
     image: &Option<Vec<ImageLine>>,
 ) -> Result<String, AllocError>
-    requires { moment ≤ length traced.now }
+    requires { moment ≤ length told.now.traced.items }
 {
-    let events = placed(alloc, &traced[..moment as usize], places)?;
+    let events = placed(alloc, told, moment)?;
     match image {
         Some(image) => picture_text(alloc, &events, Some(image)),
         None => picture_text(alloc, &events, None),
     }
 }
 
-/// Events, each with where its instruction stands.
+/// The events before a moment as they are printed whole.
 fn placed<'a>(
     alloc: Global,
-    traced: &[TracedEvent],
-    places: &'a Places,
-) -> Result<Vec<PlacedEvent<'a>>, AllocError> {
+    told: &'a ToldEvents,
+    moment: u32,
+) -> Result<Vec<PlacedEvent<'a>>, AllocError>
+    requires { moment ≤ length told.now.traced.items }
+{
     let mut events = Vec::new(alloc);
-    for one in traced {
-        events.push(places.placed(one))?;
+    for at in 0..moment as usize {
+        let number = at as u64 + 1;
+        events.push(whole(&told.places, &told.lines, number, told.traced[at]))?;
     }
     Ok(events)
 }

@@ -36,8 +36,8 @@ impl fmt::Display for ShownAlways<'_> {
     fn fmt<W: fmt::Write>(&self, f: &mut fmt::Formatter<W>) -> fmt::Result {
         let ShownAlways { at, hart, count } = *self;
         match hart {
-            Some(hart) => write!(f, "always h{hart} {at}, {count} of {count}"),
-            None => write!(f, "always {at}, {count} of {count}"),
+            Some(hart) => write!(f, "always h{hart}{at}, {count} of {count}"),
+            None => write!(f, "always{at}, {count} of {count}"),
         }
     }
 }

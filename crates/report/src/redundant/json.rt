@@ -22,15 +22,17 @@ use std::alloc::{AllocError, Global};
 /// {"kind":"needless","needless":1,"of":2,"unfenced":0}
 /// ```
 ///
-/// The hart of the second is `null` where several made them, and so is a line of the source that isn't known.
+/// The hart of the second is `null` where several made them, and so is a line of the source that isn't known. Of a trace file the place
+/// words are `"at"`, and `lines` are those of each event, as for `waste_text`.
 pub fn waste_json(
     alloc: Global,
     traced: &[TracedEvent],
     reasons: &[Option<Reason>],
     places: &Places,
+    lines: &Option<Vec<Vec<u8>>>,
 ) -> Result<String, AllocError>
     requires { length reasons.now ≡ length traced.now }
-    ensures { IfOk result (λ text. IsWasteJson (origin_in places.now) (zip traced.now reasons.now) (string_bytes text)) }
+    ensures { IfOk result (λ text. IsWasteJson (origin_in places.now) lines.now (zip traced.now reasons.now) (string_bytes text)) }
 {
-    waste_in(Form::Json, alloc, traced, reasons, places)
+    waste_in(Form::Json, alloc, traced, reasons, places, lines)
 }

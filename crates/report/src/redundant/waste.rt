@@ -1,6 +1,7 @@
 //! The text of a run's needless cleans and fences.
 
-ghost use Rattle.report.specs.Forms.{always_form, reason_form, summary_form};
+ghost use Rattle.report.specs.Events.{known_event, whole};
+ghost use Rattle.report.specs.Forms.{always_form, needless_form, reason_form, summary_form};
 ghost use Rattle.report.specs.Uses.{is_unfenced, is_use, is_vain};
 ghost use Rattle.report.specs.Waste.{IsWaste, IsWasteText, judged_line};
 ghost use Rattle.report.specs.Places.{origin_in};
@@ -8,10 +9,12 @@ ghost use Rattle.std.specs.List.{count_by, enumerate_from, flat_map, zip};
 ghost use Rattle.std.specs.Prelude.{◌≡◌, ◌++◌, cond, IfOk, OnOk, length, string_bytes};
 
 use crate::Places;
+use crate::events::PlacedEvent;
 use crate::form::Form;
 use crate::json::EventMembers;
 use crate::redundant::always::tell_always;
 use crate::redundant::uses::{is_clean_or_fence, is_paid_in_vain, is_unfenced, uses_by_pc};
+use crate::told::whole;
 use durability::Reason;
 use machine::TracedEvent;
 use std::alloc::{AllocError, Global};
@@ -27,17 +30,19 @@ use std::fmt::Write;
 /// needless 1 of 2, unfenced 0
 /// ```
 ///
-/// The hart is left out of the second where several made them.
+/// The hart is left out of the second where several made them. Of a trace file `lines` are the place words of each event, all of them: the
+/// first ones have these, and the second are told for each different place.
 pub fn waste_text(
     alloc: Global,
     traced: &[TracedEvent],
     reasons: &[Option<Reason>],
     places: &Places,
+    lines: &Option<Vec<Vec<u8>>>,
 ) -> Result<String, AllocError>
     requires { length reasons.now ≡ length traced.now }
-    ensures { IfOk result (λ text. IsWasteText (origin_in places.now) (zip traced.now reasons.now) (string_bytes text)) }
+    ensures { IfOk result (λ text. IsWasteText (origin_in places.now) lines.now (zip traced.now reasons.now) (string_bytes text)) }
 {
-    waste_in(Form::Text, alloc, traced, reasons, places)
+    waste_in(Form::Text, alloc, traced, reasons, places, lines)
 }
 
 /// What is printed of these events and instructions in one of the forms.
@@ -47,13 +52,14 @@ pub(crate) fn waste_in(
     traced: &[TracedEvent],
     reasons: &[Option<Reason>],
     places: &Places,
+    lines: &Option<Vec<Vec<u8>>>,
 ) -> Result<String, AllocError>
     requires { length reasons.now ≡ length traced.now }
-    ensures { IfOk result (λ text. IsWaste (reason_form form (origin_in places.now)) (always_form form (origin_in places.now)) (summary_form form)
-        (zip traced.now reasons.now) (string_bytes text)) }
+    ensures { IfOk result (λ text. IsWaste (reason_form form (whole (origin_in places.now) lines.now)) (always_form form (origin_in places.now))
+        (summary_form form) (zip traced.now reasons.now) (string_bytes text)) }
 {
     let mut text = String::new(alloc);
-    tell_needless(&mut text, form, traced, reasons, places)?;
+    tell_needless(&mut text, form, traced, reasons, places, lines)?;
     let uses = uses_by_pc(alloc, traced, reasons)?;
     tell_always(&mut text, form, uses, places)?;
     tell_sums(&mut text, form, traced, reasons)?;
@@ -66,14 +72,17 @@ fn tell_needless(
     traced: &[TracedEvent],
     reasons: &[Option<Reason>],
     places: &Places,
+    lines: &Option<Vec<Vec<u8>>>,
 ) -> Result<(), AllocError>
     requires { length reasons.now ≡ length traced.now }
     ensures { OnOk result (string_bytes text.new ≡ string_bytes text.old
-        ++ flat_map (judged_line (reason_form form (origin_in places.now))) (enumerate_from 1 (zip traced.now reasons.now))) }
+        ++ flat_map (judged_line (reason_form form (whole (origin_in places.now) lines.now))) (enumerate_from 1 (zip traced.now reasons.now))) }
 {
     for at in 0..traced.len() {
         if let Some(reason) = reasons[at] {
-            tell_event(text, form, at as u64 + 1, traced[at], reason, places)?;
+            let number = at as u64 + 1;
+            let placed = whole(places, lines, number, traced[at]);
+            tell_event(text, form, number, placed, reason)?;
         }
     }
     Ok(())
@@ -83,13 +92,11 @@ fn tell_event(
     text: &mut String,
     form: Form,
     number: u64,
-    traced: TracedEvent,
+    placed: PlacedEvent<'_>,
     reason: Reason,
-    places: &Places,
 ) -> Result<(), AllocError>
-    ensures { OnOk result (string_bytes text.new ≡ string_bytes text.old ++ reason_form form (origin_in places.now) number traced reason) }
+    ensures { OnOk result (string_bytes text.new ≡ string_bytes text.old ++ needless_form form number (known_event placed.entry) reason) }
 {
-    let placed = places.placed(&traced);
     match form {
         Form::Text => writeln!(text, "{number} {placed}: {reason}"),
         Form::Json => {

@@ -1,5 +1,6 @@
 use Rattle.std.proofs.Common.{◌≡◌, take}
-use Rattle.command_line.specs.ImageFiles.{name_in, with_lines}
+use Rattle.command_line.specs.ImageFiles.{with_lines}
+use Rattle.command_line.specs.Traces.{name_in}
 use Rattle.command_line.proofs.image.put_lines.Given as goal
 
 abbrev pub invariant-loop-line : goal.invariant-loop-line

@@ -1,52 +1,32 @@
 -- Each step in its turn.
-use Rattle.std.proofs.Common.{Ok, Err, refl, rules}
+use Rattle.std.proofs.Common.{◌∙◌, Ok, Err, ap, refl}
+use Rattle.std.proofs.lemmas.Result.{err_from_is_err_and}
 use Rattle.command_line.proofs.unpersisted.unpersisted_file.Goals as goal
 
 pub returns : goal.returns
 returns g c = record {
-  found = Ok c.in_ok-made.made;
-  between = c.open_run.new.files;
-  first = rw c.in_ok-made.was at c.open_run.ensures.opens;
+  found = Ok c.in_ok-opened.opened;
+  between = c.open_events.new.files;
+  first = rw c.in_ok-opened.was at c.open_events.ensures.opens;
   after = record {
-    found = Ok tt;
-    between = c.open_run.new.files;
-    first = record { value = rw c.in_ok-demand_whole.was at c.demand_whole.ensures; untouched = refl };
-    after = record {
-      found = Ok c.in_ok-found.found;
-      between = c.open_run.new.files;
-      first = record { value = rw c.in_ok-found.was at c.found.ensures; untouched = refl };
-      after = record { value = c.told_answer.ensures; untouched = refl };
-    };
-  };
-}
-
-pub returns-in_err-demand_whole : goal.returns-in_err-demand_whole
-returns-in_err-demand_whole g c = record {
-  found = Ok c.in_ok-made.made;
-  between = c.open_run.new.files;
-  first = rw c.in_ok-made.was at c.open_run.ensures.opens;
-  after = record {
-    found = Err c.in_err-demand_whole.field-0.0;
-    between = c.open_run.new.files;
-    first = record { value = rw c.in_err-demand_whole.was at c.demand_whole.ensures; untouched = refl };
-    after = (search (rules, c.from_residual-in_err-demand_whole.ensures), refl);
+    found = Ok c.in_ok-found.found;
+    between = c.open_events.new.files;
+    first = record { value = rw c.in_ok-found.was at c.found.ensures; untouched = refl };
+    after = record { value = c.stores_answer.ensures; untouched = refl };
   };
 }
 
 pub returns-in_err-found : goal.returns-in_err-found
-returns-in_err-found g c = record {
-  found = Ok c.in_ok-made.made;
-  between = c.open_run.new.files;
-  first = rw c.in_ok-made.was at c.open_run.ensures.opens;
-  after = record {
-    found = Ok tt;
-    between = c.open_run.new.files;
-    first = record { value = rw c.in_ok-demand_whole.was at c.demand_whole.ensures; untouched = refl };
-    after = record {
-      found = Err c.in_err-found.field-0.0;
-      between = c.open_run.new.files;
-      first = record { value = rw c.in_err-found.was at c.found.ensures; untouched = refl };
-      after = (search (rules, c.from_residual-in_err-found.ensures), refl);
-    };
-  };
-}
+returns-in_err-found g c =
+    let failed = err_from_is_err_and c.from_residual-in_err-found.result c.from_residual-in_err-found.ensures.1 in
+    record {
+      found = Ok c.in_ok-opened.opened;
+      between = c.open_events.new.files;
+      first = rw c.in_ok-opened.was at c.open_events.ensures.opens;
+      after = record {
+        found = Err c.in_err-found.field-0.0;
+        between = c.open_events.new.files;
+        first = record { value = rw c.in_err-found.was at c.found.ensures; untouched = refl };
+        after = (failed.1 ∙ ap (λ failure. Err failure) failed.2, refl);
+      };
+    }
