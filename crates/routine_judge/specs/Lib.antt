@@ -19,3 +19,6 @@ pub mod SequentialRuns
 pub mod CutsInRecovery
 pub mod Rules
 pub mod Sources
+pub mod BoxViews
+pub mod OpenedBoxes
+pub mod LeftContents
