@@ -1,15 +1,19 @@
 -- The part of a box that is kept while others go to a list.
 use Rattle.std.proofs.Common.{◌≡◌, ◌⊎◌, ℕ, ◌+◌, ◌<◌, ◌≤◌, List, [], ◌∷◌, ◌++◌, Option, Some, None, Result, length, drop, get_or, refl, sym, ap, subst, ◌∙◌, inl, inr}
 use Rattle.std.specs.List.{AllByRecursion}
-use Rattle.std.proofs.lemmas.List.{drop_all, drop_more}
+use Rattle.std.specs.Prelude.{All}
+use Rattle.std.proofs.lemmas.List.{drop_all, drop_more, length-set}
+use Rattle.std.proofs.lemmas.List.Elements.{All-push}
 use Rattle.program.specs.Sections.{Sections}
 use Rattle.recovery.specs.Asking.{asked}
 use Rattle.recovery.specs.Boxes.{IsIn, IsInOne, alike, others_of, part_of, unlike}
 use Rattle.recovery.specs.Routine.{RecoversWith}
 use Rattle.recovery.specs.declared.recovery_run.Cause as run
-use Rattle.routine_judge.proofs.Boxing.{first_in}
+use Rattle.routine_judge.proofs.Boxing.{first_in, length_first}
+use Rattle.routine_judge.proofs.EventLines.{run_names_lines}
 use Rattle.routine_judge.specs.BoxViews.{IsBoxOfMedia, IsRest, first_image}
 use Rattle.routine_judge.specs.OpenedBoxes.{AreAdded, IsOpened, with_rest}
+use Rattle.store_trace.specs.TraceView.{NamesLine}
 use Rattle.store_trace.specs.declared.event.Event.{Event}
 use Rattle.verdict.specs.declared.branches.question.Question.{Question}
 
@@ -17,6 +21,7 @@ use Rattle.verdict.specs.declared.branches.question.Question.{Question}
 pub record KeepsPart (box now : List (List (List ℕ))) (questions left : List Question) (old others : List (List (List (List ℕ)))) : Type 0 where
   pub first : first_image now ≡ first_image box
   pub count : length now ≡ length box
+  pub sizes : All (λ b. length b ≡ length box) old → All (λ b. length b ≡ length box) others
   pub below : AllByRecursion (λ q. q.line < length box) left
   pub part : part_of now (first_image box) left ≡ part_of box (first_image box) questions
   pub into : (image : List (List ℕ)) → IsInOne others image ⊎ IsInOne (others_of now (first_image box) left) image
@@ -29,6 +34,7 @@ pub keeps_start : (box : List (List (List ℕ))) (questions : List Question) (ol
 keeps_start box questions old below = record {
   first = refl;
   count = refl;
+  sizes = λ all. all;
   below = below;
   part = refl;
   into = λ image h. h;
@@ -36,13 +42,13 @@ keeps_start box questions old below = record {
 }
 
 -- one more box in a list
-one_more : (boxes : List (List (List (List ℕ)))) (box : List (List (List ℕ))) (image : List (List ℕ)) → IsInOne (boxes ++ box ∷ []) image → IsInOne boxes image ⊎ IsIn box image
+pub one_more : (boxes : List (List (List (List ℕ)))) (box : List (List (List ℕ))) (image : List (List ℕ)) → IsInOne (boxes ++ box ∷ []) image → IsInOne boxes image ⊎ IsIn box image
 one_more [] box image (inl h) = inr h
 one_more [] box image (inr h) = absurd h
 one_more (first ∷ boxes) box image (inl h) = inl (inl h)
 one_more (first ∷ boxes) box image (inr h) = elim (one_more boxes box image h) [ inl a ↦ inl (inr a) | inr b ↦ inr b ]
 
-more_one : (boxes : List (List (List (List ℕ)))) (box : List (List (List ℕ))) (image : List (List ℕ)) → IsInOne boxes image ⊎ IsIn box image → IsInOne (boxes ++ box ∷ []) image
+pub more_one : (boxes : List (List (List (List ℕ)))) (box : List (List (List ℕ))) (image : List (List ℕ)) → IsInOne boxes image ⊎ IsIn box image → IsInOne (boxes ++ box ∷ []) image
 more_one [] box image (inl h) = absurd h
 more_one [] box image (inr h) = inl h
 more_one (first ∷ boxes) box image (inl (inl h)) = inl h
@@ -59,6 +65,14 @@ with_back : (boxes : List (List (List (List ℕ)))) (box : List (List (List ℕ)
 with_back boxes box None image r (inl h) = h
 with_back boxes box None image r (inr h) = absurd (r image h)
 with_back boxes box (Some b) image r h = more_one boxes b image (subst (λ (c : List (List (List ℕ))). IsInOne boxes image ⊎ IsIn c image) (sym r) h)
+
+length_unlike : (box : List (List (List ℕ))) (image : List (List ℕ)) (q : Question) → length (unlike box image q) ≡ length box
+length_unlike box image q = length-set box q.line _
+
+with_size : (n : ℕ) (boxes : List (List (List (List ℕ)))) (box : List (List (List ℕ))) (rest : Option (List (List (List ℕ)))) → IsRest box rest → length box ≡ n
+    → All (λ b. length b ≡ n) boxes → All (λ b. length b ≡ n) (with_rest boxes rest)
+with_size n boxes box None r size all = all
+with_size n boxes box (Some b) r size all = All-push (λ (c : List (List (List ℕ))). length c ≡ n) boxes b all (ap (λ (c : List (List (List ℕ))). length c) r ∙ size)
 
 across : {A B C : Type 0} → (A ⊎ B) ⊎ C → A ⊎ (B ⊎ C)
 across (inl (inl a)) = inl a
@@ -78,6 +92,8 @@ keeps_next box now next q questions left old others more rest k kept first count
     let is_rest = subst (λ (image : List (List ℕ)). IsRest (unlike now image q) rest) k.first r in record {
       first = first ∙ k.first;
       count = count ∙ k.count;
+      sizes = λ all. subst (λ (boxes : List (List (List (List ℕ)))). All (λ b. length b ≡ length box) boxes) (sym grown)
+          (with_size (length box) others (unlike now (first_image box) q) rest is_rest (length_unlike now (first_image box) q ∙ k.count) (k.sizes all));
       below = k.below.1;
       part = ap (λ (b : List (List (List ℕ))). part_of b (first_image box) left) same ∙ k.part;
       into = λ image h.
@@ -122,6 +138,10 @@ pub keeps_part : (box now : List (List (List ℕ))) (questions : List Question) 
     → now ≡ part_of box (first_image box) questions
 keeps_part box now questions old others k = k.part
 
+pub keeps_sizes : (box now : List (List (List ℕ))) (questions : List Question) (old others : List (List (List (List ℕ)))) → KeepsPart box now questions [] old others
+    → All (λ b. length b ≡ length box) old → All (λ b. length b ≡ length box) others
+keeps_sizes box now questions old others k = k.sizes
+
 pub keeps_added : (box now : List (List (List ℕ))) (questions : List Question) (old others : List (List (List (List ℕ)))) → KeepsPart box now questions [] old others
     → AreAdded (others_of box (first_image box) questions) old others
 keeps_added box now questions old others k = λ image. (λ h. k.into image (inl h), λ h. none_left (k.back image h))
@@ -147,3 +167,10 @@ opened_of program steps box part questions asks events found old new r same w be
       keeps = kept ∙ ap (λ (qs : List Question). part_of box (first_image box) qs) own;
       others = subst (λ (qs : List Question). AreAdded (others_of box (first_image box) qs) old new) own added;
     }
+
+-- its events name lines of its images
+pub named_of : (program : Sections) (steps : ℕ) (box : List (List (List ℕ))) (questions : List Question) (events : List Event) (found : Result (List ℕ) run.Cause)
+    → RecoversWith program (first_image box) steps questions events found → All (NamesLine (length box)) events
+named_of program steps box questions events found r =
+    subst (λ (n : ℕ). All (NamesLine n) events) (length_first box)
+    (subst (λ (es : List Event). All (NamesLine (length (first_image box))) es) (sym r.traces) (run_names_lines program (first_image box) steps r.end r.full r.runs))

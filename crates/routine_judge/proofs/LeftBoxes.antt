@@ -86,7 +86,7 @@ left_at_line k p (contents ∷ box) (suc i) there =
     let next : suc k + i ≡ k + suc i = omega arith in
     left_at_line (suc k) p box i (omega (arith, there)) ∙ ap (λ (n : ℕ). left_of_line n p (contents_of box i)) next
 
-length_left : (k : ℕ) (p : List PersistenceStep) (box : List (List (List ℕ))) → length (left_from k p box) ≡ length box
+pub length_left : (k : ℕ) (p : List PersistenceStep) (box : List (List (List ℕ))) → length (left_from k p box) ≡ length box
 length_left k p [] = refl
 length_left k p (contents ∷ box) = ap suc (length_left (suc k) p box)
 

@@ -31,3 +31,6 @@ pub mod Keepings
 pub mod Unions
 pub mod Afters
 pub mod LeftBoxes
+pub mod EventLines
+pub mod Covering
+pub mod ClosingBoxes

@@ -22,3 +22,5 @@ pub mod Sources
 pub mod BoxViews
 pub mod OpenedBoxes
 pub mod LeftContents
+pub mod BoundBoxViews
+pub mod Closing

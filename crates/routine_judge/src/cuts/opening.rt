@@ -5,7 +5,8 @@ ghost use Rattle.recovery.specs.Routine.{RecoversWith};
 ghost use Rattle.routine_judge.specs.BoxViews.{IsBoxOfMedia, first_image};
 ghost use Rattle.routine_judge.specs.OpenedBoxes.{AreAdded, IsOpened, with_rest};
 ghost use Rattle.std.specs.List.{AllByRecursion};
-ghost use Rattle.std.specs.Prelude.{◌≡◌, ◌<◌, length, IfOk, OnOk};
+ghost use Rattle.std.specs.Prelude.{◌≡◌, ◌<◌, All, length, IfOk, OnOk};
+ghost use Rattle.store_trace.specs.TraceView.{NamesLine};
 
 use crate::cuts::first_image::FirstImage;
 use crate::cuts::image_box::ImageBox;
@@ -27,6 +28,8 @@ pub fn open_box<'a>(
 ) -> Result<TracedRun, AllocError>
     requires { routine.old.lines ≡ length images.old }
     ensures ok { IfOk result (λ run. IsOpened routine.old.program steps images.old images.new run.trace.events run.found others.old.items others.new.items) }
+    ensures named { IfOk result (λ run. All (NamesLine (length images.old)) run.trace.events) }
+    ensures sizes { OnOk result (All (λ box. length box ≡ length images.old) others.old.items → All (λ box. length box ≡ length images.old) others.new.items) }
     ensures program { routine.new.program ≡ routine.old.program }
     ensures lines { routine.new.lines ≡ routine.old.lines }
 {
@@ -64,6 +67,7 @@ fn keep_part<'a>(
     requires { AllByRecursion (λ q. q.line < length images.old) questions.now }
     ensures part { OnOk result (images.new ≡ part_of images.old (first_image images.old) questions.now) }
     ensures others { OnOk result (AreAdded (others_of images.old (first_image images.old) questions.now) others.old.items others.new.items) }
+    ensures sizes { OnOk result (All (λ box. length box ≡ length images.old) others.old.items → All (λ box. length box ≡ length images.old) others.new.items) }
 {
     for question in questions {
         let rest = images.split(alloc, *question)?;
