@@ -1,6 +1,6 @@
 -- Lists of boxes that cover images.
 use Rattle.std.proofs.Common.{◌≡◌, ◌⊎◌, ℕ, zero, suc, ◌+◌, ◌-◌, ◌<◌, ◌≤◌, ◌==◌, Bool, true, false, List, [], ◌∷◌, ◌++◌, Option, Some, None, Result, Ok, Err, length, get_or, refl, sym, ap, subst, ◌∙◌, inl, inr, arith, append_assoc}
-use Rattle.std.specs.Prelude.{All, IfSome, OnOk, if◌then◌else◌}
+use Rattle.std.specs.Prelude.{All, IfOk, IfSome, OnOk, if◌then◌else◌}
 use Rattle.std.specs.List.{Contains}
 use Rattle.std.proofs.lemmas.Bool.{cases_Bool, cases_eq, cases_lt, eq-eqb, ne_eqb}
 use Rattle.std.proofs.lemmas.List.{append-nil, get_or_default}
@@ -92,6 +92,10 @@ all_grow old new cuts images shown g all = λ image h. covered_grows old new cut
 pub on_both : {X E : Type 0} {P Q R : Type 0} (r : Result X E) → (P → Q → R) → OnOk r P → OnOk r Q → OnOk r R
 on_both (Ok x) f p q = f p q
 on_both (Err e) f p q = tt
+
+pub ok_with : {X E : Type 0} {P : X → Type 0} {Q : Type 0} {R : X → Type 0} (r : Result X E) → ((x : X) → P x → Q → R x) → IfOk r P → OnOk r Q → IfOk r R
+ok_with (Ok x) f p q = f x p q
+ok_with (Err e) f p q = tt
 
 pub within_size : (box other : List (List (List ℕ))) → LiesWithin box other → length box ≡ length other
 within_size box other w = length_all_zip (λ contents others. All (Contains others) contents) box other w

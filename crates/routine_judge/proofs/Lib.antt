@@ -34,3 +34,4 @@ pub mod LeftBoxes
 pub mod EventLines
 pub mod Covering
 pub mod ClosingBoxes
+pub mod ClosedBoxes

@@ -1,13 +1,15 @@
 -- Boxes that are closed one after the other, by the runs of a routine.
-use Rattle.std.specs.Prelude.{◌≡◌, ◌⊎◌, ℕ, ◌++◌, List, [], Option, None, Some, Result, Ok, Err, IfSome, length}
+use Rattle.std.specs.Prelude.{◌≡◌, ◌⊎◌, ℕ, ◌<◌, ◌≤◌, ◌++◌, List, [], Option, None, Some, Result, Ok, Err, IfSome, length}
 use Rattle.std.specs.List.{Contains}
 use Rattle.program.specs.Sections.{Sections}
 use Rattle.recovery.specs.Boxes.{IsIn, IsInOne, left_of}
-use Rattle.recovery.specs.Closed.{BoundBox, IsCovered, IsFollowed, IsWell}
+use Rattle.recovery.specs.Closed.{AreClosed, AreClosedTo, BoundBox, IsCovered, IsFollowed, IsWell}
 use Rattle.recovery.specs.Cuts.{AnswersWell, IsCutOf, shown_at}
 use Rattle.recovery.specs.Images.{AnswersOn}
 use Rattle.recovery.specs.declared.recovery_run.Cause as run
+use Rattle.routine_judge.specs.CutsInRecovery.{StaysRight}
 use Rattle.routine_judge.specs.Gathered.{IsJudgedBy}
+use Rattle.routine_judge.specs.Views.{JudgeView}
 use Rattle.routine_judge.specs.declared.cuts.closing.BoxVerdict.{BoxVerdict}
 use Rattle.routine_judge.specs.declared.cuts.closing.BoxVerdict.TheVariants as verdicts
 use Rattle.routine_judge.specs.declared.cuts.judging.CutCause.{CutCause}
@@ -66,3 +68,29 @@ IsBoxVerdict program steps right boxes box verdicts.TooMany = Unit {0}
 abbrev pub IsPending : List (List (List ℕ)) → List (List (List (List ℕ))) → List (List (List (List ℕ))) → Type 0
 IsPending images old new = ((image : List (List ℕ)) → IsInOne old image → IsInOne new image)
     × ((image : List (List ℕ)) → IsInOne new image → IsInOne old image ⊎ IsIn images image)
+
+-- so is a box, where the boxes that up to so many cuts leave are looked at, or all
+abbrev pub IsClosedBox : Sections → ℕ → (List ℕ → Type 0) → Option ℕ → List BoundBox → BoundBox → Type 0
+IsClosedBox program steps right None boxes box = IsWell program steps right box × IsFollowed program steps boxes box
+IsClosedBox program steps right (Some most) boxes box = (box.cuts ≤ most → IsWell program steps right box) × (box.cuts < most → IsFollowed program steps boxes box)
+
+abbrev pub IsClosedVerdict : Sections → ℕ → RightAnswers → Option ℕ → List BoundBox → BoundBox → BoxVerdict → Type 0
+IsClosedVerdict program steps right most boxes box verdicts.Closed = IsClosedBox program steps (Contains right.answers.items) most boxes box
+IsClosedVerdict program steps right most boxes box (verdicts.Bad cause) = HasBad program steps right box.images box.shown cause
+IsClosedVerdict program steps right most boxes box verdicts.TooMany = Unit {0}
+
+-- so are all boxes, or one is bad
+abbrev pub AreClosedBoxes : Sections → ℕ → (List ℕ → Type 0) → Option ℕ → List BoundBox → Type 0
+AreClosedBoxes program steps right None boxes = AreClosed program steps right boxes
+AreClosedBoxes program steps right (Some most) boxes = AreClosedTo program steps right most boxes
+
+abbrev pub AreJudgedAgain : Sections → ℕ → RightAnswers → Option ℕ → List BoundBox → BoxVerdict → Type 0
+AreJudgedAgain program steps right most boxes verdicts.Closed = AreClosedBoxes program steps (Contains right.answers.items) most boxes
+AreJudgedAgain program steps right most boxes (verdicts.Bad cause) = (box : BoundBox) × Contains boxes box × HasBad program steps right box.images box.shown cause
+AreJudgedAgain program steps right most boxes verdicts.TooMany = Unit {0}
+
+-- a moment that is closed stays right
+abbrev pub IsMomentStaying : JudgeView → Option ℕ → ℕ → BoxVerdict → Type 0
+IsMomentStaying view most m verdicts.Closed = StaysRight view most m
+IsMomentStaying view most m (verdicts.Bad cause) = Unit {0}
+IsMomentStaying view most m verdicts.TooMany = Unit {0}

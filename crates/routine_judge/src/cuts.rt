@@ -3,6 +3,7 @@
 
 mod bound_box;
 mod bound_boxes;
+mod closed;
 mod closing;
 mod contents;
 mod first_image;
@@ -10,13 +11,16 @@ mod image_box;
 mod judging;
 mod laws;
 mod left;
+mod moment;
 mod opening;
 
 pub use bound_box::{Bound, BoundBox};
 pub use bound_boxes::BoundBoxes;
+pub use closed::CutRule;
 pub use closing::BoxVerdict;
 pub use image_box::ImageBox;
 pub use judging::CutCause;
 pub use laws::closed_boxes_stay_recovered;
 pub use left::left_at;
+pub use moment::judge_cuts;
 pub use opening::open_box;
