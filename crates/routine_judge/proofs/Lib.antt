@@ -26,3 +26,12 @@ pub mod Entering
 pub mod Judged
 pub mod Equal
 pub mod StayingRight
+pub mod Boxing
+pub mod Keepings
+pub mod Unions
+pub mod Afters
+pub mod LeftBoxes
+pub mod EventLines
+pub mod Covering
+pub mod ClosingBoxes
+pub mod ClosedBoxes

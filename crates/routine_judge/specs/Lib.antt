@@ -19,3 +19,8 @@ pub mod SequentialRuns
 pub mod CutsInRecovery
 pub mod Rules
 pub mod Sources
+pub mod BoxViews
+pub mod OpenedBoxes
+pub mod LeftContents
+pub mod BoundBoxViews
+pub mod Closing

@@ -50,6 +50,16 @@ impl HeldAnswer {
         })
     }
 
+    /// The same answer once more.
+    pub fn copy(&self, alloc: Global) -> Result<HeldAnswer, AllocError>
+        ensures { IfOk result (λ copy. copy ≡ self.now) }
+    {
+        let bytes = Vec::from_slice(alloc, self.bytes())?;
+        Ok(HeldAnswer {
+            held: Held::Copy(bytes),
+        })
+    }
+
     pub fn bytes(&self) -> &[u8]
         ensures { result.now ≡ self.now }
     {

@@ -27,7 +27,10 @@ mod span;
 
 pub use answer_images::AnswerImages;
 pub use cause::Cause;
-pub use cuts::closed_boxes_stay_recovered;
+pub use cuts::{
+    Bound, BoundBox, BoundBoxes, BoxVerdict, CutCause, CutRule, ImageBox,
+    closed_boxes_stay_recovered, judge_cuts, left_at, open_box,
+};
 pub use fault::JudgeFault;
 pub use held::HeldAnswer;
 pub use history::{

@@ -1,5 +1,5 @@
 use Rattle.routine_judge.proofs.StayingRight.{stays_right, stays_right_to}
-use Rattle.routine_judge.proofs.cuts.closed_boxes_stay_recovered.Goals as goal
+use Rattle.routine_judge.proofs.cuts.laws.closed_boxes_stay_recovered.Goals as goal
 
 pub returns-clause-any : goal.returns-clause-any
 returns-clause-any c = λ view m source boxes is starts closed. stays_right view m source boxes is starts closed

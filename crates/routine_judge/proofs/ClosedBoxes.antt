@@ -1,0 +1,179 @@
+-- Boxes that are closed one after the other, and a moment whose images lie in them.
+use Rattle.std.proofs.Common.{◌≡◌, ◌⊎◌, ℕ, zero, suc, ◌+◌, ◌<◌, ◌≤◌, List, [], ◌∷◌, ◌++◌, Option, Some, None, length, get_or, refl, sym, ap, subst, ◌∙◌, inl, inr, arith}
+use Rattle.std.specs.Prelude.{All, map}
+use Rattle.std.specs.List.{AllByRecursion, Contains}
+use Rattle.std.proofs.lemmas.Bool.{cases_eq, cases_lt}
+use Rattle.std.proofs.lemmas.List.{get_or_append_left, length-append, length-map}
+use Rattle.std.proofs.lemmas.List.Elements.{Contains-append_left, Contains-get_or, recursion_from_All}
+use Rattle.program.specs.Sections.{Sections}
+use Rattle.recovery.proofs.Boxed.{cut_is_left, in_wider}
+use Rattle.recovery.specs.Boxes.{IsIn, LiesWithin, left_of}
+use Rattle.recovery.specs.Closed.{BoundBox, IsCovered, IsFollowed, IsWell}
+use Rattle.recovery.specs.Cuts.{AnswersWell}
+use Rattle.routine_judge.proofs.ClosingBoxes.{some_box}
+use Rattle.routine_judge.proofs.Covering.{covered_grows, grows_none, grows_on, within_size}
+use Rattle.routine_judge.proofs.LeftBoxes.{length_left}
+use Rattle.routine_judge.proofs.StayingRight.{stays_right, stays_right_to}
+use Rattle.routine_judge.specs.Closing.{AreClosedBoxes, AreJudgedAgain, Grows, HasBad, IsBoxVerdict, IsClosedBox, IsClosedVerdict, IsMomentStaying}
+use Rattle.routine_judge.specs.CutsInRecovery.{StaysRight}
+use Rattle.routine_judge.specs.Gathered.{AreAnswers}
+use Rattle.routine_judge.specs.RightAnswers.{IsRightOf, IsSource, Source}
+use Rattle.routine_judge.specs.Views.{JudgeView}
+use Rattle.routine_judge.specs.declared.cuts.closing.BoxVerdict.{BoxVerdict}
+use Rattle.routine_judge.specs.declared.cuts.closing.BoxVerdict.TheVariants as verdicts
+use Rattle.routine_judge.specs.declared.cuts.judging.CutCause.{CutCause}
+use Rattle.routine_judge.specs.declared.right.RightAnswers.{RightAnswers}
+use Rattle.store_trace.proofs.Lines.{within_from_cut}
+use Rattle.store_trace.specs.Cut.{IsCutImage, number_in}
+use Rattle.store_trace.specs.History.{at_moment}
+use Rattle.store_trace.specs.declared.crash_model.step.PersistenceStep.{PersistenceStep}
+
+-- a box that more cuts leave than are looked at, and one that was closed
+pub far_closed : (program : Sections) (steps : ℕ) (right : List ℕ → Type 0) (most : Option ℕ) (n : ℕ) (boxes : List BoundBox) (box : BoundBox) → most ≡ Some n → n < box.cuts
+    → IsClosedBox program steps right most boxes box
+far_closed program steps right most n boxes box e far =
+    subst (λ (o : Option ℕ). IsClosedBox program steps right o boxes box) (sym e) (λ few. absurd (omega (arith, few, far)), λ few. absurd (omega (arith, few, far)))
+
+closed_box : (program : Sections) (steps : ℕ) (right : List ℕ → Type 0) (most : Option ℕ) (boxes : List BoundBox) (box : BoundBox)
+    → IsWell program steps right box × IsFollowed program steps boxes box → IsClosedBox program steps right most boxes box
+closed_box program steps right None boxes box c = c
+closed_box program steps right (Some most) boxes box c = (λ few. c.0, λ few. c.1)
+
+pub closed_verdict : (program : Sections) (steps : ℕ) (right : RightAnswers) (most : Option ℕ) (boxes : List BoundBox) (box : BoundBox) (verdict : BoxVerdict)
+    → IsBoxVerdict program steps right boxes box verdict → IsClosedVerdict program steps right most boxes box verdict
+closed_verdict program steps right most boxes box verdicts.Closed v = closed_box program steps (Contains right.answers.items) most boxes box v
+closed_verdict program steps right most boxes box (verdicts.Bad cause) v = v
+closed_verdict program steps right most boxes box verdicts.TooMany v = tt
+
+-- a list that grows
+followed_grows : (program : Sections) (steps : ℕ) (old new : List BoundBox) (box : BoundBox) → Grows old new → IsFollowed program steps old box → IsFollowed program steps new box
+followed_grows program steps old new box g follows = λ image left shown h cut. covered_grows old new (box.cuts + 1) left shown g (follows image left shown h cut)
+
+closed_grows : (program : Sections) (steps : ℕ) (right : List ℕ → Type 0) (most : Option ℕ) (old new : List BoundBox) (box : BoundBox) → Grows old new
+    → IsClosedBox program steps right most old box → IsClosedBox program steps right most new box
+closed_grows program steps right None old new box g c = (c.0, followed_grows program steps old new box g c.1)
+closed_grows program steps right (Some most) old new box g c = (c.0, λ few. followed_grows program steps old new box g (c.1 few))
+
+grown_at : (old new : List BoundBox) (i : ℕ) (d : BoundBox) → Grows old new → i < length old → get_or new i d ≡ get_or old i d
+grown_at old new i d (more, e) there = ap (λ (boxes : List BoundBox). get_or boxes i d) e ∙ get_or_append_left old more d i there
+
+grown_length : (old new : List BoundBox) → Grows old new → length old ≤ length new
+grown_length old new (more, e) = let size = ap (λ (boxes : List BoundBox). length boxes) e in omega (arith, size, length-append old more)
+
+-- the first boxes are closed
+pub record AreClosing (program : Sections) (steps : ℕ) (right : List ℕ → Type 0) (most : Option ℕ) (old new : List BoundBox) (place : ℕ) : Type 0 where
+  pub grows : Grows old new
+  pub there : place ≤ length new
+  pub each : (i : ℕ) (d : BoundBox) → i < place → IsClosedBox program steps right most new (get_or new i d)
+
+pub all_start : (program : Sections) (steps : ℕ) (right : List ℕ → Type 0) (most : Option ℕ) (boxes : List BoundBox) → AreClosing program steps right most boxes boxes 0
+all_start program steps right most boxes = record { grows = grows_none boxes; there = omega arith; each = λ i d below. absurd (omega (arith, below)) }
+
+lower : (m n : ℕ) → m < n + 1 → (m ≡ n → ⊥) → m < n
+lower m n below apart = elim (cases_lt m n) [ inl less ↦ less | inr from ↦ absurd (apart (omega (arith, below, from))) ]
+
+pub all_next : (program : Sections) (steps : ℕ) (right : List ℕ → Type 0) (most : Option ℕ) (old middle new : List BoundBox) (place : ℕ) → place < length middle → Grows middle new
+    → ((d : BoundBox) → IsClosedBox program steps right most new (get_or middle place d)) → AreClosing program steps right most old middle place
+    → AreClosing program steps right most old new (place + 1)
+all_next program steps right most old middle new place inside g closed c =
+    let long = grown_length middle new g in
+    let at : (i : ℕ) (d : BoundBox) → i < length middle → IsClosedBox program steps right most new (get_or middle i d) → IsClosedBox program steps right most new (get_or new i d) =
+    λ i d there h. subst (λ (box : BoundBox). IsClosedBox program steps right most new box) (sym (grown_at middle new i d g there)) h in
+    record {
+      grows = grows_on old middle new c.grows g;
+      there = omega (arith, inside, long);
+      each = λ i d below. elim (cases_eq i place) [
+        | inl here ↦ at i d (omega (arith, here, inside)) (subst (λ (n : ℕ). IsClosedBox program steps right most new (get_or middle n d)) (sym here) (closed d))
+        | inr apart ↦
+            let less = lower i place below apart in
+            at i d (omega (arith, less, inside)) (closed_grows program steps right most middle new (get_or middle i d) g (c.each i d less))
+      ];
+    }
+
+as_list : (program : Sections) (steps : ℕ) (right : List ℕ → Type 0) (most : Option ℕ) (boxes : List BoundBox) → All (IsClosedBox program steps right most boxes) boxes
+    → AreClosedBoxes program steps right most boxes
+as_list program steps right None boxes all = recursion_from_All (IsClosedBox program steps right None boxes) boxes all
+as_list program steps right (Some most) boxes all = recursion_from_All (IsClosedBox program steps right (Some most) boxes) boxes all
+
+pub all_end : (program : Sections) (steps : ℕ) (right : List ℕ → Type 0) (most : Option ℕ) (old new : List BoundBox) (place : ℕ) → length new ≤ place
+    → AreClosing program steps right most old new place → AreClosedBoxes program steps right most new
+all_end program steps right most old new place past c = as_list program steps right most new (λ i d there. c.each i d (omega (arith, there, past)))
+
+pub bad_box : (program : Sections) (steps : ℕ) (right : RightAnswers) (middle new : List BoundBox) (place : ℕ) (cause : CutCause) → Grows middle new → place < length middle
+    → HasBad program steps right (get_or middle place some_box).images (get_or middle place some_box).shown cause
+    → (box : BoundBox) × Contains new box × HasBad program steps right box.images box.shown cause
+bad_box program steps right middle new place cause (more, e) there bad = (
+  get_or middle place some_box,
+  subst (λ (boxes : List BoundBox). Contains boxes (get_or middle place some_box)) (sym e)
+      (Contains-append_left middle more (get_or middle place some_box) (Contains-get_or middle place some_box there)),
+  bad,
+)
+
+-- said of what is the same
+pub verdict_as : (program other : Sections) (steps : ℕ) (right : RightAnswers) (most : Option ℕ) (boxes : List BoundBox) (box : BoundBox) (verdict same : BoxVerdict) → program ≡ other
+    → verdict ≡ same → IsClosedVerdict program steps right most boxes box verdict → IsClosedVerdict other steps right most boxes box same
+verdict_as program other steps right most boxes box verdict same e f h =
+    subst (λ (p : Sections). IsClosedVerdict p steps right most boxes box same) e (subst (λ (v : BoxVerdict). IsClosedVerdict program steps right most boxes box v) f h)
+
+pub judged_as : (program other : Sections) (steps many : ℕ) (right : RightAnswers) (most : Option ℕ) (boxes : List BoundBox) (verdict : BoxVerdict) → program ≡ other → steps ≡ many
+    → AreJudgedAgain program steps right most boxes verdict → AreJudgedAgain other many right most boxes verdict
+judged_as program other steps many right most boxes verdict e f h =
+    subst (λ (p : Sections). AreJudgedAgain p many right most boxes verdict) e (subst (λ (n : ℕ). AreJudgedAgain program n right most boxes verdict) f h)
+
+-- answers that are right are so by what makes them right
+well_right : (program : Sections) (steps : ℕ) (answers : List (List ℕ)) (right : List ℕ → Type 0) (box : BoundBox) → ((bytes : List ℕ) → Contains answers bytes → right bytes)
+    → IsWell program steps (Contains answers) box → IsWell program steps right box
+well_right program steps answers right box are well = λ image h.
+    let a = well image h in record { bytes = a.bytes; answers = a.answers; is_right = are a.bytes a.is_right; stays = a.stays }
+
+each_right : (program : Sections) (steps : ℕ) (answers : List (List ℕ)) (right : List ℕ → Type 0) (all boxes : List BoundBox) → ((bytes : List ℕ) → Contains answers bytes → right bytes)
+    → AllByRecursion (λ box. IsWell program steps (Contains answers) box × IsFollowed program steps all box) boxes
+    → AllByRecursion (λ box. IsWell program steps right box × IsFollowed program steps all box) boxes
+each_right program steps answers right all [] are h = tt
+each_right program steps answers right all (box ∷ boxes) are h =
+    ((well_right program steps answers right box are h.0.0, h.0.1), each_right program steps answers right all boxes are h.1)
+
+each_right_to : (program : Sections) (steps most : ℕ) (answers : List (List ℕ)) (right : List ℕ → Type 0) (all boxes : List BoundBox)
+    → ((bytes : List ℕ) → Contains answers bytes → right bytes)
+    → AllByRecursion (λ box. (box.cuts ≤ most → IsWell program steps (Contains answers) box) × (box.cuts < most → IsFollowed program steps all box)) boxes
+    → AllByRecursion (λ box. (box.cuts ≤ most → IsWell program steps right box) × (box.cuts < most → IsFollowed program steps all box)) boxes
+each_right_to program steps most answers right all [] are h = tt
+each_right_to program steps most answers right all (box ∷ boxes) are h =
+    ((λ few. well_right program steps answers right box are (h.0.0 few), h.0.1), each_right_to program steps most answers right all boxes are h.1)
+
+-- the moment stays right
+moment_stays : (view : JudgeView) (m : ℕ) (most : Option ℕ) (source : Source) (boxes : List BoundBox) (right : RightAnswers) → IsSource view m source → AreAnswers view source right
+    → ((image : List (List ℕ)) → IsCutImage view.start (at_moment view.events m) image → IsCovered boxes 0 image None)
+    → AreClosedBoxes view.routine view.steps (Contains right.answers.items) most boxes → StaysRight view most m
+moment_stays view m None source boxes right is are starts closed =
+    stays_right view m source boxes is starts (each_right view.routine view.steps right.answers.items (IsRightOf view source) boxes boxes are.each closed)
+moment_stays view m (Some most) source boxes right is are starts closed =
+    stays_right_to view m most source boxes is starts (each_right_to view.routine view.steps most right.answers.items (IsRightOf view source) boxes boxes are.each closed)
+
+pub moment_judged : (view : JudgeView) (m : ℕ) (most : Option ℕ) (source : Source) (old new : List BoundBox) (right : RightAnswers) (verdict : BoxVerdict) → IsSource view m source
+    → AreAnswers view source right → ((image : List (List ℕ)) → IsCutImage view.start (at_moment view.events m) image → IsCovered old 0 image None) → Grows old new
+    → AreJudgedAgain view.routine view.steps right most new verdict → IsMomentStaying view most m verdict
+moment_judged view m most source old new right verdicts.Closed is are starts g closed =
+    moment_stays view m most source new right is are (λ image h. covered_grows old new 0 image None g (starts image h)) closed
+moment_judged view m most source old new right (verdicts.Bad cause) is are starts g closed = tt
+moment_judged view m most source old new right verdicts.TooMany is are starts g closed = tt
+
+pub first_size : (start : List (List ℕ)) (p : List PersistenceStep) (alone left : List (List (List ℕ))) → alone ≡ map (λ line. line ∷ []) start → LiesWithin left (left_of p alone)
+    → length left ≡ length start
+first_size start p alone left a w =
+    within_size left (left_of p alone) w ∙ length_left 0 p alone ∙ ap (λ (box : List (List (List ℕ))). length box) a ∙ length-map start (λ (line : List ℕ). line ∷ [])
+
+-- the images of a moment lie in one box
+alone_in : (lines : List (List ℕ)) → IsIn (map (λ line. line ∷ []) lines) lines
+alone_in [] = tt
+alone_in (line ∷ lines) = ((0, omega arith, refl), alone_in lines)
+
+pub first_covered : (start : List (List ℕ)) (p : List PersistenceStep) (alone left : List (List (List ℕ))) (boxes : List BoundBox) → alone ≡ map (λ line. line ∷ []) start
+    → LiesWithin (left_of p alone) left → boxes ≡ record { images = left; shown = None; cuts = 0 } ∷ []
+    → (image : List (List ℕ)) → IsCutImage start p image → IsCovered boxes 0 image None
+first_covered start p alone left boxes a w e image c =
+    let inside : IsIn alone start = subst (λ (box : List (List (List ℕ))). IsIn box start) (sym a) (alone_in start) in
+    let here = cut_is_left p alone start (number_in c.cut) (within_from_cut p c.cut c.bounds) inside in
+    let now : IsIn (left_of p alone) image = subst (λ (lines : List (List ℕ)). IsIn (left_of p alone) lines) (sym c.bytes) here in
+    subst (λ (bs : List BoundBox). IsCovered bs 0 image None) (sym e)
+    (inl (record { soon = omega arith; inside = in_wider (left_of p alone) left image w now; bound = inl refl }))

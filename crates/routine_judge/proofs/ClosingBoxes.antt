@@ -1,0 +1,175 @@
+-- A box while it is closed, part by part.
+use Rattle.std.proofs.Common.{◌≡◌, ◌⊎◌, ℕ, zero, suc, ◌+◌, ◌<◌, ◌≤◌, List, [], ◌∷◌, ◌++◌, Option, Some, None, Result, Ok, Err, length, refl, sym, ap, subst, ◌∙◌, inl, inr}
+use Rattle.std.specs.Prelude.{All, IfSome}
+use Rattle.std.specs.List.{Contains}
+use Rattle.std.proofs.lemmas.List.{length-set}
+use Rattle.machine.specs.Replies.{trace_in}
+use Rattle.program.specs.Sections.{Sections}
+use Rattle.recovery.proofs.Opened.{part_answers, part_lies}
+use Rattle.recovery.proofs.Parted.{others_differ, parts_cover}
+use Rattle.recovery.specs.Asking.{asked}
+use Rattle.recovery.specs.Boxes.{IsIn, IsInOne, alike, part_of}
+use Rattle.recovery.specs.Closed.{BoundBox, IsCovered, IsFollowed, IsWell}
+use Rattle.recovery.specs.Cuts.{IsCutOf}
+use Rattle.recovery.specs.Parts.{part_by}
+use Rattle.recovery.specs.declared.recovery_run.Cause as run
+use Rattle.routine_judge.proofs.Covering.{covered_grows, grows_none, grows_on}
+use Rattle.routine_judge.proofs.Keepings.{more_one, one_more}
+use Rattle.routine_judge.specs.BoxViews.{first_image}
+use Rattle.routine_judge.specs.Closing.{Grows, HasBad, IsDone, IsJudgedAgain, IsMomentCovered, IsPartClosed, IsPending}
+use Rattle.routine_judge.specs.OpenedBoxes.{IsOpened}
+use Rattle.routine_judge.specs.declared.cuts.judging.CutCause.{CutCause}
+use Rattle.routine_judge.specs.declared.right.RightAnswers.{RightAnswers}
+use Rattle.store_trace.specs.TraceView.{NamesLine}
+use Rattle.store_trace.specs.declared.event.Event.{Event}
+use Rattle.verdict.specs.declared.branches.question.Question.{Question}
+
+-- a part has as many lines as its box
+length_part : (box : List (List (List ℕ))) (image : List (List ℕ)) (questions : List Question) → length (part_of box image questions) ≡ length box
+length_part box image [] = refl
+length_part box image (q ∷ questions) = length_part (alike box image q) image questions ∙ length-set box q.line _
+
+pub part_size : (program : Sections) (steps : ℕ) (box part : List (List (List ℕ))) (events : List Event) (found : Result (List ℕ) run.Cause) (old new : List (List (List (List ℕ))))
+    → IsOpened program steps box part events found old new → length part ≡ length box
+part_size program steps box part events found old new o =
+    ap (λ (b : List (List (List ℕ))). length b) o.keeps ∙ length_part box (first_image box) (asked o.end.common.history)
+
+pub part_named : (program : Sections) (steps : ℕ) (box part : List (List (List ℕ))) (events : List Event) (found : Result (List ℕ) run.Cause) (old new : List (List (List (List ℕ))))
+    → IsOpened program steps box part events found old new → All (NamesLine (length box)) events → All (NamesLine (length part)) events
+part_named program steps box part events found old new o named =
+    subst (λ (n : ℕ). All (NamesLine n) events) (sym (part_size program steps box part events found old new o)) named
+
+-- the routine's answer on it is bad
+pub part_bad : (program : Sections) (steps : ℕ) (right : RightAnswers) (box part : List (List (List ℕ))) (events : List Event) (found : Result (List ℕ) run.Cause)
+    (shown : Option (List ℕ)) (cause : CutCause) (old new : List (List (List (List ℕ)))) → IsOpened program steps box part events found old new
+    → IsJudgedAgain right shown found (Some cause) → HasBad program steps right box shown cause
+part_bad program steps right box part events found shown cause old new o bad =
+    (first_image box, found, o.opened.inside, record { end = o.end; full = o.full; runs = o.opened.runs; comes = o.comes }, bad)
+
+-- or it is well, and what cuts leave is covered
+as_covered : (boxes : List BoundBox) (cuts : ℕ) (part other : List (List (List ℕ))) (events others : List Event) (found same : Result (List ℕ) run.Cause) (shown : Option (List ℕ)) (m : ℕ)
+    → part ≡ other → events ≡ others → found ≡ same → IsMomentCovered boxes cuts part events found shown m → IsMomentCovered boxes cuts other others same shown m
+as_covered boxes cuts part other events others found same shown m e f g h =
+    subst (λ (r : Result (List ℕ) run.Cause). IsMomentCovered boxes cuts other others r shown m) g
+    (subst (λ (es : List Event). IsMomentCovered boxes cuts other es found shown m) f
+    (subst (λ (b : List (List (List ℕ))). IsMomentCovered boxes cuts b events found shown m) e h))
+
+pub part_done : (program : Sections) (steps : ℕ) (right : RightAnswers) (box part : List (List (List ℕ))) (events : List Event) (found : Result (List ℕ) run.Cause)
+    (shown : Option (List ℕ)) (cuts : ℕ) (boxes : List BoundBox) (old new : List (List (List (List ℕ)))) → IsOpened program steps box part events found old new
+    → IsJudgedAgain right shown found None → ((m : ℕ) → m ≤ length events → IsMomentCovered boxes cuts part events found shown m)
+    → IsPartClosed program steps right boxes cuts shown box new None
+part_done program steps right box part events (Err cause) shown cuts boxes old new o well all = absurd (well.1)
+part_done program steps right box part events (Ok bytes) shown cuts boxes old new o well all = λ image h.
+    elim (parts_cover box (first_image box) image (asked o.end.common.history) h) [
+      | inr other ↦ inl ((o.others image).1 (inr other))
+      | inl inside ↦ inr (record {
+        well = part_answers program steps box (first_image box) image o.end o.full (Contains right.answers.items) bytes shown o.opened (sym o.comes) well.0 well.1 inside;
+        followed = λ left then_shown cut.
+            let l = part_lies program steps box (first_image box) image o.end o.full shown left then_shown o.opened inside cut in
+            let there : l.0 ≤ length events = subst (λ (es : List Event). l.0 ≤ length es) (sym o.traces) l.1 in
+            subst (λ (s : Option (List ℕ)). IsCovered boxes cuts left s) (sym l.3)
+            (as_covered boxes cuts part (part_by box (first_image box) o.end) events (trace_in o.end.common) (Ok bytes) _ shown l.0 o.keeps o.traces o.comes (all l.0 there) left l.2);
+      })
+    ]
+
+pub part_pending : (program : Sections) (steps : ℕ) (box part : List (List (List ℕ))) (events : List Event) (found : Result (List ℕ) run.Cause) (old new : List (List (List (List ℕ))))
+    → IsOpened program steps box part events found old new → IsPending box old new
+part_pending program steps box part events found old new o = (
+  λ image h. (o.others image).1 (inl h),
+  λ image h. elim ((o.others image).0 h) [
+    | inl was ↦ inl was
+    | inr other ↦ inr (others_differ box (first_image box) image (asked o.end.common.history) o.opened.below other).0
+  ],
+)
+
+-- said of what is the same
+pub closed_as : (program other : Sections) (steps many : ℕ) (right same : RightAnswers) (boxes : List BoundBox) (cuts : ℕ) (shown : Option (List ℕ)) (images : List (List (List ℕ)))
+    (pending : List (List (List (List ℕ)))) (found result : Option CutCause) → program ≡ other → steps ≡ many → right ≡ same → found ≡ result
+    → IsPartClosed program steps right boxes cuts shown images pending found → IsPartClosed other many same boxes cuts shown images pending result
+closed_as program other steps many right same boxes cuts shown images pending found result e f g h closed =
+    subst (λ (p : Sections). IsPartClosed p many same boxes cuts shown images pending result) e
+    (subst (λ (n : ℕ). IsPartClosed program n same boxes cuts shown images pending result) f
+    (subst (λ (r : RightAnswers). IsPartClosed program steps r boxes cuts shown images pending result) g
+    (subst (λ (o : Option CutCause). IsPartClosed program steps right boxes cuts shown images pending o) h closed)))
+
+-- a box of which these are pending
+pub record IsClosing (program : Sections) (steps : ℕ) (right : RightAnswers) (box : BoundBox) (lines : ℕ) (old new : List BoundBox) (pending : List (List (List (List ℕ)))) : Type 0 where
+  pub grows : Grows old new
+  pub sizes : All (λ images. length images ≡ lines) pending
+  pub within : (image : List (List ℕ)) → IsInOne pending image → IsIn box.images image
+  pub each : (image : List (List ℕ)) → IsIn box.images image → IsInOne pending image ⊎ IsDone program steps right.answers.items new (box.cuts + 1) box.shown image
+
+only_box : (images : List (List (List ℕ))) (image : List (List ℕ)) → IsInOne (images ∷ []) image → IsIn images image
+only_box images image (inl h) = h
+only_box images image (inr none) = absurd none
+
+pub closing_start : (program : Sections) (steps : ℕ) (right : RightAnswers) (box : BoundBox) (lines : ℕ) (boxes : List BoundBox) (pending : List (List (List (List ℕ))))
+    → pending ≡ box.images ∷ [] → All (λ images. length images ≡ lines) pending → IsClosing program steps right box lines boxes boxes pending
+closing_start program steps right box lines boxes pending e sizes = record {
+  grows = grows_none boxes;
+  sizes = sizes;
+  within = λ image h. only_box box.images image (subst (λ (bs : List (List (List (List ℕ)))). IsInOne bs image) e h);
+  each = λ image h. inl (subst (λ (bs : List (List (List (List ℕ)))). IsInOne bs image) (sym e) (inl h));
+}
+
+done_grows : (program : Sections) (steps : ℕ) (right : List (List ℕ)) (old new : List BoundBox) (cuts : ℕ) (shown : Option (List ℕ)) (image : List (List ℕ)) → Grows old new
+    → IsDone program steps right old cuts shown image → IsDone program steps right new cuts shown image
+done_grows program steps right old new cuts shown image g d = record {
+  well = d.well;
+  followed = λ left then_shown cut. covered_grows old new cuts left then_shown g (d.followed left then_shown cut);
+}
+
+done_as : (program : Sections) (steps : ℕ) (right : List (List ℕ)) (boxes : List BoundBox) (cuts other : ℕ) (shown same : Option (List ℕ)) (image : List (List ℕ)) → cuts ≡ other → shown ≡ same
+    → IsDone program steps right boxes cuts shown image → IsDone program steps right boxes other same image
+done_as program steps right boxes cuts other shown same image e f d =
+    subst (λ (s : Option (List ℕ)). IsDone program steps right boxes other s image) f (subst (λ (n : ℕ). IsDone program steps right boxes n shown image) e d)
+
+pub closing_next : (program : Sections) (steps : ℕ) (right : RightAnswers) (box : BoundBox) (lines : ℕ) (old middle new : List BoundBox) (pending rest next : List (List (List (List ℕ))))
+    (images : List (List (List ℕ))) (cuts : ℕ) (shown : Option (List ℕ)) → pending ≡ rest ++ images ∷ [] → cuts ≡ box.cuts + 1 → shown ≡ box.shown
+    → IsPartClosed program steps right new cuts shown images next None → IsPending images rest next → All (λ b. length b ≡ lines) next → Grows middle new
+    → IsClosing program steps right box lines old middle pending → IsClosing program steps right box lines old new next
+closing_next program steps right box lines old middle new pending rest next images cuts shown e more same closed moved sizes g c = record {
+  grows = grows_on old middle new c.grows g;
+  sizes = sizes;
+  within = λ image h.
+      c.within image (subst (λ (bs : List (List (List (List ℕ)))). IsInOne bs image) (sym e) (more_one rest images image (moved.1 image h)));
+  each = λ image h. elim (c.each image h) [
+    | inr done ↦ inr (done_grows program steps right.answers.items middle new (box.cuts + 1) box.shown image g done)
+    | inl left ↦ elim (one_more rest images image (subst (λ (bs : List (List (List (List ℕ)))). IsInOne bs image) e left)) [
+      | inl later ↦ inl (moved.0 image later)
+      | inr here ↦ elim (closed image here) [
+        | inl later ↦ inl later
+        | inr done ↦ inr (done_as program steps right.answers.items new cuts (box.cuts + 1) shown box.shown image more same done)
+      ]
+    ]
+  ];
+}
+
+pub some_box : BoundBox
+some_box = record { images = []; shown = None; cuts = 0 }
+
+-- none is pending any more
+done_all : (program : Sections) (steps : ℕ) (right : List (List ℕ)) (boxes : List BoundBox) (cuts : ℕ) (shown : Option (List ℕ)) (image : List (List ℕ))
+    → IsInOne [] image ⊎ IsDone program steps right boxes cuts shown image → IsDone program steps right boxes cuts shown image
+done_all program steps right boxes cuts shown image (inl none) = absurd none
+done_all program steps right boxes cuts shown image (inr done) = done
+
+pub closing_end : (program : Sections) (steps : ℕ) (right : RightAnswers) (box : BoundBox) (lines : ℕ) (old new : List BoundBox) (pending : List (List (List (List ℕ)))) → pending ≡ []
+    → IsClosing program steps right box lines old new pending → IsWell program steps (Contains right.answers.items) box × IsFollowed program steps new box
+closing_end program steps right box lines old new pending none c =
+    let each : (image : List (List ℕ)) → IsIn box.images image → IsDone program steps right.answers.items new (box.cuts + 1) box.shown image =
+    λ image h. done_all program steps right.answers.items new (box.cuts + 1) box.shown image
+    (subst (λ (bs : List (List (List (List ℕ)))). IsInOne bs image ⊎ IsDone program steps right.answers.items new (box.cuts + 1) box.shown image) none (c.each image h)) in
+    (λ image h. (each image h).well, λ image left shown h cut. (each image h).followed left shown cut)
+
+-- one of them is bad
+pub closing_bad : (program : Sections) (steps : ℕ) (right : RightAnswers) (box : BoundBox) (lines : ℕ) (old middle : List BoundBox) (pending rest : List (List (List (List ℕ))))
+    (images : List (List (List ℕ))) (shown : Option (List ℕ)) (cause : CutCause) → pending ≡ rest ++ images ∷ [] → shown ≡ box.shown
+    → HasBad program steps right images shown cause → IsClosing program steps right box lines old middle pending → HasBad program steps right box.images box.shown cause
+closing_bad program steps right box lines old middle pending rest images shown cause e same (image, found, inside, comes, bad) c = (
+  image,
+  found,
+  c.within image (subst (λ (bs : List (List (List (List ℕ)))). IsInOne bs image) (sym e) (more_one rest images image (inr inside))),
+  comes,
+  subst (λ (s : Option (List ℕ)). IsJudgedAgain right s found (Some cause)) same bad,
+)

@@ -1,0 +1,38 @@
+use Rattle.std.proofs.Common.{◌∙◌, ◌<◌, get_or, length, arith}
+use Rattle.std.specs.List.{Contains}
+use Rattle.routine_judge.proofs.ClosedBoxes.{all_end, all_next, bad_box, verdict_as}
+use Rattle.routine_judge.proofs.ClosingBoxes.{some_box}
+use Rattle.routine_judge.specs.declared.cuts.closing.BoxVerdict.TheVariants as verdicts
+use Rattle.routine_judge.proofs.cuts.bound_boxes.BoundBoxes.close_all.Goals as goal
+
+pub returns-then-place-len-clause-ok : goal.returns-then-place-len-clause-ok
+returns-then-place-len-clause-ok c =
+    let rule = c.args.rule in
+    all_end c.args.routine.now.program rule.steps (Contains rule.right.now.answers.items) rule.most c.args.self.now.boxes c.loop-place.self.boxes c.loop-place.place
+    (omega (arith, c.if-place-len.true, c.len.ensures)) c.loop-place.invariant.0
+
+pub returns-in-Bad-clause-ok : goal.returns-in-Bad-clause-ok
+returns-in-Bad-clause-ok c =
+    let rule = c.args.rule in
+    let middle = c.loop-place.self.boxes in
+    let new = c.close_one.new.self.boxes in
+    let inside : c.loop-place.place < length middle = omega (arith, c.if-place-len.false, c.len.ensures) in
+    bad_box c.args.routine.now.program rule.steps rule.right.now middle new c.loop-place.place c.in-Bad.cause c.in_ok-close_one.ensures.grows inside
+    (verdict_as c.loop-place.routine.program c.args.routine.now.program rule.steps rule.right.now rule.most new (get_or middle c.loop-place.place some_box)
+    c.in_ok-close_one.field-0 (verdicts.Bad c.in-Bad.cause) c.loop-place.invariant.2 c.in-Bad.is (c.in_ok-close_one.ensures.ok some_box))
+
+pub loop-place-preserved : goal.loop-place-preserved
+loop-place-preserved c =
+    let rule = c.args.rule in
+    let before = c.loop-place.invariant in
+    let middle = c.loop-place.self.boxes in
+    let new = c.close_one.new.self.boxes in
+    let inside : c.loop-place.place < length middle = omega (arith, c.if-place-len.false, c.len.ensures) in (
+      all_next c.args.routine.now.program rule.steps (Contains rule.right.now.answers.items) rule.most c.args.self.now.boxes middle new c.loop-place.place inside
+          c.in_ok-close_one.ensures.grows
+          (λ d. verdict_as c.loop-place.routine.program c.args.routine.now.program rule.steps rule.right.now rule.most new (get_or middle c.loop-place.place d)
+          c.in_ok-close_one.field-0 verdicts.Closed before.2 c.in-Closed.is (c.in_ok-close_one.ensures.ok d)) before.0,
+      c.in_ok-close_one.ensures.lines ∙ before.1,
+      c.in_ok-close_one.ensures.program ∙ before.2,
+      c.in_ok-close_one.ensures.routine ∙ before.3,
+    )

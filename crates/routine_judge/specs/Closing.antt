@@ -1,0 +1,96 @@
+-- Boxes that are closed one after the other, by the runs of a routine.
+use Rattle.std.specs.Prelude.{◌≡◌, ◌⊎◌, ℕ, ◌<◌, ◌≤◌, ◌++◌, List, [], Option, None, Some, Result, Ok, Err, IfSome, length}
+use Rattle.std.specs.List.{Contains}
+use Rattle.program.specs.Sections.{Sections}
+use Rattle.recovery.specs.Boxes.{IsIn, IsInOne, left_of}
+use Rattle.recovery.specs.Closed.{AreClosed, AreClosedTo, BoundBox, IsCovered, IsFollowed, IsWell}
+use Rattle.recovery.specs.Cuts.{AnswersWell, IsCutOf, shown_at}
+use Rattle.recovery.specs.Images.{AnswersOn}
+use Rattle.recovery.specs.declared.recovery_run.Cause as run
+use Rattle.routine_judge.specs.CutsInRecovery.{StaysRight}
+use Rattle.routine_judge.specs.Gathered.{IsJudgedBy}
+use Rattle.routine_judge.specs.Views.{JudgeView}
+use Rattle.routine_judge.specs.declared.cuts.closing.BoxVerdict.{BoxVerdict}
+use Rattle.routine_judge.specs.declared.cuts.closing.BoxVerdict.TheVariants as verdicts
+use Rattle.routine_judge.specs.declared.cuts.judging.CutCause.{CutCause}
+use Rattle.routine_judge.specs.declared.cuts.judging.CutCause.TheVariants.{Judged, Changed}
+use Rattle.routine_judge.specs.declared.right.RightAnswers.{RightAnswers}
+use Rattle.store_trace.specs.History.{at_moment}
+use Rattle.store_trace.specs.declared.event.Event.{Event}
+
+-- a list only grows, at its end
+abbrev pub Grows : List BoundBox → List BoundBox → Type 0
+Grows old new = (more : List BoundBox) × (new ≡ old ++ more)
+
+-- each of these images, which so many cuts leave, is covered
+abbrev pub AreCovered : List BoundBox → ℕ → List (List (List ℕ)) → Option (List ℕ) → Type 0
+AreCovered boxes cuts images shown = (image : List (List ℕ)) → IsIn images image → IsCovered boxes cuts image shown
+
+-- it is an answer, and the one that was shown, where one was
+abbrev pub IsAsShown : Option (List ℕ) → Result (List ℕ) run.Cause → Type 0
+IsAsShown shown (Ok bytes) = IfSome shown (λ was. bytes ≡ was)
+IsAsShown shown (Err cause) = ⊥
+
+-- what the images of a part come to that are left at a moment of a run, with these events, on its images
+abbrev pub IsMomentCovered : List BoundBox → ℕ → List (List (List ℕ)) → List Event → Result (List ℕ) run.Cause → Option (List ℕ) → ℕ → Type 0
+IsMomentCovered boxes cuts part events found shown moment =
+    AreCovered boxes cuts (left_of (at_moment events moment) part) (shown_at moment (length events) found shown)
+
+-- what is found of an image before which this was shown, on which the routine comes to this
+abbrev pub IsJudgedAgain : RightAnswers → Option (List ℕ) → Result (List ℕ) run.Cause → Option CutCause → Type 0
+IsJudgedAgain right shown found None = IsJudgedBy right found None × IsAsShown shown found
+IsJudgedAgain right shown found (Some (Judged cause)) = IsJudgedBy right found (Some cause)
+IsJudgedAgain right shown found (Some Changed) = IsJudgedBy right found None × (¬ IsAsShown shown found)
+
+-- on an image the routine answers well, and what a further cut leaves of it is covered
+pub record IsDone (program : Sections) (steps : ℕ) (right : List (List ℕ)) (boxes : List BoundBox) (cuts : ℕ) (shown : Option (List ℕ)) (image : List (List ℕ)) : Type 0 where
+  pub well : AnswersWell program steps (Contains right) image shown
+  pub followed : (left : List (List ℕ)) (then_shown : Option (List ℕ)) → IsCutOf program steps image shown left then_shown → IsCovered boxes cuts left then_shown
+
+-- on an image of these the routine comes to what is found to be bad
+abbrev pub HasBad : Sections → ℕ → RightAnswers → List (List (List ℕ)) → Option (List ℕ) → CutCause → Type 0
+HasBad program steps right images shown cause = (image : List (List ℕ)) × (found : Result (List ℕ) run.Cause)
+    × IsIn images image × AnswersOn program steps image found × IsJudgedAgain right shown found (Some cause)
+
+-- of these images those that aren't pending any more are done, or one is bad
+abbrev pub IsPartClosed : Sections → ℕ → RightAnswers → List BoundBox → ℕ → Option (List ℕ) → List (List (List ℕ)) → List (List (List (List ℕ))) → Option CutCause → Type 0
+IsPartClosed program steps right boxes cuts shown images pending None = (image : List (List ℕ)) → IsIn images image →
+    IsInOne pending image ⊎ IsDone program steps right.answers.items boxes cuts shown image
+IsPartClosed program steps right boxes cuts shown images pending (Some cause) = HasBad program steps right images shown cause
+
+-- a box is closed: all is well in it, and no cut leads out of the boxes; or it is bad
+abbrev pub IsBoxVerdict : Sections → ℕ → RightAnswers → List BoundBox → BoundBox → BoxVerdict → Type 0
+IsBoxVerdict program steps right boxes box verdicts.Closed = IsWell program steps (Contains right.answers.items) box × IsFollowed program steps boxes box
+IsBoxVerdict program steps right boxes box (verdicts.Bad cause) = HasBad program steps right box.images box.shown cause
+IsBoxVerdict program steps right boxes box verdicts.TooMany = Unit {0}
+
+-- of some images those that are left to be looked at went to a list of pending ones
+abbrev pub IsPending : List (List (List ℕ)) → List (List (List (List ℕ))) → List (List (List (List ℕ))) → Type 0
+IsPending images old new = ((image : List (List ℕ)) → IsInOne old image → IsInOne new image)
+    × ((image : List (List ℕ)) → IsInOne new image → IsInOne old image ⊎ IsIn images image)
+
+-- so is a box, where the boxes that up to so many cuts leave are looked at, or all
+abbrev pub IsClosedBox : Sections → ℕ → (List ℕ → Type 0) → Option ℕ → List BoundBox → BoundBox → Type 0
+IsClosedBox program steps right None boxes box = IsWell program steps right box × IsFollowed program steps boxes box
+IsClosedBox program steps right (Some most) boxes box = (box.cuts ≤ most → IsWell program steps right box) × (box.cuts < most → IsFollowed program steps boxes box)
+
+abbrev pub IsClosedVerdict : Sections → ℕ → RightAnswers → Option ℕ → List BoundBox → BoundBox → BoxVerdict → Type 0
+IsClosedVerdict program steps right most boxes box verdicts.Closed = IsClosedBox program steps (Contains right.answers.items) most boxes box
+IsClosedVerdict program steps right most boxes box (verdicts.Bad cause) = HasBad program steps right box.images box.shown cause
+IsClosedVerdict program steps right most boxes box verdicts.TooMany = Unit {0}
+
+-- so are all boxes, or one is bad
+abbrev pub AreClosedBoxes : Sections → ℕ → (List ℕ → Type 0) → Option ℕ → List BoundBox → Type 0
+AreClosedBoxes program steps right None boxes = AreClosed program steps right boxes
+AreClosedBoxes program steps right (Some most) boxes = AreClosedTo program steps right most boxes
+
+abbrev pub AreJudgedAgain : Sections → ℕ → RightAnswers → Option ℕ → List BoundBox → BoxVerdict → Type 0
+AreJudgedAgain program steps right most boxes verdicts.Closed = AreClosedBoxes program steps (Contains right.answers.items) most boxes
+AreJudgedAgain program steps right most boxes (verdicts.Bad cause) = (box : BoundBox) × Contains boxes box × HasBad program steps right box.images box.shown cause
+AreJudgedAgain program steps right most boxes verdicts.TooMany = Unit {0}
+
+-- a moment that is closed stays right
+abbrev pub IsMomentStaying : JudgeView → Option ℕ → ℕ → BoxVerdict → Type 0
+IsMomentStaying view most m verdicts.Closed = StaysRight view most m
+IsMomentStaying view most m (verdicts.Bad cause) = Unit {0}
+IsMomentStaying view most m verdicts.TooMany = Unit {0}
