@@ -2,7 +2,7 @@
 
 use std::alloc::{AllocError, Global};
 use store_trace::Event;
-use trace_file::{TraceFile, TraceFileCode, TraceFileFault};
+use trace_file::{TraceFile, TraceFileCode, TraceFileFault, spaced_words};
 
 /// Two stores, of which only the second is cleaned before the fence.
 const EXAMPLE: &[u8] = b"1 h0 at=log.c:30 begin 1\n\
@@ -69,6 +69,72 @@ fn the_example_is_read(rt: HostRuntime) -> Result<(), AllocError> {
     assert!(rt;
         file.rank_of(2) == Some(0) && file.rank_of(70_000) == Some(1) && file.rank_of(3).is_none()
     );
+    Ok(())
+}
+
+fn are_places(texts: &[Vec<u8>]) -> bool {
+    for (index, place) in PLACES.iter().enumerate() {
+        if texts.len() <= index || texts[index].as_slice() != *place {
+            return false;
+        }
+    }
+    texts.len() == PLACES.len()
+}
+
+/// Whether the events of the example are the same apart from its text.
+fn is_ranked(alloc: Global) -> Result<bool, AllocError> {
+    let Ok(file) = TraceFile::read(alloc, EXAMPLE) else {
+        return Err(AllocError);
+    };
+    let ranked = file.into_ranked(alloc)?;
+    Ok(
+        ranked.trace.events() == EVENTS.as_slice()
+            && ranked.names.as_slice() == [2u32, 70_000].as_slice()
+            && are_places(&ranked.places),
+    )
+}
+
+#[test]
+fn the_example_stands_apart_from_its_text(rt: HostRuntime) -> Result<(), AllocError> {
+    let same = is_ranked(rt.alloc())?;
+    assert!(rt; same);
+    Ok(())
+}
+
+/// Texts of place words, and these as they are told with those that begin with `step=` and without.
+static WORDS: [(&[u8], &[u8], &[u8]); 6] = [
+    (b"", b"", b""),
+    (b"at=log.c:30 ", b" at=log.c:30", b" at=log.c:30"),
+    (
+        b"step=9 pc=0x10020 line=9 ",
+        b" step=9 pc=0x10020 line=9",
+        b" pc=0x10020 line=9",
+    ),
+    (b"a=b step=c=d step=e ", b" a=b step=c=d step=e", b" a=b"),
+    (b"step=1 ", b" step=1", b""),
+    (
+        b"steps=1 in=step= ",
+        b" steps=1 in=step=",
+        b" steps=1 in=step=",
+    ),
+];
+
+/// The row of the first words that are told otherwise.
+fn first_otherwise(alloc: Global) -> Result<Option<usize>, AllocError> {
+    for (row, (place, whole, told)) in WORDS.iter().enumerate() {
+        let with_steps = spaced_words(alloc, *place, true)?;
+        let without = spaced_words(alloc, *place, false)?;
+        if with_steps.as_slice() != *whole || without.as_slice() != *told {
+            return Ok(Some(row));
+        }
+    }
+    Ok(None)
+}
+
+#[test]
+fn place_words_are_told_behind_blanks(rt: HostRuntime) -> Result<(), AllocError> {
+    let row = first_otherwise(rt.alloc())?;
+    assert!(rt; row.is_none());
     Ok(())
 }
 
