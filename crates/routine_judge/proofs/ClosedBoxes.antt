@@ -1,38 +1,48 @@
 -- Boxes that are closed one after the other, and a moment whose images lie in them.
-use Rattle.std.proofs.Common.{◌≡◌, ◌⊎◌, ℕ, zero, suc, ◌+◌, ◌<◌, ◌≤◌, List, [], ◌∷◌, ◌++◌, Option, Some, None, length, get_or, refl, sym, ap, subst, ◌∙◌, inl, inr, arith}
-use Rattle.std.specs.Prelude.{All, map}
+use Rattle.std.proofs.Common.{◌≡◌, ◌⊎◌, ℕ, zero, suc, ◌+◌, ◌<◌, ◌≤◌, List, [], ◌∷◌, ◌++◌, Option, Some, None, Result, Ok, Bool, length, get_or, refl, sym, ap, subst, ◌∙◌, inl, inr, arith}
+use Rattle.std.specs.Prelude.{All, IfSome, map}
 use Rattle.std.specs.List.{AllByRecursion, Contains}
 use Rattle.std.proofs.lemmas.Bool.{cases_eq, cases_lt}
 use Rattle.std.proofs.lemmas.List.{get_or_append_left, length-append, length-map}
-use Rattle.std.proofs.lemmas.List.Elements.{Contains-append_left, Contains-get_or, recursion_from_All}
+use Rattle.std.proofs.lemmas.List.Elements.{All-contains, All-from_recursion, Contains-append_left, Contains-get_or, recursion_from_All}
 use Rattle.program.specs.Sections.{Sections}
-use Rattle.recovery.proofs.Boxed.{cut_is_left, in_wider}
+use Rattle.machine.specs.Run.{Config, started}
+use Rattle.recovery.proofs.Boxed.{cut_is_left, in_wider, left_some_cut}
+use Rattle.recovery.proofs.Limited.{ends_once}
+use Rattle.recovery.specs.Answers.{answer}
 use Rattle.recovery.specs.Boxes.{IsIn, LiesWithin, left_of}
 use Rattle.recovery.specs.Closed.{BoundBox, IsCovered, IsFollowed, IsWell}
 use Rattle.recovery.specs.Cuts.{AnswersWell}
-use Rattle.routine_judge.proofs.ClosingBoxes.{some_box}
+use Rattle.recovery.specs.Images.{AnswersOn}
+use Rattle.recovery.specs.declared.recovery_run.Cause as run
+use Rattle.routine_judge.proofs.ClosingBoxes.{by_none, some_box}
 use Rattle.routine_judge.proofs.Covering.{covered_grows, grows_none, grows_on, within_size}
 use Rattle.routine_judge.proofs.LeftBoxes.{length_left}
 use Rattle.routine_judge.proofs.StayingRight.{stays_right, stays_right_to}
-use Rattle.routine_judge.specs.Closing.{AreClosedBoxes, AreJudgedAgain, Grows, HasBad, IsBoxVerdict, IsClosedBox, IsClosedVerdict, IsMomentStaying}
-use Rattle.routine_judge.specs.CutsInRecovery.{StaysRight}
+use Rattle.routine_judge.proofs.Unions.{only_one}
+use Rattle.routine_judge.specs.Closing.{AreClosedBoxes, AreJudgedAgain, AreLeft, AreReached, Grows, GrowsBy, HasBad, IsBoxVerdict, IsClosedBox, IsClosedVerdict, IsFailing, IsJudgedAgain, IsMomentStaying}
+use Rattle.routine_judge.specs.CutsInRecovery.{IsAllowed, StaysRight}
 use Rattle.routine_judge.specs.Gathered.{AreAnswers}
 use Rattle.routine_judge.specs.RightAnswers.{IsRightOf, IsSource, Source}
 use Rattle.routine_judge.specs.Views.{JudgeView}
 use Rattle.routine_judge.specs.declared.cuts.closing.BoxVerdict.{BoxVerdict}
 use Rattle.routine_judge.specs.declared.cuts.closing.BoxVerdict.TheVariants as verdicts
+use Rattle.routine_judge.specs.declared.cause.Cause.TheVariants.{Missing, Different, Full, Unmatched}
 use Rattle.routine_judge.specs.declared.cuts.judging.CutCause.{CutCause}
+use Rattle.routine_judge.specs.declared.cuts.judging.CutCause.TheVariants.{Judged, Changed}
 use Rattle.routine_judge.specs.declared.right.RightAnswers.{RightAnswers}
-use Rattle.store_trace.proofs.Lines.{within_from_cut}
+use Rattle.store_trace.proofs.Lines.{cut_image, within_from_cut}
+use Rattle.store_trace.proofs.Members.{no_members}
 use Rattle.store_trace.specs.Cut.{IsCutImage, number_in}
 use Rattle.store_trace.specs.History.{at_moment}
+use Rattle.store_trace.specs.Image.{image}
 use Rattle.store_trace.specs.declared.crash_model.step.PersistenceStep.{PersistenceStep}
 
 -- a box that more cuts leave than are looked at, and one that was closed
-pub far_closed : (program : Sections) (steps : ℕ) (right : List ℕ → Type 0) (most : Option ℕ) (n : ℕ) (boxes : List BoundBox) (box : BoundBox) → most ≡ Some n → n < box.cuts
+pub far_closed : (program : Sections) (steps : ℕ) (right : List ℕ → Type 0) (most : Option ℕ) (boxes : List BoundBox) (box : BoundBox) → (¬ IsAllowed most box.cuts)
     → IsClosedBox program steps right most boxes box
-far_closed program steps right most n boxes box e far =
-    subst (λ (o : Option ℕ). IsClosedBox program steps right o boxes box) (sym e) (λ few. absurd (omega (arith, few, far)), λ few. absurd (omega (arith, few, far)))
+far_closed program steps right None boxes box far = absurd (far tt)
+far_closed program steps right (Some most) boxes box far = (λ few. absurd (far few), λ few. absurd (far (omega (arith, few))))
 
 closed_box : (program : Sections) (steps : ℕ) (right : List ℕ → Type 0) (most : Option ℕ) (boxes : List BoundBox) (box : BoundBox)
     → IsWell program steps right box × IsFollowed program steps boxes box → IsClosedBox program steps right most boxes box
@@ -40,10 +50,10 @@ closed_box program steps right None boxes box c = c
 closed_box program steps right (Some most) boxes box c = (λ few. c.0, λ few. c.1)
 
 pub closed_verdict : (program : Sections) (steps : ℕ) (right : RightAnswers) (most : Option ℕ) (boxes : List BoundBox) (box : BoundBox) (verdict : BoxVerdict)
-    → IsBoxVerdict program steps right boxes box verdict → IsClosedVerdict program steps right most boxes box verdict
-closed_verdict program steps right most boxes box verdicts.Closed v = closed_box program steps (Contains right.answers.items) most boxes box v
-closed_verdict program steps right most boxes box (verdicts.Bad cause) v = v
-closed_verdict program steps right most boxes box verdicts.TooMany v = tt
+    → IsAllowed most box.cuts → IsBoxVerdict program steps right boxes box verdict → IsClosedVerdict program steps right most boxes box verdict
+closed_verdict program steps right most boxes box verdicts.Closed few v = closed_box program steps (Contains right.answers.items) most boxes box v
+closed_verdict program steps right most boxes box (verdicts.Bad cause) few v = (few, v)
+closed_verdict program steps right most boxes box verdicts.TooMany few v = tt
 
 -- a list that grows
 followed_grows : (program : Sections) (steps : ℕ) (old new : List BoundBox) (box : BoundBox) → Grows old new → IsFollowed program steps old box → IsFollowed program steps new box
@@ -60,33 +70,46 @@ grown_at old new i d (more, e) there = ap (λ (boxes : List BoundBox). get_or bo
 grown_length : (old new : List BoundBox) → Grows old new → length old ≤ length new
 grown_length old new (more, e) = let size = ap (λ (boxes : List BoundBox). length boxes) e in omega (arith, size, length-append old more)
 
+by_on : (program : Sections) (steps : ℕ) (old middle new : List BoundBox) → GrowsBy program steps old middle → GrowsBy program steps middle new → GrowsBy program steps old new
+by_on program steps old middle new g h = record {
+  grows = grows_on old middle new g.grows h.grows;
+  reached = λ start p all. h.reached start p (g.reached start p all);
+}
+
+pub by_as : (program other : Sections) (steps : ℕ) (old new : List BoundBox) → program ≡ other → GrowsBy program steps old new → GrowsBy other steps old new
+by_as program other steps old new e g = subst (λ (p : Sections). GrowsBy p steps old new) e g
+
 -- the first boxes are closed
 pub record AreClosing (program : Sections) (steps : ℕ) (right : List ℕ → Type 0) (most : Option ℕ) (old new : List BoundBox) (place : ℕ) : Type 0 where
-  pub grows : Grows old new
+  pub grows : GrowsBy program steps old new
   pub there : place ≤ length new
   pub each : (i : ℕ) (d : BoundBox) → i < place → IsClosedBox program steps right most new (get_or new i d)
 
+pub by_next : (program other : Sections) (steps : ℕ) (right : List ℕ → Type 0) (most : Option ℕ) (old middle new : List BoundBox) (place : ℕ) → other ≡ program
+    → AreClosing program steps right most old middle place → GrowsBy other steps middle new → GrowsBy program steps old new
+by_next program other steps right most old middle new place e c g = by_on program steps old middle new c.grows (by_as other program steps middle new e g)
+
 pub all_start : (program : Sections) (steps : ℕ) (right : List ℕ → Type 0) (most : Option ℕ) (boxes : List BoundBox) → AreClosing program steps right most boxes boxes 0
-all_start program steps right most boxes = record { grows = grows_none boxes; there = omega arith; each = λ i d below. absurd (omega (arith, below)) }
+all_start program steps right most boxes = record { grows = by_none program steps boxes; there = omega arith; each = λ i d below. absurd (omega (arith, below)) }
 
 lower : (m n : ℕ) → m < n + 1 → (m ≡ n → ⊥) → m < n
 lower m n below apart = elim (cases_lt m n) [ inl less ↦ less | inr from ↦ absurd (apart (omega (arith, below, from))) ]
 
-pub all_next : (program : Sections) (steps : ℕ) (right : List ℕ → Type 0) (most : Option ℕ) (old middle new : List BoundBox) (place : ℕ) → place < length middle → Grows middle new
-    → ((d : BoundBox) → IsClosedBox program steps right most new (get_or middle place d)) → AreClosing program steps right most old middle place
+pub all_next : (program : Sections) (steps : ℕ) (right : List ℕ → Type 0) (most : Option ℕ) (old middle new : List BoundBox) (place : ℕ) → place < length middle
+    → GrowsBy program steps middle new → ((d : BoundBox) → IsClosedBox program steps right most new (get_or middle place d)) → AreClosing program steps right most old middle place
     → AreClosing program steps right most old new (place + 1)
 all_next program steps right most old middle new place inside g closed c =
-    let long = grown_length middle new g in
+    let long = grown_length middle new g.grows in
     let at : (i : ℕ) (d : BoundBox) → i < length middle → IsClosedBox program steps right most new (get_or middle i d) → IsClosedBox program steps right most new (get_or new i d) =
-    λ i d there h. subst (λ (box : BoundBox). IsClosedBox program steps right most new box) (sym (grown_at middle new i d g there)) h in
+    λ i d there h. subst (λ (box : BoundBox). IsClosedBox program steps right most new box) (sym (grown_at middle new i d g.grows there)) h in
     record {
-      grows = grows_on old middle new c.grows g;
+      grows = by_on program steps old middle new c.grows g;
       there = omega (arith, inside, long);
       each = λ i d below. elim (cases_eq i place) [
         | inl here ↦ at i d (omega (arith, here, inside)) (subst (λ (n : ℕ). IsClosedBox program steps right most new (get_or middle n d)) (sym here) (closed d))
         | inr apart ↦
             let less = lower i place below apart in
-            at i d (omega (arith, less, inside)) (closed_grows program steps right most middle new (get_or middle i d) g (c.each i d less))
+            at i d (omega (arith, less, inside)) (closed_grows program steps right most middle new (get_or middle i d) g.grows (c.each i d less))
       ];
     }
 
@@ -99,14 +122,15 @@ pub all_end : (program : Sections) (steps : ℕ) (right : List ℕ → Type 0) (
     → AreClosing program steps right most old new place → AreClosedBoxes program steps right most new
 all_end program steps right most old new place past c = as_list program steps right most new (λ i d there. c.each i d (omega (arith, there, past)))
 
-pub bad_box : (program : Sections) (steps : ℕ) (right : RightAnswers) (middle new : List BoundBox) (place : ℕ) (cause : CutCause) → Grows middle new → place < length middle
-    → HasBad program steps right (get_or middle place some_box).images (get_or middle place some_box).shown cause
-    → (box : BoundBox) × Contains new box × HasBad program steps right box.images box.shown cause
-bad_box program steps right middle new place cause (more, e) there bad = (
+pub bad_box : (program : Sections) (steps : ℕ) (right : RightAnswers) (most : Option ℕ) (middle new : List BoundBox) (place : ℕ) (cause : CutCause) → Grows middle new → place < length middle
+    → IsAllowed most (get_or middle place some_box).cuts × HasBad program steps right (get_or middle place some_box).images (get_or middle place some_box).shown cause
+    → (box : BoundBox) × Contains new box × IsAllowed most box.cuts × HasBad program steps right box.images box.shown cause
+bad_box program steps right most middle new place cause (more, e) there bad = (
   get_or middle place some_box,
   subst (λ (boxes : List BoundBox). Contains boxes (get_or middle place some_box)) (sym e)
       (Contains-append_left middle more (get_or middle place some_box) (Contains-get_or middle place some_box there)),
-  bad,
+  bad.0,
+  bad.1,
 )
 
 -- said of what is the same
@@ -150,18 +174,79 @@ moment_stays view m None source boxes right is are starts closed =
 moment_stays view m (Some most) source boxes right is are starts closed =
     stays_right_to view m most source boxes is starts (each_right_to view.routine view.steps most right.answers.items (IsRightOf view source) boxes boxes are.each closed)
 
+-- where an image is bad, it isn't answered well
+not_right : (right : RightAnswers) (shown : Option (List ℕ)) (bytes : List ℕ) (cause : CutCause) → Contains right.answers.items bytes → IfSome shown (λ was. bytes ≡ was)
+    → IsJudgedAgain right shown (Ok bytes) (Some cause) → ⊥
+not_right right shown bytes (Judged (Missing cause)) among same bad = bad
+not_right right shown bytes (Judged Different) among same bad = bad.0 among
+not_right right shown bytes (Judged (Full cause)) among same bad = no_members bytes (subst (λ (xs : List (List ℕ)). Contains xs bytes) bad.0 among)
+not_right right shown bytes (Judged Unmatched) among same bad = no_members bytes (subst (λ (xs : List (List ℕ)). Contains xs bytes) bad.0 among)
+not_right right shown bytes Changed among same bad = bad.1 same
+
+not_well : (program : Sections) (steps : ℕ) (right : RightAnswers) (is_right : List ℕ → Type 0) (image : List (List ℕ)) (shown : Option (List ℕ)) (found : Result (List ℕ) run.Cause)
+    (cause : CutCause) → ((bytes : List ℕ) → is_right bytes → Contains right.answers.items bytes) → AnswersOn program steps image found
+    → IsJudgedAgain right shown found (Some cause) → AnswersWell program steps is_right image shown → ⊥
+not_well program steps right is_right image shown found cause all comes bad well =
+    let a = well.answers in
+    let one = ends_once (started program image 1) comes.end a.end steps comes.full a.full comes.runs a.runs in
+    let same : found ≡ Ok well.bytes =
+    comes.comes ∙ sym (a.comes ∙ ap (λ (end : Config). answer end a.full) one.0 ∙ ap (λ (full : Bool). answer comes.end full) one.1) in
+    not_right right shown well.bytes cause (all well.bytes well.is_right) well.stays
+    (subst (λ (f : Result (List ℕ) run.Cause). IsJudgedAgain right shown f (Some cause)) same bad)
+
+moment_fails : (view : JudgeView) (m : ℕ) (most : Option ℕ) (source : Source) (boxes : List BoundBox) (right : RightAnswers) (cause : CutCause) → IsSource view m source
+    → AreAnswers view source right → AreReached view.routine view.steps view.start (at_moment view.events m) boxes
+    → (box : BoundBox) × Contains boxes box × IsAllowed most box.cuts × HasBad view.routine view.steps right box.images box.shown cause → IsFailing view most m
+moment_fails view m most source boxes right cause is are reached (box, among, few, (image, found, inside, comes, bad)) = record {
+  source = source;
+  is_source = is;
+  cuts = box.cuts;
+  image = image;
+  shown = box.shown;
+  allowed = few;
+  left = All-contains (λ (b : BoundBox). AreLeft view.routine view.steps view.start (at_moment view.events m) b.cuts b.images b.shown) boxes box reached among image inside;
+  bad = not_well view.routine view.steps right (IsRightOf view source) image box.shown found cause are.all comes bad;
+}
+
 pub moment_judged : (view : JudgeView) (m : ℕ) (most : Option ℕ) (source : Source) (old new : List BoundBox) (right : RightAnswers) (verdict : BoxVerdict) → IsSource view m source
-    → AreAnswers view source right → ((image : List (List ℕ)) → IsCutImage view.start (at_moment view.events m) image → IsCovered old 0 image None) → Grows old new
+    → AreAnswers view source right → ((image : List (List ℕ)) → IsCutImage view.start (at_moment view.events m) image → IsCovered old 0 image None)
+    → AreReached view.routine view.steps view.start (at_moment view.events m) old → GrowsBy view.routine view.steps old new
     → AreJudgedAgain view.routine view.steps right most new verdict → IsMomentStaying view most m verdict
-moment_judged view m most source old new right verdicts.Closed is are starts g closed =
-    moment_stays view m most source new right is are (λ image h. covered_grows old new 0 image None g (starts image h)) closed
-moment_judged view m most source old new right (verdicts.Bad cause) is are starts g closed = tt
-moment_judged view m most source old new right verdicts.TooMany is are starts g closed = tt
+moment_judged view m most source old new right verdicts.Closed is are starts reached g closed =
+    moment_stays view m most source new right is are (λ image h. covered_grows old new 0 image None g.grows (starts image h)) closed
+moment_judged view m most source old new right (verdicts.Bad cause) is are starts reached g bad =
+    moment_fails view m most source new right cause is are (g.reached view.start (at_moment view.events m) reached) bad
+moment_judged view m most source old new right verdicts.TooMany is are starts reached g closed = tt
+
+pub judged_by : (program other : Sections) (steps many : ℕ) (old new : List BoundBox) → program ≡ other → steps ≡ many → GrowsBy program steps old new → GrowsBy other many old new
+judged_by program other steps many old new e f g =
+    subst (λ (p : Sections). GrowsBy p many old new) e (subst (λ (n : ℕ). GrowsBy program n old new) f g)
 
 pub first_size : (start : List (List ℕ)) (p : List PersistenceStep) (alone left : List (List (List ℕ))) → alone ≡ map (λ line. line ∷ []) start → LiesWithin left (left_of p alone)
     → length left ≡ length start
 first_size start p alone left a w =
     within_size left (left_of p alone) w ∙ length_left 0 p alone ∙ ap (λ (box : List (List (List ℕ))). length box) a ∙ length-map start (λ (line : List ℕ). line ∷ [])
+
+-- each image of the first box is one of the moment
+alone_only : (lines image : List (List ℕ)) → IsIn (map (λ line. line ∷ []) lines) image → image ≡ lines
+alone_only [] [] h = refl
+alone_only [] (line ∷ image) h = absurd h
+alone_only (line ∷ lines) [] h = absurd h
+alone_only (line ∷ lines) (other ∷ image) h =
+    ap (λ (first : List ℕ). first ∷ image) (only_one line other h.0) ∙ ap (λ (rest : List (List ℕ)). line ∷ rest) (alone_only lines image h.1)
+
+pub first_reached : (program : Sections) (steps : ℕ) (start : List (List ℕ)) (p : List PersistenceStep) (alone left : List (List (List ℕ))) (boxes : List BoundBox)
+    → alone ≡ map (λ line. line ∷ []) start → LiesWithin left (left_of p alone) → boxes ≡ record { images = left; shown = None; cuts = 0 } ∷ []
+    → AreReached program steps start p boxes
+first_reached program steps start p alone left boxes a w e =
+    subst (λ (bs : List BoundBox). AreReached program steps start p bs) (sym e)
+    (All-from_recursion (λ (b : BoundBox). AreLeft program steps start p b.cuts b.images b.shown) (record { images = left; shown = None; cuts = 0 } ∷ []) (
+      λ left_image h.
+          let c = left_some_cut p alone left_image (in_wider left (left_of p alone) left_image w h) in
+          let lines : c.0 ≡ start = alone_only start c.0 (subst (λ (box : List (List (List ℕ))). IsIn box c.0) a c.2) in
+          (subst (λ (i : List (List ℕ)). IsCutImage start p i) (sym (c.4 ∙ ap (λ (ls : List (List ℕ)). image ls c.1 p) lines)) (cut_image start p c.1 c.3), refl),
+      tt,
+    ))
 
 -- the images of a moment lie in one box
 alone_in : (lines : List (List ℕ)) → IsIn (map (λ line. line ∷ []) lines) lines

@@ -1,26 +1,30 @@
 -- A box while it is closed, part by part.
-use Rattle.std.proofs.Common.{◌≡◌, ◌⊎◌, ℕ, zero, suc, ◌+◌, ◌<◌, ◌≤◌, List, [], ◌∷◌, ◌++◌, Option, Some, None, Result, Ok, Err, length, refl, sym, ap, subst, ◌∙◌, inl, inr}
+use Rattle.std.proofs.Common.{◌≡◌, ◌⊎◌, ℕ, zero, suc, ◌+◌, ◌<◌, ◌≤◌, List, [], ◌∷◌, ◌++◌, Option, Some, None, Result, Ok, Err, length, refl, sym, ap, subst, ◌∙◌, inl, inr, arith}
 use Rattle.std.specs.Prelude.{All, IfSome}
 use Rattle.std.specs.List.{Contains}
 use Rattle.std.proofs.lemmas.List.{length-set}
 use Rattle.machine.specs.Replies.{trace_in}
 use Rattle.program.specs.Sections.{Sections}
-use Rattle.recovery.proofs.Opened.{part_answers, part_lies}
-use Rattle.recovery.proofs.Parted.{others_differ, parts_cover}
+use Rattle.recovery.proofs.Opened.{part_answers, part_lies, part_made}
+use Rattle.recovery.proofs.Parted.{others_differ, part_agrees, parts_cover}
+use Rattle.recovery.specs.Answers.{answer}
 use Rattle.recovery.specs.Asking.{asked}
-use Rattle.recovery.specs.Boxes.{IsIn, IsInOne, alike, part_of}
+use Rattle.recovery.specs.Boxes.{IsIn, IsInOne, alike, left_of, part_of}
 use Rattle.recovery.specs.Closed.{BoundBox, IsCovered, IsFollowed, IsWell}
-use Rattle.recovery.specs.Cuts.{IsCutOf}
+use Rattle.recovery.specs.Cuts.{IsCutOf, IsLeft, shown_at}
 use Rattle.recovery.specs.Parts.{part_by}
 use Rattle.recovery.specs.declared.recovery_run.Cause as run
 use Rattle.routine_judge.proofs.Covering.{covered_grows, grows_none, grows_on}
 use Rattle.routine_judge.proofs.Keepings.{more_one, one_more}
 use Rattle.routine_judge.specs.BoxViews.{first_image}
-use Rattle.routine_judge.specs.Closing.{Grows, HasBad, IsDone, IsJudgedAgain, IsMomentCovered, IsPartClosed, IsPending}
+use Rattle.routine_judge.specs.Closing.{AreLeft, AreReached, Grows, GrowsAfter, GrowsBy, GrowsFrom, HasBad, IsDone, IsJudgedAgain, IsMomentCovered, IsPartClosed, IsPending}
 use Rattle.routine_judge.specs.OpenedBoxes.{IsOpened}
 use Rattle.routine_judge.specs.declared.cuts.judging.CutCause.{CutCause}
 use Rattle.routine_judge.specs.declared.right.RightAnswers.{RightAnswers}
+use Rattle.store_trace.specs.Cut.{IsCutImage}
+use Rattle.store_trace.specs.History.{at_moment}
 use Rattle.store_trace.specs.TraceView.{NamesLine}
+use Rattle.store_trace.specs.declared.crash_model.step.PersistenceStep.{PersistenceStep}
 use Rattle.store_trace.specs.declared.event.Event.{Event}
 use Rattle.verdict.specs.declared.branches.question.Question.{Question}
 
@@ -72,6 +76,46 @@ part_done program steps right box part events (Ok bytes) shown cuts boxes old ne
       })
     ]
 
+-- what a cut more leaves of the part is left of its box
+pub part_left : (program : Sections) (steps : ℕ) (box part : List (List (List ℕ))) (events : List Event) (found : Result (List ℕ) run.Cause) (shown : Option (List ℕ)) (cuts : ℕ)
+    (pending rest : List (List (List (List ℕ)))) (start : List (List ℕ)) (p : List PersistenceStep) (before : ℕ) → IsOpened program steps box part events found pending rest
+    → cuts ≡ before + 1 → AreLeft program steps start p before box shown
+    → (m : ℕ) → m ≤ length events → AreLeft program steps start p cuts (left_of (at_moment events m) part) (shown_at m (length events) found shown)
+part_left program steps box part events found shown cuts pending rest start p before o e left m there image h =
+    let first = first_image box in
+    let trace = trace_in o.end.common in
+    let early : m ≤ length trace = subst (λ (es : List Event). m ≤ length es) o.traces there in
+    let inside : IsIn (left_of (at_moment trace m) (part_by box first o.end)) image =
+    subst (λ (b : List (List (List ℕ))). IsIn (left_of (at_moment trace m) b) image) o.keeps
+    (subst (λ (es : List Event). IsIn (left_of (at_moment es m) part) image) o.traces h) in
+    let made = part_made program steps box first o.end o.full shown m image o.opened early inside in
+    let was = part_agrees box first made.0 (asked o.end.common.history) o.opened.below made.1 in
+    let told : shown_at m (length trace) (answer o.end o.full) shown ≡ shown_at m (length events) found shown =
+    ap (λ (es : List Event). shown_at m (length es) (answer o.end o.full) shown) (sym o.traces)
+    ∙ ap (λ (f : Result (List ℕ) run.Cause). shown_at m (length events) f shown) (sym o.comes) in
+    let one : IsLeft program steps (IsCutImage start p) (suc before) image (shown_at m (length trace) (answer o.end o.full) shown) = (made.0, shown, left made.0 was.0, made.2) in
+    let more : suc before ≡ cuts = omega (arith, e) in
+    subst (λ (n : ℕ). IsLeft program steps (IsCutImage start p) n image (shown_at m (length events) found shown)) more
+    (subst (λ (s : Option (List ℕ)). IsLeft program steps (IsCutImage start p) (suc before) image s) told one)
+
+pub from_none : (program : Sections) (steps : ℕ) (boxes : List BoundBox) (cuts : ℕ) (images : List (List (List ℕ))) (shown : Option (List ℕ))
+    → GrowsFrom program steps boxes boxes cuts images shown
+from_none program steps boxes cuts images shown = record { grows = grows_none boxes; reached = λ start p before e left all. all }
+
+pub from_part : (program : Sections) (steps : ℕ) (box part : List (List (List ℕ))) (events : List Event) (found : Result (List ℕ) run.Cause) (shown : Option (List ℕ)) (cuts : ℕ)
+    (old new : List BoundBox) (pending rest : List (List (List (List ℕ)))) → IsOpened program steps box part events found pending rest
+    → GrowsAfter old new cuts part events found shown → GrowsFrom program steps old new cuts box shown
+from_part program steps box part events found shown cuts old new pending rest o g = record {
+  grows = g.grows;
+  reached = λ start p before e left all.
+      g.reached program steps start p (part_left program steps box part events found shown cuts pending rest start p before o e left) all;
+}
+
+pub from_as : (program other : Sections) (steps many : ℕ) (old new : List BoundBox) (cuts : ℕ) (images : List (List (List ℕ))) (shown : Option (List ℕ)) → program ≡ other → steps ≡ many
+    → GrowsFrom program steps old new cuts images shown → GrowsFrom other many old new cuts images shown
+from_as program other steps many old new cuts images shown e f g =
+    subst (λ (p : Sections). GrowsFrom p many old new cuts images shown) e (subst (λ (n : ℕ). GrowsFrom program n old new cuts images shown) f g)
+
 pub part_pending : (program : Sections) (steps : ℕ) (box part : List (List (List ℕ))) (events : List Event) (found : Result (List ℕ) run.Cause) (old new : List (List (List (List ℕ))))
     → IsOpened program steps box part events found old new → IsPending box old new
 part_pending program steps box part events found old new o = (
@@ -94,10 +138,13 @@ closed_as program other steps many right same boxes cuts shown images pending fo
 
 -- a box of which these are pending
 pub record IsClosing (program : Sections) (steps : ℕ) (right : RightAnswers) (box : BoundBox) (lines : ℕ) (old new : List BoundBox) (pending : List (List (List (List ℕ)))) : Type 0 where
-  pub grows : Grows old new
+  pub grows : GrowsBy program steps old new
   pub sizes : All (λ images. length images ≡ lines) pending
   pub within : (image : List (List ℕ)) → IsInOne pending image → IsIn box.images image
   pub each : (image : List (List ℕ)) → IsIn box.images image → IsInOne pending image ⊎ IsDone program steps right.answers.items new (box.cuts + 1) box.shown image
+
+pub by_none : (program : Sections) (steps : ℕ) (boxes : List BoundBox) → GrowsBy program steps boxes boxes
+by_none program steps boxes = record { grows = grows_none boxes; reached = λ start p all. all }
 
 only_box : (images : List (List (List ℕ))) (image : List (List ℕ)) → IsInOne (images ∷ []) image → IsIn images image
 only_box images image (inl h) = h
@@ -106,7 +153,7 @@ only_box images image (inr none) = absurd none
 pub closing_start : (program : Sections) (steps : ℕ) (right : RightAnswers) (box : BoundBox) (lines : ℕ) (boxes : List BoundBox) (pending : List (List (List (List ℕ))))
     → pending ≡ box.images ∷ [] → All (λ images. length images ≡ lines) pending → IsClosing program steps right box lines boxes boxes pending
 closing_start program steps right box lines boxes pending e sizes = record {
-  grows = grows_none boxes;
+  grows = by_none program steps boxes;
   sizes = sizes;
   within = λ image h. only_box box.images image (subst (λ (bs : List (List (List (List ℕ)))). IsInOne bs image) e h);
   each = λ image h. inl (subst (λ (bs : List (List (List (List ℕ)))). IsInOne bs image) (sym e) (inl h));
@@ -124,17 +171,35 @@ done_as : (program : Sections) (steps : ℕ) (right : List (List ℕ)) (boxes : 
 done_as program steps right boxes cuts other shown same image e f d =
     subst (λ (s : Option (List ℕ)). IsDone program steps right boxes other s image) f (subst (λ (n : ℕ). IsDone program steps right boxes n shown image) e d)
 
+-- the boxes grow by what is left of it
+pub closing_grew : (program : Sections) (steps : ℕ) (right : RightAnswers) (box : BoundBox) (lines : ℕ) (old middle new : List BoundBox) (pending rest : List (List (List (List ℕ))))
+    (images : List (List (List ℕ))) (cuts : ℕ) (shown : Option (List ℕ)) → pending ≡ rest ++ images ∷ [] → cuts ≡ box.cuts + 1 → shown ≡ box.shown
+    → GrowsFrom program steps middle new cuts images shown
+    → ((start : List (List ℕ)) (p : List PersistenceStep) → AreReached program steps start p old → AreLeft program steps start p box.cuts box.images box.shown)
+    → IsClosing program steps right box lines old middle pending → GrowsBy program steps old new
+closing_grew program steps right box lines old middle new pending rest images cuts shown e more same g inside c = record {
+  grows = grows_on old middle new c.grows.grows g.grows;
+  reached = λ start p all.
+      g.reached start p box.cuts more
+      (subst (λ (s : Option (List ℕ)). AreLeft program steps start p box.cuts images s) (sym same)
+      (λ image h. inside start p all image
+      (c.within image (subst (λ (bs : List (List (List (List ℕ)))). IsInOne bs image) (sym e) (more_one rest images image (inr h))))))
+      (c.grows.reached start p all);
+}
+
 pub closing_next : (program : Sections) (steps : ℕ) (right : RightAnswers) (box : BoundBox) (lines : ℕ) (old middle new : List BoundBox) (pending rest next : List (List (List (List ℕ))))
     (images : List (List (List ℕ))) (cuts : ℕ) (shown : Option (List ℕ)) → pending ≡ rest ++ images ∷ [] → cuts ≡ box.cuts + 1 → shown ≡ box.shown
-    → IsPartClosed program steps right new cuts shown images next None → IsPending images rest next → All (λ b. length b ≡ lines) next → Grows middle new
+    → IsPartClosed program steps right new cuts shown images next None → IsPending images rest next → All (λ b. length b ≡ lines) next
+    → GrowsFrom program steps middle new cuts images shown
+    → ((start : List (List ℕ)) (p : List PersistenceStep) → AreReached program steps start p old → AreLeft program steps start p box.cuts box.images box.shown)
     → IsClosing program steps right box lines old middle pending → IsClosing program steps right box lines old new next
-closing_next program steps right box lines old middle new pending rest next images cuts shown e more same closed moved sizes g c = record {
-  grows = grows_on old middle new c.grows g;
+closing_next program steps right box lines old middle new pending rest next images cuts shown e more same closed moved sizes g inside c = record {
+  grows = closing_grew program steps right box lines old middle new pending rest images cuts shown e more same g inside c;
   sizes = sizes;
   within = λ image h.
       c.within image (subst (λ (bs : List (List (List (List ℕ)))). IsInOne bs image) (sym e) (more_one rest images image (moved.1 image h)));
   each = λ image h. elim (c.each image h) [
-    | inr done ↦ inr (done_grows program steps right.answers.items middle new (box.cuts + 1) box.shown image g done)
+    | inr done ↦ inr (done_grows program steps right.answers.items middle new (box.cuts + 1) box.shown image g.grows done)
     | inl left ↦ elim (one_more rest images image (subst (λ (bs : List (List (List (List ℕ)))). IsInOne bs image) e left)) [
       | inl later ↦ inl (moved.0 image later)
       | inr here ↦ elim (closed image here) [

@@ -4,15 +4,17 @@ use Rattle.std.specs.Prelude.{All, IfOk, IfSome, OnOk, if◌then◌else◌}
 use Rattle.std.specs.List.{Contains}
 use Rattle.std.proofs.lemmas.Bool.{cases_Bool, cases_eq, cases_lt, eq-eqb, ne_eqb}
 use Rattle.std.proofs.lemmas.List.{append-nil, get_or_default}
-use Rattle.std.proofs.lemmas.List.Elements.{length_all_zip}
+use Rattle.std.proofs.lemmas.List.Elements.{All-push, length_all_zip}
+use Rattle.program.specs.Sections.{Sections}
 use Rattle.recovery.proofs.Boxed.{in_wider}
 use Rattle.recovery.proofs.Opened.{moment_grows}
 use Rattle.recovery.specs.Boxes.{IsIn, IsNoFence, LiesWithin, left_of}
 use Rattle.recovery.specs.Closed.{BoundBox, Covers, IsCovered}
 use Rattle.recovery.specs.Cuts.{shown_at}
 use Rattle.recovery.specs.declared.recovery_run.Cause as run
-use Rattle.routine_judge.specs.Closing.{AreCovered, Grows, IsAsShown, IsMomentCovered}
+use Rattle.routine_judge.specs.Closing.{AreCovered, AreLeft, AreReached, Grows, GrowsAfter, GrowsWith, IsAsShown, IsMomentCovered}
 use Rattle.store_trace.specs.History.{at_moment}
+use Rattle.store_trace.specs.declared.crash_model.step.PersistenceStep.{PersistenceStep}
 use Rattle.store_trace.specs.declared.event.Event.{Event}
 
 -- the box that covers
@@ -79,10 +81,30 @@ added_covered old new cuts images shown copy same e = λ image h.
     subst (λ (boxes : List BoundBox). IsCovered boxes cuts image shown) (sym e)
     (covered_last old (record { images = images; shown = copy; cuts = cuts }) cuts image shown (record { soon = omega arith; inside = h; bound = inr (sym same) }))
 
+pub with_none : (boxes : List BoundBox) (cuts : ℕ) (images : List (List (List ℕ))) (shown : Option (List ℕ)) → GrowsWith boxes boxes cuts images shown
+with_none boxes cuts images shown = record { grows = grows_none boxes; reached = λ program steps start p left all. all }
+
+pub with_one : (old new : List BoundBox) (cuts : ℕ) (images : List (List (List ℕ))) (shown copy : Option (List ℕ)) → copy ≡ shown
+    → new ≡ old ++ record { images = images; shown = copy; cuts = cuts } ∷ [] → GrowsWith old new cuts images shown
+with_one old new cuts images shown copy same e = record {
+  grows = (record { images = images; shown = copy; cuts = cuts } ∷ [], e);
+  reached = λ program steps start p left all.
+      subst (λ (boxes : List BoundBox). AreReached program steps start p boxes) (sym e)
+      (All-push (λ (box : BoundBox). AreLeft program steps start p box.cuts box.images box.shown) old (record { images = images; shown = copy; cuts = cuts }) all
+      (subst (λ (s : Option (List ℕ)). AreLeft program steps start p cuts images s) (sym same) left));
+}
+
 -- wider images
 pub wider_covered : (boxes : List BoundBox) (cuts : ℕ) (images wider : List (List (List ℕ))) (shown : Option (List ℕ)) → LiesWithin images wider
     → AreCovered boxes cuts wider shown → AreCovered boxes cuts images shown
 wider_covered boxes cuts images wider shown w all = λ image h. all image (in_wider images wider image w h)
+
+pub with_wider : (old new : List BoundBox) (cuts : ℕ) (images wider : List (List (List ℕ))) (shown : Option (List ℕ)) → LiesWithin images wider
+    → GrowsWith old new cuts images shown → GrowsWith old new cuts wider shown
+with_wider old new cuts images wider shown w g = record {
+  grows = g.grows;
+  reached = λ program steps start p left all. g.reached program steps start p (λ image h. left image (in_wider images wider image w h)) all;
+}
 
 pub all_grow : (old new : List BoundBox) (cuts : ℕ) (images : List (List (List ℕ))) (shown : Option (List ℕ)) → Grows old new → AreCovered old cuts images shown
     → AreCovered new cuts images shown
@@ -104,41 +126,6 @@ pub no_fence_at : (events others : List Event) (m : ℕ) (e : Event) → others 
 no_fence_at events others m e same there h = λ d.
     subst (λ (event : Event). IsNoFence event) (get_or_default others m e d there ∙ ap (λ (es : List Event). get_or es m d) same) h
 
--- what was covered of the moments right before a fence
-pub record AreWidestCovered (old new : List BoundBox) (cuts : ℕ) (part : List (List (List ℕ))) (events : List Event) (shown : Option (List ℕ)) (upto : ℕ) : Type 0 where
-  pub grows : Grows old new
-  pub each : (m : ℕ) (d : Event) → m < upto → IsNoFence (get_or events m d) ⊎ AreCovered new cuts (left_of (at_moment events m) part) shown
-
-pub widest_none : (boxes : List BoundBox) (cuts : ℕ) (part : List (List (List ℕ))) (events : List Event) (shown : Option (List ℕ))
-    → AreWidestCovered boxes boxes cuts part events shown 0
-widest_none boxes cuts part events shown = record { grows = grows_none boxes; each = λ m d below. absurd (omega (arith, below)) }
-
-widest_grow : (old middle new : List BoundBox) (cuts : ℕ) (part : List (List (List ℕ))) (events : List Event) (shown : Option (List ℕ)) (upto : ℕ) → Grows middle new
-    → AreWidestCovered old middle cuts part events shown upto → AreWidestCovered old new cuts part events shown upto
-widest_grow old middle new cuts part events shown upto g w = record {
-  grows = grows_on old middle new w.grows g;
-  each = λ m d below. elim (w.each m d below) [
-    | inl no_fence ↦ inl no_fence
-    | inr all ↦ inr (all_grow middle new cuts (left_of (at_moment events m) part) shown g all)
-  ];
-}
-
-lower : (m n : ℕ) → m < n + 1 → (m ≡ n → ⊥) → m < n
-lower m n below apart = elim (cases_lt m n) [ inl less ↦ less | inr from ↦ absurd (apart (omega (arith, below, from))) ]
-
-pub widest_more : (old middle new : List BoundBox) (cuts : ℕ) (part : List (List (List ℕ))) (events : List Event) (shown : Option (List ℕ)) (upto : ℕ) → Grows middle new
-    → ((d : Event) → IsNoFence (get_or events upto d) ⊎ AreCovered new cuts (left_of (at_moment events upto) part) shown)
-    → AreWidestCovered old middle cuts part events shown upto → AreWidestCovered old new cuts part events shown (upto + 1)
-widest_more old middle new cuts part events shown upto g next w =
-    let before = widest_grow old middle new cuts part events shown upto g w in
-    record {
-      grows = before.grows;
-      each = λ m d below. elim (cases_eq m upto) [
-        | inl here ↦ subst (λ (n : ℕ). IsNoFence (get_or events n d) ⊎ AreCovered new cuts (left_of (at_moment events n) part) shown) (sym here) (next d)
-        | inr apart ↦ before.each m d (lower m upto below apart)
-      ];
-    }
-
 -- at each moment what is left is left at the next one right before a fence, or at the last
 shown_before : (m events : ℕ) (found : Result (List ℕ) run.Cause) (shown : Option (List ℕ)) → m < events → shown_at m events found shown ≡ shown
 shown_before m events (Ok bytes) shown early = let other : (m == events) ≡ false = ne_eqb m events (λ e. omega (arith, early, e)) in rw other refl
@@ -154,6 +141,77 @@ as_shown bytes (Some was) h = inr (ap (λ (b : List ℕ). Some b) (sym h))
 shown_later : (m events : ℕ) (bytes : List ℕ) (shown : Option (List ℕ)) → IfSome shown (λ was. bytes ≡ was)
     → (shown ≡ None) ⊎ (shown ≡ shown_at m events (Ok bytes) shown)
 shown_later m events bytes shown h = elim (cases_Bool (m == events)) [ inl e ↦ rw e (as_shown bytes shown h) | inr e ↦ rw e (inr refl) ]
+
+-- what cuts leave of a part at each moment of a run is left
+abbrev IsAllLeft : Sections → ℕ → List (List ℕ) → List PersistenceStep → ℕ → List (List (List ℕ)) → List Event → Result (List ℕ) run.Cause → Option (List ℕ) → Type 0
+IsAllLeft program steps start p cuts part events found shown =
+    (m : ℕ) → m ≤ length events → AreLeft program steps start p cuts (left_of (at_moment events m) part) (shown_at m (length events) found shown)
+
+-- what was covered of the moments right before a fence
+pub record AreWidestCovered (old new : List BoundBox) (cuts : ℕ) (part : List (List (List ℕ))) (events : List Event) (found : Result (List ℕ) run.Cause) (shown : Option (List ℕ)) (upto : ℕ) : Type 0 where
+  pub grows : GrowsAfter old new cuts part events found shown
+  pub each : (m : ℕ) (d : Event) → m < upto → IsNoFence (get_or events m d) ⊎ AreCovered new cuts (left_of (at_moment events m) part) shown
+
+pub after_none : (boxes : List BoundBox) (cuts : ℕ) (part : List (List (List ℕ))) (events : List Event) (found : Result (List ℕ) run.Cause) (shown : Option (List ℕ))
+    → GrowsAfter boxes boxes cuts part events found shown
+after_none boxes cuts part events found shown = record { grows = grows_none boxes; reached = λ program steps start p left all. all }
+
+pub widest_none : (boxes : List BoundBox) (cuts : ℕ) (part : List (List (List ℕ))) (events : List Event) (found : Result (List ℕ) run.Cause) (shown : Option (List ℕ))
+    → AreWidestCovered boxes boxes cuts part events found shown 0
+widest_none boxes cuts part events found shown = record { grows = after_none boxes cuts part events found shown; each = λ m d below. absurd (omega (arith, below)) }
+
+lower : (m n : ℕ) → m < n + 1 → (m ≡ n → ⊥) → m < n
+lower m n below apart = elim (cases_lt m n) [ inl less ↦ less | inr from ↦ absurd (apart (omega (arith, below, from))) ]
+
+widest_more : (old middle new : List BoundBox) (cuts : ℕ) (part : List (List (List ℕ))) (events : List Event) (found : Result (List ℕ) run.Cause) (shown : Option (List ℕ)) (upto : ℕ)
+    → Grows middle new
+    → ((program : Sections) (steps : ℕ) (start : List (List ℕ)) (p : List PersistenceStep) → IsAllLeft program steps start p cuts part events found shown
+    → AreReached program steps start p middle → AreReached program steps start p new)
+    → ((d : Event) → IsNoFence (get_or events upto d) ⊎ AreCovered new cuts (left_of (at_moment events upto) part) shown)
+    → AreWidestCovered old middle cuts part events found shown upto → AreWidestCovered old new cuts part events found shown (upto + 1)
+widest_more old middle new cuts part events found shown upto g more next w = record {
+  grows = record {
+    grows = grows_on old middle new w.grows.grows g;
+    reached = λ program steps start p left all. more program steps start p left (w.grows.reached program steps start p left all);
+  };
+  each = λ m d below. elim (cases_eq m upto) [
+    | inl here ↦ subst (λ (n : ℕ). IsNoFence (get_or events n d) ⊎ AreCovered new cuts (left_of (at_moment events n) part) shown) (sym here) (next d)
+    | inr apart ↦ elim (w.each m d (lower m upto below apart)) [
+      | inl no_fence ↦ inl no_fence
+      | inr all ↦ inr (all_grow middle new cuts (left_of (at_moment events m) part) shown g all)
+    ]
+  ];
+}
+
+pub widest_fence : (old middle new : List BoundBox) (cuts : ℕ) (part : List (List (List ℕ))) (events : List Event) (found : Result (List ℕ) run.Cause) (shown : Option (List ℕ)) (upto : ℕ)
+    → upto < length events → GrowsWith middle new cuts (left_of (at_moment events upto) part) shown → AreCovered new cuts (left_of (at_moment events upto) part) shown
+    → AreWidestCovered old middle cuts part events found shown upto → AreWidestCovered old new cuts part events found shown (upto + 1)
+widest_fence old middle new cuts part events found shown upto early g all w =
+    widest_more old middle new cuts part events found shown upto g.grows
+    (λ program steps start p left reached. g.reached program steps start p
+    (subst (λ (s : Option (List ℕ)). AreLeft program steps start p cuts (left_of (at_moment events upto) part) s) (shown_before upto (length events) found shown early)
+    (left upto (omega (arith, early)))) reached)
+    (λ d. inr all) w
+
+pub widest_skip : (old middle : List BoundBox) (cuts : ℕ) (part : List (List (List ℕ))) (events : List Event) (found : Result (List ℕ) run.Cause) (shown : Option (List ℕ)) (upto : ℕ)
+    → ((d : Event) → IsNoFence (get_or events upto d)) → AreWidestCovered old middle cuts part events found shown upto
+    → AreWidestCovered old middle cuts part events found shown (upto + 1)
+widest_skip old middle cuts part events found shown upto no_fence w =
+    widest_more old middle middle cuts part events found shown upto (grows_none middle) (λ program steps start p left reached. reached) (λ d. inl (no_fence d)) w
+
+pub after_last : (old middle new : List BoundBox) (cuts : ℕ) (part : List (List (List ℕ))) (events : List Event) (found : Result (List ℕ) run.Cause) (bytes : List ℕ)
+    (shown : Option (List ℕ)) (upto : ℕ) → found ≡ Ok bytes → AreWidestCovered old middle cuts part events found shown upto
+    → GrowsWith middle new cuts (left_of (at_moment events (length events)) part) (Some bytes) → GrowsAfter old new cuts part events found shown
+after_last old middle new cuts part events found bytes shown upto is w g =
+    let last : shown_at (length events) (length events) found shown ≡ Some bytes =
+    ap (λ (f : Result (List ℕ) run.Cause). shown_at (length events) (length events) f shown) is ∙ shown_last (length events) bytes shown in
+    record {
+      grows = grows_on old middle new w.grows.grows g.grows;
+      reached = λ program steps start p left all.
+          g.reached program steps start p
+          (subst (λ (s : Option (List ℕ)). AreLeft program steps start p cuts (left_of (at_moment events (length events)) part) s) last (left (length events) (omega arith)))
+          (w.grows.reached program steps start p left all);
+    }
 
 each_moment : (boxes : List BoundBox) (cuts : ℕ) (part : List (List (List ℕ))) (events : List Event) (bytes : List ℕ) (shown : Option (List ℕ)) (d : Event)
     → IfSome shown (λ was. bytes ≡ was)
@@ -175,12 +233,20 @@ each_moment boxes cuts part events bytes shown d stays each last (suc k) m e =
       | inr all ↦ all
     ])
 
+wide_at : (old middle new : List BoundBox) (cuts : ℕ) (part : List (List (List ℕ))) (events : List Event) (found : Result (List ℕ) run.Cause) (shown : Option (List ℕ)) (upto m : ℕ) (d : Event)
+    → Grows middle new → m < upto → AreWidestCovered old middle cuts part events found shown upto
+    → IsNoFence (get_or events m d) ⊎ AreCovered new cuts (left_of (at_moment events m) part) shown
+wide_at old middle new cuts part events found shown upto m d g below w = elim (w.each m d below) [
+  | inl no_fence ↦ inl no_fence
+  | inr all ↦ inr (all_grow middle new cuts (left_of (at_moment events m) part) shown g all)
+]
+
 pub moments_covered : (old middle new : List BoundBox) (cuts : ℕ) (part : List (List (List ℕ))) (events : List Event) (found : Result (List ℕ) run.Cause) (bytes : List ℕ)
-    (shown : Option (List ℕ)) (d : Event) (upto : ℕ) → found ≡ Ok bytes → IsAsShown shown found → length events ≤ upto → AreWidestCovered old middle cuts part events shown upto
+    (shown : Option (List ℕ)) (d : Event) (upto : ℕ) → found ≡ Ok bytes → IsAsShown shown found → length events ≤ upto → AreWidestCovered old middle cuts part events found shown upto
     → Grows middle new → AreCovered new cuts (left_of (at_moment events (length events)) part) (Some bytes)
     → (m : ℕ) → m ≤ length events → IsMomentCovered new cuts part events found shown m
 moments_covered old middle new cuts part events found bytes shown d upto is stays past w g last m there =
-    let wide = widest_grow old middle new cuts part events shown upto g w in
     let same : IfSome shown (λ was. bytes ≡ was) = subst (λ (f : Result (List ℕ) run.Cause). IsAsShown shown f) is stays in
     subst (λ (f : Result (List ℕ) run.Cause). IsMomentCovered new cuts part events f shown m) (sym is)
-    (each_moment new cuts part events bytes shown d same (λ n below. wide.each n d (omega (arith, below, past))) last (length events - m) m (omega (arith, there)))
+    (each_moment new cuts part events bytes shown d same (λ n below. wide_at old middle new cuts part events found shown upto n d g (omega (arith, below, past)) w) last
+    (length events - m) m (omega (arith, there)))

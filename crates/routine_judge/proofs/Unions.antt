@@ -27,7 +27,7 @@ pub same_some : (xs ys : List (List ℕ)) → HaveSame xs ys → 0 < length ys �
 same_some xs ys same some = first_there xs (get_or ys 0 []) ((same (get_or ys 0 [])).1 (Contains-get_or ys 0 [] some))
 
 -- what a list has beside another one
-only_one : (x bytes : List ℕ) → Contains (x ∷ []) bytes → bytes ≡ x
+pub only_one : (x bytes : List ℕ) → Contains (x ∷ []) bytes → bytes ≡ x
 only_one x bytes c = elim (contains_cases x [] bytes c) [ inl e ↦ sym e | inr none ↦ absurd (no_members bytes none) ]
 
 pub union_none : (old : List (List ℕ)) → IsUnion old [] old

@@ -2,7 +2,7 @@
 
 ghost use Rattle.recovery.specs.Boxes.{IsNoFence, left_of};
 ghost use Rattle.recovery.specs.Closed as closed;
-ghost use Rattle.routine_judge.specs.Closing.{AreCovered, Grows, IsAsShown, IsMomentCovered};
+ghost use Rattle.routine_judge.specs.Closing.{AreCovered, GrowsAfter, GrowsWith, IsAsShown, IsMomentCovered};
 ghost use Rattle.std.specs.Prelude.{◌≡◌, ◌<◌, ◌≤◌, ℕ, List, [], ◌∷◌, All, None, IfOk, IsTrue, OnOk, length, slice_index_or};
 ghost use Rattle.store_trace.specs.History.{at_moment};
 ghost use Rattle.store_trace.specs.TraceView.{NamesLine};
@@ -89,7 +89,7 @@ impl<'a> BoundBoxes<'a> {
     ) -> Result<(), AllocError>
         requires { length images ≡ self.old.lines }
         ensures covered { OnOk result (AreCovered self.new.boxes bound.now.cuts images.entry bound.now.shown) }
-        ensures grows { OnOk result (Grows self.old.boxes self.new.boxes) }
+        ensures grows { OnOk result (GrowsWith self.old.boxes self.new.boxes bound.now.cuts images.entry bound.now.shown) }
         ensures lines { self.new.lines ≡ self.old.lines }
     {
         if self.have(&images, bound) {
@@ -116,7 +116,7 @@ impl<'a> BoundBoxes<'a> {
         requires named { All (NamesLine (length part.now)) trace.now.events }
         requires there { moment ≤ length trace.now.events }
         ensures covered { OnOk result (AreCovered self.new.boxes bound.now.cuts (left_of (at_moment trace.now.events moment) part.now) bound.now.shown) }
-        ensures grows { OnOk result (Grows self.old.boxes self.new.boxes) }
+        ensures grows { OnOk result (GrowsWith self.old.boxes self.new.boxes bound.now.cuts (left_of (at_moment trace.now.events moment) part.now) bound.now.shown) }
         ensures lines { self.new.lines ≡ self.old.lines }
     {
         let left = left_at(alloc, part, trace, moment)?;
@@ -137,7 +137,7 @@ impl<'a> BoundBoxes<'a> {
         requires found { IsAsShown bound.now.shown run.now.found }
         ensures covered { OnOk result ((moment : ℕ) → moment ≤ length run.now.trace.events →
             IsMomentCovered self.new.boxes bound.now.cuts part.now run.now.trace.events run.now.found bound.now.shown moment) }
-        ensures grows { OnOk result (Grows self.old.boxes self.new.boxes) }
+        ensures grows { OnOk result (GrowsAfter self.old.boxes self.new.boxes bound.now.cuts part.now run.now.trace.events run.now.found bound.now.shown) }
         ensures lines { self.new.lines ≡ self.old.lines }
     {
         let Ok(answer) = &run.found else {

@@ -1,8 +1,9 @@
 //! Closing box after box, until no cut leads out of them.
 
 ghost use Rattle.recovery.specs.Closed as closed;
-ghost use Rattle.routine_judge.specs.Closing.{AreJudgedAgain, Grows, IsClosedVerdict};
-ghost use Rattle.std.specs.Prelude.{◌≡◌, ◌<◌, IfOk, OnOk, length, slice_index_or};
+ghost use Rattle.routine_judge.specs.Closing.{AreJudgedAgain, GrowsBy, IsClosedVerdict};
+ghost use Rattle.routine_judge.specs.CutsInRecovery.{IsAllowed};
+ghost use Rattle.std.specs.Prelude.{◌≡◌, ◌<◌, IfOk, MatchBool, OnOk, length, slice_index_or};
 
 use crate::cuts::bound_boxes::BoundBoxes;
 use crate::cuts::closing::BoxVerdict;
@@ -38,7 +39,7 @@ impl<'a> BoundBoxes<'a> {
     ) -> Result<BoxVerdict, AllocError>
         requires { routine.old.lines ≡ self.old.lines }
         ensures ok { IfOk result (AreJudgedAgain routine.old.program rule.entry.steps rule.entry.right.now rule.entry.most self.new.boxes) }
-        ensures grows { OnOk result (Grows self.old.boxes self.new.boxes) }
+        ensures grows { OnOk result (GrowsBy routine.old.program rule.entry.steps self.old.boxes self.new.boxes) }
         ensures program { routine.new.program ≡ routine.old.program }
         ensures lines { routine.new.lines ≡ routine.old.lines }
     {
@@ -67,19 +68,28 @@ impl<'a> BoundBoxes<'a> {
         requires same { routine.old.lines ≡ self.old.lines }
         ensures ok { IfOk result (λ verdict. (d : closed.BoundBox) →
             IsClosedVerdict routine.old.program rule.entry.steps rule.entry.right.now rule.entry.most self.new.boxes (slice_index_or self.old.boxes place d) verdict) }
-        ensures grows { OnOk result (Grows self.old.boxes self.new.boxes) }
+        ensures grows { OnOk result (GrowsBy routine.old.program rule.entry.steps self.old.boxes self.new.boxes) }
         ensures lines { self.new.lines ≡ self.old.lines }
         ensures program { routine.new.program ≡ routine.old.program }
         ensures routine { routine.new.lines ≡ routine.old.lines }
     {
         let cuts = self.at(place).bound().cuts;
-        match rule.most {
-            Some(most) if most < cuts => return Ok(BoxVerdict::Closed),
-            _ => {}
+        if is_past(rule.most, cuts) {
+            return Ok(BoxVerdict::Closed);
         }
         if cuts > MAX_CUTS {
             return Ok(BoxVerdict::TooMany);
         }
         self.close(alloc, routine, rule.right, rule.steps, place)
+    }
+}
+
+/// Whether so many cuts are more than are looked at.
+fn is_past(most: Option<u32>, cuts: u32) -> bool
+    ensures { MatchBool result (¬ IsAllowed most cuts) (IsAllowed most cuts) }
+{
+    match most {
+        Some(most) => most < cuts,
+        None => false,
     }
 }

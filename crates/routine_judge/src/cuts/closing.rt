@@ -1,7 +1,7 @@
 //! Closing a box: the routine's answers on its images are judged, and what a further cut leaves of them is covered.
 
 ghost use Rattle.recovery.specs.Closed as closed;
-ghost use Rattle.routine_judge.specs.Closing.{Grows, IsBoxVerdict, IsPartClosed, IsPending};
+ghost use Rattle.routine_judge.specs.Closing.{GrowsBy, GrowsFrom, IsBoxVerdict, IsPartClosed, IsPending};
 ghost use Rattle.std.specs.Prelude.{◌≡◌, ◌+◌, ◌<◌, ◌∷◌, [], All, IfOk, OnOk, length, slice_index_or};
 
 use crate::cuts::bound_box::Bound;
@@ -55,7 +55,7 @@ impl<'a> BoundBoxes<'a> {
         requires lines { routine.old.lines ≡ self.old.lines }
         ensures ok { IfOk result (λ verdict. (d : closed.BoundBox) →
             IsBoxVerdict routine.old.program steps right.now self.new.boxes (slice_index_or self.old.boxes place d) verdict) }
-        ensures grows { OnOk result (Grows self.old.boxes self.new.boxes) }
+        ensures grows { OnOk result (GrowsBy routine.old.program steps self.old.boxes self.new.boxes) }
         ensures lines { self.new.lines ≡ self.old.lines }
         ensures program { routine.new.program ≡ routine.old.program }
         ensures same { routine.new.lines ≡ routine.old.lines }
@@ -128,7 +128,8 @@ impl<'a> BoundBoxes<'a> {
             closing.now.bound.cuts closing.now.bound.shown images.entry pending.new.items found) }
         ensures pending { OnOk result (IsPending images.entry pending.old.items pending.new.items) }
         ensures sizes { OnOk result (All (λ box. length box ≡ self.old.lines) pending.new.items) }
-        ensures grows { OnOk result (Grows self.old.boxes self.new.boxes) }
+        ensures grows { OnOk result (GrowsFrom routine.old.program closing.now.steps self.old.boxes self.new.boxes
+            closing.now.bound.cuts images.entry closing.now.bound.shown) }
         ensures lines { self.new.lines ≡ self.old.lines }
         ensures program { routine.new.program ≡ routine.old.program }
         ensures routine { routine.new.lines ≡ routine.old.lines }

@@ -2,7 +2,7 @@
 
 ghost use Rattle.recovery.specs.Boxes.{left_of};
 ghost use Rattle.recovery.specs.Closed.{IsCovered};
-ghost use Rattle.routine_judge.specs.Closing.{IsMomentStaying};
+ghost use Rattle.routine_judge.specs.Closing.{AreReached, IsMomentStaying};
 ghost use Rattle.routine_judge.specs.Standing.{StandsIn};
 ghost use Rattle.std.specs.Prelude.{◌≡◌, ◌≤◌, ℕ, List, None, IfOk, length};
 ghost use Rattle.store_trace.specs.Cut.{IsCutImage};
@@ -18,7 +18,7 @@ use crate::run::MarkedRun;
 use std::alloc::{AllocError, Global};
 
 /// Judges a moment of a run by power cuts in recovery too, up to so many, or any number of them: where it is closed, the moment stays right
-/// whatever they leave.
+/// whatever they leave; where it is bad, they leave an image that isn't answered well.
 ///
 /// # Errors
 /// A growth was refused. The judge can be used again then too.
@@ -53,6 +53,7 @@ fn first_boxes<'a>(
 ) -> Result<BoundBoxes<'a>, AllocError>
     requires { moment ≤ length run.now.events }
     ensures covered { IfOk result (λ boxes. (image : List (List ℕ)) → IsCutImage run.now.start (at_moment run.now.events moment) image → IsCovered boxes.boxes 0 image None) }
+    ensures reached { IfOk result (λ boxes. AreReached run.now.routine run.now.steps run.now.start (at_moment run.now.events moment) boxes.boxes) }
     ensures lines { IfOk result (λ boxes. boxes.lines ≡ length run.now.start) }
 {
     let start = ImageBox::of(alloc, run.medium)?;

@@ -1,6 +1,6 @@
 use Rattle.std.proofs.Common.{◌∙◌, ◌<◌, get_or, length, arith}
 use Rattle.std.specs.List.{Contains}
-use Rattle.routine_judge.proofs.ClosedBoxes.{all_end, all_next, bad_box, verdict_as}
+use Rattle.routine_judge.proofs.ClosedBoxes.{all_end, all_next, bad_box, by_as, by_next, verdict_as}
 use Rattle.routine_judge.proofs.ClosingBoxes.{some_box}
 use Rattle.routine_judge.specs.declared.cuts.closing.BoxVerdict.TheVariants as verdicts
 use Rattle.routine_judge.proofs.cuts.bound_boxes.BoundBoxes.close_all.Goals as goal
@@ -17,7 +17,7 @@ returns-in-Bad-clause-ok c =
     let middle = c.loop-place.self.boxes in
     let new = c.close_one.new.self.boxes in
     let inside : c.loop-place.place < length middle = omega (arith, c.if-place-len.false, c.len.ensures) in
-    bad_box c.args.routine.now.program rule.steps rule.right.now middle new c.loop-place.place c.in-Bad.cause c.in_ok-close_one.ensures.grows inside
+    bad_box c.args.routine.now.program rule.steps rule.right.now rule.most middle new c.loop-place.place c.in-Bad.cause c.in_ok-close_one.ensures.grows.grows inside
     (verdict_as c.loop-place.routine.program c.args.routine.now.program rule.steps rule.right.now rule.most new (get_or middle c.loop-place.place some_box)
     c.in_ok-close_one.field-0 (verdicts.Bad c.in-Bad.cause) c.loop-place.invariant.2 c.in-Bad.is (c.in_ok-close_one.ensures.ok some_box))
 
@@ -29,10 +29,28 @@ loop-place-preserved c =
     let new = c.close_one.new.self.boxes in
     let inside : c.loop-place.place < length middle = omega (arith, c.if-place-len.false, c.len.ensures) in (
       all_next c.args.routine.now.program rule.steps (Contains rule.right.now.answers.items) rule.most c.args.self.now.boxes middle new c.loop-place.place inside
-          c.in_ok-close_one.ensures.grows
+          (by_as c.loop-place.routine.program c.args.routine.now.program rule.steps middle new before.2 c.in_ok-close_one.ensures.grows)
           (λ d. verdict_as c.loop-place.routine.program c.args.routine.now.program rule.steps rule.right.now rule.most new (get_or middle c.loop-place.place d)
           c.in_ok-close_one.field-0 verdicts.Closed before.2 c.in-Closed.is (c.in_ok-close_one.ensures.ok d)) before.0,
       c.in_ok-close_one.ensures.lines ∙ before.1,
       c.in_ok-close_one.ensures.program ∙ before.2,
       c.in_ok-close_one.ensures.routine ∙ before.3,
     )
+
+pub returns-then-place-len-clause-grows : goal.returns-then-place-len-clause-grows
+returns-then-place-len-clause-grows c = c.loop-place.invariant.0.grows
+
+pub returns-in-Bad-clause-grows : goal.returns-in-Bad-clause-grows
+returns-in-Bad-clause-grows c =
+    let rule = c.args.rule in
+    by_next c.args.routine.now.program c.loop-place.routine.program rule.steps (Contains rule.right.now.answers.items) rule.most c.args.self.now.boxes c.loop-place.self.boxes
+    c.close_one.new.self.boxes c.loop-place.place c.loop-place.invariant.2 c.loop-place.invariant.0 c.in_ok-close_one.ensures.grows
+
+pub returns-in-TooMany-clause-grows : goal.returns-in-TooMany-clause-grows
+returns-in-TooMany-clause-grows c =
+    let rule = c.args.rule in
+    by_next c.args.routine.now.program c.loop-place.routine.program rule.steps (Contains rule.right.now.answers.items) rule.most c.args.self.now.boxes c.loop-place.self.boxes
+    c.close_one.new.self.boxes c.loop-place.place c.loop-place.invariant.2 c.loop-place.invariant.0 c.in_ok-close_one.ensures.grows
+
+pub returns-clause-grows : goal.returns-clause-grows
+returns-clause-grows c = c.loop-place.invariant.0.grows

@@ -1,5 +1,5 @@
 use Rattle.std.proofs.Common.{◌∙◌, Option, subst}
-use Rattle.routine_judge.proofs.ClosingBoxes.{part_done, part_named, part_pending, part_size}
+use Rattle.routine_judge.proofs.ClosingBoxes.{from_none, from_part, part_done, part_named, part_pending, part_size}
 use Rattle.routine_judge.specs.Closing.{IsJudgedAgain}
 use Rattle.routine_judge.specs.declared.cuts.judging.CutCause.{CutCause}
 use Rattle.routine_judge.proofs.cuts.bound_boxes.BoundBoxes.close_part.Goals as goal
@@ -35,3 +35,15 @@ returns-clause-pending c =
     let run = c.in_ok-run.run' in
     part_pending c.args.routine.now.program c.args.closing.now.steps c.args.images c.open_box.new.images run.trace.events run.found c.args.pending.now.items
     c.open_box.new.others.items c.in_ok-run.ensures.ok
+
+pub returns-in-Some-clause-grows : goal.returns-in-Some-clause-grows
+returns-in-Some-clause-grows c =
+    let closing = c.args.closing.now in
+    from_none c.args.routine.now.program closing.steps c.args.self.now.boxes closing.bound.cuts c.args.images closing.bound.shown
+
+pub returns-clause-grows : goal.returns-clause-grows
+returns-clause-grows c =
+    let run = c.in_ok-run.run' in
+    let closing = c.args.closing.now in
+    from_part c.args.routine.now.program closing.steps c.args.images c.open_box.new.images run.trace.events run.found closing.bound.shown closing.bound.cuts
+    c.args.self.now.boxes c.cover_left.new.self.boxes c.args.pending.now.items c.open_box.new.others.items c.in_ok-run.ensures.ok c.in_ok-cover_left.ensures.grows
