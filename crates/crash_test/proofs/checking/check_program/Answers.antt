@@ -1,4 +1,4 @@
-use Rattle.std.proofs.Common.{◌≡◌, Result, Ok, refl, subst}
+use Rattle.std.proofs.Common.{Result, refl, subst}
 use Rattle.std.specs.Prelude.{IfOk}
 use Rattle.image_check.specs.declared.cause.Cause.{Cause}
 use Rattle.image_check.specs.declared.fault.CheckFault.{CheckFault}
