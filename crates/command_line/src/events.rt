@@ -66,7 +66,7 @@ impl OpenEvents {
     }
 
     /// The events as they are told, each by the name of its line and with where it was made.
-    pub(crate) fn told(&self, alloc: Global) -> Result<ToldEvents, AllocError>
+    pub(crate) fn told(&self, alloc: Global) -> Result<ToldEvents<'_>, AllocError>
         requires { HasPlaces self.now }
         ensures told { IfOk result (AreTold self.now) }
         ensures size { IfOk result (λ told. length told.traced.items ≡ length (events_of self.now)) }
@@ -89,7 +89,7 @@ fn name_of(names: &[u32], rank: u32) -> u32
 }
 
 /// The events of a run as they are told, by what is known of the pcs of its program.
-fn told_of(alloc: Global, made: &MadeRun) -> Result<ToldEvents, AllocError>
+fn told_of(alloc: Global, made: &MadeRun) -> Result<ToldEvents<'_>, AllocError>
     requires { IsProgramOf made.now.file.items made.now.run.setup.program }
     ensures told { IfOk result (AreOfRun made.now) }
     ensures size { IfOk result (λ told. length told.traced.items ≡ length made.now.run.events) }

@@ -93,7 +93,7 @@ fn image_losses(
     alloc: Global,
     traced: &[TracedEvent],
     explained: &ExplainedImage,
-    places: &Places,
+    places: &Places<'_>,
     json: bool,
 ) -> Result<String, AllocError>
     requires few { hart_steps explained.now.schedule < 2 ^ 32 }
@@ -126,7 +126,7 @@ fn told_losses(
     alloc: Global,
     traced: &[TracedEvent],
     explained: &ExplainedImage,
-    places: &Places,
+    places: &Places<'_>,
     json: bool,
 ) -> Result<String, AllocError>
     requires few { hart_steps explained.now.schedule < 2 ^ 32 }

@@ -81,7 +81,7 @@ fn trace_answer(
 fn told_events(
     alloc: Global,
     traced: &[TracedEvent],
-    places: &Places,
+    places: &Places<'_>,
     json: bool,
 ) -> Result<String, AllocError>
     ensures { IfOk result (λ text. string_bytes text ≡ told_events json (origin_in places.now) traced.now) }

@@ -107,7 +107,7 @@ fn named_loss(opened: &OpenEvents, lost: Lost) -> Lost
 /// The stores that weren't durable in time, as text or as JSON.
 fn told_stores(
     alloc: Global,
-    told: &ToldEvents,
+    told: &ToldEvents<'_>,
     found: &Unpersisted,
     json: bool,
 ) -> Result<String, AllocError>

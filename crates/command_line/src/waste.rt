@@ -58,7 +58,7 @@ fn waste_answer(
 /// The needless events, as text or as JSON.
 fn told_waste(
     alloc: Global,
-    told: &ToldEvents,
+    told: &ToldEvents<'_>,
     reasons: &[Option<Reason>],
     json: bool,
 ) -> Result<String, AllocError>

@@ -7,6 +7,7 @@ use Rattle.assemble.specs.declared.fault.AsmFault.{AsmFault}
 use Rattle.assemble.proofs.OneAnswer.{no_fault}
 use Rattle.elf_file.specs.FunctionSymbols.{FunctionSymbol}
 use Rattle.elf_file.specs.Functions.{functions_of}
+use Rattle.elf_file.specs.LineTables.{KnownTable, line_table_of}
 use Rattle.program.specs.Sections.{Sections}
 use Rattle.crash_test.specs.Origins.{origin_by_kind, origin_of}
 use Rattle.report.specs.Places.{by_line, origin_in}
@@ -20,10 +21,12 @@ pub nothing_known : (file : List ℕ) → file_kind file ≡ kinds.Object → or
 nothing_known file is = fun_ext (λ pc. ap (λ (kind : FileKind). origin_by_kind kind file pc) (sym is))
 
 -- those of an ELF file
-pub functions_known : (file : List ℕ) (functions : List FunctionSymbol) → file_kind file ≡ kinds.Elf → functions ≡ functions_of file
-    → origin_in (Executable functions) ≡ origin_of file
-functions_known file functions is same = fun_ext (λ pc.
-    ap (λ (fs : List FunctionSymbol). origin_in (Executable fs) pc) same ∙ ap (λ (kind : FileKind). origin_by_kind kind file pc) (sym is))
+pub executable_known : (file : List ℕ) (lines : KnownTable) (functions : List FunctionSymbol) → file_kind file ≡ kinds.Elf
+    → lines ≡ line_table_of file → functions ≡ functions_of file → origin_in (Executable lines functions) ≡ origin_of file
+executable_known file lines functions is same_lines same = fun_ext (λ pc.
+    ap (λ (table : KnownTable). origin_in (Executable table functions) pc) same_lines
+    ∙ ap (λ (fs : List FunctionSymbol). origin_in (Executable (line_table_of file) fs) pc) same
+    ∙ ap (λ (kind : FileKind). origin_by_kind kind file pc) (sym is))
 
 -- those of a source
 pub lines_known : (file numbers : List ℕ) → file_kind file ≡ kinds.Source

@@ -1,16 +1,18 @@
 -- Where a program's instruction comes from.
-use Rattle.std.specs.Prelude.{ℕ, List, option_map}
+use Rattle.std.specs.Prelude.{ℕ, List}
 use Rattle.assemble.specs.Assembly.{lines_back}
 use Rattle.assemble.specs.LineNumbers.{line_number}
 use Rattle.crash_test.specs.Programs.{file_kind}
 use Rattle.crash_test.specs.declared.file_kind.FileKind.{FileKind}
 use Rattle.crash_test.specs.declared.file_kind.FileKind.TheVariants.{Elf, Object, Source}
-use Rattle.elf_file.specs.Functions.{function_at, functions_of}
-use Rattle.report.specs.Places.{KnownOrigin, by_line, executable, in_function, nowhere}
+use Rattle.elf_file.specs.Functions.{functions_of}
+use Rattle.elf_file.specs.LineTables.{line_table_of}
+use Rattle.report.specs.Places.{KnownOrigin, by_line, executable, in_executable, nowhere}
 
--- by the kind of the file: of an ELF file the function that has the pc, and of a source the line, from 1, whose bytes of text stand there
+-- by the kind of the file: of an ELF file the line of the row that has the pc and the function that has it, and of a source the line, from 1, whose bytes
+-- of text stand there
 abbrev pub origin_by_kind : FileKind → List ℕ → ℕ → KnownOrigin
-origin_by_kind Elf file pc = executable (option_map (in_function pc) (function_at (functions_of file) pc))
+origin_by_kind Elf file pc = executable (in_executable (line_table_of file).rows (functions_of file) pc)
 origin_by_kind Object file pc = nowhere
 origin_by_kind Source file pc = by_line (line_number (lines_back file) pc)
 

@@ -8,14 +8,14 @@ ghost use Rattle.crash_test.specs.Programs.{IsProgramOf, file_kind};
 
 use crate::file_kind::FileKind;
 use assemble::{AsmCode, line_numbers};
-use elf_file::Functions;
+use elf_file::{Functions, LineTable};
 use report::Places;
 use std::alloc::{AllocError, Global};
 
-/// What a program's file tells of where its instructions come from: a source has line numbers, an ELF file functions, and an object
-/// nothing.
+/// What a program's file tells of where its instructions come from: a source has line numbers, an ELF file a line table and functions,
+/// and an object nothing.
 #[tactic(auto, using(crate::proofs::OriginsOfFiles::nothing_known))]
-pub fn places_of(alloc: Global, file: &[u8]) -> Result<Places, AllocError>
+pub fn places_of(alloc: Global, file: &[u8]) -> Result<Places<'_>, AllocError>
     requires { (program : Sections) × IsProgramOf file.now program }
     ensures { IfOk result (λ places. origin_in places ≡ origin_of file.now) }
 {
@@ -26,19 +26,20 @@ pub fn places_of(alloc: Global, file: &[u8]) -> Result<Places, AllocError>
     }
 }
 
-/// The functions of an ELF file.
-#[tactic(auto, using(crate::proofs::OriginsOfFiles::functions_known))]
-fn places_of_executable(alloc: Global, file: &[u8]) -> Result<Places, AllocError>
+/// The line table and the functions of an ELF file.
+#[tactic(auto, using(crate::proofs::OriginsOfFiles::executable_known))]
+fn places_of_executable(alloc: Global, file: &[u8]) -> Result<Places<'_>, AllocError>
     requires { file_kind file.now ≡ FileKind.Elf }
     ensures { IfOk result (λ places. origin_in places ≡ origin_of file.now) }
 {
+    let lines = LineTable::read(alloc, file)?;
     let functions = Functions::read(alloc, file)?;
-    Ok(Places::Executable(functions))
+    Ok(Places::Executable { lines, functions })
 }
 
 /// The line numbers of a source.
 #[tactic(auto, using(crate::proofs::OriginsOfFiles::lines_known))]
-fn places_of_source(alloc: Global, file: &[u8]) -> Result<Places, AllocError>
+fn places_of_source(alloc: Global, file: &[u8]) -> Result<Places<'_>, AllocError>
     requires source { file_kind file.now ≡ FileKind.Source }
     requires program { (program : Sections) × IsProgramOf file.now program }
     ensures { IfOk result (λ places. origin_in places ≡ origin_of file.now) }

@@ -1,6 +1,6 @@
 -- What is printed of an event is the line of its entry.
-use Rattle.std.proofs.Common.{◌≡◌, ℕ, ◌+◌, ◌*◌, ◌%◌, ◌^◌, ◌<◌, ◌≤◌, Bool, true, false, not, ◌&&◌, List, [], ◌∷◌, ◌++◌, Some, None, map, codes, length, get_or, refl, sym, ap, ◌∙◌, arith, append_assoc}
-use Rattle.std.specs.Prelude.{All, decimal, ◌/◌, ◌==◌, nat_le, if◌then◌else◌}
+use Rattle.std.proofs.Common.{◌≡◌, ℕ, ◌+◌, ◌*◌, ◌%◌, ◌^◌, ◌<◌, ◌≤◌, Bool, true, false, not, ◌&&◌, List, [], ◌∷◌, ◌++◌, Option, Some, None, map, codes, length, get_or, refl, sym, ap, ◌∙◌, arith, append_assoc}
+use Rattle.std.specs.Prelude.{All, IfSome, decimal, ◌/◌, ◌==◌, nat_le, if◌then◌else◌}
 use Rattle.std.specs.Fmt.{digit_glyph}
 use Rattle.std.specs.List.{enumerate_from, flat_map, list_all}
 use Rattle.std.proofs.Math.Nat.{mod-lt, pow-le-pow_right}
@@ -14,9 +14,9 @@ use Rattle.machine.specs.declared.run_trace.traced_event.TracedEvent.{TracedEven
 use Rattle.store_trace.specs.TraceView.{IsEvent, IsWidth}
 use Rattle.store_trace.specs.declared.event.Event.{Event}
 use Rattle.store_trace.specs.declared.event.Event.TheVariants.{Store, Clean, Fence, Begin, End}
-use Rattle.report.specs.Entries.{HasNumbers, HasSizes, entry_of, origin_words, place_words, printed_event}
+use Rattle.report.specs.Entries.{HasNumbers, HasSizes, entry_of, function_words, line_words, origin_words, place_words, printed_event}
 use Rattle.report.specs.Events as report
-use Rattle.report.specs.Places.{InFunction, KnownOrigin, executable, nowhere, origin_text, source_line, told_words}
+use Rattle.report.specs.Places.{InFile, InFunction, KnownOrigin, executable, function_behind, function_text, line_behind, line_text, nowhere, origin_text, source_line, told_words}
 use Rattle.report.specs.PrintedNames.{is_graphic, printed_name, text_byte}
 use Rattle.report.specs.Rows.{two_digits}
 use Rattle.trace_file.proofs.CutLemmas.{is_other}
@@ -107,9 +107,9 @@ name_bytes : (name : List ℕ) → list_all is_place_byte (printed_name name) �
 name_bytes [] = refl
 name_bytes (byte ∷ bytes) = all_append is_place_byte (text_byte byte) (printed_name bytes) (graphic_byte byte (is_graphic byte) refl) (name_bytes bytes)
 
-offset_some : (front : List ℕ) (n : ℕ) → 0 < length (front ++ (codes "+0x" ++ numeral 16 n))
-offset_some [] n = omega arith
-offset_some (x ∷ xs) n = omega arith
+some_behind : (front : List ℕ) (byte : ℕ) (rest : List ℕ) → 0 < length (front ++ byte ∷ rest)
+some_behind [] byte rest = omega arith
+some_behind (x ∷ xs) byte rest = omega arith
 
 function_word : (place : InFunction) → IsPlaceWord (codes "in=" ++ (printed_name place.0 ++ (codes "+0x" ++ numeral 16 place.1)))
 function_word place = record {
@@ -118,16 +118,33 @@ function_word place = record {
   spelled = refl;
   some_letters = omega arith;
   letters = refl;
-  some_bytes = offset_some (printed_name place.0) place.1;
+  some_bytes = some_behind (printed_name place.0) 43 (codes "0x" ++ numeral 16 place.1);
   bytes = all_append is_place_byte (printed_name place.0) (codes "+0x" ++ numeral 16 place.1) (name_bytes place.0)
       (all_append is_place_byte (codes "+0x") (numeral 16 place.1) refl (numeral_bytes 16 place.1 (omega arith) (omega arith)));
 }
 
+file_word : (line : InFile) → IsPlaceWord (codes "at=" ++ (printed_name line.0 ++ (codes ":" ++ numeral 10 line.1)))
+file_word line = record {
+  name = codes "at";
+  value = printed_name line.0 ++ (codes ":" ++ numeral 10 line.1);
+  spelled = refl;
+  some_letters = omega arith;
+  letters = refl;
+  some_bytes = some_behind (printed_name line.0) 58 (numeral 10 line.1);
+  bytes = all_append is_place_byte (printed_name line.0) (codes ":" ++ numeral 10 line.1) (name_bytes line.0)
+      (all_append is_place_byte (codes ":") (numeral 10 line.1) refl (numeral_bytes 10 line.1 (omega arith) (omega arith)));
+}
+
+both_are_words : (line : Option InFile) (function : Option InFunction) → ArePlaceWords (line_words line ++ function_words function)
+both_are_words None None = tt
+both_are_words None (Some place) = (function_word place, tt)
+both_are_words (Some line) None = (file_word line, tt)
+both_are_words (Some line) (Some place) = (file_word line, (function_word place, tt))
+
 origin_is_word : (origin : KnownOrigin) → ArePlaceWords (origin_words origin)
 origin_is_word nowhere = tt
 origin_is_word (source_line n) = (line_word n, tt)
-origin_is_word (executable None) = tt
-origin_is_word (executable (Some place)) = (function_word place, tt)
+origin_is_word (executable place) = both_are_words place.line place.function
 origin_is_word (told_words words) = tt
 
 words : (origins : ℕ → KnownOrigin) (t : TracedEvent) → ArePlaceWords (place_words origins t)
@@ -206,6 +223,29 @@ hart_small (Fence hart) is = omega (arith, is)
 hart_small (Begin hart op) is = omega (arith, is)
 hart_small (End hart op) is = omega (arith, is)
 
+-- words, each behind a blank
+abbrev AreSpelled : List ℕ → List (List ℕ) → Type 0
+AreSpelled text words = (rest : List ℕ) → text ++ 32 ∷ rest ≡ 32 ∷ (place_text words ++ rest)
+
+function_spelled : (function : Option InFunction) → IfSome function (λ (place : InFunction). place.1 < 2 ^ 64)
+    → AreSpelled (function_behind function) (function_words function)
+function_spelled None small rest = refl
+function_spelled (Some place) small rest =
+    let word : List ℕ = codes "in=" ++ (printed_name place.0 ++ (codes "+0x" ++ numeral 16 place.1)) in
+    ap (λ (digits : List ℕ). (codes " in=" ++ (printed_name place.0 ++ (codes "+0x" ++ digits))) ++ 32 ∷ rest) (hexadecimal_numeral place.1 small)
+    ∙ ap (λ (t : List ℕ). 32 ∷ t) (sym (append_assoc word (32 ∷ []) rest))
+
+line_spelled : (line : Option InFile) (behind : List ℕ) (words : List (List ℕ)) → IfSome line (λ (one : InFile). one.1 < 2 ^ 32)
+    → AreSpelled behind words → AreSpelled (line_behind line ++ behind) (line_words line ++ words)
+line_spelled None behind words small are rest = are rest
+line_spelled (Some line) behind words small are rest =
+    let word : List ℕ = codes "at=" ++ (printed_name line.0 ++ (codes ":" ++ numeral 10 line.1)) in
+    ap (λ (digits : List ℕ). ((codes " at=" ++ (printed_name line.0 ++ (codes ":" ++ digits))) ++ behind) ++ 32 ∷ rest) (decimal_numeral line.1 (omega arith))
+    ∙ ap (λ (t : List ℕ). 32 ∷ t) (
+    append_assoc word behind (32 ∷ rest)
+    ∙ ap (λ (t : List ℕ). word ++ t) (are rest)
+    ∙ sym (append_assoc word (32 ∷ place_text words) rest))
+
 -- what is known, printed behind the pc
 origin_spelled : (pc : List ℕ) (origin : KnownOrigin) (rest : List ℕ) → HasNumbers origin
     → (pc ++ origin_text origin) ++ 32 ∷ rest ≡ pc ++ 32 ∷ (place_text (origin_words origin) ++ rest)
@@ -213,13 +253,9 @@ origin_spelled pc nowhere rest small = append_assoc pc [] (32 ∷ rest)
 origin_spelled pc (source_line n) rest small =
     onto pc (codes " line=" ++ decimal n) (32 ∷ rest) (32 ∷ (place_text (origin_words (source_line n)) ++ rest))
     (ap (λ (t : List ℕ). codes " line=" ++ t) (ap (λ (d : List ℕ). d ++ 32 ∷ rest) (decimal_numeral n (omega arith)) ∙ sym (append_assoc (numeral 10 n) (32 ∷ []) rest)))
-origin_spelled pc (executable None) rest small = append_assoc pc [] (32 ∷ rest)
-origin_spelled pc (executable (Some place)) rest small =
-    let word : List ℕ = printed_name place.0 ++ (codes "+0x" ++ numeral 16 place.1) in
-    let shown : hexadecimal place.1 ≡ numeral 16 place.1 = hexadecimal_numeral place.1 small in
-    ap (λ (digits : List ℕ). (pc ++ (codes " in=" ++ (printed_name place.0 ++ (codes "+0x" ++ digits)))) ++ 32 ∷ rest) shown
-    ∙ onto pc (codes " in=" ++ word) (32 ∷ rest) (32 ∷ (place_text (origin_words (executable (Some place))) ++ rest))
-    (ap (λ (t : List ℕ). codes " in=" ++ t) (sym (append_assoc word (32 ∷ []) rest)))
+origin_spelled pc (executable place) rest small =
+    onto pc (line_behind place.line ++ function_behind place.function) (32 ∷ rest) (32 ∷ (place_text (origin_words (executable place)) ++ rest))
+    (line_spelled place.line (function_behind place.function) (function_words place.function) small.0 (function_spelled place.function small.1) rest)
 origin_spelled pc (told_words words) rest small = absurd small
 
 -- an event of a run, printed by its step and its pc

@@ -1,10 +1,10 @@
 -- The entries of a trace file that a run's events are.
-use Rattle.std.specs.Prelude.{⊤, ℕ, ◌<◌, ◌%◌, ◌^◌, ◌*◌, List, [], ◌∷◌, ◌++◌, Some, None, codes}
+use Rattle.std.specs.Prelude.{⊤, ℕ, ◌<◌, ◌%◌, ◌^◌, ◌*◌, List, [], ◌∷◌, ◌++◌, Option, Some, None, IfSome, codes}
 use Rattle.machine.specs.declared.run_trace.traced_event.TracedEvent.{TracedEvent}
 use Rattle.store_trace.specs.TraceView.{IsEvent}
 use Rattle.store_trace.specs.declared.event.Event.{Event}
 use Rattle.store_trace.specs.declared.event.Event.TheVariants.{Store, Clean, Fence, Begin, End}
-use Rattle.report.specs.Places.{KnownOrigin, executable, nowhere, source_line, told_words}
+use Rattle.report.specs.Places.{InFile, InFunction, KnownOrigin, executable, nowhere, source_line, told_words}
 use Rattle.report.specs.PrintedNames.{printed_name}
 use Rattle.trace_file.specs.Entries.{Entry}
 use Rattle.trace_file.specs.Files.{IsWithinLimits}
@@ -18,12 +18,20 @@ printed_event (Fence hart) = Fence hart
 printed_event (Begin hart op) = Begin hart op
 printed_event (End hart op) = End hart op
 
--- `line=N` of a source, `in=NAME+0xOFF` of an executable; no word where nothing is known
+-- `in=NAME+0xOFF` and `at=FILE:LINE`; no word where there is none
+abbrev pub function_words : Option InFunction → List (List ℕ)
+function_words None = []
+function_words (Some place) = (codes "in=" ++ (printed_name place.0 ++ (codes "+0x" ++ numeral 16 place.1))) ∷ []
+
+abbrev pub line_words : Option InFile → List (List ℕ)
+line_words None = []
+line_words (Some line) = (codes "at=" ++ (printed_name line.0 ++ (codes ":" ++ numeral 10 line.1))) ∷ []
+
+-- `line=N` of a source, `at=FILE:LINE in=NAME+0xOFF` of an executable; no word where nothing is known
 abbrev pub origin_words : KnownOrigin → List (List ℕ)
 origin_words nowhere = []
 origin_words (source_line line) = (codes "line=" ++ numeral 10 line) ∷ []
-origin_words (executable None) = []
-origin_words (executable (Some place)) = (codes "in=" ++ (printed_name place.0 ++ (codes "+0x" ++ numeral 16 place.1))) ∷ []
+origin_words (executable place) = line_words place.line ++ function_words place.function
 origin_words (told_words words) = []
 
 -- `step=S pc=0xP`, and what is known there
@@ -39,8 +47,8 @@ entry_of origins traced = record { places = place_words origins traced; event = 
 abbrev pub HasNumbers : KnownOrigin → Type 0
 HasNumbers nowhere = ⊤
 HasNumbers (source_line line) = line < 2 ^ 32
-HasNumbers (executable None) = ⊤
-HasNumbers (executable (Some place)) = place.1 < 2 ^ 64
+HasNumbers (executable place) =
+    IfSome place.line (λ (line : InFile). line.1 < 2 ^ 32) × IfSome place.function (λ (function : InFunction). function.1 < 2 ^ 64)
 HasNumbers (told_words words) = ⊥
 
 -- an event that a trace may have, whose numbers have 32 or 64 bits

@@ -6,7 +6,7 @@ use Rattle.machine.specs.declared.run_trace.traced_event.TracedEvent.{TracedEven
 use Rattle.store_trace.specs.declared.event.Event.{Event}
 use Rattle.store_trace.specs.declared.event.Event.TheVariants.{Store, Clean, Fence, Begin, End}
 use Rattle.report.specs.Events.{KnownEvent, hart_of, kind_of, placed}
-use Rattle.report.specs.Places.{InFunction, KnownCode, KnownOrigin, executable, line_end, nowhere, source_line, told_words}
+use Rattle.report.specs.Places.{InFile, InFunction, KnownCode, KnownOrigin, executable, line_end, nowhere, source_line, told_words}
 use Rattle.report.specs.PrintedNames.{json_name}
 use Rattle.report.specs.PrintedWords.{json_words}
 
@@ -25,11 +25,16 @@ function_members None = codes "\"function\":null,\"function_offset\":null"
 function_members (Some place) =
     codes "\"function\":\"" ++ (json_name place.0 ++ (codes "\",\"function_offset\":" ++ decimal place.1))
 
+-- `"source_line":L,"source_file":"FILE"`
+abbrev pub line_members : Option InFile → List ℕ
+line_members None = codes "\"source_line\":null,\"source_file\":null"
+line_members (Some line) = codes "\"source_line\":" ++ (decimal line.1 ++ (codes ",\"source_file\":\"" ++ (json_name line.0 ++ codes "\"")))
+
 -- `"source_line":L`; of an executable its source file and its function too; of a trace file `"at":"WORDS"`
 abbrev pub origin_members : KnownOrigin → List ℕ
 origin_members nowhere = codes "\"source_line\":null"
 origin_members (source_line line) = codes "\"source_line\":" ++ decimal line
-origin_members (executable place) = codes "\"source_line\":null,\"source_file\":null," ++ function_members place
+origin_members (executable place) = line_members place.line ++ (codes "," ++ function_members place.function)
 origin_members (told_words words) = codes "\"at\":\"" ++ (json_words (drop 1 words) ++ codes "\"")
 
 -- `"pc":"0xP"`, and what is known there; place words stand alone

@@ -4,9 +4,13 @@ use Rattle.std.specs.Global.{Vec}
 use Rattle.assemble.specs.LineNumbers.{number_at}
 use Rattle.elf_file.specs.FunctionSymbols.{FunctionSymbol}
 use Rattle.elf_file.specs.Functions.{function_at}
+use Rattle.elf_file.specs.Lines.{line_at}
+use Rattle.elf_file.specs.SourceRows.{KnownRow}
 use Rattle.hart.specs.HartLines.{hexadecimal}
 use Rattle.report.specs.PrintedNames.{printed_name}
 use Rattle.report.specs.PrintedWords.{printed_words}
+use Rattle.report.specs.declared.origin.ExecutablePlace.{ExecutablePlace}
+use Rattle.report.specs.declared.origin.FileLine.{FileLine}
 use Rattle.report.specs.declared.origin.FunctionPlace.{FunctionPlace}
 use Rattle.report.specs.declared.origin.Origin.{Origin}
 use Rattle.report.specs.declared.origin.Origin.TheVariants as origins
@@ -19,12 +23,21 @@ use Rattle.report.specs.declared.place.Places.TheVariants.{Executable, Source, T
 abbrev pub InFunction : Type 0
 InFunction = List ℕ × ℕ
 
--- what is known of where an instruction comes from: nothing; a line of its source; of an executable the function that it is in, if any; of an event of a
--- trace file its place words, each behind a blank
+-- the name of a source file, and a line of it
+abbrev pub InFile : Type 0
+InFile = List ℕ × ℕ
+
+-- of an instruction of an executable the line that it comes from and the function that it is in, where there are such
+pub record InExecutable : Type 0 where
+  pub line : Option InFile
+  pub function : Option InFunction
+
+-- what is known of where an instruction comes from: nothing; a line of its source; of an executable the line of a source file and the function, if any; of
+-- an event of a trace file its place words, each behind a blank
 pub data KnownOrigin : Type 0 where
   nowhere : KnownOrigin
   source_line : ℕ → KnownOrigin
-  executable : Option InFunction → KnownOrigin
+  executable : InExecutable → KnownOrigin
   told_words : List ℕ → KnownOrigin
 
 -- a pc, with what is known of it; the hart there
@@ -45,17 +58,21 @@ by_line (Some line) = source_line line
 abbrev pub in_function : ℕ → FunctionSymbol → InFunction
 in_function pc function = (function.name, pc - function.address)
 
+-- what the rows of a line table and functions say of an instruction
+abbrev pub in_executable : List KnownRow → List FunctionSymbol → ℕ → InExecutable
+in_executable rows functions pc = record { line = line_at rows pc; function = option_map (in_function pc) (function_at functions pc) }
+
 -- the place words of a number
 abbrev pub by_words : Option (Vec ℕ) → KnownOrigin
 by_words None = nowhere
 by_words (Some words) = told_words words.items
 
--- what is known at a pc, by the line numbers of a program's source, or the functions of an executable; of a trace file places have numbers in place
--- of a pc
+-- what is known at a pc, by the line numbers of a program's source, or the line table and the functions of an executable; of a trace file places have
+-- numbers in place of a pc
 abbrev pub origin_in : Places → ℕ → KnownOrigin
 origin_in Unknown pc = nowhere
 origin_in (Source numbers) pc = by_line (number_at numbers pc)
-origin_in (Executable functions) pc = executable (option_map (in_function pc) (function_at functions pc))
+origin_in (Executable lines functions) pc = executable (in_executable lines.rows functions pc)
 origin_in (Traced places) number = by_words (slice_get places.items number)
 
 -- a pc, with what is known there
@@ -66,10 +83,16 @@ code_place origins pc = record { pc = pc; origin = origins pc }
 abbrev pub known_function : FunctionPlace → InFunction
 known_function place = (place.name.now, place.offset)
 
+abbrev pub known_line : FileLine → InFile
+known_line line = (line.name.now, line.line)
+
+abbrev pub known_executable : ExecutablePlace → InExecutable
+known_executable place = record { line = option_map known_line place.line; function = option_map known_function place.function }
+
 abbrev pub known_origin : Origin → KnownOrigin
 known_origin origins.Unknown = nowhere
 known_origin (origins.Line line) = source_line line
-known_origin (origins.Executable place) = executable (option_map known_function place)
+known_origin (origins.Executable place) = executable (known_executable place)
 known_origin (origins.Words words) = told_words words.now
 
 abbrev pub known_code : CodePlace → KnownCode
@@ -82,12 +105,24 @@ known_place place = record { hart = place.hart; at = known_code place.at }
 abbrev pub function_text : InFunction → List ℕ
 function_text place = codes "in=" ++ (printed_name place.0 ++ (codes "+0x" ++ hexadecimal place.1))
 
--- ` line=N` of a source, ` in=NAME+0xOFF` of an executable; nothing where nothing is known
+-- `at=FILE:LINE`
+abbrev pub line_text : InFile → List ℕ
+line_text line = codes "at=" ++ (printed_name line.0 ++ (codes ":" ++ decimal line.1))
+
+-- each behind a blank; nothing where there is none
+abbrev pub function_behind : Option InFunction → List ℕ
+function_behind None = []
+function_behind (Some place) = codes " " ++ function_text place
+
+abbrev pub line_behind : Option InFile → List ℕ
+line_behind None = []
+line_behind (Some line) = codes " " ++ line_text line
+
+-- ` line=N` of a source, ` at=FILE:LINE in=NAME+0xOFF` of an executable; nothing where nothing is known
 abbrev pub origin_text : KnownOrigin → List ℕ
 origin_text nowhere = []
 origin_text (source_line line) = codes " line=" ++ decimal line
-origin_text (executable None) = []
-origin_text (executable (Some place)) = codes " " ++ function_text place
+origin_text (executable place) = line_behind place.line ++ function_behind place.function
 origin_text (told_words words) = printed_words words
 
 -- ` pc=0xP`, and what is known there; place words stand alone

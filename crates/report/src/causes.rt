@@ -16,7 +16,7 @@ use unfinished::Unfinished;
 pub fn unfinished_text(
     alloc: Global,
     causes: &[Unfinished],
-    places: &Places,
+    places: &Places<'_>,
 ) -> Result<String, AllocError>
     ensures { IfOk result (λ text. string_bytes text ≡ unfinished_text (origin_in places.now) causes.now) }
 {
@@ -27,7 +27,7 @@ pub fn unfinished_text(
     Ok(text)
 }
 
-fn tell_cause(text: &mut String, cause: Unfinished, places: &Places) -> Result<(), AllocError>
+fn tell_cause(text: &mut String, cause: Unfinished, places: &Places<'_>) -> Result<(), AllocError>
     ensures { OnOk result (string_bytes text.new ≡ string_bytes text.old ++ cause_line (origin_in places.now) cause) }
 {
     match cause {

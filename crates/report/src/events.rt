@@ -18,12 +18,13 @@ use word_bits::low_bits;
 /// `2 h0 step=9 pc=0x10020 line=9 store l256+0 w8 0x1`
 ///
 /// A line of the medium is `lN`, `+O` the offset in it, `wW` the width in bytes, and the value that was stored is that of
-/// these bytes. In the place of ` line=N` stands ` in=NAME+0xOFF` of an executable, and nothing where nothing is known of the pc.
+/// these bytes. In the place of ` line=N` stands ` at=FILE:LINE in=NAME+0xOFF` of an executable, and nothing where nothing is known of
+/// the pc.
 #[tactic(auto, using(crate::proofs::Lines::lines_all))]
 pub fn trace_text(
     alloc: Global,
     traced: &[TracedEvent],
-    places: &Places,
+    places: &Places<'_>,
 ) -> Result<String, AllocError>
     ensures { IfOk result (λ text. string_bytes text ≡ trace_text (origin_in places.now) traced.now) }
 {

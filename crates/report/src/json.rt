@@ -28,7 +28,7 @@ use store_trace::Event;
 pub fn trace_json(
     alloc: Global,
     traced: &[TracedEvent],
-    places: &Places,
+    places: &Places<'_>,
 ) -> Result<String, AllocError>
     ensures { IfOk result (λ text. string_bytes text ≡ trace_json (origin_in places.now) traced.now) }
 {

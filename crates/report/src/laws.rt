@@ -7,7 +7,7 @@ ghost use Rattle.report.specs.Places.{KnownOrigin};
 ghost use Rattle.std.specs.Prelude.{◌≤◌, ℕ, List, All, length, map};
 ghost use Rattle.trace_file.specs.Files.{IsTraceFile, lines_of};
 
-/// What is printed of events is the trace file of these events, each with its step, its pc and its line or its function as
+/// What is printed of events is the trace file of these events, each with its step, its pc, its line and its function as
 /// place words, where they are at most 65,536, of at most 16,384 different lines.
 #[tactic(auto, using(crate::proofs::EntryLines::printed))]
 pub fn printed_is_a_trace_file()

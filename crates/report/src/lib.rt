@@ -26,7 +26,7 @@ pub use json::trace_json;
 pub use laws::printed_is_a_trace_file;
 pub use losses::{unpersisted_json, unpersisted_text, why_json, why_text};
 pub use medium::{line_text, volume_text};
-pub use origin::{FunctionPlace, Origin};
+pub use origin::{ExecutablePlace, FileLine, FunctionPlace, Origin};
 pub use picture::{ImageLine, image_stores, picture_at, picture_text};
 pub use place::{CodePlace, Place, Places};
 pub use redundant::{waste_json, waste_text};

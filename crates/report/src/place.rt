@@ -1,34 +1,38 @@
 //! Where in a program an instruction stands.
 
 ghost use Rattle.elf_file.specs.Functions.{function_at};
+ghost use Rattle.elf_file.specs.Lines.{line_at};
 ghost use Rattle.report.specs.Events.{known_event, place_of, placed};
 ghost use Rattle.report.specs.Begun.{line_in};
-ghost use Rattle.report.specs.Places.{code_place, in_function, known_code, known_function, known_origin, known_place, origin_in};
+ghost use Rattle.report.specs.Places.{code_place, in_function, known_code, known_function, known_line, known_origin, known_place, origin_in};
 ghost use Rattle.std.specs.Prelude.{◌≡◌, ◌≤◌, IfSome, option_map};
 
 use crate::events::{PlacedEvent, hart_of};
 use crate::form::Form;
-use crate::origin::{FunctionPlace, Origin};
+use crate::origin::{ExecutablePlace, FileLine, FunctionBehind, FunctionPlace, LineBehind, Origin};
 use crate::printed_words::PrintedWords;
 use assemble::LineNumbers;
-use elf_file::Functions;
+use elf_file::{Functions, LineTable};
 use machine::TracedEvent;
 use std::fmt;
 
 /// What tells where the instructions of a program come from.
 #[derive(Drop)]
-pub enum Places {
+pub enum Places<'a> {
     /// The line numbers of its source.
     Source(LineNumbers),
-    /// The functions of an executable.
-    Executable(Functions),
+    /// The line table and the functions of an executable.
+    Executable {
+        lines: LineTable<'a>,
+        functions: Functions,
+    },
     /// The different places of a trace file's events, upwards by their bytes. Each has its number in place of a pc.
     Traced(Vec<Vec<u8>>),
     /// Nothing does.
     Unknown,
 }
 
-impl Places {
+impl Places<'_> {
     /// What is known of where an instruction comes from.
     pub fn origin_at(&self, pc: u64) -> Origin<'_>
         ensures { known_origin result ≡ origin_in self.now pc }
@@ -38,7 +42,10 @@ impl Places {
                 Some(line) => Origin::Line(line),
                 None => Origin::Unknown,
             },
-            Places::Executable(functions) => Origin::Executable(function_place(functions, pc)),
+            Places::Executable { lines, functions } => Origin::Executable(ExecutablePlace {
+                line: file_line(lines, pc),
+                function: function_place(functions, pc),
+            }),
             Places::Traced(places) => match places.get(pc as usize) {
                 Some(words) => Origin::Words(words.as_slice()),
                 None => Origin::Unknown,
@@ -55,7 +62,7 @@ impl Places {
     {
         match self {
             Places::Source(numbers) => numbers.at(pc),
-            Places::Executable(_) | Places::Traced(_) | Places::Unknown => None,
+            Places::Executable { .. } | Places::Traced(_) | Places::Unknown => None,
         }
     }
 
@@ -91,6 +98,14 @@ impl Places {
     }
 }
 
+/// The line of a source file that an instruction comes from, where it is known.
+fn file_line<'a>(lines: &LineTable<'a>, pc: u64) -> Option<FileLine<'a>>
+    ensures { option_map known_line result ≡ line_at lines.now.rows pc }
+{
+    let (name, line) = lines.at(pc)?;
+    Some(FileLine { name, line })
+}
+
 /// The function that an instruction is in, if it is in one.
 fn function_place(functions: &Functions, pc: u64) -> Option<FunctionPlace<'_>>
     ensures { option_map known_function result ≡ option_map (in_function pc) (function_at functions.now pc) }
@@ -100,7 +115,7 @@ fn function_place(functions: &Functions, pc: u64) -> Option<FunctionPlace<'_>>
 }
 
 /// The pc of an instruction, and what is known of where it comes from, behind a blank: ` pc=0xP line=N` of a source,
-/// ` pc=0xP in=NAME+0xOFF` of an executable; of a trace file place words alone, each behind a blank.
+/// ` pc=0xP at=FILE:LINE in=NAME+0xOFF` of an executable; of a trace file place words alone, each behind a blank.
 #[derive(Clone, Copy)]
 pub struct CodePlace<'a> {
     pub pc: u64,
@@ -116,9 +131,13 @@ impl fmt::Display for CodePlace<'_> {
     fn fmt<W: fmt::Write>(&self, f: &mut fmt::Formatter<W>) -> fmt::Result {
         let pc = self.pc;
         match self.origin {
-            Origin::Unknown | Origin::Executable(None) => write!(f, " pc=0x{pc:x}"),
+            Origin::Unknown => write!(f, " pc=0x{pc:x}"),
             Origin::Line(line) => write!(f, " pc=0x{pc:x} line={line}"),
-            Origin::Executable(Some(place)) => write!(f, " pc=0x{pc:x} {place}"),
+            Origin::Executable(ExecutablePlace { line, function }) => {
+                let line = LineBehind { line };
+                let function = FunctionBehind { place: function };
+                write!(f, " pc=0x{pc:x}{line}{function}")
+            }
             Origin::Words(words) => {
                 let form = Form::Text;
                 write!(f, "{}", PrintedWords { words, form })

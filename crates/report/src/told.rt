@@ -18,19 +18,19 @@ use trace_file::{RankedTrace, spaced_words, with_name};
 /// Events as they are told: each by the name of its line, and with where it was made. Of a trace file an event has the number of
 /// its line as its step, and the number of its place, as `Places` has it, as its pc.
 #[derive(Drop)]
-pub struct ToldEvents {
+pub struct ToldEvents<'a> {
     pub traced: Vec<TracedEvent>,
-    pub places: Places,
+    pub places: Places<'a>,
     /// Of a trace file the place words of each event, all of them, each behind a blank. The places lack those that begin with `step=`.
     pub lines: Option<Vec<Vec<u8>>>,
 }
 
-impl ToldEvents {
+impl<'a> ToldEvents<'a> {
     /// Those of a trace file.
     ///
     /// # Errors
     /// AllocError where a growth is refused.
-    pub fn of_file(alloc: Global, ranked: &RankedTrace) -> Result<ToldEvents, AllocError>
+    pub fn of_file(alloc: Global, ranked: &'a RankedTrace) -> Result<ToldEvents<'a>, AllocError>
         requires lines { All (NamesLine (length ranked.now.names.items)) ranked.now.trace.events }
         requires size { length ranked.now.places.items ≡ length ranked.now.trace.events }
         ensures told { IfOk result (AreOfFile ranked.now) }
@@ -118,7 +118,7 @@ fn placed(
 
 /// The event of a number as it is printed whole.
 pub(crate) fn whole<'a>(
-    places: &'a Places,
+    places: &'a Places<'_>,
     lines: &'a Option<Vec<Vec<u8>>>,
     number: u64,
     traced: TracedEvent,

@@ -14,7 +14,7 @@ use std::alloc::{AllocError, Global};
 
 /// A line for each word of a program's text: its address, the word in eight digits, and its instruction, or `.word 0x0` where it spells
 /// none. By the line numbers of its source a tab, the number of a line and the line follow at the first word that the line gives; of an
-/// executable a tab and the place, as `in=main+0x0`, at each word that isn't in the same function as the one before:
+/// executable a tab and the place, as `at=append.c:31 in=main+0x1c`, at each word whose line or function isn't that of the one before:
 ///
 /// ```text
 /// 0x10000 000122b7 lui x5, 18\t2 li t0, 0x12345
@@ -26,7 +26,7 @@ pub fn listing_text(
     alloc: Global,
     text: &[u8],
     source: &[u8],
-    places: &Places,
+    places: &Places<'_>,
 ) -> Result<Vec<u8>, AllocError>
     requires { length text.now ≤ TEXT_SIZE }
     ensures { IfOk result (λ listing. IsListing text.now (lines_of source.now) (origin_in places.now) listing.items) }
@@ -41,7 +41,7 @@ fn list_words(
     alloc: Global,
     words: &[TextWord],
     lines: &[&[u8]],
-    places: &Places,
+    places: &Places<'_>,
 ) -> Result<Vec<u8>, AllocError>
     requires { length words.now ≤ TEXT_SIZE }
     ensures { IfOk result (λ listing. listing.items ≡ listing_of (map (λ line. line.now) lines.now) (origin_in places.now) words.now) }
@@ -60,7 +60,7 @@ fn list_word(
     address: u64,
     word: TextWord,
     lines: &[&[u8]],
-    places: &Places,
+    places: &Places<'_>,
 ) -> Result<(), AllocError>
     requires { 4 ≤ address }
     ensures { OnOk result (listing.new.items

@@ -66,7 +66,7 @@ impl fmt::Display for NamedCause<'_> {
 pub(crate) fn named_cause<'a>(
     cause: Cause,
     traced: &[TracedEvent],
-    places: &'a Places,
+    places: &'a Places<'_>,
 ) -> NamedCause<'a>
     ensures text { named_cause_text result ≡ cause_text (event_text (origin_in places.now) traced.now) cause }
     ensures json { named_cause_members result ≡ cause_members (event_object (origin_in places.now) traced.now) cause }

@@ -35,7 +35,7 @@ impl fmt::Display for NamedEvent<'_> {
 pub(crate) fn named_event<'a>(
     number: u32,
     traced: &[TracedEvent],
-    places: &'a Places,
+    places: &'a Places<'_>,
 ) -> NamedEvent<'a>
     ensures text { named_event_text result ≡ event_text (origin_in places.now) traced.now number }
     ensures json { named_event_object result ≡ event_object (origin_in places.now) traced.now number }
@@ -46,7 +46,7 @@ pub(crate) fn named_event<'a>(
     }
 }
 
-fn place_in<'a>(number: u32, traced: &[TracedEvent], places: &'a Places) -> Option<Place<'a>>
+fn place_in<'a>(number: u32, traced: &[TracedEvent], places: &'a Places<'_>) -> Option<Place<'a>>
     ensures { option_map known_place result ≡ place_in (origin_in places.now) traced.now number }
 {
     if number == 0 {

@@ -34,7 +34,7 @@ pub fn unpersisted_json(
     alloc: Global,
     told: &Unpersisted,
     traced: &[TracedEvent],
-    places: &Places,
+    places: &Places<'_>,
 ) -> Result<String, AllocError>
     ensures { IfOk result (λ text. string_bytes text ≡ unpersisted_json (event_object (origin_in places.now) traced.now) told.now) }
 {
@@ -63,7 +63,7 @@ pub fn why_json(
     unread: usize,
     schedule: &Schedule,
     traced: &[TracedEvent],
-    places: &Places,
+    places: &Places<'_>,
 ) -> Result<String, AllocError>
     requires { hart_steps schedule.now < 2 ^ 32 }
     ensures { IfOk result (λ text. string_bytes text
@@ -83,7 +83,7 @@ fn tell_ends(
     text: &mut String,
     ends: &[EndLoss],
     traced: &[TracedEvent],
-    places: &Places,
+    places: &Places<'_>,
 ) -> Result<(), AllocError>
     ensures { OnOk result (string_bytes text.new
         ≡ string_bytes text.old ++ flat_map (end_object (event_object (origin_in places.now) traced.now)) ends.now) }
@@ -104,7 +104,7 @@ fn tell_losses(
     due: Due,
     losses: &[Lost],
     traced: &[TracedEvent],
-    places: &Places,
+    places: &Places<'_>,
 ) -> Result<(), AllocError>
     ensures { OnOk result (string_bytes text.new
         ≡ string_bytes text.old ++ flat_map (lost_object (due_members due) (event_object (origin_in places.now) traced.now)) losses.now) }
@@ -120,7 +120,7 @@ fn tell_lost(
     due: Due,
     lost: Lost,
     traced: &[TracedEvent],
-    places: &Places,
+    places: &Places<'_>,
 ) -> Result<(), AllocError>
     ensures { OnOk result (string_bytes text.new
         ≡ string_bytes text.old ++ lost_object (due_members due) (event_object (origin_in places.now) traced.now) lost) }
@@ -136,7 +136,7 @@ fn tell_kept(
     text: &mut String,
     kept: &[Kept],
     traced: &[TracedEvent],
-    places: &Places,
+    places: &Places<'_>,
 ) -> Result<(), AllocError>
     ensures { OnOk result (string_bytes text.new
         ≡ string_bytes text.old ++ flat_map (kept_object (event_object (origin_in places.now) traced.now)) kept.now) }
@@ -159,7 +159,7 @@ fn tell_mends(
     text: &mut String,
     mends: &[Mend],
     traced: &[TracedEvent],
-    places: &Places,
+    places: &Places<'_>,
 ) -> Result<(), AllocError>
     ensures { OnOk result (string_bytes text.new
         ≡ string_bytes text.old ++ flat_map (mend_object (event_object (origin_in places.now) traced.now)) mends.now) }

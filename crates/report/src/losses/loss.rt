@@ -38,7 +38,7 @@ impl fmt::Display for NamedLoss<'_> {
 pub(crate) fn named_loss<'a>(
     lost: Lost,
     traced: &[TracedEvent],
-    places: &'a Places,
+    places: &'a Places<'_>,
 ) -> NamedLoss<'a>
     ensures text { named_loss_text result ≡ loss_text (event_text (origin_in places.now) traced.now) lost }
     ensures json { named_loss_members result ≡ loss_members (event_object (origin_in places.now) traced.now) lost }

@@ -176,7 +176,7 @@ impl fmt::Display for MendMembers<'_> {
 fn named_deadline<'a>(
     deadline: Deadline,
     traced: &[TracedEvent],
-    places: &'a Places,
+    places: &'a Places<'_>,
 ) -> NamedDeadline<'a>
     ensures text { named_deadline_text result ≡ deadline_text (event_text (origin_in places.now) traced.now) deadline }
     ensures json { named_deadline_members result ≡ deadline_members (event_object (origin_in places.now) traced.now) deadline }
@@ -200,7 +200,7 @@ fn named_deadline<'a>(
 pub(crate) fn named_mend<'a>(
     mend: Mend,
     traced: &[TracedEvent],
-    places: &'a Places,
+    places: &'a Places<'_>,
 ) -> NamedMend<'a>
     ensures text { named_mend_text result ≡ mend_text (event_text (origin_in places.now) traced.now) mend }
     ensures json { named_mend_members result ≡ mend_members (event_object (origin_in places.now) traced.now) mend }

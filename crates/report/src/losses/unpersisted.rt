@@ -24,7 +24,7 @@ pub fn unpersisted_text(
     alloc: Global,
     told: &Unpersisted,
     traced: &[TracedEvent],
-    places: &Places,
+    places: &Places<'_>,
 ) -> Result<String, AllocError>
     ensures { IfOk result (λ text. string_bytes text ≡ unpersisted_text (event_text (origin_in places.now) traced.now) told.now) }
 {
@@ -41,7 +41,7 @@ fn tell_ends(
     text: &mut String,
     ends: &[EndLoss],
     traced: &[TracedEvent],
-    places: &Places,
+    places: &Places<'_>,
 ) -> Result<(), AllocError>
     ensures { OnOk result (string_bytes text.new
         ≡ string_bytes text.old ++ flat_map (end_line (event_text (origin_in places.now) traced.now)) ends.now) }
@@ -62,7 +62,7 @@ fn tell_outside(
     text: &mut String,
     outside: &[Lost],
     traced: &[TracedEvent],
-    places: &Places,
+    places: &Places<'_>,
 ) -> Result<(), AllocError>
     ensures { OnOk result (string_bytes text.new
         ≡ string_bytes text.old ++ flat_map (outside_line (event_text (origin_in places.now) traced.now)) outside.now) }

@@ -34,7 +34,7 @@ pub fn why_text(
     unread: usize,
     schedule: &Schedule,
     traced: &[TracedEvent],
-    places: &Places,
+    places: &Places<'_>,
 ) -> Result<String, AllocError>
     requires { hart_steps schedule.now < 2 ^ 32 }
     ensures { IfOk result (λ text. string_bytes text
@@ -54,7 +54,7 @@ fn tell_lost(
     text: &mut String,
     lost: &[Lost],
     traced: &[TracedEvent],
-    places: &Places,
+    places: &Places<'_>,
 ) -> Result<(), AllocError>
     ensures { OnOk result (string_bytes text.new
         ≡ string_bytes text.old ++ flat_map (lost_line (event_text (origin_in places.now) traced.now)) lost.now) }
@@ -71,7 +71,7 @@ fn tell_kept(
     text: &mut String,
     kept: &[Kept],
     traced: &[TracedEvent],
-    places: &Places,
+    places: &Places<'_>,
 ) -> Result<(), AllocError>
     ensures { OnOk result (string_bytes text.new
         ≡ string_bytes text.old ++ flat_map (kept_line (event_text (origin_in places.now) traced.now)) kept.now) }
@@ -88,7 +88,7 @@ fn tell_mends(
     text: &mut String,
     mends: &[Mend],
     traced: &[TracedEvent],
-    places: &Places,
+    places: &Places<'_>,
 ) -> Result<(), AllocError>
     ensures { OnOk result (string_bytes text.new
         ≡ string_bytes text.old ++ flat_map (mend_line (event_text (origin_in places.now) traced.now)) mends.now) }

@@ -77,7 +77,7 @@ fn lines_of(alloc: Global, cut: &Cut) -> Result<Vec<ImageLine>, AllocError> {
 /// image has, where one is shown.
 pub fn picture_at(
     alloc: Global,
-    told: &ToldEvents,
+    told: &ToldEvents<'_>,
     moment: u32,
     image: &Option<Vec<ImageLine>>,
 ) -> Result<String, AllocError>
@@ -93,7 +93,7 @@ pub fn picture_at(
 /// The events before a moment as they are printed whole.
 fn placed<'a>(
     alloc: Global,
-    told: &'a ToldEvents,
+    told: &'a ToldEvents<'_>,
     moment: u32,
 ) -> Result<Vec<PlacedEvent<'a>>, AllocError>
     requires { moment ≤ length told.now.traced.items }

@@ -2,7 +2,7 @@
 
 use crate::events::{ActText, EventKind, PlacedEvent, hart_of};
 use crate::form::Form;
-use crate::origin::{FunctionPlace, Origin};
+use crate::origin::{ExecutablePlace, FileLine, FunctionPlace, Origin};
 use crate::printed_name::PrintedByte;
 use crate::printed_words::WordByte;
 use std::fmt;
@@ -21,21 +21,36 @@ impl fmt::Display for Title<'_> {
         let kind = EventKind { event };
         let act = ActText { event };
         match at.origin {
-            Origin::Executable(Some(FunctionPlace { name, offset })) => {
-                let name = XmlName { name };
-                write!(
-                    f,
-                    "h{hart} step={step} pc=0x{pc:x} in={name}+0x{offset:x} {kind}{act}"
-                )
+            Origin::Executable(place) => {
+                let place = XmlPlace { place };
+                write!(f, "h{hart} step={step} pc=0x{pc:x}{place} {kind}{act}")
             }
             Origin::Words(words) => {
                 let words = XmlWords { words };
                 write!(f, "h{hart}{words} {kind}{act}")
             }
-            Origin::Unknown | Origin::Line(_) | Origin::Executable(None) => {
-                write!(f, "{}", self.told)
-            }
+            Origin::Unknown | Origin::Line(_) => write!(f, "{}", self.told),
         }
+    }
+}
+
+/// The place of an executable, each thing behind a blank, with names whose markup is escaped.
+#[derive(Clone, Copy)]
+struct XmlPlace<'a> {
+    place: ExecutablePlace<'a>,
+}
+
+impl fmt::Display for XmlPlace<'_> {
+    fn fmt<W: fmt::Write>(&self, f: &mut fmt::Formatter<W>) -> fmt::Result {
+        if let Some(FileLine { name, line }) = self.place.line {
+            let name = XmlName { name };
+            write!(f, " at={name}:{line}")?;
+        }
+        if let Some(FunctionPlace { name, offset }) = self.place.function {
+            let name = XmlName { name };
+            write!(f, " in={name}+0x{offset:x}")?;
+        }
+        Ok(())
     }
 }
 

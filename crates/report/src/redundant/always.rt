@@ -71,7 +71,7 @@ pub(crate) fn tell_always(
     text: &mut String,
     form: Form,
     uses: BTreeMap<u64, Uses>,
-    places: &Places,
+    places: &Places<'_>,
 ) -> Result<(), AllocError>
     ensures { (all : List Judged) → AreUses all (get nat_cmp uses) → OnOk result ((found : List _) × AreAlways all found
         × (string_bytes text.new ≡ string_bytes text.old ++ flat_map (always_form form (origin_in places.now)) found)) }

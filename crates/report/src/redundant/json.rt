@@ -28,7 +28,7 @@ pub fn waste_json(
     alloc: Global,
     traced: &[TracedEvent],
     reasons: &[Option<Reason>],
-    places: &Places,
+    places: &Places<'_>,
     lines: &Option<Vec<Vec<u8>>>,
 ) -> Result<String, AllocError>
     requires { length reasons.now ≡ length traced.now }

@@ -36,7 +36,7 @@ pub fn waste_text(
     alloc: Global,
     traced: &[TracedEvent],
     reasons: &[Option<Reason>],
-    places: &Places,
+    places: &Places<'_>,
     lines: &Option<Vec<Vec<u8>>>,
 ) -> Result<String, AllocError>
     requires { length reasons.now ≡ length traced.now }
@@ -51,7 +51,7 @@ pub(crate) fn waste_in(
     alloc: Global,
     traced: &[TracedEvent],
     reasons: &[Option<Reason>],
-    places: &Places,
+    places: &Places<'_>,
     lines: &Option<Vec<Vec<u8>>>,
 ) -> Result<String, AllocError>
     requires { length reasons.now ≡ length traced.now }
@@ -66,13 +66,13 @@ pub(crate) fn waste_in(
     Ok(text)
 }
 
-fn tell_needless(
+fn tell_needless<'a>(
     text: &mut String,
     form: Form,
     traced: &[TracedEvent],
     reasons: &[Option<Reason>],
-    places: &Places,
-    lines: &Option<Vec<Vec<u8>>>,
+    places: &'a Places<'a>,
+    lines: &'a Option<Vec<Vec<u8>>>,
 ) -> Result<(), AllocError>
     requires { length reasons.now ≡ length traced.now }
     ensures { OnOk result (string_bytes text.new ≡ string_bytes text.old
