@@ -1,4 +1,6 @@
+mod CutTexts
 mod Lines
 mod Spans
 pub mod Tables
 pub mod Rows
+mod Traced

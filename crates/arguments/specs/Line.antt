@@ -5,6 +5,7 @@ use Rattle.clap.specs.Kinds.{IsAmong}
 use Rattle.clap.specs.declared.error.ErrorKind.{ErrorKind}
 use Rattle.clap.specs.declared.error.ErrorKind.TheVariants as kinds
 use Rattle.text.specs.Texts.{IsProper}
+use Rattle.arguments.specs.Cuts.{AreFewCuts, IsOptionalCuts}
 use Rattle.arguments.specs.Grammar.{grammar_of}
 use Rattle.arguments.specs.Spans.{IsOptionalMoments, IsUpward}
 use Rattle.arguments.specs.Values.{IsCapacity, IsCodeWord, IsEvictions, IsHarts, IsImageWord, IsNumberWord, IsOptional, IsOptionalImage, IsOptionalNumber, IsRecoverySteps, IsSeed, IsStates, IsSteps, IsWord, IsWorkers, is_set}
@@ -14,7 +15,7 @@ use Rattle.arguments.specs.declared.asked.CheckAllCommand.{CheckAllCommand}
 use Rattle.arguments.specs.declared.asked.CheckCommand.{CheckCommand}
 use Rattle.arguments.specs.declared.asked.CodeCommand.{CodeCommand}
 use Rattle.arguments.specs.declared.asked.Command.{Command}
-use Rattle.arguments.specs.declared.asked.Command.TheVariants.{Answer, Assemble, Check, CheckAll, Code, Debug, Explain, Image, Images, Interleave, Judge, JudgeAll, Listing, MakeVolume, Picture, Replay, Run, Show, Trace, Unpersisted, Upgrade, Waste}
+use Rattle.arguments.specs.declared.asked.Command.TheVariants.{Answer, Assemble, Check, CheckAll, Code, Debug, Explain, Image, Images, Interleave, Judge, JudgeAll, Listing, MakeVolume, Picture, Program, Replay, Run, Show, Trace, Unpersisted, Upgrade, Waste}
 use Rattle.arguments.specs.declared.asked.DebugCommand.{DebugCommand}
 use Rattle.arguments.specs.declared.asked.EventSource.{EventSource}
 use Rattle.arguments.specs.declared.asked.EventSource.TheVariants as sources
@@ -31,7 +32,9 @@ use Rattle.arguments.specs.declared.asked.LineFault.TheVariants.{Help, Fault, Me
 use Rattle.arguments.specs.declared.asked.ListingCommand.{ListingCommand}
 use Rattle.arguments.specs.declared.asked.MachineOptions.{MachineOptions}
 use Rattle.arguments.specs.declared.asked.MakeVolumeCommand.{MakeVolumeCommand}
+use Rattle.arguments.specs.declared.asked.MostCuts.{MostCuts}
 use Rattle.arguments.specs.declared.asked.PictureCommand.{PictureCommand}
+use Rattle.arguments.specs.declared.asked.ProgramCommand.{ProgramCommand}
 use Rattle.arguments.specs.declared.asked.ReplayCommand.{ReplayCommand}
 use Rattle.arguments.specs.declared.asked.ReportCommand.{ReportCommand}
 use Rattle.arguments.specs.declared.asked.RightAnswers.{RightAnswers}
@@ -143,10 +146,10 @@ pub record IsExplain (rows : List Row) (command : ExplainCommand) : Type 0 where
   pub moment : IsNumberWord (first_of (codes "MOMENT") rows) command.moment
   pub image : IsImageWord (first_of (codes "IMAGE") rows) command.image
 
--- What `check` and `judge` have in common: this run, by so many workers, these moments of it or all, whether judging goes on behind those with
--- too many branches, whether a failure is explained, as text or as JSON, and whether it is told how far the check has come.
+-- What `check` and `judge` have in common: these events, by so many workers, these moments of them or all, whether judging goes on behind those
+-- with too many branches, whether a failure is explained, as text or as JSON, and whether it is told how far the check has come.
 pub record IsJudgedRun (rows : List Row) (judged : JudgedRun) : Type 0 where
-  pub scheduled : IsScheduledRun rows judged.run
+  pub source : IsEventSource rows judged.source
   pub workers : IsWorkers rows judged.workers
   pub moments : IsOptionalMoments (first_of (codes "moments") rows) judged.moments
   pub goes_on : judged.goes_on ≡ is_set (first_of (codes "go-on") rows)
@@ -154,7 +157,7 @@ pub record IsJudgedRun (rows : List Row) (judged : JudgedRun) : Type 0 where
   pub json : judged.json ≡ is_set (first_of (codes "json") rows)
   pub progress : judged.progress ≡ is_set (first_of (codes "progress") rows)
 
--- `check` of this run by this plan
+-- `check` of these events by this plan
 pub record IsCheck (rows : List Row) (command : CheckCommand) : Type 0 where
   pub plan : IsWord (codes "PLAN") rows command.plan
   pub judged : IsJudgedRun rows command.judged
@@ -170,14 +173,27 @@ AreRightBy true true right = ⊥
 abbrev pub IsRight : List Row → RightAnswers → Type 0
 IsRight rows right = AreRightBy (is_set (first_of (codes "atomic") rows)) (is_set (first_of (codes "overlapping") rows)) right
 
--- `judge` of this run by this recovery routine, so many steps of it on an image, the answers of it that are right, and at most so many states of the
--- search for sequential runs
+-- the program whose sequential runs are asked for is there: those of a trace file have none
+abbrev pub IsRightOf : EventSource → RightAnswers → Type 0
+IsRightOf (sources.Run run) right = ⊤
+IsRightOf (sources.Trace events) right = right ≢ Atomic
+
+-- power cuts in recovery are asked for of a run alone
+abbrev pub AreCutsOf : EventSource → Option MostCuts → Type 0
+AreCutsOf (sources.Run run) cuts = ⊤
+AreCutsOf (sources.Trace events) cuts = cuts ≡ None
+
+-- `judge` of these events by this recovery routine, so many steps of it on an image, the answers of it that are right, at most so many states of the
+-- search for sequential runs, and so many power cuts in recovery
 pub record IsJudge (rows : List Row) (command : JudgeCommand) : Type 0 where
   pub recovery : IsWord (codes "RECOVERY") rows command.recovery
   pub steps : IsRecoverySteps rows command.steps
   pub right : IsRight rows command.right
   pub states : IsStates rows command.states
+  pub cuts : IsOptionalCuts (first_of (codes "recovery-cuts") rows) command.cuts
   pub judged : IsJudgedRun rows command.judged
+  pub of_run : IsRightOf command.judged.source command.right
+  pub cuts_of_run : AreCutsOf command.judged.source command.cuts
 
 -- What `check-all` and `judge-all` have in common: this program, at most so many states, whether harts may stop in any way, whether a failure is
 -- explained, as text or as JSON, and whether it is reported how far the search has come.
@@ -231,6 +247,10 @@ pub record IsShow (rows : List Row) (command : ShowCommand) : Type 0 where
 pub record IsListing (rows : List Row) (command : ListingCommand) : Type 0 where
   pub program : IsWord (codes "PROGRAM") rows command.program
 
+-- `program` of this program
+pub record IsProgram (rows : List Row) (command : ProgramCommand) : Type 0 where
+  pub program : IsWord (codes "PROGRAM") rows command.program
+
 -- `code` with this code, or with none
 pub record IsCode (rows : List Row) (command : CodeCommand) : Type 0 where
   pub code : IsCodeWord (first_of (codes "CODE") rows) command.meaning
@@ -258,6 +278,7 @@ IsOf name rows (Picture command) = (name ≡ codes "picture") × IsPicture rows 
 IsOf name rows (Interleave command) = (name ≡ codes "interleave") × IsInterleave rows command
 IsOf name rows (Show command) = (name ≡ codes "show") × IsShow rows command
 IsOf name rows (Listing command) = (name ≡ codes "listing") × IsListing rows command
+IsOf name rows (Program command) = (name ≡ codes "program") × IsProgram rows command
 IsOf name rows (Code command) = (name ≡ codes "code") × IsCode rows command
 
 -- the name of no subcommand that makes a file from others
@@ -313,9 +334,9 @@ abbrev pub IsSourceWithin : EventSource → Type 0
 IsSourceWithin (sources.Run run) = IsMachineWithin run.machine
 IsSourceWithin (sources.Trace events) = ⊤
 
--- the numbers of a run that is judged are within their limits
+-- the numbers of events that are judged are within their limits
 pub record IsJudgedWithin (judged : JudgedRun) : Type 0 where
-  pub machine : IsMachineWithin judged.run.machine
+  pub source : IsSourceWithin judged.source
   pub workers : IsWithin 1 8 judged.workers
   pub moments : IfSome judged.moments IsUpward
 
@@ -340,6 +361,7 @@ IsWithinLimits (Image command) = IsSourceWithin command.source × (command.momen
 IsWithinLimits (Explain command) = IsMachineWithin command.run.machine × (command.moment < 2 ^ 32) × IsProper command.image
 IsWithinLimits (Check command) = IsJudgedWithin command.judged
 IsWithinLimits (Judge command) = IsJudgedWithin command.judged × IsWithin 1 500000000 command.steps × IsWithin 1 4294967295 command.states
+    × IsRightOf command.judged.source command.right × IfSome command.cuts AreFewCuts × AreCutsOf command.judged.source command.cuts
 IsWithinLimits (CheckAll command) = IsProgramWithin command.judged
 IsWithinLimits (JudgeAll command) = IsProgramWithin command.judged × IsWithin 1 500000000 command.steps
 IsWithinLimits (Answer command) = IsWithin 1 500000000 command.steps
@@ -347,6 +369,7 @@ IsWithinLimits (Picture command) = IsSourceWithin command.source × (command.mom
 IsWithinLimits (Interleave command) = IsMachineWithin command.machine × IsWithin 1 500000000 command.steps × IsWithin 0 65536 command.evictions
 IsWithinLimits (Show command) = IfSome command.line (λ line. line < 2 ^ 32)
 IsWithinLimits (Listing command) = ⊤
+IsWithinLimits (Program command) = ⊤
 IsWithinLimits (Code command) = ⊤
 
 -- why a subcommand gives no command: it is `help`, or none is asked for by these values

@@ -3,8 +3,8 @@
 ghost use Rattle.std.specs.Prelude.{◌<◌, ◌^◌, ℕ, IfOk, IfErr, IfSome, String, codes};
 ghost use Rattle.std.specs.declared.alloc.Global.{Global as AGlobal};
 ghost use Rattle.clap.specs.Words.{found_of, rows_of};
-ghost use Rattle.arguments.specs.Line.{IsAnswer, IsAssemble, IsCheck, IsCheckAll, IsCode, IsDebug, IsEventSource, IsExplain, IsImage, IsImages, IsInterleave, IsJudge, IsJudgeAll, IsListing, IsMakeVolume, IsPicture, IsReplay, IsReport, IsRun, IsScheduledRun, IsShow, IsTrace, IsTracedEvents, IsUpgrade};
-ghost use Rattle.arguments.specs.Line.{IsCachedMachine, IsSourceWithin, IsJudgedProgram, IsJudgedRun, IsJudgedWithin, IsMachineWithin, IsOf, IsProgramWithin, IsRight, IsWithin, IsWithinLimits, OnFault};
+ghost use Rattle.arguments.specs.Line.{IsAnswer, IsAssemble, IsCheck, IsCheckAll, IsCode, IsDebug, IsEventSource, IsExplain, IsImage, IsImages, IsInterleave, IsJudge, IsJudgeAll, IsListing, IsMakeVolume, IsPicture, IsProgram, IsReplay, IsReport, IsRun, IsScheduledRun, IsShow, IsTrace, IsTracedEvents, IsUpgrade};
+ghost use Rattle.arguments.specs.Line.{AreCutsOf, IsCachedMachine, IsSourceWithin, IsJudgedProgram, IsJudgedRun, IsJudgedWithin, IsMachineWithin, IsOf, IsProgramWithin, IsRight, IsRightOf, IsWithin, IsWithinLimits, OnFault};
 ghost use Rattle.arguments.specs.Started.{IsStarted};
 ghost use Rattle.arguments.specs.Values.{IsWord};
 ghost use Rattle.text.specs.Texts.{IsProper};
@@ -29,6 +29,7 @@ ghost use Rattle.arguments.specs.declared.asked.PictureCommand.{PictureCommand a
 ghost use Rattle.arguments.specs.declared.asked.ReportCommand.{ReportCommand as AReportCommand};
 ghost use Rattle.arguments.specs.declared.asked.ShowCommand.{ShowCommand as AShowCommand};
 ghost use Rattle.arguments.specs.declared.asked.ListingCommand.{ListingCommand as AListingCommand};
+ghost use Rattle.arguments.specs.declared.asked.ProgramCommand.{ProgramCommand as AProgramCommand};
 ghost use Rattle.arguments.specs.declared.asked.CodeCommand.{CodeCommand as ACodeCommand};
 ghost use Rattle.arguments.specs.declared.asked.MachineOptions.{MachineOptions as AMachine};
 ghost use Rattle.arguments.specs.declared.asked.JudgedProgram.{JudgedProgram as AJudgedProgram};
@@ -40,9 +41,11 @@ use crate::asked::{
     AnswerCommand, AssembleCommand, CheckAllCommand, CheckCommand, CodeCommand, Command,
     DebugCommand, EventSource, ExplainCommand, ImageCommand, ImagesCommand, InterleaveCommand,
     JudgeAllCommand, JudgeCommand, JudgedProgram, JudgedRun, LineFault, ListingCommand,
-    MachineOptions, MakeVolumeCommand, PictureCommand, ReplayCommand, ReportCommand, RightAnswers,
-    RunCommand, ScheduledRun, ShowCommand, TraceCommand, TracedEvents, UpgradeCommand,
+    MachineOptions, MakeVolumeCommand, MostCuts, PictureCommand, ProgramCommand, ReplayCommand,
+    ReportCommand, RightAnswers, RunCommand, ScheduledRun, ShowCommand, TraceCommand, TracedEvents,
+    UpgradeCommand,
 };
+use crate::cuts::optional_cuts;
 use crate::machine::{cached_machine, whole_machine};
 use crate::moments::optional_moments;
 use crate::values::{
@@ -145,7 +148,7 @@ fn event_source(alloc: Global, found: &ArgMatches<'_>) -> Result<EventSource, Li
     }
 }
 
-/// The run of `check` or `judge`, and how it is judged.
+/// The events of `check` or `judge`, and how they are judged.
 fn judged_run(alloc: Global, found: &ArgMatches<'_>) -> Result<JudgedRun, LineFault>
     ensures ok { IfOk result (IsJudgedRun (rows_of (found_of found.now))) }
     ensures within { IfOk result IsJudgedWithin }
@@ -158,7 +161,7 @@ fn judged_run(alloc: Global, found: &ArgMatches<'_>) -> Result<JudgedRun, LineFa
         progress: flag(found, "progress"),
         workers: number(alloc, found, &WORKERS)?,
         moments: optional_moments(alloc, found, "moments")?,
-        run: scheduled_run(alloc, found)?,
+        source: event_source(alloc, found)?,
     })
 }
 
@@ -392,6 +395,32 @@ fn right_answers(alloc: Global, found: &ArgMatches<'_>) -> Result<RightAnswers, 
     }
 }
 
+/// Refuses the answers of sequential runs for the events of a trace file, which has no program.
+fn demand_program(alloc: Global, source: &EventSource, right: RightAnswers) -> Result<(), LineFault>
+    ensures ok { IfOk result (λ _. IsRightOf source.now right) }
+    ensures err { IfErr result (OnFault (¬ (IsRightOf source.now right))) }
+{
+    match (source, right) {
+        (EventSource::Trace(_), RightAnswers::Atomic) => {
+            Err(LineFault::Fault(format!(in alloc; "error: --atomic can't stand with --trace\n")?))
+        }
+        _ => Ok(()),
+    }
+}
+
+/// Refuses power cuts in recovery for the events of a trace file.
+fn demand_run(alloc: Global, source: &EventSource, cuts: Option<MostCuts>) -> Result<(), LineFault>
+    ensures ok { IfOk result (λ _. AreCutsOf source.now cuts) }
+    ensures err { IfErr result (OnFault (¬ (AreCutsOf source.now cuts))) }
+{
+    match (source, cuts) {
+        (EventSource::Trace(_), Some(_)) => Err(LineFault::Fault(format!(in alloc;
+            "error: --recovery-cuts can't stand with --trace\n"
+        )?)),
+        _ => Ok(()),
+    }
+}
+
 /// What `judge` is to do.
 pub(crate) fn judge(alloc: Global, found: &ArgMatches<'_>) -> Result<Command, LineFault>
     ensures ok { IfOk result (IsOf (codes "judge") (rows_of (found_of found.now))) }
@@ -402,13 +431,17 @@ pub(crate) fn judge(alloc: Global, found: &ArgMatches<'_>) -> Result<Command, Li
     let right = right_answers(alloc, found)?;
     let steps = number(alloc, found, &RECOVERY_STEPS)?;
     let states = number(alloc, found, &STATES)?;
+    let cuts = optional_cuts(alloc, found, "recovery-cuts")?;
     let recovery = word(alloc, found, "RECOVERY")?;
     let judged = judged_run(alloc, found)?;
+    demand_program(alloc, &judged.source, right)?;
+    demand_run(alloc, &judged.source, cuts)?;
     Ok(Command::Judge(JudgeCommand {
         recovery,
         steps,
         right,
         states,
+        cuts,
         judged,
     }))
 }
@@ -506,6 +539,18 @@ pub(crate) fn listing(alloc: Global, found: &ArgMatches<'_>) -> Result<Command, 
         → ¬ (IsListing (rows_of (found_of found.now)) command))) }
 {
     Ok(Command::Listing(ListingCommand {
+        program: word(alloc, found, "PROGRAM")?,
+    }))
+}
+
+/// What `program` is to do.
+pub(crate) fn program(alloc: Global, found: &ArgMatches<'_>) -> Result<Command, LineFault>
+    ensures ok { IfOk result (IsOf (codes "program") (rows_of (found_of found.now))) }
+    ensures within { IfOk result IsWithinLimits }
+    ensures err { IfErr result (OnFault ((command : AProgramCommand)
+        → ¬ (IsProgram (rows_of (found_of found.now)) command))) }
+{
+    Ok(Command::Program(ProgramCommand {
         program: word(alloc, found, "PROGRAM")?,
     }))
 }

@@ -10,8 +10,8 @@ ghost use Rattle.arguments.specs.declared.asked.Command.{Command as ACommand};
 use crate::asked::{Command, LineFault};
 use crate::commands::{
     answer, assemble, check, check_all, code, debug, explain, image, images, interleave, judge,
-    judge_all, listing, make_volume, picture, replay, run, show, trace, unpersisted, upgrade,
-    waste,
+    judge_all, listing, make_volume, picture, program, replay, run, show, trace, unpersisted,
+    upgrade, waste,
 };
 use crate::grammar::{grammar, overview};
 use clap::ArgMatches;
@@ -189,6 +189,7 @@ fn asked_to_show(alloc: Global, name: &str, found: &ArgMatches<'_>) -> Result<Co
         "interleave" => interleave(alloc, found),
         "show" => show(alloc, found),
         "listing" => listing(alloc, found),
+        "program" => program(alloc, found),
         "code" => code(alloc, found),
         _ => Err(unknown(alloc)?),
     }
@@ -219,7 +220,9 @@ fn asked_to_show(alloc: Global, name: &str, found: &ArgMatches<'_>) -> Result<Co
 /// - `image --trace FILE MOMENT IMAGE OUT [--medium FILE --whole]`
 /// - `explain PROGRAM SCHEDULE MOMENT IMAGE [--medium FILE --harts N --whole]`
 /// - `check PLAN PROGRAM SCHEDULE [--medium FILE --harts N --workers N --moments A-B --go-on --whole --why --json --progress]`
-/// - `judge PROGRAM SCHEDULE RECOVERY [--medium FILE --harts N --steps N --workers N --atomic --states N --overlapping --moments A-B --go-on --whole --why --json --progress]`
+/// - `check PLAN --trace FILE [--medium FILE --workers N --moments A-B --go-on --whole --why --json --progress]`
+/// - `judge PROGRAM SCHEDULE RECOVERY [--medium FILE --harts N --steps N --workers N --atomic --states N --overlapping --recovery-cuts N --moments A-B --go-on --whole --why --json --progress]`
+/// - `judge --trace FILE RECOVERY [--medium FILE --steps N --workers N --overlapping --moments A-B --go-on --whole --why --json --progress]`
 /// - `check-all PLAN PROGRAM [--medium FILE --harts N --states N --any-end --why --json --progress]`
 /// - `judge-all PROGRAM RECOVERY [--medium FILE --harts N --steps N --states N --any-end --why --json --progress]`
 /// - `answer RECOVERY [--medium FILE --steps N]`
@@ -227,6 +230,7 @@ fn asked_to_show(alloc: Global, name: &str, found: &ArgMatches<'_>) -> Result<Co
 /// - `interleave PROGRAM --seed N [--medium FILE --harts N --steps N --evictions N]`
 /// - `show MEDIUM [LINE]`
 /// - `listing PROGRAM`
+/// - `program PROGRAM`
 /// - `code [CODE]`
 #[tactic(auto, using(crate::proofs::Lines::has_none))]
 pub fn command(alloc: Global, words: &[String]) -> Result<Command, LineFault>

@@ -1,4 +1,5 @@
 pub mod AllSchedules
+pub mod Answered
 pub mod Answering
 pub mod Assembling
 pub mod Checking
@@ -11,9 +12,15 @@ pub mod Explaining
 pub mod Failures
 pub mod ImageFiles
 pub mod Imaging
+pub mod JudgedEvents
+pub mod CutReasons
+pub mod CutVerdicts
+pub mod JudgingCuts
+pub mod JudgingRuns
 pub mod Judging
 pub mod JudgingAll
 pub mod Listing
+pub mod Sizes
 pub mod Making
 pub mod Naming
 pub mod Outcomes

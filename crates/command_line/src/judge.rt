@@ -1,28 +1,34 @@
-//! The command that judges a run by a recovery routine.
+//! The command that judges events by a recovery routine.
 
-ghost use Rattle.arguments.specs.Line.{IsJudgedWithin};
+ghost use Rattle.arguments.specs.Cuts.{AreFewCuts};
+ghost use Rattle.arguments.specs.Line.{AreCutsOf, IsJudgedWithin, IsMachineWithin, IsRightOf};
 ghost use Rattle.arguments.specs.declared.asked.RightAnswers.TheVariants.{Atomic};
-ghost use Rattle.command_line.specs.Judging.{AreRunsFor, IsOpen, IsRuleOf, JudgesOpen, JudgesRight, JudgesRun, KeepsStart, Notes, OpensJudge, TellsProgress, Watches, cause_text, judgement_asked, missing_text, note_of};
+ghost use Rattle.command_line.specs.Judging.{AreRunsFor, CopiesStart, IsOpen, IsReadyFor, IsRuleOf, JudgesOnce, JudgesOpen, KeepsStart, Notes, OpensJudge, OpensSubject, OpensSubjectOfFile, OpensSubjectOfRun, TellsProgress, Watches, cause_text, judgement_asked, judges_none, missing_text, note_if};
+ghost use Rattle.command_line.specs.JudgingRuns.{JudgesRight, JudgesRun};
 ghost use Rattle.command_line.specs.Reading.{setup_of};
 ghost use Rattle.routine_judge.specs.Rules.{AreNotedFor, judgement_view};
 ghost use Rattle.command_line.specs.Progress.{IsToldIf};
-ghost use Rattle.std.specs.Prelude.{◌≡◌, IfOk, OnOk, string_bytes};
+ghost use Rattle.command_line.specs.Traces.{medium_of};
+ghost use Rattle.std.specs.Prelude.{◌≡◌, ◌≢◌, ◌≤◌, IfOk, IfSome, None, OnOk, Some, string_bytes};
 ghost use Rattle.std.specs.Io.KnownBytes.{Appends};
 
 use crate::all_schedules::told_bound;
 use crate::answer::Answer;
+use crate::events::{OpenEvents, opened};
 use crate::failure::Failure;
 use crate::files::Files;
+use crate::judge_cuts::judge_cuts;
+use crate::judged_events::open_judged_trace;
 use crate::made_run::{make_run, setup};
 use crate::opened::OpenJudge;
 use crate::progress::Reporter;
-use crate::reading::{RunFiles, read_recovery, read_run};
-use crate::reasons::why;
+use crate::reading::{ReadRoutine, RunFiles, read_routine, read_run};
+use crate::reasons::why_of;
 use crate::streams::print;
 use crate::verdicts::{ToldCause, verdict_answer, work};
 use crate::whole::demand_whole;
-use arguments::{JudgeCommand, RightAnswers, ScheduledRun};
-use crash_test::{Judgement, RoutineReader, judge_program};
+use arguments::{EventSource, JudgeCommand, RightAnswers, ScheduledRun, TracedEvents};
+use crash_test::{Events, Judgement, RoutineReader, judge_events, judge_program};
 use debugger::Failed;
 use every_schedule::{Recovery, Sequential, sequential_runs};
 use machine::Setup;
@@ -36,41 +42,130 @@ use std::time::Clock;
 /// What is said of a verdict on no moment.
 const NONE_JUDGED: &[u8] = b"no moment is judged: all lie before the first Begin\n";
 
-/// `judge`: reads the files of a program, a schedule, a medium and a recovery routine, makes the run, and with `--whole` demands that it is
-/// whole.
+/// What a command reads and makes to judge events by a recovery routine.
+#[derive(Drop)]
+struct Subject {
+    start: Option<Setup>,
+    events: OpenEvents,
+    routine: ReadRoutine,
+}
+
+/// `judge`: reads the files of a program, a schedule and a medium, and makes the run, or of a trace file and a medium; and of a recovery
+/// routine. With `--whole` it demands that the events are whole.
 pub(crate) fn open_judge<F: Files>(
     alloc: Global,
     command: JudgeCommand,
     files: &mut F,
 ) -> Result<OpenJudge, Failure>
-    requires { IsJudgedWithin command.judged }
+    requires within { IsJudgedWithin command.judged }
+    requires of_run { IsRightOf command.judged.source command.right }
+    requires cuts { IfSome command.cuts AreFewCuts }
+    requires cuts_of_run { AreCutsOf command.judged.source command.cuts }
     ensures opens { OpensJudge F.read_gives command files.old result files.new }
     ensures ready { IfOk result IsOpen }
 {
-    let run = &command.judged.run;
-    let read = read_run(alloc, run, files)?;
-    let recovery = read_recovery(alloc, command.recovery.as_str(), files)?;
-    let start = start_of(alloc, run, &read)?;
-    let made = make_run(alloc, run, read)?;
-    demand_whole(alloc, run.whole, &made, &[])?;
+    let subject = subject_of(alloc, &command, files)?;
+    let Subject {
+        start,
+        events,
+        routine,
+    } = subject;
+    let ReadRoutine { file, program } = routine;
     Ok(OpenJudge {
         command,
         start,
-        made,
-        recovery,
+        events,
+        recovery_file: file,
+        recovery: program,
     })
 }
 
-/// What a run starts from, beside the run that is made of the same files.
+fn subject_of<F: Files>(
+    alloc: Global,
+    command: &JudgeCommand,
+    files: &mut F,
+) -> Result<Subject, Failure>
+    requires within { IsJudgedWithin command.now.judged }
+    requires of_run { IsRightOf command.now.judged.source command.now.right }
+    requires cuts_of_run { AreCutsOf command.now.judged.source command.now.cuts }
+    ensures opens { OpensSubject F.read_gives command.now command.now.judged.source files.old result files.new }
+    ensures ready { IfOk result (IsReadyFor command.now) }
+{
+    match &command.judged.source {
+        EventSource::Run(run) => subject_of_run(alloc, command, run, files),
+        EventSource::Trace(events) => subject_of_file(alloc, command, events, files),
+    }
+}
+
+/// A run of a program, whose files are all read before it is made.
+fn subject_of_run<F: Files>(
+    alloc: Global,
+    command: &JudgeCommand,
+    run: &ScheduledRun,
+    files: &mut F,
+) -> Result<Subject, Failure>
+    requires { IsMachineWithin run.now.machine }
+    ensures opens { OpensSubjectOfRun F.read_gives command.now run.now files.old result files.new }
+    ensures ready { IfOk result (IsReadyFor command.now) }
+{
+    let read = read_run(alloc, run, files)?;
+    let routine = read_routine(alloc, command.recovery.as_str(), files)?;
+    let start = start_for(alloc, command.right, run, &read)?;
+    let made = make_run(alloc, run, read)?;
+    demand_whole(alloc, run.whole, &made, &[])?;
+    let events = opened(made)?;
+    Ok(Subject {
+        start,
+        events,
+        routine,
+    })
+}
+
+/// The events of a trace file, by the names of their lines.
+fn subject_of_file<F: Files>(
+    alloc: Global,
+    command: &JudgeCommand,
+    events: &TracedEvents,
+    files: &mut F,
+) -> Result<Subject, Failure>
+    requires of_run { command.now.right ≢ Atomic }
+    requires cuts_of_run { command.now.cuts ≡ None }
+    ensures opens { OpensSubjectOfFile F.read_gives command.now events.now files.old result files.new }
+    ensures ready { IfOk result (IsReadyFor command.now) }
+{
+    let events = open_judged_trace(alloc, events, &[], files)?;
+    let routine = read_routine(alloc, command.recovery.as_str(), files)?;
+    Ok(Subject {
+        start: None,
+        events,
+        routine,
+    })
+}
+
+/// What a run starts from, beside the run that is made of the same files, where sequential runs of its program are asked for.
+fn start_for(
+    alloc: Global,
+    right: RightAnswers,
+    run: &ScheduledRun,
+    read: &RunFiles,
+) -> Result<Option<Setup>, Failure>
+    ensures { KeepsStart right (setup_of run.now read.now) result }
+{
+    match right {
+        RightAnswers::Atomic => Ok(Some(start_of(alloc, run, read)?)),
+        RightAnswers::InTurn | RightAnswers::Overlapping => Ok(None),
+    }
+}
+
 fn start_of(alloc: Global, run: &ScheduledRun, read: &RunFiles) -> Result<Setup, Failure>
-    ensures { KeepsStart (setup_of run.now read.now) result }
+    ensures { CopiesStart (setup_of run.now read.now) result }
 {
     let program = read.program.copy(alloc)?;
     let medium = read.medium.copy(alloc)?;
     Ok(setup(&run.machine, program, medium))
 }
 
-/// Gives the verdict on a run by a recovery routine, with `--atomic` once the sequential runs of its program are found. With `--progress`
+/// Gives the verdict on events by a recovery routine, with `--atomic` once the sequential runs of its program are found. With `--progress`
 /// standard error gets how far it has come, and where no moment is judged a line that says so.
 pub(crate) fn judge_run<T: Threads + Sync + Clock, E: Write>(
     rt: &T,
@@ -99,8 +194,9 @@ fn judge_atomic<T: Threads + Sync + Clock, E: Write>(
     requires atomic { judge.now.command.right ≡ Atomic }
     ensures { JudgesRun E.contents judge.now errors.old result errors.new }
 {
-    let OpenJudge { command, start, .. } = judge;
-    let found = runs_for(rt, alloc, judge)?;
+    let command = &judge.command;
+    let start = setup_in(judge);
+    let found = runs_for(rt, alloc, judge, start)?;
     match found {
         Sequential::All { runs, .. } => {
             let rule = Rule::Atomic(ProgramRuns {
@@ -117,23 +213,37 @@ fn judge_atomic<T: Threads + Sync + Clock, E: Write>(
     }
 }
 
+/// What a run starts from of which sequential runs are asked for.
+fn setup_in(judge: &OpenJudge) -> &Setup
+    requires open { IsOpen judge.now }
+    requires atomic { judge.now.command.right ≡ Atomic }
+    ensures { judge.now.start ≡ Some result.now }
+{
+    match &judge.start {
+        Some(start) => start,
+        None => unreachable!(),
+    }
+}
+
 /// The sequential runs of the program, with what the recovery routine answers behind each of them.
 fn runs_for<T: Threads + Sync>(
     rt: &T,
     alloc: Global,
     judge: &OpenJudge,
+    start: &Setup,
 ) -> Result<Sequential, AllocError>
-    requires { IsOpen judge.now }
+    requires start { judge.now.start ≡ Some start.now }
+    requires few { start.now.harts ≤ 8 }
     ensures { IfOk result (AreRunsFor judge.now) }
 {
     let recovery = Recovery {
         program: &judge.recovery,
         steps: judge.command.steps,
     };
-    sequential_runs(rt, alloc, &judge.start, recovery, judge.command.states)
+    sequential_runs(rt, alloc, start, recovery, judge.command.states)
 }
 
-/// Gives the verdict on a run by a rule for right answers.
+/// Gives the verdict on events by a rule for right answers, with power cuts in recovery where the line asks for them.
 fn judge_by<T: Threads + Sync + Clock, E: Write>(
     rt: &T,
     alloc: Global,
@@ -145,15 +255,33 @@ fn judge_by<T: Threads + Sync + Clock, E: Write>(
     requires rule { IsRuleOf judge.now rule }
     ensures { JudgesRight E.contents judge.now errors.old result errors.new }
 {
+    match judge.command.cuts {
+        None => judge_once(rt, alloc, judge, rule, errors),
+        Some(most) => judge_cuts(rt, alloc, judge, rule, most, errors),
+    }
+}
+
+/// The same without power cuts in recovery.
+fn judge_once<T: Threads + Sync + Clock, E: Write>(
+    rt: &T,
+    alloc: Global,
+    judge: &OpenJudge,
+    rule: Rule<'_>,
+    errors: &mut E,
+) -> Result<Answer, Failure>
+    requires open { IsOpen judge.now }
+    requires rule { IsRuleOf judge.now rule }
+    ensures { JudgesOnce E.contents judge.now errors.old result errors.new }
+{
     let verdict = verdict(rt, alloc, judge, rule, errors)?;
     let judged = &judge.command.judged;
     let reader = RoutineReader {
         program: &judge.recovery,
         steps: judge.command.steps,
     };
-    let why = why(alloc, judged.why, &judge.made.run, &verdict, &reader)?;
-    let answer = verdict_answer(alloc, &judge.made, &verdict, &why, judged.json)?;
-    let _ = note_none(&verdict, errors);
+    let why = why_of(alloc, judged.why, &judge.events, &verdict, &reader)?;
+    let answer = verdict_answer(alloc, &judge.events, &verdict, &why, judged.json)?;
+    let _ = note_none(judges_none(&verdict), errors);
     Ok(answer)
 }
 
@@ -189,17 +317,27 @@ fn told_verdict<T: Threads + Sync + Clock, E: Write>(
     ensures told { IsToldIf reporter.old.is_wanted (TellsProgress judge.now (E.contents reporter.old.errors.now) (E.contents reporter.new.errors.now))
         reporter.old.errors.now reporter.new.errors.now }
 {
-    let OpenJudge { command, made, .. } = judge;
-    let work = work(&command.judged);
+    let work = work(&judge.command.judged);
     let judgement = judgement(judge, rule);
-    Ok(judge_program(rt, alloc, &made.run, judgement, work, reporter)?)
+    match &judge.events {
+        OpenEvents::Run(made) => Ok(judge_program(
+            rt, alloc, &made.run, judgement, work, reporter,
+        )?),
+        OpenEvents::Trace(open) => {
+            let events = Events {
+                medium: &open.medium,
+                trace: &open.ranked.trace,
+            };
+            Ok(judge_events(rt, alloc, events, judgement, work, reporter)?)
+        }
+    }
 }
 
-/// How the command says that the run is judged.
-fn judgement<'a>(judge: &'a OpenJudge, rule: Rule<'a>) -> Judgement<'a>
+/// How the command says that the events are judged.
+pub(crate) fn judgement<'a>(judge: &'a OpenJudge, rule: Rule<'a>) -> Judgement<'a>
     requires { IsRuleOf judge.now rule }
     ensures asked { judgement_view result ≡ judgement_asked judge.now }
-    ensures noted { AreNotedFor judge.now.made.run.setup.medium result.recovery.now result.steps result.rule }
+    ensures noted { AreNotedFor (medium_of judge.now.events) result.recovery.now result.steps result.rule }
 {
     Judgement {
         recovery: &judge.recovery,
@@ -208,15 +346,23 @@ fn judgement<'a>(judge: &'a OpenJudge, rule: Rule<'a>) -> Judgement<'a>
     }
 }
 
-/// Says on standard error that no moment is judged, where the verdict is on none. Where standard error fails, it may have got a front of that.
-#[tactic(auto, using(crate::proofs::Written::front_all, crate::proofs::Written::part_none))]
-fn note_none<C, E: Write>(verdict: &Verdict<C>, errors: &mut E) -> Result<(), Failed>
-    ensures ok { OnOk result (Appends (E.contents errors.old) (E.contents errors.new) (note_of verdict.now)) }
-    ensures front { Notes E.contents verdict.now errors.old errors.new }
+/// Whether the verdict is on no moment.
+fn judges_none<C>(verdict: &Verdict<C>) -> bool
+    ensures { result ≡ judges_none verdict.now }
 {
-    match verdict {
-        Verdict::Pass { moments: 0, .. } => print(NONE_JUDGED, errors),
-        _ => Ok(()),
+    matches!(verdict, Verdict::Pass { moments: 0, .. })
+}
+
+/// Says on standard error that no moment is judged, where that is so. Where standard error fails, it may have got a front of that.
+#[tactic(auto, using(crate::proofs::Written::front_all, crate::proofs::Written::part_none))]
+pub(crate) fn note_none<E: Write>(is_none: bool, errors: &mut E) -> Result<(), Failed>
+    ensures ok { OnOk result (Appends (E.contents errors.old) (E.contents errors.new) (note_if is_none)) }
+    ensures front { Notes E.contents is_none errors.old errors.new }
+{
+    if is_none {
+        print(NONE_JUDGED, errors)
+    } else {
+        Ok(())
     }
 }
 
@@ -232,7 +378,7 @@ impl ToldCause for Cause {
 
 /// `different`, why the routine has no answer, or `full-` and why it has none that says what is right, or `unmatched` where no sequential run
 /// does.
-fn cause_text(alloc: Global, cause: Cause) -> Result<String, AllocError>
+pub(crate) fn cause_text(alloc: Global, cause: Cause) -> Result<String, AllocError>
     ensures { IfOk result (λ text. string_bytes text ≡ cause_text cause) }
 {
     match cause {

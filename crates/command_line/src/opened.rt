@@ -1,26 +1,28 @@
 //! Runs that are to be judged.
 
-use crate::made_run::MadeRun;
+use crate::events::OpenEvents;
 use arguments::{CheckAllCommand, CheckCommand, JudgeAllCommand, JudgeCommand};
-use machine::Setup;
+use machine::{Machine, Setup};
 use plan::Plan;
 use program::Program;
 
-/// A check whose files have been read and whose run was made. The run is whole where the command asks for that.
+/// A check whose files have been read and whose run was made, where its events are a run's. They are whole where the command asks for that.
 #[derive(Drop)]
 pub struct OpenCheck {
     pub(crate) command: CheckCommand,
     pub(crate) plan: Plan,
-    pub(crate) made: MadeRun,
+    pub(crate) events: OpenEvents,
 }
 
-/// The same of a run that is judged by a recovery routine.
+/// The same of events that are judged by a recovery routine.
 #[derive(Drop)]
 pub struct OpenJudge {
     pub(crate) command: JudgeCommand,
-    /// What the run starts from.
-    pub(crate) start: Setup,
-    pub(crate) made: MadeRun,
+    /// What the run starts from, where its program is to be run once more: with `--atomic`.
+    pub(crate) start: Option<Setup>,
+    pub(crate) events: OpenEvents,
+    /// The bytes of the recovery routine's file.
+    pub(crate) recovery_file: Vec<u8>,
     pub(crate) recovery: Program,
 }
 
@@ -44,4 +46,13 @@ pub struct OpenJudgeAll {
     pub(crate) file: Vec<u8>,
     /// What every schedule starts from.
     pub(crate) setup: Setup,
+}
+
+/// A program that is to be debugged. Its files have been read.
+#[derive(Drop)]
+pub struct OpenDebug {
+    /// The bytes of the program's file.
+    pub(crate) file: Vec<u8>,
+    /// Its machine, which has made no step.
+    pub(crate) machine: Machine,
 }

@@ -4,6 +4,7 @@
 
 mod answering;
 mod checking;
+mod cuts;
 mod events;
 mod explaining;
 mod file_kind;
@@ -20,6 +21,7 @@ mod work;
 
 pub use answering::answer_on;
 pub use checking::{check_events, check_program};
+pub use cuts::{CutJudgement, judge_event_cuts, judge_run_cuts};
 pub use events::Events;
 pub use explaining::explain_image;
 pub use image_causes::{
@@ -27,8 +29,8 @@ pub use image_causes::{
 };
 pub use images::{ImageLine, count_images, image_lines};
 pub use judging::{judge_events, judge_program};
-pub use loading::{ProgramFault, load_object, load_program};
-pub use losses::{ExplainedImage, explain_losses};
+pub use loading::{ProgramFault, load_object, load_program, one_program};
+pub use losses::{ExplainedImage, explain_losses, tell_losses};
 pub use places::places_of;
 pub use reading::RoutineReader;
 pub use routine_judge::Judgement;
