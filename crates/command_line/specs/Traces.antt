@@ -51,6 +51,10 @@ pub record SaysTrace (text : List ℕ) (outcome : Result RankedTrace Failure) : 
 pub record MeetsEnded (whole : Bool) (ranked : RankedTrace) (outcome : Result (Unit {0}) Failure) : Type 0 where
   pub meets : MeetsIf whole (λ pc. nowhere) [] ranked.trace.events [] outcome
 
+-- and each of these planned ones has begun
+pub record MeetsPlanned (whole : Bool) (ranked : RankedTrace) (planned : List ℕ) (outcome : Result (Unit {0}) Failure) : Type 0 where
+  pub meets : MeetsIf whole (λ pc. nowhere) [] ranked.trace.events planned outcome
+
 -- the events of which a command tells, and the medium that they start from; those of a file name its lines by ranks
 abbrev pub events_of : OpenEvents → List Event
 events_of (Run made) = made.run.events

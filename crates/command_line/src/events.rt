@@ -132,7 +132,7 @@ fn open_scheduled<F: Files>(
     opened(made)
 }
 
-fn opened(made: MadeRun) -> Result<OpenEvents, Failure>
+pub(crate) fn opened(made: MadeRun) -> Result<OpenEvents, Failure>
     requires { IsProgramOf made.file.items made.run.setup.program }
     ensures opens { IsOpened made result }
     ensures ready { IfOk result IsOpen }

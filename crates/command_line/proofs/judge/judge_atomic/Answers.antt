@@ -6,7 +6,8 @@ use Rattle.command_line.proofs.judge.judge_atomic.Goals as goal
 
 pub judge_by-requires-clause-rule : goal.judge_by-requires-clause-rule
 judge_by-requires-clause-rule g c =
-    λ κs within. rule_of_runs c.args.judge.now _ c.requires.open.started c.requires.atomic refl refl (rw c.in-All.is at c.in_ok-found.ensures)
+    λ κs within. rule_of_runs c.args.judge.now _ _ c.setup_in-start.ensures c.requires.open.ready c.requires.atomic refl refl
+    (rw (c.setup_in-start.ensures, c.in-All.is) at c.in_ok-found.ensures)
 
 pub returns-in-All : goal.returns-in-All
 returns-in-All g c = record {
