@@ -23,7 +23,7 @@ returns-clause-opens g c = record {
           found = Ok tt;
           between = c.read_recovery.new.files;
           first = record { value = rw c.in_ok-demand_whole.was at c.demand_whole.ensures; untouched = refl };
-          after = record { value = record { gives = record { start_is = refl; events_are = c.opened.ensures.opens; recovery_is = refl } }; untouched = refl };
+          after = record { value = record { gives = record { start_is = refl; events_are = let is = c.in_ok-opened.was in let opens = c.opened.ensures.opens.opens in cc; recovery_is = refl } }; untouched = refl };
         };
       };
     };
