@@ -471,7 +471,7 @@ static JUDGING_OF_RUNS: [Subcommand; 2] = [
     Subcommand {
         name: "check",
         group: Group::Judge,
-        about: "Judge every crash image of a run by a plan of operations, or of a trace file",
+        about: "Judge every crash image of a run, or of a trace file, by a plan of operations",
         arguments: &[
             PLAN, PROGRAM, SCHEDULE, MEDIUM, HARTS, WORKERS, MOMENTS, GO_ON, WHOLE, WHY, JSON,
             PROGRESS,
@@ -484,7 +484,7 @@ static JUDGING_OF_RUNS: [Subcommand; 2] = [
     Subcommand {
         name: "judge",
         group: Group::Judge,
-        about: "Judge every crash image of a run by a recovery routine of one's own, or of a trace file",
+        about: "Judge every crash image of a run, or of a trace file, by a recovery routine of one's own",
         arguments: &[
             PROGRAM,
             SCHEDULE,
@@ -528,7 +528,7 @@ static JUDGING_OF_FILES: [Subcommand; 2] = [
             JSON,
             PROGRESS,
         ],
-        ending: ending!("check log.plan --trace log.trace --medium log.medium --whole --why"),
+        ending: ending!("check append.plan --trace append.trace --medium append.medium --whole --why"),
     },
     Subcommand {
         name: "judge",

@@ -106,9 +106,10 @@ fn subject_of_run<F: Files>(
     let start = start_for(alloc, command.right, run, &read)?;
     let made = make_run(alloc, run, read)?;
     demand_whole(alloc, run.whole, &made, &[])?;
+    let events = opened(made)?;
     Ok(Subject {
         start,
-        events: opened(made)?,
+        events,
         recovery,
     })
 }
