@@ -5,7 +5,7 @@ use Rattle.arguments.specs.declared.asked.EventSource.TheVariants as sources
 use Rattle.arguments.specs.declared.asked.ScheduledRun.{ScheduledRun}
 use Rattle.arguments.specs.declared.asked.TracedEvents.{TracedEvents}
 use Rattle.machine.specs.declared.shared_memory.fault.StepFault.TheVariants.{NoSuchLine}
-use Rattle.trace_file.specs.Ranks.{IsByNames, LacksName}
+use Rattle.trace_file.specs.Ranks.{AreWithin, IsByNames, LacksName}
 use Rattle.trace_file.specs.declared.file.RankedTrace.{RankedTrace}
 use Rattle.command_line.specs.Demanding.{MeetsWhole}
 use Rattle.command_line.specs.MakingRuns.{OpensRun}
@@ -23,10 +23,10 @@ abbrev pub IsOverMedium : RankedTrace → List (List ℕ) → OpenEvents → Typ
 IsOverMedium ranked medium (Run made) = ⊥
 IsOverMedium ranked medium (Trace trace) = IsByNames ranked (length medium) trace.ranked × (trace.medium ≡ medium)
 
--- G2: the medium lacks a line that the events name; memory may be refused
+-- G2: the medium lacks a line that the events name; else memory may be refused
 abbrev pub IsOutside : RankedTrace → List (List ℕ) → Failure → Type 0
-IsOutside ranked medium failure =
-    ((failure ≡ Refused (refusals.Step NoSuchLine)) × LacksName ranked.names.items (length medium)) ⊎ (failure ≡ Memory)
+IsOutside ranked medium failure = ((failure ≡ Refused (refusals.Step NoSuchLine)) × LacksName ranked.names.items (length medium))
+    ⊎ ((failure ≡ Memory) × AreWithin ranked.names.items (length medium))
 
 pub record OpensOver (ranked : RankedTrace) (medium : List (List ℕ)) (outcome : Result OpenEvents Failure) : Type 0 where
   pub opens : MatchResult outcome (IsOverMedium ranked medium) (IsOutside ranked medium)

@@ -47,13 +47,13 @@ IsTraceFault text fault = IsTraceFaultAt text fault.line fault.code
 pub record SaysTrace (text : List ℕ) (outcome : Result RankedTrace Failure) : Type 0 where
   pub says : MatchResult outcome (IsReadFrom text) (Tells (IsTraceFault text) failure_of_trace)
 
--- `--whole`: each operation of the file has ended; its events have no harts
-pub record MeetsEnded (whole : Bool) (ranked : RankedTrace) (outcome : Result (Unit {0}) Failure) : Type 0 where
-  pub meets : MeetsIf whole (λ pc. nowhere) [] ranked.trace.events [] outcome
-
--- and each of these planned ones has begun
+-- `--whole`: each operation of the file has ended, and each of these planned ones has begun; its events have no harts
 pub record MeetsPlanned (whole : Bool) (ranked : RankedTrace) (planned : List ℕ) (outcome : Result (Unit {0}) Failure) : Type 0 where
   pub meets : MeetsIf whole (λ pc. nowhere) [] ranked.trace.events planned outcome
+
+-- without a plan
+abbrev pub MeetsEnded : Bool → RankedTrace → Result (Unit {0}) Failure → Type 0
+MeetsEnded whole ranked outcome = MeetsPlanned whole ranked [] outcome
 
 -- the events of which a command tells, and the medium that they start from; those of a file name its lines by ranks
 abbrev pub events_of : OpenEvents → List Event

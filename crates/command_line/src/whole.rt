@@ -93,14 +93,10 @@ fn refuse_unfinished(
 pub(crate) fn demand_ended(alloc: Global, whole: bool, ranked: &RankedTrace) -> Result<(), Failure>
     ensures { MeetsEnded whole ranked.now result }
 {
-    if whole {
-        refuse_pending(alloc, ranked.trace.events(), &[])
-    } else {
-        Ok(())
-    }
+    demand_planned(alloc, whole, ranked, &[])
 }
 
-/// The same by a plan: also one in which a planned operation hasn't begun.
+/// The same by a plan: refuses also one in which a planned operation hasn't begun.
 pub(crate) fn demand_planned(
     alloc: Global,
     whole: bool,

@@ -1,6 +1,6 @@
 //! Events by the names of their lines, over a medium that has these lines.
 
-ghost use Rattle.std.specs.Prelude.{◌≡◌, ◌<◌, ◌≤◌, All, IfNone, IfOk, IfSome, IsTrue, length, map, slice_index};
+ghost use Rattle.std.specs.Prelude.{◌≡◌, ◌<◌, ◌≤◌, All, IfErr, IfNone, IfOk, IfSome, IsTrue, length, map, slice_index};
 ghost use Rattle.store_trace.specs.TraceView.{IsEvent, NamesLine};
 ghost use Rattle.trace_file.specs.Ranks.{AreInOrder, AreWithin, IsByNames, LacksName, named};
 
@@ -13,11 +13,12 @@ impl RankedTrace {
     /// rank is the rank itself. None where the medium lacks a line.
     ///
     /// # Errors
-    /// AllocError where a growth is refused.
+    /// AllocError where a growth is refused; the medium has each line then.
     pub fn by_names(self, alloc: Global, count: u32) -> Result<Option<RankedTrace>, AllocError>
         requires lines { All (NamesLine (length self.names.items)) self.trace.events }
         ensures some { IfOk result (λ found. IfSome found (IsByNames self count)) }
         ensures none { IfOk result (λ found. IfNone found (LacksName self.names.items count)) }
+        ensures err { IfErr result (λ refused. AreWithin self.names.items count) }
     {
         if !are_within(&self.names, count) {
             return Ok(None);
