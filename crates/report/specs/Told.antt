@@ -1,5 +1,5 @@
 -- Events of a trace file as they are told: by the names of their lines, and with where each was made.
-use Rattle.std.specs.Prelude.{◌≡◌, ◌<◌, ℕ, Bool, true, false, List, Some, All, Contains, length, map, slice_get, slice_index_or}
+use Rattle.std.specs.Prelude.{◌≡◌, ◌+◌, ◌<◌, ℕ, Bool, true, false, List, Some, All, Contains, length, map, slice_get, slice_index_or}
 use Rattle.std.specs.Cmp.Lexicographic.{slice_cmp}
 use Rattle.std.specs.Global.{Vec}
 use Rattle.std.specs.List.Sorted.{IsSorted}
@@ -57,11 +57,16 @@ origin_by origins one = origins one.pc
 abbrev pub place_of : Vec ℕ → KnownOrigin
 place_of text = told_words (spaced_words false text.items)
 
--- events by the names of their lines, each with the number of its place
+-- the step of each event is the number of its line
+pub record AreNumbered (traced : List TracedEvent) : Type 0 where
+  pub steps_are : (k : ℕ) (d : TracedEvent) → k < length traced → (slice_index_or traced k d).step ≡ k + 1
+
+-- events by the names of their lines, each with the numbers of its line and of its place
 pub record ArePlaced (names : List ℕ) (events : List Event) (texts : List (Vec ℕ)) (origins : ℕ → KnownOrigin) (traced : List TracedEvent) : Type 0 where
   pub events_are : map event_of traced ≡ map (named names) events
   pub places_are : map (origin_by origins) traced ≡ map place_of texts
   pub first : All (λ (one : TracedEvent). IsFirst origins one.pc) traced
+  pub steps : AreNumbered traced
 
 -- and with all place words of each line
 pub record AreOfFile (ranked : RankedTrace) (told : ToldEvents) : Type 0 where

@@ -88,8 +88,8 @@ fn number_of(places: &[Vec<u8>], place: &[u8]) -> usize
     )
 }
 
-/// Events by the names of their lines, each with the number of the place that its text says.
-#[tactic(auto, using(crate::proofs::TracePlaces::event_more, crate::proofs::TracePlaces::place_more))]
+/// Events by the names of their lines, each with the numbers of its line and of the place that its text says.
+#[tactic(auto, using(crate::proofs::TracePlaces::event_more, crate::proofs::TracePlaces::place_more, crate::proofs::TracePlaces::number_more))]
 fn placed(
     alloc: Global,
     events: &[Event],
