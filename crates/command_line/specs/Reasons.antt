@@ -14,6 +14,7 @@ use Rattle.report.specs.Mends.{mend_line}
 use Rattle.report.specs.MendsJson.{mend_object}
 use Rattle.report.specs.Why.{kept_line, lost_line, unread_line, why_text}
 use Rattle.report.specs.Places.{KnownOrigin, origin_in}
+use Rattle.report.specs.Told.{events_in}
 use Rattle.report.specs.declared.told.ToldEvents.{ToldEvents}
 use Rattle.machine.specs.Grammar.{hart_steps}
 use Rattle.machine.specs.declared.schedule.items.Item.{Item}
@@ -80,7 +81,7 @@ image_losses false origins traced explained =
 pub record IsToldBy (json : Bool) (opened : OpenEvents) (explained : ExplainedImage) (text : List ℕ) : Type 0 where
   pub told : ToldEvents
   pub are_told : AreTold opened told
-  pub text_is : text ≡ told_losses json (origin_in told.places) told.traced.items explained
+  pub text_is : text ≡ told_losses json (origin_in told.places) (events_in told) explained
 
 abbrev pub IsToldWhy : Bool → OpenEvents → Option ExplainedImage → List ℕ → Type 0
 IsToldWhy json opened None text = text ≡ []

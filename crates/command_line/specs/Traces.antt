@@ -10,7 +10,7 @@ use Rattle.crash_test.specs.Programs.{IsProgramOf}
 use Rattle.store_trace.specs.TraceView.{NamesLine}
 use Rattle.store_trace.specs.declared.event.Event.{Event}
 use Rattle.report.specs.Places.{nowhere, origin_in}
-use Rattle.report.specs.Told.{AreOfFile}
+use Rattle.report.specs.Told.{AreOfFile, events_in}
 use Rattle.report.specs.declared.told.ToldEvents.{ToldEvents}
 use Rattle.trace_file.specs.Entries.{Entry}
 use Rattle.trace_file.specs.Files.{IsFirstFault, IsTraceFile}
@@ -116,7 +116,7 @@ HasPlaces (Trace trace) = HasNamesAndPlaces trace.ranked
 
 -- the events of a run as they are told, by what is known of each pc by the program's file
 pub record AreOfRun (made : MadeRun) (told : ToldEvents) : Type 0 where
-  pub traced : told.traced.items ≡ made.run.traced
+  pub traced : events_in told ≡ made.run.traced
   pub origins : origin_in told.places ≡ origin_of made.file.items
   pub lines : told.lines ≡ None
 

@@ -105,7 +105,7 @@ pub(crate) fn told_why(
     match why {
         Some(explained) => {
             let told = events.told(alloc)?;
-            told_losses(alloc, &told.traced, explained, &told.places, json)
+            told_losses(alloc, told.traced.as_slice(), explained, &told.places, json)
         }
         None => Ok(String::new(alloc)),
     }

@@ -1,6 +1,7 @@
 -- Events of a trace file as they are told: by the names of their lines, and with where each was made.
 use Rattle.std.specs.Prelude.{◌≡◌, ◌+◌, ◌<◌, ℕ, Bool, true, false, List, Some, All, Contains, length, map, slice_get, slice_index_or}
 use Rattle.std.specs.Cmp.Lexicographic.{slice_cmp}
+use Rattle.std.specs.Cow.{cow_slice_items}
 use Rattle.std.specs.Global.{Vec}
 use Rattle.std.specs.List.Sorted.{IsSorted}
 use Rattle.std.specs.Ordering.{is_lt, nat_cmp}
@@ -68,9 +69,13 @@ pub record ArePlaced (names : List ℕ) (events : List Event) (texts : List (Vec
   pub first : All (λ (one : TracedEvent). IsFirst origins one.pc) traced
   pub steps : AreNumbered traced
 
--- and with all place words of each line
+-- the events that are told, each with its step and its pc, or with the numbers that stand for these
+abbrev pub events_in : ToldEvents → List TracedEvent
+events_in told = cow_slice_items told.traced
+
+-- those of a file, and with all place words of each line
 pub record AreOfFile (ranked : RankedTrace) (told : ToldEvents) : Type 0 where
-  pub placed : ArePlaced ranked.names.items ranked.trace.events ranked.places.items (origin_in told.places) told.traced.items
+  pub placed : ArePlaced ranked.names.items ranked.trace.events ranked.places.items (origin_in told.places) (events_in told)
   pub lines : Vec (Vec ℕ)
   pub lines_are : told.lines ≡ Some lines
   pub words : copies_of lines.items ≡ spaced_in true ranked.places.items
