@@ -3,6 +3,7 @@ use Rattle.std.specs.Prelude.{◌≡◌, ◌+◌, ◌<◌, ℕ, Bool, true, fals
 use Rattle.std.specs.Cmp.Lexicographic.{slice_cmp}
 use Rattle.std.specs.Cow.{cow_slice_items}
 use Rattle.std.specs.Global.{Vec}
+use Rattle.std.specs.List.{range_with_len}
 use Rattle.std.specs.List.Sorted.{IsSorted}
 use Rattle.std.specs.Ordering.{is_lt, nat_cmp}
 use Rattle.std.specs.declared.cmp.Ordering.{Ordering}
@@ -58,16 +59,19 @@ origin_by origins one = origins one.pc
 abbrev pub place_of : Vec ℕ → KnownOrigin
 place_of text = told_words (spaced_words false text.items)
 
--- the step of each event is the number of its line
-pub record AreNumbered (traced : List TracedEvent) : Type 0 where
-  pub steps_are : (k : ℕ) (d : TracedEvent) → k < length traced → (slice_index_or traced k d).step ≡ k + 1
+abbrev pub step_of : TracedEvent → ℕ
+step_of one = one.step
+
+-- the number of the line at an index
+abbrev pub line_number : ℕ → ℕ
+line_number index = index + 1
 
 -- events by the names of their lines, each with the numbers of its line and of its place
 pub record ArePlaced (names : List ℕ) (events : List Event) (texts : List (Vec ℕ)) (origins : ℕ → KnownOrigin) (traced : List TracedEvent) : Type 0 where
   pub events_are : map event_of traced ≡ map (named names) events
   pub places_are : map (origin_by origins) traced ≡ map place_of texts
   pub first : All (λ (one : TracedEvent). IsFirst origins one.pc) traced
-  pub steps : AreNumbered traced
+  pub steps_are : map step_of traced ≡ map line_number (range_with_len 0 (length events))
 
 -- the events that are told, each with its step and its pc, or with the numbers that stand for these
 abbrev pub events_in : ToldEvents → List TracedEvent

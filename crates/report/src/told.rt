@@ -90,7 +90,7 @@ fn number_of(places: &[Vec<u8>], place: &[u8]) -> usize
 }
 
 /// Events by the names of their lines, each with the numbers of its line and of the place that its text says.
-#[tactic(auto, using(crate::proofs::TracePlaces::event_more, crate::proofs::TracePlaces::place_more, crate::proofs::TracePlaces::number_more))]
+#[tactic(auto, using(crate::proofs::TracePlaces::event_more, crate::proofs::TracePlaces::place_more, crate::proofs::TracePlaces::step_more))]
 fn placed(
     alloc: Global,
     events: &[Event],
