@@ -528,7 +528,9 @@ static JUDGING_OF_FILES: [Subcommand; 2] = [
             JSON,
             PROGRESS,
         ],
-        ending: ending!("check append.plan --trace append.trace --medium append.medium --whole --why"),
+        ending: ending!(
+            "check append.plan --trace append.trace --medium append.medium --whole --why"
+        ),
     },
     Subcommand {
         name: "judge",
