@@ -173,6 +173,23 @@ judge_shape = record (new_shape (codes "judge")) {
       ∷ flag_option (codes "progress") ∷ help_option ∷ [];
 }
 
+-- `check PLAN --trace FILE [--medium FILE --workers N --moments A-B --go-on --whole --why --json --progress]`
+unfoldable pub check_of_file_shape : Shape
+check_of_file_shape = record (new_shape (codes "check")) {
+  rules = needed_word (codes "PLAN") ∷ needed_option (codes "trace") ∷ valued_option (codes "medium") ∷ valued_option (codes "workers")
+      ∷ valued_option (codes "moments") ∷ flag_option (codes "go-on") ∷ flag_option (codes "whole") ∷ flag_option (codes "why")
+      ∷ flag_option (codes "json") ∷ flag_option (codes "progress") ∷ help_option ∷ [];
+}
+
+-- `judge --trace FILE RECOVERY [--medium FILE --steps N --workers N --overlapping --moments A-B --go-on --whole --why --json --progress]`
+unfoldable pub judge_of_file_shape : Shape
+judge_of_file_shape = record (new_shape (codes "judge")) {
+  rules = needed_option (codes "trace") ∷ needed_word (codes "RECOVERY") ∷ valued_option (codes "medium") ∷ valued_option (codes "steps")
+      ∷ valued_option (codes "workers") ∷ flag_option (codes "overlapping") ∷ valued_option (codes "moments") ∷ flag_option (codes "go-on")
+      ∷ flag_option (codes "whole") ∷ flag_option (codes "why") ∷ flag_option (codes "json") ∷ flag_option (codes "progress")
+      ∷ help_option ∷ [];
+}
+
 -- `check-all PLAN PROGRAM [--medium FILE --harts N --states N --any-end --why --json --progress]`
 unfoldable pub check_all_shape : Shape
 check_all_shape = record (new_shape (codes "check-all")) {
@@ -259,8 +276,8 @@ abbrev pub line : List Shape → App
 line shapes = record { top = record bare { is_leaf = is_none shapes }; subs = shapes }
 
 -- the subcommands that make files, those that run programs, those that tell of events, which a run makes or a file has, those that tell of a run
--- by a schedule alone, those that judge it or every run of a program, or say what a recovery routine answers, the one that draws events, and those
--- that show files, and tell of what is printed
+-- by a schedule alone, those that judge events, those that judge every run of a program, or say what a recovery routine answers, the one that draws
+-- events, and those that show files, and tell of what is printed
 unfoldable pub making : List Shape
 making = assemble_shape ∷ make_volume_shape ∷ upgrade_shape ∷ []
 
@@ -280,8 +297,18 @@ asking true = asking_of_files
 unfoldable pub telling : List Shape
 telling = explain_shape ∷ []
 
-unfoldable pub judging : List Shape
-judging = check_shape ∷ judge_shape ∷ check_all_shape ∷ judge_all_shape ∷ answer_shape ∷ []
+unfoldable pub judging_of_runs : List Shape
+judging_of_runs = check_shape ∷ judge_shape ∷ []
+
+unfoldable pub judging_of_files : List Shape
+judging_of_files = check_of_file_shape ∷ judge_of_file_shape ∷ []
+
+abbrev pub judging : Bool → List Shape
+judging false = judging_of_runs
+judging true = judging_of_files
+
+unfoldable pub judging_programs : List Shape
+judging_programs = check_all_shape ∷ judge_all_shape ∷ answer_shape ∷ []
 
 unfoldable pub drawing_of_runs : List Shape
 drawing_of_runs = picture_shape ∷ []
@@ -298,7 +325,8 @@ showing = interleave_shape ∷ show_shape ∷ listing_shape ∷ code_shape ∷ h
 
 -- the whole line, of a trace file or without one
 unfoldable pub novacrash : Bool → App
-novacrash of_file = line ((((((making ++ running) ++ asking of_file) ++ telling) ++ judging) ++ drawing of_file) ++ showing)
+novacrash of_file =
+    line (((((((making ++ running) ++ asking of_file) ++ telling) ++ judging of_file) ++ judging_programs) ++ drawing of_file) ++ showing)
 
 -- `--trace`, alone or with its value
 abbrev pub is_trace_option : Text → Bool

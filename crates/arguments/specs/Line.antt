@@ -143,10 +143,10 @@ pub record IsExplain (rows : List Row) (command : ExplainCommand) : Type 0 where
   pub moment : IsNumberWord (first_of (codes "MOMENT") rows) command.moment
   pub image : IsImageWord (first_of (codes "IMAGE") rows) command.image
 
--- What `check` and `judge` have in common: this run, by so many workers, these moments of it or all, whether judging goes on behind those with
--- too many branches, whether a failure is explained, as text or as JSON, and whether it is told how far the check has come.
+-- What `check` and `judge` have in common: these events, by so many workers, these moments of them or all, whether judging goes on behind those
+-- with too many branches, whether a failure is explained, as text or as JSON, and whether it is told how far the check has come.
 pub record IsJudgedRun (rows : List Row) (judged : JudgedRun) : Type 0 where
-  pub scheduled : IsScheduledRun rows judged.run
+  pub source : IsEventSource rows judged.source
   pub workers : IsWorkers rows judged.workers
   pub moments : IsOptionalMoments (first_of (codes "moments") rows) judged.moments
   pub goes_on : judged.goes_on ≡ is_set (first_of (codes "go-on") rows)
@@ -154,7 +154,7 @@ pub record IsJudgedRun (rows : List Row) (judged : JudgedRun) : Type 0 where
   pub json : judged.json ≡ is_set (first_of (codes "json") rows)
   pub progress : judged.progress ≡ is_set (first_of (codes "progress") rows)
 
--- `check` of this run by this plan
+-- `check` of these events by this plan
 pub record IsCheck (rows : List Row) (command : CheckCommand) : Type 0 where
   pub plan : IsWord (codes "PLAN") rows command.plan
   pub judged : IsJudgedRun rows command.judged
@@ -170,14 +170,20 @@ AreRightBy true true right = ⊥
 abbrev pub IsRight : List Row → RightAnswers → Type 0
 IsRight rows right = AreRightBy (is_set (first_of (codes "atomic") rows)) (is_set (first_of (codes "overlapping") rows)) right
 
--- `judge` of this run by this recovery routine, so many steps of it on an image, the answers of it that are right, and at most so many states of the
--- search for sequential runs
+-- the program whose sequential runs are asked for is there: those of a trace file have none
+abbrev pub IsRightOf : EventSource → RightAnswers → Type 0
+IsRightOf (sources.Run run) right = ⊤
+IsRightOf (sources.Trace events) right = right ≢ Atomic
+
+-- `judge` of these events by this recovery routine, so many steps of it on an image, the answers of it that are right, and at most so many states of
+-- the search for sequential runs
 pub record IsJudge (rows : List Row) (command : JudgeCommand) : Type 0 where
   pub recovery : IsWord (codes "RECOVERY") rows command.recovery
   pub steps : IsRecoverySteps rows command.steps
   pub right : IsRight rows command.right
   pub states : IsStates rows command.states
   pub judged : IsJudgedRun rows command.judged
+  pub of_run : IsRightOf command.judged.source command.right
 
 -- What `check-all` and `judge-all` have in common: this program, at most so many states, whether harts may stop in any way, whether a failure is
 -- explained, as text or as JSON, and whether it is reported how far the search has come.
@@ -313,9 +319,9 @@ abbrev pub IsSourceWithin : EventSource → Type 0
 IsSourceWithin (sources.Run run) = IsMachineWithin run.machine
 IsSourceWithin (sources.Trace events) = ⊤
 
--- the numbers of a run that is judged are within their limits
+-- the numbers of events that are judged are within their limits
 pub record IsJudgedWithin (judged : JudgedRun) : Type 0 where
-  pub machine : IsMachineWithin judged.run.machine
+  pub source : IsSourceWithin judged.source
   pub workers : IsWithin 1 8 judged.workers
   pub moments : IfSome judged.moments IsUpward
 
@@ -340,6 +346,7 @@ IsWithinLimits (Image command) = IsSourceWithin command.source × (command.momen
 IsWithinLimits (Explain command) = IsMachineWithin command.run.machine × (command.moment < 2 ^ 32) × IsProper command.image
 IsWithinLimits (Check command) = IsJudgedWithin command.judged
 IsWithinLimits (Judge command) = IsJudgedWithin command.judged × IsWithin 1 500000000 command.steps × IsWithin 1 4294967295 command.states
+    × IsRightOf command.judged.source command.right
 IsWithinLimits (CheckAll command) = IsProgramWithin command.judged
 IsWithinLimits (JudgeAll command) = IsProgramWithin command.judged × IsWithin 1 500000000 command.steps
 IsWithinLimits (Answer command) = IsWithin 1 500000000 command.steps

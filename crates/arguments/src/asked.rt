@@ -32,9 +32,11 @@ pub enum Command {
     Image(ImageCommand),
     /// `explain PROGRAM SCHEDULE MOMENT IMAGE [--medium FILE --harts N --whole]`.
     Explain(ExplainCommand),
-    /// `check PLAN PROGRAM SCHEDULE [--medium FILE --harts N --workers N --moments A-B --go-on --whole --why --json --progress]`.
+    /// `check PLAN PROGRAM SCHEDULE [--medium FILE --harts N --workers N --moments A-B --go-on --whole --why --json --progress]`, or
+    /// `check PLAN --trace FILE [--medium FILE --workers N --moments A-B --go-on --whole --why --json --progress]`.
     Check(CheckCommand),
-    /// `judge PROGRAM SCHEDULE RECOVERY [--medium FILE --harts N --steps N --workers N --atomic --states N --overlapping --moments A-B --go-on --whole --why --json --progress]`.
+    /// `judge PROGRAM SCHEDULE RECOVERY [--medium FILE --harts N --steps N --workers N --atomic --states N --overlapping --moments A-B --go-on --whole --why --json --progress]`,
+    /// or `judge --trace FILE RECOVERY [--medium FILE --steps N --workers N --overlapping --moments A-B --go-on --whole --why --json --progress]`.
     Judge(JudgeCommand),
     /// `check-all PLAN PROGRAM [--medium FILE --harts N --states N --any-end --why --json --progress]`.
     CheckAll(CheckAllCommand),
@@ -217,17 +219,17 @@ pub struct ExplainCommand {
     pub image: ImageName,
 }
 
-/// A run that `check` or `judge` gives the verdict on.
+/// Events that `check` or `judge` gives the verdict on: those of a run, or of a trace file.
 #[derive(Drop)]
 pub struct JudgedRun {
-    pub run: ScheduledRun,
+    pub source: EventSource,
     /// The number of workers that judge the run, from 1 to 8; 1 where the line doesn't say.
     pub workers: u32,
     /// The moments that are judged; None: all are.
     pub moments: Option<Moments>,
     /// Whether judging goes on behind a moment with over 65,536 branches.
     pub goes_on: bool,
-    /// Whether a failure is told with the stores that its image lacks and keeps, and a schedule that leaves it.
+    /// Whether a failure is told with the stores that its image lacks and keeps, and of a run a schedule that leaves it.
     pub why: bool,
     /// Whether the answer is one JSON object a line.
     pub json: bool,
@@ -263,7 +265,7 @@ pub enum RightAnswers {
     InTurn,
     /// Those of the run itself, in which operations may overlap: the line has `--overlapping`.
     Overlapping,
-    /// Those of sequential runs of the program: the line has `--atomic`.
+    /// Those of sequential runs of the program: the line has `--atomic`, and no `--trace`.
     Atomic,
 }
 

@@ -4,7 +4,7 @@ ghost use Rattle.std.specs.Prelude.{◌<◌, ◌^◌, ℕ, IfOk, IfErr, IfSome, 
 ghost use Rattle.std.specs.declared.alloc.Global.{Global as AGlobal};
 ghost use Rattle.clap.specs.Words.{found_of, rows_of};
 ghost use Rattle.arguments.specs.Line.{IsAnswer, IsAssemble, IsCheck, IsCheckAll, IsCode, IsDebug, IsEventSource, IsExplain, IsImage, IsImages, IsInterleave, IsJudge, IsJudgeAll, IsListing, IsMakeVolume, IsPicture, IsReplay, IsReport, IsRun, IsScheduledRun, IsShow, IsTrace, IsTracedEvents, IsUpgrade};
-ghost use Rattle.arguments.specs.Line.{IsCachedMachine, IsSourceWithin, IsJudgedProgram, IsJudgedRun, IsJudgedWithin, IsMachineWithin, IsOf, IsProgramWithin, IsRight, IsWithin, IsWithinLimits, OnFault};
+ghost use Rattle.arguments.specs.Line.{IsCachedMachine, IsSourceWithin, IsJudgedProgram, IsJudgedRun, IsJudgedWithin, IsMachineWithin, IsOf, IsProgramWithin, IsRight, IsRightOf, IsWithin, IsWithinLimits, OnFault};
 ghost use Rattle.arguments.specs.Started.{IsStarted};
 ghost use Rattle.arguments.specs.Values.{IsWord};
 ghost use Rattle.text.specs.Texts.{IsProper};
@@ -145,7 +145,7 @@ fn event_source(alloc: Global, found: &ArgMatches<'_>) -> Result<EventSource, Li
     }
 }
 
-/// The run of `check` or `judge`, and how it is judged.
+/// The events of `check` or `judge`, and how they are judged.
 fn judged_run(alloc: Global, found: &ArgMatches<'_>) -> Result<JudgedRun, LineFault>
     ensures ok { IfOk result (IsJudgedRun (rows_of (found_of found.now))) }
     ensures within { IfOk result IsJudgedWithin }
@@ -158,7 +158,7 @@ fn judged_run(alloc: Global, found: &ArgMatches<'_>) -> Result<JudgedRun, LineFa
         progress: flag(found, "progress"),
         workers: number(alloc, found, &WORKERS)?,
         moments: optional_moments(alloc, found, "moments")?,
-        run: scheduled_run(alloc, found)?,
+        source: event_source(alloc, found)?,
     })
 }
 
@@ -392,6 +392,19 @@ fn right_answers(alloc: Global, found: &ArgMatches<'_>) -> Result<RightAnswers, 
     }
 }
 
+/// Refuses the answers of sequential runs for the events of a trace file, which has no program.
+fn demand_program(alloc: Global, source: &EventSource, right: RightAnswers) -> Result<(), LineFault>
+    ensures ok { IfOk result (λ _. IsRightOf source.now right) }
+    ensures err { IfErr result (OnFault (¬ (IsRightOf source.now right))) }
+{
+    match (source, right) {
+        (EventSource::Trace(_), RightAnswers::Atomic) => {
+            Err(LineFault::Fault(format!(in alloc; "error: --atomic can't stand with --trace\n")?))
+        }
+        _ => Ok(()),
+    }
+}
+
 /// What `judge` is to do.
 pub(crate) fn judge(alloc: Global, found: &ArgMatches<'_>) -> Result<Command, LineFault>
     ensures ok { IfOk result (IsOf (codes "judge") (rows_of (found_of found.now))) }
@@ -404,6 +417,7 @@ pub(crate) fn judge(alloc: Global, found: &ArgMatches<'_>) -> Result<Command, Li
     let states = number(alloc, found, &STATES)?;
     let recovery = word(alloc, found, "RECOVERY")?;
     let judged = judged_run(alloc, found)?;
+    demand_program(alloc, &judged.source, right)?;
     Ok(Command::Judge(JudgeCommand {
         recovery,
         steps,

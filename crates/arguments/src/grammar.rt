@@ -2,7 +2,7 @@
 
 ghost use Rattle.std.specs.Prelude.{◌≡◌, ◌++◌, [], IfOk, List, false, map};
 ghost use Rattle.clap.specs.Words.{Shape, rule_of};
-ghost use Rattle.arguments.specs.Grammar.{IsGrammar, asking, drawing, help_option, judging, leaf, line, making, novacrash, rule, running, shape, telling};
+ghost use Rattle.arguments.specs.Grammar.{IsGrammar, asking, drawing, help_option, judging, judging_programs, leaf, line, making, novacrash, rule, running, shape, telling};
 
 mod overview;
 
@@ -182,6 +182,12 @@ const START: Argument = Argument::Valued {
     name: "medium",
     value: "FILE",
     about: "The bytes that the events start from: whole lines, among them each of the trace [default: 512 lines of zeros]",
+};
+
+const MEDIUM_OF_TRACE: Argument = Argument::Valued {
+    name: "medium",
+    value: "FILE",
+    about: "The medium's file, which has each line of the trace [default: 512 lines of zeros]",
 };
 
 const HARTS: Argument = Argument::Valued {
@@ -460,24 +466,25 @@ static TELLING: [Subcommand; 1] = [Subcommand {
     ending: ending!("explain append.s append.schedule 5 2 --medium append.medium --whole"),
 }];
 
-/// The subcommands that judge a run or every one of a program, behind those.
-static JUDGING: [Subcommand; 5] = [
+/// The subcommands that judge events, of a run by a schedule here, behind those.
+static JUDGING_OF_RUNS: [Subcommand; 2] = [
     Subcommand {
         name: "check",
         group: Group::Judge,
-        about: "Judge every crash image of a run by a plan of operations",
+        about: "Judge every crash image of a run, or of a trace file, by a plan of operations",
         arguments: &[
             PLAN, PROGRAM, SCHEDULE, MEDIUM, HARTS, WORKERS, MOMENTS, GO_ON, WHOLE, WHY, JSON,
             PROGRESS,
         ],
         ending: ending!(
-            "check append.plan append.s append.schedule --medium append.medium --whole --why"
+            "check append.plan append.s append.schedule --medium append.medium --whole --why",
+            "With --trace FILE in place of PROGRAM and SCHEDULE it judges the events of a trace file: docs/TRACES.md.\n\n"
         ),
     },
     Subcommand {
         name: "judge",
         group: Group::Judge,
-        about: "Judge every crash image of a run by a recovery routine of one's own",
+        about: "Judge every crash image of a run, or of a trace file, by a recovery routine of one's own",
         arguments: &[
             PROGRAM,
             SCHEDULE,
@@ -496,8 +503,59 @@ static JUDGING: [Subcommand; 5] = [
             JSON,
             PROGRESS,
         ],
-        ending: ending!("judge ring.s ring.schedule ring-recovery.s --whole --why"),
+        ending: ending!(
+            "judge ring.s ring.schedule ring-recovery.s --whole --why",
+            "With --trace FILE in place of PROGRAM and SCHEDULE it judges the events of a trace file: docs/TRACES.md.\n\n"
+        ),
     },
+];
+
+/// The same of a trace file.
+static JUDGING_OF_FILES: [Subcommand; 2] = [
+    Subcommand {
+        name: "check",
+        group: Group::Judge,
+        about: "Judge every crash image of a trace file by a plan of operations",
+        arguments: &[
+            PLAN,
+            TRACE,
+            MEDIUM_OF_TRACE,
+            WORKERS,
+            MOMENTS,
+            GO_ON,
+            WHOLE,
+            WHY,
+            JSON,
+            PROGRESS,
+        ],
+        ending: ending!(
+            "check append.plan --trace append.trace --medium append.medium --whole --why"
+        ),
+    },
+    Subcommand {
+        name: "judge",
+        group: Group::Judge,
+        about: "Judge every crash image of a trace file by a recovery routine of one's own",
+        arguments: &[
+            TRACE,
+            RECOVERY,
+            MEDIUM_OF_TRACE,
+            RECOVERY_STEPS,
+            WORKERS,
+            OVERLAPPING,
+            MOMENTS,
+            GO_ON,
+            WHOLE,
+            WHY,
+            JSON,
+            PROGRESS,
+        ],
+        ending: ending!("judge --trace ring.trace ring-recovery.s --whole --why"),
+    },
+];
+
+/// The subcommands that judge every run of a program, or say what a recovery routine answers, behind those.
+static JUDGING_PROGRAMS: [Subcommand; 3] = [
     Subcommand {
         name: "check-all",
         group: Group::Judge,
@@ -701,10 +759,28 @@ fn with_telling<'a>(alloc: Global, of_file: bool) -> Result<clap::Command<'a>, A
     with_all(alloc, with_asking(alloc, of_file)?, &TELLING)
 }
 
-fn with_judging<'a>(alloc: Global, of_file: bool) -> Result<clap::Command<'a>, AllocError>
-    ensures { IfOk result (IsGrammar (line ((((making ++ running) ++ asking of_file) ++ telling) ++ judging))) }
+/// The subcommands that judge events, of a trace file or of a run.
+#[tactic(auto, unfolding(crate::specs::Grammar::judging_of_files, crate::specs::Grammar::judging_of_runs, crate::specs::Grammar::check_shape, crate::specs::Grammar::judge_shape, crate::specs::Grammar::check_of_file_shape, crate::specs::Grammar::judge_of_file_shape))]
+fn judging(of_file: bool) -> &'static [Subcommand]
+    ensures { map shape result.now ≡ judging of_file }
 {
-    with_all(alloc, with_telling(alloc, of_file)?, &JUDGING)
+    if of_file {
+        &JUDGING_OF_FILES
+    } else {
+        &JUDGING_OF_RUNS
+    }
+}
+
+fn with_judging<'a>(alloc: Global, of_file: bool) -> Result<clap::Command<'a>, AllocError>
+    ensures { IfOk result (IsGrammar (line ((((making ++ running) ++ asking of_file) ++ telling) ++ judging of_file))) }
+{
+    with_all(alloc, with_telling(alloc, of_file)?, judging(of_file))
+}
+
+fn with_judging_programs<'a>(alloc: Global, of_file: bool) -> Result<clap::Command<'a>, AllocError>
+    ensures { IfOk result (IsGrammar (line (((((making ++ running) ++ asking of_file) ++ telling) ++ judging of_file) ++ judging_programs))) }
+{
+    with_all(alloc, with_judging(alloc, of_file)?, &JUDGING_PROGRAMS)
 }
 
 /// The subcommand that draws events, of a trace file or of a run.
@@ -720,9 +796,13 @@ fn drawing(of_file: bool) -> &'static [Subcommand]
 }
 
 fn with_drawing<'a>(alloc: Global, of_file: bool) -> Result<clap::Command<'a>, AllocError>
-    ensures { IfOk result (IsGrammar (line (((((making ++ running) ++ asking of_file) ++ telling) ++ judging) ++ drawing of_file))) }
+    ensures { IfOk result (IsGrammar (line ((((((making ++ running) ++ asking of_file) ++ telling) ++ judging of_file) ++ judging_programs) ++ drawing of_file))) }
 {
-    with_all(alloc, with_judging(alloc, of_file)?, drawing(of_file))
+    with_all(
+        alloc,
+        with_judging_programs(alloc, of_file)?,
+        drawing(of_file),
+    )
 }
 
 fn with_showing<'a>(alloc: Global, of_file: bool) -> Result<clap::Command<'a>, AllocError>

@@ -10,4 +10,5 @@ pub mod OnTheWay
 mod Started
 pub mod StatesTold
 mod RankedLines
+mod ToldReasons
 mod TraceFiles

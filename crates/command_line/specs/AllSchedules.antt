@@ -4,6 +4,7 @@ use Rattle.std.specs.declared.alloc.Global.{Global}
 use Rattle.std.specs.declared.vec.Vec.{Vec}
 use Rattle.std.specs.Io.KnownBytes.{Appends}
 use Rattle.arguments.specs.declared.asked.JudgedProgram.{JudgedProgram}
+use Rattle.crash_test.specs.Losses.{IsExplainedBy}
 use Rattle.crash_test.specs.Origins.{origin_of}
 use Rattle.crash_test.specs.Programs.{IsProgramOf}
 use Rattle.crash_test.specs.declared.losses.ExplainedImage.{ExplainedImage}
@@ -113,7 +114,7 @@ TellsWhy cause json made verdict (Err failure) outcome = outcome ≡ Err failure
 pub record TellsVerdict {Cause : Type 0} (reads : List (List ℕ) → List ℕ → Type 0) (cause : Cause → List ℕ) (judged : JudgedProgram) (made : MadeRun)
     (verdict : Verdict Cause) (outcome : Result Conclusion Failure) : Type 0 where
   pub why : Result (Option ExplainedImage) Failure
-  pub explains : Explains reads made.run (failing judged.why verdict) why
+  pub explains : Explains (IsExplainedBy reads made.run) made.run.events (failing judged.why verdict) why
   pub told : TellsWhy cause judged.json made verdict why outcome
 
 -- what is printed of a run, by what is found of it

@@ -1,11 +1,15 @@
 -- What `judge` comes to.
 use Rattle.std.specs.Prelude.{◌≡◌, ◌≢◌, ◌≤◌, ℕ, zero, suc, List, [], Option, Some, None, Result, Ok, MatchResult, ◌++◌, codes, decimal, string_bytes}
 use Rattle.arguments.specs.Line.{IsJudgedWithin}
+use Rattle.arguments.specs.declared.asked.EventSource.{EventSource}
+use Rattle.arguments.specs.declared.asked.EventSource.TheVariants as sources
 use Rattle.arguments.specs.declared.asked.JudgeCommand.{JudgeCommand}
 use Rattle.arguments.specs.declared.asked.RightAnswers.{RightAnswers}
 use Rattle.arguments.specs.declared.asked.RightAnswers.TheVariants as rights
+use Rattle.arguments.specs.declared.asked.ScheduledRun.{ScheduledRun}
+use Rattle.arguments.specs.declared.asked.TracedEvents.{TracedEvents}
 use Rattle.hart.specs.HartLines.{trap_number}
-use Rattle.crash_test.specs.Judging.{HasJudgement, IsToldOf}
+use Rattle.crash_test.specs.Judging.{HasJudgementOn, IsToldOn}
 use Rattle.crash_test.specs.Loading.{IsLoaded}
 use Rattle.crash_test.specs.declared.losses.ExplainedImage.{ExplainedImage}
 use Rattle.every_schedule.specs.Sequential.{AreAllNoted, program_of}
@@ -26,22 +30,26 @@ use Rattle.program.specs.Sections.{Sections}
 use Rattle.recovery.specs.declared.recovery_run.Cause.{Cause as RunCause}
 use Rattle.recovery.specs.declared.recovery_run.Cause.TheVariants as runs
 use Rattle.debugger.specs.StreamFailures.{AppendsFront}
-use Rattle.crash_test.specs.Programs.{IsProgramOf}
 use Rattle.command_line.specs.AllSchedules.{told_bound}
+use Rattle.command_line.specs.Answered.{PrintsVerdict}
 use Rattle.command_line.specs.Demanding.{MeetsWhole}
 use Rattle.command_line.specs.Failures.{failure_of_judge}
+use Rattle.command_line.specs.JudgedEvents.{OpensJudgedTrace}
 use Rattle.command_line.specs.MakingRuns.{MakesRun}
 use Rattle.command_line.specs.Progress.{IsToldIf, Progresses, gets_line}
 use Rattle.command_line.specs.Reading.{ReadsRecovery, ReadsRun, setup_of}
-use Rattle.command_line.specs.Reasons.{Explains, told_why}
+use Rattle.command_line.specs.Reasons.{Explains, IsExplainedOf}
 use Rattle.command_line.specs.Reports.{line_end}
 use Rattle.command_line.specs.Steps.{First, Prints, Reads, Step, Still, Tells}
-use Rattle.command_line.specs.Verdicts.{failing, first_of, row_asked, told_verdict, verdict_status}
+use Rattle.command_line.specs.Traces.{HasPlaces, IsOpen as HasTheirLines, events_of, medium_of}
+use Rattle.command_line.specs.Verdicts.{failing, first_of, row_asked}
 use Rattle.command_line.specs.declared.answer.Answer.{Answer}
 use Rattle.command_line.specs.declared.failure.Failure.{Failure}
 use Rattle.command_line.specs.declared.failure.Failure.TheVariants.{Memory}
 use Rattle.command_line.specs.declared.opened.OpenJudge.{OpenJudge}
-use Rattle.command_line.specs.declared.made_run.MadeRun.{MadeRun}
+use Rattle.command_line.specs.declared.events.OpenEvents.{OpenEvents}
+use Rattle.command_line.specs.declared.events.OpenEvents.TheVariants.{Run, Trace}
+use Rattle.command_line.specs.declared.judge.Subject.{Subject}
 
 -- why a run of the recovery routine has no answer
 abbrev pub missing_text : RunCause → List ℕ
@@ -59,42 +67,84 @@ cause_text causes.Different = codes "different"
 cause_text (causes.Full cause) = codes "full-" ++ missing_text cause
 cause_text causes.Unmatched = codes "unmatched"
 
--- With `--whole` a run that is whole is judged alone: a pass then also says that each hart has exited with 0, and that each operation
+-- With `--whole` events that are whole are judged alone: a pass then also says that each hart of a run has exited with 0, and that each operation
 -- which has begun has ended.
-pub record HasOpened (command : JudgeCommand) (start : Setup) (made : MadeRun) (recovery : Sections) (judge : OpenJudge) : Type 0 where
+pub record HasOpened (command : JudgeCommand) (subject : Subject) (judge : OpenJudge) : Type 0 where
   pub command_is : judge.command ≡ command
-  pub start_is : judge.start ≡ start
-  pub made_is : judge.made ≡ made
-  pub recovery_is : judge.recovery ≡ recovery
+  pub start_is : judge.start ≡ subject.start
+  pub events_are : judge.events ≡ subject.events
+  pub recovery_is : judge.recovery ≡ subject.recovery
 
-pub record Opens (command : JudgeCommand) (start : Setup) (made : MadeRun) (recovery : Sections) (outcome : Result OpenJudge Failure) : Type 0 where
-  pub opens : MatchResult outcome (HasOpened command start made recovery) (λ failure. ⊥)
+pub record Opens (command : JudgeCommand) (subject : Subject) (outcome : Result OpenJudge Failure) : Type 0 where
+  pub opens : MatchResult outcome (HasOpened command subject) (λ failure. ⊥)
 
--- what the run starts from is kept beside it; memory for that may be refused
-pub record KeepsStart (s : Setup) (outcome : Result Setup Failure) : Type 0 where
-  pub keeps : MatchResult outcome (λ start. start ≡ s) (λ failure. failure ≡ Memory)
+-- what a run starts from is copied; memory for that may be refused
+pub record CopiesStart (s : Setup) (outcome : Result Setup Failure) : Type 0 where
+  pub copies : MatchResult outcome (λ start. start ≡ s) (λ failure. failure ≡ Memory)
+
+-- it is kept beside the run where sequential runs are asked for
+abbrev pub IsKeptFor : RightAnswers → Setup → Option Setup → Type 0
+IsKeptFor rights.InTurn s start = start ≡ None
+IsKeptFor rights.Overlapping s start = start ≡ None
+IsKeptFor rights.Atomic s start = start ≡ Some s
+
+pub record KeepsStart (right : RightAnswers) (s : Setup) (outcome : Result (Option Setup) Failure) : Type 0 where
+  pub keeps : MatchResult outcome (IsKeptFor right s) (λ failure. failure ≡ Memory)
+
+-- the events, what a run of them starts from, and the recovery routine
+pub record IsSubject (start : Option Setup) (opened : OpenEvents) (recovery : Sections) (subject : Subject) : Type 0 where
+  pub start_is : subject.start ≡ start
+  pub events_are : subject.events ≡ opened
+  pub recovery_is : subject.recovery ≡ recovery
+
+pub record GivesSubject (start : Option Setup) (opened : OpenEvents) (recovery : Sections) (outcome : Result Subject Failure) : Type 0 where
+  pub gives : MatchResult outcome (IsSubject start opened recovery) (λ failure. ⊥)
 
 -- all files are read before the run is made
-abbrev pub OpensJudge : {F : Type 0} → Reads F → JudgeCommand → Step F OpenJudge
-OpensJudge reads command =
-    First (ReadsRun reads command.judged.run) (λ files.
+abbrev pub OpensSubjectOfRun : {F : Type 0} → Reads F → JudgeCommand → ScheduledRun → Step F Subject
+OpensSubjectOfRun reads command run =
+    First (ReadsRun reads run) (λ files.
     First (ReadsRecovery reads (string_bytes command.recovery)) (λ recovery.
-    First (Still (KeepsStart (setup_of command.judged.run files))) (λ start.
-    First (Still (MakesRun (setup_of command.judged.run files) files)) (λ made.
-    First (Still (MeetsWhole command.judged.run.whole made [])) (λ _.
-    Still (Opens command start made recovery))))))
+    First (Still (KeepsStart command.right (setup_of run files))) (λ start.
+    First (Still (MakesRun (setup_of run files) files)) (λ made.
+    First (Still (MeetsWhole run.whole made [])) (λ _.
+    Still (GivesSubject start (Run made) recovery))))))
 
--- what is known of a run that is to be judged
+abbrev pub OpensSubjectOfFile : {F : Type 0} → Reads F → JudgeCommand → TracedEvents → Step F Subject
+OpensSubjectOfFile reads command events =
+    First (OpensJudgedTrace reads events []) (λ opened.
+    First (ReadsRecovery reads (string_bytes command.recovery)) (λ recovery.
+    Still (GivesSubject None opened recovery)))
+
+abbrev pub OpensSubject : {F : Type 0} → Reads F → JudgeCommand → EventSource → Step F Subject
+OpensSubject reads command (sources.Run run) = OpensSubjectOfRun reads command run
+OpensSubject reads command (sources.Trace events) = OpensSubjectOfFile reads command events
+
+abbrev pub OpensJudge : {F : Type 0} → Reads F → JudgeCommand → Step F OpenJudge
+OpensJudge reads command = First (OpensSubject reads command command.judged.source) (λ subject. Still (Opens command subject))
+
+-- sequential runs start as the run did, and are asked of runs alone
+abbrev pub IsStarted : OpenEvents → RightAnswers → Option Setup → Type 0
+IsStarted (Run made) right start = (made.run.setup.harts ≤ 8) × (right ≡ rights.Atomic → start ≡ Some made.run.setup)
+IsStarted (Trace trace) right start = right ≢ rights.Atomic
+
+-- what is known of events that are to be judged
+pub record AreReady (right : RightAnswers) (start : Option Setup) (opened : OpenEvents) : Type 0 where
+  pub lines : HasTheirLines opened
+  pub places : HasPlaces opened
+  pub started : IsStarted opened right start
+
+abbrev pub IsReadyFor : RightAnswers → Subject → Type 0
+IsReadyFor right subject = AreReady right subject.start subject.events
+
 pub record IsOpen (judge : OpenJudge) : Type 0 where
   pub within : IsJudgedWithin judge.command.judged
-  pub program : IsProgramOf judge.made.file.items judge.made.run.setup.program
-  pub started : judge.start ≡ judge.made.run.setup
-  pub few : judge.made.run.setup.harts ≤ 8
+  pub ready : AreReady judge.command.right judge.start judge.events
 
 -- what is told of a failing image, by the lines of which the routine loads bytes that it hasn't stored itself, where that is asked for
 abbrev pub ExplainsFailing : OpenJudge → Verdict Cause → Result (Option ExplainedImage) Failure → Type 0
 ExplainsFailing judge verdict =
-    Explains (IsLoaded judge.recovery judge.command.steps) judge.made.run (failing judge.command.judged.why verdict)
+    Explains (IsExplainedOf (IsLoaded judge.recovery judge.command.steps) judge.events) (events_of judge.events) (failing judge.command.judged.why verdict)
 
 -- which operations may overlap
 abbrev pub overlap_asked : RightAnswers → Overlap
@@ -102,11 +152,12 @@ overlap_asked rights.InTurn = overlaps.Never
 overlap_asked rights.Overlapping = overlaps.Always
 overlap_asked rights.Atomic = overlaps.BetweenHarts
 
--- whose full images give the right answers of a run that starts so
-abbrev pub right_asked : RightAnswers → Setup → RightBy
-right_asked rights.InTurn s = own_moments
-right_asked rights.Overlapping s = own_moments
-right_asked rights.Atomic s = sequential_runs s.program s.harts
+-- whose full images give the right answers: with `--atomic` there is what a run starts from
+abbrev pub right_asked : RightAnswers → Option Setup → RightBy
+right_asked rights.Atomic (Some s) = sequential_runs s.program s.harts
+right_asked rights.Atomic None = own_moments
+right_asked rights.InTurn start = own_moments
+right_asked rights.Overlapping start = own_moments
 
 -- by what the run is judged
 abbrev pub judgement_asked : OpenJudge → JudgementView
@@ -114,28 +165,28 @@ judgement_asked judge = record {
   routine = judge.recovery;
   steps = judge.command.steps;
   overlap = overlap_asked judge.command.right;
-  right = right_asked judge.command.right judge.made.run.setup;
+  right = right_asked judge.command.right judge.start;
 }
 
 -- a rule that says so, which has all sequential runs where these are needed
 pub record IsRuleOf (judge : OpenJudge) (rule : Rule) : Type 0 where
   pub overlap : overlap_of rule ≡ overlap_asked judge.command.right
-  pub right : right_by rule ≡ right_asked judge.command.right judge.made.run.setup
-  pub noted : AreNotedFor judge.made.run.setup.medium judge.recovery judge.command.steps rule
+  pub right : right_by rule ≡ right_asked judge.command.right judge.start
+  pub noted : AreNotedFor (medium_of judge.events) judge.recovery judge.command.steps rule
 
 -- the verdict on what is asked for, or why there is none
 abbrev pub IsVerdictOf : OpenJudge → Verdict Cause → Type 0
 IsVerdictOf judge =
-    HasJudgement judge.made.run (judgement_asked judge) (row_asked judge.command.judged)
+    HasJudgementOn (medium_of judge.events) (events_of judge.events) (judgement_asked judge) (row_asked judge.command.judged)
 
 pub record JudgesOpen (judge : OpenJudge) (outcome : Result (Verdict Cause) Failure) : Type 0 where
   pub judges : MatchResult outcome (IsVerdictOf judge)
-      (Tells (IsRefusal (overlap_asked judge.command.right) judge.made.run.events (first_of judge.command.judged.moments)) failure_of_judge)
+      (Tells (IsRefusal (overlap_asked judge.command.right) (events_of judge.events) (first_of judge.command.judged.moments)) failure_of_judge)
 
 -- how far the judging of the moments that are asked for had come was told
 abbrev pub TellsProgress : OpenJudge → Option (List ℕ) → Option (List ℕ) → Type 0
 TellsProgress judge =
-    Progresses (IsToldOf gets_line judge.made.run (judgement_asked judge) (row_asked judge.command.judged) [])
+    Progresses (IsToldOn gets_line (medium_of judge.events) (events_of judge.events) (judgement_asked judge) (row_asked judge.command.judged) [])
 
 -- the verdict, and what standard error was told on the way
 pub record Watches {E : Type 0} (said : E → Option (List ℕ)) (judge : OpenJudge) (errors : E) (outcome : Result (Verdict Cause) Failure) (errors' : E) : Type 0 where
@@ -165,17 +216,21 @@ pub record Answers {E : Type 0} (said : E → Option (List ℕ)) (verdict : Verd
   pub answers : outcome ≡ Ok answer
   pub notes : Notes said verdict errors errors'
 
--- what the run comes to by the right answers
+-- what the events come to by the right answers
 abbrev pub JudgesRight : {E : Type 0} → (E → Option (List ℕ)) → OpenJudge → Step E Answer
 JudgesRight said judge =
     First (Watches said judge) (λ verdict.
     First (Still (ExplainsFailing judge verdict)) (λ why.
-    First (Still (Prints (told_verdict cause_text judge.command.judged.json verdict ++ told_why judge.command.judged.json judge.made why) (verdict_status verdict)))
+    First (Still (PrintsVerdict cause_text judge.command.judged.json judge.events verdict why))
     (Answers said verdict)))
 
 -- the sequential runs of the program are known, all of them, or a bound that the search for them passes
+abbrev pub AreRunsFrom : OpenJudge → Option Setup → Sequential → Type 0
+AreRunsFrom judge None runs = ⊥
+AreRunsFrom judge (Some s) runs = AreAllNoted (program_of s judge.recovery judge.command.steps) runs
+
 abbrev pub AreRunsFor : OpenJudge → Sequential → Type 0
-AreRunsFor judge = AreAllNoted (program_of judge.made.run.setup judge.recovery judge.command.steps)
+AreRunsFor judge runs = AreRunsFrom judge judge.start runs
 
 -- they are found with `--atomic` alone, and memory for them may be refused
 abbrev pub AreRunsAsked : OpenJudge → Option Sequential → Type 0
@@ -191,6 +246,6 @@ JudgesBy said judge None = JudgesRight said judge
 JudgesBy said judge (Some (known.All runs states)) = JudgesRight said judge
 JudgesBy said judge (Some (known.TooMany bound)) = Still (Prints (told_bound judge.command.judged.json judge.command.states bound) 3)
 
--- what the run comes to
+-- what the events come to
 abbrev pub JudgesRun : {E : Type 0} → (E → Option (List ℕ)) → OpenJudge → Step E Answer
 JudgesRun said judge = First (Still (FindsRuns judge)) (λ runs. JudgesBy said judge runs)

@@ -1,4 +1,5 @@
 pub mod AllSchedules
+pub mod Answered
 pub mod Answering
 pub mod Assembling
 pub mod Checking
@@ -11,6 +12,7 @@ pub mod Explaining
 pub mod Failures
 pub mod ImageFiles
 pub mod Imaging
+pub mod JudgedEvents
 pub mod Judging
 pub mod JudgingAll
 pub mod Listing

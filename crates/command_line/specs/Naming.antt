@@ -1,5 +1,5 @@
 -- How a schedule is printed behind a word that says what it is.
-use Rattle.std.specs.Prelude.{ℕ, Bool, true, false, List, ◌++◌, codes}
+use Rattle.std.specs.Prelude.{ℕ, Bool, true, false, List, [], ◌++◌, Option, Some, None, codes}
 use Rattle.machine.specs.Joined.{joined, text_of}
 use Rattle.machine.specs.declared.schedule.items.Item.{Item}
 use Rattle.report.specs.Why.{spaced}
@@ -17,3 +17,8 @@ items_json word items = codes "{\"kind\":\"" ++ (word ++ (codes "\",\"items\":\"
 abbrev pub named_schedule : Bool → List ℕ → List Item → List ℕ
 named_schedule true word schedule = items_json word (text_of (joined schedule))
 named_schedule false word schedule = items_line word (text_of (joined schedule))
+
+-- nothing where none is known
+abbrev pub known_schedule : Bool → List ℕ → Option (List Item) → List ℕ
+known_schedule json word (Some schedule) = named_schedule json word schedule
+known_schedule json word None = []

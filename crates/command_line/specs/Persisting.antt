@@ -10,6 +10,7 @@ use Rattle.report.specs.LossesEvents.{event_text}
 use Rattle.report.specs.LossesJson.{event_object, unpersisted_json}
 use Rattle.report.specs.Places.{KnownOrigin, origin_in}
 use Rattle.report.specs.Unpersisted.{count_of, unpersisted_text}
+use Rattle.report.specs.Told.{events_in}
 use Rattle.report.specs.declared.told.ToldEvents.{ToldEvents}
 use Rattle.store_trace.specs.declared.event.Event.{Event}
 use Rattle.command_line.specs.Steps.{First, Reads, Step, Still}
@@ -54,7 +55,7 @@ pub record IsStoresAnswer (json : Bool) (opened : OpenEvents) (found : Unpersist
   pub named : Unpersisted
   pub are_told : AreTold opened told
   pub are_named : AreNamed (name_in opened) found named
-  pub text : answer.text.items ≡ told_stores json (origin_in told.places) told.traced.items named
+  pub text : answer.text.items ≡ told_stores json (origin_in told.places) (events_in told) named
   pub status : answer.status ≡ status_of named
 
 -- that is printed; memory for it may be refused

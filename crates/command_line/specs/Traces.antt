@@ -10,7 +10,7 @@ use Rattle.crash_test.specs.Programs.{IsProgramOf}
 use Rattle.store_trace.specs.TraceView.{NamesLine}
 use Rattle.store_trace.specs.declared.event.Event.{Event}
 use Rattle.report.specs.Places.{nowhere, origin_in}
-use Rattle.report.specs.Told.{AreOfFile}
+use Rattle.report.specs.Told.{AreOfFile, events_in}
 use Rattle.report.specs.declared.told.ToldEvents.{ToldEvents}
 use Rattle.trace_file.specs.Entries.{Entry}
 use Rattle.trace_file.specs.Files.{IsFirstFault, IsTraceFile}
@@ -47,9 +47,13 @@ IsTraceFault text fault = IsTraceFaultAt text fault.line fault.code
 pub record SaysTrace (text : List ℕ) (outcome : Result RankedTrace Failure) : Type 0 where
   pub says : MatchResult outcome (IsReadFrom text) (Tells (IsTraceFault text) failure_of_trace)
 
--- `--whole`: each operation of the file has ended; its events have no harts
-pub record MeetsEnded (whole : Bool) (ranked : RankedTrace) (outcome : Result (Unit {0}) Failure) : Type 0 where
-  pub meets : MeetsIf whole (λ pc. nowhere) [] ranked.trace.events [] outcome
+-- `--whole`: each operation of the file has ended, and each of these planned ones has begun; its events have no harts
+pub record MeetsPlanned (whole : Bool) (ranked : RankedTrace) (planned : List ℕ) (outcome : Result (Unit {0}) Failure) : Type 0 where
+  pub meets : MeetsIf whole (λ pc. nowhere) [] ranked.trace.events planned outcome
+
+-- without a plan
+abbrev pub MeetsEnded : Bool → RankedTrace → Result (Unit {0}) Failure → Type 0
+MeetsEnded whole ranked outcome = MeetsPlanned whole ranked [] outcome
 
 -- the events of which a command tells, and the medium that they start from; those of a file name its lines by ranks
 abbrev pub events_of : OpenEvents → List Event
@@ -112,7 +116,7 @@ HasPlaces (Trace trace) = HasNamesAndPlaces trace.ranked
 
 -- the events of a run as they are told, by what is known of each pc by the program's file
 pub record AreOfRun (made : MadeRun) (told : ToldEvents) : Type 0 where
-  pub traced : told.traced.items ≡ made.run.traced
+  pub traced : events_in told ≡ made.run.traced
   pub origins : origin_in told.places ≡ origin_of made.file.items
   pub lines : told.lines ≡ None
 

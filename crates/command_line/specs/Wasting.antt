@@ -10,6 +10,7 @@ use Rattle.report.specs.Places.{KnownOrigin, origin_in}
 use Rattle.report.specs.RedundantJson.{IsWasteJson}
 use Rattle.report.specs.Uses.{Judged}
 use Rattle.report.specs.Waste.{IsWasteText}
+use Rattle.report.specs.Told.{events_in}
 use Rattle.report.specs.declared.told.ToldEvents.{ToldEvents}
 use Rattle.store_trace.specs.declared.event.Event.{Event}
 use Rattle.command_line.specs.Steps.{First, Reads, Step, Still}
@@ -37,7 +38,7 @@ IsTold false origins lines all text = IsWasteText origins lines all text
 pub record IsWasteAnswer (json : Bool) (opened : OpenEvents) (reasons : List (Option Reason)) (answer : Answer) : Type 0 where
   pub told : ToldEvents
   pub are_told : AreTold opened told
-  pub text : IsTold json (origin_in told.places) told.lines (zip told.traced.items reasons) answer.text.items
+  pub text : IsTold json (origin_in told.places) told.lines (zip (events_in told) reasons) answer.text.items
   pub status : answer.status ≡ 0
 
 -- memory for it may be refused

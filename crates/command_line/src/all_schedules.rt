@@ -2,9 +2,9 @@
 
 ghost use Rattle.command_line.specs.AllSchedules.{Concludes, IsAnswered, IsOfFile, IsRefused, TellsFinding, TellsOutcome, TellsVerdict, bound_json, bound_line, told_bound, told_by, told_pass, told_run};
 ghost use Rattle.command_line.specs.Naming.{named_schedule};
+ghost use Rattle.command_line.specs.Reasons.{HasFewSteps};
 ghost use Rattle.crash_test.specs.Programs.{IsProgramOf};
-ghost use Rattle.machine.specs.Grammar.{hart_steps};
-ghost use Rattle.std.specs.Prelude.{◌≡◌, ◌^◌, ◌<◌, ℕ, List, IfOk, IfSome, codes, string_bytes};
+ghost use Rattle.std.specs.Prelude.{◌≡◌, ℕ, List, IfOk, IfSome, codes, string_bytes};
 
 use crate::answer::{Answer, Conclusion};
 use crate::failure::{Failure, Refusal};
@@ -125,7 +125,7 @@ fn told_run<C: ToldCause>(
     json: bool,
 ) -> Result<String, AllocError>
     requires program { IsProgramOf made.now.file.items made.now.run.setup.program }
-    requires few { IfSome why.now (λ explained. hart_steps explained.schedule < 2 ^ 32) }
+    requires few { IfSome why.now HasFewSteps }
     ensures { IfOk result (λ text. string_bytes text ≡ told_run C.told json made.now verdict.now why.now) }
 {
     let mut text = told_verdict(alloc, verdict, json)?;

@@ -1,4 +1,4 @@
-//! The command that checks a run.
+//! The command that checks events by a plan.
 
 ghost use Rattle.arguments.specs.Line.{IsJudgedWithin};
 ghost use Rattle.command_line.specs.Checking.{IsOpen, JudgesCheck, JudgesOpen, OpensCheck, TellsProgress, Watches};
@@ -6,24 +6,25 @@ ghost use Rattle.command_line.specs.Progress.{IsToldIf};
 ghost use Rattle.std.specs.Prelude.{◌≡◌, IfOk};
 
 use crate::answer::Answer;
+use crate::events::OpenEvents;
 use crate::failure::Failure;
 use crate::files::Files;
-use crate::made_run::open_run;
+use crate::judged_events::open_judged;
 use crate::opened::OpenCheck;
 use crate::progress::Reporter;
 use crate::reading::read_plan;
-use crate::reasons::why;
+use crate::reasons::why_of;
 use crate::verdicts::{ToldCause, verdict_answer, work};
-use crate::whole::demand_whole;
 use arguments::CheckCommand;
-use crash_test::{LogReader, check_program};
+use crash_test::{Events, LogReader, check_events, check_program};
 use image_check::{Cause, Verdict};
 use std::alloc::{AllocError, Global};
 use std::io::Write;
 use std::thread::Threads;
 use std::time::Clock;
 
-/// `check`: reads the files of a plan, a program, a schedule and a medium, makes the run, and with `--whole` demands that it is whole.
+/// `check`: reads the files of a plan, and of a program, a schedule and a medium, and makes the run, or of a trace file and a medium. With
+/// `--whole` it demands that the events are whole.
 pub(crate) fn open_check<F: Files>(
     alloc: Global,
     command: CheckCommand,
@@ -34,17 +35,15 @@ pub(crate) fn open_check<F: Files>(
     ensures ready { IfOk result IsOpen }
 {
     let plan = read_plan(alloc, command.plan.as_str(), files)?;
-    let run = &command.judged.run;
-    let made = open_run(alloc, run, files)?;
-    demand_whole(alloc, run.whole, &made, plan.operations())?;
+    let events = open_judged(alloc, &command.judged.source, plan.operations(), files)?;
     Ok(OpenCheck {
         command,
         plan,
-        made,
+        events,
     })
 }
 
-/// Gives the verdict on a run, with `--why` also what a failing image lacks and keeps. With `--progress` standard error is told how far the
+/// Gives the verdict on events, with `--why` also what a failing image lacks and keeps. With `--progress` standard error is told how far the
 /// check has come.
 pub(crate) fn judge_check<T: Threads + Sync + Clock, E: Write>(
     rt: &T,
@@ -55,11 +54,15 @@ pub(crate) fn judge_check<T: Threads + Sync + Clock, E: Write>(
     requires { IsOpen check.now }
     ensures { JudgesCheck E.contents check.now errors.old result errors.new }
 {
-    let OpenCheck { command, made, .. } = check;
+    let OpenCheck {
+        command,
+        events,
+        ..
+    } = check;
     let verdict = verdict(rt, alloc, check, errors)?;
     let judged = &command.judged;
-    let why = why(alloc, judged.why, &made.run, &verdict, &LogReader)?;
-    verdict_answer(alloc, made, &verdict, &why, judged.json)
+    let why = why_of(alloc, judged.why, events, &verdict, &LogReader)?;
+    verdict_answer(alloc, events, &verdict, &why, judged.json)
 }
 
 /// The verdict; with `--progress` standard error gets on the way how many of the moments pass.
@@ -93,10 +96,19 @@ fn told_verdict<T: Threads + Sync + Clock, E: Write>(
     let OpenCheck {
         command,
         plan,
-        made,
+        events,
     } = check;
     let work = work(&command.judged);
-    Ok(check_program(rt, alloc, plan, &made.run, work, reporter)?)
+    match events {
+        OpenEvents::Run(made) => Ok(check_program(rt, alloc, plan, &made.run, work, reporter)?),
+        OpenEvents::Trace(open) => {
+            let events = Events {
+                medium: &open.medium,
+                trace: &open.ranked.trace,
+            };
+            Ok(check_events(rt, alloc, plan, events, work, reporter)?)
+        }
+    }
 }
 
 impl ToldCause for Cause {

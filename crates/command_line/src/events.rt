@@ -3,6 +3,7 @@
 ghost use Rattle.command_line.specs.Traces.{AreOfRun, AreTold, HasPlaces, IsOpen, IsOpened, OpensEvents, OpensScheduled, OpensTrace, OpensTraceFile, SaysTrace, events_of, medium_of, name_in};
 ghost use Rattle.command_line.specs.declared.failure.Failure.TheVariants.{Memory};
 ghost use Rattle.crash_test.specs.Programs.{IsProgramOf};
+ghost use Rattle.report.specs.Told.{events_in};
 ghost use Rattle.std.specs.Prelude.{◌≡◌, ◌≤◌, All, IfErr, IfOk, length, slice_index};
 ghost use Rattle.store_trace.specs.TraceView.{NamesLine};
 
@@ -16,6 +17,7 @@ use crash_test::places_of;
 use line_memory::Medium;
 use report::ToldEvents;
 use std::alloc::{AllocError, Global};
+use std::borrow::CowSlice;
 use store_trace::Trace;
 use trace_file::{RankedTrace, TraceFile};
 
@@ -69,7 +71,7 @@ impl OpenEvents {
     pub(crate) fn told(&self, alloc: Global) -> Result<ToldEvents<'_>, AllocError>
         requires { HasPlaces self.now }
         ensures told { IfOk result (AreTold self.now) }
-        ensures size { IfOk result (λ told. length told.traced.items ≡ length (events_of self.now)) }
+        ensures size { IfOk result (λ told. length (events_in told) ≡ length (events_of self.now)) }
     {
         match self {
             OpenEvents::Run(made) => told_of(alloc, made),
@@ -92,11 +94,10 @@ fn name_of(names: &[u32], rank: u32) -> u32
 fn told_of(alloc: Global, made: &MadeRun) -> Result<ToldEvents<'_>, AllocError>
     requires { IsProgramOf made.now.file.items made.now.run.setup.program }
     ensures told { IfOk result (AreOfRun made.now) }
-    ensures size { IfOk result (λ told. length told.traced.items ≡ length made.now.run.events) }
+    ensures size { IfOk result (λ told. length (events_in told) ≡ length made.now.run.events) }
 {
-    let traced = Vec::from_slice(alloc, made.run.traced())?;
     Ok(ToldEvents {
-        traced,
+        traced: CowSlice::Borrowed(made.run.traced()),
         places: places_of(alloc, &made.file)?,
         lines: None,
     })
@@ -132,7 +133,7 @@ fn open_scheduled<F: Files>(
     opened(made)
 }
 
-fn opened(made: MadeRun) -> Result<OpenEvents, Failure>
+pub(crate) fn opened(made: MadeRun) -> Result<OpenEvents, Failure>
     requires { IsProgramOf made.file.items made.run.setup.program }
     ensures opens { IsOpened made result }
     ensures ready { IfOk result IsOpen }

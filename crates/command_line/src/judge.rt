@@ -1,31 +1,35 @@
-//! The command that judges a run by a recovery routine.
+//! The command that judges events by a recovery routine.
 
-ghost use Rattle.arguments.specs.Line.{IsJudgedWithin};
+ghost use Rattle.arguments.specs.Line.{IsJudgedWithin, IsMachineWithin, IsRightOf};
 ghost use Rattle.arguments.specs.declared.asked.RightAnswers.TheVariants.{Atomic};
-ghost use Rattle.command_line.specs.Judging.{AreRunsFor, IsOpen, IsRuleOf, JudgesOpen, JudgesRight, JudgesRun, KeepsStart, Notes, OpensJudge, TellsProgress, Watches, cause_text, judgement_asked, missing_text, note_of};
+ghost use Rattle.command_line.specs.Judging.{AreRunsFor, CopiesStart, IsOpen, IsReadyFor, IsRuleOf, JudgesOpen, JudgesRight, JudgesRun, KeepsStart, Notes, OpensJudge, OpensSubject, OpensSubjectOfFile, OpensSubjectOfRun, TellsProgress, Watches, cause_text, judgement_asked, missing_text, note_of};
 ghost use Rattle.command_line.specs.Reading.{setup_of};
 ghost use Rattle.routine_judge.specs.Rules.{AreNotedFor, judgement_view};
 ghost use Rattle.command_line.specs.Progress.{IsToldIf};
-ghost use Rattle.std.specs.Prelude.{◌≡◌, IfOk, OnOk, string_bytes};
+ghost use Rattle.command_line.specs.Traces.{medium_of};
+ghost use Rattle.std.specs.Prelude.{◌≡◌, ◌≢◌, ◌≤◌, IfOk, OnOk, Some, string_bytes};
 ghost use Rattle.std.specs.Io.KnownBytes.{Appends};
 
 use crate::all_schedules::told_bound;
 use crate::answer::Answer;
+use crate::events::{OpenEvents, opened};
 use crate::failure::Failure;
 use crate::files::Files;
+use crate::judged_events::open_judged_trace;
 use crate::made_run::{make_run, setup};
 use crate::opened::OpenJudge;
 use crate::progress::Reporter;
 use crate::reading::{RunFiles, read_recovery, read_run};
-use crate::reasons::why;
+use crate::reasons::why_of;
 use crate::streams::print;
 use crate::verdicts::{ToldCause, verdict_answer, work};
 use crate::whole::demand_whole;
-use arguments::{JudgeCommand, RightAnswers, ScheduledRun};
-use crash_test::{Judgement, RoutineReader, judge_program};
+use arguments::{EventSource, JudgeCommand, RightAnswers, ScheduledRun, TracedEvents};
+use crash_test::{Events, Judgement, RoutineReader, judge_events, judge_program};
 use debugger::Failed;
 use every_schedule::{Recovery, Sequential, sequential_runs};
 use machine::Setup;
+use program::Program;
 use recovery::Cause as RunCause;
 use routine_judge::{Cause, ProgramRuns, Rule, Verdict};
 use std::alloc::{AllocError, Global};
@@ -36,41 +40,124 @@ use std::time::Clock;
 /// What is said of a verdict on no moment.
 const NONE_JUDGED: &[u8] = b"no moment is judged: all lie before the first Begin\n";
 
-/// `judge`: reads the files of a program, a schedule, a medium and a recovery routine, makes the run, and with `--whole` demands that it is
-/// whole.
+/// What a command reads and makes to judge events by a recovery routine.
+#[derive(Drop)]
+struct Subject {
+    start: Option<Setup>,
+    events: OpenEvents,
+    recovery: Program,
+}
+
+/// `judge`: reads the files of a program, a schedule and a medium, and makes the run, or of a trace file and a medium; and of a recovery
+/// routine. With `--whole` it demands that the events are whole.
 pub(crate) fn open_judge<F: Files>(
     alloc: Global,
     command: JudgeCommand,
     files: &mut F,
 ) -> Result<OpenJudge, Failure>
-    requires { IsJudgedWithin command.judged }
+    requires within { IsJudgedWithin command.judged }
+    requires of_run { IsRightOf command.judged.source command.right }
     ensures opens { OpensJudge F.read_gives command files.old result files.new }
     ensures ready { IfOk result IsOpen }
 {
-    let run = &command.judged.run;
-    let read = read_run(alloc, run, files)?;
-    let recovery = read_recovery(alloc, command.recovery.as_str(), files)?;
-    let start = start_of(alloc, run, &read)?;
-    let made = make_run(alloc, run, read)?;
-    demand_whole(alloc, run.whole, &made, &[])?;
+    let subject = subject_of(alloc, &command, files)?;
+    let Subject {
+        start,
+        events,
+        recovery,
+    } = subject;
     Ok(OpenJudge {
         command,
         start,
-        made,
+        events,
         recovery,
     })
 }
 
-/// What a run starts from, beside the run that is made of the same files.
+fn subject_of<F: Files>(
+    alloc: Global,
+    command: &JudgeCommand,
+    files: &mut F,
+) -> Result<Subject, Failure>
+    requires within { IsJudgedWithin command.now.judged }
+    requires of_run { IsRightOf command.now.judged.source command.now.right }
+    ensures opens { OpensSubject F.read_gives command.now command.now.judged.source files.old result files.new }
+    ensures ready { IfOk result (IsReadyFor command.now.right) }
+{
+    match &command.judged.source {
+        EventSource::Run(run) => subject_of_run(alloc, command, run, files),
+        EventSource::Trace(events) => subject_of_file(alloc, command, events, files),
+    }
+}
+
+/// A run of a program, whose files are all read before it is made.
+fn subject_of_run<F: Files>(
+    alloc: Global,
+    command: &JudgeCommand,
+    run: &ScheduledRun,
+    files: &mut F,
+) -> Result<Subject, Failure>
+    requires { IsMachineWithin run.now.machine }
+    ensures opens { OpensSubjectOfRun F.read_gives command.now run.now files.old result files.new }
+    ensures ready { IfOk result (IsReadyFor command.now.right) }
+{
+    let read = read_run(alloc, run, files)?;
+    let recovery = read_recovery(alloc, command.recovery.as_str(), files)?;
+    let start = start_for(alloc, command.right, run, &read)?;
+    let made = make_run(alloc, run, read)?;
+    demand_whole(alloc, run.whole, &made, &[])?;
+    let events = opened(made)?;
+    Ok(Subject {
+        start,
+        events,
+        recovery,
+    })
+}
+
+/// The events of a trace file, by the names of their lines.
+fn subject_of_file<F: Files>(
+    alloc: Global,
+    command: &JudgeCommand,
+    events: &TracedEvents,
+    files: &mut F,
+) -> Result<Subject, Failure>
+    requires { command.now.right ≢ Atomic }
+    ensures opens { OpensSubjectOfFile F.read_gives command.now events.now files.old result files.new }
+    ensures ready { IfOk result (IsReadyFor command.now.right) }
+{
+    let events = open_judged_trace(alloc, events, &[], files)?;
+    let recovery = read_recovery(alloc, command.recovery.as_str(), files)?;
+    Ok(Subject {
+        start: None,
+        events,
+        recovery,
+    })
+}
+
+/// What a run starts from, beside the run that is made of the same files, where sequential runs of its program are asked for.
+fn start_for(
+    alloc: Global,
+    right: RightAnswers,
+    run: &ScheduledRun,
+    read: &RunFiles,
+) -> Result<Option<Setup>, Failure>
+    ensures { KeepsStart right (setup_of run.now read.now) result }
+{
+    match right {
+        RightAnswers::Atomic => Ok(Some(start_of(alloc, run, read)?)),
+        RightAnswers::InTurn | RightAnswers::Overlapping => Ok(None),
+    }
+}
+
 fn start_of(alloc: Global, run: &ScheduledRun, read: &RunFiles) -> Result<Setup, Failure>
-    ensures { KeepsStart (setup_of run.now read.now) result }
+    ensures { CopiesStart (setup_of run.now read.now) result }
 {
     let program = read.program.copy(alloc)?;
     let medium = read.medium.copy(alloc)?;
     Ok(setup(&run.machine, program, medium))
 }
 
-/// Gives the verdict on a run by a recovery routine, with `--atomic` once the sequential runs of its program are found. With `--progress`
+/// Gives the verdict on events by a recovery routine, with `--atomic` once the sequential runs of its program are found. With `--progress`
 /// standard error gets how far it has come, and where no moment is judged a line that says so.
 pub(crate) fn judge_run<T: Threads + Sync + Clock, E: Write>(
     rt: &T,
@@ -99,8 +186,9 @@ fn judge_atomic<T: Threads + Sync + Clock, E: Write>(
     requires atomic { judge.now.command.right ≡ Atomic }
     ensures { JudgesRun E.contents judge.now errors.old result errors.new }
 {
-    let OpenJudge { command, start, .. } = judge;
-    let found = runs_for(rt, alloc, judge)?;
+    let command = &judge.command;
+    let start = setup_in(judge);
+    let found = runs_for(rt, alloc, judge, start)?;
     match found {
         Sequential::All { runs, .. } => {
             let rule = Rule::Atomic(ProgramRuns {
@@ -117,23 +205,37 @@ fn judge_atomic<T: Threads + Sync + Clock, E: Write>(
     }
 }
 
+/// What a run starts from of which sequential runs are asked for.
+fn setup_in(judge: &OpenJudge) -> &Setup
+    requires open { IsOpen judge.now }
+    requires atomic { judge.now.command.right ≡ Atomic }
+    ensures { judge.now.start ≡ Some result.now }
+{
+    match &judge.start {
+        Some(start) => start,
+        None => unreachable!(),
+    }
+}
+
 /// The sequential runs of the program, with what the recovery routine answers behind each of them.
 fn runs_for<T: Threads + Sync>(
     rt: &T,
     alloc: Global,
     judge: &OpenJudge,
+    start: &Setup,
 ) -> Result<Sequential, AllocError>
-    requires { IsOpen judge.now }
+    requires start { judge.now.start ≡ Some start.now }
+    requires few { start.now.harts ≤ 8 }
     ensures { IfOk result (AreRunsFor judge.now) }
 {
     let recovery = Recovery {
         program: &judge.recovery,
         steps: judge.command.steps,
     };
-    sequential_runs(rt, alloc, &judge.start, recovery, judge.command.states)
+    sequential_runs(rt, alloc, start, recovery, judge.command.states)
 }
 
-/// Gives the verdict on a run by a rule for right answers.
+/// Gives the verdict on events by a rule for right answers.
 fn judge_by<T: Threads + Sync + Clock, E: Write>(
     rt: &T,
     alloc: Global,
@@ -151,8 +253,8 @@ fn judge_by<T: Threads + Sync + Clock, E: Write>(
         program: &judge.recovery,
         steps: judge.command.steps,
     };
-    let why = why(alloc, judged.why, &judge.made.run, &verdict, &reader)?;
-    let answer = verdict_answer(alloc, &judge.made, &verdict, &why, judged.json)?;
+    let why = why_of(alloc, judged.why, &judge.events, &verdict, &reader)?;
+    let answer = verdict_answer(alloc, &judge.events, &verdict, &why, judged.json)?;
     let _ = note_none(&verdict, errors);
     Ok(answer)
 }
@@ -189,17 +291,27 @@ fn told_verdict<T: Threads + Sync + Clock, E: Write>(
     ensures told { IsToldIf reporter.old.is_wanted (TellsProgress judge.now (E.contents reporter.old.errors.now) (E.contents reporter.new.errors.now))
         reporter.old.errors.now reporter.new.errors.now }
 {
-    let OpenJudge { command, made, .. } = judge;
-    let work = work(&command.judged);
+    let work = work(&judge.command.judged);
     let judgement = judgement(judge, rule);
-    Ok(judge_program(rt, alloc, &made.run, judgement, work, reporter)?)
+    match &judge.events {
+        OpenEvents::Run(made) => Ok(judge_program(
+            rt, alloc, &made.run, judgement, work, reporter,
+        )?),
+        OpenEvents::Trace(open) => {
+            let events = Events {
+                medium: &open.medium,
+                trace: &open.ranked.trace,
+            };
+            Ok(judge_events(rt, alloc, events, judgement, work, reporter)?)
+        }
+    }
 }
 
-/// How the command says that the run is judged.
+/// How the command says that the events are judged.
 fn judgement<'a>(judge: &'a OpenJudge, rule: Rule<'a>) -> Judgement<'a>
     requires { IsRuleOf judge.now rule }
     ensures asked { judgement_view result ≡ judgement_asked judge.now }
-    ensures noted { AreNotedFor judge.now.made.run.setup.medium result.recovery.now result.steps result.rule }
+    ensures noted { AreNotedFor (medium_of judge.now.events) result.recovery.now result.steps result.rule }
 {
     Judgement {
         recovery: &judge.recovery,

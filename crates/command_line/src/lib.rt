@@ -21,6 +21,7 @@ mod images;
 mod interleave;
 mod judge;
 mod judge_all;
+mod judged_events;
 mod listing;
 mod made_run;
 mod mkfs;

@@ -1,9 +1,9 @@
 //! Schedules that are printed behind a word.
 
-ghost use Rattle.command_line.specs.Naming.{items_json, items_line, named_schedule};
+ghost use Rattle.command_line.specs.Naming.{items_json, items_line, known_schedule, named_schedule};
 ghost use Rattle.machine.specs.Grammar.{hart_steps};
 ghost use Rattle.machine.specs.Joined.{joined, text_of};
-ghost use Rattle.std.specs.Prelude.{◌≡◌, ◌^◌, ◌<◌, IfOk, string_bytes};
+ghost use Rattle.std.specs.Prelude.{◌≡◌, ◌^◌, ◌<◌, IfOk, IfSome, string_bytes};
 
 use machine::{Schedule, ScheduleFault};
 use std::alloc::{AllocError, Global};
@@ -36,6 +36,22 @@ pub(crate) fn named_schedule(
         items_json(alloc, word, items.as_str())
     } else {
         items_line(alloc, word, items.as_str())
+    }
+}
+
+/// The same where a schedule is known.
+pub(crate) fn known_schedule(
+    alloc: Global,
+    word: &str,
+    schedule: &Option<Schedule>,
+    json: bool,
+) -> Result<String, AllocError>
+    requires { IfSome schedule.now (λ schedule. hart_steps schedule < 2 ^ 32) }
+    ensures { IfOk result (λ text. string_bytes text ≡ known_schedule json word.now schedule.now) }
+{
+    match schedule {
+        Some(schedule) => named_schedule(alloc, word, schedule, json),
+        None => Ok(String::new(alloc)),
     }
 }
 

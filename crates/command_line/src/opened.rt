@@ -1,26 +1,26 @@
 //! Runs that are to be judged.
 
-use crate::made_run::MadeRun;
+use crate::events::OpenEvents;
 use arguments::{CheckAllCommand, CheckCommand, JudgeAllCommand, JudgeCommand};
 use machine::Setup;
 use plan::Plan;
 use program::Program;
 
-/// A check whose files have been read and whose run was made. The run is whole where the command asks for that.
+/// A check whose files have been read and whose run was made, where its events are a run's. They are whole where the command asks for that.
 #[derive(Drop)]
 pub struct OpenCheck {
     pub(crate) command: CheckCommand,
     pub(crate) plan: Plan,
-    pub(crate) made: MadeRun,
+    pub(crate) events: OpenEvents,
 }
 
-/// The same of a run that is judged by a recovery routine.
+/// The same of events that are judged by a recovery routine.
 #[derive(Drop)]
 pub struct OpenJudge {
     pub(crate) command: JudgeCommand,
-    /// What the run starts from.
-    pub(crate) start: Setup,
-    pub(crate) made: MadeRun,
+    /// What the run starts from, where its program is to be run once more: with `--atomic`.
+    pub(crate) start: Option<Setup>,
+    pub(crate) events: OpenEvents,
     pub(crate) recovery: Program,
 }
 

@@ -1,24 +1,26 @@
 //! What is told of a failing image.
 
-ghost use Rattle.command_line.specs.Reasons.{Explains, ExplainsOne, image_losses, told_image, told_losses, told_why};
+ghost use Rattle.command_line.specs.Reasons.{Explains, ExplainsOne, HasFewSteps, IsExplainedOf, IsToldWhy, image_losses, told_image, told_losses};
+ghost use Rattle.command_line.specs.Traces.{HasPlaces, IsOpen, events_of};
 ghost use Rattle.command_line.specs.Verdicts.{failing};
+ghost use Rattle.crash_test.specs.Losses.{IsExplainedBy};
 ghost use Rattle.crash_test.specs.Programs.{IsProgramOf};
 ghost use Rattle.report.specs.Places.{origin_in};
-ghost use Rattle.machine.specs.Grammar.{hart_steps};
-ghost use Rattle.std.specs.Prelude.{◌≡◌, ◌++◌, ◌^◌, ◌<◌, ℕ, List, IfOk, IfSome, string_bytes};
+ghost use Rattle.std.specs.Prelude.{◌≡◌, ◌++◌, ℕ, List, IfOk, IfSome, string_bytes};
 
+use crate::events::OpenEvents;
 use crate::failure::Failure;
 use crate::made_run::MadeRun;
-use crate::naming::named_schedule;
+use crate::naming::known_schedule;
 use crate::verdicts::failing;
-use crash_test::{ExplainedImage, Reader, explain_losses, places_of};
+use crash_test::{Events, ExplainedImage, Reader, explain_losses, places_of, tell_losses};
 use machine::{Run, TracedEvent};
 use report::{Places, why_json, why_text};
 use std::alloc::{AllocError, Global};
 use text::ImageName;
 use verdict::Verdict;
 
-/// `--why`: of a failing image what it lacks and keeps of the lines that a recovery reads, and how it comes about.
+/// `--why`: of a failing image of a run what it lacks and keeps of the lines that a recovery reads, and how it comes about.
 pub(crate) fn why<C, R: Reader>(
     alloc: Global,
     asked: bool,
@@ -26,8 +28,8 @@ pub(crate) fn why<C, R: Reader>(
     verdict: &Verdict<C>,
     reader: &R,
 ) -> Result<Option<ExplainedImage>, Failure>
-    ensures told { Explains (R.reads reader.now) run.now (failing asked verdict.now) result }
-    ensures few { IfOk result (λ why. IfSome why (λ explained. hart_steps explained.schedule < 2 ^ 32)) }
+    ensures told { Explains (IsExplainedBy (R.reads reader.now) run.now) run.now.events (failing asked verdict.now) result }
+    ensures few { IfOk result (λ why. IfSome why HasFewSteps) }
 {
     match failing(asked, verdict) {
         Some((moment, image)) => Ok(Some(explained(alloc, run, moment, image, reader)?)),
@@ -42,27 +44,68 @@ fn explained<R: Reader>(
     image: &ImageName,
     reader: &R,
 ) -> Result<ExplainedImage, Failure>
-    ensures told { ExplainsOne (R.reads reader.now) run.now moment image.now result }
-    ensures few { IfOk result (λ explained. hart_steps explained.schedule < 2 ^ 32) }
+    ensures told { ExplainsOne (IsExplainedBy (R.reads reader.now) run.now) run.now.events moment image.now result }
+    ensures few { IfOk result HasFewSteps }
 {
     Ok(explain_losses(alloc, run, moment, image, reader)?)
 }
 
-/// What is told of it as text or as JSON, by the lines of the program's source.
+/// The same of events, of which those of a trace file have no schedule.
+pub(crate) fn why_of<C, R: Reader>(
+    alloc: Global,
+    asked: bool,
+    events: &OpenEvents,
+    verdict: &Verdict<C>,
+    reader: &R,
+) -> Result<Option<ExplainedImage>, Failure>
+    requires { IsOpen events.now }
+    ensures told { Explains (IsExplainedOf (R.reads reader.now) events.now) (events_of events.now) (failing asked verdict.now) result }
+    ensures few { IfOk result (λ why. IfSome why HasFewSteps) }
+{
+    match failing(asked, verdict) {
+        Some((moment, image)) => Ok(Some(explained_of(alloc, events, moment, image, reader)?)),
+        None => Ok(None),
+    }
+}
+
+fn explained_of<R: Reader>(
+    alloc: Global,
+    events: &OpenEvents,
+    moment: u32,
+    image: &ImageName,
+    reader: &R,
+) -> Result<ExplainedImage, Failure>
+    requires { IsOpen events.now }
+    ensures told { ExplainsOne (IsExplainedOf (R.reads reader.now) events.now) (events_of events.now) moment image.now result }
+    ensures few { IfOk result HasFewSteps }
+{
+    match events {
+        OpenEvents::Run(made) => explained(alloc, &made.run, moment, image, reader),
+        OpenEvents::Trace(open) => {
+            let events = Events {
+                medium: &open.medium,
+                trace: &open.ranked.trace,
+            };
+            Ok(tell_losses(alloc, events, moment, image, reader)?)
+        }
+    }
+}
+
+/// What is told of it as text or as JSON, with where the events were made.
 pub(crate) fn told_why(
     alloc: Global,
-    made: &MadeRun,
+    events: &OpenEvents,
     why: &Option<ExplainedImage>,
     json: bool,
 ) -> Result<String, AllocError>
-    requires program { IsProgramOf made.now.file.items made.now.run.setup.program }
-    requires few { IfSome why.now (λ explained. hart_steps explained.schedule < 2 ^ 32) }
-    ensures { IfOk result (λ text. string_bytes text ≡ told_why json made.now why.now) }
+    requires places { HasPlaces events.now }
+    requires few { IfSome why.now HasFewSteps }
+    ensures { IfOk result (λ text. IsToldWhy json events.now why.now (string_bytes text)) }
 {
     match why {
         Some(explained) => {
-            let places = places_of(alloc, &made.file)?;
-            told_losses(alloc, made.run.traced(), explained, &places, json)
+            let told = events.told(alloc)?;
+            told_losses(alloc, told.traced.as_slice(), explained, &told.places, json)
         }
         None => Ok(String::new(alloc)),
     }
@@ -76,7 +119,7 @@ pub(crate) fn told_image(
     json: bool,
 ) -> Result<String, AllocError>
     requires program { IsProgramOf made.now.file.items made.now.run.setup.program }
-    requires few { IfSome why.now (λ explained. hart_steps explained.schedule < 2 ^ 32) }
+    requires few { IfSome why.now HasFewSteps }
     ensures { IfOk result (λ text. string_bytes text ≡ told_image json made.now why.now) }
 {
     match why {
@@ -96,12 +139,12 @@ fn image_losses(
     places: &Places<'_>,
     json: bool,
 ) -> Result<String, AllocError>
-    requires few { hart_steps explained.now.schedule < 2 ^ 32 }
+    requires few { HasFewSteps explained.now }
     ensures { IfOk result (λ text. string_bytes text ≡ image_losses json (origin_in places.now) traced.now explained.now) }
 {
     let text = told_losses(alloc, traced, explained, places, json)?;
-    let last = named_schedule(alloc, "schedule", &explained.schedule, json)?;
-    let image = named_schedule(alloc, "image", &explained.schedule, json)?;
+    let last = known_schedule(alloc, "schedule", &explained.schedule, json)?;
+    let image = known_schedule(alloc, "image", &explained.schedule, json)?;
     with_end(alloc, text.as_str(), last.as_str(), image.as_str())
 }
 
@@ -129,7 +172,7 @@ fn told_losses(
     places: &Places<'_>,
     json: bool,
 ) -> Result<String, AllocError>
-    requires few { hart_steps explained.now.schedule < 2 ^ 32 }
+    requires few { HasFewSteps explained.now }
     ensures { IfOk result (λ text. string_bytes text ≡ told_losses json (origin_in places.now) traced.now explained.now) }
 {
     let ExplainedImage { told, schedule } = explained;

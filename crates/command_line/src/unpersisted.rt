@@ -3,6 +3,7 @@
 ghost use Rattle.command_line.specs.Persisting.{AreNamed, Finds, PrintsStores, UnpersistedFile, named_end, named_loss, status_of, told_stores};
 ghost use Rattle.command_line.specs.Traces.{HasPlaces, IsOpen, events_of, name_in};
 ghost use Rattle.report.specs.Places.{origin_in};
+ghost use Rattle.report.specs.Told.{events_in};
 ghost use Rattle.std.specs.Prelude.{◌≡◌, IfOk, map, string_bytes};
 
 use crate::answer::Answer;
@@ -111,12 +112,13 @@ fn told_stores(
     found: &Unpersisted,
     json: bool,
 ) -> Result<String, AllocError>
-    ensures { IfOk result (λ text. string_bytes text ≡ told_stores json (origin_in told.now.places) told.now.traced.items found.now) }
+    ensures { IfOk result (λ text. string_bytes text ≡ told_stores json (origin_in told.now.places) (events_in told.now) found.now) }
 {
+    let traced = told.traced.as_slice();
     if json {
-        unpersisted_json(alloc, found, &told.traced, &told.places)
+        unpersisted_json(alloc, found, traced, &told.places)
     } else {
-        unpersisted_text(alloc, found, &told.traced, &told.places)
+        unpersisted_text(alloc, found, traced, &told.places)
     }
 }
 

@@ -1,17 +1,16 @@
 //! What is told of a verdict on the moments of a run, whatever judges an image.
 
-ghost use Rattle.std.specs.Prelude.{◌≡◌, ◌++◌, ◌^◌, ◌<◌, ◌≤◌, IfOk, IfSome, MatchOption, None, Some, string_bytes};
+ghost use Rattle.std.specs.Prelude.{◌≡◌, ◌≤◌, IfOk, IfSome, MatchOption, None, Some, string_bytes};
 ghost use Rattle.arguments.specs.Line.{IsJudgedWithin};
 ghost use Rattle.arguments.specs.Spans.{IsUpward};
-ghost use Rattle.command_line.specs.Reasons.{told_why};
-ghost use Rattle.command_line.specs.Steps.{Prints};
+ghost use Rattle.command_line.specs.Answered.{PrintsVerdict};
+ghost use Rattle.command_line.specs.Reasons.{HasFewSteps};
+ghost use Rattle.command_line.specs.Traces.{HasPlaces};
 ghost use Rattle.command_line.specs.Verdicts.{fail_json, fail_line, failing, first_of, last_of, open_json, open_line, pass_json, pass_line, told_fail, told_open, told_pass, told_too_long, told_too_many, told_verdict, too_many_json, too_many_line, total_json, verdict_status};
-ghost use Rattle.machine.specs.Grammar.{hart_steps};
-ghost use Rattle.crash_test.specs.Programs.{IsProgramOf};
 
 use crate::answer::Answer;
+use crate::events::OpenEvents;
 use crate::failure::Failure;
-use crate::made_run::MadeRun;
 use crate::reasons::told_why;
 use arguments::{JudgedRun, Moments};
 use crash_test::{ExplainedImage, Work};
@@ -30,20 +29,20 @@ pub(crate) trait ToldCause: Copy {
         ensures { IfOk result (λ text. string_bytes text ≡ told self) };
 }
 
-/// What a command prints of a verdict, and of an image that is explained, and its status.
+/// What a command prints of a verdict on events, and of an image that is explained, and its status.
 pub(crate) fn verdict_answer<C: ToldCause>(
     alloc: Global,
-    made: &MadeRun,
+    events: &OpenEvents,
     verdict: &Verdict<C>,
     why: &Option<ExplainedImage>,
     json: bool,
 ) -> Result<Answer, Failure>
-    requires program { IsProgramOf made.now.file.items made.now.run.setup.program }
-    requires few { IfSome why.now (λ explained. hart_steps explained.schedule < 2 ^ 32) }
-    ensures { Prints (told_verdict C.told json verdict.now ++ told_why json made.now why.now) (verdict_status verdict.now) result }
+    requires places { HasPlaces events.now }
+    requires few { IfSome why.now HasFewSteps }
+    ensures { PrintsVerdict C.told json events.now verdict.now why.now result }
 {
     let mut text = told_verdict(alloc, verdict, json)?;
-    let lines = told_why(alloc, made, why, json)?;
+    let lines = told_why(alloc, events, why, json)?;
     text.push_str(lines.as_str())?;
     Ok(Answer::of(text, verdict_status(verdict)))
 }

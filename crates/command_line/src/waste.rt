@@ -3,6 +3,7 @@
 ghost use Rattle.command_line.specs.Traces.{HasPlaces, IsOpen, events_of};
 ghost use Rattle.command_line.specs.Wasting.{FindsNeedless, IsTold, PrintsWaste, WasteFile};
 ghost use Rattle.report.specs.Places.{origin_in};
+ghost use Rattle.report.specs.Told.{events_in};
 ghost use Rattle.std.specs.List.{zip};
 ghost use Rattle.std.specs.Prelude.{◌≡◌, IfOk, length, string_bytes};
 ghost use Rattle.std.specs.Result.{result_map_both};
@@ -62,14 +63,15 @@ fn told_waste(
     reasons: &[Option<Reason>],
     json: bool,
 ) -> Result<String, AllocError>
-    requires { length reasons.now ≡ length told.now.traced.items }
-    ensures { IfOk result (λ text. IsTold json (origin_in told.now.places) told.now.lines (zip told.now.traced.items reasons.now) (string_bytes text)) }
+    requires { length reasons.now ≡ length (events_in told.now) }
+    ensures { IfOk result (λ text. IsTold json (origin_in told.now.places) told.now.lines (zip (events_in told.now) reasons.now) (string_bytes text)) }
 {
     let ToldEvents {
         traced,
         places,
         lines,
     } = told;
+    let traced = traced.as_slice();
     if json {
         waste_json(alloc, traced, reasons, places, lines)
     } else {

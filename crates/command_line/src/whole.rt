@@ -1,7 +1,7 @@
 //! Runs that were to be whole.
 
 ghost use Rattle.command_line.specs.Demanding.{IsToldBy, IsWholeOrTold, MeetsTogether, MeetsWhole};
-ghost use Rattle.command_line.specs.Traces.{MeetsEnded};
+ghost use Rattle.command_line.specs.Traces.{MeetsEnded, MeetsPlanned};
 ghost use Rattle.crash_test.specs.Origins.{origin_of};
 ghost use Rattle.crash_test.specs.Programs.{IsProgramOf};
 ghost use Rattle.program.specs.Sections.{Sections};
@@ -93,17 +93,29 @@ fn refuse_unfinished(
 pub(crate) fn demand_ended(alloc: Global, whole: bool, ranked: &RankedTrace) -> Result<(), Failure>
     ensures { MeetsEnded whole ranked.now result }
 {
+    demand_planned(alloc, whole, ranked, &[])
+}
+
+/// The same by a plan: refuses also one in which a planned operation hasn't begun.
+pub(crate) fn demand_planned(
+    alloc: Global,
+    whole: bool,
+    ranked: &RankedTrace,
+    planned: &[Operation],
+) -> Result<(), Failure>
+    ensures { MeetsPlanned whole ranked.now (numbers_of planned.now) result }
+{
     if whole {
-        refuse_pending(alloc, ranked.trace.events())
+        refuse_pending(alloc, ranked.trace.events(), planned)
     } else {
         Ok(())
     }
 }
 
-fn refuse_pending(alloc: Global, events: &[Event]) -> Result<(), Failure>
-    ensures { IsWholeOrTold (λ pc. nowhere) [] events.now [] result }
+fn refuse_pending(alloc: Global, events: &[Event], planned: &[Operation]) -> Result<(), Failure>
+    ensures { IsWholeOrTold (λ pc. nowhere) [] events.now (numbers_of planned.now) result }
 {
-    let causes = find_unfinished(alloc, &[], events, &[])?;
+    let causes = find_unfinished(alloc, &[], events, planned)?;
     if causes.is_empty() {
         Ok(())
     } else {

@@ -3,18 +3,20 @@ use Rattle.std.proofs.Common.{◌≡◌, ◌∙◌, inl, inr, ℕ, ◌+◌, ◌<
 use Rattle.std.specs.Prelude.{Contains}
 use Rattle.std.specs.Cmp.Lexicographic.{slice_cmp}
 use Rattle.std.specs.Global.{Vec}
+use Rattle.std.specs.List.{range_with_len}
 use Rattle.std.specs.List.Sorted.{IsNonDecreasingBy, IsPartitionPoint, IsPartitionedBy, IsPermutation, IsSorted}
 use Rattle.std.specs.Ordering.{is_eq, is_lt, ordering_index, ordering_reverse}
 use Rattle.std.specs.declared.cmp.Ordering.{Ordering}
 use Rattle.std.proofs.lemmas.Bool.{cases_lt}
 use Rattle.std.proofs.lemmas.Cmp.{nat_list_cmp_total, tied_itself}
 use Rattle.std.proofs.lemmas.List.{get_or-map, length-map, map-append, take_more}
+use Rattle.std.proofs.lemmas.List.FromFn.{map-range_with_len_more}
 use Rattle.std.proofs.lemmas.List.Sorted.{Contains-permutation, IsPermutation-map, ranks_by, searchable_from_sorted, sorted_far}
 use Rattle.std.proofs.lemmas.Map.Text.{is_eq-slice_cmp}
 use Rattle.std.proofs.lemmas.Option.{slice_get-get_or}
 use Rattle.std.proofs.lemmas.Slice.Eq.{bytes_eq-Decides}
 use Rattle.report.specs.Places.{KnownOrigin, by_words, told_words}
-use Rattle.report.specs.Told.{ArePlacesOf, HasNumber, compare, event_of, is_below, numbered, origin_by, place_of, spaced_in}
+use Rattle.report.specs.Told.{ArePlacesOf, HasNumber, compare, event_of, is_below, line_number, numbered, origin_by, place_of, spaced_in, step_of}
 use Rattle.store_trace.specs.declared.event.Event.{Event}
 use Rattle.machine.specs.declared.run_trace.traced_event.TracedEvent.{TracedEvent}
 use Rattle.trace_file.specs.Ranks.{copies_of, named}
@@ -140,3 +142,13 @@ place_more origins texts at text traced more one inside read was is added =
     ∙ ap (λ (o : KnownOrigin). map place_of (take at texts) ++ o ∷ []) (is ∙ ap place_of read)
     ∙ sym (map-append place_of (take at texts) (get_or texts at text ∷ []))
     ∙ sym (ap (map place_of) (take_more texts at text inside))
+
+-- and with the number of its line
+pub step_more : (at : ℕ) (traced more : List TracedEvent) (one : TracedEvent) → map step_of traced ≡ map line_number (range_with_len 0 at)
+    → one.step ≡ at + 1 → more ≡ traced ++ one ∷ [] → map step_of more ≡ map line_number (range_with_len 0 (at + 1))
+step_more at traced more one was is added =
+    ap (map step_of) added
+    ∙ map-append step_of traced (one ∷ [])
+    ∙ ap (λ (l : List ℕ). l ++ one.step ∷ []) was
+    ∙ ap (λ (n : ℕ). map line_number (range_with_len 0 at) ++ n ∷ []) is
+    ∙ sym (map-range_with_len_more line_number 0 at at (omega arith))

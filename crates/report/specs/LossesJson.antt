@@ -81,7 +81,12 @@ unread_object unread =
 abbrev pub schedule_object : List Item → List ℕ
 schedule_object schedule = codes "{\"kind\":\"schedule\",\"items\":\"" ++ (text_of (joined schedule) ++ (codes "\"" ++ object_end))
 
--- an object for each lost line, for each kept one and for each mend, the number of the other lines, and the schedule
-abbrev pub why_json : (ℕ → List ℕ) → ToldCut → ℕ → List Item → List ℕ
+-- that object where a schedule is known
+abbrev pub schedule_json : Option (List Item) → List ℕ
+schedule_json (Some schedule) = schedule_object schedule
+schedule_json None = []
+
+-- an object for each lost line, for each kept one and for each mend, the number of the other lines, and the schedule where one is known
+abbrev pub why_json : (ℕ → List ℕ) → ToldCut → ℕ → Option (List Item) → List ℕ
 why_json event told unread schedule = flat_map (lost_object [] event) told.lost.items ++ (flat_map (kept_object event) told.kept.items
-    ++ (flat_map (mend_object event) told.mends.items ++ (unread_object unread ++ schedule_object schedule)))
+    ++ (flat_map (mend_object event) told.mends.items ++ (unread_object unread ++ schedule_json schedule)))

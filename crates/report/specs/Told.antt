@@ -1,7 +1,9 @@
 -- Events of a trace file as they are told: by the names of their lines, and with where each was made.
-use Rattle.std.specs.Prelude.{◌≡◌, ◌<◌, ℕ, Bool, true, false, List, Some, All, Contains, length, map, slice_get, slice_index_or}
+use Rattle.std.specs.Prelude.{◌≡◌, ◌+◌, ◌<◌, ℕ, Bool, true, false, List, Some, All, Contains, length, map, slice_get, slice_index_or}
 use Rattle.std.specs.Cmp.Lexicographic.{slice_cmp}
+use Rattle.std.specs.Cow.{cow_slice_items}
 use Rattle.std.specs.Global.{Vec}
+use Rattle.std.specs.List.{range_with_len}
 use Rattle.std.specs.List.Sorted.{IsSorted}
 use Rattle.std.specs.Ordering.{is_lt, nat_cmp}
 use Rattle.std.specs.declared.cmp.Ordering.{Ordering}
@@ -57,15 +59,27 @@ origin_by origins one = origins one.pc
 abbrev pub place_of : Vec ℕ → KnownOrigin
 place_of text = told_words (spaced_words false text.items)
 
--- events by the names of their lines, each with the number of its place
+abbrev pub step_of : TracedEvent → ℕ
+step_of one = one.step
+
+-- the number of the line at an index
+abbrev pub line_number : ℕ → ℕ
+line_number index = index + 1
+
+-- events by the names of their lines, each with the numbers of its line and of its place
 pub record ArePlaced (names : List ℕ) (events : List Event) (texts : List (Vec ℕ)) (origins : ℕ → KnownOrigin) (traced : List TracedEvent) : Type 0 where
   pub events_are : map event_of traced ≡ map (named names) events
   pub places_are : map (origin_by origins) traced ≡ map place_of texts
   pub first : All (λ (one : TracedEvent). IsFirst origins one.pc) traced
+  pub steps_are : map step_of traced ≡ map line_number (range_with_len 0 (length events))
 
--- and with all place words of each line
+-- the events that are told, each with its step and its pc, or with the numbers that stand for these
+abbrev pub events_in : ToldEvents → List TracedEvent
+events_in told = cow_slice_items told.traced
+
+-- those of a file, and with all place words of each line
 pub record AreOfFile (ranked : RankedTrace) (told : ToldEvents) : Type 0 where
-  pub placed : ArePlaced ranked.names.items ranked.trace.events ranked.places.items (origin_in told.places) told.traced.items
+  pub placed : ArePlaced ranked.names.items ranked.trace.events ranked.places.items (origin_in told.places) (events_in told)
   pub lines : Vec (Vec ℕ)
   pub lines_are : told.lines ≡ Some lines
   pub words : copies_of lines.items ≡ spaced_in true ranked.places.items

@@ -1,5 +1,5 @@
 -- What is printed of a crash image that fails.
-use Rattle.std.specs.Prelude.{ℕ, ◌==◌, List, [], ◌∷◌, ◌++◌, codes, decimal, if◌then◌else◌}
+use Rattle.std.specs.Prelude.{ℕ, ◌==◌, List, [], ◌∷◌, ◌++◌, Option, Some, None, codes, decimal, if◌then◌else◌}
 use Rattle.std.specs.List.{flat_map}
 use Rattle.durability.specs.declared.cut.Kept.{Kept}
 use Rattle.durability.specs.declared.cut.Lost.{Lost}
@@ -33,7 +33,12 @@ spaced (x ∷ xs) = 32 ∷ x ∷ xs
 abbrev pub schedule_line : List Item → List ℕ
 schedule_line schedule = codes "schedule" ++ (spaced (text_of (joined schedule)) ++ line_end)
 
--- the lost lines, the kept lines, the mends, the number of the other lines, and the schedule
-abbrev pub why_text : (ℕ → List ℕ) → ToldCut → ℕ → List Item → List ℕ
+-- that line where a schedule is known
+abbrev pub schedule_text : Option (List Item) → List ℕ
+schedule_text (Some schedule) = schedule_line schedule
+schedule_text None = []
+
+-- the lost lines, the kept lines, the mends, the number of the other lines, and the schedule where one is known
+abbrev pub why_text : (ℕ → List ℕ) → ToldCut → ℕ → Option (List Item) → List ℕ
 why_text event told unread schedule = flat_map (lost_line event) told.lost.items ++ (flat_map (kept_line event) told.kept.items
-    ++ (flat_map (mend_line event) told.mends.items ++ (unread_line unread ++ schedule_line schedule)))
+    ++ (flat_map (mend_line event) told.mends.items ++ (unread_line unread ++ schedule_text schedule)))

@@ -2,7 +2,7 @@
 
 ghost use Rattle.report.specs.Events.{known_event, line_words, whole};
 ghost use Rattle.report.specs.Places.{origin_in};
-ghost use Rattle.report.specs.Told.{AreOfFile, ArePlaced, ArePlacesOf, HasNumber, IsAmong, is_below, numbered, spaced_in};
+ghost use Rattle.report.specs.Told.{AreOfFile, ArePlaced, ArePlacesOf, HasNumber, IsAmong, events_in, is_below, numbered, spaced_in};
 ghost use Rattle.std.specs.Prelude.{◌≡◌, ◌≤◌, All, IfOk, length, slice_get};
 ghost use Rattle.store_trace.specs.TraceView.{NamesLine};
 ghost use Rattle.trace_file.specs.Ranks.{copies_of};
@@ -12,14 +12,15 @@ use crate::origin::Origin;
 use crate::place::{CodePlace, Places};
 use machine::TracedEvent;
 use std::alloc::{AllocError, Global};
+use std::borrow::CowSlice;
 use store_trace::Event;
 use trace_file::{RankedTrace, spaced_words, with_name};
 
-/// Events as they are told: each by the name of its line, and with where it was made. Of a trace file an event has the number of
-/// its line as its step, and the number of its place, as `Places` has it, as its pc.
+/// Events as they are told: each by the name of its line, and with where it was made. A run lends its own. Of a trace file an event has
+/// the number of its line as its step, and the number of its place, as `Places` has it, as its pc.
 #[derive(Drop)]
 pub struct ToldEvents<'a> {
-    pub traced: Vec<TracedEvent>,
+    pub traced: CowSlice<'a, TracedEvent>,
     pub places: Places<'a>,
     /// Of a trace file the place words of each event, all of them, each behind a blank. The places lack those that begin with `step=`.
     pub lines: Option<Vec<Vec<u8>>>,
@@ -34,14 +35,14 @@ impl<'a> ToldEvents<'a> {
         requires lines { All (NamesLine (length ranked.now.names.items)) ranked.now.trace.events }
         requires size { length ranked.now.places.items ≡ length ranked.now.trace.events }
         ensures told { IfOk result (AreOfFile ranked.now) }
-        ensures size { IfOk result (λ told. length told.traced.items ≡ length ranked.now.trace.events) }
+        ensures size { IfOk result (λ told. length (events_in told) ≡ length ranked.now.trace.events) }
     {
         let places = different(alloc, &ranked.places)?;
         let events = ranked.trace.events();
         let traced = placed(alloc, events, &ranked.names, &ranked.places, &places)?;
         let lines = spaced(alloc, &ranked.places, true)?;
         Ok(ToldEvents {
-            traced,
+            traced: CowSlice::Owned(traced),
             places: Places::Traced(places),
             lines: Some(lines),
         })
@@ -88,8 +89,8 @@ fn number_of(places: &[Vec<u8>], place: &[u8]) -> usize
     )
 }
 
-/// Events by the names of their lines, each with the number of the place that its text says.
-#[tactic(auto, using(crate::proofs::TracePlaces::event_more, crate::proofs::TracePlaces::place_more))]
+/// Events by the names of their lines, each with the numbers of its line and of the place that its text says.
+#[tactic(auto, using(crate::proofs::TracePlaces::event_more, crate::proofs::TracePlaces::place_more, crate::proofs::TracePlaces::step_more))]
 fn placed(
     alloc: Global,
     events: &[Event],

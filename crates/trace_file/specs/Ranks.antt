@@ -1,5 +1,5 @@
 -- The lines of a trace by their ranks: their places among all lines that it names, upwards.
-use Rattle.std.specs.Prelude.{◌≡◌, ◌+◌, ℕ, List, [], ◌∷◌, All, length, map, slice_index}
+use Rattle.std.specs.Prelude.{◌≡◌, ◌+◌, ◌<◌, ◌≤◌, ℕ, List, [], ◌∷◌, All, length, map, slice_index}
 use Rattle.std.specs.Borrow.{Bor}
 use Rattle.std.specs.Global.{Vec}
 use Rattle.store_trace.specs.TraceView.{NamesLine}
@@ -7,6 +7,7 @@ use Rattle.store_trace.specs.declared.event.Event.{Event}
 use Rattle.store_trace.specs.declared.event.Event.TheVariants.{Store, Clean, Fence, Begin, End}
 use Rattle.trace_file.specs.Entries.{Entry, last_line, place_text, placed_line}
 use Rattle.trace_file.specs.Files.{lines_of}
+use Rattle.trace_file.specs.declared.file.RankedTrace.{RankedTrace}
 
 -- an event whose line is a rank, with the line of that rank in its place
 abbrev pub named : List ℕ → Event → Event
@@ -47,3 +48,23 @@ file_lines number names (event ∷ events) (place ∷ places) rest =
 -- the text that is written of a file
 abbrev pub file_text : FileView → List ℕ
 file_text file = file_lines 1 file.names file.events file.places (last_line (length file.events) [])
+
+-- these lines are among the first `count`, or one isn't
+abbrev pub AreWithin : List ℕ → ℕ → Type 0
+AreWithin names count = (rank : ℕ) → rank < length names → slice_index names rank < count
+
+abbrev pub LacksName : List ℕ → ℕ → Type 0
+LacksName names count = (rank : ℕ) × (rank < length names) × (count ≤ slice_index names rank)
+
+-- the names of `count` lines: that of each rank is the rank itself
+pub record AreInOrder (count : ℕ) (names : List ℕ) : Type 0 where
+  pub count_is : length names ≡ count
+  pub own : (rank : ℕ) → rank < count → slice_index names rank ≡ rank
+
+-- the same events by the names of their lines, over `count` lines, which are all that they name
+pub record IsByNames (ranked : RankedTrace) (count : ℕ) (own : RankedTrace) : Type 0 where
+  pub within : AreWithin ranked.names.items count
+  pub events : own.trace.events ≡ map (named ranked.names.items) ranked.trace.events
+  pub lines : All (NamesLine count) own.trace.events
+  pub names : AreInOrder count own.names.items
+  pub places : own.places ≡ ranked.places

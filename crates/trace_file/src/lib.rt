@@ -2,6 +2,7 @@
 #![tactic(auto)]
 
 mod acts;
+mod by_names;
 mod cutting;
 mod fault;
 mod file;

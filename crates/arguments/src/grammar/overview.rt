@@ -1,7 +1,8 @@
 //! The commands of the program in groups, as help lists them.
 
 use crate::grammar::{
-    ASKING_OF_RUNS, DRAWING_OF_RUNS, JUDGING, MAKING, RUNNING, SHOWING, Subcommand, TELLING,
+    ASKING_OF_RUNS, DRAWING_OF_RUNS, JUDGING_OF_RUNS, JUDGING_PROGRAMS, MAKING, RUNNING, SHOWING,
+    Subcommand, TELLING,
 };
 use std::alloc::{AllocError, Global};
 use std::fmt::Write;
@@ -34,7 +35,8 @@ pub(crate) fn overview(alloc: Global) -> Result<String, AllocError> {
     let mut text = String::from_str(alloc, BEGINNING)?;
     for (group, heading) in &GROUPS {
         write!(text, "\n{heading}:\n")?;
-        push_commands(&mut text, *group, &JUDGING)?;
+        push_commands(&mut text, *group, &JUDGING_OF_RUNS)?;
+        push_commands(&mut text, *group, &JUDGING_PROGRAMS)?;
         push_commands(&mut text, *group, &RUNNING)?;
         push_commands(&mut text, *group, &ASKING_OF_RUNS)?;
         push_commands(&mut text, *group, &TELLING)?;

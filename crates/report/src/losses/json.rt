@@ -1,12 +1,12 @@
 //! What is printed of stores that a power cut may lose as JSON (RFC 8259): an object a line.
 
-ghost use Rattle.report.specs.LossesJson.{end_object, event_object, kept_object, lost_object, schedule_object, unpersisted_json, unread_object, why_json};
+ghost use Rattle.report.specs.LossesJson.{end_object, event_object, kept_object, lost_object, schedule_json, schedule_object, unpersisted_json, unread_object, why_json};
 ghost use Rattle.report.specs.MendsJson.{mend_object};
 ghost use Rattle.report.specs.Named.{due_members};
 ghost use Rattle.report.specs.Places.{origin_in};
 ghost use Rattle.machine.specs.Grammar.{hart_steps};
 ghost use Rattle.std.specs.List.{flat_map};
-ghost use Rattle.std.specs.Prelude.{◌≡◌, ◌++◌, ◌^◌, ◌<◌, IfOk, OnOk, string_bytes};
+ghost use Rattle.std.specs.Prelude.{◌≡◌, ◌++◌, ◌^◌, ◌<◌, IfOk, IfSome, OnOk, string_bytes};
 
 use crate::Places;
 use crate::losses::event::named_event;
@@ -47,7 +47,8 @@ pub fn unpersisted_json(
 }
 
 /// An object for each lost store, for each kept one and for each mend, one with the number of lines that recovery doesn't read and that lack
-/// a store where some do, and one with the schedule that leaves the image, each on a line of its own, as JSON of RFC 8259:
+/// a store where some do, and one with the schedule that leaves the image, where there is one, each on a line of its own, as JSON of
+/// RFC 8259:
 ///
 /// ```text
 /// {"kind":"lost","cache_line":256,"store":E,"cause":"fenced too late","clean":E,"completed":null,"fence":E}
@@ -61,11 +62,11 @@ pub fn why_json(
     alloc: Global,
     told: &ToldCut,
     unread: usize,
-    schedule: &Schedule,
+    schedule: &Option<Schedule>,
     traced: &[TracedEvent],
     places: &Places<'_>,
 ) -> Result<String, AllocError>
-    requires { hart_steps schedule.now < 2 ^ 32 }
+    requires { IfSome schedule.now (λ schedule. hart_steps schedule < 2 ^ 32) }
     ensures { IfOk result (λ text. string_bytes text
         ≡ why_json (event_object (origin_in places.now) traced.now) told.now unread schedule.now) }
 {
@@ -74,7 +75,7 @@ pub fn why_json(
     tell_kept(&mut text, &told.kept, traced, places)?;
     tell_mends(&mut text, &told.mends, traced, places)?;
     tell_unread(&mut text, unread)?;
-    tell_schedule(alloc, &mut text, schedule)?;
+    tell_known_schedule(alloc, &mut text, schedule)?;
     Ok(text)
 }
 
@@ -180,6 +181,20 @@ fn tell_unread(text: &mut String, unread: usize) -> Result<(), AllocError>
         return Ok(());
     }
     writeln!(text, "{{\"kind\":\"unread\",\"cache_lines\":{unread}}}")
+}
+
+fn tell_known_schedule(
+    alloc: Global,
+    text: &mut String,
+    schedule: &Option<Schedule>,
+) -> Result<(), AllocError>
+    requires { IfSome schedule.now (λ schedule. hart_steps schedule < 2 ^ 32) }
+    ensures { OnOk result (string_bytes text.new ≡ string_bytes text.old ++ schedule_json schedule.now) }
+{
+    match schedule {
+        Some(schedule) => tell_schedule(alloc, text, schedule),
+        None => Ok(()),
+    }
 }
 
 fn tell_schedule(alloc: Global, text: &mut String, schedule: &Schedule) -> Result<(), AllocError>

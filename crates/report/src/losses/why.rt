@@ -3,12 +3,12 @@
 ghost use Rattle.report.specs.LossesCauses.{loss_text};
 ghost use Rattle.report.specs.LossesEvents.{event_text};
 ghost use Rattle.report.specs.Mends.{mend_line};
-ghost use Rattle.report.specs.Why.{kept_line, lost_line, schedule_line, unread_line, why_text};
+ghost use Rattle.report.specs.Why.{kept_line, lost_line, schedule_line, schedule_text, unread_line, why_text};
 ghost use Rattle.report.specs.Places.{origin_in};
 ghost use Rattle.machine.specs.Grammar.{hart_steps};
 ghost use Rattle.machine.specs.Joined.{joined, text_of};
 ghost use Rattle.std.specs.List.{flat_map};
-ghost use Rattle.std.specs.Prelude.{◌≡◌, ◌++◌, ◌^◌, ◌<◌, IfOk, OnOk, string_bytes};
+ghost use Rattle.std.specs.Prelude.{◌≡◌, ◌++◌, ◌^◌, ◌<◌, IfOk, IfSome, OnOk, string_bytes};
 
 use crate::Places;
 use crate::losses::event::named_event;
@@ -20,7 +20,7 @@ use std::alloc::{AllocError, Global};
 use std::fmt::Write;
 
 /// A line for each lost store, for each kept one and for each mend, how many lines that recovery doesn't read lack a store where some do,
-/// and the schedule that leaves the image:
+/// and the schedule that leaves the image, where there is one: that of a trace file has none.
 ///
 /// ```text
 /// lost l256 store 2 h0 pc=0x10018 line=7: cleaned 5 h0 pc=0x10028 line=11, fenced 8 h0 pc=0x1003c line=16, too late
@@ -32,11 +32,11 @@ pub fn why_text(
     alloc: Global,
     told: &ToldCut,
     unread: usize,
-    schedule: &Schedule,
+    schedule: &Option<Schedule>,
     traced: &[TracedEvent],
     places: &Places<'_>,
 ) -> Result<String, AllocError>
-    requires { hart_steps schedule.now < 2 ^ 32 }
+    requires { IfSome schedule.now (λ schedule. hart_steps schedule < 2 ^ 32) }
     ensures { IfOk result (λ text. string_bytes text
         ≡ why_text (event_text (origin_in places.now) traced.now) told.now unread schedule.now) }
 {
@@ -45,7 +45,7 @@ pub fn why_text(
     tell_kept(&mut text, &told.kept, traced, places)?;
     tell_mends(&mut text, &told.mends, traced, places)?;
     tell_unread(&mut text, unread)?;
-    tell_schedule(alloc, &mut text, schedule)?;
+    tell_known_schedule(alloc, &mut text, schedule)?;
     Ok(text)
 }
 
@@ -108,6 +108,20 @@ fn tell_unread(text: &mut String, unread: usize) -> Result<(), AllocError>
     }
     writeln!(text, "and {unread} lines that recovery doesn't read")?;
     Ok(())
+}
+
+fn tell_known_schedule(
+    alloc: Global,
+    text: &mut String,
+    schedule: &Option<Schedule>,
+) -> Result<(), AllocError>
+    requires { IfSome schedule.now (λ schedule. hart_steps schedule < 2 ^ 32) }
+    ensures { OnOk result (string_bytes text.new ≡ string_bytes text.old ++ schedule_text schedule.now) }
+{
+    match schedule {
+        Some(schedule) => tell_schedule(alloc, text, schedule),
+        None => Ok(()),
+    }
 }
 
 fn tell_schedule(alloc: Global, text: &mut String, schedule: &Schedule) -> Result<(), AllocError>

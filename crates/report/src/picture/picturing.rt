@@ -3,6 +3,7 @@
 ghost use Rattle.crash_image.specs.Named.{IsNamed};
 ghost use Rattle.crash_image.specs.View.{HasLines};
 ghost use Rattle.report.specs.Picturing.{HasImageAt, IsUnnamed, LacksPicture};
+ghost use Rattle.report.specs.Told.{events_in};
 ghost use Rattle.std.specs.Prelude.{◌≤◌, ℕ, List, IfErr, IfOk, OnOk, length};
 
 use crate::events::PlacedEvent;
@@ -81,7 +82,7 @@ pub fn picture_at(
     moment: u32,
     image: &Option<Vec<ImageLine>>,
 ) -> Result<String, AllocError>
-    requires { moment ≤ length told.now.traced.items }
+    requires { moment ≤ length (events_in told.now) }
 {
     let events = placed(alloc, told, moment)?;
     match image {
@@ -96,12 +97,13 @@ fn placed<'a>(
     told: &'a ToldEvents<'_>,
     moment: u32,
 ) -> Result<Vec<PlacedEvent<'a>>, AllocError>
-    requires { moment ≤ length told.now.traced.items }
+    requires { moment ≤ length (events_in told.now) }
 {
     let mut events = Vec::new(alloc);
+    let traced = told.traced.as_slice();
     for at in 0..moment as usize {
         let number = at as u64 + 1;
-        events.push(whole(&told.places, &told.lines, number, told.traced[at]))?;
+        events.push(whole(&told.places, &told.lines, number, traced[at]))?;
     }
     Ok(events)
 }

@@ -1,12 +1,17 @@
 -- First the sequential runs, and then the verdict by all of them, or the bound that they pass.
 use Rattle.std.proofs.Common.{Ok, Err, Some, refl, rules}
 use Rattle.command_line.specs.declared.failure.Failure.TheVariants.{Memory}
-use Rattle.command_line.proofs.Started.{rule_of_runs}
+use Rattle.command_line.proofs.Started.{few_started, rule_of_runs}
 use Rattle.command_line.proofs.judge.judge_atomic.Goals as goal
+
+pub runs_for-requires-clause-few : goal.runs_for-requires-clause-few
+runs_for-requires-clause-few g c =
+    few_started c.args.judge.now.events _ (rw (c.requires.atomic, c.setup_in-start.ensures) at c.requires.open.ready.started)
 
 pub judge_by-requires-clause-rule : goal.judge_by-requires-clause-rule
 judge_by-requires-clause-rule g c =
-    λ κs within. rule_of_runs c.args.judge.now _ c.requires.open.started c.requires.atomic refl refl (rw c.in-All.is at c.in_ok-found.ensures)
+    λ κs within. rule_of_runs c.args.judge.now _ _ c.setup_in-start.ensures c.requires.open.ready c.requires.atomic refl refl
+    (rw (c.setup_in-start.ensures, c.in-All.is) at c.in_ok-found.ensures)
 
 pub returns-in-All : goal.returns-in-All
 returns-in-All g c = record {

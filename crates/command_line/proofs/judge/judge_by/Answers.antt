@@ -10,7 +10,7 @@ returns g c = record {
   after = record {
     found = Ok c.in_ok-why.why;
     between = c.verdict.new.errors;
-    first = record { value = rw c.in_ok-why.was at c.why.ensures.told; untouched = refl };
+    first = record { value = rw c.in_ok-why.was at c.why_of.ensures.told; untouched = refl };
     after = record {
       found = Ok c.in_ok-answer.answer;
       between = c.verdict.new.errors;
@@ -28,7 +28,7 @@ returns-in_err-why g c = record {
   after = record {
     found = Err c.in_err-why.field-0.0;
     between = c.verdict.new.errors;
-    first = record { value = rw c.in_err-why.was at c.why.ensures.told; untouched = refl };
+    first = record { value = rw c.in_err-why.was at c.why_of.ensures.told; untouched = refl };
     after = (search rules, refl);
   };
 }
@@ -41,7 +41,7 @@ returns-in_err-answer g c = record {
   after = record {
     found = Ok c.in_ok-why.why;
     between = c.verdict.new.errors;
-    first = record { value = rw c.in_ok-why.was at c.why.ensures.told; untouched = refl };
+    first = record { value = rw c.in_ok-why.was at c.why_of.ensures.told; untouched = refl };
     after = record {
       found = Err c.in_err-answer.field-0.0;
       between = c.verdict.new.errors;

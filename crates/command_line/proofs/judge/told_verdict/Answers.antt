@@ -4,28 +4,54 @@ use Rattle.routine_judge.specs.Rules.{JudgementView}
 use Rattle.command_line.proofs.OnTheWay.{same_stream, told_lines}
 use Rattle.command_line.proofs.judge.told_verdict.Goals as goal
 
-pub returns-clause-same : goal.returns-clause-same
-returns-clause-same g c = same_stream _ _ _ _ _ _ _ _ _ _ c.judge_program.ensures.told
+pub returns-in_ok-judge_program-in-Run-clause-same : goal.returns-in_ok-judge_program-in-Run-clause-same
+returns-in_ok-judge_program-in-Run-clause-same g c = same_stream _ _ _ _ _ _ _ _ _ _ c.judge_program.ensures.told
 
-pub returns-clause-told : goal.returns-clause-told
-returns-clause-told g c = told_lines _ _ _ _ _ _ _ _ _ _ (rw (
+pub returns-in_ok-judge_program-in-Run-clause-told : goal.returns-in_ok-judge_program-in-Run-clause-told
+returns-in_ok-judge_program-in-Run-clause-told g c = rw c.in-Run.is (told_lines _ _ _ _ _ _ _ _ _ _ (rw (
   c.work-work.ensures.first,
   c.work-work.ensures.last,
   c.work-work.ensures.goes_on,
   ap (λ (v : JudgementView). v.routine) c.judgement-judgement.ensures.asked,
   ap (λ (v : JudgementView). v.steps) c.judgement-judgement.ensures.asked,
   ap (λ (v : JudgementView). v.right) c.judgement-judgement.ensures.asked,
-) at c.judge_program.ensures.told)
+) at c.judge_program.ensures.told))
 
-pub returns-in_err-judge_program-clause-same : goal.returns-in_err-judge_program-clause-same
-returns-in_err-judge_program-clause-same g c = same_stream _ _ _ _ _ _ _ _ _ _ c.judge_program.ensures.told
+pub returns-in_ok-judge_events-in-Trace-clause-same : goal.returns-in_ok-judge_events-in-Trace-clause-same
+returns-in_ok-judge_events-in-Trace-clause-same g c = same_stream _ _ _ _ _ _ _ _ _ _ c.judge_events.ensures.told
 
-pub returns-in_err-judge_program-clause-told : goal.returns-in_err-judge_program-clause-told
-returns-in_err-judge_program-clause-told g c = told_lines _ _ _ _ _ _ _ _ _ _ (rw (
+pub returns-in_ok-judge_events-in-Trace-clause-told : goal.returns-in_ok-judge_events-in-Trace-clause-told
+returns-in_ok-judge_events-in-Trace-clause-told g c = rw c.in-Trace.is (told_lines _ _ _ _ _ _ _ _ _ _ (rw (
   c.work-work.ensures.first,
   c.work-work.ensures.last,
   c.work-work.ensures.goes_on,
   ap (λ (v : JudgementView). v.routine) c.judgement-judgement.ensures.asked,
   ap (λ (v : JudgementView). v.steps) c.judgement-judgement.ensures.asked,
   ap (λ (v : JudgementView). v.right) c.judgement-judgement.ensures.asked,
-) at c.judge_program.ensures.told)
+) at c.judge_events.ensures.told))
+
+pub returns-in_err-judge_program-in-Run-clause-same : goal.returns-in_err-judge_program-in-Run-clause-same
+returns-in_err-judge_program-in-Run-clause-same g c = same_stream _ _ _ _ _ _ _ _ _ _ c.judge_program.ensures.told
+
+pub returns-in_err-judge_program-in-Run-clause-told : goal.returns-in_err-judge_program-in-Run-clause-told
+returns-in_err-judge_program-in-Run-clause-told g c = rw c.in-Run.is (told_lines _ _ _ _ _ _ _ _ _ _ (rw (
+  c.work-work.ensures.first,
+  c.work-work.ensures.last,
+  c.work-work.ensures.goes_on,
+  ap (λ (v : JudgementView). v.routine) c.judgement-judgement.ensures.asked,
+  ap (λ (v : JudgementView). v.steps) c.judgement-judgement.ensures.asked,
+  ap (λ (v : JudgementView). v.right) c.judgement-judgement.ensures.asked,
+) at c.judge_program.ensures.told))
+
+pub returns-in_err-judge_events-in-Trace-clause-same : goal.returns-in_err-judge_events-in-Trace-clause-same
+returns-in_err-judge_events-in-Trace-clause-same g c = same_stream _ _ _ _ _ _ _ _ _ _ c.judge_events.ensures.told
+
+pub returns-in_err-judge_events-in-Trace-clause-told : goal.returns-in_err-judge_events-in-Trace-clause-told
+returns-in_err-judge_events-in-Trace-clause-told g c = rw c.in-Trace.is (told_lines _ _ _ _ _ _ _ _ _ _ (rw (
+  c.work-work.ensures.first,
+  c.work-work.ensures.last,
+  c.work-work.ensures.goes_on,
+  ap (λ (v : JudgementView). v.routine) c.judgement-judgement.ensures.asked,
+  ap (λ (v : JudgementView). v.steps) c.judgement-judgement.ensures.asked,
+  ap (λ (v : JudgementView). v.right) c.judgement-judgement.ensures.asked,
+) at c.judge_events.ensures.told))

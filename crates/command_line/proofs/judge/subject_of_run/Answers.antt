@@ -1,6 +1,16 @@
 -- Each step in its turn.
 use Rattle.std.proofs.Common.{Ok, Err, refl, rules}
-use Rattle.command_line.proofs.judge.open_judge.Goals as goal
+use Rattle.command_line.proofs.Started.{opened_run, ready_run}
+use Rattle.command_line.proofs.judge.subject_of_run.Goals as goal
+
+pub returns-clause-ready : goal.returns-clause-ready
+returns-clause-ready g c =
+    ready_run c.args.command.now.right c.args.run.now c.in_ok-read.read c.in_ok-made.made c.in_ok-start.start c.in_ok-events.events
+    c.requires c.in_ok-start.ensures c.in_ok-made.ensures.makes c.in_ok-events.ensures.opens c.in_ok-events.ensures.ready c.in_ok-events.ensures.places
+
+-- it is no failure
+pub returns-in_err-events-clause-opens : goal.returns-in_err-events-clause-opens
+returns-in_err-events-clause-opens g c = let never = c.in_err-events.ensures.opens.opens in absurd cc
 
 pub returns-clause-opens : goal.returns-clause-opens
 returns-clause-opens g c = record {
@@ -14,7 +24,7 @@ returns-clause-opens g c = record {
     after = record {
       found = Ok c.in_ok-start.start;
       between = c.read_recovery.new.files;
-      first = record { value = rw c.in_ok-start.was at c.start_of.ensures; untouched = refl };
+      first = record { value = rw c.in_ok-start.was at c.start_for.ensures; untouched = refl };
       after = record {
         found = Ok c.in_ok-made.made;
         between = c.read_recovery.new.files;
@@ -23,7 +33,7 @@ returns-clause-opens g c = record {
           found = Ok tt;
           between = c.read_recovery.new.files;
           first = record { value = rw c.in_ok-demand_whole.was at c.demand_whole.ensures; untouched = refl };
-          after = record { value = record { opens = record { command_is = refl; start_is = refl; made_is = refl; recovery_is = refl } }; untouched = refl };
+          after = record { value = record { gives = record { start_is = refl; events_are = opened_run c.in_ok-made.made c.in_ok-events.events c.in_ok-events.ensures.opens; recovery_is = refl } }; untouched = refl };
         };
       };
     };
@@ -42,7 +52,7 @@ returns-in_err-demand_whole-clause-opens g c = record {
     after = record {
       found = Ok c.in_ok-start.start;
       between = c.read_recovery.new.files;
-      first = record { value = rw c.in_ok-start.was at c.start_of.ensures; untouched = refl };
+      first = record { value = rw c.in_ok-start.was at c.start_for.ensures; untouched = refl };
       after = record {
         found = Ok c.in_ok-made.made;
         between = c.read_recovery.new.files;
@@ -70,7 +80,7 @@ returns-in_err-made-clause-opens g c = record {
     after = record {
       found = Ok c.in_ok-start.start;
       between = c.read_recovery.new.files;
-      first = record { value = rw c.in_ok-start.was at c.start_of.ensures; untouched = refl };
+      first = record { value = rw c.in_ok-start.was at c.start_for.ensures; untouched = refl };
       after = record {
         found = Err c.in_err-made.field-0.0;
         between = c.read_recovery.new.files;
@@ -106,7 +116,7 @@ returns-in_err-start-clause-opens g c = record {
     after = record {
       found = Err c.in_err-start.field-0.0;
       between = c.read_recovery.new.files;
-      first = record { value = rw c.in_err-start.was at c.start_of.ensures; untouched = refl };
+      first = record { value = rw c.in_err-start.was at c.start_for.ensures; untouched = refl };
       after = (search (rules, c.from_residual-in_err-start.ensures), refl);
     };
   };
