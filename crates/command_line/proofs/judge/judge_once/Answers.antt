@@ -1,6 +1,6 @@
 -- Each step in its turn.
 use Rattle.std.proofs.Common.{Ok, Err, refl, rules}
-use Rattle.command_line.proofs.judge.judge_by.Goals as goal
+use Rattle.command_line.proofs.judge.judge_once.Goals as goal
 
 pub returns : goal.returns
 returns g c = record {
