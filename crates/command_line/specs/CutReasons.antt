@@ -1,5 +1,5 @@
 -- `--why` with power cuts in recovery: what is told of each power cut of a chain.
-use Rattle.std.specs.Prelude.{◌≡◌, ◌==◌, ◌<◌, ◌^◌, ◌⊎◌, ℕ, zero, suc, Bool, true, false, List, [], ◌∷◌, ◌++◌, All, Result, MatchResult, codes, decimal, length}
+use Rattle.std.specs.Prelude.{◌≡◌, ◌==◌, ◌<◌, ◌^◌, ◌⊎◌, ℕ, zero, suc, Bool, true, false, List, [], ◌∷◌, ◌++◌, All, Result, MatchResult, codes, decimal, if◌then◌else◌, length}
 use Rattle.std.specs.List.{after_first, before_first, enumerate_from, flat_map}
 use Rattle.std.specs.Str.Lines.{lines}
 use Rattle.crash_image.specs.declared.ImageFault.{ImageFault}
@@ -8,6 +8,7 @@ use Rattle.crash_test.specs.Loading.{IsLoaded}
 use Rattle.crash_test.specs.Losses.{IsExplainedBy}
 use Rattle.crash_test.specs.Origins.{origin_of}
 use Rattle.crash_test.specs.Runs.{IsRunBy}
+use Rattle.crash_test.specs.declared.losses.ExplainedImage.{ExplainedImage}
 use Rattle.machine.specs.RunValues.{RunView, with_room}
 use Rattle.machine.specs.Grammar.{hart_steps}
 use Rattle.machine.specs.declared.schedule.items.Item.{Item}
@@ -49,12 +50,25 @@ AreLoaded recovery steps [] found = found ≡ []
 AreLoaded recovery steps (left ∷ images) found =
     (first : List ℕ) × (others : List ℕ) × (found ≡ first ++ others) × IsLoaded recovery steps left first × AreLoaded recovery steps images others
 
+-- mends are told of the last power cut alone: without it all is right
+pub record IsToldOf (is_last : Bool) (whole told : ExplainedImage) : Type 0 where
+  pub lost : told.told.read.lost.items ≡ whole.told.read.lost.items
+  pub kept : told.told.read.kept.items ≡ whole.told.read.kept.items
+  pub mends : told.told.read.mends.items ≡ (if is_last then whole.told.read.mends.items else [])
+  pub unread : told.told.unread ≡ whole.told.unread
+  pub schedule : told.schedule ≡ whole.schedule
+
+abbrev pub is_none : List Lines → Bool
+is_none images = length images == 0
+
 -- What is told of a power cut of a run: what its image lacks and keeps of the lines that recovery loads of it and of the images that further cuts
 -- leave, and whether it comes after the end of the run.
 pub record IsExplained (recovery : Sections) (steps : ℕ) (run : RunView) (link : ChainLink) (later : List Lines) (cut : ExplainedCut) : Type 0 where
+  pub whole : ExplainedImage
+  pub explained : IsExplainedBy (λ left. AreLoaded recovery steps (left ∷ later)) run link.moment link.image whole
+  pub told : IsToldOf (is_none later) whole cut.explained
   pub traced : cut.traced.items ≡ run.traced
   pub ended : cut.ended ≡ (length run.events == link.moment)
-  pub explained : IsExplainedBy (λ left. AreLoaded recovery steps (left ∷ later)) run link.moment link.image cut.explained
 
 -- the first power cut of a chain comes in this run, and further ones as `Further` says of its image
 pub record Begins (recovery : Sections) (steps : ℕ) (run : RunView) (link : ChainLink) (Further : Lines → List Lines → List ExplainedCut → Type 0)

@@ -1,6 +1,6 @@
 //! What is told of the power cuts of a failing chain.
 
-ghost use Rattle.command_line.specs.CutReasons.{AreExplained, Begins, ExplainsChain, HaveFewSteps, IsExplained, IsImageOf, IsRecoveryOn, IsUnexplained, bool_text, chain_told, cut_told, file_of, front_of, line_told, lines_told, with_recovery};
+ghost use Rattle.command_line.specs.CutReasons.{AreExplained, Begins, ExplainsChain, HaveFewSteps, IsExplained, IsImageOf, IsRecoveryOn, IsToldOf, IsUnexplained, bool_text, chain_told, cut_told, file_of, front_of, line_told, lines_told, with_recovery};
 ghost use Rattle.crash_test.specs.Programs.{IsProgramOf};
 ghost use Rattle.crash_test.specs.Told.{LacksImage};
 ghost use Rattle.command_line.specs.Failures.{failure_of_image};
@@ -166,13 +166,24 @@ fn explained_cut(
     ensures err { IfErr result IsUnexplained }
 {
     let reader = ChainReader { routine, later };
-    let explained = explain_losses(alloc, run, link.moment, &link.image, &reader)?;
+    let whole = explain_losses(alloc, run, link.moment, &link.image, &reader)?;
     let traced = Vec::from_slice(alloc, run.traced())?;
     Ok(ExplainedCut {
         traced,
-        explained,
+        explained: told_of(alloc, whole, later.is_empty()),
         ended: run.trace().events().len() == link.moment as usize,
     })
+}
+
+/// What is told of an image: mends of the last power cut alone, without which all is right.
+fn told_of(alloc: Global, whole: ExplainedImage, is_last: bool) -> ExplainedImage
+    ensures { IsToldOf is_last whole result }
+{
+    let mut told = whole;
+    if !is_last {
+        told.told.read.mends = Vec::new(alloc);
+    }
+    told
 }
 
 /// The routine's run on an image, as a program's.

@@ -15,7 +15,7 @@ returns g c = record {
       found = Ok c.in_ok-answer.answer;
       between = c.verdict.new.errors;
       first = record { value = rw c.in_ok-answer.was at c.verdict_answer.ensures; untouched = refl };
-      after = record { answers = refl; notes = c.note_none.ensures.front };
+      after = record { answers = refl; notes = rw c.judges_none.ensures at c.note_none.ensures.front };
     };
   };
 }
