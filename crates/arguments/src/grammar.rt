@@ -257,7 +257,7 @@ const OVERLAPPING: Argument = Argument::Flag {
 const RECOVERY_CUTS: Argument = Argument::Valued {
     name: "recovery-cuts",
     value: "N",
-    about: "Judge up to N power cuts while recovery runs or after it too, from 1 to 64, or `any` [default: none]",
+    about: "Judge power cuts in recovery too, and after it: up to N, from 1 to 64, or any [default: none]",
 };
 
 const STATES: Argument = Argument::Valued {
