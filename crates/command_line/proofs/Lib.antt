@@ -3,6 +3,7 @@ mod Held
 mod Kept
 pub mod ImageLines
 mod Loops
+mod Texts
 pub mod Written
 mod ObjectPrograms
 pub mod OfFile

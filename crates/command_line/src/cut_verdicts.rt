@@ -322,6 +322,7 @@ fn links_behind(
 }
 
 /// Adds further power cuts.
+#[tactic(auto, using(crate::proofs::Texts::text_more, crate::proofs::Texts::texts_all))]
 fn push_links(
     alloc: Global,
     text: &mut String,
