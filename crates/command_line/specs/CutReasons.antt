@@ -15,7 +15,7 @@ use Rattle.machine.specs.declared.schedule.items.Item.{Item}
 use Rattle.machine.specs.declared.schedule.items.Item.TheVariants.{Steps}
 use Rattle.machine.specs.declared.shared_memory.fault.StepFault.{StepFault}
 use Rattle.program.specs.Sections.{Sections}
-use Rattle.routine_judge.specs.declared.cuts.verdict.ChainLink.{ChainLink}
+use Rattle.routine_judge.specs.declared.cuts.outcome.ChainLink.{ChainLink}
 use Rattle.store_trace.specs.Cut.{number_in}
 use Rattle.store_trace.specs.History.{at_moment}
 use Rattle.store_trace.specs.Image.{image}

@@ -5,11 +5,11 @@ use Rattle.arguments.specs.declared.asked.MostCuts.{MostCuts}
 use Rattle.arguments.specs.declared.asked.MostCuts.TheVariants as asked
 use Rattle.routine_judge.specs.declared.cuts.judging.CutCause.{CutCause}
 use Rattle.routine_judge.specs.declared.cuts.judging.CutCause.TheVariants as causes
-use Rattle.routine_judge.specs.declared.cuts.verdict.ChainLink.{ChainLink}
-use Rattle.routine_judge.specs.declared.cuts.verdict.CutsVerdict.{CutsVerdict}
-use Rattle.routine_judge.specs.declared.cuts.verdict.CutsVerdict.TheVariants as verdicts
-use Rattle.routine_judge.specs.declared.cuts.verdict.RecoveryCuts.{RecoveryCuts}
-use Rattle.routine_judge.specs.declared.cuts.verdict.RecoveryCuts.TheVariants as cuts
+use Rattle.routine_judge.specs.declared.cuts.outcome.ChainLink.{ChainLink}
+use Rattle.routine_judge.specs.declared.cuts.outcome.CutsVerdict.{CutsVerdict}
+use Rattle.routine_judge.specs.declared.cuts.outcome.CutsVerdict.TheVariants as verdicts
+use Rattle.routine_judge.specs.declared.cuts.outcome.RecoveryCuts.{RecoveryCuts}
+use Rattle.routine_judge.specs.declared.cuts.outcome.RecoveryCuts.TheVariants as cuts
 use Rattle.text.specs.Texts.{image_text}
 use Rattle.verdict.specs.declared.moment_verdict.verdict.OpenMoments.{OpenMoments}
 use Rattle.command_line.specs.Judging.{cause_text}

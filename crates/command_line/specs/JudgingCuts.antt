@@ -2,8 +2,8 @@
 use Rattle.std.specs.Prelude.{ℕ, List, [], Option, Result, MatchResult, ◌++◌}
 use Rattle.crash_test.specs.CutJudging.{HasCutJudgement, IsToldOfCuts}
 use Rattle.routine_judge.specs.Verdicts.{IsRefusal}
-use Rattle.routine_judge.specs.declared.cuts.verdict.CutsVerdict.{CutsVerdict}
-use Rattle.routine_judge.specs.declared.cuts.verdict.RecoveryCuts.{RecoveryCuts}
+use Rattle.routine_judge.specs.declared.cuts.outcome.CutsVerdict.{CutsVerdict}
+use Rattle.routine_judge.specs.declared.cuts.outcome.RecoveryCuts.{RecoveryCuts}
 use Rattle.command_line.specs.CutReasons.{ExplainsChain, chain_told}
 use Rattle.command_line.specs.CutVerdicts.{failing_chain, judges_none, told_verdict, verdict_status}
 use Rattle.command_line.specs.Failures.{failure_of_judge}
