@@ -4,6 +4,8 @@ mod Kept
 pub mod ImageLines
 mod Loops
 mod Texts
+mod Unexplained
+mod CutLines
 pub mod Written
 mod ObjectPrograms
 pub mod OfFile

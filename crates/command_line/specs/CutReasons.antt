@@ -1,5 +1,5 @@
 -- `--why` with power cuts in recovery: what is told of each power cut of a chain.
-use Rattle.std.specs.Prelude.{◌≡◌, ◌==◌, ◌<◌, ◌^◌, ◌⊎◌, ℕ, zero, suc, Bool, true, false, List, [], ◌∷◌, ◌++◌, All, Result, MatchResult, codes, decimal, if◌then◌else◌, length}
+use Rattle.std.specs.Prelude.{◌≡◌, ◌==◌, ◌<◌, ◌^◌, ◌⊎◌, ℕ, Bool, true, false, List, [], ◌∷◌, ◌++◌, All, Result, MatchResult, codes, decimal, if◌then◌else◌, length}
 use Rattle.std.specs.List.{after_first, before_first, enumerate_from, flat_map}
 use Rattle.std.specs.Str.Lines.{lines}
 use Rattle.crash_image.specs.declared.ImageFault.{ImageFault}
@@ -7,6 +7,7 @@ use Rattle.crash_test.specs.Explaining.{HasImage}
 use Rattle.crash_test.specs.Loading.{IsLoaded}
 use Rattle.crash_test.specs.Losses.{IsExplainedBy}
 use Rattle.crash_test.specs.Origins.{origin_of}
+use Rattle.crash_test.specs.Programs.{IsProgramOf}
 use Rattle.crash_test.specs.Runs.{IsRunBy}
 use Rattle.crash_test.specs.declared.losses.ExplainedImage.{ExplainedImage}
 use Rattle.machine.specs.RunValues.{RunView, with_room}
@@ -107,10 +108,12 @@ abbrev pub HaveFewSteps : List ExplainedCut → Type 0
 HaveFewSteps cuts = All (λ (cut : ExplainedCut). hart_steps cut.explained.schedule < 2 ^ 32) cuts
 
 -- in front of a line about a power cut: nothing of the program's, and else in which recovery it comes, or after which
+abbrev pub front_in : ℕ → Bool → List ℕ
+front_in k false = codes "in recovery " ++ (decimal k ++ codes " ")
+front_in k true = codes "after recovery " ++ (decimal k ++ codes " ")
+
 abbrev pub front_of : ℕ → Bool → List ℕ
-front_of zero ended = []
-front_of (suc k) false = codes "in recovery " ++ (decimal (suc k) ++ codes " ")
-front_of (suc k) true = codes "after recovery " ++ (decimal (suc k) ++ codes " ")
+front_of k ended = if k == 0 then [] else front_in k ended
 
 -- the same as members of an object, behind its first one, which says its kind
 abbrev pub bool_text : Bool → List ℕ
@@ -129,10 +132,13 @@ line_told true k ended line = with_recovery k ended line
 abbrev pub lines_told : Bool → ℕ → Bool → List ℕ → List ℕ
 lines_told json k ended text = flat_map (line_told json k ended) (lines text)
 
+-- a file of a program
+abbrev pub IsOfProgram : List ℕ → Type 0
+IsOfProgram file = (sections : Sections) × IsProgramOf file sections
+
 -- the file of the program, and that of recovery
 abbrev pub file_of : List ℕ → List ℕ → ℕ → List ℕ
-file_of program recovery zero = program
-file_of program recovery (suc k) = recovery
+file_of program recovery k = if k == 0 then program else recovery
 
 abbrev pub cut_told : Bool → List ℕ → List ℕ → ℕ × ExplainedCut → List ℕ
 cut_told json program recovery numbered = lines_told json numbered.0 numbered.1.ended

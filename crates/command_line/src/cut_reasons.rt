@@ -1,16 +1,11 @@
 //! What is told of the power cuts of a failing chain.
 
-ghost use Rattle.command_line.specs.CutReasons.{AreExplained, Begins, ExplainsChain, HaveFewSteps, IsExplained, IsImageOf, IsRecoveryOn, IsToldOf, IsUnexplained, bool_text, chain_told, cut_told, file_of, front_of, line_told, lines_told, with_recovery};
-ghost use Rattle.crash_test.specs.Programs.{IsProgramOf};
-ghost use Rattle.crash_test.specs.Told.{LacksImage};
-ghost use Rattle.command_line.specs.Failures.{failure_of_image};
+ghost use Rattle.command_line.specs.CutReasons.{AreExplained, AreLoaded, Begins, ExplainsChain, HaveFewSteps, IsExplained, IsImageOf, IsOfProgram, IsRecoveryOn, IsToldOf, IsUnexplained, bool_text, chain_told, file_of, front_in, front_of, line_told, lines_told, with_recovery};
 ghost use Rattle.command_line.specs.Reasons.{told_losses};
-ghost use Rattle.command_line.specs.Steps.{Tells};
 ghost use Rattle.crash_test.specs.Origins.{origin_of};
 ghost use Rattle.machine.specs.Grammar.{hart_steps};
-ghost use Rattle.program.specs.Sections.{Sections};
-ghost use Rattle.std.specs.List.{after_first, before_first, flat_map};
-ghost use Rattle.std.specs.Prelude.{◌≡◌, ◌++◌, ◌==◌, ◌^◌, ◌<◌, IfErr, IfOk, OnOk, length, map, string_bytes};
+ghost use Rattle.std.specs.List.{after_first, before_first};
+ghost use Rattle.std.specs.Prelude.{◌≡◌, ◌∷◌, ◌++◌, ◌==◌, ◌^◌, ◌<◌, IfErr, IfOk, map, string_bytes};
 ghost use Rattle.std.specs.Result.{result_map_both};
 ghost use Rattle.std.specs.Str.Lines.{lines};
 
@@ -105,6 +100,7 @@ pub(crate) fn explained_chain(
 }
 
 /// What is told of power cuts in recovery, the first of them in the routine's run on this image.
+#[tactic(auto, using(crate::proofs::Unexplained::memory_unexplained, crate::proofs::Unexplained::step_unexplained, crate::proofs::Unexplained::image_unexplained))]
 fn explained_cuts(
     alloc: Global,
     routine: &RoutineReader<'_>,
@@ -128,6 +124,7 @@ fn explained_cuts(
 }
 
 /// The same with one more in front, which leaves this image.
+#[tactic(auto, using(crate::proofs::Unexplained::memory_unexplained, crate::proofs::Unexplained::step_unexplained, crate::proofs::Unexplained::image_unexplained))]
 fn with_cut(
     alloc: Global,
     routine: &RoutineReader<'_>,
@@ -143,17 +140,29 @@ fn with_cut(
     ensures few { IfOk result (λ all. HaveFewSteps all.cuts.items) }
     ensures err { IfErr result IsUnexplained }
 {
+    let cut = explained_cut(alloc, routine, run, link, &later.images)?;
+    Ok(with_first(left, cut, later)?)
+}
+
+fn with_first(
+    left: Medium,
+    cut: ExplainedCut,
+    later: ExplainedCuts,
+) -> Result<ExplainedCuts, AllocError>
+    ensures images { IfOk result (λ all. all.images.items ≡ left ∷ later.images.items) }
+    ensures cuts { IfOk result (λ all. all.cuts.items ≡ cut ∷ later.cuts.items) }
+{
     let ExplainedCuts {
         mut images,
         mut cuts,
     } = later;
-    let cut = explained_cut(alloc, routine, run, link, &images)?;
     images.insert(0, left)?;
     cuts.insert(0, cut)?;
     Ok(ExplainedCuts { images, cuts })
 }
 
 /// What is told of one of them, behind which these images are left.
+#[tactic(auto, using(crate::proofs::Unexplained::memory_unexplained, crate::proofs::Unexplained::step_unexplained, crate::proofs::Unexplained::image_unexplained))]
 fn explained_cut(
     alloc: Global,
     routine: &RoutineReader<'_>,
@@ -187,6 +196,7 @@ fn told_of(alloc: Global, whole: ExplainedImage, is_last: bool) -> ExplainedImag
 }
 
 /// The routine's run on an image, as a program's.
+#[tactic(auto, using(crate::proofs::Unexplained::memory_unexplained, crate::proofs::Unexplained::step_unexplained, crate::proofs::Unexplained::image_unexplained))]
 fn recovery_run(
     alloc: Global,
     routine: &RoutineReader<'_>,
@@ -206,6 +216,7 @@ fn recovery_run(
 }
 
 /// The image that a power cut of a chain leaves in its run.
+#[tactic(auto, using(crate::proofs::Unexplained::memory_unexplained, crate::proofs::Unexplained::step_unexplained, crate::proofs::Unexplained::image_unexplained))]
 fn image_left(alloc: Global, run: &Run, link: &ChainLink) -> Result<Medium, Failure>
     ensures ok { IfOk result (IsImageOf run.now link.now) }
     ensures err { IfErr result IsUnexplained }
@@ -223,18 +234,28 @@ pub(crate) fn chain_told(
     cuts: &[ExplainedCut],
     json: bool,
 ) -> Result<String, AllocError>
-    requires program { (sections : Sections) × IsProgramOf program.now sections }
-    requires recovery { (sections : Sections) × IsProgramOf recovery.now sections }
+    requires program { IsOfProgram program.now }
+    requires recovery { IsOfProgram recovery.now }
     requires few { HaveFewSteps cuts.now }
     ensures { IfOk result (λ text. string_bytes text ≡ chain_told json program.now recovery.now cuts.now) }
 {
     let mut text = String::new(alloc);
     for (number, cut) in cuts.iter().enumerate() {
-        let file = if number == 0 { program } else { recovery };
+        let file = file_of(program, recovery, number);
         let lines = cut_told(alloc, file, number, cut, json)?;
         text.push_str(lines.as_str())?;
     }
     Ok(text)
+}
+
+/// The file of the program, and else that of recovery.
+fn file_of<'a>(program: &'a [u8], recovery: &'a [u8], number: usize) -> &'a [u8]
+    requires program { IsOfProgram program.now }
+    requires recovery { IsOfProgram recovery.now }
+    ensures file { result.now ≡ file_of program.now recovery.now number }
+    ensures program { IsOfProgram result.now }
+{
+    if number == 0 { program } else { recovery }
 }
 
 /// What is printed of one of them, in the recovery of this number, 0 being the program.
@@ -245,7 +266,7 @@ fn cut_told(
     cut: &ExplainedCut,
     json: bool,
 ) -> Result<String, AllocError>
-    requires file { (sections : Sections) × IsProgramOf file.now sections }
+    requires file { IsOfProgram file.now }
     requires few { hart_steps cut.now.explained.schedule < 2 ^ 32 }
     ensures { IfOk result (λ text. string_bytes text ≡ lines_told json number cut.now.ended
         (told_losses json (origin_of file.now) cut.now.traced.items cut.now.explained)) }
@@ -301,10 +322,20 @@ fn line_told(
 fn front_of(alloc: Global, number: usize, ended: bool) -> Result<String, AllocError>
     ensures { IfOk result (λ front. string_bytes front ≡ front_of number ended) }
 {
-    match (number, ended) {
-        (0, _) => Ok(String::new(alloc)),
-        (_, false) => format!(in alloc; "in recovery {number} "),
-        (_, true) => format!(in alloc; "after recovery {number} "),
+    if number == 0 {
+        Ok(String::new(alloc))
+    } else {
+        front_in(alloc, number, ended)
+    }
+}
+
+fn front_in(alloc: Global, number: usize, ended: bool) -> Result<String, AllocError>
+    ensures { IfOk result (λ front. string_bytes front ≡ front_in number ended) }
+{
+    if ended {
+        format!(in alloc; "after recovery {number} ")
+    } else {
+        format!(in alloc; "in recovery {number} ")
     }
 }
 
