@@ -81,8 +81,9 @@ fn reported_verdict<T: Threads + Sync + Clock, E: Write>(
         reporter.old.errors.now reporter.new.errors.now }
 {
     let work = work(&judge.command.judged);
+    let judgement = judgement(judge, rule);
     let asked = CutJudgement {
-        judgement: judgement(judge, rule),
+        judgement,
         cuts: most,
     };
     Ok(judge_run_cuts(rt, alloc, &judge.made.run, asked, work, reporter)?)
