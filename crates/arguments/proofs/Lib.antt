@@ -1,3 +1,4 @@
+mod Cuts
 mod Lines
 mod Spans
 pub mod Tables

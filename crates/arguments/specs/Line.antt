@@ -5,6 +5,7 @@ use Rattle.clap.specs.Kinds.{IsAmong}
 use Rattle.clap.specs.declared.error.ErrorKind.{ErrorKind}
 use Rattle.clap.specs.declared.error.ErrorKind.TheVariants as kinds
 use Rattle.text.specs.Texts.{IsProper}
+use Rattle.arguments.specs.Cuts.{AreFewCuts, IsOptionalCuts}
 use Rattle.arguments.specs.Grammar.{grammar_of}
 use Rattle.arguments.specs.Spans.{IsOptionalMoments, IsUpward}
 use Rattle.arguments.specs.Values.{IsCapacity, IsCodeWord, IsEvictions, IsHarts, IsImageWord, IsNumberWord, IsOptional, IsOptionalImage, IsOptionalNumber, IsRecoverySteps, IsSeed, IsStates, IsSteps, IsWord, IsWorkers, is_set}
@@ -31,6 +32,7 @@ use Rattle.arguments.specs.declared.asked.LineFault.TheVariants.{Help, Fault, Me
 use Rattle.arguments.specs.declared.asked.ListingCommand.{ListingCommand}
 use Rattle.arguments.specs.declared.asked.MachineOptions.{MachineOptions}
 use Rattle.arguments.specs.declared.asked.MakeVolumeCommand.{MakeVolumeCommand}
+use Rattle.arguments.specs.declared.asked.MostCuts.{MostCuts}
 use Rattle.arguments.specs.declared.asked.PictureCommand.{PictureCommand}
 use Rattle.arguments.specs.declared.asked.ReplayCommand.{ReplayCommand}
 use Rattle.arguments.specs.declared.asked.ReportCommand.{ReportCommand}
@@ -175,15 +177,22 @@ abbrev pub IsRightOf : EventSource → RightAnswers → Type 0
 IsRightOf (sources.Run run) right = ⊤
 IsRightOf (sources.Trace events) right = right ≢ Atomic
 
--- `judge` of these events by this recovery routine, so many steps of it on an image, the answers of it that are right, and at most so many states of
--- the search for sequential runs
+-- power cuts in recovery are asked for of a run alone
+abbrev pub AreCutsOf : EventSource → Option MostCuts → Type 0
+AreCutsOf (sources.Run run) cuts = ⊤
+AreCutsOf (sources.Trace events) cuts = cuts ≡ None
+
+-- `judge` of these events by this recovery routine, so many steps of it on an image, the answers of it that are right, at most so many states of the
+-- search for sequential runs, and so many power cuts in recovery
 pub record IsJudge (rows : List Row) (command : JudgeCommand) : Type 0 where
   pub recovery : IsWord (codes "RECOVERY") rows command.recovery
   pub steps : IsRecoverySteps rows command.steps
   pub right : IsRight rows command.right
   pub states : IsStates rows command.states
+  pub cuts : IsOptionalCuts (first_of (codes "recovery-cuts") rows) command.cuts
   pub judged : IsJudgedRun rows command.judged
   pub of_run : IsRightOf command.judged.source command.right
+  pub cuts_of_run : AreCutsOf command.judged.source command.cuts
 
 -- What `check-all` and `judge-all` have in common: this program, at most so many states, whether harts may stop in any way, whether a failure is
 -- explained, as text or as JSON, and whether it is reported how far the search has come.
@@ -346,7 +355,7 @@ IsWithinLimits (Image command) = IsSourceWithin command.source × (command.momen
 IsWithinLimits (Explain command) = IsMachineWithin command.run.machine × (command.moment < 2 ^ 32) × IsProper command.image
 IsWithinLimits (Check command) = IsJudgedWithin command.judged
 IsWithinLimits (Judge command) = IsJudgedWithin command.judged × IsWithin 1 500000000 command.steps × IsWithin 1 4294967295 command.states
-    × IsRightOf command.judged.source command.right
+    × IsRightOf command.judged.source command.right × IfSome command.cuts AreFewCuts × AreCutsOf command.judged.source command.cuts
 IsWithinLimits (CheckAll command) = IsProgramWithin command.judged
 IsWithinLimits (JudgeAll command) = IsProgramWithin command.judged × IsWithin 1 500000000 command.steps
 IsWithinLimits (Answer command) = IsWithin 1 500000000 command.steps

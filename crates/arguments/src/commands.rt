@@ -4,7 +4,7 @@ ghost use Rattle.std.specs.Prelude.{◌<◌, ◌^◌, ℕ, IfOk, IfErr, IfSome, 
 ghost use Rattle.std.specs.declared.alloc.Global.{Global as AGlobal};
 ghost use Rattle.clap.specs.Words.{found_of, rows_of};
 ghost use Rattle.arguments.specs.Line.{IsAnswer, IsAssemble, IsCheck, IsCheckAll, IsCode, IsDebug, IsEventSource, IsExplain, IsImage, IsImages, IsInterleave, IsJudge, IsJudgeAll, IsListing, IsMakeVolume, IsPicture, IsReplay, IsReport, IsRun, IsScheduledRun, IsShow, IsTrace, IsTracedEvents, IsUpgrade};
-ghost use Rattle.arguments.specs.Line.{IsCachedMachine, IsSourceWithin, IsJudgedProgram, IsJudgedRun, IsJudgedWithin, IsMachineWithin, IsOf, IsProgramWithin, IsRight, IsRightOf, IsWithin, IsWithinLimits, OnFault};
+ghost use Rattle.arguments.specs.Line.{AreCutsOf, IsCachedMachine, IsSourceWithin, IsJudgedProgram, IsJudgedRun, IsJudgedWithin, IsMachineWithin, IsOf, IsProgramWithin, IsRight, IsRightOf, IsWithin, IsWithinLimits, OnFault};
 ghost use Rattle.arguments.specs.Started.{IsStarted};
 ghost use Rattle.arguments.specs.Values.{IsWord};
 ghost use Rattle.text.specs.Texts.{IsProper};
@@ -43,6 +43,7 @@ use crate::asked::{
     MachineOptions, MakeVolumeCommand, PictureCommand, ReplayCommand, ReportCommand, RightAnswers,
     RunCommand, ScheduledRun, ShowCommand, TraceCommand, TracedEvents, UpgradeCommand,
 };
+use crate::cuts::optional_cuts;
 use crate::machine::{cached_machine, whole_machine};
 use crate::moments::optional_moments;
 use crate::values::{
@@ -405,6 +406,23 @@ fn demand_program(alloc: Global, source: &EventSource, right: RightAnswers) -> R
     }
 }
 
+/// Refuses power cuts in recovery for the events of a trace file.
+fn demand_run(
+    alloc: Global,
+    source: &EventSource,
+    cuts: Option<MostCuts>,
+) -> Result<(), LineFault>
+    ensures ok { IfOk result (λ _. AreCutsOf source.now cuts) }
+    ensures err { IfErr result (OnFault (¬ (AreCutsOf source.now cuts))) }
+{
+    match (source, cuts) {
+        (EventSource::Trace(_), Some(_)) => Err(LineFault::Fault(format!(in alloc;
+            "error: --recovery-cuts can't stand with --trace\n"
+        )?)),
+        _ => Ok(()),
+    }
+}
+
 /// What `judge` is to do.
 pub(crate) fn judge(alloc: Global, found: &ArgMatches<'_>) -> Result<Command, LineFault>
     ensures ok { IfOk result (IsOf (codes "judge") (rows_of (found_of found.now))) }
@@ -415,14 +433,17 @@ pub(crate) fn judge(alloc: Global, found: &ArgMatches<'_>) -> Result<Command, Li
     let right = right_answers(alloc, found)?;
     let steps = number(alloc, found, &RECOVERY_STEPS)?;
     let states = number(alloc, found, &STATES)?;
+    let cuts = optional_cuts(alloc, found, "recovery-cuts")?;
     let recovery = word(alloc, found, "RECOVERY")?;
     let judged = judged_run(alloc, found)?;
     demand_program(alloc, &judged.source, right)?;
+    demand_run(alloc, &judged.source, cuts)?;
     Ok(Command::Judge(JudgeCommand {
         recovery,
         steps,
         right,
         states,
+        cuts,
         judged,
     }))
 }

@@ -260,6 +260,12 @@ const OVERLAPPING: Argument = Argument::Flag {
     about: "Let operations overlap: right is also what the run shows amid them",
 };
 
+const RECOVERY_CUTS: Argument = Argument::Valued {
+    name: "recovery-cuts",
+    value: "N",
+    about: "Judge power cuts in recovery too, and after it: up to N, from 1 to 64, or any [default: none]",
+};
+
 const STATES: Argument = Argument::Valued {
     name: "states",
     value: "N",
@@ -496,6 +502,7 @@ static JUDGING_OF_RUNS: [Subcommand; 2] = [
             ATOMIC,
             SEQUENTIAL_STATES,
             OVERLAPPING,
+            RECOVERY_CUTS,
             MOMENTS,
             GO_ON,
             WHOLE,

@@ -1,6 +1,7 @@
 -- What a run that is judged starts from, beside the run.
 use Rattle.std.proofs.Common.{◌≡◌, ◌≤◌, Option, None, Some, Ok, ap, refl, subst, sym}
 use Rattle.arguments.specs.Line.{IsMachineWithin}
+use Rattle.arguments.specs.declared.asked.MostCuts.{MostCuts}
 use Rattle.arguments.specs.declared.asked.RightAnswers.{RightAnswers}
 use Rattle.arguments.specs.declared.asked.RightAnswers.TheVariants.{Atomic, InTurn, Overlapping}
 use Rattle.arguments.specs.declared.asked.ScheduledRun.{ScheduledRun}
@@ -9,7 +10,7 @@ use Rattle.routine_judge.specs.SequentialRuns.{AreSequentialRuns, notes_in}
 use Rattle.routine_judge.specs.declared.rule.ProgramRuns.{ProgramRuns}
 use Rattle.routine_judge.specs.declared.rule.Rule.TheVariants as rules
 use Rattle.every_schedule.specs.Sequential.{program_of}
-use Rattle.command_line.specs.Judging.{AreReady, IsKeptFor, IsRuleOf, IsStarted, KeepsStart}
+use Rattle.command_line.specs.Judging.{AreCutsIn, AreReady, IsKeptFor, IsRuleOf, IsStarted, KeepsStart}
 use Rattle.command_line.specs.MakingRuns.{MakesRun}
 use Rattle.command_line.specs.Reading.{setup_of}
 use Rattle.command_line.specs.Traces.{HasPlaces, IsOpen as HasTheirLines, IsOpened, medium_of}
@@ -39,6 +40,10 @@ ready_run right run files made start opened within keeps makes is lines places =
     λ atomic. rw makes.makes.is_run.setup_is (kept_start right (setup_of run files) start keeps.keeps atomic),
   );
 }
+
+-- power cuts in recovery may be asked for of it
+pub cuts_of_run : (made : MadeRun) (opened : OpenEvents) (cuts : Option MostCuts) → IsOpened made (Ok opened) → AreCutsIn opened cuts
+cuts_of_run made opened cuts is = subst (λ (events : OpenEvents). AreCutsIn events cuts) (sym (opened_run made opened is)) tt
 
 -- it is there where sequential runs are asked for
 pub start_there : (opened : OpenEvents) (right : RightAnswers) → IsStarted opened right None → right ≡ Atomic → ⊥

@@ -1,9 +1,11 @@
 -- What `judge` comes to.
-use Rattle.std.specs.Prelude.{◌≡◌, ◌≢◌, ◌≤◌, ℕ, zero, suc, List, [], Option, Some, None, Result, Ok, MatchResult, ◌++◌, codes, decimal, string_bytes}
+use Rattle.std.specs.Prelude.{◌≡◌, ◌≢◌, ◌≤◌, ℕ, zero, suc, Bool, true, false, IfSome, List, [], Option, Some, None, Result, Ok, MatchResult, ◌++◌, codes, decimal, string_bytes, ⊤}
+use Rattle.arguments.specs.Cuts.{AreFewCuts}
 use Rattle.arguments.specs.Line.{IsJudgedWithin}
 use Rattle.arguments.specs.declared.asked.EventSource.{EventSource}
 use Rattle.arguments.specs.declared.asked.EventSource.TheVariants as sources
 use Rattle.arguments.specs.declared.asked.JudgeCommand.{JudgeCommand}
+use Rattle.arguments.specs.declared.asked.MostCuts.{MostCuts}
 use Rattle.arguments.specs.declared.asked.RightAnswers.{RightAnswers}
 use Rattle.arguments.specs.declared.asked.RightAnswers.TheVariants as rights
 use Rattle.arguments.specs.declared.asked.ScheduledRun.{ScheduledRun}
@@ -11,6 +13,7 @@ use Rattle.arguments.specs.declared.asked.TracedEvents.{TracedEvents}
 use Rattle.hart.specs.HartLines.{trap_number}
 use Rattle.crash_test.specs.Judging.{HasJudgementOn, IsToldOn}
 use Rattle.crash_test.specs.Loading.{IsLoaded}
+use Rattle.crash_test.specs.Programs.{IsProgramOf}
 use Rattle.crash_test.specs.declared.losses.ExplainedImage.{ExplainedImage}
 use Rattle.every_schedule.specs.Sequential.{AreAllNoted, program_of}
 use Rattle.every_schedule.specs.declared.sequential.Sequential.{Sequential}
@@ -26,7 +29,6 @@ use Rattle.routine_judge.specs.declared.cause.Cause.TheVariants as causes
 use Rattle.routine_judge.specs.declared.rule.Rule.{Rule}
 use Rattle.verdict.specs.declared.moment_verdict.verdict.Verdict.{Verdict}
 use Rattle.verdict.specs.declared.moment_verdict.verdict.Verdict.TheVariants as verdicts
-use Rattle.program.specs.Sections.{Sections}
 use Rattle.recovery.specs.declared.recovery_run.Cause.{Cause as RunCause}
 use Rattle.recovery.specs.declared.recovery_run.Cause.TheVariants as runs
 use Rattle.debugger.specs.StreamFailures.{AppendsFront}
@@ -37,12 +39,13 @@ use Rattle.command_line.specs.Failures.{failure_of_judge}
 use Rattle.command_line.specs.JudgedEvents.{OpensJudgedTrace}
 use Rattle.command_line.specs.MakingRuns.{MakesRun}
 use Rattle.command_line.specs.Progress.{IsToldIf, Progresses, gets_line}
-use Rattle.command_line.specs.Reading.{ReadsRecovery, ReadsRun, setup_of}
+use Rattle.command_line.specs.Reading.{ReadsRoutine, ReadsRun, setup_of}
 use Rattle.command_line.specs.Reasons.{Explains, IsExplainedOf}
 use Rattle.command_line.specs.Reports.{line_end}
 use Rattle.command_line.specs.Steps.{First, Prints, Reads, Step, Still, Tells}
 use Rattle.command_line.specs.Traces.{HasPlaces, IsOpen as HasTheirLines, events_of, medium_of}
 use Rattle.command_line.specs.Verdicts.{failing, first_of, row_asked}
+use Rattle.command_line.specs.declared.reading.ReadRoutine.{ReadRoutine}
 use Rattle.command_line.specs.declared.answer.Answer.{Answer}
 use Rattle.command_line.specs.declared.failure.Failure.{Failure}
 use Rattle.command_line.specs.declared.failure.Failure.TheVariants.{Memory}
@@ -73,7 +76,8 @@ pub record HasOpened (command : JudgeCommand) (subject : Subject) (judge : OpenJ
   pub command_is : judge.command ≡ command
   pub start_is : judge.start ≡ subject.start
   pub events_are : judge.events ≡ subject.events
-  pub recovery_is : judge.recovery ≡ subject.recovery
+  pub file_is : judge.recovery_file.items ≡ subject.routine.file.items
+  pub recovery_is : judge.recovery ≡ subject.routine.program
 
 pub record Opens (command : JudgeCommand) (subject : Subject) (outcome : Result OpenJudge Failure) : Type 0 where
   pub opens : MatchResult outcome (HasOpened command subject) (λ failure. ⊥)
@@ -92,29 +96,29 @@ pub record KeepsStart (right : RightAnswers) (s : Setup) (outcome : Result (Opti
   pub keeps : MatchResult outcome (IsKeptFor right s) (λ failure. failure ≡ Memory)
 
 -- the events, what a run of them starts from, and the recovery routine
-pub record IsSubject (start : Option Setup) (opened : OpenEvents) (recovery : Sections) (subject : Subject) : Type 0 where
+pub record IsSubject (start : Option Setup) (opened : OpenEvents) (routine : ReadRoutine) (subject : Subject) : Type 0 where
   pub start_is : subject.start ≡ start
   pub events_are : subject.events ≡ opened
-  pub recovery_is : subject.recovery ≡ recovery
+  pub routine_is : subject.routine ≡ routine
 
-pub record GivesSubject (start : Option Setup) (opened : OpenEvents) (recovery : Sections) (outcome : Result Subject Failure) : Type 0 where
-  pub gives : MatchResult outcome (IsSubject start opened recovery) (λ failure. ⊥)
+pub record GivesSubject (start : Option Setup) (opened : OpenEvents) (routine : ReadRoutine) (outcome : Result Subject Failure) : Type 0 where
+  pub gives : MatchResult outcome (IsSubject start opened routine) (λ failure. ⊥)
 
 -- all files are read before the run is made
 abbrev pub OpensSubjectOfRun : {F : Type 0} → Reads F → JudgeCommand → ScheduledRun → Step F Subject
 OpensSubjectOfRun reads command run =
     First (ReadsRun reads run) (λ files.
-    First (ReadsRecovery reads (string_bytes command.recovery)) (λ recovery.
+    First (ReadsRoutine reads (string_bytes command.recovery)) (λ routine.
     First (Still (KeepsStart command.right (setup_of run files))) (λ start.
     First (Still (MakesRun (setup_of run files) files)) (λ made.
     First (Still (MeetsWhole run.whole made [])) (λ _.
-    Still (GivesSubject start (Run made) recovery))))))
+    Still (GivesSubject start (Run made) routine))))))
 
 abbrev pub OpensSubjectOfFile : {F : Type 0} → Reads F → JudgeCommand → TracedEvents → Step F Subject
 OpensSubjectOfFile reads command events =
     First (OpensJudgedTrace reads events []) (λ opened.
-    First (ReadsRecovery reads (string_bytes command.recovery)) (λ recovery.
-    Still (GivesSubject None opened recovery)))
+    First (ReadsRoutine reads (string_bytes command.recovery)) (λ routine.
+    Still (GivesSubject None opened routine)))
 
 abbrev pub OpensSubject : {F : Type 0} → Reads F → JudgeCommand → EventSource → Step F Subject
 OpensSubject reads command (sources.Run run) = OpensSubjectOfRun reads command run
@@ -134,12 +138,22 @@ pub record AreReady (right : RightAnswers) (start : Option Setup) (opened : Open
   pub places : HasPlaces opened
   pub started : IsStarted opened right start
 
-abbrev pub IsReadyFor : RightAnswers → Subject → Type 0
-IsReadyFor right subject = AreReady right subject.start subject.events
+-- power cuts in recovery are asked for of a run alone
+abbrev pub AreCutsIn : OpenEvents → Option MostCuts → Type 0
+AreCutsIn (Run made) cuts = ⊤
+AreCutsIn (Trace trace) cuts = cuts ≡ None
+
+pub record IsReadyFor (command : JudgeCommand) (subject : Subject) : Type 0 where
+  pub ready : AreReady command.right subject.start subject.events
+  pub routine : IsProgramOf subject.routine.file.items subject.routine.program
+  pub of_run : AreCutsIn subject.events command.cuts
 
 pub record IsOpen (judge : OpenJudge) : Type 0 where
   pub within : IsJudgedWithin judge.command.judged
   pub ready : AreReady judge.command.right judge.start judge.events
+  pub routine : IsProgramOf judge.recovery_file.items judge.recovery
+  pub of_run : AreCutsIn judge.events judge.command.cuts
+  pub cuts : IfSome judge.command.cuts AreFewCuts
 
 -- what is told of a failing image, by the lines of which the routine loads bytes that it hasn't stored itself, where that is asked for
 abbrev pub ExplainsFailing : OpenJudge → Verdict Cause → Result (Option ExplainedImage) Failure → Type 0
@@ -197,32 +211,37 @@ pub record Watches {E : Type 0} (said : E → Option (List ℕ)) (judge : OpenJu
 abbrev pub none_judged_line : List ℕ
 none_judged_line = codes "no moment is judged: all lie before the first Begin" ++ line_end
 
--- it is said of a verdict on no moment, as where all that are asked for lie before the first Begin, and of no other
-abbrev pub note_of : {Cause : Type 0} → Verdict Cause → List ℕ
-note_of (verdicts.Pass zero images) = none_judged_line
-note_of (verdicts.Pass (suc n) images) = []
-note_of (verdicts.Open moments images open') = []
-note_of (verdicts.Fail moment image cause of_too_many) = []
-note_of (verdicts.TooMany moment lines) = []
-note_of (verdicts.TooLong moment) = []
+-- the verdict is on no moment, as where all that are asked for lie before the first Begin
+abbrev pub judges_none : {Cause : Type 0} → Verdict Cause → Bool
+judges_none (verdicts.Pass zero images) = true
+judges_none (verdicts.Pass (suc n) images) = false
+judges_none (verdicts.Open moments images open') = false
+judges_none (verdicts.Fail moment image cause of_too_many) = false
+judges_none (verdicts.TooMany moment lines) = false
+judges_none (verdicts.TooLong moment) = false
+
+-- it is said of such a verdict, and of no other
+abbrev pub note_if : Bool → List ℕ
+note_if true = none_judged_line
+note_if false = []
 
 -- standard error gets that, or a front of it where it failed, and is left alone where there is nothing to say
-pub record Notes {E Cause : Type 0} (said : E → Option (List ℕ)) (verdict : Verdict Cause) (errors errors' : E) : Type 0 where
-  pub front : AppendsFront (said errors) (said errors') (note_of verdict)
-  pub alone : note_of verdict ≡ [] → errors' ≡ errors
+pub record Notes {E : Type 0} (said : E → Option (List ℕ)) (is_none : Bool) (errors errors' : E) : Type 0 where
+  pub front : AppendsFront (said errors) (said errors') (note_if is_none)
+  pub alone : is_none ≡ false → errors' ≡ errors
 
 -- that, behind an answer, which stands whether standard error fails or not
-pub record Answers {E : Type 0} (said : E → Option (List ℕ)) (verdict : Verdict Cause) (answer : Answer) (errors : E) (outcome : Result Answer Failure) (errors' : E) : Type 0 where
+pub record Answers {E : Type 0} (said : E → Option (List ℕ)) (is_none : Bool) (answer : Answer) (errors : E) (outcome : Result Answer Failure) (errors' : E) : Type 0 where
   pub answers : outcome ≡ Ok answer
-  pub notes : Notes said verdict errors errors'
+  pub notes : Notes said is_none errors errors'
 
--- what the events come to by the right answers
-abbrev pub JudgesRight : {E : Type 0} → (E → Option (List ℕ)) → OpenJudge → Step E Answer
-JudgesRight said judge =
+-- what the events come to by the right answers, without power cuts in recovery
+abbrev pub JudgesOnce : {E : Type 0} → (E → Option (List ℕ)) → OpenJudge → Step E Answer
+JudgesOnce said judge =
     First (Watches said judge) (λ verdict.
     First (Still (ExplainsFailing judge verdict)) (λ why.
     First (Still (PrintsVerdict cause_text judge.command.judged.json judge.events verdict why))
-    (Answers said verdict)))
+    (Answers said (judges_none verdict))))
 
 -- the sequential runs of the program are known, all of them, or a bound that the search for them passes
 abbrev pub AreRunsFrom : OpenJudge → Option Setup → Sequential → Type 0
@@ -239,13 +258,3 @@ AreRunsAsked judge (Some runs) = (judge.command.right ≡ rights.Atomic) × AreR
 
 pub record FindsRuns (judge : OpenJudge) (outcome : Result (Option Sequential) Failure) : Type 0 where
   pub finds : MatchResult outcome (AreRunsAsked judge) (λ failure. (judge.command.right ≡ rights.Atomic) × (failure ≡ Memory))
-
--- without all of them there is no verdict, but the bound
-abbrev pub JudgesBy : {E : Type 0} → (E → Option (List ℕ)) → OpenJudge → Option Sequential → Step E Answer
-JudgesBy said judge None = JudgesRight said judge
-JudgesBy said judge (Some (known.All runs states)) = JudgesRight said judge
-JudgesBy said judge (Some (known.TooMany bound)) = Still (Prints (told_bound judge.command.judged.json judge.command.states bound) 3)
-
--- what the events come to
-abbrev pub JudgesRun : {E : Type 0} → (E → Option (List ℕ)) → OpenJudge → Step E Answer
-JudgesRun said judge = First (Still (FindsRuns judge)) (λ runs. JudgesBy said judge runs)

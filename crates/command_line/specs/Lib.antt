@@ -13,6 +13,10 @@ pub mod Failures
 pub mod ImageFiles
 pub mod Imaging
 pub mod JudgedEvents
+pub mod CutReasons
+pub mod CutVerdicts
+pub mod JudgingCuts
+pub mod JudgingRuns
 pub mod Judging
 pub mod JudgingAll
 pub mod Listing

@@ -23,6 +23,7 @@ use Rattle.command_line.specs.Failures.{failure_of_medium, failure_of_plan, fail
 use Rattle.command_line.specs.Steps.{First, Reads, ReadsFile, Step, Still, Tells}
 use Rattle.command_line.specs.declared.failure.Failure.{Failure}
 use Rattle.command_line.specs.declared.failure.Failure.TheVariants.{Memory}
+use Rattle.command_line.specs.declared.reading.ReadRoutine.{ReadRoutine}
 use Rattle.command_line.specs.declared.reading.RunFiles.{RunFiles}
 
 -- the program of a file, or why it gives none
@@ -32,6 +33,14 @@ pub record SaysProgram (file : List ℕ) (outcome : Result Sections Failure) : T
 -- the recovery routine of a file, or why it gives none
 pub record SaysRecovery (file : List ℕ) (outcome : Result Sections Failure) : Type 0 where
   pub says : MatchResult outcome (IsProgramOf file) (Tells (IsLoadFault file) failure_of_recovery)
+
+-- the same, with the bytes of the file
+pub record IsRoutineOf (file : List ℕ) (routine : ReadRoutine) : Type 0 where
+  pub file_is : routine.file.items ≡ file
+  pub program : IsProgramOf file routine.program
+
+pub record SaysRoutine (file : List ℕ) (outcome : Result ReadRoutine Failure) : Type 0 where
+  pub says : MatchResult outcome (IsRoutineOf file) (Tells (IsLoadFault file) failure_of_recovery)
 
 -- the plan of a text, or its first line at fault; memory is wanted at the line of an operation alone, with nothing at fault as far as it
 abbrev pub IsPlanFaultAt : List ℕ → ℕ → PlanCode → Type 0
@@ -76,6 +85,9 @@ ReadsProgram reads name = First (ReadsFile reads name) (λ file. Still (SaysProg
 
 abbrev pub ReadsRecovery : {F : Type 0} → Reads F → List ℕ → Step F Sections
 ReadsRecovery reads name = First (ReadsFile reads name) (λ file. Still (SaysRecovery file))
+
+abbrev pub ReadsRoutine : {F : Type 0} → Reads F → List ℕ → Step F ReadRoutine
+ReadsRoutine reads name = First (ReadsFile reads name) (λ file. Still (SaysRoutine file))
 
 abbrev pub ReadsPlan : {F : Type 0} → Reads F → List ℕ → Step F PlanView
 ReadsPlan reads name = First (ReadsFile reads name) (λ text. Still (SaysPlan text))

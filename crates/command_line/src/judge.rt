@@ -1,13 +1,15 @@
 //! The command that judges events by a recovery routine.
 
-ghost use Rattle.arguments.specs.Line.{IsJudgedWithin, IsMachineWithin, IsRightOf};
+ghost use Rattle.arguments.specs.Cuts.{AreFewCuts};
+ghost use Rattle.arguments.specs.Line.{AreCutsOf, IsJudgedWithin, IsMachineWithin, IsRightOf};
 ghost use Rattle.arguments.specs.declared.asked.RightAnswers.TheVariants.{Atomic};
-ghost use Rattle.command_line.specs.Judging.{AreRunsFor, CopiesStart, IsOpen, IsReadyFor, IsRuleOf, JudgesOpen, JudgesRight, JudgesRun, KeepsStart, Notes, OpensJudge, OpensSubject, OpensSubjectOfFile, OpensSubjectOfRun, TellsProgress, Watches, cause_text, judgement_asked, missing_text, note_of};
+ghost use Rattle.command_line.specs.Judging.{AreRunsFor, CopiesStart, IsOpen, IsReadyFor, IsRuleOf, JudgesOnce, JudgesOpen, KeepsStart, Notes, OpensJudge, OpensSubject, OpensSubjectOfFile, OpensSubjectOfRun, TellsProgress, Watches, cause_text, judgement_asked, judges_none, missing_text, note_if};
+ghost use Rattle.command_line.specs.JudgingRuns.{JudgesRight, JudgesRun};
 ghost use Rattle.command_line.specs.Reading.{setup_of};
 ghost use Rattle.routine_judge.specs.Rules.{AreNotedFor, judgement_view};
 ghost use Rattle.command_line.specs.Progress.{IsToldIf};
 ghost use Rattle.command_line.specs.Traces.{medium_of};
-ghost use Rattle.std.specs.Prelude.{◌≡◌, ◌≢◌, ◌≤◌, IfOk, OnOk, Some, string_bytes};
+ghost use Rattle.std.specs.Prelude.{◌≡◌, ◌≢◌, ◌≤◌, IfOk, IfSome, None, OnOk, Some, string_bytes};
 ghost use Rattle.std.specs.Io.KnownBytes.{Appends};
 
 use crate::all_schedules::told_bound;
@@ -15,11 +17,12 @@ use crate::answer::Answer;
 use crate::events::{OpenEvents, opened};
 use crate::failure::Failure;
 use crate::files::Files;
+use crate::judge_cuts::judge_cuts;
 use crate::judged_events::open_judged_trace;
 use crate::made_run::{make_run, setup};
 use crate::opened::OpenJudge;
 use crate::progress::Reporter;
-use crate::reading::{RunFiles, read_recovery, read_run};
+use crate::reading::{ReadRoutine, RunFiles, read_routine, read_run};
 use crate::reasons::why_of;
 use crate::streams::print;
 use crate::verdicts::{ToldCause, verdict_answer, work};
@@ -29,7 +32,6 @@ use crash_test::{Events, Judgement, RoutineReader, judge_events, judge_program};
 use debugger::Failed;
 use every_schedule::{Recovery, Sequential, sequential_runs};
 use machine::Setup;
-use program::Program;
 use recovery::Cause as RunCause;
 use routine_judge::{Cause, ProgramRuns, Rule, Verdict};
 use std::alloc::{AllocError, Global};
@@ -45,7 +47,7 @@ const NONE_JUDGED: &[u8] = b"no moment is judged: all lie before the first Begin
 struct Subject {
     start: Option<Setup>,
     events: OpenEvents,
-    recovery: Program,
+    routine: ReadRoutine,
 }
 
 /// `judge`: reads the files of a program, a schedule and a medium, and makes the run, or of a trace file and a medium; and of a recovery
@@ -57,6 +59,8 @@ pub(crate) fn open_judge<F: Files>(
 ) -> Result<OpenJudge, Failure>
     requires within { IsJudgedWithin command.judged }
     requires of_run { IsRightOf command.judged.source command.right }
+    requires cuts { IfSome command.cuts AreFewCuts }
+    requires cuts_of_run { AreCutsOf command.judged.source command.cuts }
     ensures opens { OpensJudge F.read_gives command files.old result files.new }
     ensures ready { IfOk result IsOpen }
 {
@@ -64,13 +68,15 @@ pub(crate) fn open_judge<F: Files>(
     let Subject {
         start,
         events,
-        recovery,
+        routine,
     } = subject;
+    let ReadRoutine { file, program } = routine;
     Ok(OpenJudge {
         command,
         start,
         events,
-        recovery,
+        recovery_file: file,
+        recovery: program,
     })
 }
 
@@ -81,8 +87,9 @@ fn subject_of<F: Files>(
 ) -> Result<Subject, Failure>
     requires within { IsJudgedWithin command.now.judged }
     requires of_run { IsRightOf command.now.judged.source command.now.right }
+    requires cuts_of_run { AreCutsOf command.now.judged.source command.now.cuts }
     ensures opens { OpensSubject F.read_gives command.now command.now.judged.source files.old result files.new }
-    ensures ready { IfOk result (IsReadyFor command.now.right) }
+    ensures ready { IfOk result (IsReadyFor command.now) }
 {
     match &command.judged.source {
         EventSource::Run(run) => subject_of_run(alloc, command, run, files),
@@ -99,10 +106,10 @@ fn subject_of_run<F: Files>(
 ) -> Result<Subject, Failure>
     requires { IsMachineWithin run.now.machine }
     ensures opens { OpensSubjectOfRun F.read_gives command.now run.now files.old result files.new }
-    ensures ready { IfOk result (IsReadyFor command.now.right) }
+    ensures ready { IfOk result (IsReadyFor command.now) }
 {
     let read = read_run(alloc, run, files)?;
-    let recovery = read_recovery(alloc, command.recovery.as_str(), files)?;
+    let routine = read_routine(alloc, command.recovery.as_str(), files)?;
     let start = start_for(alloc, command.right, run, &read)?;
     let made = make_run(alloc, run, read)?;
     demand_whole(alloc, run.whole, &made, &[])?;
@@ -110,7 +117,7 @@ fn subject_of_run<F: Files>(
     Ok(Subject {
         start,
         events,
-        recovery,
+        routine,
     })
 }
 
@@ -121,16 +128,17 @@ fn subject_of_file<F: Files>(
     events: &TracedEvents,
     files: &mut F,
 ) -> Result<Subject, Failure>
-    requires { command.now.right ≢ Atomic }
+    requires of_run { command.now.right ≢ Atomic }
+    requires cuts_of_run { command.now.cuts ≡ None }
     ensures opens { OpensSubjectOfFile F.read_gives command.now events.now files.old result files.new }
-    ensures ready { IfOk result (IsReadyFor command.now.right) }
+    ensures ready { IfOk result (IsReadyFor command.now) }
 {
     let events = open_judged_trace(alloc, events, &[], files)?;
-    let recovery = read_recovery(alloc, command.recovery.as_str(), files)?;
+    let routine = read_routine(alloc, command.recovery.as_str(), files)?;
     Ok(Subject {
         start: None,
         events,
-        recovery,
+        routine,
     })
 }
 
@@ -235,7 +243,7 @@ fn runs_for<T: Threads + Sync>(
     sequential_runs(rt, alloc, start, recovery, judge.command.states)
 }
 
-/// Gives the verdict on events by a rule for right answers.
+/// Gives the verdict on events by a rule for right answers, with power cuts in recovery where the line asks for them.
 fn judge_by<T: Threads + Sync + Clock, E: Write>(
     rt: &T,
     alloc: Global,
@@ -247,6 +255,24 @@ fn judge_by<T: Threads + Sync + Clock, E: Write>(
     requires rule { IsRuleOf judge.now rule }
     ensures { JudgesRight E.contents judge.now errors.old result errors.new }
 {
+    match judge.command.cuts {
+        None => judge_once(rt, alloc, judge, rule, errors),
+        Some(most) => judge_cuts(rt, alloc, judge, rule, most, errors),
+    }
+}
+
+/// The same without power cuts in recovery.
+fn judge_once<T: Threads + Sync + Clock, E: Write>(
+    rt: &T,
+    alloc: Global,
+    judge: &OpenJudge,
+    rule: Rule<'_>,
+    errors: &mut E,
+) -> Result<Answer, Failure>
+    requires open { IsOpen judge.now }
+    requires rule { IsRuleOf judge.now rule }
+    ensures { JudgesOnce E.contents judge.now errors.old result errors.new }
+{
     let verdict = verdict(rt, alloc, judge, rule, errors)?;
     let judged = &judge.command.judged;
     let reader = RoutineReader {
@@ -255,7 +281,7 @@ fn judge_by<T: Threads + Sync + Clock, E: Write>(
     };
     let why = why_of(alloc, judged.why, &judge.events, &verdict, &reader)?;
     let answer = verdict_answer(alloc, &judge.events, &verdict, &why, judged.json)?;
-    let _ = note_none(&verdict, errors);
+    let _ = note_none(judges_none(&verdict), errors);
     Ok(answer)
 }
 
@@ -308,7 +334,7 @@ fn told_verdict<T: Threads + Sync + Clock, E: Write>(
 }
 
 /// How the command says that the events are judged.
-fn judgement<'a>(judge: &'a OpenJudge, rule: Rule<'a>) -> Judgement<'a>
+pub(crate) fn judgement<'a>(judge: &'a OpenJudge, rule: Rule<'a>) -> Judgement<'a>
     requires { IsRuleOf judge.now rule }
     ensures asked { judgement_view result ≡ judgement_asked judge.now }
     ensures noted { AreNotedFor (medium_of judge.now.events) result.recovery.now result.steps result.rule }
@@ -320,15 +346,23 @@ fn judgement<'a>(judge: &'a OpenJudge, rule: Rule<'a>) -> Judgement<'a>
     }
 }
 
-/// Says on standard error that no moment is judged, where the verdict is on none. Where standard error fails, it may have got a front of that.
-#[tactic(auto, using(crate::proofs::Written::front_all, crate::proofs::Written::part_none))]
-fn note_none<C, E: Write>(verdict: &Verdict<C>, errors: &mut E) -> Result<(), Failed>
-    ensures ok { OnOk result (Appends (E.contents errors.old) (E.contents errors.new) (note_of verdict.now)) }
-    ensures front { Notes E.contents verdict.now errors.old errors.new }
+/// Whether the verdict is on no moment.
+fn judges_none<C>(verdict: &Verdict<C>) -> bool
+    ensures { result ≡ judges_none verdict.now }
 {
-    match verdict {
-        Verdict::Pass { moments: 0, .. } => print(NONE_JUDGED, errors),
-        _ => Ok(()),
+    matches!(verdict, Verdict::Pass { moments: 0, .. })
+}
+
+/// Says on standard error that no moment is judged, where that is so. Where standard error fails, it may have got a front of that.
+#[tactic(auto, using(crate::proofs::Written::front_all, crate::proofs::Written::part_none))]
+pub(crate) fn note_none<E: Write>(is_none: bool, errors: &mut E) -> Result<(), Failed>
+    ensures ok { OnOk result (Appends (E.contents errors.old) (E.contents errors.new) (note_if is_none)) }
+    ensures front { Notes E.contents is_none errors.old errors.new }
+{
+    if is_none {
+        print(NONE_JUDGED, errors)
+    } else {
+        Ok(())
     }
 }
 
@@ -344,7 +378,7 @@ impl ToldCause for Cause {
 
 /// `different`, why the routine has no answer, or `full-` and why it has none that says what is right, or `unmatched` where no sequential run
 /// does.
-fn cause_text(alloc: Global, cause: Cause) -> Result<String, AllocError>
+pub(crate) fn cause_text(alloc: Global, cause: Cause) -> Result<String, AllocError>
     ensures { IfOk result (λ text. string_bytes text ≡ cause_text cause) }
 {
     match cause {

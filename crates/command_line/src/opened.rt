@@ -21,6 +21,8 @@ pub struct OpenJudge {
     /// What the run starts from, where its program is to be run once more: with `--atomic`.
     pub(crate) start: Option<Setup>,
     pub(crate) events: OpenEvents,
+    /// The bytes of the recovery routine's file.
+    pub(crate) recovery_file: Vec<u8>,
     pub(crate) recovery: Program,
 }
 

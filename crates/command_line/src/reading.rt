@@ -3,8 +3,8 @@
 ghost use Rattle.std.specs.Prelude.{◌≡◌, ◌<◌, ◌^◌, IfOk, option_map, string_bytes};
 ghost use Rattle.std.specs.Result.{result_map_both};
 ghost use Rattle.machine.specs.Grammar.{hart_steps};
-ghost use Rattle.command_line.specs.Reading.{IsDefaultMedium, ReadsMedium, ReadsPlan, ReadsProgram, ReadsRecovery, ReadsRun, ReadsSchedule};
-ghost use Rattle.command_line.specs.Reading.{SaysMedium, SaysPlan, SaysProgram, SaysRecovery, SaysSchedule};
+ghost use Rattle.command_line.specs.Reading.{IsDefaultMedium, ReadsMedium, ReadsPlan, ReadsProgram, ReadsRecovery, ReadsRoutine, ReadsRun, ReadsSchedule};
+ghost use Rattle.command_line.specs.Reading.{SaysMedium, SaysPlan, SaysProgram, SaysRecovery, SaysRoutine, SaysSchedule};
 ghost use Rattle.command_line.specs.Failures.{failure_of_recovery};
 ghost use Rattle.command_line.specs.Steps.{ReadsFile};
 ghost use Rattle.crash_test.specs.Programs.{IsProgramOf};
@@ -27,6 +27,13 @@ pub(crate) struct RunFiles {
     pub(crate) program: Program,
     pub(crate) schedule: Schedule,
     pub(crate) medium: Medium,
+}
+
+/// A recovery routine, and the bytes of its file.
+#[derive(Drop)]
+pub(crate) struct ReadRoutine {
+    pub(crate) file: Vec<u8>,
+    pub(crate) program: Program,
 }
 
 /// The run that the files of a command give.
@@ -90,6 +97,29 @@ pub(crate) fn read_recovery<F: Files>(
     recovery_of(alloc, &file)
 }
 
+/// The recovery routine in a file, with the bytes of that.
+pub(crate) fn read_routine<F: Files>(
+    alloc: Global,
+    name: &str,
+    files: &mut F,
+) -> Result<ReadRoutine, Failure>
+    ensures reads { ReadsRoutine F.read_gives name.now files.old result files.new }
+    ensures program { IfOk result (λ routine. IsProgramOf routine.file.items routine.program) }
+{
+    let file = read_file(name, files)?;
+    routine_of(alloc, file)
+}
+
+/// The recovery routine that a file's bytes give, with them.
+fn routine_of(alloc: Global, file: Vec<u8>) -> Result<ReadRoutine, Failure>
+    ensures says { SaysRoutine file.items result }
+    ensures program { IfOk result (λ routine. IsProgramOf routine.file.items routine.program) }
+{
+    let program = recovery_of(alloc, &file)?;
+    Ok(ReadRoutine { file, program })
+}
+
+/// The recovery routine that a file's bytes give.
 fn recovery_of(alloc: Global, file: &[u8]) -> Result<Program, Failure>
     ensures { SaysRecovery file.now result }
 {

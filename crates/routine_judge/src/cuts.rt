@@ -13,6 +13,7 @@ mod laws;
 mod left;
 mod moment;
 mod opening;
+mod outcome;
 
 pub use bound_box::{Bound, BoundBox};
 pub use bound_boxes::BoundBoxes;
@@ -24,3 +25,4 @@ pub use laws::closed_boxes_stay_recovered;
 pub use left::left_at;
 pub use moment::judge_cuts;
 pub use opening::open_box;
+pub use outcome::{ChainLink, CutsVerdict, RecoveryCuts};

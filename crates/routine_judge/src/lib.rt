@@ -28,8 +28,8 @@ mod span;
 pub use answer_images::AnswerImages;
 pub use cause::Cause;
 pub use cuts::{
-    Bound, BoundBox, BoundBoxes, BoxVerdict, CutCause, CutRule, ImageBox,
-    closed_boxes_stay_recovered, judge_cuts, left_at, open_box,
+    Bound, BoundBox, BoundBoxes, BoxVerdict, ChainLink, CutCause, CutRule, CutsVerdict, ImageBox,
+    RecoveryCuts, closed_boxes_stay_recovered, judge_cuts, left_at, open_box,
 };
 pub use fault::JudgeFault;
 pub use held::HeldAnswer;
