@@ -128,7 +128,7 @@ pub verdict_as : (program other : Sections) (steps : ℕ) (right : RightAnswers)
 verdict_as program other steps right most boxes box verdict same e f h =
     subst (λ (p : Sections). IsClosedVerdict p steps right most boxes box same) e (subst (λ (v : BoxVerdict). IsClosedVerdict program steps right most boxes box v) f h)
 
-pub judged_as : (program other : Sections) (steps many : ℕ) (right : RightAnswers) (most : Option ℕ) (boxes : List BoundBox) (verdict : BoxVerdict) → program ≡ other → steps ≡ many
+judged_as : (program other : Sections) (steps many : ℕ) (right : RightAnswers) (most : Option ℕ) (boxes : List BoundBox) (verdict : BoxVerdict) → program ≡ other → steps ≡ many
     → AreJudgedAgain program steps right most boxes verdict → AreJudgedAgain other many right most boxes verdict
 judged_as program other steps many right most boxes verdict e f h =
     subst (λ (p : Sections). AreJudgedAgain p many right most boxes verdict) e (subst (λ (n : ℕ). AreJudgedAgain program n right most boxes verdict) f h)
@@ -155,7 +155,7 @@ each_right_to program steps most answers right all (box ∷ boxes) are h =
     ((λ few. well_right program steps answers right box are (h.0.0 few), h.0.1), each_right_to program steps most answers right all boxes are h.1)
 
 -- whatever cuts leave of the images that the boxes cover is answered well
-pub all_answered : (view : JudgeView) (m : ℕ) (most : Option ℕ) (source : Source) (boxes : List BoundBox) (right : RightAnswers) → AreAnswers view source right
+all_answered : (view : JudgeView) (m : ℕ) (most : Option ℕ) (source : Source) (boxes : List BoundBox) (right : RightAnswers) → AreAnswers view source right
     → ((image : List (List ℕ)) → IsCutImage view.start (at_moment view.events m) image → IsCovered boxes 0 image None)
     → AreClosedBoxes view.routine view.steps (Contains right.answers.items) most boxes → AllAnswered view source most m
 all_answered view m None source boxes right are starts closed =
@@ -185,7 +185,7 @@ first_reached program steps medium images boxes e =
     (λ image h. (h, refl), tt))
 
 -- an image is bad that cuts leave of a medium
-pub bad_from : (program : Sections) (steps : ℕ) (right : RightAnswers) (most : Option ℕ) (medium : List (List ℕ)) (images : List (List (List ℕ))) (old new : List BoundBox)
+bad_from : (program : Sections) (steps : ℕ) (right : RightAnswers) (most : Option ℕ) (medium : List (List ℕ)) (images : List (List (List ℕ))) (old new : List BoundBox)
     (cause : CutCause) → images ≡ map (λ line. line ∷ []) medium → old ≡ record { images = images; shown = None; cuts = 0 } ∷ [] → GrowsBy program steps old new
     → HasBadBox program steps right most new cause → HasBadFrom program steps right most medium cause
 bad_from program steps right most medium images old new cause alone e g has =
@@ -199,10 +199,6 @@ bad_from program steps right most medium images old new cause alone e g has =
           (λ image h. alone_only medium image (subst (λ (box : List (List (List ℕ))). IsIn box image) alone h)) left;
       is_bad = has.bad.is_bad;
     }
-
-pub judged_by : (program other : Sections) (steps many : ℕ) (old new : List BoundBox) → program ≡ other → steps ≡ many → GrowsBy program steps old new → GrowsBy other many old new
-judged_by program other steps many old new e f g =
-    subst (λ (p : Sections). GrowsBy p many old new) e (subst (λ (n : ℕ). GrowsBy program n old new) f g)
 
 -- the images of a moment lie in one box
 alone_in : (lines : List (List ℕ)) → IsIn (map (λ line. line ∷ []) lines) lines
@@ -221,8 +217,27 @@ pub moment_size : (start : List (List ℕ)) (p : List PersistenceStep) (alone le
 moment_size start p alone left a w =
     within_size left (left_of p alone) w ∙ length_left 0 p alone ∙ ap (λ (box : List (List (List ℕ))). length box) a ∙ length-map start (λ (line : List ℕ). line ∷ [])
 
-pub first_covered : (images : List (List (List ℕ))) (old new : List BoundBox) (image : List (List ℕ)) → old ≡ record { images = images; shown = None; cuts = 0 } ∷ []
+first_covered : (images : List (List (List ℕ))) (old new : List BoundBox) (image : List (List ℕ)) → old ≡ record { images = images; shown = None; cuts = 0 } ∷ []
     → Grows old new → IsIn images image → IsCovered new 0 image None
 first_covered images old new image e g inside =
     covered_grows old new 0 image None g
     (subst (λ (bs : List BoundBox). IsCovered bs 0 image None) (sym e) (inl (record { soon = omega arith; inside = inside; bound = inl refl })))
+
+-- a moment whose images lie in boxes that are closed
+pub closed_moment : (view : JudgeView) (m : ℕ) (most : Option ℕ) (source : Source) (right : RightAnswers) (program : Sections) (steps : ℕ) (images : List (List (List ℕ)))
+    (old new : List BoundBox) (verdict : BoxVerdict) → verdict ≡ verdicts.Closed → program ≡ view.routine → steps ≡ view.steps → AreAnswers view source right
+    → ((image : List (List ℕ)) → IsCutImage view.start (at_moment view.events m) image → IsIn images image)
+    → old ≡ record { images = images; shown = None; cuts = 0 } ∷ [] → GrowsBy program steps old new → AreJudgedAgain program steps right most new verdict
+    → AllAnswered view source most m
+closed_moment view m most source right program steps images old new verdict is own many are inside e g judged =
+    let closed = judged_as program view.routine steps view.steps right most new verdicts.Closed own many
+    (subst (λ (v : BoxVerdict). AreJudgedAgain program steps right most new v) is judged) in
+    all_answered view m most source new right are (λ image at. first_covered images old new image e g.grows (inside image at)) closed
+
+-- a medium of whose boxes one is bad
+pub bad_medium : (program : Sections) (steps : ℕ) (right : RightAnswers) (most : Option ℕ) (medium : List (List ℕ)) (images : List (List (List ℕ))) (old new : List BoundBox)
+    (verdict : BoxVerdict) (cause : CutCause) → verdict ≡ verdicts.Bad cause → images ≡ map (λ line. line ∷ []) medium
+    → old ≡ record { images = images; shown = None; cuts = 0 } ∷ [] → GrowsBy program steps old new → AreJudgedAgain program steps right most new verdict
+    → HasBadFrom program steps right most medium cause
+bad_medium program steps right most medium images old new verdict cause is alone e g judged =
+    bad_from program steps right most medium images old new cause alone e g (subst (λ (v : BoxVerdict). AreJudgedAgain program steps right most new v) is judged)

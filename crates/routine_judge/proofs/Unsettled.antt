@@ -1,7 +1,7 @@
 -- Rows of moments that so many cuts in recovery settle, or don't.
 use Rattle.std.proofs.Common.{◌≡◌, ℕ, zero, suc, ◌+◌, ◌<◌, ◌≤◌, Bool, List, [], ◌∷◌, Option, Some, None, length, inl, inr, refl, sym, subst, arith}
 use Rattle.routine_judge.specs.Chains.{AreSettled, BeginsAt, IsBadChain, IsCutsVerdict, IsFirstChain, IsFirstLong, IsFirstUnsettled, most_of}
-use Rattle.routine_judge.specs.CutRows.{IsEndBy, IsLongEnd, IsRowEnd, end_in, less_one}
+use Rattle.routine_judge.specs.CutRows.{IsEndBy, IsLongEnd, IsRowEnd, end_in, less_one, times_of}
 use Rattle.routine_judge.specs.CutVerdicts.{IsJudgedWith, IsVerdictBy}
 use Rattle.routine_judge.specs.CutsInRecovery.{IsAllowed}
 use Rattle.routine_judge.specs.RightAnswers.{IsSource, RunsOn, Source}
@@ -147,7 +147,7 @@ pub first_at : (goes_on : Bool) (view : JudgeView) (asked : RecoveryCuts) (first
     → IsFirstUnsettled goes_on view asked first until n end.moment
 first_at goes_on view asked first until n end allowed fewer e = record { allowed = allowed; from = e.from; there = e.there; fewer = fewer; before = e.before }
 
-pub any_many : (goes_on : Bool) (view : JudgeView) (first until n : ℕ) (end : RowEnd) → ((k : ℕ) → k < n → AreSettled goes_on view (Some k) first until)
+any_many : (goes_on : Bool) (view : JudgeView) (first until n : ℕ) (end : RowEnd) → ((k : ℕ) → k < n → AreSettled goes_on view (Some k) first until)
     → IsRowEnd goes_on view None first until end → IsFirstUnsettled goes_on view Any first until n end.moment
 any_many goes_on view first until n end fewer e = record {
   allowed = tt;
@@ -156,3 +156,23 @@ any_many goes_on view first until n end fewer e = record {
   fewer = fewer;
   before = settled_less goes_on view None (Some n) first end.moment (λ i few. tt) e.before;
 }
+
+pub times_allowed : (asked : RecoveryCuts) (n : ℕ) → n < times_of asked → IsAllowed (most_of asked) n
+times_allowed (AtMost most) n below = omega (arith, below)
+times_allowed Any n below = tt
+
+-- where all numbers below as many as are asked for settle it, and that many don't
+pub last_at : (goes_on : Bool) (view : JudgeView) (asked : RecoveryCuts) (first until n most : ℕ) (end : RowEnd) → asked ≡ AtMost most → times_of asked ≤ n
+    → ((k : ℕ) → k < n → AreSettled goes_on view (Some k) first until) → IsRowEnd goes_on view (most_of asked) first until end
+    → IsFirstUnsettled goes_on view asked first until most end.moment
+last_at goes_on view (AtMost m) first until n most end is past fewer e =
+    let same : m ≡ most = cc in
+    subst (λ (k : ℕ). IsFirstUnsettled goes_on view (AtMost m) first until k end.moment) same
+    (first_at goes_on view (AtMost m) first until m end (omega arith) (λ k below. fewer k (omega (arith, below, past))) e)
+last_at goes_on view Any first until n most end is past fewer e = absurd (let never : ◌≡◌ {A = RecoveryCuts} Any (AtMost most) = is in cc)
+
+pub any_at : (goes_on : Bool) (view : JudgeView) (asked : RecoveryCuts) (first until n : ℕ) (end : RowEnd) → asked ≡ Any → times_of asked ≤ n
+    → ((k : ℕ) → k < n → AreSettled goes_on view (Some k) first until) → IsRowEnd goes_on view (most_of asked) first until end
+    → IsCutsVerdict goes_on view asked first until (verdicts.TooMany end.moment (Some 64))
+any_at goes_on view (AtMost m) first until n end is past fewer e = absurd (let never : ◌≡◌ {A = RecoveryCuts} (AtMost m) Any = is in cc)
+any_at goes_on view Any first until n end is past fewer e = any_many goes_on view first until 65 end (λ k below. fewer k (omega (arith, below, past))) e

@@ -15,7 +15,7 @@ use crate::cuts::moment::{CutMoment, image_of_cut, images_at};
 use crate::cuts::rule::CutRule;
 use crate::held::HeldAnswer;
 use crash_image::{Cut, ImageName};
-use line_memory::Medium;
+use line_memory::{LINE_SIZE, Medium};
 use recovery::Routine;
 use std::alloc::{AllocError, Global};
 
@@ -107,43 +107,63 @@ fn least_number<'m>(
     if images.contents(line).len() == 1 {
         return Ok(Some(low));
     }
+    let candidates = numbered_contents(alloc, at, line, low)?;
+    for candidate in &candidates {
+        let (number, bytes) = *candidate;
+        if is_kept(alloc, routine, question, images, line, bytes)? {
+            return Ok(Some(number));
+        }
+    }
+    Ok(None)
+}
+
+/// What a line has after each number of its stores, from this one on.
+fn numbered_contents(
+    alloc: Global,
+    at: CutMoment<'_>,
+    line: u32,
+    low: u32,
+) -> Result<Vec<(u32, [u8; LINE_SIZE])>, AllocError>
+    requires there { IsThere at }
+    requires below { line < length at.medium.now }
+{
     let mut so_far = LineSoFar {
         line,
         low,
         stores: 0,
         bytes: *at.medium.read_line(line),
     };
-    if is_kept(alloc, routine, question, images, so_far)? {
-        return Ok(Some(0));
+    let mut contents = Vec::new(alloc);
+    if low == 0 {
+        contents.push((0, so_far.bytes))?;
     }
     for event in events_before(at.trace, at.moment) {
-        if so_far.read(*event) && is_kept(alloc, routine, question, images, so_far)? {
-            return Ok(Some(so_far.stores));
+        let is_store = so_far.read(*event);
+        if is_store && low <= so_far.stores {
+            contents.push((so_far.stores, so_far.bytes))?;
         }
     }
-    Ok(None)
+    Ok(contents)
 }
 
-/// Whether it is so where a line has what it has so far alone, after enough of its stores. The line has that alone then.
+/// Whether it is so where a line has these bytes alone. It has them alone then.
 fn is_kept<'m>(
     alloc: Global,
     routine: &mut Routine,
     question: CutQuestion<'_>,
     images: &mut ImageBox<'m>,
-    so_far: LineSoFar,
+    line: u32,
+    bytes: [u8; LINE_SIZE],
 ) -> Result<bool, AllocError>
     requires lines { routine.old.lines ≡ length images.old }
-    requires below { so_far.line < length images.old }
+    requires below { line < length images.old }
     ensures size { length images.new ≡ length images.old }
     ensures routine { IsSame routine.old routine.new }
 {
-    if so_far.stores < so_far.low {
-        return Ok(false);
-    }
     let mut contents = Contents::none(alloc);
-    contents.push(so_far.bytes)?;
+    contents.push(bytes)?;
     let mut narrower = images.copy(alloc)?;
-    narrower.put(so_far.line, contents);
+    narrower.put(line, contents);
     let asked = narrower.copy(alloc)?;
     if !is_bad(alloc, routine, question, asked)? {
         return Ok(false);
