@@ -1,5 +1,5 @@
 -- Chains of power cuts, as they are made.
-use Rattle.std.proofs.Common.{◌≡◌, ◌∙◌, ℕ, ◌+◌, List, [], ◌∷◌, ◌++◌, length, Result, refl, sym, ap, subst, arith}
+use Rattle.std.proofs.Common.{◌≡◌, ◌∙◌, ℕ, ◌+◌, List, [], ◌∷◌, ◌++◌, length, None, Result, refl, sym, ap, subst, arith}
 use Rattle.std.proofs.lemmas.List.{length-append}
 use Rattle.machine.specs.Replies.{trace_in}
 use Rattle.program.specs.Sections.{Sections}
@@ -22,16 +22,25 @@ use Rattle.store_trace.proofs.Images.{length_image}
 use Rattle.store_trace.specs.Cut.{number_in}
 use Rattle.store_trace.specs.History.{at_moment}
 use Rattle.store_trace.specs.declared.event.Event.{Event}
+use Rattle.text.specs.declared.image_name.name.ImageName.{ImageName}
 use Rattle.verdict.specs.declared.branches.question.Question.{Question}
 
 -- an image has as many lines as the medium that was stored to
-pub image_size : (medium : List (List ℕ)) (events : List Event) (link : ChainLink) (left : List (List ℕ)) → IsImageAt medium events link.moment link.image left
+pub image_size : (medium : List (List ℕ)) (events : List Event) (m : ℕ) (name : ImageName) (left : List (List ℕ)) → IsImageAt medium events m name left
     → length left ≡ length medium
-image_size medium events link left at =
-    ap (λ (lines : List (List ℕ)). length lines) at.leaves ∙ length_image medium (number_in at.cut) (at_moment events link.moment)
+image_size medium events m name left at =
+    ap (λ (lines : List (List ℕ)). length lines) at.leaves ∙ length_image medium (number_in at.cut) (at_moment events m)
 
 pub further_size : (program : Sections) (steps : ℕ) (old new : ChainSoFar) → IsFurther program steps old new → length new.image ≡ length old.image
-further_size program steps old new f = image_size old.image (trace_in f.cut_in.end.common) f.link new.image f.cut_in.image_at
+further_size program steps old new f = image_size old.image (trace_in f.cut_in.end.common) f.link.moment f.link.image new.image f.cut_in.image_at
+
+-- the program's cut alone
+pub program_cut : (view : JudgeView) (medium : List (List ℕ)) (events : List Event) (m : ℕ) (name : ImageName) (left : List (List ℕ)) (links : List ChainLink)
+    → medium ≡ view.start → events ≡ view.events → links ≡ record { moment = m; image = name } ∷ [] → IsImageAt medium events m name left → LeadsTo view links left None
+program_cut view medium events m name left links start own one at =
+    subst (λ (ls : List ChainLink). LeadsTo view ls left None) (sym one)
+    (LeadsTo.in_program (record { moment = m; image = name }) left
+    (subst (λ (lines : List (List ℕ)). IsImageAt lines view.events m name left) start (subst (λ (es : List Event). IsImageAt medium es m name left) own at)))
 
 -- where a chain begins
 pub begins_more : (m cuts : ℕ) (links : List ChainLink) (link : ChainLink) → BeginsAt m cuts links → BeginsAt m (cuts + 1) (links ++ link ∷ [])

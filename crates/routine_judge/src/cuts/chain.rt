@@ -107,7 +107,11 @@ fn first_cut(
         trace: run.trace,
         moment,
     };
-    let question = CutQuestion { rule, shown: &None };
+    let nothing = None;
+    let question = CutQuestion {
+        rule,
+        shown: &nothing,
+    };
     let found = least_image(alloc, routine, question, at)?;
     let Some((name, left)) = found else {
         return Ok(None);

@@ -17,7 +17,6 @@ use crate::cuts::narrowing::{CutQuestion, least_image};
 use crate::cuts::rule::CutRule;
 use crate::judge::MomentJudge;
 use crate::run::MarkedRun;
-use crash_image::images_between;
 use line_memory::Medium;
 use recovery::Routine;
 use std::alloc::{AllocError, Global};
@@ -60,12 +59,11 @@ impl Moments for RunWithCuts<'_, '_> {
     }
 
     fn images(&self, alloc: Global, first: u32, end: u32) -> Result<Option<u64>, AllocError> {
-        images_between(alloc, self.run.trace, first, end)
+        self.run.images(alloc, first, end)
     }
 
-    /// As many as there are: to run the routine takes longer than to start a worker.
-    fn workers(&self, _moments: u32) -> u32 {
-        u32::MAX
+    fn workers(&self, moments: u32) -> u32 {
+        self.run.workers(moments)
     }
 }
 
@@ -158,7 +156,11 @@ fn least_bad(
         HasBadImage routine.old.program rule.entry.steps rule.entry.right.now rule.entry.most at.entry bad.0 bad.1)) }
     ensures routine { IsSame routine.old routine.new }
 {
-    let question = CutQuestion { rule, shown: &None };
+    let nothing = None;
+    let question = CutQuestion {
+        rule,
+        shown: &nothing,
+    };
     let Some((image, medium)) = least_image(alloc, routine, question, at)? else {
         return Ok(None);
     };
