@@ -42,6 +42,11 @@ bad_after view source right image shown (Judged cause) are bad =
     (Some cause) are bad.answers bad.judged
 bad_after view source right image shown Changed are bad = changed_by view source right image shown bad.found are bad.answers bad.judged
 
+pub found_as : (program own : Sections) (steps many : ℕ) (right : RightAnswers) (image : List (List ℕ)) (shown : Option (List ℕ)) (result : Option CutCause) → program ≡ own
+    → steps ≡ many → IsFoundAgain program steps right image shown result → IsFoundAgain own many right image shown result
+found_as program own steps many right image shown result e f found =
+    subst (λ (p : Sections). IsFoundAgain p many right image shown result) e (subst (λ (n : ℕ). IsFoundAgain program n right image shown result) f found)
+
 bad_by : (view : JudgeView) (source : Source) (right : RightAnswers) (most : Option ℕ) (medium : List (List ℕ)) (cause : CutCause) → AreAnswers view source right
     → HasBadFrom view.routine view.steps right most medium cause → IsBadFrom view source most medium cause
 bad_by view source right most medium cause are bad = record {

@@ -67,9 +67,10 @@ pub fn bad_chain(
         most: Some(cuts),
     };
     let first = first_cut(alloc, run, &mut judge.routine, rule, moment)?;
-    let Some(mut chain) = first else {
+    let Some(alone) = first else {
         return Ok(None);
     };
+    let mut chain = alone;
     for made in 0..cuts {
         let further = further_cut(alloc, &mut judge.routine, rule, chain, cuts - 1 - made)?;
         let Some(longer) = further else {
