@@ -40,8 +40,8 @@ returns-in_default-clause-ok c = λ d.
 pub returns-in_default-clause-grows : goal.returns-in_default-clause-grows
 returns-in_default-clause-grows c = (c.loop.invariant.0 some_box).grows
 
-pub returns-then-runs-clause-grows : goal.returns-then-runs-clause-grows
-returns-then-runs-clause-grows c = (c.loop.invariant.0 some_box).grows
+pub returns-then-runs-eq0-clause-grows : goal.returns-then-runs-eq0-clause-grows
+returns-then-runs-eq0-clause-grows c = (c.loop.invariant.0 some_box).grows
 
 pub close_part-requires-clause-sizes : goal.close_part-requires-clause-sizes
 close_part-requires-clause-sizes c =
