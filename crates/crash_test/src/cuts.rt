@@ -1,16 +1,17 @@
-//! The verdict on events and on a run by a recovery routine, with power cuts while that runs, or after it has ended.
+//! The verdict on events and on a run, by a recovery routine, with power cuts while that runs or after it has ended.
 
 ghost use Rattle.crash_image.specs.View.{HasLines};
+ghost use Rattle.crash_test.specs.CutsJudging.{HasCutsJudgement, HasCutsJudgementOn, IsToldOfCuts, IsToldOfCutsOn, StaysRecovered};
+ghost use Rattle.crash_test.specs.Judging.{AlwaysRecovers};
+ghost use Rattle.crash_test.specs.Rows.{row_of};
 ghost use Rattle.routine_judge.specs.Rules.{AreNotedFor, judgement_view, overlap_of};
 ghost use Rattle.routine_judge.specs.Verdicts.{IsRefusal};
-ghost use Rattle.crash_test.specs.CutJudging.{HasCutJudgement, IsToldOfCuts};
-ghost use Rattle.crash_test.specs.Rows.{row_of};
-ghost use Rattle.std.specs.Prelude.{IfErr, IfOk};
+ghost use Rattle.std.specs.Prelude.{◌≡◌, ℕ, IfErr, IfOk, Ok, None, Option};
 
 use crate::events::Events;
 use crate::work::Work;
 use machine::Run;
-use routine_judge::{CutsVerdict, JudgeFault, Judgement, RecoveryCuts};
+use routine_judge::{CutRow, CutsVerdict, JudgeFault, Judgement, RecoveryCuts, judged_part};
 use std::alloc::Global;
 use std::thread::Threads;
 use verdict::Progress;
@@ -27,6 +28,7 @@ pub struct CutJudgement<'a> {
 ///
 /// # Errors
 /// As those of `judge_program`.
+#[tactic(auto, using(routine_judge::proofs::Begun::sound_begin))]
 pub fn judge_event_cuts<T: Threads + Sync, P: Progress>(
     rt: &T,
     alloc: Global,
@@ -37,14 +39,28 @@ pub fn judge_event_cuts<T: Threads + Sync, P: Progress>(
 ) -> Result<CutsVerdict, JudgeFault>
     requires lines { HasLines events.medium.now events.trace.now.events }
     requires runs { AreNotedFor events.medium.now judgement.judgement.recovery.now judgement.judgement.steps judgement.judgement.rule }
+    ensures ok { IfOk result (HasCutsJudgementOn events.entry.medium.now events.entry.trace.now.events (judgement_view judgement.entry.judgement)
+        judgement.entry.cuts (row_of work)) }
     ensures err { IfErr result (IsRefusal (overlap_of judgement.entry.judgement.rule) events.entry.trace.now.events work.first) }
+    ensures told { IsToldOfCutsOn P.hears events.entry.medium.now events.entry.trace.now.events (judgement_view judgement.entry.judgement)
+        judgement.entry.cuts (row_of work) progress.old progress.new }
 {
-    Err(JudgeFault::Memory)
+    let Work {
+        first,
+        last,
+        workers,
+        goes_on,
+    } = work;
+    let CutJudgement { judgement, cuts } = judgement;
+    let part = judged_part(alloc, events.medium, events.trace, judgement, first, last)?;
+    let row = CutRow::of(&part, workers, goes_on);
+    Ok(row.judge(rt, alloc, cuts, progress)?)
 }
 
-/// The verdict on the moments of a run that the work names: whether all stays right that a power cut leaves, and then up to so many further
-/// ones, or any number of them, while recovery runs or after it has ended. The first verdict in this order: fewest cuts in recovery, then
-/// the least moment.
+/// The verdict on the moments of a run that the work names, with up to so many power cuts in recovery, or any number of them: whether whatever
+/// they leave from the first Begin on is recovered well, and what a recovery has shown stays. Where it isn't, the fewest cuts in recovery are
+/// told that leave a bad image, from the least moment from which so few do. The verdict is the same for any number of workers, and whoever is
+/// told on the way how far it has come.
 ///
 /// # Errors
 /// As those of `judge_program`.
@@ -57,12 +73,19 @@ pub fn judge_run_cuts<T: Threads + Sync, P: Progress>(
     progress: &mut P,
 ) -> Result<CutsVerdict, JudgeFault>
     requires runs { AreNotedFor run.now.setup.medium judgement.judgement.recovery.now judgement.judgement.steps judgement.judgement.rule }
-    ensures ok { IfOk result (HasCutJudgement run.now (judgement_view judgement.entry.judgement) judgement.entry.cuts (row_of work)) }
-    ensures told { IsToldOfCuts P.hears run.now (judgement_view judgement.entry.judgement) judgement.entry.cuts (row_of work) progress.old progress.new }
+    ensures ok { IfOk result (HasCutsJudgement run.now (judgement_view judgement.entry.judgement) judgement.entry.cuts (row_of work)) }
+
+    // Pass of the whole: what a pass without cuts in recovery says; and whatever as many cuts in recovery as were asked for leave stays recovered.
+    ensures pass { (moments : ℕ) (images : Option ℕ) → result ≡ Ok (CutsVerdict.Pass moments images) → work.first ≡ 0 → work.last ≡ None →
+        AlwaysRecovers run.now.setup run.now.schedule (judgement_view judgement.entry.judgement) }
+    ensures stays { (moments : ℕ) (images : Option ℕ) → result ≡ Ok (CutsVerdict.Pass moments images) → work.first ≡ 0 → work.last ≡ None →
+        StaysRecovered run.now.setup run.now.schedule (judgement_view judgement.entry.judgement) judgement.entry.cuts }
     ensures err { IfErr result (IsRefusal (overlap_of judgement.entry.judgement.rule) run.now.events work.first) }
+    ensures told { IsToldOfCuts P.hears run.now (judgement_view judgement.entry.judgement) judgement.entry.cuts (row_of work) progress.old progress.new }
 {
-    match crate::judging::judge_program(rt, alloc, run, judgement.judgement, work, progress) {
-        Ok(_) => Err(JudgeFault::Memory),
-        Err(fault) => Err(fault),
-    }
+    let events = Events {
+        medium: run.start(),
+        trace: run.trace(),
+    };
+    judge_event_cuts(rt, alloc, events, judgement, work, progress)
 }
