@@ -587,6 +587,13 @@ static SHOWING: [Subcommand; 5] = [
         ending: ending!("listing append.s"),
     },
     Subcommand {
+        name: "program",
+        group: Group::Look,
+        about: "Print the sizes of a program, and of an executable what is known of its places",
+        arguments: &[PROGRAM],
+        ending: ending!("program append.s"),
+    },
+    Subcommand {
         name: "code",
         group: Group::Look,
         about: "Say what a code means that the program prints, and what to do",

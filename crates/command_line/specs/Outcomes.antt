@@ -4,7 +4,7 @@ use Rattle.std.specs.Io.KnownBytes.{Appends}
 use Rattle.std.specs.Result.{result_map_both}
 use Rattle.arguments.specs.Line.{IsCommand, Refuses}
 use Rattle.arguments.specs.declared.asked.Command.{Command}
-use Rattle.arguments.specs.declared.asked.Command.TheVariants.{Answer as AnswerCommand, Assemble, Check, CheckAll, Code, Debug, Explain, Image, Images, Interleave, Judge, JudgeAll, Listing, MakeVolume, Picture, Replay, Run, Show, Trace, Unpersisted, Upgrade, Waste}
+use Rattle.arguments.specs.declared.asked.Command.TheVariants.{Answer as AnswerCommand, Assemble, Check, CheckAll, Code, Debug, Explain, Image, Images, Interleave, Judge, JudgeAll, Listing, MakeVolume, Picture, Program, Replay, Run, Show, Trace, Unpersisted, Upgrade, Waste}
 use Rattle.arguments.specs.declared.asked.LineFault.{LineFault}
 use Rattle.arguments.specs.declared.asked.LineFault.TheVariants as line_faults
 use Rattle.debugger.specs.StreamFailures.{AppendsFront}
@@ -28,6 +28,7 @@ use Rattle.command_line.specs.Persisting.{UnpersistedFile}
 use Rattle.command_line.specs.Picturing.{PicturesFile}
 use Rattle.command_line.specs.Running.{ReplaysFile, RunsFile}
 use Rattle.command_line.specs.Showing.{ShowsFile}
+use Rattle.command_line.specs.Sizes.{SizesFile}
 use Rattle.command_line.specs.Steps.{Prints, Reads, Step, Still, Writes}
 use Rattle.command_line.specs.Tracing.{TracesFile}
 use Rattle.command_line.specs.Wasting.{WasteFile}
@@ -71,6 +72,7 @@ CarriesOut reads writes (Picture command) = LeadsTo (PicturesFile reads writes c
 CarriesOut reads writes (Interleave command) = LeadsTo (InterleavesFile reads command) actions.Print
 CarriesOut reads writes (Show command) = LeadsTo (ShowsFile reads command) actions.Print
 CarriesOut reads writes (Listing command) = LeadsTo (ListsFile reads command) actions.Print
+CarriesOut reads writes (Program command) = LeadsTo (SizesFile reads command) actions.Print
 CarriesOut reads writes (Code command) = LeadsTo (Still (Prints (code_text command.meaning) 0)) actions.Print
 
 -- what is known of what is left to be done: of a verdict, that its files have been read

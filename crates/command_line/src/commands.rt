@@ -31,6 +31,7 @@ use crate::opened::{OpenCheck, OpenCheckAll, OpenJudge, OpenJudgeAll};
 use crate::picture::picture_file;
 use crate::run::{replay_file, run_file};
 use crate::show::show_file;
+use crate::sizes::size_file;
 use crate::trace::trace_file;
 use crate::unpersisted::unpersisted_file;
 use crate::upgrade::upgrade_file;
@@ -90,6 +91,7 @@ fn carry_out<T: Threads + Wait + Sync, F: Files>(
         Command::Interleave(command) => printed(interleave_file(alloc, &command, files)),
         Command::Show(command) => printed(show_file(alloc, &command, files)),
         Command::Listing(command) => printed(list_file(alloc, &command, files)),
+        Command::Program(command) => printed(size_file(alloc, &command, files)),
         Command::Code(command) => printed(tell_code(alloc, &command)),
     }
 }

@@ -65,6 +65,9 @@ returns-in-Show-clause-carries g c = rw c.in-Show.is (record { found = c.show_fi
 pub returns-in-Listing-clause-carries : goal.returns-in-Listing-clause-carries
 returns-in-Listing-clause-carries g c = rw c.in-Listing.is (record { found = c.list_file.result; finding = c.list_file.ensures; leads = c.printed-in-Listing.ensures.is })
 
+pub returns-in-Program-clause-carries : goal.returns-in-Program-clause-carries
+returns-in-Program-clause-carries g c = rw c.in-Program.is (record { found = c.size_file.result; finding = c.size_file.ensures; leads = c.printed-in-Program.ensures.is })
+
 pub returns-in-Code-clause-carries : goal.returns-in-Code-clause-carries
 returns-in-Code-clause-carries g c = rw c.in-Code.is (record {
   found = c.tell_code.result;
