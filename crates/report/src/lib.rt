@@ -1,6 +1,7 @@
 //! What is printed of a run: its events, each with its place in the program, and what keeps it from being whole.
 #![tactic(auto)]
 
+mod address;
 mod answer;
 mod causes;
 mod disassembly;
