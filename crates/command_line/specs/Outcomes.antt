@@ -14,7 +14,7 @@ use Rattle.command_line.specs.Checking.{IsOpen, JudgesCheck, OpensCheck}
 use Rattle.command_line.specs.AllSchedules.{FailsBehind}
 use Rattle.command_line.specs.CheckingAll.{ChecksAll, IsOpen as IsOpenCheckAll, OpensCheckAll}
 use Rattle.command_line.specs.Coding.{code_text}
-use Rattle.command_line.specs.Debugging.{HoldsSession, OpensFile}
+use Rattle.command_line.specs.Debugging.{HoldsSession, IsOpen as IsOpenDebug, OpensFile, code_of}
 use Rattle.command_line.specs.Drawing.{InterleavesFile}
 use Rattle.command_line.specs.Explaining.{ExplainsFile}
 use Rattle.command_line.specs.Failures.{failure_status, failure_text}
@@ -82,7 +82,7 @@ IsReady (actions.Check check) = IsOpen check
 IsReady (actions.Judge judge) = IsOpenJudge judge
 IsReady (actions.CheckAll check) = IsOpenCheckAll check
 IsReady (actions.JudgeAll judge) = IsOpenJudgeAll judge
-IsReady (actions.Debug machine) = Unit {0}
+IsReady (actions.Debug debug) = IsOpenDebug debug
 
 -- the text is to be printed with status 0
 pub record ShowsHelp (text : List ℕ) (action : Action) : Type 0 where
@@ -168,8 +168,8 @@ Delivers remaining contents said old new errors errors' (Ok (actions.CheckAll ch
     (new.0 ≡ old.0) × DeliversConclusion contents (ChecksAll said check) old.1 new.1 errors errors' ended
 Delivers remaining contents said old new errors errors' (Ok (actions.JudgeAll judge)) ended =
     (new.0 ≡ old.0) × DeliversConclusion contents (JudgesAll said judge) old.1 new.1 errors errors' ended
-Delivers remaining contents said old new errors errors' (Ok (actions.Debug machine)) ended =
-    HoldsSession machine (remaining old.0) (remaining new.0) (contents old.1) (contents new.1) ended × (errors' ≡ errors)
+Delivers remaining contents said old new errors errors' (Ok (actions.Debug debug)) ended =
+    HoldsSession (code_of debug.file.items) debug.machine (remaining old.0) (remaining new.0) (contents old.1) (contents new.1) ended × (errors' ≡ errors)
 Delivers remaining contents said old new errors errors' (Err failure) ended = (ended ≡ Err failure) × (new ≡ old) × (errors' ≡ errors)
 
 -- the status of the program

@@ -18,7 +18,7 @@ pub returns-in-Replay-clause-carries : goal.returns-in-Replay-clause-carries
 returns-in-Replay-clause-carries g c = rw c.in-Replay.is (record { found = c.replay_file.result; finding = c.replay_file.ensures; leads = c.printed-in-Replay.ensures.is })
 
 pub returns-in-Debug-clause-carries : goal.returns-in-Debug-clause-carries
-returns-in-Debug-clause-carries g c = rw c.in-Debug.is (record { found = c.open_file.result; finding = c.open_file.ensures; leads = c.debugged.ensures.is })
+returns-in-Debug-clause-carries g c = rw c.in-Debug.is (record { found = c.open_file.result; finding = c.open_file.ensures.opens; leads = c.debugged.ensures.is })
 
 pub returns-in-Trace-clause-carries : goal.returns-in-Trace-clause-carries
 returns-in-Trace-clause-carries g c = rw c.in-Trace.is (record { found = c.trace_file.result; finding = c.trace_file.ensures; leads = c.printed-in-Trace.ensures.is })
