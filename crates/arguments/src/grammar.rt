@@ -350,7 +350,7 @@ static RUNNING: [Subcommand; 3] = [
         arguments: &[PROGRAM, MEDIUM, HARTS, CAPACITY],
         ending: ending!(
             "debug append.s --medium append.medium",
-            "Commands of the session: break A, watch A, clear A, step H, go [ITEMS], regs H, peek A N, quit.\n\n"
+            "Commands of the session: break A, watch A, clear A, step H, go [ITEMS], regs H, where H, peek A N, quit.\nOf an ELF file break and clear also take NAME, NAME+0xOFF and FILE:LINE.\n\n"
         ),
     },
 ];
@@ -564,7 +564,7 @@ static DRAWING_OF_FILES: [Subcommand; 1] = [Subcommand {
 }];
 
 /// The subcommands that show files, and that tell of what the program prints, behind the others.
-static SHOWING: [Subcommand; 5] = [
+static SHOWING: [Subcommand; 6] = [
     Subcommand {
         name: "interleave",
         group: Group::Make,
