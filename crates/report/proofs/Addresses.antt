@@ -1,5 +1,6 @@
 -- The addresses that words stand for, and why a word stands for none.
 use Rattle.std.proofs.Common.{◌≡◌, ◌∙◌, ◌+◌, ◌<◌, ◌≤◌, ◌^◌, ◌++◌, ℕ, List, [], ◌∷◌, codes, drop, refl, sym, ap, subst, arith, inl, inr, Option, Some, None, MatchOption}
+use Rattle.std.proofs.lemmas.Bool.{cases_lt}
 use Rattle.std.proofs.lemmas.Option.{some_pair_parts}
 use Rattle.std.specs.Str.Parse.{IsNumeral, digits_value}
 use Rattle.elf_file.specs.FunctionSymbols.{FunctionSymbol}
@@ -160,3 +161,48 @@ offset_said word front back digits number parts is writes = (
   },
   writes.value,
 )
+
+-- ---- a word stands for one address at most
+
+first_is_one : (rows : List KnownRow) (name : List ℕ) (line a b : ℕ) → IsFirstPc rows name line a → IsFirstPc rows name line b → a ≡ b
+first_is_one rows name line a b p q =
+    elim (cases_lt p.at q.at) [
+      | inl less ↦ absurd (q.none_before p.at less (subst (λ (pc : ℕ). HasLine rows name line pc) p.address p.line_there))
+      | inr past ↦ elim (cases_lt q.at p.at) [
+        | inl less ↦ absurd (p.none_before q.at less (subst (λ (pc : ℕ). HasLine rows name line pc) q.address q.line_there))
+        | inr other ↦
+            let same : p.at ≡ q.at = omega arith in
+            p.address ∙ ap (λ (n : ℕ). 0x1_0000 + n) same ∙ sym q.address
+      ]
+    ]
+
+one_of_line : (rows : List KnownRow) (word : List ℕ) (a b : ℕ) → IsAtLine rows word a → IsAtLine rows word b → a ≡ b
+one_of_line rows word a b p q =
+    let file : p.file ≡ q.file = same_front (parted 58 word) p.file q.file p.digits q.digits p.spelled q.spelled in
+    let digits : p.digits ≡ q.digits = same_back (parted 58 word) p.file q.file p.digits q.digits p.spelled q.spelled in
+    let line : p.line ≡ q.line = p.number.value ∙ ap (λ (l : List ℕ). digits_value 10 l) digits ∙ sym q.number.value in
+    let first : IsFirstPc rows p.file q.line a = subst (λ (n : ℕ). IsFirstPc rows p.file n a) line p.first in
+    first_is_one rows q.file q.line a b (subst (λ (l : List ℕ). IsFirstPc rows l q.line a) file first) q.first
+
+one_behind : (functions : List FunctionSymbol) (name : List ℕ) (offset a b : ℕ) → IsBehind functions name offset a → IsBehind functions name offset b → a ≡ b
+one_behind functions name offset a b p q =
+    let same : p.start ≡ q.start = same_start (address_of functions name) p.start q.start (sym p.begins) q.begins in
+    p.address_is ∙ ap (λ (n : ℕ). n + offset) same ∙ sym q.address_is
+
+one_of_function : (functions : List FunctionSymbol) (word : List ℕ) (a b : ℕ) → IsOfFunction functions word a → IsOfFunction functions word b → a ≡ b
+one_of_function functions word a b (inl p) (inl q) =
+    let named : IsBehind functions q.name p.offset a =
+    subst (λ (l : List ℕ). IsBehind functions l p.offset a) (same_name word p.name q.name p.offset q.offset p.says q.says) p.behind in
+    let moved : IsBehind functions q.name q.offset a =
+    subst (λ (n : ℕ). IsBehind functions q.name n a) (same_offset word p.name q.name p.offset q.offset p.says q.says) named in
+    one_behind functions q.name q.offset a b moved q.behind
+one_of_function functions word a b (inl p) (inr q) = absurd (q.0 p.name p.offset p.says)
+one_of_function functions word a b (inr p) (inl q) = absurd (p.0 q.name q.offset q.says)
+one_of_function functions word a b (inr p) (inr q) = same_start (address_of functions word) a b (sym p.1) q.1
+
+pub one_address : (rows : List KnownRow) (functions : List FunctionSymbol) (word : List ℕ) (a b : ℕ) → StandsFor rows functions word a
+    → StandsFor rows functions word b → a ≡ b
+one_address rows functions word a b (inl p) (inl q) = one_of_line rows word a b p q
+one_address rows functions word a b (inl p) (inr q) = absurd (not_parted (parted 58 word) p.file p.digits p.spelled q.0)
+one_address rows functions word a b (inr p) (inl q) = absurd (not_parted (parted 58 word) q.file q.digits q.spelled p.0)
+one_address rows functions word a b (inr p) (inr q) = one_of_function functions word a b p.1 q.1
