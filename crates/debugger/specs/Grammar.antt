@@ -1,5 +1,5 @@
 -- The commands of lines: the first word is a command's name, and what follows it is what the command takes.
-use Rattle.std.specs.Prelude.{◌≡◌, ◌≢◌, ◌≤◌, ◌<◌, ◌^◌, ◌⊎◌, ℕ, Bool, true, false, List, [], ◌∷◌, codes, ⊤}
+use Rattle.std.specs.Prelude.{◌≡◌, ◌≢◌, ◌≤◌, ◌<◌, ◌^◌, ◌⊎◌, ℕ, true, false, List, [], ◌∷◌, codes, ⊤}
 use Rattle.debugger.specs.Code.{KnownCode}
 use Rattle.debugger.specs.Points.{can_break}
 use Rattle.debugger.specs.declared.fault.DebugFault.{DebugFault}

@@ -4,7 +4,7 @@ use Rattle.std.proofs.lemmas.Option.{some_pair_parts}
 use Rattle.std.proofs.lemmas.Slice.Eq.{bytes_eq-Decides}
 use Rattle.std.specs.Prelude.{option_and_then}
 use Rattle.std.specs.Str.{bytes_eq}
-use Rattle.elf_file.specs.Lines.{file_line, file_name, said_line}
+use Rattle.elf_file.specs.Lines.{HasLine, file_line, file_name, row_at, said_line}
 use Rattle.elf_file.specs.SourceRows.{KnownRow}
 
 -- two of them are one where name and line are
@@ -35,3 +35,15 @@ says_name row found name number line same is = (
       sym is ∙ same_said found name number line ((bytes_eq-Decides found name).0 e) (sym number_is ∙ same),
   λ e. (bytes_eq-Decides found name).1 (some_pair_parts found name number line (is ∙ e)).0,
 )
+
+-- an instruction comes from the line that its row says
+pub row_says : (rows : List KnownRow) (row : KnownRow) (name : List ℕ) (line pc : ℕ) (b : Bool) → row_at rows pc ≡ Some row
+    → (b ≡ true) ↔ (said_line row ≡ file_line name line) → (b ≡ true) ↔ HasLine rows name line pc
+row_says rows row name line pc b there is =
+    let same : option_and_then said_line (row_at rows pc) ≡ said_line row = ap (λ (o : Option KnownRow). option_and_then said_line o) there in
+    (λ e. same ∙ is.0 e, λ e. is.1 (sym same ∙ e))
+
+pub no_row_says : (rows : List KnownRow) (name : List ℕ) (line pc : ℕ) → row_at rows pc ≡ None → (false ≡ true) ↔ HasLine rows name line pc
+no_row_says rows name line pc none =
+    let same : option_and_then said_line (row_at rows pc) ≡ None = ap (λ (o : Option KnownRow). option_and_then said_line o) none in
+    (λ e. absurd cc, λ e. absurd (cc (sym same ∙ e)))

@@ -102,6 +102,7 @@ impl<'a> LineTable<'a> {
     }
 
     /// Whether the instruction at an address comes from a line of a file of this name.
+    #[tactic(auto, using(crate::proofs::SaidLines::row_says, crate::proofs::SaidLines::no_row_says))]
     fn comes_from(&self, pc: u64, name: &[u8], line: u32) -> bool
         ensures { IsTrue result ↔ HasLine self.now.rows name.now line pc }
     {
