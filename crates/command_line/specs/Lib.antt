@@ -20,6 +20,7 @@ pub mod JudgingRuns
 pub mod Judging
 pub mod JudgingAll
 pub mod Listing
+pub mod Sizes
 pub mod Making
 pub mod Naming
 pub mod Outcomes
