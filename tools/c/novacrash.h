@@ -45,9 +45,9 @@
     } while (0)
 
 /* A recovery routine ends here, with these bytes of data memory as its answer. */
-#define nc_answer(bytes, length)                                                                             \
+#define nc_answer(address, length)                                                                           \
     do {                                                                                                     \
-        const void *nc_bytes = (bytes);                                                                      \
+        const void *nc_bytes = (address);                                                                    \
         unsigned long nc_length = (length);                                                                  \
         register unsigned long nc_a0 __asm__("a0") = 0;                                                      \
         register const void *nc_a1 __asm__("a1") = nc_bytes;                                                 \

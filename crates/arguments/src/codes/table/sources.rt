@@ -59,7 +59,7 @@ static SOURCES: [Row; 16] = [
     (
         "P1",
         "a file that begins as no object",
-        "An object begins with RVXPROG1; write it by `novacrash asm` or tools/c-object.",
+        "An object begins with RVXPROG1; write it by `novacrash asm`. Of C, tools/c/novacrash-cc makes an executable.",
     ),
     (
         "P2",
