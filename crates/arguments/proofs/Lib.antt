@@ -1,5 +1,6 @@
-mod Cuts
+mod CutTexts
 mod Lines
 mod Spans
 pub mod Tables
 pub mod Rows
+mod Traced

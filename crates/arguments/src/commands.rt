@@ -41,7 +41,7 @@ use crate::asked::{
     AnswerCommand, AssembleCommand, CheckAllCommand, CheckCommand, CodeCommand, Command,
     DebugCommand, EventSource, ExplainCommand, ImageCommand, ImagesCommand, InterleaveCommand,
     JudgeAllCommand, JudgeCommand, JudgedProgram, JudgedRun, LineFault, ListingCommand,
-    MachineOptions, MakeVolumeCommand, PictureCommand, ProgramCommand, ReplayCommand,
+    MachineOptions, MakeVolumeCommand, MostCuts, PictureCommand, ProgramCommand, ReplayCommand,
     ReportCommand, RightAnswers, RunCommand, ScheduledRun, ShowCommand, TraceCommand, TracedEvents,
     UpgradeCommand,
 };
@@ -409,11 +409,7 @@ fn demand_program(alloc: Global, source: &EventSource, right: RightAnswers) -> R
 }
 
 /// Refuses power cuts in recovery for the events of a trace file.
-fn demand_run(
-    alloc: Global,
-    source: &EventSource,
-    cuts: Option<MostCuts>,
-) -> Result<(), LineFault>
+fn demand_run(alloc: Global, source: &EventSource, cuts: Option<MostCuts>) -> Result<(), LineFault>
     ensures ok { IfOk result (λ _. AreCutsOf source.now cuts) }
     ensures err { IfErr result (OnFault (¬ (AreCutsOf source.now cuts))) }
 {

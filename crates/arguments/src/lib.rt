@@ -16,8 +16,8 @@ pub use asked::{
     DebugCommand, EventSource, ExplainCommand, ImageCommand, ImagesCommand, InterleaveCommand,
     JudgeAllCommand, JudgeCommand, JudgedProgram, JudgedRun, LineFault, ListingCommand,
     MachineOptions, MakeVolumeCommand, Moments, MostCuts, PictureCommand, ProgramCommand,
-    ReplayCommand, ReportCommand, RightAnswers, RunCommand, ScheduledRun, ShowCommand, TraceCommand,
-    TracedEvents, UpgradeCommand,
+    ReplayCommand, ReportCommand, RightAnswers, RunCommand, ScheduledRun, ShowCommand,
+    TraceCommand, TracedEvents, UpgradeCommand,
 };
 pub use codes::{Meaning, all_have_meanings, list, meaning_of};
 pub use line::command;

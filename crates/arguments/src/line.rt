@@ -10,8 +10,8 @@ ghost use Rattle.arguments.specs.declared.asked.Command.{Command as ACommand};
 use crate::asked::{Command, LineFault};
 use crate::commands::{
     answer, assemble, check, check_all, code, debug, explain, image, images, interleave, judge,
-    judge_all, listing, make_volume, picture, program, replay, run, show, trace, unpersisted, upgrade,
-    waste,
+    judge_all, listing, make_volume, picture, program, replay, run, show, trace, unpersisted,
+    upgrade, waste,
 };
 use crate::grammar::{grammar, overview};
 use clap::ArgMatches;
