@@ -16,7 +16,7 @@ use Rattle.store_trace.specs.declared.event.Event.{Event}
 use Rattle.store_trace.specs.declared.event.Event.TheVariants.{Store, Clean, Fence, Begin, End}
 use Rattle.report.specs.Entries.{HasNumbers, HasSizes, entry_of, function_words, line_words, origin_words, place_words, printed_event}
 use Rattle.report.specs.Events as report
-use Rattle.report.specs.Places.{InFile, InFunction, KnownOrigin, executable, function_behind, function_text, line_behind, line_text, nowhere, origin_text, source_line, told_words}
+use Rattle.report.specs.Places.{InFile, InFunction, KnownOrigin, executable, function_behind, line_behind, nowhere, origin_text, source_line, told_words}
 use Rattle.report.specs.PrintedNames.{is_graphic, printed_name, text_byte}
 use Rattle.report.specs.Rows.{two_digits}
 use Rattle.trace_file.proofs.CutLemmas.{is_other}
