@@ -72,21 +72,21 @@ others_between first at other differs =
 -- filled before a byte, from the cells that there were
 pub record IsFilled (before cells : List (Option ℕ)) (first end at number : ℕ) : Type 0 where
   pub none : end ≤ first → at ≡ first
-  pub at : (other : ℕ) → get_or cells other None ≡ filled first at number other (get_or before other None)
+  pub each : (other : ℕ) → get_or cells other None ≡ filled first at number other (get_or before other None)
 
 pub begun : (cells : List (Option ℕ)) (first end number : ℕ) → IsFilled cells cells first end first number
-begun cells first end number = record { none = λ _. refl; at = λ other. none_filled first number other (get_or cells other None) }
+begun cells first end number = record { none = λ _. refl; each = λ other. none_filled first number other (get_or cells other None) }
 
 pub one_more : (before cells : List (Option ℕ)) (first end at number : ℕ) → first ≤ at → at < end → at < length cells
     → IsFilled before cells first end at number
     → IsFilled before (set cells at (Some (unwrap_or (get_or cells at None) number))) first end (at + 1) number
 one_more before cells first end at number from less within is = record {
   none = λ empty. absurd (omega arith);
-  at = λ other. elim (cases_eq other at) [
+  each = λ other. elim (cases_eq other at) [
     | inl same ↦
         let family : ℕ → Type 0 =
         λ (w : ℕ). get_or (set cells at (Some (unwrap_or (get_or cells at None) number))) w None ≡ filled first (at + 1) number w (get_or before w None) in
-        let old : get_or cells at None ≡ get_or before at None = is.at at ∙ sym (not_yet first at number (get_or before at None)) in
+        let old : get_or cells at None ≡ get_or before at None = is.each at ∙ sym (not_yet first at number (get_or before at None)) in
         subst family (sym same)
         (get_or-set_same cells at (Some (unwrap_or (get_or cells at None) number)) None within
         ∙ ap (λ (o : Option ℕ). Some (unwrap_or o number)) old
@@ -94,7 +94,7 @@ one_more before cells first end at number from less within is = record {
         ∙ sym (ap (λ (b : Bool). option_or (get_or before at None) (then_some b number)) (one_between first at from)))
     | inr differs ↦
         get_or-set_other cells at other (Some (unwrap_or (get_or cells at None) number)) None differs
-        ∙ is.at other
+        ∙ is.each other
         ∙ sym (ap (λ (b : Bool). option_or (get_or before other None) (then_some b number)) (others_between first at other differs))
   ];
 }
@@ -106,14 +106,14 @@ is_done before cells first end at number past from upto is other =
     elim (cases_lt end first) [
       | inl below ↦
           let here : at ≡ first = is.none (omega arith) in
-          is.at other
+          is.each other
           ∙ ap (λ (w : ℕ). filled first w number other (get_or before other None)) here
           ∙ sym (none_filled first number other (get_or before other None))
           ∙ none_more (get_or before other None)
           ∙ sym (ap (λ (b : Bool). option_or (get_or before other None) (then_some b number)) (none_in first end other below))
       | inr there ↦
           let here : at ≡ end = omega (arith, upto there) in
-          is.at other ∙ ap (λ (w : ℕ). filled first w number other (get_or before other None)) here
+          is.each other ∙ ap (λ (w : ℕ). filled first w number other (get_or before other None)) here
     ]
 
 -- ---- the bytes at which a row holds
