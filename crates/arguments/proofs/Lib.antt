@@ -1,4 +1,4 @@
-mod Cuts
+mod CutTexts
 mod Lines
 mod Spans
 pub mod Tables

@@ -36,7 +36,7 @@ pub(crate) fn optional_cuts(
 }
 
 /// How many power cuts in recovery a text asks for.
-#[tactic(auto, using(crate::proofs::Cuts::no_number))]
+#[tactic(auto, using(crate::proofs::CutTexts::no_number))]
 fn most_cuts(text: &str) -> Option<MostCuts>
     ensures some { IfSome result (IsMostCuts text.now) }
     ensures few { IfSome result AreFewCuts }

@@ -1,4 +1,4 @@
-use Rattle.arguments.proofs.Cuts.{not_given}
+use Rattle.arguments.proofs.CutTexts.{not_given}
 use Rattle.arguments.proofs.cuts.optional_cuts.Goals as goal
 
 pub returns-in_ok-format-in-None-clause-err : goal.returns-in_ok-format-in-None-clause-err
