@@ -1,6 +1,7 @@
 -- The addresses that words stand for, and why a word stands for none.
-use Rattle.std.proofs.Common.{◌≡◌, ◌∙◌, ◌+◌, ◌<◌, ◌≤◌, ◌^◌, ◌++◌, ℕ, List, [], ◌∷◌, codes, drop, refl, sym, ap, subst, arith, inl, inr, Option, Some, None, MatchOption}
+use Rattle.std.proofs.Common.{◌≡◌, ◌∙◌, ◌+◌, ◌-◌, ◌<◌, ◌≤◌, ◌^◌, ◌++◌, ℕ, List, [], ◌∷◌, codes, drop, get_or, length, take, refl, sym, ap, subst, arith, inl, inr, Option, Some, None, MatchOption}
 use Rattle.std.proofs.lemmas.Bool.{cases_lt}
+use Rattle.std.proofs.lemmas.List.{take_all}
 use Rattle.std.proofs.lemmas.Option.{some_pair_parts}
 use Rattle.std.specs.Str.Parse.{IsNumeral, digits_value}
 use Rattle.elf_file.specs.FunctionSymbols.{FunctionSymbol}
@@ -130,6 +131,14 @@ behind_past functions name start offset value address is same past small behind 
     absurd (omega (arith, behind.address_is))
 
 -- ---- what a word says
+
+-- `0x` and what is behind it
+pub begun : (text : List ℕ) → 2 ≤ length text → get_or text 0 0 ≡ 48 → get_or text 1 0 ≡ 120 → text ≡ 48 ∷ 120 ∷ take (length text - 2) (drop 2 text)
+begun [] long p q = absurd (omega arith)
+begun (a ∷ []) long p q = absurd (omega arith)
+begun (a ∷ b ∷ rest) long p q =
+    let all : take (length (a ∷ b ∷ rest) - 2) rest ≡ rest = take_all (length (a ∷ b ∷ rest) - 2) rest (omega arith) in
+    ap (λ (x : ℕ). x ∷ b ∷ rest) p ∙ ap (λ (y : ℕ). 48 ∷ y ∷ rest) q ∙ ap (λ (l : List ℕ). 48 ∷ 120 ∷ l) (sym all)
 
 pub no_plus : (word name : List ℕ) (offset : ℕ) → None ≡ parted 43 word → SaysOffset word name offset → ⊥
 no_plus word name offset none says = not_parted (parted 43 word) name (codes "0x" ++ says.digits) says.spelled (sym none)
