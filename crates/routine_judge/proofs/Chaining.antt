@@ -1,5 +1,5 @@
 -- Chains of power cuts, as they are made.
-use Rattle.std.proofs.Common.{◌≡◌, ◌∙◌, ℕ, ◌+◌, List, [], ◌∷◌, ◌++◌, length, None, Result, refl, sym, ap, subst, arith}
+use Rattle.std.proofs.Common.{◌≡◌, ◌∙◌, ℕ, ◌+◌, List, [], ◌∷◌, ◌++◌, length, Option, Some, None, Result, sym, ap, subst}
 use Rattle.std.proofs.lemmas.List.{length-append}
 use Rattle.machine.specs.Replies.{trace_in}
 use Rattle.program.specs.Sections.{Sections}
@@ -7,14 +7,17 @@ use Rattle.recovery.specs.Cuts.{shown_at}
 use Rattle.recovery.specs.Routine.{RecoversWith}
 use Rattle.recovery.specs.declared.recovery_run.Cause as run
 use Rattle.recovery.specs.declared.routine.TracedRun.{TracedRun}
-use Rattle.routine_judge.proofs.Bad.{bad_after}
+use Rattle.std.specs.Prelude.{IfSome}
 use Rattle.routine_judge.proofs.EventLines.{run_names_lines}
 use Rattle.routine_judge.specs.ChainCuts.{IsCutOver, IsFurther}
 use Rattle.routine_judge.specs.Chains.{BeginsAt, IsBadChain, IsCutIn, LeadsTo}
-use Rattle.routine_judge.specs.Closing.{IsFoundAgain}
+use Rattle.routine_judge.specs.Gathered.{AreAnswers}
+use Rattle.routine_judge.specs.RightAnswers.{IsSource, Source}
 use Rattle.routine_judge.specs.CutVerdicts.{IsImageAt}
 use Rattle.routine_judge.specs.Views.{JudgeView}
+use Rattle.routine_judge.specs.declared.cuts.chain.Chain.{Chain}
 use Rattle.routine_judge.specs.declared.cuts.chain.ChainSoFar.{ChainSoFar}
+use Rattle.routine_judge.specs.declared.right.RightAnswers.{RightAnswers}
 use Rattle.routine_judge.specs.declared.cuts.chain.FurtherCut.{FurtherCut}
 use Rattle.routine_judge.specs.declared.cuts.outcome.ChainLink.{ChainLink}
 use Rattle.crash_image.specs.View.{HasLines}
@@ -78,3 +81,10 @@ pub run_lines : (program : Sections) (image : List (List ℕ)) (steps : ℕ) (qu
     → RecoversWith program image steps questions events found → HasLines image events
 run_lines program image steps questions events found r =
     subst (λ (es : List Event). HasLines image es) (sym r.traces) (run_names_lines program image steps r.end r.full r.runs)
+
+-- by the source of the moment's right answers
+pub some_chain : (view : JudgeView) (m : ℕ) (right : RightAnswers) (found : Option Chain) (source : Source) → IsSource view m source → AreAnswers view source right
+    → IfSome found (λ chain. (other : Source) → IsSource view m other → AreAnswers view other right → IsBadChain view m chain.links.items chain.cause)
+    → IfSome found (λ chain. IsBadChain view m chain.links.items chain.cause)
+some_chain view m right None source is are all = tt
+some_chain view m right (Some chain) source is are all = all source is are

@@ -1,5 +1,5 @@
 -- Boxes that are closed one after the other, and a moment whose images lie in them.
-use Rattle.std.proofs.Common.{◌≡◌, ◌⊎◌, ℕ, zero, suc, ◌+◌, ◌<◌, ◌≤◌, List, [], ◌∷◌, ◌++◌, Option, Some, None, Result, Ok, Bool, length, get_or, refl, sym, ap, subst, ◌∙◌, inl, inr, arith}
+use Rattle.std.proofs.Common.{◌≡◌, ℕ, zero, suc, ◌+◌, ◌<◌, ◌≤◌, List, [], ◌∷◌, Option, Some, None, length, get_or, refl, sym, ap, subst, ◌∙◌, inl, inr, arith}
 use Rattle.std.specs.Prelude.{All, map}
 use Rattle.std.specs.List.{AllByRecursion, Contains}
 use Rattle.std.proofs.lemmas.Bool.{cases_eq, cases_lt}
@@ -11,7 +11,7 @@ use Rattle.recovery.specs.Boxes.{IsIn, LiesWithin, left_of}
 use Rattle.recovery.specs.Closed.{BoundBox, IsCovered, IsFollowed, IsWell}
 use Rattle.recovery.specs.Cuts.{IsLeft}
 use Rattle.routine_judge.proofs.ClosingBoxes.{by_none, some_box}
-use Rattle.routine_judge.proofs.Covering.{covered_grows, grows_none, grows_on, within_size}
+use Rattle.routine_judge.proofs.Covering.{covered_grows, grows_on, within_size}
 use Rattle.routine_judge.proofs.LeftBoxes.{length_left}
 use Rattle.routine_judge.proofs.StayingRight.{answered, answered_to}
 use Rattle.routine_judge.proofs.Unions.{only_one}

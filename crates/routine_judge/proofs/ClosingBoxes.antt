@@ -1,6 +1,6 @@
 -- A box while it is closed, part by part.
-use Rattle.std.proofs.Common.{◌≡◌, ◌⊎◌, ℕ, zero, suc, ◌+◌, ◌<◌, ◌≤◌, List, [], ◌∷◌, ◌++◌, Option, Some, None, Result, Ok, Err, length, refl, sym, ap, subst, ◌∙◌, inl, inr, arith}
-use Rattle.std.specs.Prelude.{All, IfSome}
+use Rattle.std.proofs.Common.{◌≡◌, ◌⊎◌, ℕ, suc, ◌+◌, ◌≤◌, List, [], ◌∷◌, ◌++◌, Option, Some, None, Result, Ok, Err, length, refl, sym, ap, subst, ◌∙◌, inl, inr, arith}
+use Rattle.std.specs.Prelude.{All}
 use Rattle.std.specs.List.{Contains}
 use Rattle.std.proofs.lemmas.List.{length-set}
 use Rattle.std.proofs.lemmas.List.Elements.{All-cons, All-head, All-pop, All-tail}
@@ -12,7 +12,7 @@ use Rattle.recovery.specs.Answers.{answer}
 use Rattle.recovery.specs.Asking.{asked}
 use Rattle.recovery.specs.Boxes.{IsIn, IsInOne, alike, left_of, part_of}
 use Rattle.recovery.specs.Closed.{BoundBox, IsCovered}
-use Rattle.recovery.specs.Cuts.{IsCutOf, IsLeft, shown_at}
+use Rattle.recovery.specs.Cuts.{IsLeft, shown_at}
 use Rattle.recovery.specs.Parts.{part_by}
 use Rattle.recovery.specs.declared.recovery_run.Cause as run
 use Rattle.routine_judge.proofs.Covering.{covered_grows, grows_none, grows_on}

@@ -1,9 +1,9 @@
 -- With no power cut in recovery a moment stays right just where each image of it is found good.
-use Rattle.std.proofs.Common.{◌≡◌, ◌∙◌, ℕ, zero, suc, ◌≤◌, List, Option, Some, None, Ok, sym, subst, refl, arith}
+use Rattle.std.proofs.Common.{◌≡◌, ℕ, zero, suc, ◌≤◌, List, Option, Some, None, Ok, sym, subst, refl, arith}
 use Rattle.std.specs.Prelude.{IfSome}
 use Rattle.recovery.specs.Cuts.{AnswersWell}
 use Rattle.recovery.specs.Images.{AnswersOn}
-use Rattle.routine_judge.specs.CutsInRecovery.{AllAnswered, IsAllowed, Left}
+use Rattle.routine_judge.specs.CutsInRecovery.{AllAnswered, Left}
 use Rattle.routine_judge.specs.RightAnswers.{IsFoundOf, IsRightOf, Source}
 use Rattle.routine_judge.specs.Views.{JudgeView}
 use Rattle.store_trace.specs.Cut.{IsCutImage, number_in}

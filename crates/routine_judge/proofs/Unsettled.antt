@@ -1,5 +1,5 @@
 -- Rows of moments that so many cuts in recovery settle, or don't.
-use Rattle.std.proofs.Common.{◌≡◌, ℕ, zero, suc, ◌+◌, ◌<◌, ◌≤◌, Bool, List, [], ◌∷◌, Option, Some, None, length, inl, inr, refl, sym, subst, arith}
+use Rattle.std.proofs.Common.{◌≡◌, ℕ, zero, suc, ◌+◌, ◌<◌, ◌≤◌, Bool, List, [], ◌∷◌, Option, Some, None, length, inl, inr, sym, subst, arith}
 use Rattle.routine_judge.specs.Chains.{AreSettled, BeginsAt, IsBadChain, IsCutsVerdict, IsFirstChain, IsFirstLong, IsFirstUnsettled, most_of}
 use Rattle.routine_judge.specs.CutRows.{IsEndBy, IsLongEnd, IsRowEnd, end_in, less_one, times_of}
 use Rattle.routine_judge.specs.CutVerdicts.{IsJudgedWith, IsVerdictBy}
@@ -14,7 +14,7 @@ use Rattle.routine_judge.specs.declared.cuts.outcome.RecoveryCuts.TheVariants.{A
 use Rattle.routine_judge.specs.declared.cuts.row.RowEnd.{RowEnd}
 use Rattle.routine_judge.specs.declared.cuts.row.Why.{Why}
 use Rattle.routine_judge.specs.declared.cuts.row.Why.TheVariants.{Bad, TooLong, TooMany}
-use Rattle.verdict.specs.GoingOn.{HasTooMany, IsVerdictOn, settled}
+use Rattle.verdict.specs.GoingOn.{HasTooMany, IsVerdictOn}
 use Rattle.verdict.specs.declared.moment_verdict.contents.LineContents.{LineContents}
 use Rattle.verdict.specs.declared.moment_verdict.verdict.MomentVerdict.TheVariants as moments
 use Rattle.verdict.specs.declared.moment_verdict.verdict.Verdict.{Verdict}

@@ -43,7 +43,7 @@ impl<'a> BoundBoxes<'a> {
         shown: Option<HeldAnswer>,
     ) -> Result<BoundBoxes<'a>, AllocError>
         ensures lines { IfOk result (λ made. made.lines ≡ length images.entry) }
-        ensures boxes { IfOk result (λ made. made.boxes ≡ record { images = images.entry; shown = shown.entry; cuts = 0 } ∷ []) }
+        ensures boxes { IfOk result (λ made. made.boxes ≡ record { images = images.entry; shown = shown; cuts = 0 } ∷ []) }
     {
         let lines = images.lines();
         let mut boxes = Vec::new(alloc);

@@ -6,6 +6,8 @@ ghost use Rattle.recovery.specs.Cuts.{shown_at};
 ghost use Rattle.routine_judge.specs.ChainCuts.{IsCutOver, IsFurther};
 ghost use Rattle.routine_judge.specs.Chains.{BeginsAt, IsBadChain, LeadsTo};
 ghost use Rattle.routine_judge.specs.Closing.{IsFoundAgain, IsSame};
+ghost use Rattle.routine_judge.specs.Gathered.{AreAnswers};
+ghost use Rattle.routine_judge.specs.RightAnswers.{IsSource, Source as ASource};
 ghost use Rattle.routine_judge.specs.Standing.{StandsIn};
 ghost use Rattle.std.specs.Prelude.{◌≡◌, ◌≤◌, length, IfOk, IfSome};
 
@@ -66,19 +68,39 @@ pub fn bad_chain(
         steps: run.steps,
         most: Some(cuts),
     };
-    let first = first_cut(alloc, run, &mut judge.routine, rule, moment)?;
+    chain_by(alloc, run, &mut judge.routine, rule, moment, cuts)
+}
+
+/// The same by the right answers of the moment.
+fn chain_by(
+    alloc: Global,
+    run: &MarkedRun<'_>,
+    routine: &mut Routine,
+    rule: CutRule<'_>,
+    moment: u32,
+    cuts: u32,
+) -> Result<Option<Chain>, AllocError>
+    requires there { moment ≤ length run.now.events }
+    requires steps { rule.steps ≡ run.now.steps }
+    requires program { routine.old.program ≡ run.now.routine }
+    requires lines { routine.old.lines ≡ length run.now.start }
+    ensures bad { IfOk result (λ found. IfSome found (λ chain. (source : ASource) → IsSource run.now moment source → AreAnswers run.now source rule.entry.right.now →
+        IsBadChain run.now moment chain.links.items chain.cause)) }
+    ensures begins { IfOk result (λ found. IfSome found (λ chain. BeginsAt moment cuts chain.links.items)) }
+{
+    let first = first_cut(alloc, run, routine, rule, moment)?;
     let Some(alone) = first else {
         return Ok(None);
     };
     let mut chain = alone;
     for made in 0..cuts {
-        let further = further_cut(alloc, &mut judge.routine, rule, chain, cuts - 1 - made)?;
+        let further = further_cut(alloc, routine, rule, chain, cuts - 1 - made)?;
         let Some(longer) = further else {
             return Ok(None);
         };
         chain = longer;
     }
-    let found = cause_of(alloc, &mut judge.routine, rule, &chain)?;
+    let found = cause_of(alloc, routine, rule, &chain)?;
     let Some(cause) = found else {
         return Ok(None);
     };
@@ -139,7 +161,7 @@ fn further_cut(
     further: u32,
 ) -> Result<Option<ChainSoFar>, AllocError>
     requires { routine.old.lines ≡ length chain.image }
-    ensures ok { IfOk result (λ found. IfSome found (IsFurther routine.old.program rule.entry.steps chain.entry)) }
+    ensures ok { IfOk result (λ found. IfSome found (IsFurther routine.old.program rule.entry.steps chain)) }
     ensures routine { IsSame routine.old routine.new }
 {
     let run = routine.run_traced(alloc, &chain.image, rule.steps)?;

@@ -131,7 +131,7 @@ fn judge_by(
 
 /// The verdict on a moment of which cuts leave a bad image, by its least image from which they do, where that was found.
 fn verdict_on(least: Option<(ImageName, CutCause)>) -> MomentVerdict<CutCause>
-    ensures { result ≡ verdict_of least.entry }
+    ensures { result ≡ verdict_of least }
 {
     match least {
         Some((image, cause)) => MomentVerdict::Fail {

@@ -14,4 +14,4 @@ pub returns-in-Bad-clause-ok : goal.returns-in-Bad-clause-ok
 returns-in-Bad-clause-ok c =
     let rule = c.args.rule in
     bad_medium c.args.routine.now.program rule.steps rule.right.now rule.most c.args.medium.now c.in_ok-images.images c.in_ok-boxes.boxes.boxes c.close_all.new.self.boxes
-    c.in_ok-close_all.field-0 c.in-Bad.cause c.in-Bad.is c.in_ok-images.ensures c.in_ok-boxes.ensures.boxes c.in_ok-close_all.ensures.grows c.in_ok-close_all.ensures.ok
+    c.in_ok-cause.field-0 c.in-Bad.cause c.in-Bad.is c.in_ok-images.ensures c.in_ok-boxes.ensures.boxes c.in_ok-cause.ensures.grows c.in_ok-cause.ensures.ok

@@ -1,4 +1,4 @@
-use Rattle.std.proofs.Common.{◌≡◌, ◌∙◌, ℕ, List, length, ap, subst, sym}
+use Rattle.std.proofs.Common.{◌∙◌, ℕ, List, ap, refl, subst, sym}
 use Rattle.recovery.specs.Boxes.{IsIn}
 use Rattle.routine_judge.proofs.Bad.{verdict_named}
 use Rattle.routine_judge.proofs.ClosedBoxes.{closed_moment}
@@ -21,12 +21,12 @@ returns-in-Closed-clause-ok c = λ source are.
     (subst (λ (v : JudgeView). (image : List (List ℕ)) → IsCutImage v.start (at_moment v.events m) image → IsIn images image) c.run.view_is c.in_ok-images.ensures.all)
     c.in_ok-boxes.ensures.boxes c.in_ok-close_all.ensures.grows c.in_ok-close_all.ensures.ok
 
-pub returns-in-Bad-clause-ok : goal.returns-in-Bad-clause-ok
-returns-in-Bad-clause-ok c = λ source are.
+pub returns-clause-ok : goal.returns-clause-ok
+returns-clause-ok c = λ source are.
     let view = c.args.run.now in
     let rule = c.args.rule in
     let m = c.args.moment in
     let routine = c.close_all.new.routine in
     subst (λ (v : MomentVerdict CutCause). IsVerdictBy view source rule.most m v) (sym c.verdict_on.ensures)
-    (verdict_named view source rule.right.now rule.most m _ routine.program rule.steps c.in_ok-least.least are (c.in_ok-close_all.ensures.routine.0 ∙ c.requires.program)
-    c.requires.steps (ap (λ (v : JudgeView). v.start) c.run.view_is) (ap (λ (v : JudgeView). v.events) c.run.view_is) _ c.in_ok-least.ensures.ok)
+    (verdict_named view source rule.right.now rule.most m _ routine.program rule.steps c.in_ok-least-in-Bad.least are (c.in_ok-close_all.ensures.routine.0 ∙ c.requires.program)
+    c.requires.steps (ap (λ (v : JudgeView). v.start) c.run.view_is) (ap (λ (v : JudgeView). v.events) c.run.view_is) refl c.in_ok-least-in-Bad.ensures.ok)

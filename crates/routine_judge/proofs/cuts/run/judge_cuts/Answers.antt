@@ -1,4 +1,4 @@
-use Rattle.std.proofs.Common.{◌≡◌, inl, inr, refl, ap, IfOk}
+use Rattle.std.proofs.Common.{inl, inr, refl, ap}
 use Rattle.std.proofs.lemmas.Result.{IfOk-weaker}
 use Rattle.routine_judge.proofs.Sourcing.{basis_source}
 use Rattle.routine_judge.specs.CutVerdicts.{IsJudgedWith, IsVerdictBy}

@@ -1,12 +1,10 @@
-use Rattle.std.proofs.Common.{◌≡◌, ◌∙◌, ◌∷◌, ◌<◌, ◌≤◌, List, Some, None, ℕ, length, get_or, ap, refl, subst, sym, arith}
+use Rattle.std.proofs.Common.{◌≡◌, ◌∙◌, Some, None, ℕ, get_or, ap, refl, subst, sym, arith}
 use Rattle.std.proofs.lemmas.Bool.{MatchBool-at_false, MatchBool-at_true}
 use Rattle.std.proofs.lemmas.List.{nil_from_length}
-use Rattle.std.proofs.lemmas.List.Elements.{All-pop}
 use Rattle.std.specs.List.{Contains}
 use Rattle.recovery.specs.Closed.{BoundBox}
 use Rattle.routine_judge.proofs.ClosedBoxes.{far_closed}
 use Rattle.routine_judge.proofs.ClosingBoxes.{by_none, closing_bad, closing_end, closing_grew, closing_next, closing_start, from_as, made_closed, sized_as, sized_pop, some_box}
-use Rattle.routine_judge.specs.Closing.{AreOfLines}
 use Rattle.routine_judge.specs.CutsInRecovery.{IsAllowed}
 use Rattle.routine_judge.proofs.cuts.bound_boxes.BoundBoxes.close.Goals as goal
 
@@ -81,8 +79,7 @@ loop-init c = (
   λ d. closing_start c.args.routine.now.program c.args.rule.steps c.args.rule.right.now c.args.rule.most (get_or c.args.self.now.boxes c.args.place d) c.args.self.now.lines
       c.args.self.now.boxes c.in_ok-pending.pending.items (c.in_ok-pending.ensures.images d) c.in_ok-pending.ensures.lines,
   refl,
-  refl,
-  refl,
+  (refl, refl),
 )
 
 pub loop-preserved : goal.loop-preserved
@@ -102,8 +99,7 @@ loop-preserved c =
           (sized_as c.loop.self.lines c.args.self.now.lines c.close_part.new.pending.items before.1 made.sizes)
           grown (λ origin all. all c.args.place d c.requires.there) (before.0 d),
       c.in_ok-found.ensures.size ∙ before.1,
-      c.in_ok-found.ensures.routine.0 ∙ before.2.0,
-      c.in_ok-found.ensures.routine.1 ∙ before.2.1,
+      (c.in_ok-found.ensures.routine.0 ∙ before.2.0, c.in_ok-found.ensures.routine.1 ∙ before.2.1),
     )
 
 pub returns-clause-grows : goal.returns-clause-grows

@@ -33,8 +33,7 @@ loop-place-preserved c =
           (λ d. verdict_as c.loop-place.routine.program c.args.routine.now.program rule.steps rule.right.now rule.most new (get_or middle c.loop-place.place d)
           c.in_ok-close.field-0 verdicts.Closed before.2.0 c.in-Closed.is (c.in_ok-close.ensures.ok d)) before.0,
       c.in_ok-close.ensures.size ∙ before.1,
-      c.in_ok-close.ensures.routine.0 ∙ before.2.0,
-      c.in_ok-close.ensures.routine.1 ∙ before.2.1,
+      (c.in_ok-close.ensures.routine.0 ∙ before.2.0, c.in_ok-close.ensures.routine.1 ∙ before.2.1),
     )
 
 pub returns-then-place-len-clause-grows : goal.returns-then-place-len-clause-grows

@@ -1,6 +1,5 @@
-use Rattle.std.proofs.Common.{◌∙◌, Option, Some, None, subst}
+use Rattle.std.proofs.Common.{◌∙◌, Option, subst, sym}
 use Rattle.std.proofs.lemmas.Bool.{MatchBool-at_true}
-use Rattle.std.specs.Prelude.{All}
 use Rattle.routine_judge.proofs.ClosingBoxes.{from_none, from_part, part_made_bad, part_made_well, part_named, part_size, sized_first, sized_rest}
 use Rattle.routine_judge.specs.Closing.{IsJudgedAgain}
 use Rattle.routine_judge.specs.CutsInRecovery.{IsAllowed}
@@ -8,7 +7,7 @@ use Rattle.routine_judge.specs.declared.cuts.judging.CutCause.{CutCause}
 use Rattle.routine_judge.proofs.cuts.bound_boxes.BoundBoxes.close_part.Goals as goal
 
 pub open_box-requires : goal.open_box-requires
-open_box-requires c = c.requires.lines ∙ sized_first c.args.self.now.lines c.args.images c.args.pending.now.items c.requires.sizes
+open_box-requires c = c.requires.lines ∙ sym (sized_first c.args.self.now.lines c.args.images c.args.pending.now.items c.requires.sizes)
 
 pub returns-in-Some-clause-ok : goal.returns-in-Some-clause-ok
 returns-in-Some-clause-ok c =

@@ -1,6 +1,8 @@
-use Rattle.std.proofs.Common.{ℕ, ◌<◌, ◌≤◌, Option, Some, None, subst, sym, arith}
+use Rattle.std.proofs.Common.{ℕ, ◌<◌, ◌≤◌, Option, Some, subst, arith}
 use Rattle.routine_judge.proofs.Unsettled.{any_at, fewer_next, first_at, last_at, times_allowed}
+use Rattle.routine_judge.specs.Chains.{IsFirstUnsettled}
 use Rattle.routine_judge.specs.CutRows.{IsEndBy, IsRowEnd, times_of}
+use Rattle.routine_judge.specs.declared.cuts.outcome.RecoveryCuts.{RecoveryCuts}
 use Rattle.routine_judge.specs.declared.cuts.row.RowEnd.{RowEnd}
 use Rattle.routine_judge.proofs.cuts.row.CutRow.fewest.Goals as goal
 
@@ -31,14 +33,15 @@ loop-cuts-preserved g c =
     let here = subst (λ (found : Option RowEnd). IsEndBy row.goes_on row.run.now (Some n) row.first row.end found) c.in_default.is c.in_ok-found.ensures in
     fewer_next row.goes_on row.run.now row.first row.end n c.loop-cuts.invariant here
 
-pub tell-2-requires-clause-first : goal.tell-2-requires-clause-first
-tell-2-requires-clause-first g c =
+pub tell-requires-in-AtMost-clause-first : goal.tell-requires-in-AtMost-clause-first
+tell-requires-in-AtMost-clause-first g c =
     let row = c.args.self.now in
     let past : times_of c.args.asked ≤ c.loop-cuts.cuts = subst (λ (k : ℕ). k ≤ c.loop-cuts.cuts) c.times-cuts-end.ensures c.loop-cuts-test.false in
-    last_at row.goes_on row.run.now c.args.asked row.first row.end c.loop-cuts.cuts c.in-AtMost.most' c.args.last c.in-AtMost.is past c.loop-cuts.invariant c.requires
+    subst (λ (asked : RecoveryCuts). IsFirstUnsettled row.goes_on row.run.now asked row.first row.end c.in-AtMost.most c.args.last.moment) c.in-AtMost.is
+    (last_at row.goes_on row.run.now c.args.asked row.first row.end c.loop-cuts.cuts c.in-AtMost.most c.args.last c.in-AtMost.is past c.loop-cuts.invariant c.requires)
 
-pub tell-2-requires-clause-long : goal.tell-2-requires-clause-long
-tell-2-requires-clause-long g c = c.requires.long
+pub tell-requires-in-AtMost-clause-long : goal.tell-requires-in-AtMost-clause-long
+tell-requires-in-AtMost-clause-long g c = c.requires.long
 
 pub returns-in-Any : goal.returns-in-Any
 returns-in-Any g c =
