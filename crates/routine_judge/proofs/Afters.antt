@@ -1,7 +1,6 @@
 -- The bytes of a line after each number of its stores, one event further each.
-use Rattle.std.proofs.Common.{◌≡◌, ◌⊎◌, ℕ, zero, suc, ◌+◌, ◌-◌, ◌<◌, ◌≤◌, ◌==◌, Bool, true, false, nat_le, nat_lt, List, [], ◌∷◌, ◌++◌, length, get_or, take, refl, sym, ap, subst, ◌∙◌, inl, inr, arith}
-use Rattle.std.specs.Prelude.{flat_map}
-use Rattle.std.proofs.lemmas.Bool.{cases_Bool, cases_lt, leb-true, leb-false}
+use Rattle.std.proofs.Common.{◌≡◌, ℕ, zero, suc, ◌+◌, ◌-◌, ◌<◌, ◌≤◌, true, false, nat_le, List, [], ◌∷◌, ◌++◌, length, get_or, take, refl, sym, ap, subst, ◌∙◌, inl, inr, arith}
+use Rattle.std.proofs.lemmas.Bool.{cases_Bool, leb-true, leb-false}
 use Rattle.std.proofs.lemmas.Bool.Decides.{nat_tests}
 use Rattle.std.proofs.lemmas.List.{append-nil, take_more}
 use Rattle.std.proofs.lemmas.List.Concat.{flat_map-append}
@@ -9,7 +8,7 @@ use Rattle.store_trace.proofs.Bounds.{floor_le_stores}
 use Rattle.store_trace.proofs.Images.{line_after_none, line_after_store}
 use Rattle.store_trace.specs.Cut.{width_of}
 use Rattle.store_trace.specs.Floor.{floor}
-use Rattle.store_trace.specs.History.{history, steps_of}
+use Rattle.store_trace.specs.History.{steps_of}
 use Rattle.store_trace.specs.Image.{line_after}
 use Rattle.store_trace.specs.Stores.{stores}
 use Rattle.store_trace.specs.declared.crash_model.step.PersistenceStep.{PersistenceStep}
@@ -18,7 +17,7 @@ use Rattle.store_trace.specs.declared.event.Event.{Event}
 use Rattle.store_trace.specs.declared.event.Event.TheVariants.{Store, Clean, Fence, Begin, End}
 use Rattle.word_bits.specs.Bytes.{stored}
 use Rattle.recovery.specs.Boxes.{after_each, left_of_line}
-use Rattle.routine_judge.proofs.Unions.{same_as, same_union, union_append, union_as, union_none}
+use Rattle.routine_judge.proofs.Unions.{same_as, same_union, union_append, union_as}
 use Rattle.routine_judge.specs.LeftContents.{HaveSame, IsLineAfter, IsReadTo, IsUnion, after_all, is_store_of, left_now}
 use Rattle.routine_judge.specs.declared.cuts.left.LineSoFar.{LineSoFar}
 

@@ -1,59 +1,42 @@
 -- Boxes that are closed one after the other, and a moment whose images lie in them.
-use Rattle.std.proofs.Common.{◌≡◌, ◌⊎◌, ℕ, zero, suc, ◌+◌, ◌<◌, ◌≤◌, List, [], ◌∷◌, ◌++◌, Option, Some, None, Result, Ok, Bool, length, get_or, refl, sym, ap, subst, ◌∙◌, inl, inr, arith}
-use Rattle.std.specs.Prelude.{All, IfSome, map}
+use Rattle.std.proofs.Common.{◌≡◌, ℕ, zero, suc, ◌+◌, ◌<◌, ◌≤◌, List, [], ◌∷◌, Option, Some, None, length, get_or, refl, sym, ap, subst, ◌∙◌, inl, inr, arith}
+use Rattle.std.specs.Prelude.{All, map}
 use Rattle.std.specs.List.{AllByRecursion, Contains}
 use Rattle.std.proofs.lemmas.Bool.{cases_eq, cases_lt}
 use Rattle.std.proofs.lemmas.List.{get_or_append_left, length-append, length-map}
-use Rattle.std.proofs.lemmas.List.Elements.{All-contains, All-from_recursion, Contains-append_left, Contains-get_or, recursion_from_All}
+use Rattle.std.proofs.lemmas.List.Elements.{All-contains, All-from_recursion, All-weaker, Contains-append_left, Contains-get_or, recursion_from_All}
 use Rattle.program.specs.Sections.{Sections}
-use Rattle.machine.specs.Run.{Config, started}
-use Rattle.recovery.proofs.Boxed.{cut_is_left, in_wider, left_some_cut}
-use Rattle.recovery.proofs.Limited.{ends_once}
-use Rattle.recovery.specs.Answers.{answer}
+use Rattle.recovery.proofs.Boxed.{cut_is_left, in_wider}
 use Rattle.recovery.specs.Boxes.{IsIn, LiesWithin, left_of}
 use Rattle.recovery.specs.Closed.{BoundBox, IsCovered, IsFollowed, IsWell}
-use Rattle.recovery.specs.Cuts.{AnswersWell}
-use Rattle.recovery.specs.Images.{AnswersOn}
-use Rattle.recovery.specs.declared.recovery_run.Cause as run
+use Rattle.recovery.specs.Cuts.{IsLeft}
 use Rattle.routine_judge.proofs.ClosingBoxes.{by_none, some_box}
-use Rattle.routine_judge.proofs.Covering.{covered_grows, grows_none, grows_on, within_size}
+use Rattle.routine_judge.proofs.Covering.{covered_grows, grows_on, within_size}
 use Rattle.routine_judge.proofs.LeftBoxes.{length_left}
-use Rattle.routine_judge.proofs.StayingRight.{stays_right, stays_right_to}
+use Rattle.routine_judge.proofs.StayingRight.{answered, answered_to}
 use Rattle.routine_judge.proofs.Unions.{only_one}
-use Rattle.routine_judge.specs.Closing.{AreClosedBoxes, AreJudgedAgain, AreLeft, AreReached, Grows, GrowsBy, HasBad, IsBoxVerdict, IsClosedBox, IsClosedVerdict, IsFailing, IsJudgedAgain, IsMomentStaying}
-use Rattle.routine_judge.specs.CutsInRecovery.{IsAllowed, StaysRight}
+use Rattle.routine_judge.specs.Closing.{AreClosedBoxes, AreJudgedAgain, AreLeft, AreReached, Grows, GrowsBy, HasBad, HasBadBox, HasBadFrom, IsClosedBox, IsClosedVerdict}
+use Rattle.routine_judge.specs.CutsInRecovery.{AllAnswered, IsAllowed}
 use Rattle.routine_judge.specs.Gathered.{AreAnswers}
-use Rattle.routine_judge.specs.RightAnswers.{IsRightOf, IsSource, Source}
+use Rattle.routine_judge.specs.RightAnswers.{IsRightOf, Source}
 use Rattle.routine_judge.specs.Views.{JudgeView}
 use Rattle.routine_judge.specs.declared.cuts.closing.BoxVerdict.{BoxVerdict}
 use Rattle.routine_judge.specs.declared.cuts.closing.BoxVerdict.TheVariants as verdicts
-use Rattle.routine_judge.specs.declared.cause.Cause.TheVariants.{Missing, Different, Full, Unmatched}
 use Rattle.routine_judge.specs.declared.cuts.judging.CutCause.{CutCause}
-use Rattle.routine_judge.specs.declared.cuts.judging.CutCause.TheVariants.{Judged, Changed}
 use Rattle.routine_judge.specs.declared.right.RightAnswers.{RightAnswers}
-use Rattle.store_trace.proofs.Lines.{cut_image, within_from_cut}
-use Rattle.store_trace.proofs.Members.{no_members}
+use Rattle.store_trace.proofs.Lines.{within_from_cut}
 use Rattle.store_trace.specs.Cut.{IsCutImage, number_in}
 use Rattle.store_trace.specs.History.{at_moment}
-use Rattle.store_trace.specs.Image.{image}
 use Rattle.store_trace.specs.declared.crash_model.step.PersistenceStep.{PersistenceStep}
 
--- a box that more cuts leave than are looked at, and one that was closed
+-- a box that more cuts leave than are looked at
+allowed_less : (most : Option ℕ) (n : ℕ) → IsAllowed most (n + 1) → IsAllowed most n
+allowed_less None n few = tt
+allowed_less (Some most) n few = omega (arith, few)
+
 pub far_closed : (program : Sections) (steps : ℕ) (right : List ℕ → Type 0) (most : Option ℕ) (boxes : List BoundBox) (box : BoundBox) → (¬ IsAllowed most box.cuts)
     → IsClosedBox program steps right most boxes box
-far_closed program steps right None boxes box far = absurd (far tt)
-far_closed program steps right (Some most) boxes box far = (λ few. absurd (far few), λ few. absurd (far (omega (arith, few))))
-
-closed_box : (program : Sections) (steps : ℕ) (right : List ℕ → Type 0) (most : Option ℕ) (boxes : List BoundBox) (box : BoundBox)
-    → IsWell program steps right box × IsFollowed program steps boxes box → IsClosedBox program steps right most boxes box
-closed_box program steps right None boxes box c = c
-closed_box program steps right (Some most) boxes box c = (λ few. c.0, λ few. c.1)
-
-pub closed_verdict : (program : Sections) (steps : ℕ) (right : RightAnswers) (most : Option ℕ) (boxes : List BoundBox) (box : BoundBox) (verdict : BoxVerdict)
-    → IsAllowed most box.cuts → IsBoxVerdict program steps right boxes box verdict → IsClosedVerdict program steps right most boxes box verdict
-closed_verdict program steps right most boxes box verdicts.Closed few v = closed_box program steps (Contains right.answers.items) most boxes box v
-closed_verdict program steps right most boxes box (verdicts.Bad cause) few v = (few, v)
-closed_verdict program steps right most boxes box verdicts.TooMany few v = tt
+far_closed program steps right most boxes box far = (λ few. absurd (far few), λ few. absurd (far (allowed_less most box.cuts few)))
 
 -- a list that grows
 followed_grows : (program : Sections) (steps : ℕ) (old new : List BoundBox) (box : BoundBox) → Grows old new → IsFollowed program steps old box → IsFollowed program steps new box
@@ -61,8 +44,7 @@ followed_grows program steps old new box g follows = λ image left shown h cut. 
 
 closed_grows : (program : Sections) (steps : ℕ) (right : List ℕ → Type 0) (most : Option ℕ) (old new : List BoundBox) (box : BoundBox) → Grows old new
     → IsClosedBox program steps right most old box → IsClosedBox program steps right most new box
-closed_grows program steps right None old new box g c = (c.0, followed_grows program steps old new box g c.1)
-closed_grows program steps right (Some most) old new box g c = (c.0, λ few. followed_grows program steps old new box g (c.1 few))
+closed_grows program steps right most old new box g c = (c.0, λ few. followed_grows program steps old new box g (c.1 few))
 
 grown_at : (old new : List BoundBox) (i : ℕ) (d : BoundBox) → Grows old new → i < length old → get_or new i d ≡ get_or old i d
 grown_at old new i d (more, e) there = ap (λ (boxes : List BoundBox). get_or boxes i d) e ∙ get_or_append_left old more d i there
@@ -73,7 +55,7 @@ grown_length old new (more, e) = let size = ap (λ (boxes : List BoundBox). leng
 by_on : (program : Sections) (steps : ℕ) (old middle new : List BoundBox) → GrowsBy program steps old middle → GrowsBy program steps middle new → GrowsBy program steps old new
 by_on program steps old middle new g h = record {
   grows = grows_on old middle new g.grows h.grows;
-  reached = λ start p all. h.reached start p (g.reached start p all);
+  reached = λ origin all. h.reached origin (g.reached origin all);
 }
 
 pub by_as : (program other : Sections) (steps : ℕ) (old new : List BoundBox) → program ≡ other → GrowsBy program steps old new → GrowsBy other steps old new
@@ -115,8 +97,15 @@ all_next program steps right most old middle new place inside g closed c =
 
 as_list : (program : Sections) (steps : ℕ) (right : List ℕ → Type 0) (most : Option ℕ) (boxes : List BoundBox) → All (IsClosedBox program steps right most boxes) boxes
     → AreClosedBoxes program steps right most boxes
-as_list program steps right None boxes all = recursion_from_All (IsClosedBox program steps right None boxes) boxes all
-as_list program steps right (Some most) boxes all = recursion_from_All (IsClosedBox program steps right (Some most) boxes) boxes all
+as_list program steps right None boxes all =
+    recursion_from_All (λ (box : BoundBox). IsWell program steps right box × IsFollowed program steps boxes box) boxes
+    (All-weaker (IsClosedBox program steps right None boxes) (λ (box : BoundBox). IsWell program steps right box × IsFollowed program steps boxes box)
+    (λ box c. (c.0 tt, c.1 tt)) boxes all)
+as_list program steps right (Some most) boxes all =
+    recursion_from_All (λ (box : BoundBox). (box.cuts ≤ most → IsWell program steps right box) × (box.cuts < most → IsFollowed program steps boxes box)) boxes
+    (All-weaker (IsClosedBox program steps right (Some most) boxes)
+    (λ (box : BoundBox). (box.cuts ≤ most → IsWell program steps right box) × (box.cuts < most → IsFollowed program steps boxes box))
+    (λ box c. (c.0, λ few. c.1 (omega (arith, few)))) boxes all)
 
 pub all_end : (program : Sections) (steps : ℕ) (right : List ℕ → Type 0) (most : Option ℕ) (old new : List BoundBox) (place : ℕ) → length new ≤ place
     → AreClosing program steps right most old new place → AreClosedBoxes program steps right most new
@@ -124,14 +113,14 @@ all_end program steps right most old new place past c = as_list program steps ri
 
 pub bad_box : (program : Sections) (steps : ℕ) (right : RightAnswers) (most : Option ℕ) (middle new : List BoundBox) (place : ℕ) (cause : CutCause) → Grows middle new → place < length middle
     → IsAllowed most (get_or middle place some_box).cuts × HasBad program steps right (get_or middle place some_box).images (get_or middle place some_box).shown cause
-    → (box : BoundBox) × Contains new box × IsAllowed most box.cuts × HasBad program steps right box.images box.shown cause
-bad_box program steps right most middle new place cause (more, e) there bad = (
-  get_or middle place some_box,
-  subst (λ (boxes : List BoundBox). Contains boxes (get_or middle place some_box)) (sym e)
-      (Contains-append_left middle more (get_or middle place some_box) (Contains-get_or middle place some_box there)),
-  bad.0,
-  bad.1,
-)
+    → HasBadBox program steps right most new cause
+bad_box program steps right most middle new place cause (more, e) there bad = record {
+  box = get_or middle place some_box;
+  among = subst (λ (boxes : List BoundBox). Contains boxes (get_or middle place some_box)) (sym e)
+      (Contains-append_left middle more (get_or middle place some_box) (Contains-get_or middle place some_box there));
+  allowed = bad.0;
+  bad = bad.1;
+}
 
 -- said of what is the same
 pub verdict_as : (program other : Sections) (steps : ℕ) (right : RightAnswers) (most : Option ℕ) (boxes : List BoundBox) (box : BoundBox) (verdict same : BoxVerdict) → program ≡ other
@@ -139,7 +128,7 @@ pub verdict_as : (program other : Sections) (steps : ℕ) (right : RightAnswers)
 verdict_as program other steps right most boxes box verdict same e f h =
     subst (λ (p : Sections). IsClosedVerdict p steps right most boxes box same) e (subst (λ (v : BoxVerdict). IsClosedVerdict program steps right most boxes box v) f h)
 
-pub judged_as : (program other : Sections) (steps many : ℕ) (right : RightAnswers) (most : Option ℕ) (boxes : List BoundBox) (verdict : BoxVerdict) → program ≡ other → steps ≡ many
+judged_as : (program other : Sections) (steps many : ℕ) (right : RightAnswers) (most : Option ℕ) (boxes : List BoundBox) (verdict : BoxVerdict) → program ≡ other → steps ≡ many
     → AreJudgedAgain program steps right most boxes verdict → AreJudgedAgain other many right most boxes verdict
 judged_as program other steps many right most boxes verdict e f h =
     subst (λ (p : Sections). AreJudgedAgain p many right most boxes verdict) e (subst (λ (n : ℕ). AreJudgedAgain program n right most boxes verdict) f h)
@@ -165,69 +154,22 @@ each_right_to program steps most answers right all [] are h = tt
 each_right_to program steps most answers right all (box ∷ boxes) are h =
     ((λ few. well_right program steps answers right box are (h.0.0 few), h.0.1), each_right_to program steps most answers right all boxes are h.1)
 
--- the moment stays right
-moment_stays : (view : JudgeView) (m : ℕ) (most : Option ℕ) (source : Source) (boxes : List BoundBox) (right : RightAnswers) → IsSource view m source → AreAnswers view source right
+-- whatever cuts leave of the images that the boxes cover is answered well
+all_answered : (view : JudgeView) (m : ℕ) (most : Option ℕ) (source : Source) (boxes : List BoundBox) (right : RightAnswers) → AreAnswers view source right
     → ((image : List (List ℕ)) → IsCutImage view.start (at_moment view.events m) image → IsCovered boxes 0 image None)
-    → AreClosedBoxes view.routine view.steps (Contains right.answers.items) most boxes → StaysRight view most m
-moment_stays view m None source boxes right is are starts closed =
-    stays_right view m source boxes is starts (each_right view.routine view.steps right.answers.items (IsRightOf view source) boxes boxes are.each closed)
-moment_stays view m (Some most) source boxes right is are starts closed =
-    stays_right_to view m most source boxes is starts (each_right_to view.routine view.steps most right.answers.items (IsRightOf view source) boxes boxes are.each closed)
+    → AreClosedBoxes view.routine view.steps (Contains right.answers.items) most boxes → AllAnswered view source most m
+all_answered view m None source boxes right are starts closed =
+    answered view m source boxes starts (each_right view.routine view.steps right.answers.items (IsRightOf view source) boxes boxes are.each closed)
+all_answered view m (Some most) source boxes right are starts closed =
+    answered_to view m most source boxes starts (each_right_to view.routine view.steps most right.answers.items (IsRightOf view source) boxes boxes are.each closed)
 
--- where an image is bad, it isn't answered well
-not_right : (right : RightAnswers) (shown : Option (List ℕ)) (bytes : List ℕ) (cause : CutCause) → Contains right.answers.items bytes → IfSome shown (λ was. bytes ≡ was)
-    → IsJudgedAgain right shown (Ok bytes) (Some cause) → ⊥
-not_right right shown bytes (Judged (Missing cause)) among same bad = bad
-not_right right shown bytes (Judged Different) among same bad = bad.0 among
-not_right right shown bytes (Judged (Full cause)) among same bad = no_members bytes (subst (λ (xs : List (List ℕ)). Contains xs bytes) bad.0 among)
-not_right right shown bytes (Judged Unmatched) among same bad = no_members bytes (subst (λ (xs : List (List ℕ)). Contains xs bytes) bad.0 among)
-not_right right shown bytes Changed among same bad = bad.1 same
+-- what cuts leave of the images of a box
+left_of_only : (program : Sections) (steps : ℕ) (first second : List (List ℕ) → Type 0) (cuts : ℕ) (left : List (List ℕ)) (shown : Option (List ℕ))
+    → ((image : List (List ℕ)) → first image → second image) → IsLeft program steps first cuts left shown → IsLeft program steps second cuts left shown
+left_of_only program steps first second zero left shown all (here, none) = (all left here, none)
+left_of_only program steps first second (suc cuts) left shown all (before, earlier, was, cut) =
+    (before, earlier, left_of_only program steps first second cuts before earlier all was, cut)
 
-not_well : (program : Sections) (steps : ℕ) (right : RightAnswers) (is_right : List ℕ → Type 0) (image : List (List ℕ)) (shown : Option (List ℕ)) (found : Result (List ℕ) run.Cause)
-    (cause : CutCause) → ((bytes : List ℕ) → is_right bytes → Contains right.answers.items bytes) → AnswersOn program steps image found
-    → IsJudgedAgain right shown found (Some cause) → AnswersWell program steps is_right image shown → ⊥
-not_well program steps right is_right image shown found cause all comes bad well =
-    let a = well.answers in
-    let one = ends_once (started program image 1) comes.end a.end steps comes.full a.full comes.runs a.runs in
-    let same : found ≡ Ok well.bytes =
-    comes.comes ∙ sym (a.comes ∙ ap (λ (end : Config). answer end a.full) one.0 ∙ ap (λ (full : Bool). answer comes.end full) one.1) in
-    not_right right shown well.bytes cause (all well.bytes well.is_right) well.stays
-    (subst (λ (f : Result (List ℕ) run.Cause). IsJudgedAgain right shown f (Some cause)) same bad)
-
-moment_fails : (view : JudgeView) (m : ℕ) (most : Option ℕ) (source : Source) (boxes : List BoundBox) (right : RightAnswers) (cause : CutCause) → IsSource view m source
-    → AreAnswers view source right → AreReached view.routine view.steps view.start (at_moment view.events m) boxes
-    → (box : BoundBox) × Contains boxes box × IsAllowed most box.cuts × HasBad view.routine view.steps right box.images box.shown cause → IsFailing view most m
-moment_fails view m most source boxes right cause is are reached (box, among, few, (image, found, inside, comes, bad)) = record {
-  source = source;
-  is_source = is;
-  cuts = box.cuts;
-  image = image;
-  shown = box.shown;
-  allowed = few;
-  left = All-contains (λ (b : BoundBox). AreLeft view.routine view.steps view.start (at_moment view.events m) b.cuts b.images b.shown) boxes box reached among image inside;
-  bad = not_well view.routine view.steps right (IsRightOf view source) image box.shown found cause are.all comes bad;
-}
-
-pub moment_judged : (view : JudgeView) (m : ℕ) (most : Option ℕ) (source : Source) (old new : List BoundBox) (right : RightAnswers) (verdict : BoxVerdict) → IsSource view m source
-    → AreAnswers view source right → ((image : List (List ℕ)) → IsCutImage view.start (at_moment view.events m) image → IsCovered old 0 image None)
-    → AreReached view.routine view.steps view.start (at_moment view.events m) old → GrowsBy view.routine view.steps old new
-    → AreJudgedAgain view.routine view.steps right most new verdict → IsMomentStaying view most m verdict
-moment_judged view m most source old new right verdicts.Closed is are starts reached g closed =
-    moment_stays view m most source new right is are (λ image h. covered_grows old new 0 image None g.grows (starts image h)) closed
-moment_judged view m most source old new right (verdicts.Bad cause) is are starts reached g bad =
-    moment_fails view m most source new right cause is are (g.reached view.start (at_moment view.events m) reached) bad
-moment_judged view m most source old new right verdicts.TooMany is are starts reached g closed = tt
-
-pub judged_by : (program other : Sections) (steps many : ℕ) (old new : List BoundBox) → program ≡ other → steps ≡ many → GrowsBy program steps old new → GrowsBy other many old new
-judged_by program other steps many old new e f g =
-    subst (λ (p : Sections). GrowsBy p many old new) e (subst (λ (n : ℕ). GrowsBy program n old new) f g)
-
-pub first_size : (start : List (List ℕ)) (p : List PersistenceStep) (alone left : List (List (List ℕ))) → alone ≡ map (λ line. line ∷ []) start → LiesWithin left (left_of p alone)
-    → length left ≡ length start
-first_size start p alone left a w =
-    within_size left (left_of p alone) w ∙ length_left 0 p alone ∙ ap (λ (box : List (List (List ℕ))). length box) a ∙ length-map start (λ (line : List ℕ). line ∷ [])
-
--- each image of the first box is one of the moment
 alone_only : (lines image : List (List ℕ)) → IsIn (map (λ line. line ∷ []) lines) image → image ≡ lines
 alone_only [] [] h = refl
 alone_only [] (line ∷ image) h = absurd h
@@ -235,30 +177,67 @@ alone_only (line ∷ lines) [] h = absurd h
 alone_only (line ∷ lines) (other ∷ image) h =
     ap (λ (first : List ℕ). first ∷ image) (only_one line other h.0) ∙ ap (λ (rest : List (List ℕ)). line ∷ rest) (alone_only lines image h.1)
 
-pub first_reached : (program : Sections) (steps : ℕ) (start : List (List ℕ)) (p : List PersistenceStep) (alone left : List (List (List ℕ))) (boxes : List BoundBox)
-    → alone ≡ map (λ line. line ∷ []) start → LiesWithin left (left_of p alone) → boxes ≡ record { images = left; shown = None; cuts = 0 } ∷ []
-    → AreReached program steps start p boxes
-first_reached program steps start p alone left boxes a w e =
-    subst (λ (bs : List BoundBox). AreReached program steps start p bs) (sym e)
-    (All-from_recursion (λ (b : BoundBox). AreLeft program steps start p b.cuts b.images b.shown) (record { images = left; shown = None; cuts = 0 } ∷ []) (
-      λ left_image h.
-          let c = left_some_cut p alone left_image (in_wider left (left_of p alone) left_image w h) in
-          let lines : c.0 ≡ start = alone_only start c.0 (subst (λ (box : List (List (List ℕ))). IsIn box c.0) a c.2) in
-          (subst (λ (i : List (List ℕ)). IsCutImage start p i) (sym (c.4 ∙ ap (λ (ls : List (List ℕ)). image ls c.1 p) lines)) (cut_image start p c.1 c.3), refl),
-      tt,
-    ))
+first_reached : (program : Sections) (steps : ℕ) (medium : List (List ℕ)) (images : List (List (List ℕ))) (boxes : List BoundBox)
+    → boxes ≡ record { images = images; shown = None; cuts = 0 } ∷ [] → AreReached program steps images boxes
+first_reached program steps medium images boxes e =
+    subst (λ (bs : List BoundBox). AreReached program steps images bs) (sym e)
+    (All-from_recursion (λ (b : BoundBox). AreLeft program steps images b.cuts b.images b.shown) (record { images = images; shown = None; cuts = 0 } ∷ [])
+    (λ image h. (h, refl), tt))
+
+-- an image is bad that cuts leave of a medium
+bad_from : (program : Sections) (steps : ℕ) (right : RightAnswers) (most : Option ℕ) (medium : List (List ℕ)) (images : List (List (List ℕ))) (old new : List BoundBox)
+    (cause : CutCause) → images ≡ map (λ line. line ∷ []) medium → old ≡ record { images = images; shown = None; cuts = 0 } ∷ [] → GrowsBy program steps old new
+    → HasBadBox program steps right most new cause → HasBadFrom program steps right most medium cause
+bad_from program steps right most medium images old new cause alone e g has =
+    let reached = g.reached images (first_reached program steps medium images old e) in
+    let left = All-contains (λ (b : BoundBox). AreLeft program steps images b.cuts b.images b.shown) new has.box reached has.among has.bad.image has.bad.inside in record {
+      cuts = has.box.cuts;
+      allowed = has.allowed;
+      image = has.bad.image;
+      shown = has.box.shown;
+      left = left_of_only program steps (IsIn images) (λ first. first ≡ medium) has.box.cuts has.bad.image has.box.shown
+          (λ image h. alone_only medium image (subst (λ (box : List (List (List ℕ))). IsIn box image) alone h)) left;
+      is_bad = has.bad.is_bad;
+    }
 
 -- the images of a moment lie in one box
 alone_in : (lines : List (List ℕ)) → IsIn (map (λ line. line ∷ []) lines) lines
 alone_in [] = tt
 alone_in (line ∷ lines) = ((0, omega arith, refl), alone_in lines)
 
-pub first_covered : (start : List (List ℕ)) (p : List PersistenceStep) (alone left : List (List (List ℕ))) (boxes : List BoundBox) → alone ≡ map (λ line. line ∷ []) start
-    → LiesWithin (left_of p alone) left → boxes ≡ record { images = left; shown = None; cuts = 0 } ∷ []
-    → (image : List (List ℕ)) → IsCutImage start p image → IsCovered boxes 0 image None
-first_covered start p alone left boxes a w e image c =
+pub moment_in : (start : List (List ℕ)) (p : List PersistenceStep) (alone left : List (List (List ℕ))) → alone ≡ map (λ line. line ∷ []) start
+    → LiesWithin (left_of p alone) left → (image : List (List ℕ)) → IsCutImage start p image → IsIn left image
+moment_in start p alone left a w image c =
     let inside : IsIn alone start = subst (λ (box : List (List (List ℕ))). IsIn box start) (sym a) (alone_in start) in
     let here = cut_is_left p alone start (number_in c.cut) (within_from_cut p c.cut c.bounds) inside in
-    let now : IsIn (left_of p alone) image = subst (λ (lines : List (List ℕ)). IsIn (left_of p alone) lines) (sym c.bytes) here in
-    subst (λ (bs : List BoundBox). IsCovered bs 0 image None) (sym e)
-    (inl (record { soon = omega arith; inside = in_wider (left_of p alone) left image w now; bound = inl refl }))
+    in_wider (left_of p alone) left image w (subst (λ (lines : List (List ℕ)). IsIn (left_of p alone) lines) (sym c.bytes) here)
+
+pub moment_size : (start : List (List ℕ)) (p : List PersistenceStep) (alone left : List (List (List ℕ))) → alone ≡ map (λ line. line ∷ []) start → LiesWithin left (left_of p alone)
+    → length left ≡ length start
+moment_size start p alone left a w =
+    within_size left (left_of p alone) w ∙ length_left 0 p alone ∙ ap (λ (box : List (List (List ℕ))). length box) a ∙ length-map start (λ (line : List ℕ). line ∷ [])
+
+first_covered : (images : List (List (List ℕ))) (old new : List BoundBox) (image : List (List ℕ)) → old ≡ record { images = images; shown = None; cuts = 0 } ∷ []
+    → Grows old new → IsIn images image → IsCovered new 0 image None
+first_covered images old new image e g inside =
+    covered_grows old new 0 image None g
+    (subst (λ (bs : List BoundBox). IsCovered bs 0 image None) (sym e) (inl (record { soon = omega arith; inside = inside; bound = inl refl })))
+
+-- a moment whose images lie in boxes that are closed
+pub closed_moment : (view : JudgeView) (m : ℕ) (most : Option ℕ) (source : Source) (right : RightAnswers) (program : Sections) (steps : ℕ) (images : List (List (List ℕ)))
+    (old new : List BoundBox) (verdict : BoxVerdict) → verdict ≡ verdicts.Closed → program ≡ view.routine → steps ≡ view.steps → AreAnswers view source right
+    → ((image : List (List ℕ)) → IsCutImage view.start (at_moment view.events m) image → IsIn images image)
+    → old ≡ record { images = images; shown = None; cuts = 0 } ∷ [] → GrowsBy program steps old new → AreJudgedAgain program steps right most new verdict
+    → AllAnswered view source most m
+closed_moment view m most source right program steps images old new verdict is own many are inside e g judged =
+    let closed = judged_as program view.routine steps view.steps right most new verdicts.Closed own many
+    (subst (λ (v : BoxVerdict). AreJudgedAgain program steps right most new v) is judged) in
+    all_answered view m most source new right are (λ image at. first_covered images old new image e g.grows (inside image at)) closed
+
+-- a medium of whose boxes one is bad
+pub bad_medium : (program : Sections) (steps : ℕ) (right : RightAnswers) (most : Option ℕ) (medium : List (List ℕ)) (images : List (List (List ℕ))) (old new : List BoundBox)
+    (verdict : BoxVerdict) (cause : CutCause) → verdict ≡ verdicts.Bad cause → images ≡ map (λ line. line ∷ []) medium
+    → old ≡ record { images = images; shown = None; cuts = 0 } ∷ [] → GrowsBy program steps old new → AreJudgedAgain program steps right most new verdict
+    → HasBadFrom program steps right most medium cause
+bad_medium program steps right most medium images old new verdict cause is alone e g judged =
+    bad_from program steps right most medium images old new cause alone e g (subst (λ (v : BoxVerdict). AreJudgedAgain program steps right most new v) is judged)

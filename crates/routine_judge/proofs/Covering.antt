@@ -1,6 +1,6 @@
 -- Lists of boxes that cover images.
-use Rattle.std.proofs.Common.{◌≡◌, ◌⊎◌, ℕ, zero, suc, ◌+◌, ◌-◌, ◌<◌, ◌≤◌, ◌==◌, Bool, true, false, List, [], ◌∷◌, ◌++◌, Option, Some, None, Result, Ok, Err, length, get_or, refl, sym, ap, subst, ◌∙◌, inl, inr, arith, append_assoc}
-use Rattle.std.specs.Prelude.{All, IfOk, IfSome, OnOk, if◌then◌else◌}
+use Rattle.std.proofs.Common.{◌≡◌, ◌⊎◌, ℕ, zero, suc, ◌+◌, ◌-◌, ◌<◌, ◌≤◌, ◌==◌, true, false, List, [], ◌∷◌, ◌++◌, Option, Some, None, Result, Ok, Err, length, get_or, refl, sym, ap, subst, ◌∙◌, inl, inr, arith, append_assoc}
+use Rattle.std.specs.Prelude.{All, IfOk, IfSome, OnOk}
 use Rattle.std.specs.List.{Contains}
 use Rattle.std.proofs.lemmas.Bool.{cases_Bool, cases_eq, cases_lt, eq-eqb, ne_eqb}
 use Rattle.std.proofs.lemmas.List.{append-nil, get_or_default}
@@ -14,7 +14,6 @@ use Rattle.recovery.specs.Cuts.{shown_at}
 use Rattle.recovery.specs.declared.recovery_run.Cause as run
 use Rattle.routine_judge.specs.Closing.{AreCovered, AreLeft, AreReached, Grows, GrowsAfter, GrowsWith, IsAsShown, IsMomentCovered}
 use Rattle.store_trace.specs.History.{at_moment}
-use Rattle.store_trace.specs.declared.crash_model.step.PersistenceStep.{PersistenceStep}
 use Rattle.store_trace.specs.declared.event.Event.{Event}
 
 -- the box that covers
@@ -82,16 +81,16 @@ added_covered old new cuts images shown copy same e = λ image h.
     (covered_last old (record { images = images; shown = copy; cuts = cuts }) cuts image shown (record { soon = omega arith; inside = h; bound = inr (sym same) }))
 
 pub with_none : (boxes : List BoundBox) (cuts : ℕ) (images : List (List (List ℕ))) (shown : Option (List ℕ)) → GrowsWith boxes boxes cuts images shown
-with_none boxes cuts images shown = record { grows = grows_none boxes; reached = λ program steps start p left all. all }
+with_none boxes cuts images shown = record { grows = grows_none boxes; reached = λ program steps origin left all. all }
 
 pub with_one : (old new : List BoundBox) (cuts : ℕ) (images : List (List (List ℕ))) (shown copy : Option (List ℕ)) → copy ≡ shown
     → new ≡ old ++ record { images = images; shown = copy; cuts = cuts } ∷ [] → GrowsWith old new cuts images shown
 with_one old new cuts images shown copy same e = record {
   grows = (record { images = images; shown = copy; cuts = cuts } ∷ [], e);
-  reached = λ program steps start p left all.
-      subst (λ (boxes : List BoundBox). AreReached program steps start p boxes) (sym e)
-      (All-push (λ (box : BoundBox). AreLeft program steps start p box.cuts box.images box.shown) old (record { images = images; shown = copy; cuts = cuts }) all
-      (subst (λ (s : Option (List ℕ)). AreLeft program steps start p cuts images s) (sym same) left));
+  reached = λ program steps origin left all.
+      subst (λ (boxes : List BoundBox). AreReached program steps origin boxes) (sym e)
+      (All-push (λ (box : BoundBox). AreLeft program steps origin box.cuts box.images box.shown) old (record { images = images; shown = copy; cuts = cuts }) all
+      (subst (λ (s : Option (List ℕ)). AreLeft program steps origin cuts images s) (sym same) left));
 }
 
 -- wider images
@@ -103,7 +102,7 @@ pub with_wider : (old new : List BoundBox) (cuts : ℕ) (images wider : List (Li
     → GrowsWith old new cuts images shown → GrowsWith old new cuts wider shown
 with_wider old new cuts images wider shown w g = record {
   grows = g.grows;
-  reached = λ program steps start p left all. g.reached program steps start p (λ image h. left image (in_wider images wider image w h)) all;
+  reached = λ program steps origin left all. g.reached program steps origin (λ image h. left image (in_wider images wider image w h)) all;
 }
 
 pub all_grow : (old new : List BoundBox) (cuts : ℕ) (images : List (List (List ℕ))) (shown : Option (List ℕ)) → Grows old new → AreCovered old cuts images shown
@@ -143,9 +142,9 @@ shown_later : (m events : ℕ) (bytes : List ℕ) (shown : Option (List ℕ)) �
 shown_later m events bytes shown h = elim (cases_Bool (m == events)) [ inl e ↦ rw e (as_shown bytes shown h) | inr e ↦ rw e (inr refl) ]
 
 -- what cuts leave of a part at each moment of a run is left
-abbrev IsAllLeft : Sections → ℕ → List (List ℕ) → List PersistenceStep → ℕ → List (List (List ℕ)) → List Event → Result (List ℕ) run.Cause → Option (List ℕ) → Type 0
-IsAllLeft program steps start p cuts part events found shown =
-    (m : ℕ) → m ≤ length events → AreLeft program steps start p cuts (left_of (at_moment events m) part) (shown_at m (length events) found shown)
+abbrev IsAllLeft : Sections → ℕ → List (List (List ℕ)) → ℕ → List (List (List ℕ)) → List Event → Result (List ℕ) run.Cause → Option (List ℕ) → Type 0
+IsAllLeft program steps origin cuts part events found shown =
+    (m : ℕ) → m ≤ length events → AreLeft program steps origin cuts (left_of (at_moment events m) part) (shown_at m (length events) found shown)
 
 -- what was covered of the moments right before a fence
 pub record AreWidestCovered (old new : List BoundBox) (cuts : ℕ) (part : List (List (List ℕ))) (events : List Event) (found : Result (List ℕ) run.Cause) (shown : Option (List ℕ)) (upto : ℕ) : Type 0 where
@@ -154,7 +153,7 @@ pub record AreWidestCovered (old new : List BoundBox) (cuts : ℕ) (part : List 
 
 pub after_none : (boxes : List BoundBox) (cuts : ℕ) (part : List (List (List ℕ))) (events : List Event) (found : Result (List ℕ) run.Cause) (shown : Option (List ℕ))
     → GrowsAfter boxes boxes cuts part events found shown
-after_none boxes cuts part events found shown = record { grows = grows_none boxes; reached = λ program steps start p left all. all }
+after_none boxes cuts part events found shown = record { grows = grows_none boxes; reached = λ program steps origin left all. all }
 
 pub widest_none : (boxes : List BoundBox) (cuts : ℕ) (part : List (List (List ℕ))) (events : List Event) (found : Result (List ℕ) run.Cause) (shown : Option (List ℕ))
     → AreWidestCovered boxes boxes cuts part events found shown 0
@@ -165,14 +164,14 @@ lower m n below apart = elim (cases_lt m n) [ inl less ↦ less | inr from ↦ a
 
 widest_more : (old middle new : List BoundBox) (cuts : ℕ) (part : List (List (List ℕ))) (events : List Event) (found : Result (List ℕ) run.Cause) (shown : Option (List ℕ)) (upto : ℕ)
     → Grows middle new
-    → ((program : Sections) (steps : ℕ) (start : List (List ℕ)) (p : List PersistenceStep) → IsAllLeft program steps start p cuts part events found shown
-    → AreReached program steps start p middle → AreReached program steps start p new)
+    → ((program : Sections) (steps : ℕ) (origin : List (List (List ℕ))) → IsAllLeft program steps origin cuts part events found shown
+    → AreReached program steps origin middle → AreReached program steps origin new)
     → ((d : Event) → IsNoFence (get_or events upto d) ⊎ AreCovered new cuts (left_of (at_moment events upto) part) shown)
     → AreWidestCovered old middle cuts part events found shown upto → AreWidestCovered old new cuts part events found shown (upto + 1)
 widest_more old middle new cuts part events found shown upto g more next w = record {
   grows = record {
     grows = grows_on old middle new w.grows.grows g;
-    reached = λ program steps start p left all. more program steps start p left (w.grows.reached program steps start p left all);
+    reached = λ program steps origin left all. more program steps origin left (w.grows.reached program steps origin left all);
   };
   each = λ m d below. elim (cases_eq m upto) [
     | inl here ↦ subst (λ (n : ℕ). IsNoFence (get_or events n d) ⊎ AreCovered new cuts (left_of (at_moment events n) part) shown) (sym here) (next d)
@@ -188,8 +187,8 @@ pub widest_fence : (old middle new : List BoundBox) (cuts : ℕ) (part : List (L
     → AreWidestCovered old middle cuts part events found shown upto → AreWidestCovered old new cuts part events found shown (upto + 1)
 widest_fence old middle new cuts part events found shown upto early g all w =
     widest_more old middle new cuts part events found shown upto g.grows
-    (λ program steps start p left reached. g.reached program steps start p
-    (subst (λ (s : Option (List ℕ)). AreLeft program steps start p cuts (left_of (at_moment events upto) part) s) (shown_before upto (length events) found shown early)
+    (λ program steps origin left reached. g.reached program steps origin
+    (subst (λ (s : Option (List ℕ)). AreLeft program steps origin cuts (left_of (at_moment events upto) part) s) (shown_before upto (length events) found shown early)
     (left upto (omega (arith, early)))) reached)
     (λ d. inr all) w
 
@@ -197,7 +196,7 @@ pub widest_skip : (old middle : List BoundBox) (cuts : ℕ) (part : List (List (
     → ((d : Event) → IsNoFence (get_or events upto d)) → AreWidestCovered old middle cuts part events found shown upto
     → AreWidestCovered old middle cuts part events found shown (upto + 1)
 widest_skip old middle cuts part events found shown upto no_fence w =
-    widest_more old middle middle cuts part events found shown upto (grows_none middle) (λ program steps start p left reached. reached) (λ d. inl (no_fence d)) w
+    widest_more old middle middle cuts part events found shown upto (grows_none middle) (λ program steps origin left reached. reached) (λ d. inl (no_fence d)) w
 
 pub after_last : (old middle new : List BoundBox) (cuts : ℕ) (part : List (List (List ℕ))) (events : List Event) (found : Result (List ℕ) run.Cause) (bytes : List ℕ)
     (shown : Option (List ℕ)) (upto : ℕ) → found ≡ Ok bytes → AreWidestCovered old middle cuts part events found shown upto
@@ -207,10 +206,10 @@ after_last old middle new cuts part events found bytes shown upto is w g =
     ap (λ (f : Result (List ℕ) run.Cause). shown_at (length events) (length events) f shown) is ∙ shown_last (length events) bytes shown in
     record {
       grows = grows_on old middle new w.grows.grows g.grows;
-      reached = λ program steps start p left all.
-          g.reached program steps start p
-          (subst (λ (s : Option (List ℕ)). AreLeft program steps start p cuts (left_of (at_moment events (length events)) part) s) last (left (length events) (omega arith)))
-          (w.grows.reached program steps start p left all);
+      reached = λ program steps origin left all.
+          g.reached program steps origin
+          (subst (λ (s : Option (List ℕ)). AreLeft program steps origin cuts (left_of (at_moment events (length events)) part) s) last (left (length events) (omega arith)))
+          (w.grows.reached program steps origin left all);
     }
 
 each_moment : (boxes : List BoundBox) (cuts : ℕ) (part : List (List (List ℕ))) (events : List Event) (bytes : List ℕ) (shown : Option (List ℕ)) (d : Event)

@@ -1,5 +1,5 @@
 -- The events of a recovery run name lines of its image.
-use Rattle.std.proofs.Common.{◌≡◌, ◌⊎◌, ℕ, zero, suc, ◌+◌, ◌-◌, ◌*◌, ◌/◌, ◌%◌, ◌==◌, ◌<◌, ◌≤◌, List, [], ◌∷◌, ◌++◌, length, Option, Some, None, Bool, true, false, is_some, if◌then◌else◌, slice_get, refl, sym, ap, subst, ◌∙◌, inl, inr, arith, rules}
+use Rattle.std.proofs.Common.{◌≡◌, ℕ, zero, suc, ◌+◌, ◌-◌, ◌*◌, ◌/◌, ◌%◌, ◌==◌, ◌<◌, ◌≤◌, List, length, Option, Some, None, Bool, true, false, is_some, if◌then◌else◌, slice_get, refl, sym, ap, subst, ◌∙◌, inl, inr, arith, rules}
 use Rattle.std.specs.Prelude.{All}
 use Rattle.std.proofs.lemmas.Bool.{cases_Bool, cases_lt, le-leb, lt-leb}
 use Rattle.std.proofs.lemmas.List.Elements.{All-append, All-nil}
@@ -39,13 +39,11 @@ use Rattle.line_memory.specs.declared.TheConstants.{PERSISTENT_BASE}
 use Rattle.machine.proofs.Serving.{aligned_of}
 use Rattle.machine.specs.Histories.{Write, has_reserved, memory_after, memory_with}
 use Rattle.machine.specs.Replies.{SharedState, done_unless, events_of, events_of_write, if_persistent, line_of, memory_in, outcome_unless, reply_after, shared_after, shared_at_start, starting_memory, trace_in, value_unless, replied}
-use Rattle.machine.specs.Run.{Config, HartSteps, HartStepsIfThere, Meets, StepsTo, after_request, started, with_hart}
-use Rattle.machine.specs.declared.schedule.items.Step.TheVariants.{Hart}
+use Rattle.machine.specs.Run.{Config, HartSteps, HartStepsIfThere, Meets, started}
 use Rattle.program.specs.Sections.{Sections}
 use Rattle.recovery.specs.Recovery.{RunsFor}
 use Rattle.store_trace.specs.TraceView.{NamesLine}
 use Rattle.store_trace.specs.declared.event.Event.{Event}
-use Rattle.store_trace.specs.declared.event.Event.TheVariants as events
 
 -- what a hart asks to store has some width
 abbrev HasWidth : Request → Type 0

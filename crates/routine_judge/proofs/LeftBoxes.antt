@@ -1,6 +1,6 @@
 -- What cuts leave of a box, line by line.
 use Rattle.std.proofs.Common.{◌≡◌, ◌⊎◌, ℕ, zero, suc, ◌+◌, ◌<◌, ◌≤◌, List, [], ◌∷◌, ◌++◌, length, get_or, take, refl, sym, ap, subst, ◌∙◌, inl, inr, arith}
-use Rattle.std.specs.Prelude.{All, map, slice_set}
+use Rattle.std.specs.Prelude.{All, slice_set}
 use Rattle.std.specs.List.{Contains}
 use Rattle.std.proofs.lemmas.Bool.{cases_eq, cases_lt}
 use Rattle.std.proofs.lemmas.List.{get_or-map, get_or-set_other, get_or-set_same, length-map, length-set, take_all, take_more}
@@ -9,7 +9,6 @@ use Rattle.crash_image.proofs.Stored.{cut_below}
 use Rattle.store_trace.proofs.Lines.{stored_lines_exact}
 use Rattle.store_trace.proofs.Members.{no_members}
 use Rattle.store_trace.specs.Cut.{IsCut, numbered, stored_lines}
-use Rattle.store_trace.specs.Floor.{floor}
 use Rattle.store_trace.specs.History.{at_moment}
 use Rattle.store_trace.specs.Stores.{stores}
 use Rattle.store_trace.specs.TraceView.{NamesLine}

@@ -35,3 +35,7 @@ pub mod EventLines
 pub mod Covering
 pub mod ClosingBoxes
 pub mod ClosedBoxes
+pub mod Bad
+pub mod Chaining
+pub mod Unsettled
+pub mod PlainRight

@@ -1,5 +1,5 @@
 -- What power cuts leave of the contents of a line, while the events of a run are read, the oldest first.
-use Rattle.std.specs.Prelude.{◌≡◌, ◌⊎◌, ◌↔◌, ℕ, ◌+◌, ◌-◌, ◌==◌, Bool, true, false, if◌then◌else◌, nat_le, List, [], ◌∷◌}
+use Rattle.std.specs.Prelude.{◌≡◌, ◌⊎◌, ◌↔◌, ℕ, ◌+◌, ◌-◌, ◌==◌, Bool, false, if◌then◌else◌, nat_le, List, [], ◌∷◌}
 use Rattle.std.specs.List.{Contains}
 use Rattle.recovery.specs.Boxes.{after_each}
 use Rattle.routine_judge.specs.declared.cuts.left.LineSoFar.{LineSoFar}

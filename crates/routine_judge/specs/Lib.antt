@@ -24,3 +24,8 @@ pub mod OpenedBoxes
 pub mod LeftContents
 pub mod BoundBoxViews
 pub mod Closing
+pub mod CutVerdicts
+pub mod CutMoments
+pub mod Chains
+pub mod ChainCuts
+pub mod CutRows

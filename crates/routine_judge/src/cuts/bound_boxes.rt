@@ -3,7 +3,7 @@
 ghost use Rattle.recovery.specs.Boxes.{IsNoFence, left_of};
 ghost use Rattle.recovery.specs.Closed as closed;
 ghost use Rattle.routine_judge.specs.Closing.{AreCovered, GrowsAfter, GrowsWith, IsAsShown, IsMomentCovered};
-ghost use Rattle.std.specs.Prelude.{◌≡◌, ◌<◌, ◌≤◌, ℕ, List, [], ◌∷◌, All, None, IfOk, IsTrue, OnOk, length, slice_index_or};
+ghost use Rattle.std.specs.Prelude.{◌≡◌, ◌<◌, ◌≤◌, ℕ, List, [], ◌∷◌, All, IfOk, IsTrue, OnOk, length, slice_index_or};
 ghost use Rattle.store_trace.specs.History.{at_moment};
 ghost use Rattle.store_trace.specs.TraceView.{NamesLine};
 
@@ -36,17 +36,18 @@ impl<'a> Model for BoundBoxes<'a> {
 }
 
 impl<'a> BoundBoxes<'a> {
-    /// One box, of images of the program's cut, before which nothing was shown.
-    pub fn of(alloc: Global, images: ImageBox<'a>) -> Result<BoundBoxes<'a>, AllocError>
+    /// One box, of images of a first cut, before which this was shown.
+    pub fn of(
+        alloc: Global,
+        images: ImageBox<'a>,
+        shown: Option<HeldAnswer>,
+    ) -> Result<BoundBoxes<'a>, AllocError>
         ensures lines { IfOk result (λ made. made.lines ≡ length images.entry) }
-        ensures boxes { IfOk result (λ made. made.boxes ≡ record { images = images.entry; shown = None; cuts = 0 } ∷ []) }
+        ensures boxes { IfOk result (λ made. made.boxes ≡ record { images = images.entry; shown = shown; cuts = 0 } ∷ []) }
     {
         let lines = images.lines();
         let mut boxes = Vec::new(alloc);
-        let bound = Bound {
-            shown: None,
-            cuts: 0,
-        };
+        let bound = Bound { shown, cuts: 0 };
         boxes.push(BoundBox::new(images, bound))?;
         Ok(BoundBoxes { lines, boxes })
     }

@@ -42,7 +42,12 @@ pub fn left_at<'a>(
 }
 
 /// Each line that has a store at a moment, with its floor.
-fn floors_at(alloc: Global, medium: &Medium, trace: &Trace, moment: u32) -> Result<Cut, AllocError>
+pub fn floors_at(
+    alloc: Global,
+    medium: &Medium,
+    trace: &Trace,
+    moment: u32,
+) -> Result<Cut, AllocError>
     requires lines { HasLines medium.now trace.now.events }
     requires there { moment ≤ length trace.now.events }
     ensures value { IfOk result (λ floors. floors ≡ numbered (λ l. floor l (at_moment trace.now.events moment)) (stored_lines (at_moment trace.now.events moment))) }
@@ -58,7 +63,7 @@ fn floors_at(alloc: Global, medium: &Medium, trace: &Trace, moment: u32) -> Resu
 }
 
 /// The events before a moment.
-fn events_before(trace: &Trace, moment: u32) -> &[Event]
+pub fn events_before(trace: &Trace, moment: u32) -> &[Event]
     requires { moment ≤ length trace.now.events }
     ensures value { result.now ≡ take moment trace.now.events }
     ensures each { All IsEvent result.now }
@@ -115,14 +120,14 @@ fn add_left(
 
 /// A line while the events are read, the oldest first.
 #[derive(Clone, Copy)]
-struct LineSoFar {
-    line: u32,
+pub struct LineSoFar {
+    pub line: u32,
     /// From how many of its stores on cuts leave what it has.
-    low: u32,
+    pub low: u32,
     /// Its stores so far.
-    stores: u32,
+    pub stores: u32,
     /// Its bytes after them.
-    bytes: [u8; LINE_SIZE],
+    pub bytes: [u8; LINE_SIZE],
 }
 
 impl LineSoFar {
@@ -144,7 +149,7 @@ impl LineSoFar {
 
     /// Makes the event's store, where it is one of the line. Returns whether it is.
     #[tactic(auto, using(crash_image::proofs::Imaged::aligned_fits))]
-    fn read(&mut self, event: Event) -> bool
+    pub fn read(&mut self, event: Event) -> bool
         requires event { IsEvent event }
         requires few { self.old.stores < 65536 }
         ensures is { result ≡ is_store_of self.old.line event }

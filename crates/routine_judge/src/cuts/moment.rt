@@ -1,62 +1,57 @@
-//! Power cuts in recovery from the images of a moment on.
+//! A moment of a run's events over a medium, and the images that a power cut leaves there.
 
-ghost use Rattle.recovery.specs.Boxes.{left_of};
-ghost use Rattle.recovery.specs.Closed.{IsCovered};
-ghost use Rattle.routine_judge.specs.Closing.{AreReached, IsMomentStaying};
-ghost use Rattle.routine_judge.specs.Standing.{StandsIn};
-ghost use Rattle.std.specs.Prelude.{◌≡◌, ◌≤◌, ℕ, List, None, IfOk, length};
+ghost use Rattle.recovery.specs.Boxes.{IsIn};
+ghost use Rattle.routine_judge.specs.CutMoments.{IsThere};
+ghost use Rattle.routine_judge.specs.CutVerdicts.{IsImageAt};
+ghost use Rattle.std.specs.Prelude.{◌≡◌, ℕ, List, length, IfOk, IfSome};
 ghost use Rattle.store_trace.specs.Cut.{IsCutImage};
 ghost use Rattle.store_trace.specs.History.{at_moment};
 
-use crate::cuts::bound_boxes::BoundBoxes;
-use crate::cuts::closed::CutRule;
-use crate::cuts::closing::BoxVerdict;
 use crate::cuts::image_box::ImageBox;
 use crate::cuts::left::left_at;
-use crate::judge::MomentJudge;
-use crate::run::MarkedRun;
+use crash_image::{Cut, Cuts, ImageFault, ImageName};
+use line_memory::Medium;
 use std::alloc::{AllocError, Global};
+use store_trace::Trace;
 
-/// Judges a moment of a run by power cuts in recovery too, up to so many, or any number of them: where it is closed, the moment stays right
-/// whatever they leave; where it is bad, they leave an image that isn't answered well.
-///
-/// # Errors
-/// A growth was refused. The judge can be used again then too.
-pub fn judge_cuts(
-    alloc: Global,
-    run: &MarkedRun<'_>,
-    judge: &mut MomentJudge,
-    moment: u32,
-    most: Option<u32>,
-) -> Result<BoxVerdict, AllocError>
-    requires there { moment ≤ length run.now.events }
-    requires stands { StandsIn run.now judge.old }
-    ensures ok { IfOk result (IsMomentStaying run.now most moment) }
-    ensures stands { StandsIn run.now judge.new }
-{
-    judge.passed = None;
-    judge.answers.renew(alloc, run, &mut judge.routine, moment)?;
-    let mut boxes = first_boxes(alloc, run, moment)?;
-    let rule = CutRule {
-        right: &judge.answers.right,
-        steps: run.steps,
-        most,
-    };
-    boxes.close_all(alloc, &mut judge.routine, rule)
+/// A moment of the events of a run, which started from a medium.
+#[derive(Clone, Copy)]
+pub struct CutMoment<'m> {
+    pub medium: &'m Medium,
+    pub trace: &'m Trace,
+    pub moment: u32,
 }
 
 /// The images of a moment, in one box.
-fn first_boxes<'a>(
-    alloc: Global,
-    run: &MarkedRun<'a>,
-    moment: u32,
-) -> Result<BoundBoxes<'a>, AllocError>
-    requires { moment ≤ length run.now.events }
-    ensures covered { IfOk result (λ boxes. (image : List (List ℕ)) → IsCutImage run.now.start (at_moment run.now.events moment) image → IsCovered boxes.boxes 0 image None) }
-    ensures reached { IfOk result (λ boxes. AreReached run.now.routine run.now.steps run.now.start (at_moment run.now.events moment) boxes.boxes) }
-    ensures lines { IfOk result (λ boxes. boxes.lines ≡ length run.now.start) }
+pub fn images_at<'m>(alloc: Global, at: CutMoment<'m>) -> Result<ImageBox<'m>, AllocError>
+    requires { IsThere at }
+    ensures all { IfOk result (λ images. (image : List (List ℕ)) →
+        IsCutImage at.entry.medium.now (at_moment at.entry.trace.now.events at.entry.moment) image → IsIn images image) }
+    ensures lines { IfOk result (λ images. length images ≡ length at.entry.medium.now) }
 {
-    let start = ImageBox::of(alloc, run.medium)?;
-    let images = left_at(alloc, &start, run.trace, moment)?;
-    BoundBoxes::of(alloc, images)
+    let start = ImageBox::of(alloc, at.medium)?;
+    left_at(alloc, &start, at.trace, at.moment)
+}
+
+/// The name of a cut of a moment, and its image. None where it isn't a cut of the moment.
+pub fn image_of_cut(
+    alloc: Global,
+    at: CutMoment<'_>,
+    cut: &Cut,
+) -> Result<Option<(ImageName, Medium)>, AllocError>
+    requires { IsThere at }
+    ensures { IfOk result (λ found. IfSome found (λ left.
+        IsImageAt at.entry.medium.now at.entry.trace.now.events at.entry.moment left.0 left.1)) }
+{
+    let Ok(cuts) = Cuts::at(alloc, at.medium, at.trace, at.moment) else {
+        return Err(AllocError);
+    };
+    match cuts.image_of(alloc, cut) {
+        Ok(image) => match cuts.name(alloc, cut) {
+            Ok(name) => Ok(Some((name, image))),
+            Err(_refused) => Err(AllocError),
+        },
+        Err(ImageFault::NotACut) => Ok(None),
+        Err(_refused) => Err(AllocError),
+    }
 }

@@ -1,4 +1,4 @@
-use Rattle.std.proofs.Common.{◌≡◌, ◌∙◌, ◌<◌, ℕ, List, length, get_or, take, ap, sym, subst, arith}
+use Rattle.std.proofs.Common.{◌∙◌, ◌<◌, ℕ, List, length, get_or, take, ap, sym, subst, arith}
 use Rattle.recovery.specs.Boxes.{contents_of, left_of_line}
 use Rattle.routine_judge.proofs.Afters.{some_left}
 use Rattle.routine_judge.proofs.LeftBoxes.{AreLeftSoFar, entry_low, left_covers, left_next, left_within, lines_all, lines_more}

@@ -1,4 +1,4 @@
-use Rattle.routine_judge.proofs.Keepings.{keeps_added, keeps_end, keeps_start, keeps_step}
+use Rattle.routine_judge.proofs.Keepings.{keeps_start, keeps_step}
 use Rattle.routine_judge.proofs.cuts.opening.keep_part.Goals as goal
 
 pub loop-question-init : goal.loop-question-init

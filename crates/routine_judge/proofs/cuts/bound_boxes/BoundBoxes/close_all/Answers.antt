@@ -15,26 +15,25 @@ pub returns-in-Bad-clause-ok : goal.returns-in-Bad-clause-ok
 returns-in-Bad-clause-ok c =
     let rule = c.args.rule in
     let middle = c.loop-place.self.boxes in
-    let new = c.close_one.new.self.boxes in
+    let new = c.close.new.self.boxes in
     let inside : c.loop-place.place < length middle = omega (arith, c.if-place-len.false, c.len.ensures) in
-    bad_box c.args.routine.now.program rule.steps rule.right.now rule.most middle new c.loop-place.place c.in-Bad.cause c.in_ok-close_one.ensures.grows.grows inside
+    bad_box c.args.routine.now.program rule.steps rule.right.now rule.most middle new c.loop-place.place c.in-Bad.cause c.in_ok-close.ensures.grows.grows inside
     (verdict_as c.loop-place.routine.program c.args.routine.now.program rule.steps rule.right.now rule.most new (get_or middle c.loop-place.place some_box)
-    c.in_ok-close_one.field-0 (verdicts.Bad c.in-Bad.cause) c.loop-place.invariant.2 c.in-Bad.is (c.in_ok-close_one.ensures.ok some_box))
+    c.in_ok-close.field-0 (verdicts.Bad c.in-Bad.cause) c.loop-place.invariant.2.0 c.in-Bad.is (c.in_ok-close.ensures.ok some_box))
 
 pub loop-place-preserved : goal.loop-place-preserved
 loop-place-preserved c =
     let rule = c.args.rule in
     let before = c.loop-place.invariant in
     let middle = c.loop-place.self.boxes in
-    let new = c.close_one.new.self.boxes in
+    let new = c.close.new.self.boxes in
     let inside : c.loop-place.place < length middle = omega (arith, c.if-place-len.false, c.len.ensures) in (
       all_next c.args.routine.now.program rule.steps (Contains rule.right.now.answers.items) rule.most c.args.self.now.boxes middle new c.loop-place.place inside
-          (by_as c.loop-place.routine.program c.args.routine.now.program rule.steps middle new before.2 c.in_ok-close_one.ensures.grows)
+          (by_as c.loop-place.routine.program c.args.routine.now.program rule.steps middle new before.2.0 c.in_ok-close.ensures.grows)
           (λ d. verdict_as c.loop-place.routine.program c.args.routine.now.program rule.steps rule.right.now rule.most new (get_or middle c.loop-place.place d)
-          c.in_ok-close_one.field-0 verdicts.Closed before.2 c.in-Closed.is (c.in_ok-close_one.ensures.ok d)) before.0,
-      c.in_ok-close_one.ensures.lines ∙ before.1,
-      c.in_ok-close_one.ensures.program ∙ before.2,
-      c.in_ok-close_one.ensures.routine ∙ before.3,
+          c.in_ok-close.field-0 verdicts.Closed before.2.0 c.in-Closed.is (c.in_ok-close.ensures.ok d)) before.0,
+      c.in_ok-close.ensures.size ∙ before.1,
+      (c.in_ok-close.ensures.routine.0 ∙ before.2.0, c.in_ok-close.ensures.routine.1 ∙ before.2.1),
     )
 
 pub returns-then-place-len-clause-grows : goal.returns-then-place-len-clause-grows
@@ -44,13 +43,13 @@ pub returns-in-Bad-clause-grows : goal.returns-in-Bad-clause-grows
 returns-in-Bad-clause-grows c =
     let rule = c.args.rule in
     by_next c.args.routine.now.program c.loop-place.routine.program rule.steps (Contains rule.right.now.answers.items) rule.most c.args.self.now.boxes c.loop-place.self.boxes
-    c.close_one.new.self.boxes c.loop-place.place c.loop-place.invariant.2 c.loop-place.invariant.0 c.in_ok-close_one.ensures.grows
+    c.close.new.self.boxes c.loop-place.place c.loop-place.invariant.2.0 c.loop-place.invariant.0 c.in_ok-close.ensures.grows
 
 pub returns-in-TooMany-clause-grows : goal.returns-in-TooMany-clause-grows
 returns-in-TooMany-clause-grows c =
     let rule = c.args.rule in
     by_next c.args.routine.now.program c.loop-place.routine.program rule.steps (Contains rule.right.now.answers.items) rule.most c.args.self.now.boxes c.loop-place.self.boxes
-    c.close_one.new.self.boxes c.loop-place.place c.loop-place.invariant.2 c.loop-place.invariant.0 c.in_ok-close_one.ensures.grows
+    c.close.new.self.boxes c.loop-place.place c.loop-place.invariant.2.0 c.loop-place.invariant.0 c.in_ok-close.ensures.grows
 
 pub returns-clause-grows : goal.returns-clause-grows
 returns-clause-grows c = c.loop-place.invariant.0.grows

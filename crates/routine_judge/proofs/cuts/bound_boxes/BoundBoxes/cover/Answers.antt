@@ -1,4 +1,4 @@
-use Rattle.std.proofs.Common.{◌∙◌, ◌∷◌, ◌++◌, [], List, ap}
+use Rattle.std.proofs.Common.{◌∙◌, ◌∷◌, ◌++◌, [], ap}
 use Rattle.recovery.specs.Closed.{BoundBox}
 use Rattle.routine_judge.proofs.Covering.{added_covered, with_none, with_one}
 use Rattle.routine_judge.specs.BoundBoxViews.{BoxesView}

@@ -2,7 +2,7 @@ use Rattle.std.proofs.Common.{◌≡◌, ◌∙◌, ◌<◌, List, None, ℕ, le
 use Rattle.std.proofs.lemmas.List.{get_or_read}
 use Rattle.recovery.specs.Boxes.{contents_of}
 use Rattle.routine_judge.proofs.Boxing.{length_spread, some_content, spread_put}
-use Rattle.routine_judge.specs.BoxViews.{IsBoxOfMedia, spread}
+use Rattle.routine_judge.specs.BoxViews.{spread}
 use Rattle.routine_judge.proofs.cuts.image_box.ImageBox.contents.Goals as goal
 
 pub returns-in-Some-clause-some : goal.returns-in-Some-clause-some
