@@ -10,3 +10,4 @@ pub mod Rows
 pub mod Checking
 pub mod Judging
 pub mod Told
+pub mod CutsJudging

@@ -4,6 +4,7 @@
 
 mod answering;
 mod checking;
+mod cuts;
 mod events;
 mod explaining;
 mod file_kind;
@@ -20,6 +21,7 @@ mod work;
 
 pub use answering::answer_on;
 pub use checking::{check_events, check_program};
+pub use cuts::{CutJudgement, judge_event_cuts, judge_run_cuts};
 pub use events::Events;
 pub use explaining::explain_image;
 pub use image_causes::{
