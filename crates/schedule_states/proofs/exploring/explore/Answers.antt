@@ -8,10 +8,11 @@ pub returns-clause-good : goal.returns-clause-good
 returns-clause-good g c = rw (c.with_none-reached.ensures, c.in_ok-parts.ensures.program, c.in_ok-parts.ensures.medium) at c.explore_from.ensures.good
 
 pub returns-clause-requests : goal.returns-clause-requests
-returns-clause-requests g c = rw c.with_none-reached.ensures at c.explore_from.ensures.requests
+returns-clause-requests g c = rw (c.with_none-reached.ensures, c.in_ok-parts.ensures.program, c.in_ok-parts.ensures.medium) at c.explore_from.ensures.requests
 
 pub explore_from-requires-clause-given : goal.explore_from-requires-clause-given
-explore_from-requires-clause-given g c κs within = rw (c.with_none-reached.ensures, c.in_ok-parts.ensures.program, c.in_ok-parts.ensures.medium) (c.requires.fits, c.requires.happens)
+explore_from-requires-clause-given g c κs within = rw (c.with_none-reached.ensures, c.in_ok-parts.ensures.program, c.in_ok-parts.ensures.medium)
+    (c.requires.fits, c.requires.happens, record { asks = λ demanded. ?; free = λ asked. ? })
 
 pub returns-clause-kept : goal.returns-clause-kept
 returns-clause-kept g c = rw (c.with_none-reached.ensures, c.in_ok-parts.ensures.medium) at c.explore_from.ensures.kept
