@@ -1,7 +1,14 @@
 //! A machine that makes the requests that a search has made, and the schedule of its steps.
 
+ghost use Rattle.every_schedule.specs.Following.{Follows, HasCome};
 ghost use Rattle.machine.specs.Grammar.{hart_steps};
-ghost use Rattle.std.specs.Prelude.{◌≡◌, ◌≤◌, ◌<◌, ◌^◌};
+ghost use Rattle.machine.specs.Represents.{Represents};
+ghost use Rattle.machine.specs.Run.{Config as AConfig, StepsTo};
+ghost use Rattle.machine.specs.RunValues.{start_of};
+ghost use Rattle.machine.specs.declared.schedule.items.Step.{Step as AStep};
+ghost use Rattle.schedule_states.specs.Ending.{GoesAsking, GoesBy, GoesQuietly};
+ghost use Rattle.schedule_states.specs.States.{AsksTo};
+ghost use Rattle.std.specs.Prelude.{◌≡◌, ◌≤◌, ◌<◌, ◌^◌, ℕ, true, IfOk, OnOk};
 
 use hart::Need;
 use machine::{Machine, Schedule, Setup, Step, StepFault};
@@ -29,7 +36,9 @@ pub(crate) struct Follower {
 
 impl Follower {
     /// Of a setup, before any step.
-    pub(crate) fn new(alloc: Global, setup: Setup) -> Result<Follower, StepFault> {
+    pub(crate) fn new(alloc: Global, setup: Setup) -> Result<Follower, StepFault>
+        ensures { IfOk result (λ follower. HasCome setup follower (start_of setup)) }
+    {
         let Setup {
             program,
             medium,
@@ -45,27 +54,37 @@ impl Follower {
 
     /// The schedule of the steps so far.
     pub(crate) fn into_schedule(self) -> Schedule
-        ensures { hart_steps result < 2 ^ 32 }
+        ensures few { hart_steps result < 2 ^ 32 }
+        ensures same { result ≡ self.schedule }
     {
         self.schedule
     }
 
     /// Makes the steps of these harts, each up to its next request, and that.
-    pub(crate) fn make_requests(&mut self, harts: &[u32]) -> Result<(), StepFault> {
+    pub(crate) fn make_requests(&mut self, harts: &[u32]) -> Result<(), StepFault>
+        ensures { OnOk result (Follows (GoesBy harts.now) self.old self.new) }
+    {
         for hart in harts {
             self.make_request(*hart)?;
         }
         Ok(())
     }
 
-    /// Makes the steps of a hart up to its next request, and that.
-    pub(crate) fn make_request(&mut self, hart: u32) -> Result<(), StepFault> {
+    /// Makes the steps of a hart up to its next request, and that. A hart that makes none counts as one that isn't there.
+    pub(crate) fn make_request(&mut self, hart: u32) -> Result<(), StepFault>
+        ensures { OnOk result (Follows (GoesAsking hart) self.old self.new) }
+    {
         self.run_ahead(hart)?;
+        if !self.is_asking(hart) {
+            return Err(StepFault::NoSuchHart);
+        }
         self.step(hart)
     }
 
     /// Makes the steps of its registers alone that a hart makes up to its next request, or to where it stops.
-    pub(crate) fn run_ahead(&mut self, hart: u32) -> Result<(), StepFault> {
+    pub(crate) fn run_ahead(&mut self, hart: u32) -> Result<(), StepFault>
+        ensures { OnOk result (Follows (λ c d. (steps : ℕ) × GoesQuietly hart steps c d) self.old self.new) }
+    {
         for _step in 0..MOST_STEPS {
             if !self.is_alone(hart) {
                 return Ok(());
@@ -101,8 +120,23 @@ impl Follower {
         Ok(())
     }
 
+    /// Whether the next step of a hart is a request.
+    fn is_asking(&self, hart: u32) -> bool
+        ensures { result ≡ true → (c d : AConfig) → Represents self.now.machine c → StepsTo c (AStep.Hart hart) d → AsksTo c hart d }
+    {
+        if hart >= self.machine.harts() || self.machine.has_stopped(hart) {
+            return false;
+        }
+        match self.machine.need(hart) {
+            Need::Ask(_) => true,
+            Need::Local(_) | Need::Stop(_) => false,
+        }
+    }
+
     /// Whether the next step of a hart is one of its registers alone.
-    fn is_alone(&self, hart: u32) -> bool {
+    fn is_alone(&self, hart: u32) -> bool
+        ensures { result ≡ true → (c d : AConfig) → Represents self.now.machine c → ¬ AsksTo c hart d }
+    {
         if hart >= self.machine.harts() || self.machine.has_stopped(hart) {
             return false;
         }
@@ -113,7 +147,9 @@ impl Follower {
     }
 
     /// Makes a step of a hart. Too many steps count as a full trace.
-    fn step(&mut self, hart: u32) -> Result<(), StepFault> {
+    fn step(&mut self, hart: u32) -> Result<(), StepFault>
+        ensures { OnOk result (Follows (λ c d. StepsTo c (AStep.Hart hart) d) self.old self.new) }
+    {
         if self.made >= MOST_STEPS {
             return Err(StepFault::TraceFull);
         }
