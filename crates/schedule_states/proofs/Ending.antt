@@ -1,6 +1,7 @@
 -- From which states of a program an end can be reached.
-use Rattle.std.proofs.Common.{◌≡◌, ◌≢◌, ◌⊎◌, inl, inr, ℕ, zero, suc, ◌+◌, ◌<◌, ◌≤◌, Bool, List, [], ◌∷◌, ◌++◌, Some, length, slice_get, slice_index_or, refl, sym, ap, ◌∙◌, subst, arith}
+use Rattle.std.proofs.Common.{◌≡◌, ◌≢◌, ◌⊎◌, ◌↔◌, inl, inr, ℕ, zero, suc, ◌+◌, ◌<◌, ◌≤◌, Bool, true, false, List, [], ◌∷◌, ◌++◌, Some, length, slice_get, slice_index_or, refl, sym, ap, ◌∙◌, subst, arith}
 use Rattle.std.proofs.lemmas.Bool.{cases_eq}
+use Rattle.std.proofs.lemmas.List.{length-append}
 use Rattle.std.proofs.lemmas.Option.{get_or_from_slice_get, same_Some, slice_get_within}
 use Rattle.bus.proofs.Places.{got_else, got_set, there_is}
 use Rattle.bus.specs.Alone.{GoesAlone, StepsAlone}
@@ -16,6 +17,7 @@ use Rattle.program.specs.Sections.{Sections}
 use Rattle.store_trace.specs.declared.event.Event.{Event}
 use Rattle.schedule_states.proofs.Covering.{covers_run}
 use Rattle.schedule_states.proofs.Happening.{same_hart, steps_alone}
+use Rattle.schedule_states.proofs.Looking.{got_left}
 use Rattle.schedule_states.proofs.Standing.{first_alone, stands_alone, stands_or_asks, stopped_itself}
 use Rattle.schedule_states.specs.Covering.{Covers, IsClosed, IsMet, ReachedView}
 use Rattle.schedule_states.specs.Ending.{AlwaysEnds, AnyMayGo, AreEnds, AreTurns, AreTurnsBelow, CanEnd, CoversAt, GoesAsking, GoesBy, GoesQuietly, HasNoWayOut, HavePartsStopped, HaveStopped, LeadsTo}
@@ -278,3 +280,31 @@ pub leads_nowhere : {T : Type 0} (stands : T → List Event → Type 0) (allows 
     AreAllTurns stands allows r next → LeadToNone r next requests → LeadsNowhere stands r requests
 leads_nowhere stands allows r next requests all lead start at d goes =
     no_way_out stands allows r next (walked next 0 requests) d all lead.none (walk_covers stands allows r next requests 0 start d all lead.harts at goes)
+
+-- marks of ends, one more of them
+got_last : (marks : List Bool) (mark : Bool) → slice_get (marks ++ mark ∷ []) (length marks) ≡ Some mark
+got_last [] mark = refl
+got_last (first ∷ marks) mark = got_last marks mark
+
+marked_if : (marks : List Bool) (n : ℕ) (mark : Bool) (claim : Type 0) → slice_get marks n ≡ Some mark → (mark ≡ true → claim) → (mark ≡ false → claim → ⊥) → IsMarked marks n ↔ claim
+marked_if marks n true claim got yes no = (λ marked. yes refl, λ is. got)
+marked_if marks n false claim got yes no = (λ marked. let both : Some false ≡ Some true = sym got ∙ marked in absurd cc, λ is. absurd (no refl is))
+
+pub ends_more : {T : Type 0} (r : ReachedView T) (marks : List Bool) (count : ℕ) (mark : Bool) →
+    (mark ≡ true → (s : ProgramState) (t : T) → IsMet r count s t → HavePartsStopped s.harts.items) →
+    (mark ≡ false → (s : ProgramState) (t : T) → IsMet r count s t → HavePartsStopped s.harts.items → ⊥) → AreEnds r marks count → AreEnds r (marks ++ mark ∷ []) (count + 1)
+ends_more r marks count mark yes no ends = record {
+  count_is = let more : length (marks ++ mark ∷ []) ≡ length marks + 1 = length-append marks (mark ∷ []) in more ∙ ap (λ (n : ℕ). n + 1) ends.count_is;
+  each = λ n s t few met. elim (cases_eq n count) [
+    | inl same ↦
+        let last : slice_get (marks ++ mark ∷ []) n ≡ Some mark =
+        ap (λ (k : ℕ). slice_get (marks ++ mark ∷ []) k) (same ∙ sym ends.count_is) ∙ got_last marks mark in
+        let here : IsMet r count s t = subst (λ (k : ℕ). IsMet r k s t) same met in
+        marked_if (marks ++ mark ∷ []) n mark (HavePartsStopped s.harts.items) last (λ is. yes is s t here) (λ is. no is s t here)
+    | inr other ↦
+        let below : n < count = omega (arith, few, other) in
+        let front : slice_get (marks ++ mark ∷ []) n ≡ slice_get marks n = got_left marks (mark ∷ []) n (omega (arith, below, ends.count_is)) in
+        let was : IsMarked marks n ↔ HavePartsStopped s.harts.items = ends.each n s t below met in
+        (λ marked. was.0 (sym front ∙ marked), λ stopped. front ∙ was.1 stopped)
+  ];
+}
