@@ -6,9 +6,9 @@ ghost use Rattle.machine.specs.Represents.{Represents};
 ghost use Rattle.machine.specs.Run.{Config as AConfig, StepsTo};
 ghost use Rattle.machine.specs.RunValues.{start_of};
 ghost use Rattle.machine.specs.declared.schedule.items.Step.{Step as AStep};
-ghost use Rattle.schedule_states.specs.Ending.{GoesAsking, GoesBy, GoesQuietly};
+ghost use Rattle.schedule_states.specs.Ending.{GoesAsking, GoesBy, IsQuiet};
 ghost use Rattle.schedule_states.specs.States.{AsksTo};
-ghost use Rattle.std.specs.Prelude.{◌≡◌, ◌≤◌, ◌<◌, ◌^◌, ℕ, true, IfOk, OnOk};
+ghost use Rattle.std.specs.Prelude.{◌≡◌, ◌≤◌, ◌<◌, ◌^◌, true, IfOk, OnOk};
 
 use hart::Need;
 use machine::{Machine, Schedule, Setup, Step, StepFault};
@@ -61,11 +61,31 @@ impl Follower {
     }
 
     /// Makes the steps of these harts, each up to its next request, and that.
-    pub(crate) fn make_requests(&mut self, harts: &[u32]) -> Result<(), StepFault>
-        ensures { OnOk result (Follows (GoesBy harts.now) self.old self.new) }
-    {
+    pub(crate) fn make_requests(&mut self, harts: &[u32]) -> Result<(), StepFault> {
         for hart in harts {
             self.make_request(*hart)?;
+        }
+        Ok(())
+    }
+
+    /// Lets all harts run ahead, and makes the requests of these, behind each of which its hart runs ahead again.
+    pub(crate) fn run_through(&mut self, harts: &[u32]) -> Result<(), StepFault>
+        ensures { OnOk result (Follows (GoesBy harts.now) self.old self.new) }
+    {
+        self.run_all_ahead()?;
+        for hart in harts {
+            self.make_request(*hart)?;
+            self.run_ahead(*hart)?;
+        }
+        Ok(())
+    }
+
+    /// Lets all harts run ahead.
+    fn run_all_ahead(&mut self) -> Result<(), StepFault>
+        ensures { OnOk result (Follows IsQuiet self.old self.new) }
+    {
+        for hart in 0..self.machine.harts() {
+            self.run_ahead(hart)?;
         }
         Ok(())
     }
@@ -83,7 +103,7 @@ impl Follower {
 
     /// Makes the steps of its registers alone that a hart makes up to its next request, or to where it stops.
     pub(crate) fn run_ahead(&mut self, hart: u32) -> Result<(), StepFault>
-        ensures { OnOk result (Follows (λ c d. (steps : ℕ) × GoesQuietly hart steps c d) self.old self.new) }
+        ensures { OnOk result (Follows IsQuiet self.old self.new) }
     {
         for _step in 0..MOST_STEPS {
             if !self.is_alone(hart) {

@@ -271,7 +271,7 @@ fn schedule_behind(
     ensures goes { IfOk result (λ schedule. (end : AConfig) × RunsTo (start_of setup) (all_steps schedule) end × GoesBy requests.now (start_of setup) end) }
 {
     let mut follower = Follower::new(alloc, setup)?;
-    follower.make_requests(requests)?;
+    follower.run_through(requests)?;
     Ok(follower.into_schedule())
 }
 

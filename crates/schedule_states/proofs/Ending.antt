@@ -254,21 +254,21 @@ no_way_out stands allows r next n c all none at steps end runs stopped =
     (parts_stopped r.parts last.at.0.state end last.at.0.stands_as.0 stopped))
 
 -- where the requests of harts lead from what a state stands for
-quiet_covers : {T : Type 0} (stands : T → List Event → Type 0) (r : ReachedView T) (n h count : ℕ) (c d : Config) → CoversAt stands r n c → GoesQuietly h count c d → CoversAt stands r n d
-quiet_covers stands r n h zero c d at goes = subst (λ (e : Config). CoversAt stands r n e) (sym goes) at
-quiet_covers stands r n h (suc count) c d at goes =
-    let middle : CoversAt stands r n goes.0 = quiet_covers stands r n h count c goes.0 at goes.1 in
-    elim (steps_from stands r n goes.0 d (Hart h) middle goes.2) [
+steps_covers : {T : Type 0} (stands : T → List Event → Type 0) (r : ReachedView T) (n count : ℕ) (c d : Config) → CoversAt stands r n c → GoesQuietly count c d → CoversAt stands r n d
+steps_covers stands r n zero c d at goes = subst (λ (e : Config). CoversAt stands r n e) (sym goes) at
+steps_covers stands r n (suc count) c d at goes =
+    let middle : CoversAt stands r n goes.0 = steps_covers stands r n count c goes.0 at goes.2 in
+    elim (steps_from stands r n goes.0 d (Hart goes.1) middle goes.3) [
       | inl still ↦ still
-      | inr from ↦ absurd (goes.3 (subst (λ (k : ℕ). AsksTo goes.0 k d) (sym (same_hart h from.hart from.is)) from.asks))
+      | inr from ↦ absurd (goes.4 (subst (λ (k : ℕ). AsksTo goes.0 k d) (sym (same_hart goes.1 from.hart from.is)) from.asks))
     ]
 
 walk_covers : {T : Type 0} (stands : T → List Event → Type 0) (allows : List Event → ℕ → Type 0) (r : ReachedView T) (next : List (List ℕ)) (requests : List ℕ) (n : ℕ) (c d : Config) →
     AreAllTurns stands allows r next → AreOfHarts r.harts requests → CoversAt stands r n c → GoesBy requests c d → CoversAt stands r (walked next n requests) d
-walk_covers stands allows r next [] n c d all harts at goes = subst (λ (e : Config). CoversAt stands r n e) (sym goes) at
+walk_covers stands allows r next [] n c d all harts at goes = steps_covers stands r n goes.0 c d at goes.1
 walk_covers stands allows r next (h ∷ requests) n c d all harts at goes =
     let asking : GoesAsking h c goes.0 = goes.1 in
-    let ready : CoversAt stands r n asking.ready = quiet_covers stands r n h asking.steps c asking.ready at asking.quiet in
+    let ready : CoversAt stands r n asking.ready = steps_covers stands r n asking.quiet.0 c asking.ready at asking.quiet.1 in
     let to : (to : List ℕ) × (slice_get next n ≡ Some to) = noted_at stands allows r next n c all at in
     let read : slice_index_or next n [] ≡ to.0 = get_or_from_slice_get next n to.0 [] to.1 in
     let few : h < r.harts = harts 0 0 (omega arith) in

@@ -38,24 +38,27 @@ AlwaysEnds program medium harts = (steps : List Step) (c : Config) → RunsTo (s
 abbrev pub AnyMayGo : (List Event → ℕ → Type 0) → Type 0
 AnyMayGo allows = (events : List Event) (h : ℕ) → allows events h
 
--- a hart makes so many steps, none of which is a request
-abbrev pub GoesQuietly : ℕ → ℕ → Config → Config → Type 0
-GoesQuietly h zero c d = d ≡ c
-GoesQuietly h (suc n) c d = (middle : Config) × GoesQuietly h n c middle × StepsTo middle (Hart h) d × (AsksTo middle h d → ⊥)
+-- harts make so many steps, none of which is a request
+abbrev pub GoesQuietly : ℕ → Config → Config → Type 0
+GoesQuietly zero c d = d ≡ c
+GoesQuietly (suc n) c d = (middle : Config) × (h : ℕ) × GoesQuietly n c middle × StepsTo middle (Hart h) d × (AsksTo middle h d → ⊥)
+
+-- some steps, none of which is a request, lead there
+abbrev pub IsQuiet : Config → Config → Type 0
+IsQuiet c d = (steps : ℕ) × GoesQuietly steps c d
 
 -- a hart makes a request, behind steps that are none
 pub record GoesAsking (h : ℕ) (c d : Config) : Type 0 where
-  pub steps : ℕ
   pub ready : Config
-  pub quiet : GoesQuietly h steps c ready
+  pub quiet : IsQuiet c ready
   pub asks : AsksTo ready h d
 
--- these harts do so, in order
+-- the requests that are made are those of these harts, in order
 abbrev pub GoesBy : List ℕ → Config → Config → Type 0
-GoesBy [] c d = d ≡ c
+GoesBy [] c d = IsQuiet c d
 GoesBy (h ∷ harts) c d = (middle : Config) × GoesAsking h c middle × GoesBy harts middle d
 
--- once they have done so, none leads to an end
+-- once they are made, no schedule leads to an end
 abbrev pub IsStuckBehind : List ℕ → Config → Type 0
 IsStuckBehind harts c = (d : Config) → GoesBy harts c d → HasNoWayOut d
 

@@ -7,3 +7,6 @@ invariant_of-self-in-Ok c = record {
   few = omega (arith, c.if-self-ge-MOST_STEPS.false);
   count = step_counted c.args.self.now.schedule c.push_step.new.self c.args.hart c.in-Ok.ensures.ok ∙ ap (λ n. n + 1) c.args.self.now.count;
 }
+
+pub returns : goal.returns
+returns c = ?
