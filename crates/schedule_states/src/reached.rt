@@ -264,6 +264,7 @@ impl<'a, J: StateJudge> Reached<'a, J> {
         ensures grown { HaveGrown self.old self.new }
         ensures before { WereBefore self.old.parts self.new.parts }
     {
+        self.are_numbered();
         let mut to = [number; 8];
         let harts = self.leads.harts();
         for hart in 0..harts {
