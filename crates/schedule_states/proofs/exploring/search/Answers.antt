@@ -1,12 +1,15 @@
-use Rattle.std.proofs.Common.{◌≡◌, ◌≤◌, ◌<◌, ◌∷◌, ◌++◌, true, None, Some, [], length, slice_get, refl, ap, ◌∙◌, rules, arith}
+use Rattle.std.proofs.Common.{◌≡◌, ◌≤◌, ◌<◌, ◌∷◌, ◌++◌, true, None, Some, [], ℕ, length, slice_get, refl, sym, ap, ◌∙◌, subst, rules, arith}
+use Rattle.std.proofs.lemmas.Option.{slice_get_within}
 use Rattle.std.proofs.lemmas.Result.{IfOk-weaker}
 use Rattle.machine.specs.Run.{started}
 use Rattle.schedule_states.proofs.Closing.{closed_all, closed_next}
 use Rattle.schedule_states.proofs.Ending.{always_ends}
 use Rattle.schedule_states.proofs.Happening.{happening}
 use Rattle.schedule_states.proofs.Judging.{all_good, below_noted, good_next, leads_found, moments_kept, nowhere_found, nowhere_more, told_found, told_more}
+use Rattle.schedule_states.proofs.Looking.{within_kept}
 use Rattle.schedule_states.proofs.Turning.{covers_at_kept, turns_next}
 use Rattle.schedule_states.specs.Covering.{IsClosed, IsClosedAt}
+use Rattle.schedule_states.specs.Ending.{AreTurnsBelow}
 use Rattle.schedule_states.specs.Judging.{AlwaysGood, AreGoodBelow, AreGoodMoments, IsGoodState}
 use Rattle.schedule_states.specs.StartLines.{StartView}
 use Rattle.schedule_states.specs.Watching.{nothing}
@@ -27,6 +30,7 @@ loop-number-init g c = record {
   };
   asked = refl;
   turns = λ asked. record { count_is = rw c.requires.new.2 refl; each = λ n to found. let none : slice_get [] n ≡ Some to = rw c.requires.new.2 at found in absurd cc };
+  within = omega arith;
   most = refl;
   fits = c.requires.given.0;
   kept = λ events full image good. good;
@@ -57,11 +61,19 @@ returns-then-number-met-clause-requests g c = IfOk-weaker c.all_judged.result _ 
           (started c.args.reached.now.parts.table.start.program c.args.reached.now.parts.table.start.medium c.args.reached.now.harts) c.loop-number.invariant.covers) is.1,
     )) c.all_judged.ensures.requests
 
-pub all_judged-then-number-met-requires-clause-turns : goal.all_judged-then-number-met-requires-clause-turns
-all_judged-then-number-met-requires-clause-turns g c asked = ?
+pub all_judged-requires-clause-turns : goal.all_judged-requires-clause-turns
+all_judged-requires-clause-turns g c asked =
+    let past : length c.loop-number.reached.states ≤ c.loop-number.number = search rules in
+    let was : c.args.judged.now.ways.asked ≡ true = sym c.loop-number.invariant.asked ∙ asked in
+    let all : c.loop-number.number ≡ length c.loop-number.reached.states = omega (arith, past, c.loop-number.invariant.within) in record {
+      turns = subst (λ (n : ℕ). AreTurnsBelow (g.J.StateJudge.stands c.args.judge.now) (g.J.StateJudge.allows c.args.judge.now) c.loop-number.reached c.loop-number.judged.ways.next.items n) all
+          (c.loop-number.invariant.turns was);
+      free = c.requires.given.2.free was;
+    }
 
-pub all_judged-then-number-met-requires-clause-some : goal.all_judged-then-number-met-requires-clause-some
-all_judged-then-number-met-requires-clause-some g c = ?
+pub all_judged-requires-clause-some : goal.all_judged-requires-clause-some
+all_judged-requires-clause-some g c =
+    omega (arith, slice_get_within c.loop-number.reached.states c.loop-number.invariant.covers.0.number c.loop-number.invariant.covers.0.met.numbers c.loop-number.invariant.covers.0.met.found)
 
 pub returns-clause-good : goal.returns-clause-good
 returns-clause-good g c =
@@ -87,11 +99,19 @@ returns-clause-requests g c = IfOk-weaker c.all_judged-2.result _ _ (λ explored
           (started c.args.reached.now.parts.table.start.program c.args.reached.now.parts.table.start.medium c.args.reached.now.harts) c.loop-number.invariant.covers) is.1,
     )) c.all_judged-2.ensures.requests
 
-pub all_judged-requires-clause-turns : goal.all_judged-requires-clause-turns
-all_judged-requires-clause-turns g c asked = ?
+pub all_judged-2-requires-clause-turns : goal.all_judged-2-requires-clause-turns
+all_judged-2-requires-clause-turns g c asked =
+    let past : length c.loop-number.reached.states ≤ c.loop-number.number = search rules in
+    let was : c.args.judged.now.ways.asked ≡ true = sym c.loop-number.invariant.asked ∙ asked in
+    let all : c.loop-number.number ≡ length c.loop-number.reached.states = omega (arith, past, c.loop-number.invariant.within) in record {
+      turns = subst (λ (n : ℕ). AreTurnsBelow (g.J.StateJudge.stands c.args.judge.now) (g.J.StateJudge.allows c.args.judge.now) c.loop-number.reached c.loop-number.judged.ways.next.items n) all
+          (c.loop-number.invariant.turns was);
+      free = c.requires.given.2.free was;
+    }
 
-pub all_judged-requires-clause-some : goal.all_judged-requires-clause-some
-all_judged-requires-clause-some g c = ?
+pub all_judged-2-requires-clause-some : goal.all_judged-2-requires-clause-some
+all_judged-2-requires-clause-some g c =
+    omega (arith, slice_get_within c.loop-number.reached.states c.loop-number.invariant.covers.0.number c.loop-number.invariant.covers.0.met.numbers c.loop-number.invariant.covers.0.met.found)
 
 pub returns-in-Some-clause-good : goal.returns-in-Some-clause-good
 returns-in-Some-clause-good g c = IfOk-weaker c.found.result _ _ (λ explored is. told_found explored _ _ is) c.found.ensures
@@ -173,6 +193,7 @@ loop-number-preserved g c =
           let noted : c.note.new.self.next.items ≡ c.loop-number.judged.ways.next.items ++ c.in-Ok.to ∷ [] = ? in
           rw noted (turns_next (g.J.StateJudge.stands c.args.judge.now) (g.J.StateJudge.allows c.args.judge.now) c.loop-number.reached c.go_on_all.new.self c.loop-number.judged.ways.next.items
           c.loop-number.number c.in-Ok.to c.go_on_all.ensures.before.0 c.go_on_all.ensures.grown c.go_on_all.ensures.before.2 there c.in-Ok.ensures.turns (c.loop-number.invariant.turns asked));
+      within = omega (arith, within_kept c.loop-number.reached.states c.go_on_all.new.self.states c.loop-number.number c.go_on_all.ensures.grown.states there);
       most = c.judge_state.ensures.most ∙ c.loop-number.invariant.most;
       fits = rw start c.judge_state.ensures.fits;
       kept = λ events full image good. c.judge_state.ensures.kept events full image (c.loop-number.invariant.kept events full image good);

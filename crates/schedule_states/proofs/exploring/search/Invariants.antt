@@ -1,4 +1,4 @@
-use Rattle.std.specs.Prelude.{◌≡◌, true, length}
+use Rattle.std.specs.Prelude.{◌≡◌, ◌≤◌, true, length}
 use Rattle.machine.specs.Run.{started}
 use Rattle.schedule_states.specs.Covering.{IsClosedBelow}
 use Rattle.schedule_states.specs.Ending.{AreTurnsBelow, CoversAt}
@@ -19,6 +19,7 @@ invariant-loop-number g l = record {
   moments : AreGoodMoments (g.J.StateJudge.stands l.judge) (g.J.StateJudge.good l.judge l.workspace) l.reached l.judged.media l.judged.moments;
   asked : l.judged.ways.asked ≡ l.initial.judged.ways.asked;
   turns : l.initial.judged.ways.asked ≡ true → AreTurnsBelow (g.J.StateJudge.stands l.judge) (g.J.StateJudge.allows l.judge) l.reached l.judged.ways.next.items l.number;
+  within : l.number ≤ length l.reached.states;
   most : l.judged.most ≡ l.initial.judged.most;
   fits : g.J.StateJudge.fits l.judge (length l.reached.parts.table.start.medium) l.workspace;
   kept : StaysGood (g.J.StateJudge.good l.judge l.initial.workspace) (g.J.StateJudge.good l.judge l.workspace);
