@@ -5,4 +5,4 @@ pub loop-hart-init : goal.loop-hart-init
 loop-hart-init c = quiet_begun c.args.self.now
 
 pub loop-hart-preserved : goal.loop-hart-preserved
-loop-hart-preserved c = ?
+loop-hart-preserved c = quiet_twice c.args.self.now c.loop-hart.self c.run_ahead.new.self c.loop-hart.invariant c.in_ok-run_ahead.ensures

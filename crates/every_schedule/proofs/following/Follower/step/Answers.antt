@@ -1,4 +1,5 @@
 use Rattle.std.proofs.Common.{◌+◌, ap, ◌∙◌, arith}
+use Rattle.every_schedule.proofs.Asking.{stepped}
 use Rattle.every_schedule.proofs.Counting.{step_counted}
 use Rattle.every_schedule.proofs.following.Follower.step.Goals as goal
 
@@ -9,4 +10,4 @@ invariant_of-self-in-Ok c = record {
 }
 
 pub returns : goal.returns
-returns c = ?
+returns c = λ s k come. stepped s c.args.self.now _ c.args.hart k come c.in_ok-step.ensures.ok.runs c.in-Ok.ensures.ok
