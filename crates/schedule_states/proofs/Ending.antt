@@ -23,7 +23,7 @@ use Rattle.schedule_states.specs.Covering.{Covers, IsClosed, IsMet, ReachedView}
 use Rattle.schedule_states.specs.Ending.{AlwaysEnds, AnyMayGo, AreEnds, AreTurns, AreTurnsBelow, CanEnd, CoversAt, GoesAsking, GoesBy, GoesQuietly, HasNoWayOut, HavePartsStopped, HaveStopped, LeadsTo}
 use Rattle.schedule_states.specs.Leads.{AreOfHarts}
 use Rattle.schedule_states.specs.States.{AsksTo, IsHartOf, PartsView, StandsFor, text_for}
-use Rattle.schedule_states.specs.Ways.{AreMarkedBack, IsMarked, LeadsOut, walked}
+use Rattle.schedule_states.specs.Ways.{IsMarked, LeadsOut, walked}
 use Rattle.schedule_states.specs.WaysOut.{AreAllTurns, EachCanEnd, HasNone, HasWayOut, LeadToNone, LeadsNowhere}
 use Rattle.schedule_states.specs.declared.program_state.HartPart.{HartPart}
 use Rattle.schedule_states.specs.declared.program_state.ProgramState.{ProgramState}
@@ -213,30 +213,29 @@ noted_at stands allows r next n c all at =
     let met : IsMet r n at.0.state at.0.standing = met_at stands r n c at in
     there_is next n (omega (arith, slice_get_within r.states n met.numbers met.found, all.turns.count_is))
 
--- what a run leads to from what an unmarked state stands for
-record IsUnmarkedAt {T : Type 0} (stands : T → List Event → Type 0) (r : ReachedView T) (marks : List Bool) (c : Config) : Type 0 where
+-- it is covered by a state from which one can't come to an end
+record IsOut {T : Type 0} (stands : T → List Event → Type 0) (r : ReachedView T) (next : List (List ℕ)) (ends : List Bool) (c : Config) : Type 0 where
   pub number : ℕ
   pub at : CoversAt stands r number c
-  pub unmarked : IsMarked marks number → ⊥
+  pub out : LeadsOut next ends number → ⊥
 
-unmarked_step : {T : Type 0} (stands : T → List Event → Type 0) (allows : List Event → ℕ → Type 0) (r : ReachedView T) (next : List (List ℕ)) (marks : List Bool) (c d : Config) (step : Step) →
-    AreAllTurns stands allows r next → AreMarkedBack next marks → IsUnmarkedAt stands r marks c → StepsTo c step d → IsUnmarkedAt stands r marks d
-unmarked_step stands allows r next marks c d step all back is steps = elim (steps_from stands r is.number c d step is.at steps) [
-  | inl still ↦ record { number = is.number; at = still; unmarked = is.unmarked }
+out_step : {T : Type 0} (stands : T → List Event → Type 0) (allows : List Event → ℕ → Type 0) (r : ReachedView T) (next : List (List ℕ)) (ends : List Bool) (c d : Config) (step : Step) →
+    AreAllTurns stands allows r next → IsOut stands r next ends c → StepsTo c step d → IsOut stands r next ends d
+out_step stands allows r next ends c d step all is steps = elim (steps_from stands r is.number c d step is.at steps) [
+  | inl still ↦ record { number = is.number; at = still; out = is.out }
   | inr from ↦
       let to : (to : List ℕ) × (slice_get next is.number ≡ Some to) = noted_at stands allows r next is.number c all is.at in record {
         number = slice_index_or to.0 from.hart 0;
         at = asking_covers stands allows r next is.number from.hart to.0 c d all is.at from.there to.1 from.asks;
-        unmarked = λ marked.
-            is.unmarked (back is.number from.hart (slice_index_or to.0 from.hart 0) (record { to = to.0; found = to.1; few = from.few; is = refl }) marked);
+        out = λ leads. is.out (LeadsOut.further is.number from.hart (slice_index_or to.0 from.hart 0) (record { to = to.0; found = to.1; few = from.few; is = refl }) leads);
       }
 ]
 
-unmarked_run : {T : Type 0} (stands : T → List Event → Type 0) (allows : List Event → ℕ → Type 0) (r : ReachedView T) (next : List (List ℕ)) (marks : List Bool) (c d : Config) (steps : List Step) →
-    AreAllTurns stands allows r next → AreMarkedBack next marks → IsUnmarkedAt stands r marks c → RunsTo c steps d → IsUnmarkedAt stands r marks d
-unmarked_run stands allows r next marks c d [] all back is runs = subst (λ (e : Config). IsUnmarkedAt stands r marks e) (sym runs) is
-unmarked_run stands allows r next marks c d (step ∷ steps) all back is runs =
-    unmarked_run stands allows r next marks runs.0 d steps all back (unmarked_step stands allows r next marks c runs.0 step all back is runs.1) runs.2
+out_run : {T : Type 0} (stands : T → List Event → Type 0) (allows : List Event → ℕ → Type 0) (r : ReachedView T) (next : List (List ℕ)) (ends : List Bool) (c d : Config) (steps : List Step) →
+    AreAllTurns stands allows r next → IsOut stands r next ends c → RunsTo c steps d → IsOut stands r next ends d
+out_run stands allows r next ends c d [] all is runs = subst (λ (e : Config). IsOut stands r next ends e) (sym runs) is
+out_run stands allows r next ends c d (step ∷ steps) all is runs =
+    out_run stands allows r next ends runs.0 d steps all (out_step stands allows r next ends c runs.0 step all is runs.1) runs.2
 
 -- the harts of a state have stopped if those have that it stands for
 parts_stopped : (parts : PartsView) (s : ProgramState) (c : Config) → StandsFor parts s c → HaveStopped c.harts → HavePartsStopped s.harts.items
@@ -248,10 +247,12 @@ parts_stopped parts s c stands stopped h part here =
 no_way_out : {T : Type 0} (stands : T → List Event → Type 0) (allows : List Event → ℕ → Type 0) (r : ReachedView T) (next : List (List ℕ)) (n : ℕ) (c : Config) → AreAllTurns stands allows r next →
     HasNone r next n → CoversAt stands r n c → HasNoWayOut c
 no_way_out stands allows r next n c all none at steps end runs stopped =
-    let is : IsUnmarkedAt stands r none.marks c = record { number = n; at = at; unmarked = none.unmarked } in
-    let last : IsUnmarkedAt stands r none.marks end = unmarked_run stands allows r next none.marks c end steps all none.back is runs in
-    last.unmarked (none.ends last.number last.at.0.state last.at.0.standing (met_at stands r last.number end last.at)
-    (parts_stopped r.parts last.at.0.state end last.at.0.stands_as.0 stopped))
+    let is : IsOut stands r next none.marks c = record { number = n; at = at; out = none.leads } in
+    let last : IsOut stands r next none.marks end = out_run stands allows r next none.marks c end steps all is runs in
+    let met : IsMet r last.number last.at.0.state last.at.0.standing = met_at stands r last.number end last.at in
+    let there : last.number < length r.states = slice_get_within r.states last.number met.numbers met.found in
+    last.out (LeadsOut.here last.number ((none.ends.each last.number last.at.0.state last.at.0.standing there met).1
+    (parts_stopped r.parts last.at.0.state end last.at.0.stands_as.0 stopped)))
 
 -- where the requests of harts lead from what a state stands for
 steps_covers : {T : Type 0} (stands : T → List Event → Type 0) (r : ReachedView T) (n count : ℕ) (c d : Config) → CoversAt stands r n c → GoesQuietly count c d → CoversAt stands r n d
@@ -287,20 +288,20 @@ got_last [] mark = refl
 got_last (first ∷ marks) mark = got_last marks mark
 
 marked_if : (marks : List Bool) (n : ℕ) (mark : Bool) (claim : Type 0) → slice_get marks n ≡ Some mark → (mark ≡ true → claim) → (mark ≡ false → claim → ⊥) → IsMarked marks n ↔ claim
-marked_if marks n true claim got yes no = (λ marked. yes refl, λ is. got)
-marked_if marks n false claim got yes no = (λ marked. let both : Some false ≡ Some true = sym got ∙ marked in absurd cc, λ is. absurd (no refl is))
+marked_if marks n true claim got is_so not_so = (λ marked. is_so refl, λ is. got)
+marked_if marks n false claim got is_so not_so = (λ marked. let both : Some false ≡ Some true = sym got ∙ marked in absurd cc, λ is. absurd (not_so refl is))
 
 pub ends_more : {T : Type 0} (r : ReachedView T) (marks : List Bool) (count : ℕ) (mark : Bool) →
     (mark ≡ true → (s : ProgramState) (t : T) → IsMet r count s t → HavePartsStopped s.harts.items) →
     (mark ≡ false → (s : ProgramState) (t : T) → IsMet r count s t → HavePartsStopped s.harts.items → ⊥) → AreEnds r marks count → AreEnds r (marks ++ mark ∷ []) (count + 1)
-ends_more r marks count mark yes no ends = record {
+ends_more r marks count mark is_so not_so ends = record {
   count_is = let more : length (marks ++ mark ∷ []) ≡ length marks + 1 = length-append marks (mark ∷ []) in more ∙ ap (λ (n : ℕ). n + 1) ends.count_is;
   each = λ n s t few met. elim (cases_eq n count) [
     | inl same ↦
         let last : slice_get (marks ++ mark ∷ []) n ≡ Some mark =
         ap (λ (k : ℕ). slice_get (marks ++ mark ∷ []) k) (same ∙ sym ends.count_is) ∙ got_last marks mark in
         let here : IsMet r count s t = subst (λ (k : ℕ). IsMet r k s t) same met in
-        marked_if (marks ++ mark ∷ []) n mark (HavePartsStopped s.harts.items) last (λ is. yes is s t here) (λ is. no is s t here)
+        marked_if (marks ++ mark ∷ []) n mark (HavePartsStopped s.harts.items) last (λ is. is_so is s t here) (λ is. not_so is s t here)
     | inr other ↦
         let below : n < count = omega (arith, few, other) in
         let front : slice_get (marks ++ mark ∷ []) n ≡ slice_get marks n = got_left marks (mark ∷ []) n (omega (arith, below, ends.count_is)) in

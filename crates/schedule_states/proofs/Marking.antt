@@ -1,9 +1,9 @@
 -- Marks that are set back over the ways of a graph.
-use Rattle.std.proofs.Common.{◌≡◌, ◌≢◌, ◌⊎◌, inl, inr, ℕ, zero, suc, ◌<◌, ◌≤◌, Bool, true, false, List, [], ◌∷◌, ◌++◌, Some, length, slice_get, slice_index_or, slice_set, refl, sym, ap, ◌∙◌, subst, arith}
+use Rattle.std.proofs.Common.{◌≡◌, ◌≢◌, ◌⊎◌, inl, inr, ℕ, zero, suc, ◌+◌, ◌<◌, ◌≤◌, Bool, true, false, List, [], ◌∷◌, ◌++◌, Option, Some, None, IfSome, length, slice_get, slice_index_or, slice_set, refl, sym, ap, ◌∙◌, subst, arith}
 use Rattle.std.proofs.lemmas.Bool.{cases_eq}
 use Rattle.bus.proofs.Places.{got_else, got_set}
 use Rattle.std.proofs.lemmas.Option.{get_or_from_slice_get, slice_get-get_or, slice_get_within}
-use Rattle.schedule_states.specs.Ways.{AreKeptMarks, AreMarkedBack, IsMarked, IsMarkedBack, IsOneMarked, IsWay, LeadsOut, further, here, unmarked, walked}
+use Rattle.schedule_states.specs.Ways.{AreKeptMarks, AreMarkedBack, IsMarked, IsMarkedBack, IsOneMarked, IsWay, LeadsOut, unmarked, walked}
 
 -- one mark more
 set_marked : (marks : List Bool) (n : ℕ) → slice_get marks n ≡ Some false → suc (unmarked (slice_set marks n true)) ≡ unmarked marks
@@ -36,7 +36,7 @@ one_marked next old new n m one marked = elim (cases_eq m n) [
 pub one_sound : (next : List (List ℕ)) (start old new : List Bool) (n : ℕ) → IsOneMarked next old new n → ((m : ℕ) → IsMarked old m → LeadsOut next start m) →
     (m : ℕ) → IsMarked new m → LeadsOut next start m
 one_sound next start old new n one sound m marked = elim (one_marked next old new n m one marked) [
-  | inl same ↦ subst (λ (k : ℕ). LeadsOut next start k) (sym same) (further n one.hart one.target one.way (sound one.target one.marked))
+  | inl same ↦ subst (λ (k : ℕ). LeadsOut next start k) (sym same) (LeadsOut.further n one.hart one.target one.way (sound one.target one.marked))
   | inr was ↦ sound m was
 ]
 
@@ -44,7 +44,12 @@ one_sound next start old new n one sound m marked = elim (one_marked next old ne
 pub leads_through : (next : List (List ℕ)) (start middle : List Bool) → ((m : ℕ) → IsMarked middle m → LeadsOut next start m) → (n : ℕ) → LeadsOut next middle n →
     LeadsOut next start n
 leads_through next start middle sound _ (LeadsOut.here n marked) = sound n marked
-leads_through next start middle sound _ (LeadsOut.further n hart m way on) = further n hart m way (leads_through next start middle sound m on)
+leads_through next start middle sound _ (LeadsOut.further n hart m way on) = LeadsOut.further n hart m way (leads_through next start middle sound m on)
+
+-- what leads out is marked where each end is, and each state from which a way leads to a marked one
+pub out_marked : (next : List (List ℕ)) (ends marks : List Bool) → AreKeptMarks ends marks → AreMarkedBack next marks → (n : ℕ) → LeadsOut next ends n → IsMarked marks n
+out_marked next ends marks kept back _ (LeadsOut.here n marked) = kept n marked
+out_marked next ends marks kept back _ (LeadsOut.further n hart m way on) = back n hart m way (out_marked next ends marks kept back m on)
 
 -- the state to which one request more leads
 pub walked_on : (next : List (List ℕ)) (n : ℕ) (requests : List ℕ) (hart : ℕ) → walked next n (requests ++ hart ∷ []) ≡
@@ -78,7 +83,7 @@ pub record IsPassed (next : List (List ℕ)) (start marks : List Bool) (has_mark
 pub pass_begun : (next : List (List ℕ)) (start : List Bool) → length start ≡ length next → IsPassed next start start false 0
 pass_begun next start count = record {
   count = count;
-  sound = λ n marked. here n marked;
+  sound = λ n marked. LeadsOut.here n marked;
   kept = λ n marked. marked;
   fewer = omega arith;
   more = λ told. absurd cc;
@@ -111,5 +116,7 @@ pass_goes_on next start old new has_marked behind n same back at passed =
       ];
     })
 
-pub pass_ended : (next : List (List ℕ)) (start marks : List Bool) → IsPassed next start marks false (length next) → AreMarkedBack next marks
-pass_ended next start marks passed n = passed.back refl n (omega arith)
+-- what holds of a number that was found
+pub some_weaker : (found : Option ℕ) (P Q : ℕ → Type 0) → ((n : ℕ) → P n → Q n) → IfSome found P → IfSome found Q
+some_weaker None P Q so is = is
+some_weaker (Some n) P Q so is = so n is

@@ -145,7 +145,7 @@ turns_next stands allows old new next count to are grown before there here below
   count_is = let more : length (next ++ to ∷ []) ≡ length next + 1 = length-append next (to ∷ []) in more ∙ ap (λ (n : ℕ). n + 1) below.count_is;
   each = each_pushed (λ n one. AreTurnsAt stands allows new n one) next to
       (λ n one found. turns_at_kept stands allows old new n one are grown before
-          (omega (arith, slice_get_within next n one found, below.count_is, there)) (below.each n one found))
+      (omega (arith, slice_get_within next n one found, below.count_is, there)) (below.each n one found))
       (subst (λ (n : ℕ). AreTurnsAt stands allows new n to) (sym below.count_is) here);
 }
 

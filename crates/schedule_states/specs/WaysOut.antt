@@ -1,12 +1,11 @@
 -- What is known of the ends of a program where all its states were met.
-use Rattle.std.specs.Prelude.{◌≡◌, ◌<◌, ℕ, Bool, true, List, length}
+use Rattle.std.specs.Prelude.{ℕ, Bool, List, length}
 use Rattle.machine.specs.Run.{Config}
 use Rattle.store_trace.specs.declared.event.Event.{Event}
-use Rattle.schedule_states.specs.Covering.{Covers, IsMet, ReachedView}
-use Rattle.schedule_states.specs.Ending.{AnyMayGo, AreEnds, AreTurnsBelow, CanEnd, CoversAt, HavePartsStopped, IsStuckBehind}
+use Rattle.schedule_states.specs.Covering.{Covers, ReachedView}
+use Rattle.schedule_states.specs.Ending.{AnyMayGo, AreEnds, AreTurnsBelow, CanEnd, CoversAt, IsStuckBehind}
 use Rattle.schedule_states.specs.Leads.{AreOfHarts}
-use Rattle.schedule_states.specs.Ways.{AreMarkedBack, IsMarked, LeadsOut, walked}
-use Rattle.schedule_states.specs.declared.program_state.ProgramState.{ProgramState}
+use Rattle.schedule_states.specs.Ways.{LeadsOut, walked}
 
 -- an end can be reached from the state of number n
 pub record HasWayOut {T : Type 0} (r : ReachedView T) (next : List (List ℕ)) (n : ℕ) : Type 0 where
@@ -14,12 +13,11 @@ pub record HasWayOut {T : Type 0} (r : ReachedView T) (next : List (List ℕ)) (
   pub ends : AreEnds r marks (length r.states)
   pub leads : LeadsOut next marks n
 
--- none can: it isn't marked where each end is marked, and each state from which a way leads to a marked one
+-- none can
 pub record HasNone {T : Type 0} (r : ReachedView T) (next : List (List ℕ)) (n : ℕ) : Type 0 where
   pub marks : List Bool
-  pub ends : (m : ℕ) (s : ProgramState) (t : T) → IsMet r m s t → HavePartsStopped s.harts.items → IsMarked marks m
-  pub back : AreMarkedBack next marks
-  pub unmarked : IsMarked marks n → ⊥
+  pub ends : AreEnds r marks (length r.states)
+  pub leads : LeadsOut next marks n → ⊥
 
 -- the requests are those of harts that are there, and lead from the first state to one from which no end can be reached
 pub record LeadToNone {T : Type 0} (r : ReachedView T) (next : List (List ℕ)) (requests : List ℕ) : Type 0 where

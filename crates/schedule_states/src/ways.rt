@@ -39,8 +39,21 @@ impl Ways {
     }
 }
 
+/// The first state from which ways lead to none of those that are marked. All from which they do are marked then.
+pub fn first_stuck(next: &[[u32; 8]], marks: &mut [bool]) -> Option<u32>
+    requires count { length marks.old ≡ length next.now }
+    requires few { length next.now < 2 ^ 32 }
+    requires inside { AreInside next.now }
+    ensures none { result ≡ None → (n : ℕ) → n < length next.now → LeadsOut next.now marks.old n }
+    ensures stuck { IfSome result (λ number. ¬ LeadsOut next.now marks.old number) }
+    ensures first { IfSome result (λ number. (n : ℕ) → n < number → LeadsOut next.now marks.old n) }
+{
+    mark_back(next, marks);
+    first_unmarked(marks)
+}
+
 /// Marks each state from which ways lead to a marked one.
-pub fn mark_back(next: &[[u32; 8]], marks: &mut [bool])
+fn mark_back(next: &[[u32; 8]], marks: &mut [bool])
     requires count { length marks.old ≡ length next.now }
     requires inside { AreInside next.now }
     ensures sound { (n : ℕ) → IsMarked marks.new n → LeadsOut next.now marks.old n }
@@ -81,7 +94,10 @@ fn mark_one(next: &[[u32; 8]], marks: &mut [bool], number: usize) -> bool
     ensures still { result ≡ false → (marks.new ≡ marks.old) × IsMarkedBack next.now marks.old number }
     ensures count { length marks.new ≡ length marks.old }
 {
-    if marks[number] || !leads_to_mark(next, marks, number) {
+    if marks[number] {
+        return false;
+    }
+    if !leads_to_mark(next, marks, number) {
         return false;
     }
     marks[number] = true;
@@ -106,7 +122,7 @@ fn leads_to_mark(next: &[[u32; 8]], marks: &[bool], number: usize) -> bool
 }
 
 /// The first state that isn't marked.
-pub fn first_unmarked(marks: &[bool]) -> Option<u32>
+fn first_unmarked(marks: &[bool]) -> Option<u32>
     requires few { length marks.now < 2 ^ 32 }
     ensures none { result ≡ None → (n : ℕ) → n < length marks.now → IsMarked marks.now n }
     ensures unmarked { IfSome result (λ number. slice_get marks.now number ≡ Some false) }

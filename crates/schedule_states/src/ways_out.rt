@@ -1,6 +1,6 @@
 //! Whether from each state of a program one can come to an end, where all its states were met.
 
-ghost use Rattle.std.specs.Prelude.{◌≡◌, ◌≤◌, ◌<◌, ◌^◌, ℕ, None, true, length, IfOk, IfSome};
+ghost use Rattle.std.specs.Prelude.{◌≡◌, ◌<◌, ◌^◌, ℕ, None, true, length, IfOk, IfSome};
 ghost use Rattle.schedule_states.specs.Ending.{AreEnds};
 ghost use Rattle.schedule_states.specs.Exploring.{IfAll, IfNoWayOut, IsAll, LeadByHarts};
 ghost use Rattle.schedule_states.specs.Ways.{AreInside};
@@ -11,7 +11,7 @@ use crate::moments::{Judged, Moment};
 use crate::numbers::Numbers;
 use crate::reached::Reached;
 use crate::state_judge::StateJudge;
-use crate::ways::{arrives, first_unmarked, mark_back};
+use crate::ways::{arrives, first_stuck};
 use std::alloc::{AllocError, Global};
 
 /// What is known where all states were judged, and each is good: where that is asked for, that each has a way out, or the first one that has
@@ -21,7 +21,7 @@ pub fn all_judged<J: StateJudge>(
     reached: &Reached<'_, J>,
     judged: &Judged,
 ) -> Result<Explored, AllocError>
-    requires few { length reached.now.states ≤ judged.now.most }
+    requires few { length reached.now.states < 2 ^ 32 }
     requires some { 0 < length reached.now.states }
     requires turns { judged.now.ways.asked ≡ true → AreAllTurns (J.stands judge.now) (J.allows judge.now) reached.now judged.now.ways.next.items }
     ensures ends { IfOk result (λ explored. IfAll explored (judged.now.ways.asked ≡ true → EachCanEnd (J.stands judge.now) reached.now)) }
@@ -58,8 +58,7 @@ fn stuck_state<J: StateJudge>(
     ensures found { IfOk result (λ found. IfSome found (HasNone reached.now judged.now.ways.next.items)) }
 {
     let mut marks = ends(judged.alloc, reached)?;
-    mark_back(&judged.ways.next, &mut marks);
-    Ok(first_unmarked(&marks))
+    Ok(first_stuck(&judged.ways.next, &mut marks))
 }
 
 /// Of each state whether all its harts have stopped.

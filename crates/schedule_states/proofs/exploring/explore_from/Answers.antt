@@ -9,7 +9,7 @@ use Rattle.schedule_states.proofs.exploring.explore_from.Goals as goal
 pub search-requires-clause-start : goal.search-requires-clause-start
 search-requires-clause-start g c κs within =
     let start : CoversAt (g.J.StateJudge.stands c.args.judge.now) c.meet_start.new.self 0
-    (started c.args.reached.now.parts.table.start.program c.args.reached.now.parts.table.start.medium c.args.reached.now.harts) = search rules in
+    (started c.args.reached.now.parts.table.start.program c.args.reached.now.parts.table.start.medium c.args.reached.now.harts) = c.in_ok-stop.ensures.start (search rules) in
     let led : AreLed (g.J.StateJudge.stands c.args.judge.now) (g.J.StateJudge.allows c.args.judge.now) c.meet_start.new.self = search rules in
     let same : started c.meet_start.new.self.parts.table.start.program c.meet_start.new.self.parts.table.start.medium c.meet_start.new.self.harts
     ≡ started c.args.reached.now.parts.table.start.program c.args.reached.now.parts.table.start.medium c.args.reached.now.harts =
@@ -21,7 +21,7 @@ pub returns-clause-good : goal.returns-clause-good
 returns-clause-good g c = rw (c.meet_start.ensures.parts, c.meet_start.ensures.harts) at c.search.ensures.good
 
 pub returns-clause-requests : goal.returns-clause-requests
-returns-clause-requests g c = rw c.meet_start.ensures.harts at c.search.ensures.requests
+returns-clause-requests g c = rw (c.meet_start.ensures.parts, c.meet_start.ensures.harts) at c.search.ensures.requests
 
 pub returns-in_err-stop-clause-told : goal.returns-in_err-stop-clause-told
 returns-in_err-stop-clause-told g c = nothing

@@ -1,4 +1,4 @@
-use Rattle.std.proofs.Common.{◌≡◌, ◌≤◌, ◌<◌, ◌∷◌, ◌++◌, true, None, Some, [], ℕ, length, slice_get, refl, sym, ap, ◌∙◌, subst, rules, arith}
+use Rattle.std.proofs.Common.{◌≡◌, ◌≤◌, ◌<◌, ◌∷◌, ◌++◌, true, None, Some, List, [], ℕ, length, slice_get, refl, sym, ap, ◌∙◌, subst, rules, arith}
 use Rattle.std.proofs.lemmas.Option.{slice_get_within}
 use Rattle.std.proofs.lemmas.Result.{IfOk-weaker}
 use Rattle.machine.specs.Run.{started}
@@ -48,18 +48,21 @@ returns-then-number-met-clause-good g c =
     (g.J.StateJudge.good c.args.judge.now c.loop-number.workspace) (g.J.StateJudge.ends c.args.judge.now) c.loop-number.reached
     c.args.reached.now.parts.table.start.program c.args.reached.now.parts.table.start.medium c.args.reached.now.harts
     (ap (λ (s : StartView). s.medium) c.loop-number.invariant.start) c.loop-number.invariant.covers.0 closed (λ n few. c.loop-number.invariant.good n (omega (arith, few, past))) in
-    IfOk-weaker c.all_judged.result _ _ (λ explored is. told_more explored _ _ (λ each. (good, λ demanded.
-    let asked : c.args.judged.now.ways.asked ≡ true = c.requires.given.2.asks demanded in
-    always_ends (g.J.StateJudge.stands c.args.judge.now) (g.J.StateJudge.allows c.args.judge.now) (g.J.StateJudge.ends c.args.judge.now) c.loop-number.reached
-    c.args.reached.now.parts.table.start.program c.args.reached.now.parts.table.start.medium c.args.reached.now.harts closed c.loop-number.invariant.covers.0
-    (c.requires.given.2.free asked) (each (c.loop-number.invariant.asked ∙ asked)))) is) c.all_judged.ensures.ends
+    IfOk-weaker c.all_judged.result _ _ (λ explored is. told_more explored _ _ (λ each. (
+      good,
+      λ demanded.
+          let asked : c.args.judged.now.ways.asked ≡ true = c.requires.given.2.asks demanded in
+          always_ends (g.J.StateJudge.stands c.args.judge.now) (g.J.StateJudge.allows c.args.judge.now) (g.J.StateJudge.ends c.args.judge.now) c.loop-number.reached
+          c.args.reached.now.parts.table.start.program c.args.reached.now.parts.table.start.medium c.args.reached.now.harts closed c.loop-number.invariant.covers.0
+          (c.requires.given.2.free asked) (each (c.loop-number.invariant.asked ∙ asked)),
+    )) is) c.all_judged.ensures.ends
 
 pub returns-then-number-met-clause-requests : goal.returns-then-number-met-clause-requests
 returns-then-number-met-clause-requests g c = IfOk-weaker c.all_judged.result _ _ (λ explored is. (
-      rw c.loop-number.invariant.harts at is.0,
-      nowhere_more explored _ _ (λ requests nowhere. nowhere
-          (started c.args.reached.now.parts.table.start.program c.args.reached.now.parts.table.start.medium c.args.reached.now.harts) c.loop-number.invariant.covers) is.1,
-    )) c.all_judged.ensures.requests
+  rw c.loop-number.invariant.harts at is.0,
+  nowhere_more explored _ _ (λ requests nowhere. nowhere
+      (started c.args.reached.now.parts.table.start.program c.args.reached.now.parts.table.start.medium c.args.reached.now.harts) c.loop-number.invariant.covers) is.1,
+)) c.all_judged.ensures.requests
 
 pub all_judged-requires-clause-turns : goal.all_judged-requires-clause-turns
 all_judged-requires-clause-turns g c asked =
@@ -86,21 +89,24 @@ returns-clause-good g c =
     (g.J.StateJudge.good c.args.judge.now c.loop-number.workspace) (g.J.StateJudge.ends c.args.judge.now) c.loop-number.reached
     c.args.reached.now.parts.table.start.program c.args.reached.now.parts.table.start.medium c.args.reached.now.harts
     (ap (λ (s : StartView). s.medium) c.loop-number.invariant.start) c.loop-number.invariant.covers.0 closed (λ n few. c.loop-number.invariant.good n (omega (arith, few, past))) in
-    IfOk-weaker c.all_judged-2.result _ _ (λ explored is. told_more explored _ _ (λ each. (good, λ demanded.
-    let asked : c.args.judged.now.ways.asked ≡ true = c.requires.given.2.asks demanded in
-    always_ends (g.J.StateJudge.stands c.args.judge.now) (g.J.StateJudge.allows c.args.judge.now) (g.J.StateJudge.ends c.args.judge.now) c.loop-number.reached
-    c.args.reached.now.parts.table.start.program c.args.reached.now.parts.table.start.medium c.args.reached.now.harts closed c.loop-number.invariant.covers.0
-    (c.requires.given.2.free asked) (each (c.loop-number.invariant.asked ∙ asked)))) is) c.all_judged-2.ensures.ends
+    IfOk-weaker c.all_judged-2.result _ _ (λ explored is. told_more explored _ _ (λ each. (
+      good,
+      λ demanded.
+          let asked : c.args.judged.now.ways.asked ≡ true = c.requires.given.2.asks demanded in
+          always_ends (g.J.StateJudge.stands c.args.judge.now) (g.J.StateJudge.allows c.args.judge.now) (g.J.StateJudge.ends c.args.judge.now) c.loop-number.reached
+          c.args.reached.now.parts.table.start.program c.args.reached.now.parts.table.start.medium c.args.reached.now.harts closed c.loop-number.invariant.covers.0
+          (c.requires.given.2.free asked) (each (c.loop-number.invariant.asked ∙ asked)),
+    )) is) c.all_judged-2.ensures.ends
 
 pub returns-clause-requests : goal.returns-clause-requests
 returns-clause-requests g c = IfOk-weaker c.all_judged-2.result _ _ (λ explored is. (
-      rw c.loop-number.invariant.harts at is.0,
-      nowhere_more explored _ _ (λ requests nowhere. nowhere
-          (started c.args.reached.now.parts.table.start.program c.args.reached.now.parts.table.start.medium c.args.reached.now.harts) c.loop-number.invariant.covers) is.1,
-    )) c.all_judged-2.ensures.requests
+  rw c.loop-number.invariant.harts at is.0,
+  nowhere_more explored _ _ (λ requests nowhere. nowhere
+      (started c.args.reached.now.parts.table.start.program c.args.reached.now.parts.table.start.medium c.args.reached.now.harts) c.loop-number.invariant.covers) is.1,
+)) c.all_judged-2.ensures.requests
 
-pub all_judged-2-requires-clause-turns : goal.all_judged-2-requires-clause-turns
-all_judged-2-requires-clause-turns g c asked =
+pub all_judged-requires-2-clause-turns : goal.all_judged-requires-2-clause-turns
+all_judged-requires-2-clause-turns g c asked =
     let past : length c.loop-number.reached.states ≤ c.loop-number.number = search rules in
     let was : c.args.judged.now.ways.asked ≡ true = sym c.loop-number.invariant.asked ∙ asked in
     let all : c.loop-number.number ≡ length c.loop-number.reached.states = omega (arith, past, c.loop-number.invariant.within) in record {
@@ -109,8 +115,8 @@ all_judged-2-requires-clause-turns g c asked =
       free = c.requires.given.2.free was;
     }
 
-pub all_judged-2-requires-clause-some : goal.all_judged-2-requires-clause-some
-all_judged-2-requires-clause-some g c =
+pub all_judged-requires-2-clause-some : goal.all_judged-requires-2-clause-some
+all_judged-requires-2-clause-some g c =
     omega (arith, slice_get_within c.loop-number.reached.states c.loop-number.invariant.covers.0.number c.loop-number.invariant.covers.0.met.numbers c.loop-number.invariant.covers.0.met.found)
 
 pub returns-in-Some-clause-good : goal.returns-in-Some-clause-good
@@ -151,8 +157,8 @@ returns-in-Some-clause-kept g c = (
   λ events full image good. c.judge_state.ensures.kept events full image (c.loop-number.invariant.kept events full image good),
 )
 
-pub returns-in_err-go_on_all-clause-kept : goal.returns-in_err-go_on_all-clause-kept
-returns-in_err-go_on_all-clause-kept g c = (
+pub returns-in_err-to-clause-kept : goal.returns-in_err-to-clause-kept
+returns-in_err-to-clause-kept g c = (
   rw c.loop-number.invariant.start at c.judge_state.ensures.fits,
   λ events full image good. c.judge_state.ensures.kept events full image (c.loop-number.invariant.kept events full image good),
 )
@@ -167,7 +173,7 @@ pub loop-number-preserved : goal.loop-number-preserved
 loop-number-preserved g c =
     let there : c.loop-number.number < length c.loop-number.reached.states = search rules in
     let here : IsClosedAt (g.J.StateJudge.stands c.args.judge.now) (g.J.StateJudge.allows c.args.judge.now) (g.J.StateJudge.ends c.args.judge.now) c.go_on_all.new.self c.loop-number.number =
-    c.in-Ok.ensures.closed in
+    rw c.in-Ok.is at c.in_ok-to.ensures.closed in
     let passed : c.in_ok-stop.field-0 ≡ None = search rules in
     let judged : AreGoodMoments (g.J.StateJudge.stands c.args.judge.now) (g.J.StateJudge.good c.args.judge.now c.judge_state.new.workspace) c.loop-number.reached c.judge_state.new.judged.media c.judge_state.new.judged.moments
     × IsGoodState (g.J.StateJudge.stands c.args.judge.now) (g.J.StateJudge.good c.args.judge.now c.judge_state.new.workspace) c.loop-number.reached c.loop-number.number = c.in_ok-stop.ensures.good passed in
@@ -179,7 +185,7 @@ loop-number-preserved g c =
       covers = covers_at_kept (g.J.StateJudge.stands c.args.judge.now) c.loop-number.reached c.go_on_all.new.self 0
           (started c.args.reached.now.parts.table.start.program c.args.reached.now.parts.table.start.medium c.args.reached.now.harts)
           c.go_on_all.ensures.grown c.loop-number.invariant.covers;
-      led = c.in-Ok.ensures.led c.loop-number.invariant.led;
+      led = (rw c.in-Ok.is at c.in_ok-to.ensures.led) c.loop-number.invariant.led;
       closed = closed_next (g.J.StateJudge.stands c.args.judge.now) (g.J.StateJudge.allows c.args.judge.now) (g.J.StateJudge.ends c.args.judge.now) c.loop-number.reached c.go_on_all.new.self c.loop-number.number
           c.loop-number.invariant.closed there here c.go_on_all.ensures.still;
       good = good_next (g.J.StateJudge.stands c.args.judge.now) (g.J.StateJudge.good c.args.judge.now c.judge_state.new.workspace) c.loop-number.reached c.go_on_all.new.self c.loop-number.number
@@ -190,9 +196,9 @@ loop-number-preserved g c =
       turns = λ asked.
           let was : c.judge_state.new.judged.ways.asked ≡ true = ap (λ (w : Ways). w.asked) c.judge_state.ensures.ways ∙ c.loop-number.invariant.asked ∙ asked in
           let before : c.judge_state.new.judged.ways.next.items ≡ c.loop-number.judged.ways.next.items = ap (λ (w : Ways). w.next.items) c.judge_state.ensures.ways in
-          let noted : c.note.new.self.next.items ≡ c.loop-number.judged.ways.next.items ++ c.in-Ok.to ∷ [] = ? in
+          let noted : c.note.new.self.next.items ≡ c.loop-number.judged.ways.next.items ++ c.in-Ok.to ∷ [] = c.in_ok-note-in-Ok.ensures.noted was ∙ ap (λ (next : List (List ℕ)). next ++ c.in-Ok.to ∷ []) before in
           rw noted (turns_next (g.J.StateJudge.stands c.args.judge.now) (g.J.StateJudge.allows c.args.judge.now) c.loop-number.reached c.go_on_all.new.self c.loop-number.judged.ways.next.items
-          c.loop-number.number c.in-Ok.to c.go_on_all.ensures.before.0 c.go_on_all.ensures.grown c.go_on_all.ensures.before.2 there c.in-Ok.ensures.turns (c.loop-number.invariant.turns asked));
+          c.loop-number.number c.in-Ok.to c.go_on_all.ensures.before.0 c.go_on_all.ensures.grown c.go_on_all.ensures.before.2 there (rw c.in-Ok.is at c.in_ok-to.ensures.turns) (c.loop-number.invariant.turns asked));
       within = omega (arith, within_kept c.loop-number.reached.states c.go_on_all.new.self.states c.loop-number.number c.go_on_all.ensures.grown.states there);
       most = c.judge_state.ensures.most ∙ c.loop-number.invariant.most;
       fits = rw start c.judge_state.ensures.fits;
