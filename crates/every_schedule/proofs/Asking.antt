@@ -1,5 +1,5 @@
 -- Requests that harts of a machine make, one behind the other.
-use Rattle.std.proofs.Common.{◌≡◌, ℕ, zero, suc, List, [], ◌∷◌, ◌++◌, Option, Some, None, slice_get, refl, sym, ap, ◌∙◌, subst}
+use Rattle.std.proofs.Common.{◌≡◌, ℕ, zero, suc, List, [], ◌∷◌, ◌++◌, Option, Some, None, IfSome, slice_get, refl, sym, ap, ◌∙◌, subst}
 use Rattle.std.proofs.lemmas.Option.{slice_get_within}
 use Rattle.crash_test.specs.Runs.{IsRunBy}
 use Rattle.hart.specs.Needs.{Needs}
@@ -24,7 +24,7 @@ use Rattle.schedule_states.specs.Ending.{GoesAsking, GoesBy, GoesQuietly, HasNoW
 use Rattle.schedule_states.specs.States.{AsksTo, text_for}
 use Rattle.every_schedule.specs.EverySchedule.{IsStuck}
 use Rattle.every_schedule.specs.Following.{Follows, HasCome}
-use Rattle.every_schedule.specs.declared.following.Follower.{Follower}
+use Rattle.every_schedule.specs.declared.follower.Follower.{Follower}
 
 -- steps that are no requests, and one request more
 quiet_then : (count : ℕ) (c d e : Config) → IsQuiet c d → GoesQuietly count d e → IsQuiet c e
@@ -153,3 +153,7 @@ stuck_by s schedule run requests there by runs goes stuck end ends =
 
 pub running_of : (harts : List HartState) (h : ℕ) (own : HartState) → IsRunning (slice_get harts h) → slice_get harts h ≡ Some own → own.status ≡ Running
 running_of harts h own runs got = subst (λ (there : Option HartState). IsRunning there) got runs
+
+pub some_so : {X : Type 0} (found : Option X) (P Q : X → Type 0) → ((x : X) → P x → Q x) → IfSome found P → IfSome found Q
+some_so None P Q so is = is
+some_so (Some x) P Q so is = so x is

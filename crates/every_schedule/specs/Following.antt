@@ -4,7 +4,7 @@ use Rattle.machine.specs.Run.{Config, RunsTo}
 use Rattle.machine.specs.RunValues.{start_of}
 use Rattle.machine.specs.Steps.{all_steps}
 use Rattle.machine.specs.declared.recording.setup.Setup.{Setup}
-use Rattle.every_schedule.specs.declared.following.Follower.{Follower}
+use Rattle.every_schedule.specs.declared.follower.Follower.{Follower}
 
 -- from the start of the setup the schedule of the steps made leads here, and the machine represents it
 pub record HasCome (s : Setup) (f : Follower) (c : Config) : Type 0 where

@@ -8,31 +8,18 @@ ghost use Rattle.machine.specs.RunValues.{start_of};
 ghost use Rattle.machine.specs.declared.schedule.items.Step.{Step as AStep};
 ghost use Rattle.schedule_states.specs.Ending.{GoesAsking, GoesBy, IsQuiet};
 ghost use Rattle.schedule_states.specs.States.{AsksTo};
-ghost use Rattle.std.specs.Prelude.{◌≡◌, ◌≤◌, ◌<◌, ◌^◌, true, IfOk, OnOk};
+ghost use Rattle.std.specs.Prelude.{◌≡◌, ◌<◌, ◌^◌, true, IfOk, OnOk};
 
+use crate::follower::{Follower, MOST_STEPS};
 use hart::Need;
 use machine::{Machine, Schedule, Setup, Step, StepFault};
 use std::alloc::Global;
-
-/// How many steps a schedule has at most that shows what a search has found.
-const MOST_STEPS: u32 = 1_000_000_000;
 
 /// How many steps a hart makes in its turn, behind what a search has found.
 const STEPS_OF_TURN: u32 = 16;
 
 /// How many turns all harts together have at most.
 const TURNS: u32 = 1_250;
-
-/// A machine, and the schedule of the steps that it has made.
-#[derive(Drop)]
-pub(crate) struct Follower {
-    machine: Machine,
-    schedule: Schedule,
-    /// How many steps those are.
-    made: u32,
-    ghost few: { made ≤ 1000000000 },
-    ghost count: { hart_steps schedule ≡ made },
-}
 
 impl Follower {
     /// Of a setup, before any step.

@@ -10,7 +10,7 @@ ghost use Rattle.machine.specs.Steps.{all_steps};
 ghost use Rattle.schedule_states.specs.Ending.{GoesBy, IsStuckBehind};
 ghost use Rattle.std.specs.Prelude.{◌≡◌, ◌<◌, ◌^◌, None, IfOk, IfSome};
 
-use crate::following::Follower;
+use crate::follower::Follower;
 use crate::outcome::{Bound, Finding, Outcome};
 use crate::run_judge::RunJudge;
 use crash_test::record_run;
@@ -139,11 +139,7 @@ fn run_of(
 }
 
 /// The run of the setup by a schedule; None where it has over 65,536 events.
-fn recorded(
-    alloc: Global,
-    setup: &Setup,
-    schedule: &Schedule,
-) -> Result<Option<Run>, AllocError>
+fn recorded(alloc: Global, setup: &Setup, schedule: &Schedule) -> Result<Option<Run>, AllocError>
     requires few { hart_steps schedule.now < 2 ^ 32 }
     ensures { IfOk result (λ found. IfSome found (IsRunBy setup.now schedule.now)) }
 {
@@ -262,11 +258,7 @@ fn stuck_run(alloc: Global, setup: &Setup, requests: &[u32]) -> Result<Option<Ru
 }
 
 /// The schedule of these requests.
-fn schedule_behind(
-    alloc: Global,
-    setup: Setup,
-    requests: &[u32],
-) -> Result<Schedule, StepFault>
+fn schedule_behind(alloc: Global, setup: Setup, requests: &[u32]) -> Result<Schedule, StepFault>
     ensures few { IfOk result (λ schedule. hart_steps schedule < 2 ^ 32) }
     ensures goes { IfOk result (λ schedule. (end : AConfig) × RunsTo (start_of setup) (all_steps schedule) end × GoesBy requests.now (start_of setup) end) }
 {

@@ -1,6 +1,6 @@
 -- From which states of a program an end can be reached.
 -- Source: Clarke, Grumberg, Peled, Model Checking, 1999, chapter 3: AG EF of an end; where it fails harts wait for each other, or go round for ever.
-use Rattle.std.specs.Prelude.{◌≡◌, ◌≢◌, ◌↔◌, ◌<◌, ℕ, zero, suc, Bool, true, List, [], ◌∷◌, Option, Some, None, length, slice_get, slice_index_or}
+use Rattle.std.specs.Prelude.{◌≡◌, ◌≢◌, ◌↔◌, ◌<◌, ℕ, zero, suc, Bool, List, [], ◌∷◌, Option, Some, None, length, slice_get, slice_index_or}
 use Rattle.hart.specs.declared.state.HartState.{HartState}
 use Rattle.hart.specs.declared.state.Status.TheVariants.{Running}
 use Rattle.machine.specs.Replies.{trace_in}

@@ -10,8 +10,8 @@ returns g c = record {
       (λ all. all_pass c.args.plan.now.operations c.args.setup.now c.args.limits.any_end all.0) good) c.explore.ensures.good;
   whole = λ asked. IfOk-weaker c.explore.result _ _ (λ explored good. all_told explored _ _
       (λ all.
-          let well : AllEndWell c.args.setup.now = all_end_well c.args.plan.now.operations c.args.setup.now c.args.limits.any_end all.0 asked in
-          (well, all_can_end c.args.setup.now well (all.1 asked))) good) c.explore.ensures.good;
+      let well : AllEndWell c.args.setup.now = all_end_well c.args.plan.now.operations c.args.setup.now c.args.limits.any_end all.0 asked in
+      (well, all_can_end c.args.setup.now well (all.1 asked))) good) c.explore.ensures.good;
   stuck = IfOk-weaker c.explore.result _ _ (λ explored is. is.1) c.explore.ensures.requests;
   told = c.explore.ensures.told;
 }

@@ -19,8 +19,8 @@ returns g c =
       begins = c.explore.ensures.kept.0.2;
       whole = λ asked. all_told c.in_ok-explored.explored _ _
           (λ good.
-              let well : AllEndWell c.args.setup.now = all_ends c.args.setup.now program judge.recovery.steps notes c.args.limits.any_end good.0 asked in
-              (well, all_can_end c.args.setup.now well (good.1 asked))) c.in_ok-explored.ensures.good;
+          let well : AllEndWell c.args.setup.now = all_ends c.args.setup.now program judge.recovery.steps notes c.args.limits.any_end good.0 asked in
+          (well, all_can_end c.args.setup.now well (good.1 asked))) c.in_ok-explored.ensures.good;
       stuck = c.in_ok-explored.ensures.requests.1;
       told = c.explore.ensures.told;
     }

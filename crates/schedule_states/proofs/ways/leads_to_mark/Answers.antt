@@ -1,4 +1,4 @@
-use Rattle.std.proofs.Common.{◌≡◌, ◌<◌, ℕ, true, false, List, [], length, slice_index_or, inl, inr, subst, sym, arith, rules}
+use Rattle.std.proofs.Common.{◌≡◌, ◌<◌, ℕ, true, false, List, [], length, slice_index_or, inl, inr, subst, arith, rules}
 use Rattle.std.proofs.lemmas.Bool.{cases_eq}
 use Rattle.schedule_states.proofs.Marking.{marked_there, unmarked_there, way_is, way_of}
 use Rattle.schedule_states.specs.Ways.{IsMarked}

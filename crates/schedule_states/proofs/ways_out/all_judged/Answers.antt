@@ -3,7 +3,6 @@ use Rattle.std.proofs.lemmas.Result.{IfOk-weaker}
 use Rattle.schedule_states.proofs.Ending.{each_can_end, leads_nowhere}
 use Rattle.schedule_states.proofs.Judging.{nowhere_more, told_all}
 use Rattle.schedule_states.proofs.Turning.{turns_inside}
-use Rattle.schedule_states.specs.WaysOut.{AreAllTurns}
 use Rattle.schedule_states.proofs.ways_out.all_judged.Goals as goal
 
 pub stuck_state-requires-clause-inside : goal.stuck_state-requires-clause-inside

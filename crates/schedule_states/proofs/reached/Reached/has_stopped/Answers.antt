@@ -1,4 +1,4 @@
-use Rattle.std.proofs.Common.{◌≡◌, rules}
+use Rattle.std.proofs.Common.{rules}
 use Rattle.std.proofs.lemmas.Option.{slice_get_within}
 use Rattle.schedule_states.proofs.Ending.{running_part, stopped_more, stopped_parts}
 use Rattle.schedule_states.proofs.reached.Reached.has_stopped.Goals as goal

@@ -1,5 +1,5 @@
 use Rattle.every_schedule.proofs.Asking.{quiet_begun, quiet_twice}
-use Rattle.every_schedule.proofs.following.Follower.run_all_ahead.Goals as goal
+use Rattle.every_schedule.proofs.follower.Follower.run_all_ahead.Goals as goal
 
 pub loop-hart-init : goal.loop-hart-init
 loop-hart-init c = quiet_begun c.args.self.now

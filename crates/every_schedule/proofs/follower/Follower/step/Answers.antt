@@ -1,7 +1,7 @@
 use Rattle.std.proofs.Common.{◌+◌, ap, ◌∙◌, arith}
 use Rattle.every_schedule.proofs.Asking.{stepped}
 use Rattle.every_schedule.proofs.Counting.{step_counted}
-use Rattle.every_schedule.proofs.following.Follower.step.Goals as goal
+use Rattle.every_schedule.proofs.follower.Follower.step.Goals as goal
 
 pub invariant_of-self-in-Ok : goal.invariant_of-self-in-Ok
 invariant_of-self-in-Ok c = record {
