@@ -15,6 +15,7 @@ use Rattle.every_schedule.specs.declared.outcome.Finding.{Finding}
 use Rattle.every_schedule.specs.declared.outcome.Finding.TheVariants as findings
 use Rattle.every_schedule.specs.declared.outcome.Outcome.{Outcome}
 use Rattle.every_schedule.specs.declared.outcome.Outcome.TheVariants as outcomes
+use Rattle.machine.specs.declared.schedule.items.Item.{Item}
 use Rattle.report.specs.Causes.{unfinished_text}
 use Rattle.schedule_states.specs.Watching.{HasHeard}
 use Rattle.unfinished.specs.declared.unfinished.Unfinished.{Unfinished}
@@ -99,6 +100,15 @@ pub record Telling (Cause Fault : Type 0) : Type 1 where
 abbrev pub told_by : {Cause Fault : Type 0} → (List (List ℕ) → List ℕ → Type 0) → (Cause → List ℕ) → (Fault → Refusal) → Telling Cause Fault
 told_by reads cause refused = record { reads = reads; cause = cause; refused = refused }
 
+-- `no way out`, or `{"kind":"no way out"}`
+abbrev pub stuck_line : Bool → List ℕ
+stuck_line true = codes "{\"kind\":\"no way out\"}" ++ line_end
+stuck_line false = codes "no way out" ++ line_end
+
+-- behind this schedule there is none
+abbrev pub told_stuck : Bool → List Item → List ℕ
+told_stuck json schedule = stuck_line json ++ named_schedule json (codes "schedule") schedule
+
 -- the lines of a verdict on a run that was found: the verdict, the schedule of the run, and what a failing image lacks and keeps, where that is
 -- explained
 abbrev pub told_run : {Cause : Type 0} → (Cause → List ℕ) → Bool → MadeRun → Verdict Cause → Option ExplainedImage → List ℕ
@@ -124,6 +134,7 @@ TellsFinding telling judged made (findings.Refused fault) =
     Concludes (IsRefused (named_schedule judged.json (codes "schedule") made.run.schedule) (λ failure. failure ≡ failures.Refused (telling.refused fault)))
 TellsFinding telling judged made (findings.NotWhole causes) =
     Concludes (IsRefused (named_schedule judged.json (codes "schedule") made.run.schedule) (ReportsCauses made.file.items causes.items))
+TellsFinding telling judged made findings.NoWayOut = Concludes (IsAnswered (told_stuck judged.json made.run.schedule) 1)
 
 -- what is printed of what the search found
 abbrev pub TellsOutcome : {Cause Fault : Type 0} → Telling Cause Fault → JudgedProgram → Vec ℕ Global → Outcome Cause Fault → Result Conclusion Failure

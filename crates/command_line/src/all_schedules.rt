@@ -1,6 +1,6 @@
 //! What is printed of what was found of every schedule of a program, whatever judges a run.
 
-ghost use Rattle.command_line.specs.AllSchedules.{Concludes, IsAnswered, IsOfFile, IsRefused, TellsFinding, TellsOutcome, TellsVerdict, bound_json, bound_line, told_bound, told_by, told_pass, told_run};
+ghost use Rattle.command_line.specs.AllSchedules.{Concludes, IsAnswered, IsOfFile, IsRefused, TellsFinding, TellsOutcome, TellsVerdict, bound_json, bound_line, stuck_line, told_bound, told_by, told_pass, told_run, told_stuck};
 ghost use Rattle.command_line.specs.Naming.{named_schedule};
 ghost use Rattle.command_line.specs.Reasons.{HasFewSteps};
 ghost use Rattle.crash_test.specs.Programs.{IsProgramOf};
@@ -82,6 +82,7 @@ fn told_finding<C: ToldCause, F: ToldFault, R: Reader>(
             let text = causes_text(alloc, &made.file, &causes)?;
             refused(alloc, &made.run, Failure::Unfinished(text), judged.json)
         }
+        Finding::NoWayOut => answered(told_stuck(alloc, &made.run, judged.json), 1),
     }
 }
 
@@ -98,6 +99,27 @@ fn schedule_of(alloc: Global, run: &Run, json: bool) -> Result<String, AllocErro
     ensures { IfOk result (λ text. string_bytes text ≡ named_schedule json (codes "schedule") run.now.schedule) }
 {
     named_schedule(alloc, "schedule", run.recorded().schedule(), json)
+}
+
+/// `no way out`, and the schedule behind which there is none.
+fn told_stuck(alloc: Global, run: &Run, json: bool) -> Result<String, AllocError>
+    ensures { IfOk result (λ text. string_bytes text ≡ told_stuck json run.now.schedule) }
+{
+    let mut text = stuck_line(alloc, json)?;
+    let schedule = schedule_of(alloc, run, json)?;
+    text.push_str(schedule.as_str())?;
+    Ok(text)
+}
+
+/// `no way out`, or `{"kind":"no way out"}`.
+fn stuck_line(alloc: Global, json: bool) -> Result<String, AllocError>
+    ensures { IfOk result (λ text. string_bytes text ≡ stuck_line json) }
+{
+    if json {
+        format!(in alloc; "{{\"kind\":\"no way out\"}}\n")
+    } else {
+        format!(in alloc; "no way out\n")
+    }
 }
 
 /// A verdict on a run that isn't a pass; of a failing image what it lacks and keeps, where that is asked for.

@@ -1,16 +1,18 @@
 -- What holds of every schedule where all states are good.
-use Rattle.std.proofs.Common.{◌≡◌, ℕ, Bool, false, List, subst}
+use Rattle.std.proofs.Common.{◌≡◌, ℕ, Bool, false, List, ◌++◌, subst}
 use Rattle.crash_test.specs.Checking.{Recovers}
 use Rattle.hart.specs.declared.state.Status.{Status}
 use Rattle.hart.specs.declared.state.Status.TheVariants.{Exited}
 use Rattle.image_check.specs.Images.{IsGood, Passes}
 use Rattle.image_check.specs.PlanStates.{IsPlanState}
 use Rattle.image_check.specs.declared.plan_state.PlanState.{PlanState}
+use Rattle.machine.proofs.RunParts.{run_joined}
 use Rattle.machine.specs.Replies.{trace_in}
 use Rattle.machine.specs.RunValues.{start_of}
 use Rattle.machine.specs.declared.recording.setup.Setup.{Setup}
 use Rattle.nova_log.specs.Volumes.{volume_of}
 use Rattle.plan.specs.declared.operation.Operation.{Operation}
+use Rattle.schedule_states.specs.Ending.{AlwaysEnds, CanEnd}
 use Rattle.schedule_states.specs.Exploring.{IfAll}
 use Rattle.schedule_states.specs.Judging.{AlwaysGood}
 use Rattle.schedule_states.specs.declared.exploring.Explored.{Explored}
@@ -22,7 +24,7 @@ use Rattle.store_trace.specs.History.{history}
 use Rattle.store_trace.specs.declared.event.Event.{Event}
 use Rattle.witness.proofs.HartRuns.{run_start}
 use Rattle.witness.proofs.Leaving.{leaves_a_cut}
-use Rattle.every_schedule.specs.EverySchedule.{AllEndWell, AllPass, AllSurvive, IfPass}
+use Rattle.every_schedule.specs.EverySchedule.{AllCanEnd, AllEndWell, AllPass, AllSurvive, IfPass}
 use Rattle.every_schedule.specs.Showing.{PassesNot}
 use Rattle.every_schedule.specs.declared.outcome.Outcome.{Outcome}
 use Rattle.every_schedule.specs.declared.outcome.Outcome.TheVariants as outcomes
@@ -43,6 +45,16 @@ all_pass plan s any_end good steps end runs =
 pub all_end_well : (plan : List Operation) (s : Setup) (any_end : Bool) → AreAllGood plan s any_end → any_end ≡ false → AllEndWell s
 all_end_well plan s any_end good asked steps end h hart runs here stopped = (good steps end runs (λ before after k c is led. tt)).2 h hart here stopped asked
 
+-- where one can always come to an end, and harts end well, each can exit
+pub all_can_end : (s : Setup) → AllEndWell s → AlwaysEnds s.program s.medium s.harts → AllCanEnd s
+all_can_end s well ends steps c runs =
+    let end : CanEnd c = ends steps c runs in (
+      end.steps,
+      end.end,
+      end.runs,
+      λ h hart here. well (steps ++ end.steps) end.end h hart (run_joined (start_of s) c end.end steps end.steps runs end.runs) here (end.stopped h hart here),
+    )
+
 -- the image of a cut recovers where each cut passes
 cut_recovers : (plan : List Operation) (start : List (List ℕ)) (events : List Event) (left : List (List ℕ)) → IsCutImage start (history events) left →
     ((cut : List (ℕ × ℕ)) → IsCut (history events) cut → Passes plan start events cut) → Recovers plan start events left
@@ -62,6 +74,7 @@ all_survive plan s passes machine steps end runs stands =
 pub all_told : (explored : Explored) (one other : Type 0) → (one → other) → IfAll explored one → IfAll explored other
 all_told (known.All states moments) one other so is = so is
 all_told (known.Found stop requests) one other so is = tt
+all_told (known.NoWayOut requests) one other so is = tt
 all_told known.TooMany one other so is = tt
 
 -- an outcome that is no pass claims nothing of all schedules

@@ -1,4 +1,5 @@
 pub mod Answering
+pub mod Asking
 pub mod Cutting
 pub mod Counting
 pub mod Judged

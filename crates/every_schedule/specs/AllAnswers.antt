@@ -25,7 +25,7 @@ use Rattle.store_trace.specs.Marks.{begun}
 use Rattle.store_trace.specs.declared.event.Event.{Event}
 use Rattle.verdict.specs.declared.moment_verdict.verdict.Verdict.{Verdict}
 use Rattle.verdict.specs.declared.moment_verdict.verdict.Verdict.TheVariants as verdicts
-use Rattle.every_schedule.specs.EverySchedule.{IsBadlyStopped, IsFoundBy, all_moments}
+use Rattle.every_schedule.specs.EverySchedule.{IsBadlyStopped, IsFoundBy, IsStuck, all_moments}
 use Rattle.every_schedule.specs.Sequential.{program_of}
 use Rattle.every_schedule.specs.declared.outcome.Finding.{Finding}
 use Rattle.every_schedule.specs.declared.outcome.Finding.TheVariants as findings
@@ -83,11 +83,12 @@ abbrev pub IsWrongThat : Verdict Cause → Finding Cause MarkFault → Type 0
 IsWrongThat verdict finding = (finding ≡ findings.Verdict verdict) × IsWrong verdict
 
 -- This is said of one run of the program: its verdict, its first wrong mark, or that it begins no operation, or what keeps it from being whole,
--- where a hart has stopped badly.
+-- where a hart has stopped badly, or that it is stuck.
 abbrev pub IsSaidByRoutine : ProgramView → RunView → Finding Cause MarkFault → Type 0
 IsSaidByRoutine view run (findings.Verdict verdict) = HasJudgement run (judged_atomically view) all_moments verdict × IsWrong verdict
 IsSaidByRoutine view run (findings.Refused fault) = IsFault BetweenHarts run.events fault × (fault ≢ Memory)
 IsSaidByRoutine view run (findings.NotWhole causes) = IsBadlyStopped [] run causes.items
+IsSaidByRoutine view run findings.NoWayOut = IsStuck run
 
 -- what was found is said of a run of the setup
 abbrev pub IsFoundByRoutine : ProgramView → Setup → Outcome Cause MarkFault → Type 0

@@ -15,10 +15,12 @@ use Rattle.machine.specs.Replies.{trace_in}
 use Rattle.machine.specs.Represents.{MachineView, Represents}
 use Rattle.machine.specs.Run.{Config, RunsTo}
 use Rattle.machine.specs.RunValues.{RunView, start_of}
+use Rattle.machine.specs.Steps.{all_steps}
 use Rattle.machine.specs.declared.recording.setup.Setup.{Setup}
 use Rattle.machine.specs.declared.schedule.items.Item.{Item}
 use Rattle.machine.specs.declared.schedule.items.Step.{Step}
 use Rattle.plan.specs.declared.operation.Operation.{Operation}
+use Rattle.schedule_states.specs.Ending.{HasNoWayOut}
 use Rattle.store_trace.specs.Cut.{IsCut}
 use Rattle.store_trace.specs.History.{history}
 use Rattle.unfinished.specs.Causes.{AreCauses, numbers_of}
@@ -46,6 +48,14 @@ AllSurvive plan s = (machine : MachineView) (steps : List Step) (end : Config) �
 abbrev pub AllEndWell : Setup → Type 0
 AllEndWell s = (steps : List Step) (end : Config) (h : ℕ) (hart : HartState) → RunsTo (start_of s) steps end → slice_get end.harts h ≡ Some hart →
     hart.status ≢ Running → hart.status ≡ Exited 0
+
+-- each hart has exited with 0
+abbrev pub HaveExited : List HartState → Type 0
+HaveExited harts = (h : ℕ) (hart : HartState) → slice_get harts h ≡ Some hart → hart.status ≡ Exited 0
+
+-- Whatever schedule has been run, some schedule leads on to where each hart has exited with 0.
+abbrev pub AllCanEnd : Setup → Type 0
+AllCanEnd s = (steps : List Step) (c : Config) → RunsTo (start_of s) steps c → (more : List Step) × (end : Config) × RunsTo c more end × HaveExited end.harts
 
 -- the claim holds where all schedules pass
 abbrev pub IfPass : {C F : Type 0} → Outcome C F → Type 0 → Type 0
@@ -75,11 +85,16 @@ is_bad_stop (Trapped trap) = true
 abbrev pub IsBadlyStopped : List ℕ → RunView → List Unfinished → Type 0
 IsBadlyStopped planned run causes = AreCauses planned run.harts run.events causes × (list_any (λ hart. is_bad_stop hart.status) run.harts ≡ true)
 
--- this is said of one run: its verdict, its first wrong mark, or what keeps it from being whole, where a hart has stopped badly
+-- no schedule leads on from the end of the run to where each hart has stopped
+abbrev pub IsStuck : RunView → Type 0
+IsStuck run = (end : Config) → RunsTo (start_of run.setup) (all_steps run.schedule) end → HasNoWayOut end
+
+-- this is said of one run: its verdict, its first wrong mark, what keeps it from being whole, where a hart has stopped badly, or that it is stuck
 abbrev pub IsSaidOf : List Operation → RunView → Finding Cause OpFault → Type 0
 IsSaidOf plan run (findings.Verdict verdict) = HasVerdict plan run all_moments verdict × IsNoPass verdict
 IsSaidOf plan run (findings.Refused fault) = IsFirstFault plan run.events fault
 IsSaidOf plan run (findings.NotWhole causes) = IsBadlyStopped (numbers_of plan) run causes.items
+IsSaidOf plan run findings.NoWayOut = IsStuck run
 
 -- a run of this setup by some schedule
 abbrev pub IsRunOf : Setup → RunView → Type 0

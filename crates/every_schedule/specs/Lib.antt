@@ -1,5 +1,6 @@
 pub mod AllAnswers
 pub mod EverySchedule
+pub mod Following
 pub mod KeptRuns
 pub mod Sequential
 pub mod Showing

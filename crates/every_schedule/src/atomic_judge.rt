@@ -57,6 +57,8 @@ impl StateJudge for AtomicJudge<'_> {
 
     ghost ends = { λ s status. s.any_end ≡ false → status ≡ Status.Exited 0 };
 
+    ghost demands = { λ s. s.any_end ≡ false };
+
     ghost fits = { λ s lines notes. (notes.answers.program ≡ s.recovery.program.now) × (notes.answers.lines ≡ lines)
         × (notes.has_begun ≡ true → SomeBegins s.setup.now) };
 
@@ -113,6 +115,10 @@ impl StateJudge for AtomicJudge<'_> {
 
     fn may_end(&self, status: Status) -> bool {
         self.any_end || status == Status::Exited(0)
+    }
+
+    fn must_end(&self) -> bool {
+        !self.any_end
     }
 
     ghost unmarked = { λ s precedence events event plain kept.

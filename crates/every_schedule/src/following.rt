@@ -1,14 +1,19 @@
 //! A machine that makes the requests that a search has made, and the schedule of its steps.
 
+ghost use Rattle.every_schedule.specs.Following.{Follows, HasCome};
 ghost use Rattle.machine.specs.Grammar.{hart_steps};
-ghost use Rattle.std.specs.Prelude.{◌≡◌, ◌≤◌, ◌<◌, ◌^◌};
+ghost use Rattle.machine.specs.Represents.{Represents};
+ghost use Rattle.machine.specs.Run.{Config as AConfig, StepsTo};
+ghost use Rattle.machine.specs.RunValues.{start_of};
+ghost use Rattle.machine.specs.declared.schedule.items.Step.{Step as AStep};
+ghost use Rattle.schedule_states.specs.Ending.{GoesAsking, GoesBy, IsQuiet};
+ghost use Rattle.schedule_states.specs.States.{AsksTo};
+ghost use Rattle.std.specs.Prelude.{◌≡◌, ◌<◌, ◌^◌, true, IfOk, OnOk};
 
+use crate::follower::{Follower, MOST_STEPS};
 use hart::Need;
 use machine::{Machine, Schedule, Setup, Step, StepFault};
 use std::alloc::Global;
-
-/// How many steps a schedule has at most that shows what a search has found.
-const MOST_STEPS: u32 = 1_000_000_000;
 
 /// How many steps a hart makes in its turn, behind what a search has found.
 const STEPS_OF_TURN: u32 = 16;
@@ -16,20 +21,11 @@ const STEPS_OF_TURN: u32 = 16;
 /// How many turns all harts together have at most.
 const TURNS: u32 = 1_250;
 
-/// A machine, and the schedule of the steps that it has made.
-#[derive(Drop)]
-pub(crate) struct Follower {
-    machine: Machine,
-    schedule: Schedule,
-    /// How many steps those are.
-    made: u32,
-    ghost few: { made ≤ 1000000000 },
-    ghost count: { hart_steps schedule ≡ made },
-}
-
 impl Follower {
     /// Of a setup, before any step.
-    pub(crate) fn new(alloc: Global, setup: Setup) -> Result<Follower, StepFault> {
+    pub(crate) fn new(alloc: Global, setup: Setup) -> Result<Follower, StepFault>
+        ensures { IfOk result (λ follower. HasCome setup follower (start_of setup)) }
+    {
         let Setup {
             program,
             medium,
@@ -45,7 +41,8 @@ impl Follower {
 
     /// The schedule of the steps so far.
     pub(crate) fn into_schedule(self) -> Schedule
-        ensures { hart_steps result < 2 ^ 32 }
+        ensures few { hart_steps result < 2 ^ 32 }
+        ensures same { result ≡ self.schedule }
     {
         self.schedule
     }
@@ -58,14 +55,43 @@ impl Follower {
         Ok(())
     }
 
-    /// Makes the steps of a hart up to its next request, and that.
-    pub(crate) fn make_request(&mut self, hart: u32) -> Result<(), StepFault> {
+    /// Lets all harts run ahead, and makes the requests of these, behind each of which its hart runs ahead again.
+    pub(crate) fn run_through(&mut self, harts: &[u32]) -> Result<(), StepFault>
+        ensures { OnOk result (Follows (GoesBy harts.now) self.old self.new) }
+    {
+        self.run_all_ahead()?;
+        for hart in harts {
+            self.make_request(*hart)?;
+            self.run_ahead(*hart)?;
+        }
+        Ok(())
+    }
+
+    /// Lets all harts run ahead.
+    fn run_all_ahead(&mut self) -> Result<(), StepFault>
+        ensures { OnOk result (Follows IsQuiet self.old self.new) }
+    {
+        for hart in 0..self.machine.harts() {
+            self.run_ahead(hart)?;
+        }
+        Ok(())
+    }
+
+    /// Makes the steps of a hart up to its next request, and that. A hart that makes none counts as one that isn't there.
+    pub(crate) fn make_request(&mut self, hart: u32) -> Result<(), StepFault>
+        ensures { OnOk result (Follows (GoesAsking hart) self.old self.new) }
+    {
         self.run_ahead(hart)?;
+        if !self.is_asking(hart) {
+            return Err(StepFault::NoSuchHart);
+        }
         self.step(hart)
     }
 
     /// Makes the steps of its registers alone that a hart makes up to its next request, or to where it stops.
-    pub(crate) fn run_ahead(&mut self, hart: u32) -> Result<(), StepFault> {
+    pub(crate) fn run_ahead(&mut self, hart: u32) -> Result<(), StepFault>
+        ensures { OnOk result (Follows IsQuiet self.old self.new) }
+    {
         for _step in 0..MOST_STEPS {
             if !self.is_alone(hart) {
                 return Ok(());
@@ -101,8 +127,23 @@ impl Follower {
         Ok(())
     }
 
+    /// Whether the next step of a hart is a request.
+    fn is_asking(&self, hart: u32) -> bool
+        ensures { result ≡ true → (c d : AConfig) → Represents self.now.machine c → StepsTo c (AStep.Hart hart) d → AsksTo c hart d }
+    {
+        if hart >= self.machine.harts() || self.machine.has_stopped(hart) {
+            return false;
+        }
+        match self.machine.need(hart) {
+            Need::Ask(_) => true,
+            Need::Local(_) | Need::Stop(_) => false,
+        }
+    }
+
     /// Whether the next step of a hart is one of its registers alone.
-    fn is_alone(&self, hart: u32) -> bool {
+    fn is_alone(&self, hart: u32) -> bool
+        ensures { result ≡ true → (c d : AConfig) → Represents self.now.machine c → ¬ AsksTo c hart d }
+    {
         if hart >= self.machine.harts() || self.machine.has_stopped(hart) {
             return false;
         }
@@ -113,7 +154,9 @@ impl Follower {
     }
 
     /// Makes a step of a hart. Too many steps count as a full trace.
-    fn step(&mut self, hart: u32) -> Result<(), StepFault> {
+    fn step(&mut self, hart: u32) -> Result<(), StepFault>
+        ensures { OnOk result (Follows (λ c d. StepsTo c (AStep.Hart hart) d) self.old self.new) }
+    {
         if self.made >= MOST_STEPS {
             return Err(StepFault::TraceFull);
         }

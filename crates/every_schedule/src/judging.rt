@@ -1,9 +1,11 @@
 //! The verdict over every schedule, by a recovery routine.
 
 ghost use Rattle.every_schedule.specs.AllAnswers.{AllAnswer, AllAnswerOnMachines, IsFoundByRoutine, IsOfSetup, SomeBegins};
-ghost use Rattle.every_schedule.specs.EverySchedule.{AllEndWell, IfPass};
+ghost use Rattle.every_schedule.specs.EverySchedule.{AllCanEnd, AllEndWell, IfPass};
 ghost use Rattle.every_schedule.specs.Sequential.{program_of};
-ghost use Rattle.schedule_states.specs.Exploring.{IfAll};
+ghost use Rattle.machine.specs.RunValues.{start_of};
+ghost use Rattle.schedule_states.specs.Ending.{IsStuckBehind};
+ghost use Rattle.schedule_states.specs.Exploring.{IfAll, IfNoWayOut};
 ghost use Rattle.schedule_states.specs.Watching.{HasHeard};
 ghost use Rattle.std.specs.Prelude.{◌≡◌, ◌≤◌, false, true, IfOk};
 
@@ -12,7 +14,7 @@ use crate::checking::Limits;
 use crate::outcome::{Bound, Outcome};
 use crate::routine_run::RoutineRun;
 use crate::sequential::{Recovery, Sequential, sequential_runs};
-use crate::showing::{Sought, show};
+use crate::showing::{Sought, show, show_stuck};
 use machine::Setup;
 use routine_judge::{Cause, MarkFault, ProgramRuns};
 use schedule_states::{Explored, Start, StateJudge, Watcher, explore};
@@ -24,8 +26,8 @@ use std::thread::Threads;
 /// sequential run of the program that fits has it, on what loads find behind that run.
 ///
 /// A pass speaks of all schedules, and their number has no bound. What is found comes with a run, of which `judge_program` by
-/// `Rule::Atomic`, or `find_unfinished`, says the same. Its schedule has the fewest requests up to where that shows. The sequential runs are
-/// searched first. Both searches together meet at most `states` states. Whoever watches hears how many the second one has met, and how many
+/// `Rule::Atomic`, or `find_unfinished`, says the same, or from whose end no schedule goes on to where all harts have stopped. Its schedule
+/// has the fewest requests up to where that shows. The sequential runs are searched first. Both searches together meet at most `states` states. Whoever watches hears how many the second one has met, and how many
 /// of them wait.
 ///
 /// # Errors
@@ -44,8 +46,8 @@ pub fn judge_all<T: Threads + Sync, W: Watcher>(
         × SomeBegins setup)) }
     // so it does on what it leaves of any machine, with a cache of any size
     ensures survives { IfOk result (λ outcome. IfPass outcome (AllAnswerOnMachines (program_of setup recovery.entry.program.now recovery.entry.steps))) }
-    // no hart has trapped, or exited with another code than 0
-    ensures whole { limits.any_end ≡ false → IfOk result (λ outcome. IfPass outcome (AllEndWell setup)) }
+    // no hart has trapped, or exited with another code than 0; and some schedule goes on to where all have exited
+    ensures whole { limits.any_end ≡ false → IfOk result (λ outcome. IfPass outcome (AllEndWell setup × AllCanEnd setup)) }
     // what was found is what is said of one run alone
     ensures found { IfOk result (IsFoundByRoutine (program_of setup recovery.entry.program.now recovery.entry.steps) setup) }
     ensures told { HasHeard W.hears watcher.old watcher.new }
@@ -90,7 +92,7 @@ fn judge_by<T: Threads + Sync, W: Watcher>(
     requires few { setup.now.harts ≤ 8 }
     requires runs { IsOfSetup judge setup.now }
     ensures pass { IfOk result (λ outcome. IfPass outcome (AllAnswer (program_of setup.now judge.entry.recovery.program.now judge.entry.recovery.steps) × SomeBegins setup.now)) }
-    ensures whole { limits.any_end ≡ false → IfOk result (λ outcome. IfPass outcome (AllEndWell setup.now)) }
+    ensures whole { limits.any_end ≡ false → IfOk result (λ outcome. IfPass outcome (AllEndWell setup.now × AllCanEnd setup.now)) }
     ensures found { IfOk result (IsFoundByRoutine (program_of setup.now judge.entry.recovery.program.now judge.entry.recovery.steps) setup.now) }
     ensures told { HasHeard W.hears watcher.old watcher.new }
 {
@@ -105,6 +107,7 @@ fn judge_by<T: Threads + Sync, W: Watcher>(
             let sought = Sought::behind(stop, &requests);
             show(rt, alloc, &judge, setup, sought)
         }
+        Explored::NoWayOut { requests } => show_stuck(alloc, &judge, setup, &requests),
         Explored::TooMany => Ok(Outcome::TooMany(Bound::States)),
     }
 }
@@ -130,7 +133,8 @@ fn search<T: Threads + Sync, W: Watcher>(
     requires runs { IsOfSetup judge setup.now }
     ensures pass { IfOk result (λ searched. IfAll searched.explored (AllAnswer (program_of setup.now judge.entry.recovery.program.now judge.entry.recovery.steps))) }
     ensures begins { IfOk result (λ searched. searched.has_begun ≡ true → SomeBegins setup.now) }
-    ensures whole { limits.any_end ≡ false → IfOk result (λ searched. IfAll searched.explored (AllEndWell setup.now)) }
+    ensures whole { limits.any_end ≡ false → IfOk result (λ searched. IfAll searched.explored (AllEndWell setup.now × AllCanEnd setup.now)) }
+    ensures stuck { IfOk result (λ searched. IfNoWayOut searched.explored (λ requests. IsStuckBehind requests (start_of setup.now))) }
     ensures told { HasHeard W.hears watcher.old watcher.new }
 {
     let atomic = AtomicJudge {

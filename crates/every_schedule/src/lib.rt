@@ -6,6 +6,7 @@
 
 mod atomic_judge;
 mod checking;
+mod follower;
 mod following;
 mod judging;
 mod outcome;

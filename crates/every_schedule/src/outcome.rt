@@ -7,7 +7,8 @@ use verdict::Verdict;
 /// What is found out about every schedule of a program. `Cause` is why an image is bad, and `Fault` why a mark is wrong.
 #[derive(Drop)]
 pub enum Outcome<Cause, Fault> {
-    /// Whatever the schedule: marks are right, what a power cut leaves is good, and harts stop as they may.
+    /// Whatever the schedule: marks are right, what a power cut leaves is good, and harts stop as they may. Unless any end will do, some
+    /// schedule goes on to where all have stopped.
     Pass {
         /// How many states stand for all schedules.
         states: usize,
@@ -32,6 +33,9 @@ pub enum Finding<Cause, Fault> {
     Refused(Fault),
     /// The run isn't whole, for these causes.
     NotWhole(Vec<Unfinished>),
+    /// No schedule goes on from the end of the run to where all harts have stopped, however long: they wait for each other, or go round for
+    /// ever.
+    NoWayOut,
 }
 
 /// What there is too much of.

@@ -43,6 +43,8 @@ impl StateJudge for PlanJudge<'_> {
 
     ghost ends = { λ s status. s.any_end ≡ false → status ≡ Status.Exited 0 };
 
+    ghost demands = { λ s. s.any_end ≡ false };
+
     ghost fits = { λ s lines workspace. workspace ≡ lines };
 
     fn start(&self, alloc: Global) -> Result<PlanState, AllocError> {
@@ -73,6 +75,10 @@ impl StateJudge for PlanJudge<'_> {
 
     fn may_end(&self, status: Status) -> bool {
         self.any_end || status == Status::Exited(0)
+    }
+
+    fn must_end(&self) -> bool {
+        !self.any_end
     }
 
     fn judge<T: Threads + Sync>(

@@ -57,6 +57,8 @@ impl RunJudge for PlanRun<'_> {
         let causes = unfinished_in(alloc, self.plan.operations(), run)?;
         Ok(causes.map(Finding::NotWhole))
     }
+
+    ghost stuck = { λ s run is. is };
 }
 
 /// The verdict, unless it is a pass.

@@ -65,6 +65,8 @@ impl RunJudge for RoutineRun<'_> {
         let causes = unfinished_in(alloc, &[], run)?;
         Ok(causes.map(Finding::NotWhole))
     }
+
+    ghost stuck = { λ s run is. is };
 }
 
 /// The verdict, unless it is a pass.

@@ -15,6 +15,7 @@ use unfinished::{Unfinished, find_unfinished};
 
 /// Who says of one run alone what is wrong with it.
 pub trait RunJudge {
+    ghost use Rattle.every_schedule.specs.EverySchedule.{IsStuck};
     ghost use Rattle.every_schedule.specs.declared.outcome.Finding.{Finding as AFinding};
     ghost use Rattle.machine.specs.RunValues.{RunView};
     ghost use Rattle.std.specs.Prelude.{IfOk, IfSome};
@@ -50,6 +51,9 @@ pub trait RunJudge {
         run: &Run,
     ) -> Result<Option<Finding<Self::Cause, Self::Fault>>, AllocError>
         ensures { IfOk result (λ found. IfSome found (says self.now run.now)) };
+
+    /// It is said of a run from whose end one can't come to an end.
+    ghost stuck: { (s : Self) (run : RunView) → IsStuck run → says s run AFinding.NoWayOut };
 }
 
 /// What keeps the run from being whole where these operations are planned, if that is a hart that has stopped otherwise than by an exit with 0.

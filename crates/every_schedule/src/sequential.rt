@@ -82,6 +82,8 @@ fn noted_by(explored: &Explored, notes: Notes) -> Sequential
             stop: Stop::TooLong(_),
             ..
         } => Sequential::TooMany(Bound::Steps),
-        Explored::Found { .. } | Explored::TooMany => Sequential::TooMany(Bound::Sequential),
+        Explored::Found { .. } | Explored::NoWayOut { .. } | Explored::TooMany => {
+            Sequential::TooMany(Bound::Sequential)
+        }
     }
 }

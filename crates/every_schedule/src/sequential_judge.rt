@@ -48,6 +48,8 @@ impl StateJudge for SequentialJudge<'_> {
 
     ghost ends = { λ s status. Unit {0} };
 
+    ghost demands = { λ s. ⊥ };
+
     ghost fits = { λ s lines notes. (notes.answers.program ≡ s.recovery.now) × (notes.answers.lines ≡ lines)
         × AreOfProgram (program_of s.setup.now s.recovery.now s.steps) (notes_in notes.runs) };
 
@@ -101,6 +103,11 @@ impl StateJudge for SequentialJudge<'_> {
 
     fn may_end(&self, _status: Status) -> bool {
         true
+    }
+
+    /// An operation that waits for another one comes to no end, and gives no run.
+    fn must_end(&self) -> bool {
+        false
     }
 
     ghost unmarked = { λ s standing events event plain kept. kept_unmarked standing events event plain kept };

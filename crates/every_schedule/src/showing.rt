@@ -1,12 +1,16 @@
 //! A run that shows why a search has stopped.
 
-ghost use Rattle.every_schedule.specs.EverySchedule.{IsFoundBy, IsRunOf};
+ghost use Rattle.crash_test.specs.Runs.{IsRunBy};
+ghost use Rattle.every_schedule.specs.EverySchedule.{IsFoundBy, IsRunOf, IsStuck};
 ghost use Rattle.every_schedule.specs.Showing.{PassesNot};
 ghost use Rattle.machine.specs.Grammar.{hart_steps};
-ghost use Rattle.machine.specs.RunValues.{RunView};
+ghost use Rattle.machine.specs.Run.{Config as AConfig, RunsTo};
+ghost use Rattle.machine.specs.RunValues.{RunView, start_of};
+ghost use Rattle.machine.specs.Steps.{all_steps};
+ghost use Rattle.schedule_states.specs.Ending.{GoesBy, IsStuckBehind};
 ghost use Rattle.std.specs.Prelude.{◌≡◌, ◌<◌, ◌^◌, None, IfOk, IfSome};
 
-use crate::following::Follower;
+use crate::follower::Follower;
 use crate::outcome::{Bound, Finding, Outcome};
 use crate::run_judge::RunJudge;
 use crash_test::record_run;
@@ -131,8 +135,16 @@ fn run_of(
         Ok(None) => return Ok(None),
         Err(fault) => return none_by(fault),
     };
-    let recorded = copy_of(alloc, setup)?;
-    match record_run(alloc, recorded, &schedule) {
+    recorded(alloc, setup, &schedule)
+}
+
+/// The run of the setup by a schedule; None where it has over 65,536 events.
+fn recorded(alloc: Global, setup: &Setup, schedule: &Schedule) -> Result<Option<Run>, AllocError>
+    requires few { hart_steps schedule.now < 2 ^ 32 }
+    ensures { IfOk result (λ found. IfSome found (IsRunBy setup.now schedule.now)) }
+{
+    let setup = copy_of(alloc, setup)?;
+    match record_run(alloc, setup, schedule) {
         Ok(run) => Ok(Some(run)),
         Err(fault) => none_by(fault),
     }
@@ -208,7 +220,51 @@ fn shows<C, F>(why: Why, finding: &Finding<C, F>) -> bool {
         Finding::Verdict(_) => matches!(why, Why::Stop(Stop::Bad | Stop::TooManyBranches)),
         Finding::Refused(_) => matches!(why, Why::Stop(Stop::Refused(_)) | Why::NoOperation),
         Finding::NotWhole(_) => matches!(why, Why::Stop(Stop::Ended(_))),
+        Finding::NoWayOut => false,
     }
+}
+
+/// A run of the setup by requests behind which no schedule goes on to an end.
+pub(crate) fn show_stuck<J: RunJudge>(
+    alloc: Global,
+    judge: &J,
+    setup: &Setup,
+    requests: &[u32],
+) -> Result<Outcome<J::Cause, J::Fault>, AllocError>
+    requires stuck { IsStuckBehind requests.now (start_of setup.now) }
+    ensures found { IfOk result (IsFoundBy (J.says judge.now) setup.now) }
+    ensures no_pass { IfOk result PassesNot }
+{
+    match stuck_run(alloc, setup, requests)? {
+        Some(run) => Ok(Outcome::Found {
+            run,
+            finding: Finding::NoWayOut,
+        }),
+        None => Ok(Outcome::TooMany(Bound::Events)),
+    }
+}
+
+/// The run of the setup by these requests; None where it has over 65,536 events.
+fn stuck_run(alloc: Global, setup: &Setup, requests: &[u32]) -> Result<Option<Run>, AllocError>
+    requires stuck { IsStuckBehind requests.now (start_of setup.now) }
+    ensures run { IfOk result (λ found. IfSome found (IsRunOf setup.now)) }
+    ensures stuck { IfOk result (λ found. IfSome found IsStuck) }
+{
+    let followed = copy_of(alloc, setup)?;
+    match schedule_behind(alloc, followed, requests) {
+        Ok(schedule) => recorded(alloc, setup, &schedule),
+        Err(fault) => none_by(fault),
+    }
+}
+
+/// The schedule of these requests.
+fn schedule_behind(alloc: Global, setup: Setup, requests: &[u32]) -> Result<Schedule, StepFault>
+    ensures few { IfOk result (λ schedule. hart_steps schedule < 2 ^ 32) }
+    ensures goes { IfOk result (λ schedule. (end : AConfig) × RunsTo (start_of setup) (all_steps schedule) end × GoesBy requests.now (start_of setup) end) }
+{
+    let mut follower = Follower::new(alloc, setup)?;
+    follower.run_through(requests)?;
+    Ok(follower.into_schedule())
 }
 
 /// Another setup, of copies.

@@ -1,12 +1,12 @@
 -- The parts of harts, changed one by one.
-use Rattle.std.proofs.Common.{◌≡◌, ◌≢◌, ◌⊎◌, inl, inr, ℕ, ◌+◌, ◌<◌, ◌≤◌, List, Some, length, slice_get, slice_set, sym, subst, ◌∙◌, arith}
+use Rattle.std.proofs.Common.{◌≡◌, ◌⊎◌, inl, inr, ℕ, ◌+◌, ◌<◌, ◌≤◌, List, Some, length, slice_get, slice_set, sym, subst, ◌∙◌, arith}
 use Rattle.std.proofs.lemmas.Bool.{cases_eq}
 use Rattle.std.proofs.lemmas.List.{length-set}
 use Rattle.std.proofs.lemmas.Option.{same_Some, slice_get_within}
 use Rattle.bus.proofs.Places.{got_else, got_set}
 use Rattle.hart.specs.declared.need.Request.{Request}
 use Rattle.hart.specs.declared.need.Reply.{Reply}
-use Rattle.schedule_states.specs.Successors.{AreHartsAfter, IsOtherAfter, IsPartAfter}
+use Rattle.schedule_states.specs.Successors.{AreHartsAfter, IsOtherAfter}
 use Rattle.schedule_states.specs.declared.program_state.HartPart.{HartPart}
 
 -- hart g's part is another hart's after the request

@@ -1,5 +1,5 @@
 -- Each state that a search meets is one to which a run leads that keeps to the rule of turns.
-use Rattle.std.proofs.Common.{◌≡◌, ◌⊎◌, inl, inr, ℕ, zero, suc, ◌+◌, ◌<◌, List, [], ◌∷◌, ◌++◌, Option, Some, length, slice_get, slice_index_or, refl, sym, ap, ◌∙◌, subst}
+use Rattle.std.proofs.Common.{◌≡◌, ◌⊎◌, inl, inr, ℕ, zero, suc, ◌<◌, List, [], ◌∷◌, ◌++◌, Option, Some, length, slice_get, slice_index_or, refl, sym, ap, ◌∙◌, subst}
 use Rattle.std.proofs.lemmas.Option.{get_or_from_slice_get, same_Some, slice_get_within}
 use Rattle.bus.proofs.Places.{got_set, there_is}
 use Rattle.bus.specs.Alone.{Asks, GoesAlone, LeavesAlone, StepsAlone}
@@ -51,7 +51,7 @@ same_head a b xs ys e = cc
 same_tail : (a b : Step) (xs ys : List Step) → a ∷ xs ≡ b ∷ ys → xs ≡ ys
 same_tail a b xs ys e = cc
 
-same_hart : (g h : ℕ) → Hart g ≡ Hart h → g ≡ h
+pub same_hart : (g h : ℕ) → Hart g ≡ Hart h → g ≡ h
 same_hart g h e = cc
 
 -- a step of a list with one more is that one, or stands before it
@@ -100,7 +100,7 @@ meets_alone c h own next word (Local after) leaves = ap (λ (t : HartState). wit
 meets_alone c h own next word (Stop trap) leaves = ap (λ (t : HartState). with_hart c h t) leaves
 meets_alone c h own next word (Ask request) leaves = absurd leaves
 
-steps_alone : (c : Config) (h : ℕ) (own next : HartState) → slice_get c.harts h ≡ Some own → StepsAlone (text_for c.common h) own next →
+pub steps_alone : (c : Config) (h : ℕ) (own next : HartState) → slice_get c.harts h ≡ Some own → StepsAlone (text_for c.common h) own next →
     StepsTo c (Hart h) (with_hart c h next)
 steps_alone c h own next here step = hart_makes c (with_hart c h next) h own here step.running
     (step.need, step.needs, meets_alone c h own next (fetched_by c h own.pc) step.need step.leaves)

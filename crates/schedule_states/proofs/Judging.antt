@@ -24,7 +24,7 @@ use Rattle.schedule_states.proofs.Media.{media_kept}
 use Rattle.schedule_states.proofs.Putting.{state_kept}
 use Rattle.schedule_states.specs.Contents.{MayHold}
 use Rattle.schedule_states.specs.Covering.{Covers, IsClosed, ReachedView}
-use Rattle.schedule_states.specs.Exploring.{IfAll, IsAll, IsFound, LeadByHarts}
+use Rattle.schedule_states.specs.Exploring.{IfAll, IfNoWayOut, IsAll, IsFound, LeadByHarts}
 use Rattle.schedule_states.specs.Happening.{full_image}
 use Rattle.schedule_states.specs.HeldLines.{AreBelow, on_medium}
 use Rattle.schedule_states.specs.Images.{content_of, highest_in, image_from, image_in, line_in, others_of}
@@ -37,6 +37,7 @@ use Rattle.schedule_states.specs.Reaching.{AreNumbered, AreThere, HaveGrown}
 use Rattle.schedule_states.specs.StartLines.{StartView}
 use Rattle.schedule_states.specs.States.{AreGrown, AreLists, PartsView}
 use Rattle.schedule_states.specs.declared.exploring.Explored.{Explored}
+use Rattle.schedule_states.specs.declared.exploring.Explored.TheVariants as known
 use Rattle.schedule_states.specs.declared.held_lines.HeldLine.{HeldLine}
 use Rattle.schedule_states.specs.declared.line_state.Content.{Content}
 use Rattle.schedule_states.specs.declared.line_state.LineState.{LineState}
@@ -307,3 +308,21 @@ leads_all explored harts all = subst (λ (e : Explored). LeadByHarts harts e) (s
 
 pub leads_found : (explored : Explored) (harts : ℕ) → IsFound harts explored → LeadByHarts harts explored
 leads_found explored harts found = subst (λ (e : Explored). LeadByHarts harts e) (sym found.2) found.3
+
+pub nowhere_all : (explored : Explored) (claim : List ℕ → Type 0) → IsAll explored → IfNoWayOut explored claim
+nowhere_all explored claim all = subst (λ (e : Explored). IfNoWayOut e claim) (sym all.2) tt
+
+pub nowhere_found : (explored : Explored) (claim : List ℕ → Type 0) (harts : ℕ) → IsFound harts explored → IfNoWayOut explored claim
+nowhere_found explored claim harts found = subst (λ (e : Explored). IfNoWayOut e claim) (sym found.2) tt
+
+pub told_more : (explored : Explored) (one other : Type 0) → (one → other) → IfAll explored one → IfAll explored other
+told_more (known.All states moments) one other so is = so is
+told_more (known.Found stop requests) one other so is = tt
+told_more (known.NoWayOut requests) one other so is = tt
+told_more known.TooMany one other so is = tt
+
+pub nowhere_more : (explored : Explored) (one other : List ℕ → Type 0) → ((requests : List ℕ) → one requests → other requests) → IfNoWayOut explored one → IfNoWayOut explored other
+nowhere_more (known.All states moments) one other so is = tt
+nowhere_more (known.Found stop requests) one other so is = tt
+nowhere_more (known.NoWayOut requests) one other so is = so requests.items is
+nowhere_more known.TooMany one other so is = tt

@@ -3,6 +3,7 @@ pub mod Begun
 pub mod Changing
 pub mod Closing
 pub mod Covering
+pub mod Ending
 pub mod Fencing
 pub mod Fetching
 pub mod Growing
@@ -12,6 +13,7 @@ pub mod Happening
 pub mod Held
 pub mod Leaving
 pub mod Looking
+pub mod Marking
 pub mod Media
 pub mod Numbering
 pub mod Putting
@@ -22,5 +24,6 @@ pub mod Serving
 pub mod Showing
 pub mod Standing
 pub mod Starting
+pub mod Turning
 pub mod Writing
 pub mod Stepping

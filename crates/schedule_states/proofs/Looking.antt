@@ -29,6 +29,11 @@ module _ {X : Type 0} where
   first_of_one new y n (inl none) got = let found : slice_get [] n ≡ Some y = rw none at got in absurd cc
   first_of_one new y n (inr one) got = rw one refl
 
+  pub first_number : (old new : List X) (y : X) (n : ℕ) (x : X) → old ≡ [] → (new ≡ old) ⊎ (new ≡ old ++ y ∷ []) → slice_get new n ≡ Some x → n ≡ 0
+  first_number old new y n x none (inl same) got = let found : slice_get [] n ≡ Some x = rw (same, none) at got in absurd cc
+  first_number old new y zero x none (inr more) got = refl
+  first_number old new y (suc n) x none (inr more) got = let found : slice_get ([] ++ y ∷ []) (suc n) ≡ Some x = rw (more, none) at got in absurd cc
+
   pub inserted : (test : Bool) (xs : List X) (y : X) → (cond test xs (xs ++ y ∷ []) ≡ xs) ⊎ (cond test xs (xs ++ y ∷ []) ≡ xs ++ y ∷ [])
   inserted true xs y = inl refl
   inserted false xs y = inr refl

@@ -1,6 +1,7 @@
 pub mod Ahead
 pub mod Contents
 pub mod Covering
+pub mod Ending
 pub mod Exploring
 pub mod Fed
 pub mod Happening
@@ -20,3 +21,5 @@ pub mod States
 pub mod Successors
 pub mod Turns
 pub mod Watching
+pub mod Ways
+pub mod WaysOut

@@ -2,18 +2,18 @@
 
 ghost use Rattle.std.specs.Prelude.{◌≡◌, ◌≤◌, [], length, IfOk};
 ghost use Rattle.machine.specs.Run.{started};
-ghost use Rattle.schedule_states.specs.Covering.{Covers};
-ghost use Rattle.schedule_states.specs.Exploring.{IfAll, IsAll, IsFound, LeadByHarts};
+ghost use Rattle.schedule_states.specs.Ending.{AlwaysEnds, CoversAt, IsStuckBehind};
+ghost use Rattle.schedule_states.specs.Exploring.{IfAll, IfNoWayOut, IsAsked, IsFound, LeadByHarts};
 ghost use Rattle.schedule_states.specs.Happening.{AllHappen, AreLed};
 ghost use Rattle.schedule_states.specs.Judging.{AlwaysGood, StaysGood};
 ghost use Rattle.schedule_states.specs.Watching.{HasHeard};
 
-use crate::moments::{Judged, Moment, judge_state};
-use crate::numbers::Numbers;
+use crate::moments::{Judged, judge_state};
 use crate::parts::Parts;
 use crate::reached::{Reached, Stop};
 use crate::state_judge::StateJudge;
 use crate::watcher::Watcher;
+use crate::ways_out::all_judged;
 use line_memory::Medium;
 use program::Program;
 use std::alloc::{AllocError, Global};
@@ -35,6 +35,11 @@ pub enum Explored {
         /// The harts whose requests lead to the state, in order.
         requests: Vec<u32>,
     },
+    /// All states are good, but from one of them one can't come to an end, where all harts have stopped.
+    NoWayOut {
+        /// The harts whose requests lead to the state, in order.
+        requests: Vec<u32>,
+    },
     /// There are more states than were asked for.
     TooMany,
 }
@@ -51,8 +56,8 @@ pub struct Start<'a> {
 }
 
 /// Judges all states to which schedules that keep to the judge's rule of turns lead, if they aren't more than so many, those first that fewer
-/// requests lead to, if need be by further threads. The watcher hears of each state before it is judged. What the judge notes of the states
-/// stands in the workspace.
+/// requests lead to, if need be by further threads. Where the judge asks for that, each state must lead on to an end, where all harts have
+/// stopped. The watcher hears of each state before it is judged. What the judge notes of the states stands in the workspace.
 pub fn explore<T: Threads + Sync, J: StateJudge, W: Watcher>(
     rt: &T,
     alloc: Global,
@@ -64,14 +69,16 @@ pub fn explore<T: Threads + Sync, J: StateJudge, W: Watcher>(
     requires fits { J.fits judge.now (length start.medium.now) workspace.old }
     requires happens { AllHappen (J.allows judge.now) (J.happens judge.now) start.program.now start.medium.now start.harts }
     ensures good { IfOk result (λ explored. IfAll explored (AlwaysGood (J.stands judge.now) (J.allows judge.now) (J.good judge.now workspace.new) (J.ends judge.now)
-        start.entry.program.now start.entry.medium.now start.entry.harts)) }
+        start.entry.program.now start.entry.medium.now start.entry.harts
+        × (J.demands judge.now → AlwaysEnds start.entry.program.now start.entry.medium.now start.entry.harts))) }
     ensures kept { J.fits judge.now (length start.entry.medium.now) workspace.new × StaysGood (J.good judge.now workspace.old) (J.good judge.now workspace.new) }
-    ensures requests { IfOk result (LeadByHarts start.entry.harts) }
+    ensures requests { IfOk result (λ explored. LeadByHarts start.entry.harts explored
+        × IfNoWayOut explored (λ requests. IsStuckBehind requests (started start.entry.program.now start.entry.medium.now start.entry.harts))) }
     ensures told { HasHeard W.hears watcher.old watcher.new }
 {
     let parts = Parts::new(alloc, start.program, start.medium)?;
     let mut reached = Reached::with_none(alloc, parts, start.harts);
-    let mut judged = Judged::new(alloc, start.most);
+    let mut judged = Judged::new(alloc, start.most, judge.must_end());
     explore_from(rt, judge, &mut reached, &mut judged, workspace, watcher)
 }
 
@@ -84,14 +91,19 @@ fn explore_from<T: Threads + Sync, J: StateJudge, W: Watcher>(
     workspace: &mut J::Workspace,
     watcher: &mut W,
 ) -> Result<Explored, AllocError>
-    requires none { (reached.old.states ≡ []) × (judged.old.moments ≡ []) × (judged.old.media ≡ record { lists = []; numbers = [] }) }
+    requires none { (reached.old.states ≡ []) × (judged.old.moments ≡ []) × (judged.old.media ≡ record { lists = []; numbers = [] })
+        × (judged.old.ways.next.items ≡ []) }
     requires given { J.fits judge.now (length reached.old.parts.table.start.medium) workspace.old
-        × AllHappen (J.allows judge.now) (J.happens judge.now) reached.old.parts.table.start.program reached.old.parts.table.start.medium reached.old.harts }
+        × AllHappen (J.allows judge.now) (J.happens judge.now) reached.old.parts.table.start.program reached.old.parts.table.start.medium reached.old.harts
+        × IsAsked (J.demands judge.now) (J.allows judge.now) judged.old.ways.asked }
     ensures good { IfOk result (λ explored. IfAll explored (AlwaysGood (J.stands judge.now) (J.allows judge.now) (J.good judge.now workspace.new) (J.ends judge.now)
-        reached.old.parts.table.start.program reached.old.parts.table.start.medium reached.old.harts)) }
+        reached.old.parts.table.start.program reached.old.parts.table.start.medium reached.old.harts
+        × (J.demands judge.now → AlwaysEnds reached.old.parts.table.start.program reached.old.parts.table.start.medium reached.old.harts))) }
     ensures kept { J.fits judge.now (length reached.old.parts.table.start.medium) workspace.new
         × StaysGood (J.good judge.now workspace.old) (J.good judge.now workspace.new) }
-    ensures requests { IfOk result (LeadByHarts reached.old.harts) }
+    ensures requests { IfOk result (λ explored. LeadByHarts reached.old.harts explored
+        × IfNoWayOut explored (λ requests. IsStuckBehind requests
+        (started reached.old.parts.table.start.program reached.old.parts.table.start.medium reached.old.harts))) }
     ensures told { HasHeard W.hears watcher.old watcher.new }
 {
     let alloc = judged.alloc;
@@ -113,16 +125,20 @@ fn search<T: Threads + Sync, J: StateJudge, W: Watcher>(
     workspace: &mut J::Workspace,
     watcher: &mut W,
 ) -> Result<Explored, AllocError>
-    requires start { Covers (J.stands judge.now) reached.old (started reached.old.parts.table.start.program reached.old.parts.table.start.medium reached.old.harts)
+    requires start { CoversAt (J.stands judge.now) reached.old 0 (started reached.old.parts.table.start.program reached.old.parts.table.start.medium reached.old.harts)
         × AreLed (J.stands judge.now) (J.allows judge.now) reached.old }
-    requires new { (judged.old.moments ≡ []) × (judged.old.media ≡ record { lists = []; numbers = [] }) }
+    requires new { (judged.old.moments ≡ []) × (judged.old.media ≡ record { lists = []; numbers = [] }) × (judged.old.ways.next.items ≡ []) }
     requires given { J.fits judge.now (length reached.old.parts.table.start.medium) workspace.old
-        × AllHappen (J.allows judge.now) (J.happens judge.now) reached.old.parts.table.start.program reached.old.parts.table.start.medium reached.old.harts }
+        × AllHappen (J.allows judge.now) (J.happens judge.now) reached.old.parts.table.start.program reached.old.parts.table.start.medium reached.old.harts
+        × IsAsked (J.demands judge.now) (J.allows judge.now) judged.old.ways.asked }
     ensures good { IfOk result (λ explored. IfAll explored (AlwaysGood (J.stands judge.now) (J.allows judge.now) (J.good judge.now workspace.new) (J.ends judge.now)
-        reached.old.parts.table.start.program reached.old.parts.table.start.medium reached.old.harts)) }
+        reached.old.parts.table.start.program reached.old.parts.table.start.medium reached.old.harts
+        × (J.demands judge.now → AlwaysEnds reached.old.parts.table.start.program reached.old.parts.table.start.medium reached.old.harts))) }
     ensures kept { J.fits judge.now (length reached.old.parts.table.start.medium) workspace.new
         × StaysGood (J.good judge.now workspace.old) (J.good judge.now workspace.new) }
-    ensures requests { IfOk result (LeadByHarts reached.old.harts) }
+    ensures requests { IfOk result (λ explored. LeadByHarts reached.old.harts explored
+        × IfNoWayOut explored (λ requests. IsStuckBehind requests
+        (started reached.old.parts.table.start.program reached.old.parts.table.start.medium reached.old.harts))) }
     ensures told { HasHeard W.hears watcher.old watcher.new }
 {
     let alloc = judged.alloc;
@@ -133,20 +149,21 @@ fn search<T: Threads + Sync, J: StateJudge, W: Watcher>(
             return Ok(Explored::TooMany);
         }
         if number as usize >= met {
-            return Ok(all_of(reached, &judged.moments));
+            return all_judged(judge, reached, judged);
         }
         tell(watcher, met, number);
         if let Some(stop) = judge_state(rt, judge, reached, judged, workspace, number)? {
             return found(alloc, reached, number, stop);
         }
-        if let Some(stop) = reached.go_on_all(alloc, judge, number)? {
-            return found(alloc, reached, number, stop);
+        match reached.go_on_all(alloc, judge, number)? {
+            Ok(to) => judged.ways.note(to)?,
+            Err(stop) => return found(alloc, reached, number, stop),
         }
     }
     if reached.count() > most as usize {
         return Ok(Explored::TooMany);
     }
-    Ok(all_of(reached, &judged.moments))
+    all_judged(judge, reached, judged)
 }
 
 /// Tells a watcher that so many states were met, of which those from this number on wait.
@@ -155,16 +172,6 @@ fn tell<W: Watcher>(watcher: &mut W, met: usize, number: u32)
     ensures { (first : W) → HasHeard W.hears first watcher.old → HasHeard W.hears first watcher.new }
 {
     watcher.hear(met, met - number as usize);
-}
-
-/// So many states and moments were judged.
-fn all_of<J: StateJudge>(reached: &Reached<'_, J>, moments: &Numbers<Moment>) -> Explored
-    ensures { IsAll result }
-{
-    Explored::All {
-        states: reached.count(),
-        moments: moments.as_slice().len(),
-    }
 }
 
 /// The search goes no further from the state of a number.

@@ -25,6 +25,8 @@ mod state_judge;
 mod state_memory;
 mod successor;
 mod watcher;
+mod ways;
+mod ways_out;
 
 pub use exploring::{Explored, Start, explore};
 pub use reached::Stop;

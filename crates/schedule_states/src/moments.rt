@@ -9,6 +9,7 @@ use crate::medium_lists::MediumLists;
 use crate::numbers::Numbers;
 use crate::reached::{Reached, Stop};
 use crate::state_judge::StateJudge;
+use crate::ways::Ways;
 use std::alloc::{AllocError, Global};
 use std::thread::Threads;
 
@@ -19,7 +20,7 @@ pub struct Moment {
     pub standing: u32,
 }
 
-/// The moments that a search has judged, each by its number, and how far it goes.
+/// The moments that a search has judged, each by its number, how far it goes, and where requests lead from the states that it has judged.
 #[derive(Drop)]
 pub struct Judged {
     pub alloc: Global,
@@ -28,20 +29,23 @@ pub struct Judged {
     /// What states hold of the medium.
     pub media: MediumLists,
     pub moments: Numbers<Moment>,
+    pub ways: Ways,
 }
 
 impl Judged {
-    /// None yet, of a search that ends where there are more states than so many.
-    pub fn new(alloc: Global, most: u32) -> Judged
+    /// None yet, of a search that ends where there are more states than so many. It says whether a state has no way out where that is asked.
+    pub fn new(alloc: Global, most: u32, asked: bool) -> Judged
         ensures most { result.most ≡ most }
         ensures media { result.media ≡ record { lists = []; numbers = [] } }
         ensures moments { result.moments ≡ [] }
+        ensures ways { (result.ways.asked ≡ asked) × (result.ways.next.items ≡ []) }
     {
         Judged {
             alloc,
             most,
             media: MediumLists::new(alloc),
             moments: Numbers::new(alloc),
+            ways: Ways::new(alloc, asked),
         }
     }
 }
@@ -64,6 +68,8 @@ pub fn judge_state<T: Threads + Sync, J: StateJudge>(
         AreGoodMoments (J.stands judge.now) (J.good judge.now workspace.new) reached.now judged.new.media judged.new.moments
         × IsGoodState (J.stands judge.now) (J.good judge.now workspace.new) reached.now number) }
     ensures kept { StaysGood (J.good judge.now workspace.old) (J.good judge.now workspace.new) }
+    ensures ways { judged.new.ways ≡ judged.old.ways }
+    ensures most { judged.new.most ≡ judged.old.most }
 {
     let numbers = reached.numbers(number);
     let alloc = judged.alloc;

@@ -3,17 +3,19 @@
 ghost use Rattle.std.specs.Prelude.{◌≡◌, ◌≢◌, ◌⊎◌, ◌<◌, ◌≤◌, ℕ, [], false, true, length, slice_get, None, Some, IfNone, IfOk, IfSome};
 ghost use Rattle.hart.specs.declared.state.Status.TheVariants.{Running};
 ghost use Rattle.machine.specs.Run.{started};
-ghost use Rattle.schedule_states.specs.Covering.{Covers, IsClosedAt, IsMet, PartsEndWell};
+ghost use Rattle.schedule_states.specs.Covering.{IsClosedAt, IsMet, PartsEndWell};
 ghost use Rattle.schedule_states.specs.Numbers.{AreKept};
+ghost use Rattle.schedule_states.specs.Ending.{AreTurns, AreTurnsAt, CoversAt, HavePartsStopped, IsTurn};
 ghost use Rattle.schedule_states.specs.Happening.{AreLed, HasHappenedAt, IsLedAs};
 ghost use Rattle.schedule_states.specs.Judging.{IsGoodMoment, StaysGood};
 ghost use Rattle.schedule_states.specs.Leads.{AreOfHarts};
 ghost use Rattle.schedule_states.specs.Media.{AreOnMedium};
-ghost use Rattle.schedule_states.specs.Reaching.{AreNumbered, AreNumbersBefore, AreNumbersOf, ArePartsOf, AreThere, HaveGrown, IsClosedBy, IsFirst, IsClosedFor, IsKeptOn, WereBefore};
+ghost use Rattle.schedule_states.specs.Reaching.{AreNumbered, AreNumbersBefore, AreNumbersOf, ArePartsOf, AreThere, HaveGrown, IsFirst, IsKeptOn, WereBefore};
 ghost use Rattle.schedule_states.specs.States.{AreLists};
 ghost use Rattle.schedule_states.specs.Successors.{HasLists};
 ghost use Rattle.schedule_states.specs.Turns.{MayGo, MayNotGo};
 ghost use Rattle.schedule_states.specs.declared.program_state.HartPart.{HartPart as AHartPart};
+ghost use Rattle.schedule_states.specs.declared.program_state.ProgramState.{ProgramState as AProgramState};
 
 use crate::laws::{equal_numbers_are_same, equal_parts_are_same, equal_reserved_are_same};
 use crate::leads::{Lead, Leads};
@@ -85,7 +87,7 @@ impl<'a, J: StateJudge> Reached<'a, J> {
     /// Meets the state at the start, unless a hart makes too many steps up to its first request.
     pub fn meet_start(&mut self, alloc: Global, judge: &J) -> Result<Option<Stop>, AllocError>
         requires none { self.old.states ≡ [] }
-        ensures start { IfOk result (λ stop. stop ≡ None → Covers (J.stands judge.now) self.new
+        ensures start { IfOk result (λ stop. stop ≡ None → CoversAt (J.stands judge.now) self.new 0
             (started self.old.parts.table.start.program self.old.parts.table.start.medium self.old.harts)) }
         ensures led { IfOk result (λ stop. stop ≡ None → AreLed (J.stands judge.now) (J.allows judge.now) self.new) }
         ensures parts { self.new.parts ≡ self.old.parts }
@@ -148,6 +150,22 @@ impl<'a, J: StateJudge> Reached<'a, J> {
         self.hart_parts.as_slice()[number as usize]
     }
 
+    /// Whether each hart of a state has stopped.
+    pub fn has_stopped(&self, number: u32) -> bool
+        requires { number < length self.now.states }
+        ensures stopped { result ≡ true → (s : AProgramState) (t : J.Standing) → IsMet self.now number s t → HavePartsStopped s.harts.items }
+        ensures running { result ≡ false → (s : AProgramState) (t : J.Standing) → IsMet self.now number s t → ¬ HavePartsStopped s.harts.items }
+    {
+        let numbers = self.numbers(number);
+        for hart in 0..self.leads.harts() {
+            let part = self.part(numbers.harts[hart as usize]);
+            if is_running(part.state.status) {
+                return false;
+            }
+        }
+        true
+    }
+
     /// What the states have in common.
     pub(crate) fn parts(&self) -> &Parts<'a>
         ensures { result.now ≡ self.now.parts }
@@ -190,41 +208,42 @@ impl<'a, J: StateJudge> Reached<'a, J> {
     }
 
     /// Goes on from a state, whose harts run or have stopped as they may, by the next request of each hart that may go, up to one at which it
-    /// stops.
+    /// stops: the states to which those lead, or the state itself for a hart that makes none.
     pub fn go_on_all(
         &mut self,
         alloc: Global,
         judge: &J,
         number: u32,
-    ) -> Result<Option<Stop>, AllocError>
+    ) -> Result<Result<[u32; 8], Stop>, AllocError>
         requires { number < length self.old.states }
-        ensures closed { IfOk result (λ stop. stop ≡ None → IsClosedAt (J.stands judge.now) (J.allows judge.now) (J.ends judge.now) self.new number) }
-        ensures led { IfOk result (λ stop. stop ≡ None → AreLed (J.stands judge.now) (J.allows judge.now) self.old →
-            AreLed (J.stands judge.now) (J.allows judge.now) self.new) }
+        ensures closed { IfOk result (λ gone. IfOk gone (λ to. IsClosedAt (J.stands judge.now) (J.allows judge.now) (J.ends judge.now) self.new number)) }
+        ensures turns { IfOk result (λ gone. IfOk gone (AreTurnsAt (J.stands judge.now) (J.allows judge.now) self.new number)) }
+        ensures led { IfOk result (λ gone. IfOk gone (λ to. AreLed (J.stands judge.now) (J.allows judge.now) self.old →
+            AreLed (J.stands judge.now) (J.allows judge.now) self.new)) }
         ensures still { (n : ℕ) → n < length self.old.states → IsClosedAt (J.stands judge.now) (J.allows judge.now) (J.ends judge.now) self.old n →
             IsClosedAt (J.stands judge.now) (J.allows judge.now) (J.ends judge.now) self.new n }
         ensures grown { HaveGrown self.old self.new }
-        ensures before { AreNumbered self.old × AreLists self.old.parts.table.states self.old.parts.lists }
+        ensures before { AreNumbered self.old × AreLists self.old.parts.table.states self.old.parts.lists × WereBefore self.old.parts self.new.parts }
     {
         self.are_numbered();
         self.parts.lists_are_there();
         let numbers = self.numbers(number);
         let state = self.state(alloc, &numbers)?;
         if let Some(hart) = ended_badly(judge, &state.harts) {
-            return Ok(Some(Stop::Ended(hart)));
+            return Ok(Err(Stop::Ended(hart)));
         }
         self.turns(alloc, judge, number, &state, &numbers)
     }
 
     /// Each state has the numbers of parts that are there.
-    fn are_numbered(&self)
+    pub(crate) fn are_numbered(&self)
         ensures { AreNumbered self.now }
     {
         // a look at the states, for what holds of them to be known
         let _ = &self.states;
     }
 
-    /// Goes on by the next request of each hart that may go from the state of a number, whose parts have these numbers.
+    /// Goes on by the next request of each hart that may go from the state of a number, whose parts have these numbers, to these states.
     fn turns(
         &mut self,
         alloc: Global,
@@ -232,27 +251,30 @@ impl<'a, J: StateJudge> Reached<'a, J> {
         number: u32,
         state: &ProgramState,
         numbers: &StateNumbers,
-    ) -> Result<Option<Stop>, AllocError>
+    ) -> Result<Result<[u32; 8], Stop>, AllocError>
         requires parts { ArePartsOf self.old numbers.now self.old.harts state.now.harts.items }
         requires lists { HasLists self.old.parts state.now }
         requires standing { numbers.now.standing < length self.old.standings }
-        ensures closed { IfOk result (λ stop. stop ≡ None → (t : J.Standing) → slice_get self.old.standings numbers.now.standing ≡ Some t →
-            IsClosedFor (J.stands judge.now) (J.allows judge.now) self.new state.now t self.new.harts) }
-        ensures led { IfOk result (λ stop. stop ≡ None → (t : J.Standing) → slice_get self.old.standings numbers.now.standing ≡ Some t →
+        requires met { (t : J.Standing) → slice_get self.old.standings numbers.now.standing ≡ Some t → IsMet self.old number state.now t }
+        ensures turns { IfOk result (λ gone. IfOk gone (λ to. (t : J.Standing) → slice_get self.old.standings numbers.now.standing ≡ Some t →
+            AreTurns (J.stands judge.now) (J.allows judge.now) self.new state.now t self.new.harts to)) }
+        ensures led { IfOk result (λ gone. IfOk gone (λ to. (t : J.Standing) → slice_get self.old.standings numbers.now.standing ≡ Some t →
             IsLedAs (J.stands judge.now) (J.allows judge.now) self.old state.now t → AreLed (J.stands judge.now) (J.allows judge.now) self.old →
-            AreLed (J.stands judge.now) (J.allows judge.now) self.new) }
+            AreLed (J.stands judge.now) (J.allows judge.now) self.new)) }
         ensures grown { HaveGrown self.old self.new }
         ensures before { WereBefore self.old.parts self.new.parts }
     {
+        self.are_numbered();
+        let mut to = [number; 8];
         let harts = self.leads.harts();
         for hart in 0..harts {
-            let stop = self.go_on(alloc, judge, state, numbers, hart)?;
-            if stop.is_some() {
-                return Ok(stop);
+            match self.go_on(alloc, judge, state, numbers, hart)? {
+                Ok(next) => to[hart as usize] = next.unwrap_or(number),
+                Err(stop) => return Ok(Err(stop)),
             }
             self.note(Lead { from: number, hart })?;
         }
-        Ok(None)
+        Ok(Ok(to))
     }
 
     /// Whether a hart may go, where what has this number is kept.
@@ -266,7 +288,7 @@ impl<'a, J: StateJudge> Reached<'a, J> {
         judge.may_go(&self.standings.as_slice()[standing as usize], hart)
     }
 
-    /// Goes on by the next request of a hart, if it may go, from a state, whose parts have these numbers.
+    /// Goes on by the next request of a hart, if it may go, from a state, whose parts have these numbers: the state to which that leads.
     fn go_on(
         &mut self,
         alloc: Global,
@@ -274,21 +296,21 @@ impl<'a, J: StateJudge> Reached<'a, J> {
         state: &ProgramState,
         numbers: &StateNumbers,
         hart: u32,
-    ) -> Result<Option<Stop>, AllocError>
+    ) -> Result<Result<Option<u32>, Stop>, AllocError>
         requires there { hart < self.old.harts }
         requires parts { ArePartsOf self.old numbers.now self.old.harts state.now.harts.items }
         requires lists { HasLists self.old.parts state.now }
         requires standing { numbers.now.standing < length self.old.standings }
-        ensures closed { IfOk result (λ stop. stop ≡ None → (t : J.Standing) → slice_get self.old.standings numbers.now.standing ≡ Some t →
-            IsClosedBy (J.stands judge.now) (J.allows judge.now) self.new state.now t hart) }
-        ensures led { IfOk result (λ stop. stop ≡ None → (t : J.Standing) → slice_get self.old.standings numbers.now.standing ≡ Some t →
+        ensures turn { IfOk result (λ gone. IfOk gone (λ next. (t : J.Standing) → slice_get self.old.standings numbers.now.standing ≡ Some t →
+            IsTurn (J.stands judge.now) (J.allows judge.now) self.new state.now t hart next)) }
+        ensures led { IfOk result (λ gone. IfOk gone (λ next. (t : J.Standing) → slice_get self.old.standings numbers.now.standing ≡ Some t →
             IsLedAs (J.stands judge.now) (J.allows judge.now) self.old state.now t → AreLed (J.stands judge.now) (J.allows judge.now) self.old →
-            AreLed (J.stands judge.now) (J.allows judge.now) self.new) }
+            AreLed (J.stands judge.now) (J.allows judge.now) self.new)) }
         ensures grown { HaveGrown self.old self.new }
         ensures before { WereBefore self.old.parts self.new.parts }
     {
         if !self.may_go(judge, numbers.standing, hart) {
-            return Ok(None);
+            return Ok(Ok(None));
         }
         self.parts.lists_are_there();
         match self.parts.after_request(alloc, state, hart)? {
@@ -296,18 +318,18 @@ impl<'a, J: StateJudge> Reached<'a, J> {
                 let known = &mut self.standings;
                 let kept = numbers.standing;
                 let Some(standing) = standing_after(alloc, judge, known, kept, mark)? else {
-                    return Ok(Some(Stop::Refused(hart)));
+                    return Ok(Err(Stop::Refused(hart)));
                 };
                 let before = Before {
                     parts: &state.harts,
                     numbers: &numbers.harts,
                     moved: hart,
                 };
-                self.number_of(&next, standing, before)?;
-                Ok(None)
+                let number = self.number_of(&next, standing, before)?;
+                Ok(Ok(Some(number)))
             }
-            Successor::Stopped => Ok(None),
-            Successor::TooLong => Ok(Some(Stop::TooLong(hart))),
+            Successor::Stopped => Ok(Ok(None)),
+            Successor::TooLong => Ok(Err(Stop::TooLong(hart))),
         }
     }
 
@@ -334,6 +356,7 @@ impl<'a, J: StateJudge> Reached<'a, J> {
         ensures only { IfOk result (λ number. (t : J.Standing) → slice_get self.old.standings standing ≡ Some t → (n : ℕ) → n < length self.new.states →
             (n < length self.old.states) ⊎ IsMet self.new n state.now t) }
         ensures grown { HaveGrown self.old self.new }
+        ensures first { self.old.states ≡ [] → IfOk result (λ number. number ≡ 0) }
         ensures parts { self.new.parts ≡ self.old.parts }
         ensures standings { self.new.standings ≡ self.old.standings }
     {
@@ -371,6 +394,17 @@ fn ended_badly<J: StateJudge>(judge: &J, parts: &[HartPart]) -> Option<u32>
         }
     }
     None
+}
+
+/// Whether a hart runs.
+fn is_running(status: Status) -> bool
+    ensures yes { result ≡ true → status ≡ Running }
+    ensures no { result ≡ false → status ≢ Running }
+{
+    match status {
+        Status::Running => true,
+        Status::Exited(_) | Status::Trapped(_) => false,
+    }
 }
 
 /// Whether a hart runs, or has stopped as it may.

@@ -21,6 +21,7 @@ pub enum StateVerdict {
 /// Who judges the states of a search, and says whose turn it may be. What it keeps of the operations is a part of a state, so it has no more
 /// of the past than decides what may come. What it notes of the states that it has judged stands in its workspace.
 pub trait StateJudge {
+    ghost use Rattle.schedule_states.specs.Ending.{AnyMayGo};
     ghost use Rattle.schedule_states.specs.Happening.{HasHappened};
     ghost use Rattle.schedule_states.specs.Judging.{AreGoodImages, StaysGood};
     ghost use Rattle.schedule_states.specs.Marks.{IsUnmarked};
@@ -50,6 +51,9 @@ pub trait StateJudge {
 
     /// A hart may stop like this.
     ghost ends: { Self → AStatus → Type 0 };
+
+    /// From each state one is to be able to come to an end, where all harts have stopped.
+    ghost demands: { Self → Type 0 };
 
     /// The workspace is one for media of so many lines.
     ghost fits: { Self → ℕ → Self.Workspace → Type 0 };
@@ -98,6 +102,11 @@ pub trait StateJudge {
     /// Whether a hart may stop like this.
     fn may_end(&self, status: Status) -> bool
         ensures { result ≡ true → ends self.now status };
+
+    /// Whether from each state one is to be able to come to an end. A judge with a rule of turns asks for none.
+    fn must_end(&self) -> bool
+        ensures demanded { demands self.now → result ≡ true }
+        ensures free { result ≡ true → AnyMayGo (allows self.now) };
 
     /// An event that marks no operation changes nothing of them.
     ghost unmarked: { (s : Self) (standing : Self.Standing) (events : List AnEvent) (event : AnEvent) → IsUnmarked event →

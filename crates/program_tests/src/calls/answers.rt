@@ -66,6 +66,8 @@ enum Known {
     Refused(MarkFault),
     /// A run isn't whole, for so many causes.
     NotWhole(usize),
+    /// From where a run leads no schedule goes on to an end.
+    NoWayOut,
     TooMany(Bound),
 }
 
@@ -260,6 +262,7 @@ fn shown_by<T: Threads + Sync>(
     let schedule = run.recorded().schedule().write(alloc).ok()?;
     let known = match finding {
         Finding::NotWhole(causes) => return Some(Known::NotWhole(causes.len())),
+        Finding::NoWayOut => return Some(Known::NoWayOut),
         Finding::Verdict(verdict) => failure_of(verdict)?,
         Finding::Refused(fault) => Known::Refused(*fault),
     };

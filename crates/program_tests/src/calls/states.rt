@@ -85,6 +85,8 @@ enum Known {
     Refused(OpFault),
     /// A run isn't whole, for so many causes.
     NotWhole(usize),
+    /// From where a run leads no schedule goes on to an end.
+    NoWayOut,
     TooMany(Bound),
 }
 
@@ -373,6 +375,7 @@ fn shown_by<T: Threads + Sync>(
 ) -> Option<Known> {
     match finding {
         Finding::NotWhole(causes) => unfinished_by(alloc, plan, run, causes),
+        Finding::NoWayOut => Some(Known::NoWayOut),
         Finding::Verdict(verdict) => match verdict_on(rt, alloc, plan, run) {
             Ok(other) => failed_by(alloc, verdict, &other),
             Err(_) => None,

@@ -32,6 +32,8 @@ impl StateJudge for InTurn {
 
     ghost ends = { λ s status. Unit {0} };
 
+    ghost demands = { λ s. ⊥ };
+
     ghost fits = { λ s lines most. Unit {0} };
 
     fn start(&self, _alloc: Global) -> Result<u32, AllocError> {
@@ -79,6 +81,10 @@ impl StateJudge for InTurn {
         true
     }
 
+    fn must_end(&self) -> bool {
+        false
+    }
+
     ghost unmarked = { λ s count events event plain kept. none_ended events event plain.ended ∙ kept };
 
     ghost equal = { λ s count other events same kept. kept ∙ eqb-true count other same };
@@ -104,7 +110,7 @@ fn in_turn<T: Threads + Sync>(rt: &T, alloc: Global, harts: u32) -> Option<(usiz
     let mut most = 0;
     match explore(rt, alloc, &InTurn, start, &mut most, &mut Unwatched).ok()? {
         Explored::All { states, .. } => Some((states, most)),
-        Explored::Found { .. } | Explored::TooMany => None,
+        Explored::Found { .. } | Explored::NoWayOut { .. } | Explored::TooMany => None,
     }
 }
 

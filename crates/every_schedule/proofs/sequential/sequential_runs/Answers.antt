@@ -9,5 +9,5 @@ pub returns : goal.returns
 returns g c =
     let view : ProgramView = program_of c.args.setup.now c.args.recovery.program.now c.args.recovery.steps in record {
       all = c.noted_by.ensures view (all_told c.in_ok-explored.explored _ _
-          (λ good. all_noted view (notes_in c.explore.new.workspace.runs) good c.explore.ensures.kept.0.2) c.in_ok-explored.ensures.good);
+          (λ good. all_noted view (notes_in c.explore.new.workspace.runs) good.0 c.explore.ensures.kept.0.2) c.in_ok-explored.ensures.good);
     }

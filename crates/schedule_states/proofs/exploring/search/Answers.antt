@@ -1,13 +1,19 @@
-use Rattle.std.proofs.Common.{◌≡◌, ◌≤◌, ◌<◌, None, Some, [], length, slice_get, refl, ap, ◌∙◌, rules, arith}
+use Rattle.std.proofs.Common.{◌≡◌, ◌≤◌, ◌<◌, ◌∷◌, ◌++◌, true, None, Some, List, [], ℕ, length, slice_get, refl, sym, ap, ◌∙◌, subst, rules, arith}
+use Rattle.std.proofs.lemmas.Option.{slice_get_within}
 use Rattle.std.proofs.lemmas.Result.{IfOk-weaker}
 use Rattle.machine.specs.Run.{started}
-use Rattle.schedule_states.proofs.Closing.{closed_all, closed_next, covers_kept}
+use Rattle.schedule_states.proofs.Closing.{closed_all, closed_next}
+use Rattle.schedule_states.proofs.Ending.{always_ends}
 use Rattle.schedule_states.proofs.Happening.{happening}
-use Rattle.schedule_states.proofs.Judging.{all_good, below_noted, good_next, leads_all, leads_found, moments_kept, told_all, told_found}
-use Rattle.schedule_states.specs.Covering.{IsClosedAt}
-use Rattle.schedule_states.specs.Judging.{AreGoodBelow, AreGoodMoments, IsGoodState}
+use Rattle.schedule_states.proofs.Judging.{all_good, below_noted, good_next, leads_found, moments_kept, nowhere_found, nowhere_more, told_found, told_more}
+use Rattle.schedule_states.proofs.Looking.{within_kept}
+use Rattle.schedule_states.proofs.Turning.{covers_at_kept, turns_next}
+use Rattle.schedule_states.specs.Covering.{IsClosed, IsClosedAt}
+use Rattle.schedule_states.specs.Ending.{AreTurnsBelow}
+use Rattle.schedule_states.specs.Judging.{AlwaysGood, AreGoodBelow, AreGoodMoments, IsGoodState}
 use Rattle.schedule_states.specs.StartLines.{StartView}
 use Rattle.schedule_states.specs.Watching.{nothing}
+use Rattle.schedule_states.specs.declared.ways.Ways.{Ways}
 use Rattle.schedule_states.proofs.exploring.search.Goals as goal
 
 pub loop-number-init : goal.loop-number-init
@@ -22,6 +28,10 @@ loop-number-init g c = record {
     held = rw c.requires.new.1 (record { below = λ n held found. absurd cc; each = λ memory number found. absurd cc });
     each = λ n moment found. let none : slice_get [] n ≡ Some moment = rw c.requires.new.0 at found in absurd cc;
   };
+  asked = refl;
+  turns = λ asked. record { count_is = rw c.requires.new.2 refl; each = λ n to found. let none : slice_get [] n ≡ Some to = rw c.requires.new.2 at found in absurd cc };
+  within = omega arith;
+  most = refl;
   fits = c.requires.given.0;
   kept = λ events full image good. good;
   told = nothing;
@@ -30,40 +40,98 @@ loop-number-init g c = record {
 pub returns-then-number-met-clause-good : goal.returns-then-number-met-clause-good
 returns-then-number-met-clause-good g c =
     let past : length c.loop-number.reached.states ≤ c.loop-number.number = search rules in
-    told_all c.all_of.result _ c.all_of.ensures (all_good (g.J.StateJudge.stands c.args.judge.now) (g.J.StateJudge.allows c.args.judge.now)
+    let closed : IsClosed (g.J.StateJudge.stands c.args.judge.now) (g.J.StateJudge.allows c.args.judge.now) (g.J.StateJudge.ends c.args.judge.now) c.loop-number.reached =
+    closed_all (g.J.StateJudge.stands c.args.judge.now) (g.J.StateJudge.allows c.args.judge.now) (g.J.StateJudge.ends c.args.judge.now) c.loop-number.reached c.loop-number.number c.loop-number.invariant.closed past in
+    let good : AlwaysGood (g.J.StateJudge.stands c.args.judge.now) (g.J.StateJudge.allows c.args.judge.now) (g.J.StateJudge.good c.args.judge.now c.loop-number.workspace) (g.J.StateJudge.ends c.args.judge.now)
+    c.args.reached.now.parts.table.start.program c.args.reached.now.parts.table.start.medium c.args.reached.now.harts =
+    all_good (g.J.StateJudge.stands c.args.judge.now) (g.J.StateJudge.allows c.args.judge.now)
     (g.J.StateJudge.good c.args.judge.now c.loop-number.workspace) (g.J.StateJudge.ends c.args.judge.now) c.loop-number.reached
     c.args.reached.now.parts.table.start.program c.args.reached.now.parts.table.start.medium c.args.reached.now.harts
-    (ap (λ (s : StartView). s.medium) c.loop-number.invariant.start) c.loop-number.invariant.covers
-    (closed_all (g.J.StateJudge.stands c.args.judge.now) (g.J.StateJudge.allows c.args.judge.now) (g.J.StateJudge.ends c.args.judge.now) c.loop-number.reached c.loop-number.number c.loop-number.invariant.closed past)
-    (λ n few. c.loop-number.invariant.good n (omega (arith, few, past))))
+    (ap (λ (s : StartView). s.medium) c.loop-number.invariant.start) c.loop-number.invariant.covers.0 closed (λ n few. c.loop-number.invariant.good n (omega (arith, few, past))) in
+    IfOk-weaker c.all_judged.result _ _ (λ explored is. told_more explored _ _ (λ each. (
+      good,
+      λ demanded.
+          let asked : c.args.judged.now.ways.asked ≡ true = c.requires.given.2.asks demanded in
+          always_ends (g.J.StateJudge.stands c.args.judge.now) (g.J.StateJudge.allows c.args.judge.now) (g.J.StateJudge.ends c.args.judge.now) c.loop-number.reached
+          c.args.reached.now.parts.table.start.program c.args.reached.now.parts.table.start.medium c.args.reached.now.harts closed c.loop-number.invariant.covers.0
+          (c.requires.given.2.free asked) (each (c.loop-number.invariant.asked ∙ asked)),
+    )) is) c.all_judged.ensures.ends
 
 pub returns-then-number-met-clause-requests : goal.returns-then-number-met-clause-requests
-returns-then-number-met-clause-requests g c = leads_all c.all_of.result c.args.reached.now.harts c.all_of.ensures
+returns-then-number-met-clause-requests g c = IfOk-weaker c.all_judged.result _ _ (λ explored is. (
+  rw c.loop-number.invariant.harts at is.0,
+  nowhere_more explored _ _ (λ requests nowhere. nowhere
+      (started c.args.reached.now.parts.table.start.program c.args.reached.now.parts.table.start.medium c.args.reached.now.harts) c.loop-number.invariant.covers) is.1,
+)) c.all_judged.ensures.requests
+
+pub all_judged-requires-clause-turns : goal.all_judged-requires-clause-turns
+all_judged-requires-clause-turns g c asked =
+    let past : length c.loop-number.reached.states ≤ c.loop-number.number = search rules in
+    let was : c.args.judged.now.ways.asked ≡ true = sym c.loop-number.invariant.asked ∙ asked in
+    let all : c.loop-number.number ≡ length c.loop-number.reached.states = omega (arith, past, c.loop-number.invariant.within) in record {
+      turns = subst (λ (n : ℕ). AreTurnsBelow (g.J.StateJudge.stands c.args.judge.now) (g.J.StateJudge.allows c.args.judge.now) c.loop-number.reached c.loop-number.judged.ways.next.items n) all
+          (c.loop-number.invariant.turns was);
+      free = c.requires.given.2.free was;
+    }
+
+pub all_judged-requires-clause-some : goal.all_judged-requires-clause-some
+all_judged-requires-clause-some g c =
+    omega (arith, slice_get_within c.loop-number.reached.states c.loop-number.invariant.covers.0.number c.loop-number.invariant.covers.0.met.numbers c.loop-number.invariant.covers.0.met.found)
 
 pub returns-clause-good : goal.returns-clause-good
 returns-clause-good g c =
     let past : length c.loop-number.reached.states ≤ c.loop-number.number = search rules in
-    told_all c.all_of-2.result _ c.all_of-2.ensures (all_good (g.J.StateJudge.stands c.args.judge.now) (g.J.StateJudge.allows c.args.judge.now)
+    let closed : IsClosed (g.J.StateJudge.stands c.args.judge.now) (g.J.StateJudge.allows c.args.judge.now) (g.J.StateJudge.ends c.args.judge.now) c.loop-number.reached =
+    closed_all (g.J.StateJudge.stands c.args.judge.now) (g.J.StateJudge.allows c.args.judge.now) (g.J.StateJudge.ends c.args.judge.now) c.loop-number.reached c.loop-number.number c.loop-number.invariant.closed past in
+    let good : AlwaysGood (g.J.StateJudge.stands c.args.judge.now) (g.J.StateJudge.allows c.args.judge.now) (g.J.StateJudge.good c.args.judge.now c.loop-number.workspace) (g.J.StateJudge.ends c.args.judge.now)
+    c.args.reached.now.parts.table.start.program c.args.reached.now.parts.table.start.medium c.args.reached.now.harts =
+    all_good (g.J.StateJudge.stands c.args.judge.now) (g.J.StateJudge.allows c.args.judge.now)
     (g.J.StateJudge.good c.args.judge.now c.loop-number.workspace) (g.J.StateJudge.ends c.args.judge.now) c.loop-number.reached
     c.args.reached.now.parts.table.start.program c.args.reached.now.parts.table.start.medium c.args.reached.now.harts
-    (ap (λ (s : StartView). s.medium) c.loop-number.invariant.start) c.loop-number.invariant.covers
-    (closed_all (g.J.StateJudge.stands c.args.judge.now) (g.J.StateJudge.allows c.args.judge.now) (g.J.StateJudge.ends c.args.judge.now) c.loop-number.reached c.loop-number.number c.loop-number.invariant.closed past)
-    (λ n few. c.loop-number.invariant.good n (omega (arith, few, past))))
+    (ap (λ (s : StartView). s.medium) c.loop-number.invariant.start) c.loop-number.invariant.covers.0 closed (λ n few. c.loop-number.invariant.good n (omega (arith, few, past))) in
+    IfOk-weaker c.all_judged-2.result _ _ (λ explored is. told_more explored _ _ (λ each. (
+      good,
+      λ demanded.
+          let asked : c.args.judged.now.ways.asked ≡ true = c.requires.given.2.asks demanded in
+          always_ends (g.J.StateJudge.stands c.args.judge.now) (g.J.StateJudge.allows c.args.judge.now) (g.J.StateJudge.ends c.args.judge.now) c.loop-number.reached
+          c.args.reached.now.parts.table.start.program c.args.reached.now.parts.table.start.medium c.args.reached.now.harts closed c.loop-number.invariant.covers.0
+          (c.requires.given.2.free asked) (each (c.loop-number.invariant.asked ∙ asked)),
+    )) is) c.all_judged-2.ensures.ends
 
 pub returns-clause-requests : goal.returns-clause-requests
-returns-clause-requests g c = leads_all c.all_of-2.result c.args.reached.now.harts c.all_of-2.ensures
+returns-clause-requests g c = IfOk-weaker c.all_judged-2.result _ _ (λ explored is. (
+  rw c.loop-number.invariant.harts at is.0,
+  nowhere_more explored _ _ (λ requests nowhere. nowhere
+      (started c.args.reached.now.parts.table.start.program c.args.reached.now.parts.table.start.medium c.args.reached.now.harts) c.loop-number.invariant.covers) is.1,
+)) c.all_judged-2.ensures.requests
+
+pub all_judged-requires-2-clause-turns : goal.all_judged-requires-2-clause-turns
+all_judged-requires-2-clause-turns g c asked =
+    let past : length c.loop-number.reached.states ≤ c.loop-number.number = search rules in
+    let was : c.args.judged.now.ways.asked ≡ true = sym c.loop-number.invariant.asked ∙ asked in
+    let all : c.loop-number.number ≡ length c.loop-number.reached.states = omega (arith, past, c.loop-number.invariant.within) in record {
+      turns = subst (λ (n : ℕ). AreTurnsBelow (g.J.StateJudge.stands c.args.judge.now) (g.J.StateJudge.allows c.args.judge.now) c.loop-number.reached c.loop-number.judged.ways.next.items n) all
+          (c.loop-number.invariant.turns was);
+      free = c.requires.given.2.free was;
+    }
+
+pub all_judged-requires-2-clause-some : goal.all_judged-requires-2-clause-some
+all_judged-requires-2-clause-some g c =
+    omega (arith, slice_get_within c.loop-number.reached.states c.loop-number.invariant.covers.0.number c.loop-number.invariant.covers.0.met.numbers c.loop-number.invariant.covers.0.met.found)
 
 pub returns-in-Some-clause-good : goal.returns-in-Some-clause-good
 returns-in-Some-clause-good g c = IfOk-weaker c.found.result _ _ (λ explored is. told_found explored _ _ is) c.found.ensures
 
 pub returns-in-Some-clause-requests : goal.returns-in-Some-clause-requests
-returns-in-Some-clause-requests g c = IfOk-weaker c.found.result _ _ (λ explored is. leads_found explored c.args.reached.now.harts (rw (c.loop-number.invariant.harts) at is)) c.found.ensures
+returns-in-Some-clause-requests g c = IfOk-weaker c.found.result _ _ (λ explored is.
+    (leads_found explored c.args.reached.now.harts (rw (c.loop-number.invariant.harts) at is), nowhere_found explored _ _ is)) c.found.ensures
 
-pub returns-in-Some-2-clause-good : goal.returns-in-Some-2-clause-good
-returns-in-Some-2-clause-good g c = IfOk-weaker c.found-in-Some-2.result _ _ (λ explored is. told_found explored _ _ is) c.found-in-Some-2.ensures
+pub returns-in-Err-clause-good : goal.returns-in-Err-clause-good
+returns-in-Err-clause-good g c = IfOk-weaker c.found-in-Err.result _ _ (λ explored is. told_found explored _ _ is) c.found-in-Err.ensures
 
-pub returns-in-Some-2-clause-requests : goal.returns-in-Some-2-clause-requests
-returns-in-Some-2-clause-requests g c = IfOk-weaker c.found-in-Some-2.result _ _ (λ explored is. leads_found explored c.args.reached.now.harts (rw (c.go_on_all.ensures.grown.harts, c.loop-number.invariant.harts) at is)) c.found-in-Some-2.ensures
+pub returns-in-Err-clause-requests : goal.returns-in-Err-clause-requests
+returns-in-Err-clause-requests g c = IfOk-weaker c.found-in-Err.result _ _ (λ explored is.
+    (leads_found explored c.args.reached.now.harts (rw (c.go_on_all.ensures.grown.harts, c.loop-number.invariant.harts) at is), nowhere_found explored _ _ is)) c.found-in-Err.ensures
 
 pub returns-then-met-most-clause-kept : goal.returns-then-met-most-clause-kept
 returns-then-met-most-clause-kept g c = (rw c.loop-number.invariant.start at c.loop-number.invariant.fits, c.loop-number.invariant.kept)
@@ -89,14 +157,14 @@ returns-in-Some-clause-kept g c = (
   λ events full image good. c.judge_state.ensures.kept events full image (c.loop-number.invariant.kept events full image good),
 )
 
-pub returns-in_err-stop-2-clause-kept : goal.returns-in_err-stop-2-clause-kept
-returns-in_err-stop-2-clause-kept g c = (
+pub returns-in_err-to-clause-kept : goal.returns-in_err-to-clause-kept
+returns-in_err-to-clause-kept g c = (
   rw c.loop-number.invariant.start at c.judge_state.ensures.fits,
   λ events full image good. c.judge_state.ensures.kept events full image (c.loop-number.invariant.kept events full image good),
 )
 
-pub returns-in-Some-2-clause-kept : goal.returns-in-Some-2-clause-kept
-returns-in-Some-2-clause-kept g c = (
+pub returns-in-Err-clause-kept : goal.returns-in-Err-clause-kept
+returns-in-Err-clause-kept g c = (
   rw c.loop-number.invariant.start at c.judge_state.ensures.fits,
   λ events full image good. c.judge_state.ensures.kept events full image (c.loop-number.invariant.kept events full image good),
 )
@@ -105,7 +173,7 @@ pub loop-number-preserved : goal.loop-number-preserved
 loop-number-preserved g c =
     let there : c.loop-number.number < length c.loop-number.reached.states = search rules in
     let here : IsClosedAt (g.J.StateJudge.stands c.args.judge.now) (g.J.StateJudge.allows c.args.judge.now) (g.J.StateJudge.ends c.args.judge.now) c.go_on_all.new.self c.loop-number.number =
-    c.in_ok-stop-2.ensures.closed (search rules) in
+    rw c.in-Ok.is at c.in_ok-to.ensures.closed in
     let passed : c.in_ok-stop.field-0 ≡ None = search rules in
     let judged : AreGoodMoments (g.J.StateJudge.stands c.args.judge.now) (g.J.StateJudge.good c.args.judge.now c.judge_state.new.workspace) c.loop-number.reached c.judge_state.new.judged.media c.judge_state.new.judged.moments
     × IsGoodState (g.J.StateJudge.stands c.args.judge.now) (g.J.StateJudge.good c.args.judge.now c.judge_state.new.workspace) c.loop-number.reached c.loop-number.number = c.in_ok-stop.ensures.good passed in
@@ -114,16 +182,25 @@ loop-number-preserved g c =
     let start : c.go_on_all.new.self.parts.table.start ≡ c.loop-number.reached.parts.table.start = c.go_on_all.ensures.grown.parts.table.start in record {
       start = start ∙ c.loop-number.invariant.start;
       harts = c.go_on_all.ensures.grown.harts ∙ c.loop-number.invariant.harts;
-      covers = covers_kept (g.J.StateJudge.stands c.args.judge.now) c.loop-number.reached c.go_on_all.new.self
+      covers = covers_at_kept (g.J.StateJudge.stands c.args.judge.now) c.loop-number.reached c.go_on_all.new.self 0
           (started c.args.reached.now.parts.table.start.program c.args.reached.now.parts.table.start.medium c.args.reached.now.harts)
           c.go_on_all.ensures.grown c.loop-number.invariant.covers;
-      led = c.in_ok-stop-2.ensures.led (search rules) c.loop-number.invariant.led;
+      led = (rw c.in-Ok.is at c.in_ok-to.ensures.led) c.loop-number.invariant.led;
       closed = closed_next (g.J.StateJudge.stands c.args.judge.now) (g.J.StateJudge.allows c.args.judge.now) (g.J.StateJudge.ends c.args.judge.now) c.loop-number.reached c.go_on_all.new.self c.loop-number.number
           c.loop-number.invariant.closed there here c.go_on_all.ensures.still;
       good = good_next (g.J.StateJudge.stands c.args.judge.now) (g.J.StateJudge.good c.args.judge.now c.judge_state.new.workspace) c.loop-number.reached c.go_on_all.new.self c.loop-number.number
           c.go_on_all.ensures.grown c.go_on_all.ensures.before.0 c.go_on_all.ensures.before.1 there below judged.1;
       moments = moments_kept (g.J.StateJudge.stands c.args.judge.now) (g.J.StateJudge.good c.args.judge.now c.judge_state.new.workspace) c.loop-number.reached c.go_on_all.new.self c.judge_state.new.judged.media
           c.judge_state.new.judged.moments c.go_on_all.ensures.grown judged.0;
+      asked = c.note.ensures.asked ∙ ap (λ (w : Ways). w.asked) c.judge_state.ensures.ways ∙ c.loop-number.invariant.asked;
+      turns = λ asked.
+          let was : c.judge_state.new.judged.ways.asked ≡ true = ap (λ (w : Ways). w.asked) c.judge_state.ensures.ways ∙ c.loop-number.invariant.asked ∙ asked in
+          let before : c.judge_state.new.judged.ways.next.items ≡ c.loop-number.judged.ways.next.items = ap (λ (w : Ways). w.next.items) c.judge_state.ensures.ways in
+          let noted : c.note.new.self.next.items ≡ c.loop-number.judged.ways.next.items ++ c.in-Ok.to ∷ [] = c.in_ok-note-in-Ok.ensures.noted was ∙ ap (λ (next : List (List ℕ)). next ++ c.in-Ok.to ∷ []) before in
+          rw noted (turns_next (g.J.StateJudge.stands c.args.judge.now) (g.J.StateJudge.allows c.args.judge.now) c.loop-number.reached c.go_on_all.new.self c.loop-number.judged.ways.next.items
+          c.loop-number.number c.in-Ok.to c.go_on_all.ensures.before.0 c.go_on_all.ensures.grown c.go_on_all.ensures.before.2 there (rw c.in-Ok.is at c.in_ok-to.ensures.turns) (c.loop-number.invariant.turns asked));
+      within = omega (arith, within_kept c.loop-number.reached.states c.go_on_all.new.self.states c.loop-number.number c.go_on_all.ensures.grown.states there);
+      most = c.judge_state.ensures.most ∙ c.loop-number.invariant.most;
       fits = rw start c.judge_state.ensures.fits;
       kept = λ events full image good. c.judge_state.ensures.kept events full image (c.loop-number.invariant.kept events full image good);
       told = c.tell.ensures c.args.watcher.now c.loop-number.invariant.told;

@@ -1,6 +1,7 @@
-use Rattle.std.specs.Prelude.{◌≡◌, length}
+use Rattle.std.specs.Prelude.{◌≡◌, ◌≤◌, true, length}
 use Rattle.machine.specs.Run.{started}
-use Rattle.schedule_states.specs.Covering.{Covers, IsClosedBelow}
+use Rattle.schedule_states.specs.Covering.{IsClosedBelow}
+use Rattle.schedule_states.specs.Ending.{AreTurnsBelow, CoversAt}
 use Rattle.schedule_states.specs.Happening.{AreLed}
 use Rattle.schedule_states.specs.Judging.{AreGoodBelow, AreGoodMoments, StaysGood}
 use Rattle.schedule_states.specs.Watching.{HasHeard}
@@ -10,12 +11,16 @@ abbrev pub invariant-loop-number : goal.invariant-loop-number
 invariant-loop-number g l = record {
   start : l.reached.parts.table.start ≡ l.initial.reached.parts.table.start;
   harts : l.reached.harts ≡ l.initial.reached.harts;
-  covers : Covers (g.J.StateJudge.stands l.judge) l.reached
+  covers : CoversAt (g.J.StateJudge.stands l.judge) l.reached 0
       (started l.initial.reached.parts.table.start.program l.initial.reached.parts.table.start.medium l.initial.reached.harts);
   led : AreLed (g.J.StateJudge.stands l.judge) (g.J.StateJudge.allows l.judge) l.reached;
   closed : IsClosedBelow (g.J.StateJudge.stands l.judge) (g.J.StateJudge.allows l.judge) (g.J.StateJudge.ends l.judge) l.reached l.number;
   good : AreGoodBelow (g.J.StateJudge.stands l.judge) (g.J.StateJudge.good l.judge l.workspace) l.reached l.number;
   moments : AreGoodMoments (g.J.StateJudge.stands l.judge) (g.J.StateJudge.good l.judge l.workspace) l.reached l.judged.media l.judged.moments;
+  asked : l.judged.ways.asked ≡ l.initial.judged.ways.asked;
+  turns : l.initial.judged.ways.asked ≡ true → AreTurnsBelow (g.J.StateJudge.stands l.judge) (g.J.StateJudge.allows l.judge) l.reached l.judged.ways.next.items l.number;
+  within : l.number ≤ length l.reached.states;
+  most : l.judged.most ≡ l.initial.judged.most;
   fits : g.J.StateJudge.fits l.judge (length l.reached.parts.table.start.medium) l.workspace;
   kept : StaysGood (g.J.StateJudge.good l.judge l.initial.workspace) (g.J.StateJudge.good l.judge l.workspace);
   told : HasHeard g.W.Watcher.hears l.initial.watcher l.watcher;

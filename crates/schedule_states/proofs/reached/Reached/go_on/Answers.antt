@@ -1,21 +1,23 @@
 use Rattle.std.proofs.Common.{◌≡◌, false, true, Some, slice_get, refl, sym, subst, rules}
+use Rattle.std.proofs.lemmas.Option.{slice_get_within}
 use Rattle.machine.specs.Replies.{SharedState, trace_in}
-use Rattle.machine.specs.Run.{started}
+use Rattle.machine.specs.Run.{Config, started}
 use Rattle.schedule_states.proofs.Closing.{grown_twice}
-use Rattle.schedule_states.proofs.Happening.{LeadsOn, leads_on, led_grown, led_more, led_next}
+use Rattle.schedule_states.proofs.Happening.{LeadsOn, leads_on, led_grown, led_more, led_next, led_start}
 use Rattle.schedule_states.proofs.Numbering.{numbered_grown}
 use Rattle.schedule_states.proofs.Returning.{stands_before}
 use Rattle.schedule_states.specs.Marks.{IsMarkedBy}
-use Rattle.schedule_states.specs.Covering.{ReachedView}
+use Rattle.schedule_states.specs.Covering.{IsMet, ReachedView}
+use Rattle.schedule_states.specs.Ending.{CoversAt}
 use Rattle.schedule_states.specs.Happening.{IsAtRequest, IsLedAs}
 use Rattle.schedule_states.specs.Reaching.{ArePartsOf, HaveGrown, IsKeptOn}
-use Rattle.schedule_states.specs.States.{StandsFor}
+use Rattle.schedule_states.specs.States.{AsksTo, StandsFor}
 use Rattle.schedule_states.specs.Successors.{HasLists, HaveMoved, IfState, IsSuccessor}
 use Rattle.schedule_states.specs.declared.successor.Successor.TheVariants as answer
 use Rattle.schedule_states.proofs.reached.Reached.go_on.Goals as goal
 
-pub returns-then-not-may_go-clause-closed : goal.returns-then-not-may_go-clause-closed
-returns-then-not-may_go-clause-closed g c = λ told t kept k d stands_as may asks.
+pub returns-then-not-may_go-clause-turn : goal.returns-then-not-may_go-clause-turn
+returns-then-not-may_go-clause-turn g c = λ t kept k d stands_as may asks.
     let refused : c.may_go.result ≡ false = search rules in
     absurd (c.may_go.ensures.not refused t kept (trace_in k.common) stands_as.1 may)
 
@@ -58,8 +60,8 @@ invariant_of-self-in-State g c = numbered_grown
     (record { parts = c.self.inside.parts; hart_parts = c.self.inside.hart_parts; standings = c.self.inside.standings; states = c.self.inside.states; harts = c.self.inside.leads })
     c.after_request.new.self c.standing_after.new.known c.after_request.ensures.grown c.standing_after.ensures.kept c.self.invariant
 
-pub returns-in_err-number_of-in-State-clause-before : goal.returns-in_err-number_of-in-State-clause-before
-returns-in_err-number_of-in-State-clause-before g c =
+pub returns-in_err-number-in-State-clause-before : goal.returns-in_err-number-in-State-clause-before
+returns-in_err-number-in-State-clause-before g c =
     rw (sym c.self.view_is) (λ s k lists stands. stands_before c.self.inside.parts c.number_of.new.self.parts s k
     (rw c.number_of.ensures.parts c.after_request.ensures.grown) c.lists_are_there.ensures lists stands)
 
@@ -73,8 +75,8 @@ invariant_of-self-in-TooLong g c = numbered_grown
     (record { parts = c.self.inside.parts; hart_parts = c.self.inside.hart_parts; standings = c.self.inside.standings; states = c.self.inside.states; harts = c.self.inside.leads })
     c.after_request.new.self c.self.inside.standings c.after_request.ensures.grown (λ n value found. found) c.self.invariant
 
-pub returns-in_ok-number_of-in-State-clause-before : goal.returns-in_ok-number_of-in-State-clause-before
-returns-in_ok-number_of-in-State-clause-before g c =
+pub returns-in_ok-number-in-State-clause-before : goal.returns-in_ok-number-in-State-clause-before
+returns-in_ok-number-in-State-clause-before g c =
     rw (sym c.self.view_is) (λ s k lists stands. stands_before c.self.inside.parts c.number_of.new.self.parts s k
     (rw c.number_of.ensures.parts c.after_request.ensures.grown) c.lists_are_there.ensures lists stands)
 
@@ -86,29 +88,49 @@ pub returns-in-TooLong-clause-before : goal.returns-in-TooLong-clause-before
 returns-in-TooLong-clause-before g c =
     rw (sym c.self.view_is) (λ s k lists stands. stands_before c.self.inside.parts c.after_request.new.self s k c.after_request.ensures.grown c.lists_are_there.ensures lists stands)
 
-pub returns-in_ok-number_of-in-State-clause-closed : goal.returns-in_ok-number_of-in-State-clause-closed
-returns-in_ok-number_of-in-State-clause-closed g c = λ told t kept k d stands_as may asks.
+pub returns-in_ok-number-in-State-clause-turn : goal.returns-in_ok-number-in-State-clause-turn
+returns-in_ok-number-in-State-clause-turn g c = λ t kept.
     let lists : HasLists c.self.inside.parts c.args.state.now = rw (sym c.self.view_is) at c.requires.lists in
     let successor : IsSuccessor c.self.inside.parts c.after_request.new.self c.args.state.now c.args.hart (answer.State c.in-State.next c.in-State.mark) =
     rw c.in-State.is at c.in_ok-next.ensures.successor in
-    let before : StandsFor c.self.inside.parts c.args.state.now k =
-    stands_before c.self.inside.parts c.after_request.new.self c.args.state.now k c.after_request.ensures.grown c.lists_are_there.ensures lists
-    (rw c.number_of.ensures.parts at stands_as.0) in
-    let comes : StandsFor c.after_request.new.self c.in-State.next d × IsMarkedBy c.in-State.mark (trace_in k.common) (trace_in d.common) = successor k d before asks in
     let was : slice_get c.self.inside.standings c.args.numbers.now.standing ≡ Some t = rw (sym c.self.view_is) at kept in
     let on : IsKeptOn (g.J.StateJudge.stands c.args.judge.now) c.self.inside.standings c.standing_after.new.known c.args.numbers.now.standing c.in-State.mark c.in-Some.standing =
     search rules in
     let next = on t was in
-    record {
-      state = c.in-State.next;
-      standing = next.0;
-      number = c.in_ok-number_of-in-State.field-0;
-      met = c.in_ok-number_of-in-State.ensures.met next.0 next.1;
-      stands_as = (rw c.number_of.ensures.parts comes.0, next.2 (trace_in k.common) (trace_in d.common) comes.1 stands_as.1);
-    }
+    let before : (k : Config) → StandsFor c.number_of.new.self.parts c.args.state.now k → StandsFor c.self.inside.parts c.args.state.now k = λ k stands.
+    stands_before c.self.inside.parts c.after_request.new.self c.args.state.now k c.after_request.ensures.grown c.lists_are_there.ensures lists
+    (rw c.number_of.ensures.parts at stands) in
+    let comes : (k d : Config) → StandsFor c.self.inside.parts c.args.state.now k → g.J.StateJudge.stands c.args.judge.now t (trace_in k.common) → AsksTo k c.args.hart d →
+    CoversAt (g.J.StateJudge.stands c.args.judge.now) c.number_of.new.self c.in_ok-number-in-State.number d = λ k d stands stood asks.
+    let after : StandsFor c.after_request.new.self c.in-State.next d × IsMarkedBy c.in-State.mark (trace_in k.common) (trace_in d.common) = successor k d stands asks in (
+      record {
+        state = c.in-State.next;
+        standing = next.0;
+        number = c.in_ok-number-in-State.number;
+        met = c.in_ok-number-in-State.ensures.met next.0 next.1;
+        stands_as = (rw c.number_of.ensures.parts after.0, next.2 (trace_in k.common) (trace_in d.common) after.1 stood);
+      },
+      refl,
+    ) in
+    let allowed : c.may_go.result ≡ true = search rules in
+    let at : IsAtRequest c.self.inside.parts c.args.state.now c.args.hart = rw c.in-State.is at c.in_ok-next.ensures.asks in
+    let met : IsMet c.number_of.new.self c.in_ok-number-in-State.number c.in-State.next next.0 = c.in_ok-number-in-State.ensures.met next.0 next.1 in (
+      λ k d stands_as may asks. comes k d (before k stands_as.0) stands_as.1 asks,
+      record {
+        there = slice_get_within c.number_of.new.self.states c.in_ok-number-in-State.number met.numbers met.found;
+        leads = λ k stands_as.
+            let may : g.J.StateJudge.allows c.args.judge.now (trace_in k.common) c.args.hart = c.may_go.ensures.may allowed t kept (trace_in k.common) stands_as.1 in
+            let on : LeadsOn (g.J.StateJudge.allows c.args.judge.now) k c.self.inside.parts c.args.state.now k c.args.hart =
+            leads_on (g.J.StateJudge.allows c.args.judge.now) k c.self.inside.parts c.args.state.now k c.args.hart (led_start (g.J.StateJudge.allows c.args.judge.now) k) may
+            (before k stands_as.0) at in
+            let stood : g.J.StateJudge.stands c.args.judge.now t (trace_in on.ready.common) =
+            subst (λ (common : SharedState). g.J.StateJudge.stands c.args.judge.now t (trace_in common)) (sym on.still) stands_as.1 in
+            record { steps = on.led.steps; end = on.next; runs = on.led.runs; covers = comes on.ready on.next on.stands stood on.asks };
+      },
+    )
 
-pub returns-in-Stopped-clause-closed : goal.returns-in-Stopped-clause-closed
-returns-in-Stopped-clause-closed g c = λ told t kept k d stands_as may asks.
+pub returns-in-Stopped-clause-turn : goal.returns-in-Stopped-clause-turn
+returns-in-Stopped-clause-turn g c = λ t kept k d stands_as may asks.
     let lists : HasLists c.self.inside.parts c.args.state.now = rw (sym c.self.view_is) at c.requires.lists in
     let none : IsSuccessor c.self.inside.parts c.after_request.new.self c.args.state.now c.args.hart answer.Stopped =
     rw c.in-Stopped.is at c.in_ok-next.ensures.successor in
@@ -134,8 +156,8 @@ returns-in_default-clause-grown g c = rw (sym c.self.view_is) (record {
   harts = refl;
 })
 
-pub returns-in_err-number_of-in-State-clause-grown : goal.returns-in_err-number_of-in-State-clause-grown
-returns-in_err-number_of-in-State-clause-grown g c =
+pub returns-in_err-number-in-State-clause-grown : goal.returns-in_err-number-in-State-clause-grown
+returns-in_err-number-in-State-clause-grown g c =
     let old : ReachedView _ = record { parts = c.self.inside.parts; hart_parts = c.self.inside.hart_parts; standings = c.self.inside.standings; states = c.self.inside.states; harts = c.self.inside.leads } in
     let middle : ReachedView _ = record { parts = c.after_request.new.self; hart_parts = c.self.inside.hart_parts; standings = c.standing_after.new.known; states = c.self.inside.states; harts = c.self.inside.leads } in
     let to_middle : HaveGrown old middle = record {
@@ -147,8 +169,8 @@ returns-in_err-number_of-in-State-clause-grown g c =
     } in
     rw (sym c.self.view_is) (grown_twice old middle c.number_of.new.self to_middle c.number_of.ensures.grown)
 
-pub returns-in_ok-number_of-in-State-clause-grown : goal.returns-in_ok-number_of-in-State-clause-grown
-returns-in_ok-number_of-in-State-clause-grown g c =
+pub returns-in_ok-number-in-State-clause-grown : goal.returns-in_ok-number-in-State-clause-grown
+returns-in_ok-number-in-State-clause-grown g c =
     let old : ReachedView _ = record { parts = c.self.inside.parts; hart_parts = c.self.inside.hart_parts; standings = c.self.inside.standings; states = c.self.inside.states; harts = c.self.inside.leads } in
     let middle : ReachedView _ = record { parts = c.after_request.new.self; hart_parts = c.self.inside.hart_parts; standings = c.standing_after.new.known; states = c.self.inside.states; harts = c.self.inside.leads } in
     let to_middle : HaveGrown old middle = record {
@@ -161,10 +183,10 @@ returns-in_ok-number_of-in-State-clause-grown g c =
     rw (sym c.self.view_is) (grown_twice old middle c.number_of.new.self to_middle c.number_of.ensures.grown)
 
 pub returns-then-not-may_go-clause-led : goal.returns-then-not-may_go-clause-led
-returns-then-not-may_go-clause-led g c told t kept led are = are
+returns-then-not-may_go-clause-led g c t kept led are = are
 
 pub returns-in-Stopped-clause-led : goal.returns-in-Stopped-clause-led
-returns-in-Stopped-clause-led g c told t kept led are =
+returns-in-Stopped-clause-led g c t kept led are =
     let old : ReachedView _ = record { parts = c.self.inside.parts; hart_parts = c.self.inside.hart_parts; standings = c.self.inside.standings; states = c.self.inside.states; harts = c.self.inside.leads } in
     let new : ReachedView _ = record { parts = c.after_request.new.self; hart_parts = c.self.inside.hart_parts; standings = c.self.inside.standings; states = c.self.inside.states; harts = c.self.inside.leads } in
     let grown : HaveGrown old new = record {
@@ -176,8 +198,8 @@ returns-in-Stopped-clause-led g c told t kept led are =
     } in
     led_grown (g.J.StateJudge.stands c.args.judge.now) (g.J.StateJudge.allows c.args.judge.now) old new grown refl (rw (sym c.self.view_is) at are)
 
-pub returns-in_ok-number_of-in-State-clause-led : goal.returns-in_ok-number_of-in-State-clause-led
-returns-in_ok-number_of-in-State-clause-led g c told t kept led are =
+pub returns-in_ok-number-in-State-clause-led : goal.returns-in_ok-number-in-State-clause-led
+returns-in_ok-number-in-State-clause-led g c t kept led are =
     let old : ReachedView _ = record { parts = c.self.inside.parts; hart_parts = c.self.inside.hart_parts; standings = c.self.inside.standings; states = c.self.inside.states; harts = c.self.inside.leads } in
     let middle : ReachedView _ = record { parts = c.after_request.new.self; hart_parts = c.self.inside.hart_parts; standings = c.standing_after.new.known; states = c.self.inside.states; harts = c.self.inside.leads } in
     let to_middle : HaveGrown old middle = record {
@@ -205,7 +227,7 @@ returns-in_ok-number_of-in-State-clause-led g c told t kept led are =
     let next = kept_on t was in
     let stood : g.J.StateJudge.stands c.args.judge.now t (trace_in on.ready.common) =
     subst (λ (common : SharedState). g.J.StateJudge.stands c.args.judge.now t (trace_in common)) (sym on.still) led_in.stands_as.1 in
-    led_more (g.J.StateJudge.stands c.args.judge.now) (g.J.StateJudge.allows c.args.judge.now) old c.number_of.new.self c.in-State.next next.0 grown (c.in_ok-number_of-in-State.ensures.only next.0 next.1)
+    led_more (g.J.StateJudge.stands c.args.judge.now) (g.J.StateJudge.allows c.args.judge.now) old c.number_of.new.self c.in-State.next next.0 grown (c.in_ok-number-in-State.ensures.only next.0 next.1)
     (led_next (g.J.StateJudge.stands c.args.judge.now) (g.J.StateJudge.allows c.args.judge.now) old c.number_of.new.self c.in-State.next next.0 on.next grown on.led
     (rw c.number_of.ensures.parts comes.0, next.2 (trace_in on.ready.common) (trace_in on.next.common) comes.1 stood))
     (rw (sym c.self.view_is) at are)

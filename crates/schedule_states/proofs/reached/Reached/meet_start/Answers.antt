@@ -35,13 +35,17 @@ pub returns-clause-start : goal.returns-clause-start
 returns-clause-start g c told =
     let stands : StandsFor c.args.self.now.parts c.in-Ok.start
     (started c.args.self.now.parts.table.start.program c.args.self.now.parts.table.start.medium c.args.self.now.harts) = search rules in
-    let same : c.args.self.now.parts ≡ c.self.inside.parts = search rules in record {
-      state = c.in-Ok.start;
-      standing = c.in_ok-standing.ensures.first.0;
-      number = c.in_ok-number_of.field-0;
-      met = c.in_ok-number_of.ensures.met c.in_ok-standing.ensures.first.0 c.in_ok-standing.ensures.first.1;
-      stands_as = (rw (c.number_of.ensures.parts, sym same) stands, c.in_ok-standing.ensures.first.2);
-    }
+    let same : c.args.self.now.parts ≡ c.self.inside.parts = search rules in
+    let none : c.self.inside.states ≡ [] = rw (sym c.self.view_is) at c.requires.none in (
+      record {
+        state = c.in-Ok.start;
+        standing = c.in_ok-standing.ensures.first.0;
+        number = c.in_ok-number_of.field-0;
+        met = c.in_ok-number_of.ensures.met c.in_ok-standing.ensures.first.0 c.in_ok-standing.ensures.first.1;
+        stands_as = (rw (c.number_of.ensures.parts, sym same) stands, c.in_ok-standing.ensures.first.2);
+      },
+      c.in_ok-number_of.ensures.first none,
+    )
 
 pub returns-clause-led : goal.returns-clause-led
 returns-clause-led g c told =

@@ -1,7 +1,7 @@
 use Rattle.std.proofs.Common.{◌≡◌, ◌<◌, inl, inr, Some, length, slice_get, refl, ap, sym, ◌∙◌, rules}
 use Rattle.std.proofs.lemmas.Option.{slice_get_within}
 use Rattle.bus.proofs.Places.{there_is}
-use Rattle.schedule_states.proofs.Looking.{got_appended}
+use Rattle.schedule_states.proofs.Looking.{first_number, got_appended}
 use Rattle.schedule_states.proofs.Numbering.{met_of, numbered_parts, numbered_state}
 use Rattle.schedule_states.specs.Reaching.{AreNumbersOf}
 use Rattle.schedule_states.specs.Successors.{HasLists}
@@ -63,3 +63,9 @@ returns-clause-only g c =
       | inr same ↦ inr (met_of (record { parts = c.self.inside.parts; hart_parts = c.numbers_of.new.known; standings = c.self.inside.standings; states = c.number_of.new.self; harts = c.self.inside.leads })
           c.args.state.now t numbers n count refl (rw (sym c.self.view_is) at kept) are (here.1 ∙ ap (λ (x : StateNumbers). Some x) same))
     ]
+
+pub returns-clause-first : goal.returns-clause-first
+returns-clause-first g c =
+    let numbers : StateNumbers = record { harts = c.in_ok-harts.harts; memory = c.args.state.now.memory; standing = c.args.standing } in
+    let number = c.in_ok-number.ensures.number in
+    λ none. first_number c.self.inside.states c.number_of.new.self numbers c.in_ok-number.number number.found (rw (sym c.self.view_is) at none) c.number_of.ensures.appended number.here
