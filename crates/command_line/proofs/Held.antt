@@ -16,8 +16,6 @@ use Rattle.debugger.proofs.Runs.{no_run}
 use Rattle.debugger.proofs.Underway.{appends_none}
 use Rattle.crash_test.specs.Origins.{AreNamesOf, origin_of}
 use Rattle.crash_test.specs.Programs.{file_kind}
-use Rattle.crash_test.specs.declared.file_kind.FileKind.{FileKind}
-use Rattle.crash_test.specs.declared.file_kind.FileKind.TheVariants as kinds
 use Rattle.elf_file.specs.FunctionSymbols.{FunctionSymbol}
 use Rattle.elf_file.specs.Functions.{functions_of}
 use Rattle.elf_file.specs.LineTables.{KnownTable, line_table_of}
@@ -25,7 +23,7 @@ use Rattle.report.specs.Addresses.{StandsFor}
 use Rattle.report.specs.Places.{KnownOrigin, origin_in}
 use Rattle.report.specs.declared.place.Places.{Places}
 use Rattle.report.specs.declared.place.Places.TheVariants.{Executable, Source, Traced, Unknown}
-use Rattle.command_line.specs.Debugging.{FailsBy, HoldsSession, IsBrokenOff, code_by_kind, code_of, debugger_of, known_code, told_place}
+use Rattle.command_line.specs.Debugging.{FailsBy, HoldsSession, IsBrokenOff, code_by, code_of, debugger_of, known_code, told_place}
 use Rattle.command_line.specs.Failures.{failure_of_session}
 use Rattle.command_line.specs.declared.failure.Failure.{Failure}
 use Rattle.command_line.specs.declared.failure.Failure.TheVariants as failures
@@ -103,10 +101,9 @@ named_code stands place = record { named = true; stands_for = stands; place = pl
 abbrev plain_code : (ℕ → List ℕ) → KnownCode
 plain_code place = record { named = false; stands_for = λ word address. ⊥; place = place }
 
-other_code : (kind : FileKind) (file : List ℕ) → ¬ (kind ≡ kinds.Elf) → plain_code (told_place (origin_of file)) ≡ code_by_kind kind file
-other_code kinds.Elf file none = absurd (none refl)
-other_code kinds.Object file none = refl
-other_code kinds.Source file none = refl
+other_code : (elf : Bool) (file : List ℕ) → elf ≡ false → plain_code (told_place (origin_of file)) ≡ code_by elf file
+other_code false file none = refl
+other_code true file none = absurd cc
 
 same_code : (file : List ℕ) (places : Places) → origin_in places ≡ origin_of file → AreNamesOf file places → known_code places ≡ code_of file
 same_code file (Executable lines functions) origins names =
@@ -114,13 +111,13 @@ same_code file (Executable lines functions) origins names =
     ap (λ (table : KnownTable). named_code (StandsFor table.rows functions) place) names.1
     ∙ ap (λ (fs : List FunctionSymbol). named_code (StandsFor (line_table_of file).rows fs) place) names.2
     ∙ ap (λ (o : ℕ → KnownOrigin). named_code (StandsFor (line_table_of file).rows (functions_of file)) (told_place o)) origins
-    ∙ sym (ap (λ (kind : FileKind). code_by_kind kind file) names.0)
+    ∙ sym (ap (λ (elf : Bool). code_by elf file) names.0)
 same_code file (Source numbers) origins names =
-    ap (λ (o : ℕ → KnownOrigin). plain_code (told_place o)) origins ∙ other_code (file_kind file) file names
+    ap (λ (o : ℕ → KnownOrigin). plain_code (told_place o)) origins ∙ other_code (begins_as_elf file) file names
 same_code file (Traced places) origins names =
-    ap (λ (o : ℕ → KnownOrigin). plain_code (told_place o)) origins ∙ other_code (file_kind file) file names
+    ap (λ (o : ℕ → KnownOrigin). plain_code (told_place o)) origins ∙ other_code (begins_as_elf file) file names
 same_code file Unknown origins names =
-    ap (λ (o : ℕ → KnownOrigin). plain_code (told_place o)) origins ∙ other_code (file_kind file) file names
+    ap (λ (o : ℕ → KnownOrigin). plain_code (told_place o)) origins ∙ other_code (begins_as_elf file) file names
 
 pub held_of_file : (file : List ℕ) (places : Places) (machine : MachineView) (input input' output output' : Option (List ℕ)) (ended : Result ℕ Failure)
     → origin_in places ≡ origin_of file → AreNamesOf file places → HoldsSession (known_code places) machine input input' output output' ended

@@ -1,5 +1,5 @@
 -- What `debug` comes to: the program that a session is held on, and the session.
-use Rattle.std.specs.Prelude.{◌≡◌, ◌⊎◌, ◌++◌, ℕ, true, false, List, [], Option, Result, MatchResult, option_map, string_bytes}
+use Rattle.std.specs.Prelude.{◌≡◌, ◌⊎◌, ◌++◌, ℕ, Bool, true, false, List, [], Option, Result, MatchResult, option_map, string_bytes}
 use Rattle.std.specs.Io.KnownBytes.{Appends}
 use Rattle.std.specs.Result.{result_map_both}
 use Rattle.arguments.specs.declared.asked.DebugCommand.{DebugCommand}
@@ -13,11 +13,10 @@ use Rattle.debugger.specs.StreamFailures.{one_more}
 use Rattle.debugger.specs.Running.{SomeRun}
 use Rattle.debugger.specs.Sessions.{BreaksOff, Session}
 use Rattle.crash_test.specs.Origins.{origin_of}
-use Rattle.crash_test.specs.Programs.{IsProgramOf, file_kind}
+use Rattle.crash_test.specs.Programs.{IsProgramOf}
 use Rattle.crash_test.specs.Runs.{IsAtStart}
-use Rattle.crash_test.specs.declared.file_kind.FileKind.{FileKind}
-use Rattle.crash_test.specs.declared.file_kind.FileKind.TheVariants.{Elf}
 use Rattle.elf_file.specs.Functions.{functions_of}
+use Rattle.elf_file.specs.Header.{begins_as_elf}
 use Rattle.elf_file.specs.LineTables.{line_table_of}
 use Rattle.program.specs.Sections.{Sections}
 use Rattle.report.specs.Addresses.{StandsFor, StandsIn, have_names}
@@ -57,13 +56,13 @@ abbrev pub told_place : (ℕ → KnownOrigin) → ℕ → List ℕ
 told_place origins pc = pc_text pc (origins pc)
 
 -- what is known of the code of a program's file: in an ELF file words stand for functions and lines of its tables
-abbrev pub code_by_kind : FileKind → List ℕ → KnownCode
-code_by_kind Elf file =
+abbrev pub code_by : Bool → List ℕ → KnownCode
+code_by true file =
     record { named = true; stands_for = StandsFor (line_table_of file).rows (functions_of file); place = told_place (origin_of file) }
-code_by_kind kind file = record { named = false; stands_for = λ word address. ⊥; place = told_place (origin_of file) }
+code_by false file = record { named = false; stands_for = λ word address. ⊥; place = told_place (origin_of file) }
 
 abbrev pub code_of : List ℕ → KnownCode
-code_of file = code_by_kind (file_kind file) file
+code_of file = code_by (begins_as_elf file) file
 
 -- the same of the places that were read of it
 abbrev pub known_code : Places → KnownCode

@@ -1,5 +1,5 @@
 -- What `judge` comes to with power cuts in recovery.
-use Rattle.std.specs.Prelude.{ℕ, List, [], Option, Result, MatchResult, ◌++◌, ⊥}
+use Rattle.std.specs.Prelude.{ℕ, List, [], Option, Result, MatchResult, ◌++◌}
 use Rattle.crash_test.specs.CutsJudging.{HasCutsJudgementOn, IsToldOfCutsOn}
 use Rattle.routine_judge.specs.Verdicts.{IsRefusal}
 use Rattle.routine_judge.specs.declared.cuts.outcome.CutsVerdict.{CutsVerdict}
@@ -39,7 +39,7 @@ abbrev pub JudgesRunBy : {E : Type 0} → (E → Option (List ℕ)) → OpenJudg
 JudgesRunBy said judge most made verdict =
     First (Still (ExplainsChain judge.recovery judge.command.steps made.run (failing_chain judge.command.judged.why verdict))) (λ cuts.
     First (Still (Prints (told_verdict judge.command.judged.json most verdict
-        ++ chain_told judge.command.judged.json made.file.items judge.recovery_file.items cuts) (verdict_status verdict)))
+    ++ chain_told judge.command.judged.json made.file.items judge.recovery_file.items cuts) (verdict_status verdict)))
     (Answers said (judges_none verdict)))
 
 -- power cuts in recovery are asked for of a run alone

@@ -196,11 +196,7 @@ fn told_of(alloc: Global, whole: ExplainedImage, is_last: bool) -> ExplainedImag
 
 /// The routine's run on an image, as a program's.
 #[tactic(auto, using(crate::proofs::Unexplained::memory_unexplained, crate::proofs::Unexplained::step_unexplained, crate::proofs::Unexplained::image_unexplained))]
-fn recovery_run(
-    alloc: Global,
-    routine: &RoutineReader<'_>,
-    image: &Medium,
-) -> Result<Run, Failure>
+fn recovery_run(alloc: Global, routine: &RoutineReader<'_>, image: &Medium) -> Result<Run, Failure>
     ensures ok { IfOk result (IsRecoveryOn routine.now.program.now routine.now.steps image.now) }
     ensures err { IfErr result IsUnexplained }
 {

@@ -52,6 +52,7 @@ pub(crate) fn start(
 }
 
 /// What is known of the code of a program.
+#[derive(Drop)]
 struct ProgramCode<'a> {
     places: Places<'a>,
 }
@@ -76,15 +77,15 @@ impl Code for ProgramCode<'_> {
 /// before the next is asked for on standard input.
 pub(crate) fn hold_session<R: Read, W: Write>(
     alloc: Global,
-    open: OpenDebug,
+    opened: OpenDebug,
     input: &mut R,
     output: &mut W,
 ) -> Result<u8, Failure>
-    requires { IsOpen open }
-    ensures { HoldsSession (code_of open.file.items) open.machine (R.remaining input.old) (R.remaining input.new)
+    requires { IsOpen opened }
+    ensures { HoldsSession (code_of opened.file.items) opened.machine (R.remaining input.old) (R.remaining input.new)
         (W.contents output.old) (W.contents output.new) result }
 {
-    let OpenDebug { file, machine } = open;
+    let OpenDebug { file, machine } = opened;
     let places = places_of(alloc, &file)?;
     let code = ProgramCode { places };
     let mut source = StandardInput { input, failures: 0 };
