@@ -19,7 +19,7 @@ use Rattle.crash_test.specs.declared.file_kind.FileKind.{FileKind}
 use Rattle.crash_test.specs.declared.file_kind.FileKind.TheVariants as kinds
 
 -- how a file of a kind begins
-kind_by : Bool → Bool → FileKind
+abbrev kind_by : Bool → Bool → FileKind
 kind_by elf object = if elf then kinds.Elf else (if object then kinds.Object else kinds.Source)
 
 elf_by : (elf object : Bool) → kind_by elf object ≡ kinds.Elf → elf ≡ true
