@@ -4,7 +4,7 @@
 use crate::calls::states::{OWN, Routine};
 use every_schedule::{Finding, Limits, Outcome};
 use hart::{HartState, Status};
-use machine::{Item, Machine, Run, Step};
+use machine::{Item, Machine, Run, Setup, Step};
 use std::alloc::Global;
 use std::thread::Threads;
 
@@ -55,17 +55,11 @@ fn routine_of(source: &'static str) -> Routine {
     }
 }
 
-/// The place to which a schedule leads.
-fn place_behind(alloc: Global, source: &'static str, schedule: &[u32]) -> Option<Place> {
-    let setup = routine_of(source).setup(alloc)?;
-    let mut machine = Machine::new(
-        alloc,
-        setup.program,
-        setup.medium,
-        setup.harts,
-        setup.capacity,
-    )
-    .ok()?;
+/// The place to which a schedule leads from a start.
+fn place_behind(alloc: Global, start: &Setup, schedule: &[u32]) -> Option<Place> {
+    let program = start.program.copy(alloc).ok()?;
+    let medium = start.medium.copy(alloc).ok()?;
+    let mut machine = Machine::new(alloc, program, medium, start.harts, start.capacity).ok()?;
     for hart in schedule {
         machine.step(Step::Hart(*hart)).ok()?;
     }
@@ -102,27 +96,27 @@ fn number_in(all: &[Met], place: &Place) -> usize {
     all.len()
 }
 
-/// All places to which schedules lead.
-fn all_places(alloc: Global, source: &'static str) -> Option<Vec<Met>> {
+/// All places to which schedules lead from a start.
+fn all_places(alloc: Global, start: &Setup) -> Option<Vec<Met>> {
     let mut all = Vec::new(alloc);
-    let start = place_behind(alloc, source, &[])?;
-    number_of(&mut all, start, Vec::new(alloc))?;
+    let first = place_behind(alloc, start, &[])?;
+    number_of(&mut all, first, Vec::new(alloc))?;
     for at in 0..MOST {
         if at >= all.len() {
             return Some(all);
         }
-        go_on(alloc, source, &mut all, at)?;
+        go_on(alloc, start, &mut all, at)?;
     }
     None
 }
 
 /// Makes a step of each hart from a place.
-fn go_on(alloc: Global, source: &'static str, all: &mut Vec<Met>, at: usize) -> Option<()> {
+fn go_on(alloc: Global, start: &Setup, all: &mut Vec<Met>, at: usize) -> Option<()> {
     let mut next = [0; 2];
     for hart in 0..2u32 {
         let mut schedule = Vec::from_slice(alloc, &all.get(at)?.schedule).ok()?;
         schedule.push(hart).ok()?;
-        let place = place_behind(alloc, source, &schedule)?;
+        let place = place_behind(alloc, start, &schedule)?;
         next[hart as usize] = number_of(all, place, schedule)?;
     }
     all.get_mut(at)?.next = next;
@@ -153,13 +147,6 @@ fn has_stopped(place: &Place) -> bool {
     place.harts[0].status != Status::Running && place.harts[1].status != Status::Running
 }
 
-/// Whether each place has a way out.
-fn all_can_end(alloc: Global, source: &'static str) -> Option<bool> {
-    let all = all_places(alloc, source)?;
-    let out = ways_out(alloc, &all)?;
-    Some(all_marked(&out))
-}
-
 fn all_marked(marks: &[bool]) -> bool {
     for mark in marks {
         if !*mark {
@@ -169,13 +156,29 @@ fn all_marked(marks: &[bool]) -> bool {
     true
 }
 
-/// Whether the place to which a run leads has a way out.
-fn can_end(alloc: Global, source: &'static str, run: &Run) -> Option<bool> {
-    let all = all_places(alloc, source)?;
-    let out = ways_out(alloc, &all)?;
-    let schedule = hart_steps_of(alloc, run)?;
-    let place = place_behind(alloc, source, &schedule)?;
-    out.get(number_in(&all, &place)).copied()
+/// What a plain search finds of a program.
+#[derive(Drop)]
+struct Searched {
+    start: Setup,
+    all: Vec<Met>,
+    /// Of each place whether it has a way out.
+    out: Vec<bool>,
+}
+
+impl Searched {
+    fn of(alloc: Global, source: &'static str) -> Option<Searched> {
+        let start = routine_of(source).setup(alloc)?;
+        let all = all_places(alloc, &start)?;
+        let out = ways_out(alloc, &all)?;
+        Some(Searched { start, all, out })
+    }
+
+    /// Whether the place to which a run leads has a way out.
+    fn can_end(&self, alloc: Global, run: &Run) -> Option<bool> {
+        let schedule = hart_steps_of(alloc, run)?;
+        let place = place_behind(alloc, &self.start, &schedule)?;
+        self.out.get(number_in(&self.all, &place)).copied()
+    }
 }
 
 /// The steps of a run, each by its hart.
@@ -191,8 +194,13 @@ fn hart_steps_of(alloc: Global, run: &Run) -> Option<Vec<u32>> {
     Some(steps)
 }
 
-/// Whether all is found to be right: None where something else is found than that a run has no way out, as it hasn't.
-fn is_right<T: Threads + Sync>(rt: &T, alloc: Global, source: &'static str) -> Option<bool> {
+/// Whether all is found to be right: None where something else is found than a run without a way out, or that run has one.
+fn is_right<T: Threads + Sync>(
+    rt: &T,
+    alloc: Global,
+    source: &'static str,
+    searched: &Searched,
+) -> Option<bool> {
     let routine = routine_of(source);
     let plan = routine.plan(alloc)?;
     let limits = Limits {
@@ -204,20 +212,31 @@ fn is_right<T: Threads + Sync>(rt: &T, alloc: Global, source: &'static str) -> O
         Outcome::Found {
             run,
             finding: Finding::NoWayOut,
-        } if can_end(alloc, source, &run) == Some(false) => Some(false),
+        } if searched.can_end(alloc, &run) == Some(false) => Some(false),
         _ => None,
     }
 }
 
+/// Whether all is found to be right, and whether each place has a way out.
+fn found_of<T: Threads + Sync>(
+    rt: &T,
+    alloc: Global,
+    source: &'static str,
+) -> Option<(bool, bool)> {
+    let searched = Searched::of(alloc, source)?;
+    let right = is_right(rt, alloc, source, &searched)?;
+    Some((right, all_marked(&searched.out)))
+}
+
 #[test]
 fn harts_that_wait_for_ever_are_found(rt: HostRuntime) {
-    for source in [OPPOSITE, IN_ORDER, FLEETING, LASTING] {
-        let right = is_right(&rt, rt.alloc(), source);
-        let known = all_can_end(rt.alloc(), source);
-        assert!(rt; right.is_some() && right == known, "{right:?} {known:?}");
+    for (source, right) in [
+        (OPPOSITE, false),
+        (IN_ORDER, true),
+        (FLEETING, false),
+        (LASTING, true),
+    ] {
+        let found = found_of(&rt, rt.alloc(), source);
+        assert!(rt; found == Some((right, right)), "{found:?} {right}");
     }
-    assert!(rt; all_can_end(rt.alloc(), OPPOSITE) == Some(false));
-    assert!(rt; all_can_end(rt.alloc(), IN_ORDER) == Some(true));
-    assert!(rt; all_can_end(rt.alloc(), FLEETING) == Some(false));
-    assert!(rt; all_can_end(rt.alloc(), LASTING) == Some(true));
 }
