@@ -1,5 +1,5 @@
 -- What is told of an image by the events as they are told.
-use Rattle.std.proofs.Common.{◌≡◌, ◌∙◌, List, ℕ, Bool, Result, Ok, Err}
+use Rattle.std.proofs.Common.{◌≡◌, Bool, Result, Ok, Err}
 use Rattle.std.specs.Prelude.{IfOk, String, string_bytes}
 use Rattle.std.specs.declared.alloc.AllocError.{AllocError}
 use Rattle.std.specs.declared.alloc.Global.{Global}

@@ -8,7 +8,7 @@ use Rattle.report.specs.Answers.{answer_text}
 use Rattle.command_line.specs.Judging.{missing_text}
 use Rattle.command_line.specs.Reading.{ReadsMedium, ReadsRecovery}
 use Rattle.command_line.specs.Reports.{line_end}
-use Rattle.command_line.specs.Steps.{First, Prints, Reads, Step, Still}
+use Rattle.command_line.specs.Steps.{First, Reads, Step, Still}
 use Rattle.command_line.specs.declared.answer.Answer.{Answer}
 use Rattle.command_line.specs.declared.failure.Failure.{Failure}
 use Rattle.command_line.specs.declared.failure.Failure.TheVariants.{Memory}

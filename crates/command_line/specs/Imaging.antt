@@ -1,5 +1,5 @@
 -- What `images` comes to.
-use Rattle.std.specs.Prelude.{ℕ, Bool, true, false, List, [], Option, Some, None, Result, MatchResult, ◌++◌, codes, decimal}
+use Rattle.std.specs.Prelude.{ℕ, Bool, true, false, List, Option, Some, None, Result, MatchResult, ◌++◌, codes, decimal}
 use Rattle.arguments.specs.declared.asked.ImagesCommand.{ImagesCommand}
 use Rattle.crash_test.specs.Images.{CountsImages, LacksMoment}
 use Rattle.store_trace.specs.declared.event.Event.{Event}

@@ -1,5 +1,5 @@
 -- What a trace file says that a command reads, and the medium that its events start from.
-use Rattle.std.specs.Prelude.{◌≡◌, ◌≤◌, ℕ, Bool, List, [], Option, None, Result, Ok, All, MatchResult, length, slice_index, string_bytes}
+use Rattle.std.specs.Prelude.{◌≡◌, ◌≤◌, ℕ, Bool, List, [], None, Result, Ok, All, MatchResult, length, slice_index, string_bytes}
 use Rattle.arguments.specs.declared.asked.EventSource.{EventSource}
 use Rattle.arguments.specs.declared.asked.EventSource.TheVariants as sources
 use Rattle.arguments.specs.declared.asked.ScheduledRun.{ScheduledRun}

@@ -1,5 +1,5 @@
 -- The name is there, or it isn't.
-use Rattle.std.proofs.Common.{Option, String, Global, option_map, refl, string_bytes, subst, sym}
+use Rattle.std.proofs.Common.{option_map, refl, string_bytes, subst, sym}
 use Rattle.std.specs.Result.{result_map_both}
 use Rattle.command_line.specs.ImageFiles.{ReadsBytes}
 use Rattle.command_line.proofs.image.read_bytes.Goals as goal

@@ -6,7 +6,7 @@ use Rattle.command_line.proofs.judge.judge_atomic.Goals as goal
 
 pub runs_for-requires-clause-few : goal.runs_for-requires-clause-few
 runs_for-requires-clause-few g c =
-    few_started c.args.judge.now.events _ (rw (c.requires.atomic, c.setup_in-start.ensures) at c.requires.open.ready.started)
+    λ κs within. few_started c.args.judge.now.events c.setup_in-start.result.now (rw (c.requires.atomic, c.setup_in-start.ensures) at c.requires.open.ready.started)
 
 pub judge_by-requires-clause-rule : goal.judge_by-requires-clause-rule
 judge_by-requires-clause-rule g c =

@@ -1,6 +1,5 @@
 -- Sequential runs are found with `--atomic` alone.
 use Rattle.std.proofs.Common.{◌≡◌, ◌∙◌, Ok, None, refl, sym}
-use Rattle.arguments.specs.declared.asked.RightAnswers.{RightAnswers}
 use Rattle.arguments.specs.declared.asked.RightAnswers.TheVariants.{Atomic, InTurn, Overlapping}
 use Rattle.command_line.proofs.judge.judge_run.Goals as goal
 
