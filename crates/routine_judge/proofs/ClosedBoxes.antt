@@ -164,13 +164,13 @@ all_answered view m (Some most) source boxes right are starts closed =
     answered_to view m most source boxes starts (each_right_to view.routine view.steps most right.answers.items (IsRightOf view source) boxes boxes are.each closed)
 
 -- what cuts leave of the images of a box
-left_of_only : (program : Sections) (steps : ℕ) (first second : List (List ℕ) → Type 0) (cuts : ℕ) (left : List (List ℕ)) (shown : Option (List ℕ))
+pub left_of_only : (program : Sections) (steps : ℕ) (first second : List (List ℕ) → Type 0) (cuts : ℕ) (left : List (List ℕ)) (shown : Option (List ℕ))
     → ((image : List (List ℕ)) → first image → second image) → IsLeft program steps first cuts left shown → IsLeft program steps second cuts left shown
 left_of_only program steps first second zero left shown all (here, none) = (all left here, none)
 left_of_only program steps first second (suc cuts) left shown all (before, earlier, was, cut) =
     (before, earlier, left_of_only program steps first second cuts before earlier all was, cut)
 
-alone_only : (lines image : List (List ℕ)) → IsIn (map (λ line. line ∷ []) lines) image → image ≡ lines
+pub alone_only : (lines image : List (List ℕ)) → IsIn (map (λ line. line ∷ []) lines) image → image ≡ lines
 alone_only [] [] h = refl
 alone_only [] (line ∷ image) h = absurd h
 alone_only (line ∷ lines) [] h = absurd h
@@ -201,7 +201,7 @@ bad_from program steps right most medium images old new cause alone e g has =
     }
 
 -- the images of a moment lie in one box
-alone_in : (lines : List (List ℕ)) → IsIn (map (λ line. line ∷ []) lines) lines
+pub alone_in : (lines : List (List ℕ)) → IsIn (map (λ line. line ∷ []) lines) lines
 alone_in [] = tt
 alone_in (line ∷ lines) = ((0, omega arith, refl), alone_in lines)
 

@@ -39,3 +39,4 @@ pub mod Bad
 pub mod Chaining
 pub mod Unsettled
 pub mod PlainRight
+pub mod WidePassing

@@ -29,3 +29,5 @@ pub mod CutMoments
 pub mod Chains
 pub mod ChainCuts
 pub mod CutRows
+pub mod WidePasses
+pub mod CutJudges

@@ -19,6 +19,7 @@ mod outcome;
 mod row;
 mod rule;
 mod run;
+mod wide;
 
 pub use bound_box::{Bound, BoundBox};
 pub use bound_boxes::BoundBoxes;
@@ -31,4 +32,4 @@ pub use opening::open_box;
 pub use outcome::{ChainLink, CutsVerdict, RecoveryCuts};
 pub use row::CutRow;
 pub use rule::CutRule;
-pub use run::{RunWithCuts, judge_cuts};
+pub use run::{CutJudge, RunWithCuts, judge_cuts};

@@ -28,9 +28,9 @@ mod span;
 pub use answer_images::AnswerImages;
 pub use cause::Cause;
 pub use cuts::{
-    Bound, BoundBox, BoundBoxes, BoxVerdict, ChainLink, CutCause, CutRow, CutRule, CutsVerdict,
-    ImageBox, RecoveryCuts, RunWithCuts, closed_boxes_stay_recovered, judge_cuts, left_at,
-    no_cut_in_recovery_says_the_same, open_box,
+    Bound, BoundBox, BoundBoxes, BoxVerdict, ChainLink, CutCause, CutJudge, CutRow, CutRule,
+    CutsVerdict, ImageBox, RecoveryCuts, RunWithCuts, closed_boxes_stay_recovered, judge_cuts,
+    left_at, no_cut_in_recovery_says_the_same, open_box,
 };
 pub use fault::JudgeFault;
 pub use held::HeldAnswer;

@@ -36,7 +36,7 @@ pub fn still_passes(
 }
 
 /// Whether a moment has the right answers of the one before it, whose window this is, where the event between them is no mark.
-fn stays(run: &MarkedRun<'_>, window: Window) -> bool
+pub fn stays(run: &MarkedRun<'_>, window: Window) -> bool
     ensures { IsTrue result → StaysBy run.now.right window }
 {
     match run.sources {
