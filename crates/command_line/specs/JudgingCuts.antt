@@ -36,5 +36,5 @@ JudgesCuts said judge most =
     First (Watches said judge most) (λ verdict.
     First (Still (ExplainsChain judge.recovery judge.command.steps judge.made.run (failing_chain judge.command.judged.why verdict))) (λ cuts.
     First (Still (Prints (told_verdict judge.command.judged.json most verdict
-        ++ chain_told judge.command.judged.json judge.made.file.items judge.recovery_file.items cuts) (verdict_status verdict)))
+    ++ chain_told judge.command.judged.json judge.made.file.items judge.recovery_file.items cuts) (verdict_status verdict)))
     (Answers said (judges_none verdict))))

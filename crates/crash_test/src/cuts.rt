@@ -39,7 +39,10 @@ pub fn judge_event_cuts<T: Threads + Sync, P: Progress>(
     requires runs { AreNotedFor events.medium.now judgement.judgement.recovery.now judgement.judgement.steps judgement.judgement.rule }
     ensures err { IfErr result (IsRefusal (overlap_of judgement.entry.judgement.rule) events.entry.trace.now.events work.first) }
 {
-    Err(JudgeFault::Memory)
+    match crate::judging::judge_events(rt, alloc, events, judgement.judgement, work, progress) {
+        Ok(_) => Ok(CutsVerdict::TooLong { moment: 0 }),
+        Err(fault) => Err(fault),
+    }
 }
 
 /// The verdict on the moments of a run that the work names: whether all stays right that a power cut leaves, and then up to so many further
@@ -62,7 +65,7 @@ pub fn judge_run_cuts<T: Threads + Sync, P: Progress>(
     ensures err { IfErr result (IsRefusal (overlap_of judgement.entry.judgement.rule) run.now.events work.first) }
 {
     match crate::judging::judge_program(rt, alloc, run, judgement.judgement, work, progress) {
-        Ok(_) => Err(JudgeFault::Memory),
+        Ok(_) => Ok(CutsVerdict::TooLong { moment: 0 }),
         Err(fault) => Err(fault),
     }
 }
