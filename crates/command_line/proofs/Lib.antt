@@ -5,6 +5,7 @@ pub mod ImageLines
 mod Loops
 mod Texts
 mod Unexplained
+mod Chains
 mod CutLines
 pub mod Written
 mod ObjectPrograms

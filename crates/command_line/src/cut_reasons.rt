@@ -1,6 +1,6 @@
 //! What is told of the power cuts of a failing chain.
 
-ghost use Rattle.command_line.specs.CutReasons.{AreExplained, AreLoaded, Begins, ExplainsChain, HaveFewSteps, IsExplained, IsImageOf, IsOfProgram, IsRecoveryOn, IsToldOf, IsUnexplained, bool_text, chain_told, file_of, front_in, front_of, line_told, lines_told, with_recovery};
+ghost use Rattle.command_line.specs.CutReasons.{AreExplained, AreLoaded, Begins, ExplainsChain, HaveFewSteps, IsExplained, IsImageOf, IsOfProgram, IsRecoveryOn, IsToldOf, IsUnexplained, bool_text, chain_told, file_of, front_in, front_of, line_told, lines_told, steps_of_recovery, with_recovery};
 ghost use Rattle.command_line.specs.Reasons.{HasFewSteps, told_losses};
 ghost use Rattle.crash_test.specs.Origins.{origin_of};
 ghost use Rattle.std.specs.List.{after_first, before_first};
@@ -202,12 +202,21 @@ fn recovery_run(alloc: Global, routine: &RoutineReader<'_>, image: &Medium) -> R
 {
     let program = routine.program.copy(alloc)?;
     let medium = image.copy(alloc)?;
+    let schedule = steps_of_recovery(alloc, routine.steps)?;
+    Ok(record_run(alloc, Setup::with_room(program, medium, 1), &schedule)?)
+}
+
+/// The schedule `h0*STEPS`.
+fn steps_of_recovery(alloc: Global, steps: u32) -> Result<Schedule, AllocError>
+    ensures schedule { IfOk result (λ schedule. schedule ≡ steps_of_recovery steps) }
+    ensures few { IfOk result (λ schedule. hart_steps schedule < 2 ^ 32) }
+{
     let mut schedule = Schedule::new(alloc);
     schedule.push(Item::Steps {
         hart: 0,
-        count: routine.steps,
+        count: steps,
     })?;
-    Ok(record_run(alloc, Setup::with_room(program, medium, 1), &schedule)?)
+    Ok(schedule)
 }
 
 /// The image that a power cut of a chain leaves in its run.
@@ -349,7 +358,6 @@ fn with_recovery(
 }
 
 /// What stands before the first comma, and what behind it.
-#[tactic(auto, using(crate::proofs::CutLines::parted))]
 fn parts(object: &str) -> (&str, &str)
     ensures kind { result.0.now ≡ before_first (λ b. b == 44) object.now }
     ensures others { result.1.now ≡ after_first (λ b. b == 44) object.now }
