@@ -3,8 +3,9 @@
 ghost use Rattle.command_line.specs.CutReasons.{AreExplained, AreLoaded, Begins, ExplainsChain, HaveFewSteps, IsExplained, IsImageOf, IsOfProgram, IsRecoveryOn, IsToldOf, IsUnexplained, bool_text, chain_told, file_of, front_in, front_of, line_told, lines_told, steps_of_recovery, with_recovery};
 ghost use Rattle.command_line.specs.Reasons.{HasFewSteps, told_losses};
 ghost use Rattle.crash_test.specs.Origins.{origin_of};
+ghost use Rattle.machine.specs.Grammar.{hart_steps};
 ghost use Rattle.std.specs.List.{after_first, before_first};
-ghost use Rattle.std.specs.Prelude.{◌≡◌, ◌∷◌, ◌++◌, ◌==◌, IfErr, IfOk, map, string_bytes};
+ghost use Rattle.std.specs.Prelude.{◌≡◌, ◌∷◌, ◌++◌, ◌==◌, ◌^◌, ◌<◌, IfErr, IfOk, map, string_bytes};
 ghost use Rattle.std.specs.Result.{result_map_both};
 ghost use Rattle.std.specs.Str.Lines.{lines};
 

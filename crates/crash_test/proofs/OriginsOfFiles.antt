@@ -1,6 +1,5 @@
 -- What a program's file tells of its pcs.
-use Rattle.std.proofs.Common.{◌≡◌, ℕ, Bool, true, false, List, refl, sym, ap, subst, ◌∙◌}
-use Rattle.std.specs.Prelude.{if◌then◌else◌}
+use Rattle.std.proofs.Common.{◌≡◌, ℕ, List, sym, ap, subst, ◌∙◌}
 use Rattle.std.proofs.Math.Path.{fun_ext}
 use Rattle.assemble.specs.Assembly.{IsFirstFault, lines_back}
 use Rattle.assemble.specs.LineNumbers.{line_number, number_at}
@@ -8,41 +7,14 @@ use Rattle.assemble.specs.declared.fault.AsmFault.{AsmFault}
 use Rattle.assemble.proofs.OneAnswer.{no_fault}
 use Rattle.elf_file.specs.FunctionSymbols.{FunctionSymbol}
 use Rattle.elf_file.specs.Functions.{functions_of}
-use Rattle.elf_file.specs.Header.{begins_as_elf}
 use Rattle.elf_file.specs.LineTables.{KnownTable, line_table_of}
 use Rattle.program.specs.Sections.{Sections}
 use Rattle.crash_test.specs.Origins.{origin_by_kind, origin_of}
 use Rattle.report.specs.Places.{by_line, origin_in}
 use Rattle.report.specs.declared.place.Places.TheVariants.{Executable, Source, Unknown}
-use Rattle.crash_test.specs.Programs.{IsObjectOf, IsProgramOf, begins_as_object, file_kind}
+use Rattle.crash_test.specs.Programs.{IsObjectOf, IsProgramOf, file_kind}
 use Rattle.crash_test.specs.declared.file_kind.FileKind.{FileKind}
 use Rattle.crash_test.specs.declared.file_kind.FileKind.TheVariants as kinds
-
--- how a file of a kind begins
-abbrev kind_by : Bool → Bool → FileKind
-kind_by elf object = if elf then kinds.Elf else (if object then kinds.Object else kinds.Source)
-
-elf_by : (elf object : Bool) → kind_by elf object ≡ kinds.Elf → elf ≡ true
-elf_by true object is = refl
-elf_by false true is = absurd cc
-elf_by false false is = absurd cc
-
-object_by : (elf object : Bool) → kind_by elf object ≡ kinds.Object → elf ≡ false
-object_by false object is = refl
-object_by true object is = absurd cc
-
-source_by : (elf object : Bool) → kind_by elf object ≡ kinds.Source → elf ≡ false
-source_by false object is = refl
-source_by true object is = absurd cc
-
-pub elf_begins : (file : List ℕ) → file_kind file ≡ kinds.Elf → begins_as_elf file ≡ true
-elf_begins file is = elf_by (begins_as_elf file) (begins_as_object file) is
-
-pub object_begins : (file : List ℕ) → file_kind file ≡ kinds.Object → begins_as_elf file ≡ false
-object_begins file is = object_by (begins_as_elf file) (begins_as_object file) is
-
-pub source_begins : (file : List ℕ) → file_kind file ≡ kinds.Source → begins_as_elf file ≡ false
-source_begins file is = source_by (begins_as_elf file) (begins_as_object file) is
 
 -- those of an object
 pub nothing_known : (file : List ℕ) → file_kind file ≡ kinds.Object → origin_in Unknown ≡ origin_of file

@@ -1,12 +1,11 @@
 -- Where a program's instruction comes from.
-use Rattle.std.specs.Prelude.{◌≡◌, ℕ, true, false, List}
+use Rattle.std.specs.Prelude.{◌≡◌, ℕ, List}
 use Rattle.assemble.specs.Assembly.{lines_back}
 use Rattle.assemble.specs.LineNumbers.{line_number}
 use Rattle.crash_test.specs.Programs.{file_kind}
 use Rattle.crash_test.specs.declared.file_kind.FileKind.{FileKind}
 use Rattle.crash_test.specs.declared.file_kind.FileKind.TheVariants.{Elf, Object, Source}
 use Rattle.elf_file.specs.Functions.{functions_of}
-use Rattle.elf_file.specs.Header.{begins_as_elf}
 use Rattle.elf_file.specs.LineTables.{line_table_of}
 use Rattle.report.specs.Places.{KnownOrigin, by_line, executable, in_executable, nowhere}
 use Rattle.report.specs.declared.place.Places.{Places}
@@ -25,5 +24,5 @@ origin_of file pc = origin_by_kind (file_kind file) file pc
 
 -- places have names where they are those of an ELF file: these are of its line table and its functions
 abbrev pub AreNamesOf : List ℕ → Places → Type 0
-AreNamesOf file (Executable lines functions) = (begins_as_elf file ≡ true) × (lines ≡ line_table_of file) × (functions ≡ functions_of file)
-AreNamesOf file places = begins_as_elf file ≡ false
+AreNamesOf file (Executable lines functions) = (file_kind file ≡ Elf) × (lines ≡ line_table_of file) × (functions ≡ functions_of file)
+AreNamesOf file places = ¬ (file_kind file ≡ Elf)

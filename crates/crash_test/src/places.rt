@@ -14,7 +14,7 @@ use std::alloc::{AllocError, Global};
 
 /// What a program's file tells of where its instructions come from: a source has line numbers, an ELF file a line table and functions,
 /// and an object nothing.
-#[tactic(auto, using(crate::proofs::OriginsOfFiles::nothing_known, crate::proofs::OriginsOfFiles::object_begins))]
+#[tactic(auto, using(crate::proofs::OriginsOfFiles::nothing_known))]
 pub fn places_of(alloc: Global, file: &[u8]) -> Result<Places<'_>, AllocError>
     requires { (program : Sections) × IsProgramOf file.now program }
     ensures origins { IfOk result (λ places. origin_in places ≡ origin_of file.now) }
@@ -28,7 +28,7 @@ pub fn places_of(alloc: Global, file: &[u8]) -> Result<Places<'_>, AllocError>
 }
 
 /// The line table and the functions of an ELF file.
-#[tactic(auto, using(crate::proofs::OriginsOfFiles::executable_known, crate::proofs::OriginsOfFiles::elf_begins))]
+#[tactic(auto, using(crate::proofs::OriginsOfFiles::executable_known))]
 fn places_of_executable(alloc: Global, file: &[u8]) -> Result<Places<'_>, AllocError>
     requires { file_kind file.now ≡ FileKind.Elf }
     ensures origins { IfOk result (λ places. origin_in places ≡ origin_of file.now) }
@@ -40,7 +40,7 @@ fn places_of_executable(alloc: Global, file: &[u8]) -> Result<Places<'_>, AllocE
 }
 
 /// The line numbers of a source.
-#[tactic(auto, using(crate::proofs::OriginsOfFiles::lines_known, crate::proofs::OriginsOfFiles::source_begins))]
+#[tactic(auto, using(crate::proofs::OriginsOfFiles::lines_known))]
 fn places_of_source(alloc: Global, file: &[u8]) -> Result<Places<'_>, AllocError>
     requires source { file_kind file.now ≡ FileKind.Source }
     requires program { (program : Sections) × IsProgramOf file.now program }
