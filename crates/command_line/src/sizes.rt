@@ -59,5 +59,7 @@ fn executable_text(
     let lines = LineTable::read(alloc, file)?;
     let units = lines.unit_count();
     let read = lines.read_count();
-    format!(in alloc; "text {text} data {static_data} functions {functions} units {read} of {units}\n")
+    format!(in alloc;
+        "text {text} data {static_data} functions {functions} units {read} of {units}\n"
+    )
 }

@@ -3,4 +3,4 @@ use Rattle.command_line.proofs.cut_reasons.cut_told.Goals as goal
 
 pub returns : goal.returns
 returns c =
-    rw (c.as_str.ensures.value, c.in_ok-text.ensures, c.in_ok-places.ensures, c.deref.ensures.value) at c.lines_told.ensures
+    rw (c.as_str.ensures.value, c.in_ok-text.ensures, c.in_ok-places.ensures.origins, c.deref.ensures.value) at c.lines_told.ensures
