@@ -2,6 +2,7 @@
 use Rattle.std.proofs.Common.{rules}
 use Rattle.command_line.specs.declared.failure.Failure.TheVariants.{Unfinished}
 use Rattle.command_line.proofs.Concluding.{concludes_by}
+use Rattle.command_line.specs.AllSchedules.{told_stuck}
 use Rattle.command_line.proofs.all_schedules.told_finding.Goals as goal
 
 pub returns-in-Verdict : goal.returns-in-Verdict
@@ -16,3 +17,6 @@ returns-in_ok-text-in-NotWhole g c =
 
 pub returns-in_err-text-in-NotWhole : goal.returns-in_err-text-in-NotWhole
 returns-in_err-text-in-NotWhole g c = rw c.in-NotWhole.is (search rules)
+
+pub returns-in-NoWayOut : goal.returns-in-NoWayOut
+returns-in-NoWayOut g c = rw c.in-NoWayOut.is (c.answered.ensures (told_stuck c.args.judged.now.json c.args.made.now.run.schedule) c.told_stuck.ensures)
