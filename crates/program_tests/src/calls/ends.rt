@@ -4,6 +4,7 @@
 use crate::calls::states::{OWN, Routine};
 use every_schedule::{Finding, Limits, Outcome};
 use hart::{HartState, Status};
+use image_check::{Cause, OpFault};
 use machine::{Item, Machine, Run, Setup, Step};
 use std::alloc::Global;
 use std::thread::Threads;
@@ -194,7 +195,7 @@ fn hart_steps_of(alloc: Global, run: &Run) -> Option<Vec<u32>> {
     Some(steps)
 }
 
-/// Whether all is found to be right: None where something else is found than a run without a way out, or that run has one.
+/// Whether all is found to be right: None where something else is found than a run without a way out.
 fn is_right<T: Threads + Sync>(
     rt: &T,
     alloc: Global,
@@ -209,11 +210,21 @@ fn is_right<T: Threads + Sync>(
     };
     match routine.outcome(rt, alloc, &plan, limits)? {
         Outcome::Pass { .. } => Some(true),
-        Outcome::Found {
-            run,
-            finding: Finding::NoWayOut,
-        } if searched.can_end(alloc, &run) == Some(false) => Some(false),
-        _ => None,
+        Outcome::Found { run, finding } => goes_on(alloc, searched, &run, &finding),
+        Outcome::TooMany(_bound) => None,
+    }
+}
+
+/// Whether the place to which a run without a way out leads has one; None of a run that was found for another reason.
+fn goes_on(
+    alloc: Global,
+    searched: &Searched,
+    run: &Run,
+    finding: &Finding<Cause, OpFault>,
+) -> Option<bool> {
+    match finding {
+        Finding::NoWayOut => searched.can_end(alloc, run),
+        Finding::Verdict(_) | Finding::Refused(_) | Finding::NotWhole(_) => None,
     }
 }
 
