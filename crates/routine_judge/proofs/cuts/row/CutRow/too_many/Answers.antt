@@ -1,4 +1,4 @@
-use Rattle.std.proofs.Common.{Option, None, Some, subst}
+use Rattle.std.proofs.Common.{Option, Some, subst}
 use Rattle.routine_judge.proofs.Unsettled.{any_after}
 use Rattle.routine_judge.specs.CutRows.{IsEndBy}
 use Rattle.routine_judge.specs.declared.cuts.row.RowEnd.{RowEnd}
