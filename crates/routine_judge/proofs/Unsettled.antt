@@ -176,3 +176,9 @@ pub any_at : (goes_on : Bool) (view : JudgeView) (asked : RecoveryCuts) (first u
     → IsCutsVerdict goes_on view asked first until (verdicts.TooMany end.moment (Some 64))
 any_at goes_on view (AtMost m) first until n end is past fewer e = absurd (let never : ◌≡◌ {A = RecoveryCuts} (AtMost m) Any = is in cc)
 any_at goes_on view Any first until n end is past fewer e = any_many goes_on view first until 65 end (λ k below. fewer k (omega (arith, below, past))) e
+
+-- where 64 cuts settle it
+pub any_after : (goes_on : Bool) (view : JudgeView) (asked : RecoveryCuts) (first until : ℕ) (end : RowEnd) → asked ≡ Any → AreSettled goes_on view (Some 64) first until
+    → IsRowEnd goes_on view (most_of asked) first until end → IsCutsVerdict goes_on view asked first until (verdicts.TooMany end.moment (Some 64))
+any_after goes_on view (AtMost m) first until end is all e = absurd (let never : ◌≡◌ {A = RecoveryCuts} (AtMost m) Any = is in cc)
+any_after goes_on view Any first until end is all e = any_many goes_on view first until 65 end (fewer_next goes_on view first until 64 (λ k below. settled_less goes_on view (Some 64) (Some k) first until (λ n few. omega (arith, few, below)) all) all) e

@@ -104,7 +104,9 @@ impl<'r, 'a> CutRow<'r, 'a> {
                 open,
             }),
             Verdict::Fail { moment, .. } => self.fewest(rt, alloc, asked, bad_at(moment)),
-            Verdict::TooMany { moment, .. } => self.fewest(rt, alloc, asked, too_many_at(moment)),
+            Verdict::TooMany { moment, .. } => {
+                self.too_many(rt, alloc, asked, too_many_at(moment))
+            }
             Verdict::TooLong { moment } => Ok(CutsVerdict::TooLong { moment }),
         }
     }
@@ -140,6 +142,31 @@ impl<'r, 'a> CutRow<'r, 'a> {
     {
         let verdict = self.judge_to(rt, alloc, most, &mut Unwatched)?;
         Ok(row_end(&verdict))
+    }
+
+    /// The verdict where as many cuts in recovery as are asked for take too many runs, at this moment first: where that is any number of them, up to the
+    /// most that are looked at may settle all.
+    fn too_many<T: Threads + Sync>(
+        &self,
+        rt: &T,
+        alloc: Global,
+        asked: RecoveryCuts,
+        last: RowEnd,
+    ) -> Result<CutsVerdict, AllocError>
+        requires { IsRowEnd self.now.goes_on self.now.run.now (most_of asked) self.now.first self.now.end last }
+        ensures { IfOk result (IsCutsVerdict self.now.goes_on self.now.run.now asked self.now.first self.now.end) }
+    {
+        let RecoveryCuts::Any = asked else {
+            return self.fewest(rt, alloc, asked, last);
+        };
+        let found = self.settle(rt, alloc, Some(MAX_CUTS))?;
+        let Some(_earlier) = found else {
+            return Ok(CutsVerdict::TooMany {
+                moment: last.moment,
+                cuts: Some(MAX_CUTS),
+            });
+        };
+        self.fewest(rt, alloc, asked, last)
     }
 
     /// The verdict by the fewest cuts in recovery, where up to as many as are asked for don't settle the moments: this is the least one that they don't.
