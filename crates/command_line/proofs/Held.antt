@@ -1,6 +1,5 @@
 -- What a session leaves, by its outcome.
-use Rattle.std.proofs.Common.{◌≡◌, ◌∙◌, ℕ, true, false, List, [], Option, Result, Ok, Err, ap, arith, inl, refl, subst, sym}
-use Rattle.std.proofs.KnownBytes.{Consumes-nil}
+use Rattle.std.proofs.Common.{◌≡◌, ◌∙◌, ℕ, List, [], Option, Result, Ok, Err, ap, inr, subst}
 use Rattle.std.specs.Prelude.{IfErr, MatchResult, OnOk}
 use Rattle.std.specs.Result.{result_map_both}
 use Rattle.debugger.specs.Code.{KnownCode}
@@ -10,25 +9,14 @@ use Rattle.debugger.specs.declared.fault.DebugFault.TheVariants as faults
 use Rattle.debugger.specs.declared.points.Point.{Point}
 use Rattle.machine.specs.Represents.{MachineView}
 use Rattle.debugger.specs.StreamFailures.{EndsBy}
-use Rattle.debugger.specs.Dialogue.{beginning, none}
 use Rattle.debugger.specs.Sessions.{Fails, Session}
-use Rattle.debugger.proofs.Runs.{no_run}
-use Rattle.debugger.proofs.Underway.{appends_none}
 use Rattle.crash_test.specs.Origins.{AreNamesOf, origin_of}
-use Rattle.crash_test.specs.Programs.{file_kind}
-use Rattle.crash_test.specs.declared.file_kind.FileKind.{FileKind}
-use Rattle.crash_test.specs.declared.file_kind.FileKind.TheVariants as kinds
-use Rattle.elf_file.specs.FunctionSymbols.{FunctionSymbol}
-use Rattle.elf_file.specs.Functions.{functions_of}
-use Rattle.elf_file.specs.LineTables.{KnownTable, line_table_of}
-use Rattle.report.specs.Addresses.{StandsFor}
-use Rattle.report.specs.Places.{KnownOrigin, origin_in}
+use Rattle.report.specs.Places.{origin_in}
 use Rattle.report.specs.declared.place.Places.{Places}
-use Rattle.report.specs.declared.place.Places.TheVariants.{Executable, Source, Traced, Unknown}
-use Rattle.command_line.specs.Debugging.{FailsBy, HoldsSession, IsBrokenOff, code_by_kind, code_of, debugger_of, known_code, told_place}
+use Rattle.command_line.specs.Debugging.{DebugsFile, FailsBy, HoldsSession, IsBrokenOff, debugger_of, known_code}
 use Rattle.command_line.specs.Failures.{failure_of_session}
 use Rattle.command_line.specs.declared.failure.Failure.{Failure}
-use Rattle.command_line.specs.declared.failure.Failure.TheVariants as failures
+use Rattle.command_line.specs.declared.opened.OpenDebug.{OpenDebug}
 
 -- a new debugger is that of its machine
 pub new_debugger : (debugger : DebuggerView) (machine : MachineView) → debugger.machine ≡ machine → debugger.points ≡ []
@@ -73,57 +61,15 @@ fails_by source source' sink sink' (Err faults.PointsFull) ended told ends = abs
 fails_by source source' sink sink' (Err (faults.Step fault)) ended told ends = absurd ends
 fails_by source source' sink sink' (Err (faults.Stopped place fault)) ended told ends = absurd ends
 
--- memory was refused before the session
-pub none_held : (code : KnownCode) (machine : MachineView) (input output : Option (List ℕ)) (ended : Result ℕ Failure) → ended ≡ Err failures.Memory
-    → HoldsSession code machine input input output output ended
-none_held code machine input output ended told = record {
-  left = debugger_of machine;
-  outcome = Err faults.Memory;
-  runs = no_run machine machine refl;
-  held = (
-    [],
-    record {
-      taken = [];
-      further = [];
-      state = beginning (debugger_of machine);
-      reads = Consumes-nil input;
-      within = omega arith;
-      turns = none (beginning (debugger_of machine));
-      stands = inl (refl, refl);
-    },
-    appends_none output,
-  );
-  told = told;
-}
-
--- what is known by the places that were read of a file
-abbrev named_code : (List ℕ → ℕ → Type 0) → (ℕ → List ℕ) → KnownCode
-named_code stands place = record { named = true; stands_for = stands; place = place }
-
-abbrev plain_code : (ℕ → List ℕ) → KnownCode
-plain_code place = record { named = false; stands_for = λ word address. ⊥; place = place }
-
-other_code : (kind : FileKind) (file : List ℕ) → ¬ (kind ≡ kinds.Elf) → plain_code (told_place (origin_of file)) ≡ code_by_kind kind file
-other_code kinds.Elf file none = absurd (none refl)
-other_code kinds.Object file none = refl
-other_code kinds.Source file none = refl
-
-same_code : (file : List ℕ) (places : Places) → origin_in places ≡ origin_of file → AreNamesOf file places → known_code places ≡ code_of file
-same_code file (Executable lines functions) origins names =
-    let place : ℕ → List ℕ = told_place (origin_in (Executable lines functions)) in
-    ap (λ (table : KnownTable). named_code (StandsFor table.rows functions) place) names.1
-    ∙ ap (λ (fs : List FunctionSymbol). named_code (StandsFor (line_table_of file).rows fs) place) names.2
-    ∙ ap (λ (o : ℕ → KnownOrigin). named_code (StandsFor (line_table_of file).rows (functions_of file)) (told_place o)) origins
-    ∙ sym (ap (λ (kind : FileKind). code_by_kind kind file) names.0)
-same_code file (Source numbers) origins names =
-    ap (λ (o : ℕ → KnownOrigin). plain_code (told_place o)) origins ∙ other_code (file_kind file) file names
-same_code file (Traced places) origins names =
-    ap (λ (o : ℕ → KnownOrigin). plain_code (told_place o)) origins ∙ other_code (file_kind file) file names
-same_code file Unknown origins names =
-    ap (λ (o : ℕ → KnownOrigin). plain_code (told_place o)) origins ∙ other_code (file_kind file) file names
-
-pub held_of_file : (file : List ℕ) (places : Places) (machine : MachineView) (input input' output output' : Option (List ℕ)) (ended : Result ℕ Failure)
-    → origin_in places ≡ origin_of file → AreNamesOf file places → HoldsSession (known_code places) machine input input' output output' ended
-    → HoldsSession (code_of file) machine input input' output output' ended
-held_of_file file places machine input input' output output' ended origins names held =
-    subst (λ (code : KnownCode). HoldsSession code machine input input' output output' ended) (same_code file places origins names) held
+-- a session on the machine of a file is that of the opened program
+pub held_of_file : (debug : OpenDebug) (file : List ℕ) (machine : MachineView) (places : Places) (input input' output output' : Option (List ℕ))
+    (ended : Result ℕ Failure) → file ≡ debug.file.items → machine ≡ debug.machine → origin_in places ≡ origin_of file → AreNamesOf file places
+    → HoldsSession (known_code places) machine input input' output output' ended → DebugsFile debug input input' output output' ended
+held_of_file debug file machine places input input' output output' ended same_file same_machine origins names held = inr (
+  places,
+  record {
+    origins = origins ∙ ap (λ (bytes : List ℕ). origin_of bytes) same_file;
+    names = subst (λ (bytes : List ℕ). AreNamesOf bytes places) same_file names;
+  },
+  subst (λ (m : MachineView). HoldsSession (known_code places) m input input' output output' ended) same_machine held,
+)

@@ -1,5 +1,5 @@
 -- What `debug` comes to: the program that a session is held on, and the session.
-use Rattle.std.specs.Prelude.{◌≡◌, ◌⊎◌, ◌++◌, ℕ, true, false, List, [], Option, Result, MatchResult, option_map, string_bytes}
+use Rattle.std.specs.Prelude.{◌≡◌, ◌⊎◌, ◌++◌, ℕ, List, [], Option, Result, Err, MatchResult, option_map, string_bytes}
 use Rattle.std.specs.Io.KnownBytes.{Appends}
 use Rattle.std.specs.Result.{result_map_both}
 use Rattle.arguments.specs.declared.asked.DebugCommand.{DebugCommand}
@@ -12,15 +12,11 @@ use Rattle.machine.specs.Limits.{RefusesStart}
 use Rattle.debugger.specs.StreamFailures.{one_more}
 use Rattle.debugger.specs.Running.{SomeRun}
 use Rattle.debugger.specs.Sessions.{BreaksOff, Session}
-use Rattle.crash_test.specs.Origins.{origin_of}
-use Rattle.crash_test.specs.Programs.{IsProgramOf, file_kind}
+use Rattle.crash_test.specs.Origins.{AreNamesOf, origin_of}
+use Rattle.crash_test.specs.Programs.{IsProgramOf}
 use Rattle.crash_test.specs.Runs.{IsAtStart}
-use Rattle.crash_test.specs.declared.file_kind.FileKind.{FileKind}
-use Rattle.crash_test.specs.declared.file_kind.FileKind.TheVariants.{Elf}
-use Rattle.elf_file.specs.Functions.{functions_of}
-use Rattle.elf_file.specs.LineTables.{line_table_of}
 use Rattle.program.specs.Sections.{Sections}
-use Rattle.report.specs.Addresses.{StandsFor, StandsIn, have_names}
+use Rattle.report.specs.Addresses.{StandsIn, have_names}
 use Rattle.report.specs.Places.{KnownOrigin, origin_in, pc_text}
 use Rattle.report.specs.declared.place.Places.{Places}
 use Rattle.machine.specs.declared.recording.setup.Setup.{Setup}
@@ -56,16 +52,7 @@ pub record IsOpen (debug : OpenDebug) : Type 0 where
 abbrev pub told_place : (ℕ → KnownOrigin) → ℕ → List ℕ
 told_place origins pc = pc_text pc (origins pc)
 
--- what is known of the code of a program's file: in an ELF file words stand for functions and lines of its tables
-abbrev pub code_by_kind : FileKind → List ℕ → KnownCode
-code_by_kind Elf file =
-    record { named = true; stands_for = StandsFor (line_table_of file).rows (functions_of file); place = told_place (origin_of file) }
-code_by_kind kind file = record { named = false; stands_for = λ word address. ⊥; place = told_place (origin_of file) }
-
-abbrev pub code_of : List ℕ → KnownCode
-code_of file = code_by_kind (file_kind file) file
-
--- the same of the places that were read of it
+-- what is known of a program's code by its places
 abbrev pub known_code : Places → KnownCode
 known_code places = record { named = have_names places; stands_for = StandsIn places; place = told_place (origin_in places) }
 
@@ -92,6 +79,16 @@ pub record HoldsSession (code : KnownCode) (machine : MachineView) (input input'
   pub held : MatchResult outcome (λ _. Session code (debugger_of machine) left input input' output output')
       (IsBrokenOff code (debugger_of machine) left input input' output output')
   pub told : ended ≡ result_map_both (λ _. 0) failure_of_session outcome
+
+-- the places of a program's file: they say where its pcs are, and of an ELF file they have its functions and lines
+pub record ArePlacesOf (file : List ℕ) (places : Places) : Type 0 where
+  pub origins : origin_in places ≡ origin_of file
+  pub names : AreNamesOf file places
+
+-- a session on the program of a file; or memory for its places is refused, and nothing is read or written
+abbrev pub DebugsFile : OpenDebug → Option (List ℕ) → Option (List ℕ) → Option (List ℕ) → Option (List ℕ) → Result ℕ Failure → Type 0
+DebugsFile debug input input' output output' ended = ((ended ≡ Err failures.Memory) × (input' ≡ input) × (output' ≡ output))
+    ⊎ ((places : Places) × ArePlacesOf debug.file.items places × HoldsSession (known_code places) debug.machine input input' output output' ended)
 
 -- why a session ends with a failure, by how often its source and its sink had failed before it and after it: one of them failed,
 -- and then no stream is asked again, or memory was refused, and neither failed

@@ -14,7 +14,7 @@ use Rattle.command_line.specs.Checking.{IsOpen, JudgesCheck, OpensCheck}
 use Rattle.command_line.specs.AllSchedules.{FailsBehind}
 use Rattle.command_line.specs.CheckingAll.{ChecksAll, IsOpen as IsOpenCheckAll, OpensCheckAll}
 use Rattle.command_line.specs.Coding.{code_text}
-use Rattle.command_line.specs.Debugging.{HoldsSession, IsOpen as IsOpenDebug, OpensFile, code_of}
+use Rattle.command_line.specs.Debugging.{DebugsFile, IsOpen as IsOpenDebug, OpensFile}
 use Rattle.command_line.specs.Drawing.{InterleavesFile}
 use Rattle.command_line.specs.Explaining.{ExplainsFile}
 use Rattle.command_line.specs.Failures.{failure_status, failure_text}
@@ -169,7 +169,7 @@ Delivers remaining contents said old new errors errors' (Ok (actions.CheckAll ch
 Delivers remaining contents said old new errors errors' (Ok (actions.JudgeAll judge)) ended =
     (new.0 ≡ old.0) × DeliversConclusion contents (JudgesAll said judge) old.1 new.1 errors errors' ended
 Delivers remaining contents said old new errors errors' (Ok (actions.Debug debug)) ended =
-    HoldsSession (code_of debug.file.items) debug.machine (remaining old.0) (remaining new.0) (contents old.1) (contents new.1) ended × (errors' ≡ errors)
+    DebugsFile debug (remaining old.0) (remaining new.0) (contents old.1) (contents new.1) ended × (errors' ≡ errors)
 Delivers remaining contents said old new errors errors' (Err failure) ended = (ended ≡ Err failure) × (new ≡ old) × (errors' ≡ errors)
 
 -- the status of the program

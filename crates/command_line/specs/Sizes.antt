@@ -13,17 +13,17 @@ use Rattle.command_line.specs.declared.failure.Failure.{Failure}
 
 -- `text N data N`, in bytes, and what is behind it
 abbrev pub sized_text : ℕ → ℕ → List ℕ → List ℕ
-sized_text text data behind = codes "text " ++ (decimal text ++ (codes " data " ++ (decimal data ++ behind)))
+sized_text text static_data behind = codes "text " ++ (decimal text ++ (codes " data " ++ (decimal static_data ++ behind)))
 
 -- of an executable ` functions N units N of N` behind it: how many functions it has, and of how many of all units of its line table the lines are read
 abbrev pub executable_text : List ℕ → ℕ → ℕ → List ℕ
-executable_text file text data = sized_text text data (codes " functions " ++ (decimal (length (functions_of file))
+executable_text file text static_data = sized_text text static_data (codes " functions " ++ (decimal (length (functions_of file))
     ++ (codes " units " ++ (decimal (line_table_of file).units_read ++ (codes " of " ++ (decimal (line_table_of file).units ++ line_end))))))
 
 -- by whether it is an ELF file
 abbrev pub sizes_of : Bool → List ℕ → ℕ → ℕ → List ℕ
-sizes_of true file text data = executable_text file text data
-sizes_of false file text data = sized_text text data line_end
+sizes_of true file text static_data = executable_text file text static_data
+sizes_of false file text static_data = sized_text text static_data line_end
 
 -- the line of a program's file
 abbrev pub sizes_text : List ℕ → Sections → List ℕ

@@ -141,12 +141,12 @@ fn all_judged(judge: Result<OpenJudgeAll, Failure>) -> Result<Action, Failure>
 }
 
 /// A session is held on a program.
-fn debugged(open: Result<OpenDebug, Failure>) -> Result<Action, Failure>
-    requires { IfOk open IsOpenDebug }
-    ensures is { result ≡ result_map_both Debug (λ failure. failure) open }
+fn debugged(debug: Result<OpenDebug, Failure>) -> Result<Action, Failure>
+    requires { IfOk debug IsOpenDebug }
+    ensures is { result ≡ result_map_both Debug (λ failure. failure) debug }
     ensures ready { IfOk result IsReady }
 {
-    Ok(Action::Debug(open?))
+    Ok(Action::Debug(debug?))
 }
 
 /// What a line comes to that asks for no command.

@@ -2,7 +2,7 @@
 
 ghost use Rattle.std.specs.Prelude.{◌≡◌, IfErr, IfOk};
 ghost use Rattle.std.specs.Result.{result_map_both};
-ghost use Rattle.command_line.specs.Debugging.{FailsBy, HoldsSession, IsOpen, OpensFile, Starts, code_of, known_code};
+ghost use Rattle.command_line.specs.Debugging.{DebugsFile, FailsBy, HoldsSession, IsOpen, OpensFile, Starts, known_code};
 ghost use Rattle.command_line.specs.Failures.{failure_of_session};
 ghost use Rattle.command_line.specs.Reading.{machine_of};
 
@@ -52,6 +52,7 @@ pub(crate) fn start(
 }
 
 /// What is known of the code of a program.
+#[derive(Drop)]
 struct ProgramCode<'a> {
     places: Places<'a>,
 }
@@ -76,15 +77,14 @@ impl Code for ProgramCode<'_> {
 /// before the next is asked for on standard input.
 pub(crate) fn hold_session<R: Read, W: Write>(
     alloc: Global,
-    open: OpenDebug,
+    debug: OpenDebug,
     input: &mut R,
     output: &mut W,
 ) -> Result<u8, Failure>
-    requires { IsOpen open }
-    ensures { HoldsSession (code_of open.file.items) open.machine (R.remaining input.old) (R.remaining input.new)
-        (W.contents output.old) (W.contents output.new) result }
+    requires { IsOpen debug }
+    ensures { DebugsFile debug (R.remaining input.old) (R.remaining input.new) (W.contents output.old) (W.contents output.new) result }
 {
-    let OpenDebug { file, machine } = open;
+    let OpenDebug { file, machine } = debug;
     let places = places_of(alloc, &file)?;
     let code = ProgramCode { places };
     let mut source = StandardInput { input, failures: 0 };

@@ -51,13 +51,13 @@ fn executable_text(
     alloc: Global,
     file: &[u8],
     text: usize,
-    data: usize,
+    static_data: usize,
 ) -> Result<String, AllocError>
-    ensures { IfOk result (λ line. string_bytes line ≡ executable_text file.now text data) }
+    ensures { IfOk result (λ line. string_bytes line ≡ executable_text file.now text static_data) }
 {
     let functions = Functions::read(alloc, file)?.count();
     let lines = LineTable::read(alloc, file)?;
     let units = lines.unit_count();
     let read = lines.read_count();
-    format!(in alloc; "text {text} data {data} functions {functions} units {read} of {units}\n")
+    format!(in alloc; "text {text} data {static_data} functions {functions} units {read} of {units}\n")
 }
