@@ -87,12 +87,26 @@ pub(crate) fn hold_session<R: Read, W: Write>(
     let OpenDebug { file, machine } = debug;
     let places = places_of(alloc, &file)?;
     let code = ProgramCode { places };
+    talk(alloc, &code, machine, input, output)
+}
+
+/// A session on a machine of whose code this is known.
+fn talk<R: Read, W: Write>(
+    alloc: Global,
+    code: &ProgramCode<'_>,
+    machine: Machine,
+    input: &mut R,
+    output: &mut W,
+) -> Result<u8, Failure>
+    ensures { HoldsSession (known_code code.now.places) machine (R.remaining input.old) (R.remaining input.new)
+        (W.contents output.old) (W.contents output.new) result }
+{
     let mut source = StandardInput { input, failures: 0 };
     let mut sink = StandardOutput {
         output,
         failures: 0,
     };
-    converse(alloc, &code, machine, &mut source, &mut sink)
+    converse(alloc, code, machine, &mut source, &mut sink)
 }
 
 /// A session over standard input and standard output, whose failures are counted.
