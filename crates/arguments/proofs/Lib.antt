@@ -1,3 +1,4 @@
+mod CutTexts
 mod Lines
 mod Spans
 pub mod Tables

@@ -23,7 +23,7 @@ all_codes =
     codes "N6" ∷ codes "N7" ∷ codes "N8" ∷ codes "N9" ∷ codes "N10" ∷ codes "N11" ∷ codes "L1" ∷ codes "L2" ∷ codes "L3" ∷ codes "L4" ∷
     codes "L5" ∷ codes "O1" ∷ codes "O2" ∷ codes "O3" ∷ codes "O4" ∷ codes "O5" ∷ codes "O6" ∷ codes "D1" ∷ codes "D2" ∷ codes "D3" ∷ codes "D4" ∷ codes "D5" ∷
     codes "T1" ∷ codes "T2" ∷ codes "T3" ∷ codes "T4" ∷ codes "T5" ∷ codes "T6" ∷ codes "T7" ∷
-    codes "illegal" ∷ codes "different" ∷ codes "unmatched" ∷ codes "running" ∷ codes "answer" ∷ codes "events" ∷ codes "memory" ∷ codes "file" ∷ []
+    codes "illegal" ∷ codes "different" ∷ codes "changed" ∷ codes "unmatched" ∷ codes "running" ∷ codes "answer" ∷ codes "events" ∷ codes "memory" ∷ codes "file" ∷ []
 
 -- the texts of a row: a code, what it means, and what to do
 abbrev pub Texts : Type 0

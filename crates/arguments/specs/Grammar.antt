@@ -163,13 +163,13 @@ check_shape = record (new_shape (codes "check")) {
       ∷ flag_option (codes "json") ∷ flag_option (codes "progress") ∷ help_option ∷ [];
 }
 
--- `judge PROGRAM SCHEDULE RECOVERY [--medium FILE --harts N --steps N --workers N --atomic --states N --overlapping --moments A-B --go-on --whole --why --json --progress]`
+-- `judge PROGRAM SCHEDULE RECOVERY [--medium FILE --harts N --steps N --workers N --atomic --states N --overlapping --recovery-cuts N --moments A-B --go-on --whole --why --json --progress]`
 unfoldable pub judge_shape : Shape
 judge_shape = record (new_shape (codes "judge")) {
   rules = needed_word (codes "PROGRAM") ∷ needed_word (codes "SCHEDULE") ∷ needed_word (codes "RECOVERY")
       ∷ valued_option (codes "medium") ∷ valued_option (codes "harts") ∷ valued_option (codes "steps")
       ∷ valued_option (codes "workers") ∷ flag_option (codes "atomic") ∷ valued_option (codes "states")
-      ∷ flag_option (codes "overlapping") ∷ valued_option (codes "moments") ∷ flag_option (codes "go-on") ∷ flag_option (codes "whole") ∷ flag_option (codes "why") ∷ flag_option (codes "json")
+      ∷ flag_option (codes "overlapping") ∷ valued_option (codes "recovery-cuts") ∷ valued_option (codes "moments") ∷ flag_option (codes "go-on") ∷ flag_option (codes "whole") ∷ flag_option (codes "why") ∷ flag_option (codes "json")
       ∷ flag_option (codes "progress") ∷ help_option ∷ [];
 }
 

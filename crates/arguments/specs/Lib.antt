@@ -1,3 +1,4 @@
+pub mod Cuts
 pub mod Grammar
 pub mod Line
 pub mod Spans

@@ -5,6 +5,7 @@ use Rattle.clap.specs.Kinds.{IsAmong}
 use Rattle.clap.specs.declared.error.ErrorKind.{ErrorKind}
 use Rattle.clap.specs.declared.error.ErrorKind.TheVariants as kinds
 use Rattle.text.specs.Texts.{IsProper}
+use Rattle.arguments.specs.Cuts.{AreFewCuts, IsOptionalCuts}
 use Rattle.arguments.specs.Grammar.{grammar_of}
 use Rattle.arguments.specs.Spans.{IsOptionalMoments, IsUpward}
 use Rattle.arguments.specs.Values.{IsCapacity, IsCodeWord, IsEvictions, IsHarts, IsImageWord, IsNumberWord, IsOptional, IsOptionalImage, IsOptionalNumber, IsRecoverySteps, IsSeed, IsStates, IsSteps, IsWord, IsWorkers, is_set}
@@ -170,13 +171,14 @@ AreRightBy true true right = ⊥
 abbrev pub IsRight : List Row → RightAnswers → Type 0
 IsRight rows right = AreRightBy (is_set (first_of (codes "atomic") rows)) (is_set (first_of (codes "overlapping") rows)) right
 
--- `judge` of this run by this recovery routine, so many steps of it on an image, the answers of it that are right, and at most so many states of the
--- search for sequential runs
+-- `judge` of this run by this recovery routine, so many steps of it on an image, the answers of it that are right, at most so many states of the
+-- search for sequential runs, and so many power cuts in recovery
 pub record IsJudge (rows : List Row) (command : JudgeCommand) : Type 0 where
   pub recovery : IsWord (codes "RECOVERY") rows command.recovery
   pub steps : IsRecoverySteps rows command.steps
   pub right : IsRight rows command.right
   pub states : IsStates rows command.states
+  pub cuts : IsOptionalCuts (first_of (codes "recovery-cuts") rows) command.cuts
   pub judged : IsJudgedRun rows command.judged
 
 -- What `check-all` and `judge-all` have in common: this program, at most so many states, whether harts may stop in any way, whether a failure is
@@ -340,6 +342,7 @@ IsWithinLimits (Image command) = IsSourceWithin command.source × (command.momen
 IsWithinLimits (Explain command) = IsMachineWithin command.run.machine × (command.moment < 2 ^ 32) × IsProper command.image
 IsWithinLimits (Check command) = IsJudgedWithin command.judged
 IsWithinLimits (Judge command) = IsJudgedWithin command.judged × IsWithin 1 500000000 command.steps × IsWithin 1 4294967295 command.states
+    × IfSome command.cuts AreFewCuts
 IsWithinLimits (CheckAll command) = IsProgramWithin command.judged
 IsWithinLimits (JudgeAll command) = IsProgramWithin command.judged × IsWithin 1 500000000 command.steps
 IsWithinLimits (Answer command) = IsWithin 1 500000000 command.steps

@@ -34,7 +34,7 @@ pub enum Command {
     Explain(ExplainCommand),
     /// `check PLAN PROGRAM SCHEDULE [--medium FILE --harts N --workers N --moments A-B --go-on --whole --why --json --progress]`.
     Check(CheckCommand),
-    /// `judge PROGRAM SCHEDULE RECOVERY [--medium FILE --harts N --steps N --workers N --atomic --states N --overlapping --moments A-B --go-on --whole --why --json --progress]`.
+    /// `judge PROGRAM SCHEDULE RECOVERY [--medium FILE --harts N --steps N --workers N --atomic --states N --overlapping --recovery-cuts N --moments A-B --go-on --whole --why --json --progress]`.
     Judge(JudgeCommand),
     /// `check-all PLAN PROGRAM [--medium FILE --harts N --states N --any-end --why --json --progress]`.
     CheckAll(CheckAllCommand),
@@ -253,7 +253,18 @@ pub struct JudgeCommand {
     pub right: RightAnswers,
     /// The most states of the search for sequential runs, from 1 to 4,294,967,295; 1,000,000 where the line doesn't say.
     pub states: u32,
+    /// How many power cuts in recovery are looked at, where the line has `--recovery-cuts`.
+    pub cuts: Option<MostCuts>,
     pub judged: JudgedRun,
+}
+
+/// How many power cuts `judge` looks at that come while recovery runs or after it has ended.
+#[derive(Clone, Copy, Debug, PartialEq, Eq)]
+pub enum MostCuts {
+    /// Up to so many, from 1 to 64.
+    AtMost(u32),
+    /// Any number of them: the value is `any`.
+    Any,
 }
 
 /// Which answers of a recovery routine `judge` takes for right.

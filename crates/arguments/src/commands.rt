@@ -43,6 +43,7 @@ use crate::asked::{
     MachineOptions, MakeVolumeCommand, PictureCommand, ReplayCommand, ReportCommand, RightAnswers,
     RunCommand, ScheduledRun, ShowCommand, TraceCommand, TracedEvents, UpgradeCommand,
 };
+use crate::cuts::optional_cuts;
 use crate::machine::{cached_machine, whole_machine};
 use crate::moments::optional_moments;
 use crate::values::{
@@ -402,6 +403,7 @@ pub(crate) fn judge(alloc: Global, found: &ArgMatches<'_>) -> Result<Command, Li
     let right = right_answers(alloc, found)?;
     let steps = number(alloc, found, &RECOVERY_STEPS)?;
     let states = number(alloc, found, &STATES)?;
+    let cuts = optional_cuts(alloc, found, "recovery-cuts")?;
     let recovery = word(alloc, found, "RECOVERY")?;
     let judged = judged_run(alloc, found)?;
     Ok(Command::Judge(JudgeCommand {
@@ -409,6 +411,7 @@ pub(crate) fn judge(alloc: Global, found: &ArgMatches<'_>) -> Result<Command, Li
         steps,
         right,
         states,
+        cuts,
         judged,
     }))
 }

@@ -254,6 +254,12 @@ const OVERLAPPING: Argument = Argument::Flag {
     about: "Let operations overlap: right is also what the run shows amid them",
 };
 
+const RECOVERY_CUTS: Argument = Argument::Valued {
+    name: "recovery-cuts",
+    value: "N",
+    about: "Judge power cuts in recovery too, and after it: up to N, from 1 to 64, or any [default: none]",
+};
+
 const STATES: Argument = Argument::Valued {
     name: "states",
     value: "N",
@@ -489,6 +495,7 @@ static JUDGING: [Subcommand; 5] = [
             ATOMIC,
             SEQUENTIAL_STATES,
             OVERLAPPING,
+            RECOVERY_CUTS,
             MOMENTS,
             GO_ON,
             WHOLE,

@@ -4,6 +4,7 @@
 mod asked;
 mod codes;
 mod commands;
+mod cuts;
 mod grammar;
 mod line;
 mod machine;
@@ -14,8 +15,8 @@ pub use asked::{
     AnswerCommand, AssembleCommand, CheckAllCommand, CheckCommand, CodeCommand, Command,
     DebugCommand, EventSource, ExplainCommand, ImageCommand, ImagesCommand, InterleaveCommand,
     JudgeAllCommand, JudgeCommand, JudgedProgram, JudgedRun, LineFault, ListingCommand,
-    MachineOptions, MakeVolumeCommand, Moments, PictureCommand, ReplayCommand, ReportCommand,
-    RightAnswers, RunCommand, ScheduledRun, ShowCommand, TraceCommand, TracedEvents,
+    MachineOptions, MakeVolumeCommand, Moments, MostCuts, PictureCommand, ReplayCommand,
+    ReportCommand, RightAnswers, RunCommand, ScheduledRun, ShowCommand, TraceCommand, TracedEvents,
     UpgradeCommand,
 };
 pub use codes::{Meaning, all_have_meanings, list, meaning_of};

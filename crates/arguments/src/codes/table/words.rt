@@ -5,7 +5,7 @@ ghost use Rattle.arguments.specs.Codes.{texts_of_rows, words};
 
 use crate::codes::table::Row;
 
-static WORDS: [Row; 8] = [
+static WORDS: [Row; 9] = [
     (
         "illegal",
         "the image recovers to a volume, but not to one that the plan may have left",
@@ -15,6 +15,11 @@ static WORDS: [Row; 8] = [
         "different",
         "the recovery routine has answered, and the answer isn't a right one of the moment",
         "Look by `judge --why` for what the image lost and kept: a clean or fence may be missing, or a store may come too early or to a wrong place.",
+    ),
+    (
+        "changed",
+        "the recovery routine has answered rightly, but a recovery that had ended before answered otherwise",
+        "What recovery shows must be durable when it exits: look by `judge --why` for a missing clean or fence at its end.",
     ),
     (
         "unmatched",
