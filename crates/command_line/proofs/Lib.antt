@@ -3,6 +3,10 @@ mod Held
 mod Kept
 pub mod ImageLines
 mod Loops
+mod Texts
+mod Unexplained
+mod Chains
+mod CutLines
 pub mod Written
 mod ObjectPrograms
 pub mod OfFile

@@ -1,6 +1,8 @@
 -- What a run that is judged starts from, beside the run.
 use Rattle.std.proofs.Common.{◌≡◌, ◌∙◌, ℕ, List, refl, subst, sym}
 use Rattle.std.specs.Borrow.{Bor}
+use Rattle.std.specs.Prelude.{IfSome}
+use Rattle.arguments.specs.Cuts.{AreFewCuts}
 use Rattle.arguments.specs.Line.{IsJudgedWithin}
 use Rattle.arguments.specs.declared.asked.RightAnswers.TheVariants.{Atomic}
 use Rattle.crash_test.specs.Programs.{IsProgramOf}
@@ -16,14 +18,17 @@ use Rattle.command_line.specs.Reading.{setup_of}
 use Rattle.command_line.specs.declared.opened.OpenJudge.{OpenJudge}
 use Rattle.command_line.specs.declared.reading.RunFiles.{RunFiles}
 
-pub opened : (judge : OpenJudge) (files : RunFiles) → IsJudgedWithin judge.command.judged
-    → IsProgramOf judge.made.file.items judge.made.run.setup.program → judge.start ≡ setup_of judge.command.judged.run files
+pub opened : (judge : OpenJudge) (files : RunFiles) → IsJudgedWithin judge.command.judged → IfSome judge.command.cuts AreFewCuts
+    → IsProgramOf judge.made.file.items judge.made.run.setup.program → IsProgramOf judge.recovery_file.items judge.recovery
+    → judge.start ≡ setup_of judge.command.judged.run files
     → IsRunBy (setup_of judge.command.judged.run files) files.schedule judge.made.run → IsOpen judge
-opened judge files within program started is_run = record {
+opened judge files within cuts program recovery started is_run = record {
   within = within;
   program = program;
   started = started ∙ sym is_run.setup_is;
   few = rw is_run.setup_is within.machine.harts.1;
+  recovery = recovery;
+  cuts = cuts;
 }
 
 -- all sequential runs of the program give a rule by which it is judged so

@@ -1,5 +1,6 @@
 -- What `judge` comes to.
-use Rattle.std.specs.Prelude.{◌≡◌, ◌≢◌, ◌≤◌, ℕ, zero, suc, List, [], Option, Some, None, Result, Ok, MatchResult, ◌++◌, codes, decimal, string_bytes}
+use Rattle.std.specs.Prelude.{◌≡◌, ◌≢◌, ◌≤◌, ℕ, zero, suc, Bool, true, false, IfSome, List, [], Option, Some, None, Result, Ok, MatchResult, ◌++◌, codes, decimal, string_bytes}
+use Rattle.arguments.specs.Cuts.{AreFewCuts}
 use Rattle.arguments.specs.Line.{IsJudgedWithin}
 use Rattle.arguments.specs.declared.asked.JudgeCommand.{JudgeCommand}
 use Rattle.arguments.specs.declared.asked.RightAnswers.{RightAnswers}
@@ -32,10 +33,10 @@ use Rattle.command_line.specs.Demanding.{MeetsWhole}
 use Rattle.command_line.specs.Failures.{failure_of_judge}
 use Rattle.command_line.specs.MakingRuns.{MakesRun}
 use Rattle.command_line.specs.Progress.{IsToldIf, Progresses, gets_line}
-use Rattle.command_line.specs.Reading.{ReadsRecovery, ReadsRun, setup_of}
+use Rattle.command_line.specs.Reading.{ReadsRun, SaysRecovery, setup_of}
 use Rattle.command_line.specs.Reasons.{Explains, told_why}
 use Rattle.command_line.specs.Reports.{line_end}
-use Rattle.command_line.specs.Steps.{First, Prints, Reads, Step, Still, Tells}
+use Rattle.command_line.specs.Steps.{First, Prints, Reads, ReadsFile, Step, Still, Tells}
 use Rattle.command_line.specs.Verdicts.{failing, first_of, row_asked, told_verdict, verdict_status}
 use Rattle.command_line.specs.declared.answer.Answer.{Answer}
 use Rattle.command_line.specs.declared.failure.Failure.{Failure}
@@ -61,14 +62,15 @@ cause_text causes.Unmatched = codes "unmatched"
 
 -- With `--whole` a run that is whole is judged alone: a pass then also says that each hart has exited with 0, and that each operation
 -- which has begun has ended.
-pub record HasOpened (command : JudgeCommand) (start : Setup) (made : MadeRun) (recovery : Sections) (judge : OpenJudge) : Type 0 where
+pub record HasOpened (command : JudgeCommand) (start : Setup) (made : MadeRun) (file : List ℕ) (recovery : Sections) (judge : OpenJudge) : Type 0 where
   pub command_is : judge.command ≡ command
   pub start_is : judge.start ≡ start
   pub made_is : judge.made ≡ made
+  pub file_is : judge.recovery_file.items ≡ file
   pub recovery_is : judge.recovery ≡ recovery
 
-pub record Opens (command : JudgeCommand) (start : Setup) (made : MadeRun) (recovery : Sections) (outcome : Result OpenJudge Failure) : Type 0 where
-  pub opens : MatchResult outcome (HasOpened command start made recovery) (λ failure. ⊥)
+pub record Opens (command : JudgeCommand) (start : Setup) (made : MadeRun) (file : List ℕ) (recovery : Sections) (outcome : Result OpenJudge Failure) : Type 0 where
+  pub opens : MatchResult outcome (HasOpened command start made file recovery) (λ failure. ⊥)
 
 -- what the run starts from is kept beside it; memory for that may be refused
 pub record KeepsStart (s : Setup) (outcome : Result Setup Failure) : Type 0 where
@@ -78,11 +80,12 @@ pub record KeepsStart (s : Setup) (outcome : Result Setup Failure) : Type 0 wher
 abbrev pub OpensJudge : {F : Type 0} → Reads F → JudgeCommand → Step F OpenJudge
 OpensJudge reads command =
     First (ReadsRun reads command.judged.run) (λ files.
-    First (ReadsRecovery reads (string_bytes command.recovery)) (λ recovery.
+    First (ReadsFile reads (string_bytes command.recovery)) (λ file.
+    First (Still (SaysRecovery file)) (λ recovery.
     First (Still (KeepsStart (setup_of command.judged.run files))) (λ start.
     First (Still (MakesRun (setup_of command.judged.run files) files)) (λ made.
     First (Still (MeetsWhole command.judged.run.whole made [])) (λ _.
-    Still (Opens command start made recovery))))))
+    Still (Opens command start made file recovery)))))))
 
 -- what is known of a run that is to be judged
 pub record IsOpen (judge : OpenJudge) : Type 0 where
@@ -90,6 +93,8 @@ pub record IsOpen (judge : OpenJudge) : Type 0 where
   pub program : IsProgramOf judge.made.file.items judge.made.run.setup.program
   pub started : judge.start ≡ judge.made.run.setup
   pub few : judge.made.run.setup.harts ≤ 8
+  pub recovery : IsProgramOf judge.recovery_file.items judge.recovery
+  pub cuts : IfSome judge.command.cuts AreFewCuts
 
 -- what is told of a failing image, by the lines of which the routine loads bytes that it hasn't stored itself, where that is asked for
 abbrev pub ExplainsFailing : OpenJudge → Verdict Cause → Result (Option ExplainedImage) Failure → Type 0
@@ -146,32 +151,37 @@ pub record Watches {E : Type 0} (said : E → Option (List ℕ)) (judge : OpenJu
 abbrev pub none_judged_line : List ℕ
 none_judged_line = codes "no moment is judged: all lie before the first Begin" ++ line_end
 
--- it is said of a verdict on no moment, as where all that are asked for lie before the first Begin, and of no other
-abbrev pub note_of : {Cause : Type 0} → Verdict Cause → List ℕ
-note_of (verdicts.Pass zero images) = none_judged_line
-note_of (verdicts.Pass (suc n) images) = []
-note_of (verdicts.Open moments images open') = []
-note_of (verdicts.Fail moment image cause of_too_many) = []
-note_of (verdicts.TooMany moment lines) = []
-note_of (verdicts.TooLong moment) = []
+-- the verdict is on no moment, as where all that are asked for lie before the first Begin
+abbrev pub judges_none : {Cause : Type 0} → Verdict Cause → Bool
+judges_none (verdicts.Pass zero images) = true
+judges_none (verdicts.Pass (suc n) images) = false
+judges_none (verdicts.Open moments images open') = false
+judges_none (verdicts.Fail moment image cause of_too_many) = false
+judges_none (verdicts.TooMany moment lines) = false
+judges_none (verdicts.TooLong moment) = false
+
+-- it is said of such a verdict, and of no other
+abbrev pub note_if : Bool → List ℕ
+note_if true = none_judged_line
+note_if false = []
 
 -- standard error gets that, or a front of it where it failed, and is left alone where there is nothing to say
-pub record Notes {E Cause : Type 0} (said : E → Option (List ℕ)) (verdict : Verdict Cause) (errors errors' : E) : Type 0 where
-  pub front : AppendsFront (said errors) (said errors') (note_of verdict)
-  pub alone : note_of verdict ≡ [] → errors' ≡ errors
+pub record Notes {E : Type 0} (said : E → Option (List ℕ)) (is_none : Bool) (errors errors' : E) : Type 0 where
+  pub front : AppendsFront (said errors) (said errors') (note_if is_none)
+  pub alone : is_none ≡ false → errors' ≡ errors
 
 -- that, behind an answer, which stands whether standard error fails or not
-pub record Answers {E : Type 0} (said : E → Option (List ℕ)) (verdict : Verdict Cause) (answer : Answer) (errors : E) (outcome : Result Answer Failure) (errors' : E) : Type 0 where
+pub record Answers {E : Type 0} (said : E → Option (List ℕ)) (is_none : Bool) (answer : Answer) (errors : E) (outcome : Result Answer Failure) (errors' : E) : Type 0 where
   pub answers : outcome ≡ Ok answer
-  pub notes : Notes said verdict errors errors'
+  pub notes : Notes said is_none errors errors'
 
--- what the run comes to by the right answers
-abbrev pub JudgesRight : {E : Type 0} → (E → Option (List ℕ)) → OpenJudge → Step E Answer
-JudgesRight said judge =
+-- what the run comes to by the right answers, without power cuts in recovery
+abbrev pub JudgesOnce : {E : Type 0} → (E → Option (List ℕ)) → OpenJudge → Step E Answer
+JudgesOnce said judge =
     First (Watches said judge) (λ verdict.
     First (Still (ExplainsFailing judge verdict)) (λ why.
     First (Still (Prints (told_verdict cause_text judge.command.judged.json verdict ++ told_why judge.command.judged.json judge.made why) (verdict_status verdict)))
-    (Answers said verdict)))
+    (Answers said (judges_none verdict))))
 
 -- the sequential runs of the program are known, all of them, or a bound that the search for them passes
 abbrev pub AreRunsFor : OpenJudge → Sequential → Type 0
@@ -184,13 +194,3 @@ AreRunsAsked judge (Some runs) = (judge.command.right ≡ rights.Atomic) × AreR
 
 pub record FindsRuns (judge : OpenJudge) (outcome : Result (Option Sequential) Failure) : Type 0 where
   pub finds : MatchResult outcome (AreRunsAsked judge) (λ failure. (judge.command.right ≡ rights.Atomic) × (failure ≡ Memory))
-
--- without all of them there is no verdict, but the bound
-abbrev pub JudgesBy : {E : Type 0} → (E → Option (List ℕ)) → OpenJudge → Option Sequential → Step E Answer
-JudgesBy said judge None = JudgesRight said judge
-JudgesBy said judge (Some (known.All runs states)) = JudgesRight said judge
-JudgesBy said judge (Some (known.TooMany bound)) = Still (Prints (told_bound judge.command.judged.json judge.command.states bound) 3)
-
--- what the run comes to
-abbrev pub JudgesRun : {E : Type 0} → (E → Option (List ℕ)) → OpenJudge → Step E Answer
-JudgesRun said judge = First (Still (FindsRuns judge)) (λ runs. JudgesBy said judge runs)

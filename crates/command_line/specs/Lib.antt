@@ -11,6 +11,10 @@ pub mod Explaining
 pub mod Failures
 pub mod ImageFiles
 pub mod Imaging
+pub mod CutReasons
+pub mod CutVerdicts
+pub mod JudgingCuts
+pub mod JudgingRuns
 pub mod Judging
 pub mod JudgingAll
 pub mod Listing

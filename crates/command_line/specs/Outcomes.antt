@@ -20,7 +20,8 @@ use Rattle.command_line.specs.Explaining.{ExplainsFile}
 use Rattle.command_line.specs.Failures.{failure_status, failure_text}
 use Rattle.command_line.specs.ImageFiles.{ImageFile}
 use Rattle.command_line.specs.Imaging.{CountsFile}
-use Rattle.command_line.specs.Judging.{IsOpen as IsOpenJudge, JudgesRun, OpensJudge}
+use Rattle.command_line.specs.Judging.{IsOpen as IsOpenJudge, OpensJudge}
+use Rattle.command_line.specs.JudgingRuns.{JudgesRun}
 use Rattle.command_line.specs.JudgingAll.{IsOpen as IsOpenJudgeAll, JudgesAll, OpensJudgeAll}
 use Rattle.command_line.specs.Listing.{ListsFile}
 use Rattle.command_line.specs.Making.{MakesFile}

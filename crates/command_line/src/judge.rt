@@ -1,22 +1,25 @@
 //! The command that judges a run by a recovery routine.
 
+ghost use Rattle.arguments.specs.Cuts.{AreFewCuts};
 ghost use Rattle.arguments.specs.Line.{IsJudgedWithin};
 ghost use Rattle.arguments.specs.declared.asked.RightAnswers.TheVariants.{Atomic};
-ghost use Rattle.command_line.specs.Judging.{AreRunsFor, IsOpen, IsRuleOf, JudgesOpen, JudgesRight, JudgesRun, KeepsStart, Notes, OpensJudge, TellsProgress, Watches, cause_text, judgement_asked, missing_text, note_of};
+ghost use Rattle.command_line.specs.Judging.{AreRunsFor, IsOpen, IsRuleOf, JudgesOnce, JudgesOpen, KeepsStart, Notes, OpensJudge, TellsProgress, Watches, cause_text, judgement_asked, judges_none, missing_text, note_if};
+ghost use Rattle.command_line.specs.JudgingRuns.{JudgesRight, JudgesRun};
 ghost use Rattle.command_line.specs.Reading.{setup_of};
 ghost use Rattle.routine_judge.specs.Rules.{AreNotedFor, judgement_view};
 ghost use Rattle.command_line.specs.Progress.{IsToldIf};
-ghost use Rattle.std.specs.Prelude.{◌≡◌, IfOk, OnOk, string_bytes};
+ghost use Rattle.std.specs.Prelude.{◌≡◌, IfOk, IfSome, None, OnOk, string_bytes};
 ghost use Rattle.std.specs.Io.KnownBytes.{Appends};
 
 use crate::all_schedules::told_bound;
 use crate::answer::Answer;
 use crate::failure::Failure;
 use crate::files::Files;
+use crate::judge_cuts::judge_cuts;
 use crate::made_run::{make_run, setup};
 use crate::opened::OpenJudge;
 use crate::progress::Reporter;
-use crate::reading::{RunFiles, read_recovery, read_run};
+use crate::reading::{RunFiles, read_file, read_run, recovery_of};
 use crate::reasons::why;
 use crate::streams::print;
 use crate::verdicts::{ToldCause, verdict_answer, work};
@@ -43,13 +46,15 @@ pub(crate) fn open_judge<F: Files>(
     command: JudgeCommand,
     files: &mut F,
 ) -> Result<OpenJudge, Failure>
-    requires { IsJudgedWithin command.judged }
+    requires within { IsJudgedWithin command.judged }
+    requires cuts { IfSome command.cuts AreFewCuts }
     ensures opens { OpensJudge F.read_gives command files.old result files.new }
     ensures ready { IfOk result IsOpen }
 {
     let run = &command.judged.run;
     let read = read_run(alloc, run, files)?;
-    let recovery = read_recovery(alloc, command.recovery.as_str(), files)?;
+    let recovery_file = read_file(command.recovery.as_str(), files)?;
+    let recovery = recovery_of(alloc, &recovery_file)?;
     let start = start_of(alloc, run, &read)?;
     let made = make_run(alloc, run, read)?;
     demand_whole(alloc, run.whole, &made, &[])?;
@@ -57,6 +62,7 @@ pub(crate) fn open_judge<F: Files>(
         command,
         start,
         made,
+        recovery_file,
         recovery,
     })
 }
@@ -133,7 +139,7 @@ fn runs_for<T: Threads + Sync>(
     sequential_runs(rt, alloc, &judge.start, recovery, judge.command.states)
 }
 
-/// Gives the verdict on a run by a rule for right answers.
+/// Gives the verdict on a run by a rule for right answers, with power cuts in recovery where the line asks for them.
 fn judge_by<T: Threads + Sync + Clock, E: Write>(
     rt: &T,
     alloc: Global,
@@ -145,6 +151,24 @@ fn judge_by<T: Threads + Sync + Clock, E: Write>(
     requires rule { IsRuleOf judge.now rule }
     ensures { JudgesRight E.contents judge.now errors.old result errors.new }
 {
+    match judge.command.cuts {
+        None => judge_once(rt, alloc, judge, rule, errors),
+        Some(most) => judge_cuts(rt, alloc, judge, rule, most, errors),
+    }
+}
+
+/// The same without power cuts in recovery.
+fn judge_once<T: Threads + Sync + Clock, E: Write>(
+    rt: &T,
+    alloc: Global,
+    judge: &OpenJudge,
+    rule: Rule<'_>,
+    errors: &mut E,
+) -> Result<Answer, Failure>
+    requires open { IsOpen judge.now }
+    requires rule { IsRuleOf judge.now rule }
+    ensures { JudgesOnce E.contents judge.now errors.old result errors.new }
+{
     let verdict = verdict(rt, alloc, judge, rule, errors)?;
     let judged = &judge.command.judged;
     let reader = RoutineReader {
@@ -153,7 +177,7 @@ fn judge_by<T: Threads + Sync + Clock, E: Write>(
     };
     let why = why(alloc, judged.why, &judge.made.run, &verdict, &reader)?;
     let answer = verdict_answer(alloc, &judge.made, &verdict, &why, judged.json)?;
-    let _ = note_none(&verdict, errors);
+    let _ = note_none(judges_none(&verdict), errors);
     Ok(answer)
 }
 
@@ -196,7 +220,7 @@ fn told_verdict<T: Threads + Sync + Clock, E: Write>(
 }
 
 /// How the command says that the run is judged.
-fn judgement<'a>(judge: &'a OpenJudge, rule: Rule<'a>) -> Judgement<'a>
+pub(crate) fn judgement<'a>(judge: &'a OpenJudge, rule: Rule<'a>) -> Judgement<'a>
     requires { IsRuleOf judge.now rule }
     ensures asked { judgement_view result ≡ judgement_asked judge.now }
     ensures noted { AreNotedFor judge.now.made.run.setup.medium result.recovery.now result.steps result.rule }
@@ -208,15 +232,23 @@ fn judgement<'a>(judge: &'a OpenJudge, rule: Rule<'a>) -> Judgement<'a>
     }
 }
 
-/// Says on standard error that no moment is judged, where the verdict is on none. Where standard error fails, it may have got a front of that.
-#[tactic(auto, using(crate::proofs::Written::front_all, crate::proofs::Written::part_none))]
-fn note_none<C, E: Write>(verdict: &Verdict<C>, errors: &mut E) -> Result<(), Failed>
-    ensures ok { OnOk result (Appends (E.contents errors.old) (E.contents errors.new) (note_of verdict.now)) }
-    ensures front { Notes E.contents verdict.now errors.old errors.new }
+/// Whether the verdict is on no moment.
+fn judges_none<C>(verdict: &Verdict<C>) -> bool
+    ensures { result ≡ judges_none verdict.now }
 {
-    match verdict {
-        Verdict::Pass { moments: 0, .. } => print(NONE_JUDGED, errors),
-        _ => Ok(()),
+    matches!(verdict, Verdict::Pass { moments: 0, .. })
+}
+
+/// Says on standard error that no moment is judged, where that is so. Where standard error fails, it may have got a front of that.
+#[tactic(auto, using(crate::proofs::Written::front_all, crate::proofs::Written::part_none))]
+pub(crate) fn note_none<E: Write>(is_none: bool, errors: &mut E) -> Result<(), Failed>
+    ensures ok { OnOk result (Appends (E.contents errors.old) (E.contents errors.new) (note_if is_none)) }
+    ensures front { Notes E.contents is_none errors.old errors.new }
+{
+    if is_none {
+        print(NONE_JUDGED, errors)
+    } else {
+        Ok(())
     }
 }
 
@@ -232,7 +264,7 @@ impl ToldCause for Cause {
 
 /// `different`, why the routine has no answer, or `full-` and why it has none that says what is right, or `unmatched` where no sequential run
 /// does.
-fn cause_text(alloc: Global, cause: Cause) -> Result<String, AllocError>
+pub(crate) fn cause_text(alloc: Global, cause: Cause) -> Result<String, AllocError>
     ensures { IfOk result (λ text. string_bytes text ≡ cause_text cause) }
 {
     match cause {

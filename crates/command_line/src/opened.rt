@@ -21,6 +21,8 @@ pub struct OpenJudge {
     /// What the run starts from.
     pub(crate) start: Setup,
     pub(crate) made: MadeRun,
+    /// The bytes of the recovery routine's file.
+    pub(crate) recovery_file: Vec<u8>,
     pub(crate) recovery: Program,
 }
 

@@ -90,7 +90,8 @@ pub(crate) fn read_recovery<F: Files>(
     recovery_of(alloc, &file)
 }
 
-fn recovery_of(alloc: Global, file: &[u8]) -> Result<Program, Failure>
+/// The recovery routine that a file's bytes give.
+pub(crate) fn recovery_of(alloc: Global, file: &[u8]) -> Result<Program, Failure>
     ensures { SaysRecovery file.now result }
 {
     match load_program(alloc, file) {

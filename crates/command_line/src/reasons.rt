@@ -122,7 +122,8 @@ fn joined(alloc: Global, front: &str, end: &str) -> Result<String, AllocError>
     format!(in alloc; "{front}{end}")
 }
 
-fn told_losses(
+/// What is told of an image, by the places of the program.
+pub(crate) fn told_losses(
     alloc: Global,
     traced: &[TracedEvent],
     explained: &ExplainedImage,

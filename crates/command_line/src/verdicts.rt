@@ -195,7 +195,7 @@ fn told_too_many(
 }
 
 /// What is right at a moment can't be told within the steps that recovery has.
-fn told_too_long(alloc: Global, moment: u32, json: bool) -> Result<String, AllocError>
+pub(crate) fn told_too_long(alloc: Global, moment: u32, json: bool) -> Result<String, AllocError>
     ensures { IfOk result (λ text. string_bytes text ≡ told_too_long json moment) }
 {
     if json {
@@ -206,7 +206,7 @@ fn told_too_long(alloc: Global, moment: u32, json: bool) -> Result<String, Alloc
 }
 
 /// The sum of the numbers of images in JSON; `null` where a moment has over 65,536.
-fn total_json(alloc: Global, images: Option<u64>) -> Result<String, AllocError>
+pub(crate) fn total_json(alloc: Global, images: Option<u64>) -> Result<String, AllocError>
     ensures { IfOk result (λ text. string_bytes text ≡ total_json images) }
 {
     match images {

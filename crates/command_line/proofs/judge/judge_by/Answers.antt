@@ -1,52 +1,8 @@
--- Each step in its turn.
-use Rattle.std.proofs.Common.{Ok, Err, refl, rules}
+-- With power cuts in recovery where these are asked for.
 use Rattle.command_line.proofs.judge.judge_by.Goals as goal
 
-pub returns : goal.returns
-returns g c = record {
-  found = Ok c.in_ok-verdict.verdict;
-  between = c.verdict.new.errors;
-  first = rw c.in_ok-verdict.was at c.verdict.ensures;
-  after = record {
-    found = Ok c.in_ok-why.why;
-    between = c.verdict.new.errors;
-    first = record { value = rw c.in_ok-why.was at c.why.ensures.told; untouched = refl };
-    after = record {
-      found = Ok c.in_ok-answer.answer;
-      between = c.verdict.new.errors;
-      first = record { value = rw c.in_ok-answer.was at c.verdict_answer.ensures; untouched = refl };
-      after = record { answers = refl; notes = c.note_none.ensures.front };
-    };
-  };
-}
+pub returns-in-None : goal.returns-in-None
+returns-in-None g c = rw c.in-None.is c.judge_once.ensures
 
-pub returns-in_err-why : goal.returns-in_err-why
-returns-in_err-why g c = record {
-  found = Ok c.in_ok-verdict.verdict;
-  between = c.verdict.new.errors;
-  first = rw c.in_ok-verdict.was at c.verdict.ensures;
-  after = record {
-    found = Err c.in_err-why.field-0.0;
-    between = c.verdict.new.errors;
-    first = record { value = rw c.in_err-why.was at c.why.ensures.told; untouched = refl };
-    after = (search rules, refl);
-  };
-}
-
-pub returns-in_err-answer : goal.returns-in_err-answer
-returns-in_err-answer g c = record {
-  found = Ok c.in_ok-verdict.verdict;
-  between = c.verdict.new.errors;
-  first = rw c.in_ok-verdict.was at c.verdict.ensures;
-  after = record {
-    found = Ok c.in_ok-why.why;
-    between = c.verdict.new.errors;
-    first = record { value = rw c.in_ok-why.was at c.why.ensures.told; untouched = refl };
-    after = record {
-      found = Err c.in_err-answer.field-0.0;
-      between = c.verdict.new.errors;
-      first = record { value = rw c.in_err-answer.was at c.verdict_answer.ensures; untouched = refl };
-      after = (search rules, refl);
-    };
-  };
-}
+pub returns-in-Some : goal.returns-in-Some
+returns-in-Some g c = rw c.in-Some.is c.judge_cuts.ensures
