@@ -1,0 +1,11 @@
+li a7, 2001
+li a0, 1
+ecall
+sd a0, 0(a1)
+cbo.clean (a1)
+fence w, w
+li a7, 2002
+ecall
+li a7, 93
+li a0, 0
+ecall
