@@ -1,5 +1,5 @@
 -- One more row of a table.
-use Rattle.std.proofs.Common.{◌≡◌, ◌∙◌, ℕ, zero, suc, ◌+◌, ◌*◌, ◌-◌, ◌<◌, ◌≤◌, Bool, true, false, List, [], ◌∷◌, ◌++◌, Option, Some, None, length, get_or, map, take, refl, sym, ap, subst, arith, if◌then◌else◌}
+use Rattle.std.proofs.Common.{◌≡◌, ◌∙◌, ℕ, zero, suc, ◌+◌, ◌-◌, ◌<◌, ◌≤◌, Bool, true, false, List, [], ◌∷◌, ◌++◌, Option, Some, None, length, get_or, map, take, refl, sym, ap, subst, arith, if◌then◌else◌}
 use Rattle.std.proofs.lemmas.List.{get_or-map, get_or-take, length-map, length-take, take_all, take_more}
 use Rattle.std.proofs.lemmas.Option.{slice_get-get_or}
 use Rattle.std.specs.Option.{option_or}
@@ -134,38 +134,38 @@ pub none_at_all : (rows : List SourceRow) (pc n : ℕ) → length rows ≤ n →
 none_at_all rows pc n past none =
     ap (λ (l : List KnownRow). row_at l pc) (sym (take_all n (map known_row rows) (omega (arith, length-map rows known_row)))) ∙ none
 
--- ---- a cell for each word
+-- ---- a cell for each byte
 
 -- the cells by the first rows
 pub record AreCellsUpTo (rows : List SourceRow) (n : ℕ) (cells : List (Option ℕ)) : Type 0 where
-  pub size : length cells ≡ 16384
-  pub at : (word : ℕ) → word < 16384 → IsRowAt (take n (map known_row rows)) (0x1_0000 + 4 * word) (get_or cells word None)
+  pub size : length cells ≡ 65536
+  pub at : (at : ℕ) → at < 65536 → IsRowAt (take n (map known_row rows)) (0x1_0000 + at) (get_or cells at None)
 
-pub cells_begun : (rows : List SourceRow) (cells : List (Option ℕ)) → length cells ≡ 16384 → ((word : ℕ) → get_or cells word None ≡ None)
+pub cells_begun : (rows : List SourceRow) (cells : List (Option ℕ)) → length cells ≡ 65536 → ((at : ℕ) → get_or cells at None ≡ None)
     → AreCellsUpTo rows 1 cells
 cells_begun rows cells size none = record {
   size = size;
-  at = λ word less.
-      let family : Option ℕ → Type 0 = λ (o : Option ℕ). IsRowAt (take 1 (map known_row rows)) (0x1_0000 + 4 * word) o in
-      subst family (sym (none word)) (none_alone (map known_row rows) (0x1_0000 + 4 * word));
+  at = λ at less.
+      let family : Option ℕ → Type 0 = λ (o : Option ℕ). IsRowAt (take 1 (map known_row rows)) (0x1_0000 + at) o in
+      subst family (sym (none at)) (none_alone (map known_row rows) (0x1_0000 + at));
 }
 
-pub cells_more : (rows : List SourceRow) (n : ℕ) (cells more : List (Option ℕ)) → 1 ≤ n → n < length rows → length more ≡ 16384
-    → ((word : ℕ) → word < 16384 → get_or more word None ≡ with_row (known_row (get_or rows (n - 1) no_row)) (known_row (get_or rows n no_row)) (n - 1) word (get_or cells word None))
+pub cells_more : (rows : List SourceRow) (n : ℕ) (cells more : List (Option ℕ)) → 1 ≤ n → n < length rows → length more ≡ 65536
+    → ((at : ℕ) → at < 65536 → get_or more at None ≡ with_row (known_row (get_or rows (n - 1) no_row)) (known_row (get_or rows n no_row)) (n - 1) at (get_or cells at None))
     → AreCellsUpTo rows n cells → AreCellsUpTo rows (n + 1) more
 cells_more rows n cells more some within size is are = record {
   size = size;
-  at = λ word less.
+  at = λ at less.
       let all : List KnownRow = map known_row rows in
-      let pc : ℕ = 0x1_0000 + 4 * word in
+      let pc : ℕ = 0x1_0000 + at in
       let inside : Bool = holds (known_row (get_or rows (n - 1) no_row)) (known_row (get_or rows n no_row)) pc in
       let family : Option ℕ → Type 0 = λ (o : Option ℕ). IsRowAt (take (n + 1) all) pc o in
-      subst family (sym (is word less))
-      (step all pc n (known_row no_row) inside (get_or cells word None) some (omega (arith, length-map rows known_row))
-      (sym (held rows n pc inside some within refl)) (are.at word less));
+      subst family (sym (is at less))
+      (step all pc n (known_row no_row) inside (get_or cells at None) some (omega (arith, length-map rows known_row))
+      (sym (held rows n pc inside some within refl)) (are.at at less));
 }
 
 pub cells_done : (rows : List SourceRow) (n : ℕ) (cells : List (Option ℕ)) → length rows ≤ n → AreCellsUpTo rows n cells → AreCells (map known_row rows) cells
-cells_done rows n cells past are word less =
-    let family : List KnownRow → Type 0 = λ (l : List KnownRow). IsRowAt l (0x1_0000 + 4 * word) (get_or cells word None) in
-    subst family (take_all n (map known_row rows) (omega (arith, length-map rows known_row))) (are.at word (omega (arith, are.size)))
+cells_done rows n cells past are at less =
+    let family : List KnownRow → Type 0 = λ (l : List KnownRow). IsRowAt l (0x1_0000 + at) (get_or cells at None) in
+    subst family (take_all n (map known_row rows) (omega (arith, length-map rows known_row))) (are.at at (omega (arith, are.size)))

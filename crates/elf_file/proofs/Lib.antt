@@ -14,4 +14,5 @@ pub mod Repeating
 pub mod Runs
 pub mod SaidLines
 pub mod Signed
+pub mod UnitLaws
 mod Cells

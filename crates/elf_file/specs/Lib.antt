@@ -16,5 +16,6 @@ pub mod Sections
 pub mod Segments
 pub mod SourceRows
 pub mod Texts
+pub mod UnitLaws
 pub mod UnitParts
 pub mod Units

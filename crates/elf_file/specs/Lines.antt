@@ -1,5 +1,5 @@
 -- The line of a pc.
-use Rattle.std.specs.Prelude.{◌≡◌, ℕ, ◌+◌, ◌*◌, ◌<◌, ◌==◌, ◌&&◌, not, Bool, nat_le, nat_lt, List, [], ◌∷◌, length, Option, Some, None, option_and_then, option_map, slice_get, slice_index_or, if◌then◌else◌}
+use Rattle.std.specs.Prelude.{◌≡◌, ℕ, ◌+◌, ◌<◌, ◌==◌, ◌&&◌, not, Bool, nat_le, nat_lt, List, [], ◌∷◌, length, Option, Some, None, option_and_then, option_map, slice_get, slice_index_or, if◌then◌else◌}
 use Rattle.std.specs.Bool.{then_some}
 use Rattle.std.specs.Option.{option_or}
 use Rattle.elf_file.specs.SourceRows.{KnownRow}
@@ -35,31 +35,31 @@ file_line name line = Some (name, line)
 abbrev pub HasLine : List KnownRow → List ℕ → ℕ → ℕ → Type 0
 HasLine rows name line pc = line_at rows pc ≡ file_line name line
 
--- none of the first words of text does
-abbrev pub HasNoWord : List KnownRow → List ℕ → ℕ → ℕ → Type 0
-HasNoWord rows name line count = (word : ℕ) → word < count → ¬ HasLine rows name line (0x1_0000 + 4 * word)
+-- none at the first bytes of text does
+abbrev pub HasNoPc : List KnownRow → List ℕ → ℕ → ℕ → Type 0
+HasNoPc rows name line count = (at : ℕ) → at < count → ¬ HasLine rows name line (0x1_0000 + at)
 
--- the first word of text that does begins at this address
-pub record IsFirstWord (rows : List KnownRow) (name : List ℕ) (line pc : ℕ) : Type 0 where
-  pub word : ℕ
-  pub within : word < 0x4000
-  pub address : pc ≡ 0x1_0000 + 4 * word
+-- the least pc of text that does
+pub record IsFirstPc (rows : List KnownRow) (name : List ℕ) (line pc : ℕ) : Type 0 where
+  pub at : ℕ
+  pub within : at < 0x1_0000
+  pub address : pc ≡ 0x1_0000 + at
   pub line_there : HasLine rows name line pc
-  pub none_before : HasNoWord rows name line word
+  pub none_before : HasNoPc rows name line at
 
 -- the number of the row that holds at a pc, where there is one
 abbrev pub IsRowAt : List KnownRow → ℕ → Option ℕ → Type 0
 IsRowAt rows pc None = row_at rows pc ≡ None
 IsRowAt rows pc (Some number) = (number < length rows) × (row_at rows pc ≡ slice_get rows number)
 
--- each cell is of one word of text, which begins at 0x10000
+-- each cell is of one byte of text, which begins at 0x10000
 abbrev pub AreCells : List KnownRow → List (Option ℕ) → Type 0
-AreCells rows cells = (word : ℕ) → word < length cells → IsRowAt rows (0x1_0000 + 4 * word) (slice_index_or cells word None)
+AreCells rows cells = (at : ℕ) → at < length cells → IsRowAt rows (0x1_0000 + at) (slice_index_or cells at None)
 
--- a cell with this number, where it is of one of these words and had none
+-- a cell with this number, where it is of one of these bytes and had none
 abbrev pub filled : ℕ → ℕ → ℕ → ℕ → Option ℕ → Option ℕ
-filled first end number word cell = option_or cell (then_some (nat_le first word && nat_lt word end) number)
+filled first end number at cell = option_or cell (then_some (nat_le first at && nat_lt at end) number)
 
--- a cell with the number of a row, where the row holds at its word and it had none
+-- a cell with the number of a row, where the row holds at its byte and it had none
 abbrev pub with_row : KnownRow → KnownRow → ℕ → ℕ → Option ℕ → Option ℕ
-with_row row next number word cell = option_or cell (then_some (holds row next (0x1_0000 + 4 * word)) number)
+with_row row next number at cell = option_or cell (then_some (holds row next (0x1_0000 + at)) number)

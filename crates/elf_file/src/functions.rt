@@ -132,7 +132,7 @@ fn of_symbols(alloc: Global, symbols: &[u8], strings: &[u8]) -> Result<Vec<Funct
 }
 
 /// The number of the word of text that begins at an address.
-pub(crate) fn text_word(pc: u64) -> Option<usize>
+fn text_word(pc: u64) -> Option<usize>
     ensures { IfSome result (λ word. pc ≡ 0x1_0000 + 4 * word) }
 {
     let offset = pc.checked_sub(TEXT.base)?;

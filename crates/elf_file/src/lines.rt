@@ -4,6 +4,7 @@ mod cells;
 mod files;
 mod forms;
 mod header;
+mod laws;
 mod numbers;
 mod opcodes;
 mod reading;
@@ -11,4 +12,5 @@ mod table;
 mod texts;
 mod units;
 
+pub use laws::units_stand_alone;
 pub use table::LineTable;

@@ -2,14 +2,22 @@
 
 ghost use Rattle.elf_file.specs.Lines.{AreCells, IsRowAt, filled, holds, with_row};
 ghost use Rattle.elf_file.specs.SourceRows.{known_row};
-ghost use Rattle.std.specs.Prelude.{◌≡◌, ◌↔◌, ◌+◌, ◌*◌, ◌<◌, ◌≤◌, ℕ, IfOk, None, length, map, slice_index_or};
+ghost use Rattle.std.specs.Prelude.{◌≡◌, ◌↔◌, ◌+◌, ◌<◌, ◌≤◌, ℕ, IfOk, IfSome, None, length, map, slice_index_or};
 
 use crate::lines::units::SourceRow;
 use crate::program_header::TEXT;
 use std::alloc::{AllocError, Global};
 
-/// How many words of text there are.
-pub(crate) const TEXT_WORDS: usize = 16_384;
+/// How many bytes of text there are.
+pub(crate) const TEXT_BYTES: usize = 65_536;
+
+/// Which byte of text is at an address that isn't below text.
+pub(crate) fn text_byte(pc: u64) -> Option<usize>
+    ensures { IfSome result (λ at. pc ≡ 0x1_0000 + at) }
+{
+    let at = pc.checked_sub(TEXT.base)?;
+    Some(at as usize)
+}
 
 /// The number of the row that holds at an address: of the first one.
 pub(crate) fn row_number_at(rows: &[SourceRow<'_>], pc: u64) -> Option<usize>
@@ -30,14 +38,14 @@ fn holds(row: &SourceRow<'_>, next: &SourceRow<'_>, pc: u64) -> bool
     !row.ends && row.address <= pc && pc < next.address
 }
 
-/// The number of the row that holds at each word of text, in one pass over the rows.
+/// The number of the row that holds at each byte of text, in one pass over the rows.
 pub(crate) fn cells_of(
     alloc: Global,
     rows: &[SourceRow<'_>],
 ) -> Result<Vec<Option<usize>>, AllocError>
     ensures { IfOk result (λ cells. AreCells (map known_row rows.now) cells.items) }
 {
-    let mut cells = empty_cells(alloc, TEXT_WORDS)?;
+    let mut cells = empty_cells(alloc, TEXT_BYTES)?;
     for number in 1..rows.len() {
         fill_row(&mut cells, number - 1, &rows[number - 1], &rows[number]);
     }
@@ -46,45 +54,44 @@ pub(crate) fn cells_of(
 
 /// So many cells without a number.
 #[tactic(auto, using(crate::proofs::Filling::none_at_each))]
-fn empty_cells(alloc: Global, words: usize) -> Result<Vec<Option<usize>>, AllocError>
-    ensures size { IfOk result (λ cells. length cells.items ≡ words) }
-    ensures none { IfOk result (λ cells. (word : ℕ) → slice_index_or cells.items word None ≡ None) }
+fn empty_cells(alloc: Global, count: usize) -> Result<Vec<Option<usize>>, AllocError>
+    ensures size { IfOk result (λ cells. length cells.items ≡ count) }
+    ensures none { IfOk result (λ cells. (at : ℕ) → slice_index_or cells.items at None ≡ None) }
 {
-    vec![in alloc; None; words]
+    vec![in alloc; None; count]
 }
 
-/// Puts the number of a row into the cells of the words at which it holds, where these have none.
+/// Puts the number of a row into the cells of the bytes at which it holds, where these have none.
 fn fill_row(cells: &mut [Option<usize>], number: usize, row: &SourceRow<'_>, next: &SourceRow<'_>)
-    requires { length cells.old ≡ TEXT_WORDS }
-    ensures { (word : ℕ) → word < TEXT_WORDS → slice_index_or cells.new word None
-        ≡ with_row (known_row row.now) (known_row next.now) number word (slice_index_or cells.old word None) }
+    requires { length cells.old ≡ TEXT_BYTES }
+    ensures { (at : ℕ) → at < TEXT_BYTES → slice_index_or cells.new at None
+        ≡ with_row (known_row row.now) (known_row next.now) number at (slice_index_or cells.old at None) }
 {
     if row.ends {
         return;
     }
     fill(
         cells,
-        words_before(row.address),
-        words_before(next.address),
+        bytes_before(row.address),
+        bytes_before(next.address),
         number,
     );
 }
 
-/// How many words of text begin before an address.
-fn words_before(address: u64) -> usize
-    ensures before { (word : ℕ) → word < TEXT_WORDS → word < result ↔ 0x1_0000 + 4 * word < address }
-    ensures few { result ≤ TEXT_WORDS }
+/// How many bytes of text stand before an address.
+fn bytes_before(address: u64) -> usize
+    ensures before { (at : ℕ) → at < TEXT_BYTES → at < result ↔ 0x1_0000 + at < address }
+    ensures few { result ≤ TEXT_BYTES }
 {
-    let offset = address.saturating_sub(TEXT.base).min(TEXT.size);
-    ((offset + 3) / 4) as usize
+    address.saturating_sub(TEXT.base).min(TEXT.size) as usize
 }
 
-/// Puts a number into the cells of these words that have none.
+/// Puts a number into these cells, where they have none.
 fn fill(cells: &mut [Option<usize>], first: usize, end: usize, number: usize)
     requires { end ≤ length cells.old }
-    ensures { (word : ℕ) → slice_index_or cells.new word None ≡ filled first end number word (slice_index_or cells.old word None) }
+    ensures { (at : ℕ) → slice_index_or cells.new at None ≡ filled first end number at (slice_index_or cells.old at None) }
 {
-    for word in first..end {
-        cells[word] = Some(cells[word].unwrap_or(number));
+    for at in first..end {
+        cells[at] = Some(cells[at].unwrap_or(number));
     }
 }

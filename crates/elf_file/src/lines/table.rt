@@ -1,12 +1,11 @@
 //! The line table of an executable.
 
 ghost use Rattle.elf_file.specs.LineTables.{KnownTable, line_table_of};
-ghost use Rattle.elf_file.specs.Lines.{AreCells, HasLine, HasNoWord, IsFirstWord, IsRowAt, file_name, line_at, said_line};
+ghost use Rattle.elf_file.specs.Lines.{AreCells, HasLine, HasNoPc, IsFirstPc, IsRowAt, file_line, file_name, line_at, said_line};
 ghost use Rattle.elf_file.specs.SourceRows.{known_row};
 ghost use Rattle.std.specs.Prelude.{◌≡◌, ◌↔◌, IfOk, IsTrue, MatchOption, map, option_map};
 
-use crate::functions::text_word;
-use crate::lines::cells::{TEXT_WORDS, cells_of, row_number_at};
+use crate::lines::cells::{TEXT_BYTES, cells_of, row_number_at, text_byte};
 use crate::lines::reading::{UnitRows, units_of};
 use crate::lines::texts::{base_name, first_text, through_last_zero};
 use crate::lines::units::SourceRow;
@@ -25,7 +24,7 @@ use std::marker::Model;
 #[derive(Drop)]
 pub struct LineTable<'a> {
     rows: Vec<SourceRow<'a>>,
-    /// The number of the row that holds at each word of text.
+    /// The number of the row that holds at each byte of text.
     cells: Vec<Option<usize>>,
     units: usize,
     units_read: usize,
@@ -89,13 +88,12 @@ impl<'a> LineTable<'a> {
         said_line(self.rows[number])
     }
 
-    /// The address of the first word of text whose instruction comes from a line of a file, by the file's name without its
-    /// folders.
+    /// The least address of text that comes from a line of a file, by the file's name without its folders.
     pub fn address_of(&self, name: &[u8], line: u32) -> Option<u64>
-        ensures { MatchOption result (HasNoWord self.now.rows name.now line 0x4000) (IsFirstWord self.now.rows name.now line) }
+        ensures { MatchOption result (HasNoPc self.now.rows name.now line 0x1_0000) (IsFirstPc self.now.rows name.now line) }
     {
-        for word in 0..TEXT_WORDS as u64 {
-            let pc = TEXT.base + 4 * word;
+        for at in 0..TEXT_BYTES as u64 {
+            let pc = TEXT.base + at;
             if self.comes_from(pc, name, line) {
                 return Some(pc);
             }
@@ -104,12 +102,12 @@ impl<'a> LineTable<'a> {
     }
 
     /// Whether the instruction at an address comes from a line of a file of this name.
-    #[tactic(auto, using(crate::proofs::SaidLines::no_line, crate::proofs::SaidLines::said_line_is))]
+    #[tactic(auto, using(crate::proofs::SaidLines::row_says, crate::proofs::SaidLines::no_row_says))]
     fn comes_from(&self, pc: u64, name: &[u8], line: u32) -> bool
         ensures { IsTrue result ↔ HasLine self.now.rows name.now line pc }
     {
-        match self.at(pc) {
-            Some((found, number)) => number == line && found == name,
+        match self.number_at(pc) {
+            Some(number) => says(self.rows[number], name, line),
             None => false,
         }
     }
@@ -118,8 +116,8 @@ impl<'a> LineTable<'a> {
     fn number_at(&self, pc: u64) -> Option<usize>
         ensures { IsRowAt self.now.rows pc result }
     {
-        match text_word(pc) {
-            Some(word) if word < self.cells.len() => self.cells[word],
+        match text_byte(pc) {
+            Some(at) if at < self.cells.len() => self.cells[at],
             _ => row_number_at(&self.rows, pc),
         }
     }
@@ -134,6 +132,20 @@ fn said_line(row: SourceRow<'_>) -> Option<(&[u8], u32)>
     }
     let name = file_name(first_text(row.path?))?;
     Some((name, row.line))
+}
+
+/// Whether a row says this line of a file of this name. A path may be long, so it is looked at only where the line is this one.
+#[tactic(auto, using(crate::proofs::SaidLines::other_line, crate::proofs::SaidLines::no_line, crate::proofs::SaidLines::says_name))]
+fn says(row: SourceRow<'_>, name: &[u8], line: u32) -> bool
+    ensures { IsTrue result ↔ (said_line (known_row row.entry) ≡ file_line name.now line) }
+{
+    if row.line != line {
+        return false;
+    }
+    match said_line(row) {
+        Some((found, _)) => found == name,
+        None => false,
+    }
 }
 
 /// The name of a file by its path.

@@ -13,12 +13,12 @@ loop-number-preserved c =
     let new : List (Option ℕ) = c.fill_row.new.cells in
     let all : take c.loop-number.cells.len (new ++ drop (length new) old) ≡ new =
     take_at new (drop (length new) old) c.loop-number.cells.len (c.fill_row.auto.cells ∙ c.deref_mut.ensures.len) in
-    let size : length new ≡ 16384 =
+    let size : length new ≡ 65536 =
     c.fill_row.auto.cells ∙ ap (λ (l : List (Option ℕ)). length l) c.deref_mut.ensures.value ∙ c.loop-number.invariant.size in
     let family : List (Option ℕ) → Type 0 = λ (l : List (Option ℕ)). AreCellsUpTo rows (n + 1) l in
     subst family (sym all)
     (cells_more rows n old new (omega arith) (omega arith) size
-    (λ word less. c.fill_row.ensures word less
-    ∙ ap (λ (l : List (Option ℕ)). with_row (known_row (get_or rows (n - 1) no_row)) (known_row (get_or rows n no_row)) (n - 1) word (get_or l word None))
+    (λ at less. c.fill_row.ensures at less
+    ∙ ap (λ (l : List (Option ℕ)). with_row (known_row (get_or rows (n - 1) no_row)) (known_row (get_or rows n no_row)) (n - 1) at (get_or l at None))
     c.deref_mut.ensures.value)
     c.loop-number.invariant)
