@@ -1,11 +1,13 @@
 -- What the words behind a command's name say, and why they say nothing.
-use Rattle.std.proofs.Common.{◌≡◌, ◌≢◌, ◌≤◌, ◌<◌, ◌^◌, ◌&&◌, ℕ, Bool, true, false, List, [], ◌∷◌, codes, refl, sym, ◌∙◌, arith, eqb, eq-eqb}
+use Rattle.std.proofs.Common.{◌≡◌, ◌≢◌, ◌≤◌, ◌<◌, ◌^◌, ◌&&◌, ℕ, Bool, true, false, List, [], ◌∷◌, codes, inl, inr, refl, sym, ◌∙◌, arith, eqb, eq-eqb}
+use Rattle.std.proofs.lemmas.Bool.{true≢false}
+use Rattle.debugger.specs.Code.{KnownCode}
 use Rattle.debugger.specs.declared.fault.DebugFault.{DebugFault}
 use Rattle.debugger.specs.declared.fault.DebugFault.TheVariants as faults
 use Rattle.machine.specs.Grammar.{IsSchedule}
 use Rattle.machine.specs.declared.schedule.items.Item.{Item}
 use Rattle.machine.specs.declared.shared_memory.fault.StepFault.TheVariants as refusals
-use Rattle.debugger.specs.Grammar.{Asked, IsFar, IsNoHart, IsOneAddress, IsOneHart, IsRange, NamesNoHart, OnAddress, OnAsked, OnHart, SaysNamed, breaks, watches, clears, steps, shows, peeks, goes, goes_on, quits}
+use Rattle.debugger.specs.Grammar.{Asked, IsFar, IsNoHart, IsOneAddress, IsOneHart, IsOnePlace, IsRange, Names, NamesNoHart, OnAddress, OnAsked, OnHart, OnName, OnPlace, SaysNamed, SaysPlain, breaks, watches, clears, steps, shows, locates, peeks, goes, goes_on, quits}
 use Rattle.std.specs.Str.Parse.{IsNumeral}
 use Rattle.text.specs.Numbers.{IsWritten, Writes}
 use Rattle.text.specs.Words.{words}
@@ -30,54 +32,77 @@ differ : (xs ys : List ℕ) → same_bytes xs ys ≡ false → xs ≡ ys → ⊥
 differ xs ys off e = let bad : true ≡ false = sym (same_as xs ys e) ∙ off in absurd (cc)
 
 -- a name says what it is the name of, and nothing else
-only_break : (rest : List ℕ) (asked : Asked) → SaysNamed (codes "break") rest asked → (number : Number) × IsOneAddress (words rest) number
-only_break rest (breaks number) s = (number, s.1)
-only_break rest asked s = absurd (differ (codes "break") _ refl s.0)
+only_break : (code : KnownCode) (rest : List ℕ) (asked : Asked) → SaysNamed code (codes "break") rest asked → (number : Number) × IsOnePlace code (words rest) number
+only_break code rest (breaks number) s = (number, s.1)
+only_break code rest (clears number) s = absurd (differ (codes "break") _ refl s.0)
+only_break code rest asked s = absurd (differ (codes "break") _ refl s.0)
 
-only_watch : (rest : List ℕ) (asked : Asked) → SaysNamed (codes "watch") rest asked → (number : Number) × IsOneAddress (words rest) number
+only_watch : (rest : List ℕ) (asked : Asked) → SaysPlain (codes "watch") rest asked → (number : Number) × IsOneAddress (words rest) number
 only_watch rest (watches number) s = (number, s.1)
+only_watch rest (breaks number) s = absurd s
+only_watch rest (clears number) s = absurd s
 only_watch rest asked s = absurd (differ (codes "watch") _ refl s.0)
 
-only_clear : (rest : List ℕ) (asked : Asked) → SaysNamed (codes "clear") rest asked → (number : Number) × IsOneAddress (words rest) number
-only_clear rest (clears number) s = (number, s.1)
-only_clear rest asked s = absurd (differ (codes "clear") _ refl s.0)
+only_clear : (code : KnownCode) (rest : List ℕ) (asked : Asked) → SaysNamed code (codes "clear") rest asked → (number : Number) × IsOnePlace code (words rest) number
+only_clear code rest (clears number) s = (number, s.1)
+only_clear code rest (breaks number) s = absurd (differ (codes "clear") _ refl s.0)
+only_clear code rest asked s = absurd (differ (codes "clear") _ refl s.0)
 
-only_step : (rest : List ℕ) (asked : Asked) → SaysNamed (codes "step") rest asked → (number : Number) × IsOneHart (words rest) number
+only_step : (rest : List ℕ) (asked : Asked) → SaysPlain (codes "step") rest asked → (number : Number) × IsOneHart (words rest) number
 only_step rest (steps number) s = (number, s.1)
+only_step rest (breaks number) s = absurd s
+only_step rest (clears number) s = absurd s
 only_step rest asked s = absurd (differ (codes "step") _ refl s.0)
 
-only_regs : (rest : List ℕ) (asked : Asked) → SaysNamed (codes "regs") rest asked → (number : Number) × IsOneHart (words rest) number
+only_regs : (rest : List ℕ) (asked : Asked) → SaysPlain (codes "regs") rest asked → (number : Number) × IsOneHart (words rest) number
 only_regs rest (shows number) s = (number, s.1)
+only_regs rest (breaks number) s = absurd s
+only_regs rest (clears number) s = absurd s
 only_regs rest asked s = absurd (differ (codes "regs") _ refl s.0)
 
--- addresses
-address_fault : (make : Number → Asked) (name rest : List ℕ) (fault : DebugFault)
-    → ((number : Number) → IsOneAddress (words rest) number → SaysNamed name rest (make number)) → IsFar (make Large)
-    → ((asked : Asked) → SaysNamed name rest asked → (number : Number) × IsOneAddress (words rest) number)
-    → OnAddress (words rest) fault → OnAsked (SaysNamed name rest) fault
-address_fault make name rest faults.Command says far only on = λ asked s. let one = only asked s in on one.0 one.1
-address_fault make name rest faults.Address says far only on = (make Large, says Large on, far)
-address_fault make name rest faults.PointsFull says far only on = absurd on
-address_fault make name rest faults.Memory says far only on = absurd on
-address_fault make name rest faults.InputOutput says far only on = absurd on
-address_fault make name rest (faults.Step fault) says far only on = absurd on
-address_fault make name rest (faults.Stopped place fault) says far only on = absurd on
+only_where : (rest : List ℕ) (asked : Asked) → SaysPlain (codes "where") rest asked → (number : Number) × IsOneHart (words rest) number
+only_where rest (locates number) s = (number, s.1)
+only_where rest (breaks number) s = absurd s
+only_where rest (clears number) s = absurd s
+only_where rest asked s = absurd (differ (codes "where") _ refl s.0)
 
-pub break_fault : (rest : List ℕ) (fault : DebugFault) → OnAddress (words rest) fault → OnAsked (SaysNamed (codes "break") rest) fault
-break_fault rest fault on = address_fault breaks (codes "break") rest fault (λ number one. (refl, one)) refl (only_break rest) on
+-- the address of an instruction
+place_fault : (code : KnownCode) (make : Number → Asked) (name rest : List ℕ) (fault : DebugFault)
+    → ((number : Number) → IsOnePlace code (words rest) number → SaysNamed code name rest (make number)) → IsFar (make Large)
+    → ((asked : Asked) → SaysNamed code name rest asked → (number : Number) × IsOnePlace code (words rest) number)
+    → OnPlace code (words rest) fault → OnAsked (SaysNamed code name rest) fault
+place_fault code make name rest faults.Command says far only on = λ asked s. let one = only asked s in on one.0 one.1
+place_fault code make name rest faults.Address says far only on = (make Large, says Large on, far)
+place_fault code make name rest faults.PointsFull says far only on = absurd on
+place_fault code make name rest faults.Memory says far only on = absurd on
+place_fault code make name rest faults.InputOutput says far only on = absurd on
+place_fault code make name rest (faults.Step fault) says far only on = absurd on
+place_fault code make name rest (faults.Stopped place fault) says far only on = absurd on
 
-pub watch_fault : (rest : List ℕ) (fault : DebugFault) → OnAddress (words rest) fault → OnAsked (SaysNamed (codes "watch") rest) fault
-watch_fault rest fault on = address_fault watches (codes "watch") rest fault (λ number one. (refl, one)) refl (only_watch rest) on
+pub break_fault : (code : KnownCode) (rest : List ℕ) (fault : DebugFault) → OnPlace code (words rest) fault
+    → OnAsked (SaysNamed code (codes "break") rest) fault
+break_fault code rest fault on = place_fault code breaks (codes "break") rest fault (λ number one. (refl, one)) refl (only_break code rest) on
 
-pub clear_fault : (rest : List ℕ) (fault : DebugFault) → OnAddress (words rest) fault → OnAsked (SaysNamed (codes "clear") rest) fault
-clear_fault rest fault on = address_fault clears (codes "clear") rest fault (λ number one. (refl, one)) refl (only_clear rest) on
+pub clear_fault : (code : KnownCode) (rest : List ℕ) (fault : DebugFault) → OnPlace code (words rest) fault
+    → OnAsked (SaysNamed code (codes "clear") rest) fault
+clear_fault code rest fault on = place_fault code clears (codes "clear") rest fault (λ number one. (refl, one)) refl (only_clear code rest) on
+
+-- an address
+pub watch_fault : (rest : List ℕ) (fault : DebugFault) → OnAddress (words rest) fault → OnAsked (SaysPlain (codes "watch") rest) fault
+watch_fault rest faults.Command on = λ asked s. let one = only_watch rest asked s in on one.0 one.1
+watch_fault rest faults.Address on = (watches Large, (refl, on), refl)
+watch_fault rest faults.PointsFull on = absurd on
+watch_fault rest faults.Memory on = absurd on
+watch_fault rest faults.InputOutput on = absurd on
+watch_fault rest (faults.Step fault) on = absurd on
+watch_fault rest (faults.Stopped place fault) on = absurd on
 
 -- harts
 hart_fault : (make : Number → Asked) (name rest : List ℕ) (fault : DebugFault)
-    → ((number : Number) → IsOneHart (words rest) number → SaysNamed name rest (make number))
+    → ((number : Number) → IsOneHart (words rest) number → SaysPlain name rest (make number))
     → ((number : Number) → IsNoHart number → NamesNoHart (make number))
-    → ((asked : Asked) → SaysNamed name rest asked → (number : Number) × IsOneHart (words rest) number)
-    → OnHart (words rest) fault → OnAsked (SaysNamed name rest) fault
+    → ((asked : Asked) → SaysPlain name rest asked → (number : Number) × IsOneHart (words rest) number)
+    → OnHart (words rest) fault → OnAsked (SaysPlain name rest) fault
 hart_fault make name rest faults.Command says none only on = λ asked s. let one = only asked s in on one.0 one.1
 hart_fault make name rest faults.Address says none only on = absurd on
 hart_fault make name rest faults.PointsFull says none only on = absurd on
@@ -90,11 +115,18 @@ hart_fault make name rest (faults.Step refusals.Memory) says none only on = absu
 hart_fault make name rest (faults.Step refusals.OutOfLimits) says none only on = absurd on
 hart_fault make name rest (faults.Stopped place fault) says none only on = absurd on
 
-pub step_fault : (rest : List ℕ) (fault : DebugFault) → OnHart (words rest) fault → OnAsked (SaysNamed (codes "step") rest) fault
+pub step_fault : (rest : List ℕ) (fault : DebugFault) → OnHart (words rest) fault → OnAsked (SaysPlain (codes "step") rest) fault
 step_fault rest fault on = hart_fault steps (codes "step") rest fault (λ number one. (refl, one)) (λ number none. none) (only_step rest) on
 
-pub regs_fault : (rest : List ℕ) (fault : DebugFault) → OnHart (words rest) fault → OnAsked (SaysNamed (codes "regs") rest) fault
+pub regs_fault : (rest : List ℕ) (fault : DebugFault) → OnHart (words rest) fault → OnAsked (SaysPlain (codes "regs") rest) fault
 regs_fault rest fault on = hart_fault shows (codes "regs") rest fault (λ number one. (refl, one)) (λ number none. none) (only_regs rest) on
+
+pub where_fault : (rest : List ℕ) (fault : DebugFault) → OnHart (words rest) fault → OnAsked (SaysPlain (codes "where") rest) fault
+where_fault rest fault on = hart_fault locates (codes "where") rest fault (λ number one. (refl, one)) (λ number none. none) (only_where rest) on
+
+-- tests
+true_and_false : (b : Bool) → b ≡ true → b ≡ false → ⊥
+true_and_false b p q = true≢false (sym p ∙ q)
 
 -- one word
 same_word : (parts : List (List ℕ)) (word other : List ℕ) → parts ≡ word ∷ [] → parts ≡ other ∷ [] → other ≡ word
@@ -116,6 +148,36 @@ pub no_address : (parts : List (List ℕ)) (word : List ℕ) (number : Number) �
     → ¬ (IsOneAddress parts number)
 no_address parts word number spelled none one =
     none number (address_alike word one.word number (same_word parts word one.word spelled one.spelled) one.address)
+
+-- a place
+pub place_said : (code : KnownCode) (parts : List (List ℕ)) (word : List ℕ) (number : Number) → parts ≡ word ∷ [] → IsWritten word number
+    → IsOnePlace code parts number
+place_said code parts word number spelled address = record { word = word; spelled = spelled; place = inl address }
+
+pub no_place_word : (code : KnownCode) (parts : List (List ℕ)) (number : Number) → ((word : List ℕ) → parts ≢ word ∷ []) → ¬ (IsOnePlace code parts number)
+no_place_word code parts number none one = none one.word one.spelled
+
+-- a name where the code has names, and what it stands for
+pub place_named : (code : KnownCode) (parts : List (List ℕ)) (word : List ℕ) (number : Number) → parts ≡ word ∷ [] → ((n : Number) → ¬ (IsWritten word n))
+    → code.named ≡ true → Names code word number → IsOnePlace code parts number
+place_named code parts word number spelled none named stands = record { word = word; spelled = spelled; place = inr ((none, named), stands) }
+
+pub no_name_there : (code : KnownCode) (parts : List (List ℕ)) (word : List ℕ) (number : Number) → parts ≡ word ∷ [] → ((n : Number) → ¬ (IsWritten word n))
+    → code.named ≡ false → ¬ (IsOnePlace code parts number)
+no_name_there code parts word number spelled none unnamed one = elim one.place [
+  | inl written ↦ none number (address_alike word one.word number (same_word parts word one.word spelled one.spelled) written)
+  | inr name ↦ true_and_false code.named name.0.1 unnamed
+]
+
+pub name_fault : (code : KnownCode) (parts : List (List ℕ)) (word : List ℕ) (fault : DebugFault) → parts ≡ word ∷ []
+    → ((n : Number) → ¬ (IsWritten word n)) → OnName code word fault → OnPlace code parts fault
+name_fault code parts word faults.Command spelled none on = λ number. no_name_there code parts word number spelled none on
+name_fault code parts word faults.Address spelled none on = place_named code parts word Large spelled none on.0 on.1
+name_fault code parts word faults.PointsFull spelled none on = absurd on
+name_fault code parts word faults.Memory spelled none on = absurd on
+name_fault code parts word faults.InputOutput spelled none on = absurd on
+name_fault code parts word (faults.Step fault) spelled none on = absurd on
+name_fault code parts word (faults.Stopped place fault) spelled none on = absurd on
 
 pub hart_said : (parts : List (List ℕ)) (word : List ℕ) (number : Number) → parts ≡ word ∷ [] → Writes 10 word number → IsOneHart parts number
 hart_said parts word number spelled writes = record { word = word; spelled = spelled; writes = writes }
@@ -175,34 +237,67 @@ no_range_count parts rest word digits number count first second none range =
     range.least range.most
 
 pub range_fault : (rest : List ℕ) (asked : Asked) → ((number : Number) (count : ℕ) → ¬ (IsRange (words rest) number count))
-    → ¬ (SaysNamed (codes "peek") rest asked)
+    → ¬ (SaysPlain (codes "peek") rest asked)
 range_fault rest (peeks number count) none s = none number count s.1
+range_fault rest (breaks number) none s = absurd s
+range_fault rest (clears number) none s = absurd s
 range_fault rest asked none s = absurd (differ (codes "peek") _ refl s.0)
 
 -- schedules, and nothing
 pub go_none : (rest : List ℕ) (asked : Asked) → words rest ≢ [] → ((items : List Item) → ¬ (IsSchedule rest items))
-    → ¬ (SaysNamed (codes "go") rest asked)
+    → ¬ (SaysPlain (codes "go") rest asked)
 go_none rest (goes items) filled none s = none items s.2
+go_none rest (breaks number) filled none s = absurd s
+go_none rest (clears number) filled none s = absurd s
 go_none rest goes_on filled none s = filled s.1
 go_none rest asked filled none s = absurd (differ (codes "go") _ refl s.0)
 
 pub go_wants : (rest : List ℕ) → words rest ≢ [] → (items : List Item) × IsSchedule rest items
-    → OnAsked (SaysNamed (codes "go") rest) faults.Memory
+    → OnAsked (SaysPlain (codes "go") rest) faults.Memory
 go_wants rest filled read = (read.0, (refl, filled, read.1))
 
-pub quit_none : (rest : List ℕ) (asked : Asked) → words rest ≢ [] → ¬ (SaysNamed (codes "quit") rest asked)
+pub quit_none : (rest : List ℕ) (asked : Asked) → words rest ≢ [] → ¬ (SaysPlain (codes "quit") rest asked)
 quit_none rest quits filled s = filled s.1
+quit_none rest (breaks number) filled s = absurd s
+quit_none rest (clears number) filled s = absurd s
 quit_none rest asked filled s = absurd (differ (codes "quit") _ refl s.0)
 
 -- no name
-pub no_name : (name rest : List ℕ) (asked : Asked) → name ≢ codes "break" → name ≢ codes "watch" → name ≢ codes "clear" → name ≢ codes "step"
-    → name ≢ codes "regs" → name ≢ codes "peek" → name ≢ codes "go" → name ≢ codes "quit" → ¬ (SaysNamed name rest asked)
-no_name name rest (breaks number) b w c s r p g q said = b said.0
-no_name name rest (watches number) b w c s r p g q said = w said.0
-no_name name rest (clears number) b w c s r p g q said = c said.0
-no_name name rest (steps number) b w c s r p g q said = s said.0
-no_name name rest (shows number) b w c s r p g q said = r said.0
-no_name name rest (peeks number count) b w c s r p g q said = p said.0
-no_name name rest (goes items) b w c s r p g q said = g said.0
-no_name name rest goes_on b w c s r p g q said = g said.0
-no_name name rest quits b w c s r p g q said = q said.0
+pub no_name : (name rest : List ℕ) (asked : Asked) → name ≢ codes "watch" → name ≢ codes "step" → name ≢ codes "regs" → name ≢ codes "where"
+    → name ≢ codes "peek" → name ≢ codes "go" → name ≢ codes "quit" → ¬ (SaysPlain name rest asked)
+no_name name rest (breaks number) w s r p k g q said = said
+no_name name rest (watches number) w s r p k g q said = w said.0
+no_name name rest (clears number) w s r p k g q said = said
+no_name name rest (steps number) w s r p k g q said = s said.0
+no_name name rest (shows number) w s r p k g q said = r said.0
+no_name name rest (locates number) w s r p k g q said = p said.0
+no_name name rest (peeks number count) w s r p k g q said = k said.0
+no_name name rest (goes items) w s r p k g q said = g said.0
+no_name name rest goes_on w s r p k g q said = g said.0
+no_name name rest quits w s r p k g q said = q said.0
+
+-- a command of another name takes no address of an instruction
+pub plain_said : (code : KnownCode) (name rest : List ℕ) (asked : Asked) → SaysPlain name rest asked → SaysNamed code name rest asked
+plain_said code name rest (breaks number) s = absurd s
+plain_said code name rest (clears number) s = absurd s
+plain_said code name rest asked s = s
+
+is_plain : (code : KnownCode) (name rest : List ℕ) (asked : Asked) → name ≢ codes "break" → name ≢ codes "clear" → SaysNamed code name rest asked
+    → SaysPlain name rest asked
+is_plain code name rest (breaks number) b c s = absurd (b s.0)
+is_plain code name rest (clears number) b c s = absurd (c s.0)
+is_plain code name rest asked b c s = s
+
+pub plain_fault : (code : KnownCode) (name rest : List ℕ) (fault : DebugFault) → name ≢ codes "break" → name ≢ codes "clear"
+    → OnAsked (SaysPlain name rest) fault → OnAsked (SaysNamed code name rest) fault
+plain_fault code name rest faults.Command b c on = λ asked s. on asked (is_plain code name rest asked b c s)
+plain_fault code name rest faults.Address b c on = (on.0, plain_said code name rest on.0 on.1, on.2)
+plain_fault code name rest faults.Memory b c on = (on.0, on.1)
+plain_fault code name rest faults.PointsFull b c on = absurd on
+plain_fault code name rest faults.InputOutput b c on = absurd on
+plain_fault code name rest (faults.Step refusals.NoSuchHart) b c on = (on.0, plain_said code name rest on.0 on.1, on.2)
+plain_fault code name rest (faults.Step refusals.NoSuchLine) b c on = absurd on
+plain_fault code name rest (faults.Step refusals.TraceFull) b c on = absurd on
+plain_fault code name rest (faults.Step refusals.Memory) b c on = absurd on
+plain_fault code name rest (faults.Step refusals.OutOfLimits) b c on = absurd on
+plain_fault code name rest (faults.Stopped place fault) b c on = absurd on

@@ -93,5 +93,6 @@ command_run old new (commands.Step hart) outcome s = stepped_run old.debugger ne
 command_run old new (commands.Go items) outcome s = went_on_run old new (Some (at_start items)) outcome s
 command_run old new commands.GoOn outcome s = went_on_run old new old.last outcome s
 command_run old new (commands.Registers hart) outcome s = same_machine old new s.1
+command_run old new (commands.Where hart) outcome s = same_machine old new s.1
 command_run old new (commands.Peek address count) outcome s = same_machine old new s.1
 command_run old new commands.Quit outcome s = same_machine old new s.1

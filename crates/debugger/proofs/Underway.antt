@@ -5,6 +5,7 @@ use Rattle.std.specs.Io.KnownBytes.{Appends, Consumes}
 use Rattle.debugger.specs.Points.{DebuggerView}
 use Rattle.debugger.specs.declared.fault.DebugFault.{DebugFault}
 use Rattle.debugger.specs.declared.fault.DebugFault.TheVariants as faults
+use Rattle.debugger.specs.Code.{KnownCode}
 use Rattle.debugger.specs.CommandEffects.{SessionState}
 use Rattle.debugger.specs.StreamFailures.{EndsBy, FailsBy}
 use Rattle.debugger.specs.Reading.{IsHeld, IsOver, OverIf, ReadsLine, Takes, ahead_of, line_end}
@@ -20,11 +21,11 @@ abbrev pub state_of : DebuggerView → Option Progress → SessionState
 state_of debugger last = record { debugger = debugger; last = last }
 
 -- the sink has the answers to the lines that were taken
-pub record IsUnderway (old : DebuggerView) (state : SessionState) (fresh input : Input) (source source_then sink sink_then : Option (List ℕ)) : Type 0 where
+pub record IsUnderway (code : KnownCode) (old : DebuggerView) (state : SessionState) (fresh input : Input) (source source_then sink sink_then : Option (List ℕ)) : Type 0 where
   pub taken : List ℕ
   pub answered : List ℕ
   pub takes : Takes fresh input source source_then taken
-  pub turns : Turns (beginning old) state taken answered
+  pub turns : Turns code (beginning old) state taken answered
   pub writes : Appends sink sink_then answered
 
 pub appends_none : (a : Option (List ℕ)) → Appends a a []
@@ -37,8 +38,8 @@ appends_more (Some x) None c xs ys p q = absurd p
 appends_more (Some x) (Some y) None xs ys p q = absurd q
 appends_more (Some x) (Some y) (Some z) xs ys p q = q ∙ ap (λ (l : List ℕ). l ++ ys) p ∙ append_assoc x xs ys
 
-pub begun : (old : DebuggerView) (fresh : Input) (source sink : Option (List ℕ)) → IsUnderway old (beginning old) fresh fresh source source sink sink
-begun old fresh source sink = record {
+pub begun : (code : KnownCode) (old : DebuggerView) (fresh : Input) (source sink : Option (List ℕ)) → IsUnderway code old (beginning old) fresh fresh source source sink sink
+begun code old fresh source sink = record {
   taken = [];
   answered = [];
   takes = takes_none fresh source;
@@ -56,12 +57,12 @@ regroup taken line rest ahead =
     append_assoc taken (line ++ rest) ahead ∙ ap (λ (l : List ℕ). taken ++ l) (append_assoc line rest ahead)
 
 -- one more line, with its line end, is answered
-pub answered_more : (old : DebuggerView) (state after : SessionState) (fresh input further : Input) (s t u k l m : Option (List ℕ))
-    (read : ReadLine) (held : List ℕ) (goes_on : Bool) → IsUnderway old state fresh input s t k l → ReadsLine input further t u read held
-    → ((whole : List ℕ) → IsHeld read.fit held whole → IsAnswered state after whole goes_on l m) → goes_on ≡ true → read.is_last ≡ false
-    → IsUnderway old after fresh further s u k m
-answered_more old state after fresh input further s t u k l m read held goes_on so_far line answered on ends =
-    let said : IsAnswered state after line.whole true l m = rw on at (answered line.whole line.held) in
+pub answered_more : (code : KnownCode) (old : DebuggerView) (state after : SessionState) (fresh input further : Input) (s t u k l m : Option (List ℕ))
+    (read : ReadLine) (held : List ℕ) (goes_on : Bool) → IsUnderway code old state fresh input s t k l → ReadsLine input further t u read held
+    → ((whole : List ℕ) → IsHeld read.fit held whole → IsAnswered code state after whole goes_on l m) → goes_on ≡ true → read.is_last ≡ false
+    → IsUnderway code old after fresh further s u k m
+answered_more code old state after fresh input further s t u k l m read held goes_on so_far line answered on ends =
+    let said : IsAnswered code state after line.whole true l m = rw on at (answered line.whole line.held) in
     let takes : Takes input further t u (line.whole ++ 10 ∷ []) = rw ends at line.takes in
     record {
       taken = so_far.taken ++ (line.whole ++ 10 ∷ []);
@@ -119,11 +120,11 @@ quit_bytes fresh input s t taken line is_last empty all takes over =
 kept_appends : (k l m : Option (List ℕ)) (answered : List ℕ) → Appends k l answered → m ≡ l → Appends k m answered
 kept_appends k l m answered writes e = rw e writes
 
-ended_by_quit : (old : DebuggerView) (state after : SessionState) (fresh input further : Input) (s t u k l m : Option (List ℕ))
+ended_by_quit : (code : KnownCode) (old : DebuggerView) (state after : SessionState) (fresh input further : Input) (s t u k l m : Option (List ℕ))
     (read : ReadLine) (held : List ℕ) → ahead_of fresh ≡ [] → fresh.left ≡ 4294967295
-    → IsUnderway old state fresh input s t k l → (line : ReadsLine input further t u read held) → IsAnswered state after line.whole false l m
-    → Session old after.debugger s u k m
-ended_by_quit old state after fresh input further s t u k l m read held empty all so_far line quits =
+    → IsUnderway code old state fresh input s t k l → (line : ReadsLine input further t u read held) → IsAnswered code state after line.whole false l m
+    → Session code old after.debugger s u k m
+ended_by_quit code old state after fresh input further s t u k l m read held empty all so_far line quits =
     let takes : Takes fresh further s u (so_far.taken ++ (line.whole ++ line_end read.is_last)) =
     takes_more fresh input further s t u so_far.taken (line.whole ++ line_end read.is_last) so_far.takes line.takes in
     record {
@@ -147,11 +148,11 @@ ended_by_quit old state after fresh input further s t u k l m read held empty al
     }
 
 -- it ends with the input
-ended_by_input : (old : DebuggerView) (state after : SessionState) (fresh input further : Input) (s t u k l m : Option (List ℕ))
+ended_by_input : (code : KnownCode) (old : DebuggerView) (state after : SessionState) (fresh input further : Input) (s t u k l m : Option (List ℕ))
     (read : ReadLine) (held : List ℕ) → ahead_of fresh ≡ [] → fresh.left ≡ 4294967295
-    → IsUnderway old state fresh input s t k l → (line : ReadsLine input further t u read held) → read.is_last ≡ true
-    → IsAnswered state after line.whole true l m → Session old after.debugger s u k m
-ended_by_input old state after fresh input further s t u k l m read held empty all so_far line last said =
+    → IsUnderway code old state fresh input s t k l → (line : ReadsLine input further t u read held) → read.is_last ≡ true
+    → IsAnswered code state after line.whole true l m → Session code old after.debugger s u k m
+ended_by_input code old state after fresh input further s t u k l m read held empty all so_far line last said =
     let taken : Takes input further t u (line.whole ++ []) = rw last at line.takes in
     let over : IsOver further u = rw last at line.over in
     let takes : Takes fresh further s u (so_far.taken ++ (line.whole ++ [])) =
@@ -180,16 +181,16 @@ ended_by_input old state after fresh input further s t u k l m read held empty a
     }
 
 -- it ends by the line that was answered last
-pub ended : (old : DebuggerView) (state : SessionState) (debugger : DebuggerView) (last : Option Progress) (fresh input further : Input) (s t u k l m : Option (List ℕ))
+pub ended : (code : KnownCode) (old : DebuggerView) (state : SessionState) (debugger : DebuggerView) (last : Option Progress) (fresh input further : Input) (s t u k l m : Option (List ℕ))
     (read : ReadLine) (held : List ℕ) (goes_on : Bool) → ahead_of fresh ≡ [] → fresh.left ≡ 4294967295
-    → IsUnderway old state fresh input s t k l → ReadsLine input further t u read held
-    → ((whole : List ℕ) → IsHeld read.fit held whole → IsAnswered state (state_of debugger last) whole goes_on l m) → (goes_on ≡ false) ⊎ (read.is_last ≡ true)
-    → Session old debugger s u k m
-ended old state debugger last fresh input further s t u k l m read held false empty all so_far line answered e =
-    ended_by_quit old state (state_of debugger last) fresh input further s t u k l m read held empty all so_far line (answered line.whole line.held)
-ended old state debugger last fresh input further s t u k l m read held true empty all so_far line answered (inl e) = absurd (cc)
-ended old state debugger last fresh input further s t u k l m read held true empty all so_far line answered (inr e) =
-    ended_by_input old state (state_of debugger last) fresh input further s t u k l m read held empty all so_far line e (answered line.whole line.held)
+    → IsUnderway code old state fresh input s t k l → ReadsLine input further t u read held
+    → ((whole : List ℕ) → IsHeld read.fit held whole → IsAnswered code state (state_of debugger last) whole goes_on l m) → (goes_on ≡ false) ⊎ (read.is_last ≡ true)
+    → Session code old debugger s u k m
+ended code old state debugger last fresh input further s t u k l m read held false empty all so_far line answered e =
+    ended_by_quit code old state (state_of debugger last) fresh input further s t u k l m read held empty all so_far line (answered line.whole line.held)
+ended code old state debugger last fresh input further s t u k l m read held true empty all so_far line answered (inl e) = absurd (cc)
+ended code old state debugger last fresh input further s t u k l m read held true empty all so_far line answered (inr e) =
+    ended_by_input code old state (state_of debugger last) fresh input further s t u k l m read held empty all so_far line e (answered line.whole line.held)
 
 -- a session that is broken off while a line is read
 further_read : (fresh input : Input) (s t : Option (List ℕ)) (taken part : List ℕ) → ahead_of fresh ≡ []
@@ -199,10 +200,10 @@ further_read fresh input s t taken part empty takes =
     read_is fresh input s t (taken ++ part) empty takes ∙ append_assoc taken part (ahead_of input) in
     rw e at takes.reads
 
-unread : (old : DebuggerView) (state : SessionState) (fresh input further : Input) (s t u k l : Option (List ℕ)) (part : List ℕ)
-    → ahead_of fresh ≡ [] → fresh.left ≡ 4294967295 → (so_far : IsUnderway old state fresh input s t k l) → Takes input further t u part
-    → BreaksOff old state.debugger s u so_far.answered []
-unread old state fresh input further s t u k l part empty all so_far takes = record {
+unread : (code : KnownCode) (old : DebuggerView) (state : SessionState) (fresh input further : Input) (s t u k l : Option (List ℕ)) (part : List ℕ)
+    → ahead_of fresh ≡ [] → fresh.left ≡ 4294967295 → (so_far : IsUnderway code old state fresh input s t k l) → Takes input further t u part
+    → BreaksOff code old state.debugger s u so_far.answered []
+unread code old state fresh input further s t u k l part empty all so_far takes = record {
   taken = so_far.taken;
   further = part ++ ahead_of further;
   state = state;
@@ -212,26 +213,26 @@ unread old state fresh input further s t u k l part empty all so_far takes = rec
   stands = inl (refl, refl);
 }
 
-pub failed_read : (old debugger : DebuggerView) (last : Option Progress) (fresh input further : Input) (s t u k l : Option (List ℕ)) (n m a b : ℕ)
-    (fault : DebugFault) → ahead_of fresh ≡ [] → fresh.left ≡ 4294967295 → IsUnderway old (state_of debugger last) fresh input s t k l
-    → ((part : List ℕ) × Takes input further t u part) → FailsBy a b fault → Fails old debugger s u k l n m fault
-failed_read old debugger last fresh input further s t u k l n m a b faults.Memory empty all so_far takes by =
-    (so_far.answered, unread old (state_of debugger last) fresh input further s t u k l takes.0 empty all so_far takes.1, so_far.writes)
-failed_read old debugger last fresh input further s t u k l n m a b faults.InputOutput empty all so_far takes by = (
+pub failed_read : (code : KnownCode) (old debugger : DebuggerView) (last : Option Progress) (fresh input further : Input) (s t u k l : Option (List ℕ)) (n m a b : ℕ)
+    (fault : DebugFault) → ahead_of fresh ≡ [] → fresh.left ≡ 4294967295 → IsUnderway code old (state_of debugger last) fresh input s t k l
+    → ((part : List ℕ) × Takes input further t u part) → FailsBy a b fault → Fails code old debugger s u k l n m fault
+failed_read code old debugger last fresh input further s t u k l n m a b faults.Memory empty all so_far takes by =
+    (so_far.answered, unread code old (state_of debugger last) fresh input further s t u k l takes.0 empty all so_far takes.1, so_far.writes)
+failed_read code old debugger last fresh input further s t u k l n m a b faults.InputOutput empty all so_far takes by = (
   so_far.answered,
   [],
-  unread old (state_of debugger last) fresh input further s t u k l takes.0 empty all so_far takes.1,
+  unread code old (state_of debugger last) fresh input further s t u k l takes.0 empty all so_far takes.1,
   rw append-nil so_far.writes,
   inl refl,
 )
-failed_read old debugger last fresh input further s t u k l n m a b fault empty all so_far takes by = absurd by
+failed_read code old debugger last fresh input further s t u k l n m a b fault empty all so_far takes by = absurd by
 
 -- and while it is answered
-unanswered : (old : DebuggerView) (state after : SessionState) (fresh input further : Input) (s t u k l m : Option (List ℕ))
+unanswered : (code : KnownCode) (old : DebuggerView) (state after : SessionState) (fresh input further : Input) (s t u k l m : Option (List ℕ))
     (read : ReadLine) (held : List ℕ) (fault : DebugFault) → ahead_of fresh ≡ [] → fresh.left ≡ 4294967295
-    → (so_far : IsUnderway old state fresh input s t k l) → (line : ReadsLine input further t u read held)
-    → (out : LacksAnswer state after line.whole l m fault) → BreaksOff old after.debugger s u so_far.answered out.part
-unanswered old state after fresh input further s t u k l m read held fault empty all so_far line out =
+    → (so_far : IsUnderway code old state fresh input s t k l) → (line : ReadsLine input further t u read held)
+    → (out : LacksAnswer code state after line.whole l m fault) → BreaksOff code old after.debugger s u so_far.answered out.part
+unanswered code old state after fresh input further s t u k l m read held fault empty all so_far line out =
     let part : List ℕ = line.whole ++ line_end read.is_last in
     let takes : Takes fresh further s u (so_far.taken ++ part) = takes_more fresh input further s t u so_far.taken part so_far.takes line.takes in
     record {
@@ -254,26 +255,26 @@ unanswered old state after fresh input further s t u k l m read held fault empty
       });
     }
 
-pub failed_answer : (old : DebuggerView) (state : SessionState) (debugger : DebuggerView) (last : Option Progress) (fresh input further : Input) (s t u k l m : Option (List ℕ)) (a b : ℕ)
+pub failed_answer : (code : KnownCode) (old : DebuggerView) (state : SessionState) (debugger : DebuggerView) (last : Option Progress) (fresh input further : Input) (s t u k l m : Option (List ℕ)) (a b : ℕ)
     (read : ReadLine) (held : List ℕ) (fault : DebugFault) → ahead_of fresh ≡ [] → fresh.left ≡ 4294967295
-    → IsUnderway old state fresh input s t k l → ReadsLine input further t u read held
-    → ((whole : List ℕ) → IsHeld read.fit held whole → LacksAnswer state (state_of debugger last) whole l m fault)
-    → FailsBy a b fault → Fails old debugger s u k m a b fault
-failed_answer old state debugger last fresh input further s t u k l m a b read held faults.Memory empty all so_far line out by =
+    → IsUnderway code old state fresh input s t k l → ReadsLine input further t u read held
+    → ((whole : List ℕ) → IsHeld read.fit held whole → LacksAnswer code state (state_of debugger last) whole l m fault)
+    → FailsBy a b fault → Fails code old debugger s u k m a b fault
+failed_answer code old state debugger last fresh input further s t u k l m a b read held faults.Memory empty all so_far line out by =
     let lacks = out line.whole line.held in
     let none = lacks.none refl in
-    let broken = unanswered old state (state_of debugger last) fresh input further s t u k l m read held faults.Memory empty all so_far line lacks in
+    let broken = unanswered code old state (state_of debugger last) fresh input further s t u k l m read held faults.Memory empty all so_far line lacks in
     let writes = appends_more k l m so_far.answered lacks.part so_far.writes lacks.writes in
     (so_far.answered, rw none at broken, rw (none, append-nil) at writes)
-failed_answer old state debugger last fresh input further s t u k l m a b read held faults.InputOutput empty all so_far line out by =
+failed_answer code old state debugger last fresh input further s t u k l m a b read held faults.InputOutput empty all so_far line out by =
     let lacks = out line.whole line.held in (
       so_far.answered,
       lacks.part,
-      unanswered old state (state_of debugger last) fresh input further s t u k l m read held faults.InputOutput empty all so_far line lacks,
+      unanswered code old state (state_of debugger last) fresh input further s t u k l m read held faults.InputOutput empty all so_far line lacks,
       appends_more k l m so_far.answered lacks.part so_far.writes lacks.writes,
       inr by,
     )
-failed_answer old state debugger last fresh input further s t u k l m a b read held fault empty all so_far line out by = absurd by
+failed_answer code old state debugger last fresh input further s t u k l m a b read held fault empty all so_far line out by = absurd by
 
 -- why the session ends by a line that wasn't read, and by one that wasn't answered
 pub ends_by_read : (s t u k l : ℕ) (fault : DebugFault) → FailsBy t u fault → t ≡ s → l ≡ k → EndsBy s u k l fault

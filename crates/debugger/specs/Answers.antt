@@ -8,6 +8,7 @@ use Rattle.machine.specs.Represents.{MachineView}
 use Rattle.debugger.specs.declared.fault.DebugFault.{DebugFault}
 use Rattle.debugger.specs.declared.stop.Cause.{Cause}
 use Rattle.debugger.specs.declared.stop.Cause.TheVariants as causes
+use Rattle.debugger.specs.Code.{KnownCode, plain_place}
 use Rattle.debugger.specs.Codes.{code}
 use Rattle.debugger.specs.CommandEffects.{byte_at}
 use Rattle.debugger.specs.declared.sessions.effects.Answer.{Answer}
@@ -21,11 +22,19 @@ line_of text = text ++ 10 ∷ []
 abbrev pub fault_text : DebugFault → List ℕ
 fault_text fault = line_of (codes "fault " ++ code fault)
 
--- `break hN pc=0xH`, `watch hN line=0xH` and `end`
-abbrev pub stop_text : Cause → List ℕ
-stop_text (causes.Break hart pc) = line_of (codes "break h" ++ (decimal hart ++ (codes " pc=0x" ++ hexadecimal pc)))
-stop_text (causes.Watch hart line) = line_of (codes "watch h" ++ (decimal hart ++ (codes " line=0x" ++ hexadecimal line)))
-stop_text causes.End = line_of (codes "end")
+-- `hN` and its pc, as it is told
+abbrev pub hart_place : ℕ → List ℕ → List ℕ
+hart_place hart place = codes "h" ++ (decimal hart ++ place)
+
+-- a stop tells what is known of its pc where the code has names
+abbrev pub stop_place : KnownCode → ℕ → List ℕ
+stop_place known pc = if known.named then known.place pc else plain_place pc
+
+-- `break` and where it is, `watch hN line=0xH` and `end`
+abbrev pub stop_text : KnownCode → Cause → List ℕ
+stop_text known (causes.Break hart pc) = line_of (codes "break " ++ hart_place hart (stop_place known pc))
+stop_text known (causes.Watch hart line) = line_of (codes "watch h" ++ (decimal hart ++ (codes " line=0x" ++ hexadecimal line)))
+stop_text known causes.End = line_of (codes "end")
 
 -- `xN=0xH`
 abbrev pub register_line : ℕ → ℕ → List ℕ
@@ -59,15 +68,16 @@ bytes_text machine address count =
     line_of (flat_map (λ place. parted_byte place (byte_at machine (address + place))) (range_with_len 0 count))
 
 -- what a command that was carried out is answered with
-abbrev pub answer_text : MachineView → Answer → List ℕ
-answer_text machine answers.Done = line_of (codes "ok")
-answer_text machine (answers.Hart hart state) = hart_text hart state
-answer_text machine (answers.Stop cause) = stop_text cause
-answer_text machine (answers.Registers state) = state_text state
-answer_text machine (answers.Bytes address count) = bytes_text machine address count
-answer_text machine answers.Quit = []
+abbrev pub answer_text : KnownCode → MachineView → Answer → List ℕ
+answer_text known machine answers.Done = line_of (codes "ok")
+answer_text known machine (answers.Hart hart state) = hart_text hart state
+answer_text known machine (answers.Stop cause) = stop_text known cause
+answer_text known machine (answers.Registers state) = state_text state
+answer_text known machine (answers.Where hart pc) = line_of (hart_place hart (known.place pc))
+answer_text known machine (answers.Bytes address count) = bytes_text machine address count
+answer_text known machine answers.Quit = []
 
 -- what a line is answered with; nothing where it has no words
-abbrev pub outcome_text : MachineView → Result (Option Answer) DebugFault → List ℕ
-outcome_text machine (Ok found) = text_of (answer_text machine) found
-outcome_text machine (Err fault) = fault_text fault
+abbrev pub outcome_text : KnownCode → MachineView → Result (Option Answer) DebugFault → List ℕ
+outcome_text known machine (Ok found) = text_of (answer_text known machine) found
+outcome_text known machine (Err fault) = fault_text fault

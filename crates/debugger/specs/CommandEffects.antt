@@ -1,6 +1,7 @@
 -- What a command does to a debugger and to the last schedule, and how it comes out.
 use Rattle.std.specs.Prelude.{◌≡◌, ◌<◌, ◌≤◌, ◌+◌, ◌^◌, ◌∷◌, ℕ, List, [], Bool, true, false, Option, Some, None, Result, Ok, Err, IsSome, if◌then◌else◌, length, nat_lt, slice_get}
 use Rattle.std.specs.List.{list_any}
+use Rattle.hart.specs.declared.state.HartState.{HartState}
 use Rattle.machine.specs.Represents.{MachineView, Runs}
 use Rattle.machine.specs.declared.schedule.items.Item.{Item}
 use Rattle.machine.specs.declared.schedule.items.Step.TheVariants as steps
@@ -91,6 +92,13 @@ ShowsHart machine hart (Ok (answers.Registers state)) = slice_get machine.harts 
 ShowsHart machine hart (Err (faults.Step refusals.NoSuchHart)) = length machine.harts ≤ hart
 ShowsHart machine hart outcome = ⊥
 
+-- `where H`
+abbrev pub ShowsPlace : MachineView → ℕ → Outcome → Type 0
+ShowsPlace machine hart (Ok (answers.Where number pc)) =
+    (number ≡ hart) × ((state : HartState) × (slice_get machine.harts hart ≡ Some state) × (pc ≡ state.pc))
+ShowsPlace machine hart (Err (faults.Step refusals.NoSuchHart)) = length machine.harts ≤ hart
+ShowsPlace machine hart outcome = ⊥
+
 -- the byte at an address; one past 64 bits is the address of no byte
 abbrev pub byte_at : MachineView → ℕ → Option ℕ
 byte_at machine address = if nat_lt address (2 ^ 64) then memory_of machine.shared address else None
@@ -112,5 +120,6 @@ Does old new (commands.Step hart) outcome = MakesStep old.debugger new.debugger 
 Does old new (commands.Go items) outcome = GoesOnFrom old.debugger new (at_start items) outcome
 Does old new commands.GoOn outcome = GoesOnBy old new old.last outcome
 Does old new (commands.Registers hart) outcome = ShowsHart old.debugger.machine hart outcome × (new ≡ old)
+Does old new (commands.Where hart) outcome = ShowsPlace old.debugger.machine hart outcome × (new ≡ old)
 Does old new (commands.Peek address count) outcome = ShowsBytes old.debugger.machine address count outcome × (new ≡ old)
 Does old new commands.Quit outcome = (outcome ≡ Ok answers.Quit) × (new ≡ old)

@@ -5,6 +5,7 @@ use Rattle.debugger.specs.Points.{DebuggerView}
 use Rattle.debugger.specs.declared.fault.DebugFault.{DebugFault}
 use Rattle.debugger.specs.declared.fault.DebugFault.TheVariants as faults
 use Rattle.debugger.specs.Answers.{outcome_text}
+use Rattle.debugger.specs.Code.{KnownCode}
 use Rattle.debugger.specs.CommandEffects.{Does, SessionState}
 use Rattle.debugger.specs.StreamFailures.{BeginsWith}
 use Rattle.debugger.specs.Grammar.{OnAsked, Says, meant}
@@ -22,24 +23,24 @@ abbrev pub most_line : ℕ
 most_line = 65536
 
 -- a line within its limit says the command
-pub record IsCommand (line : List ℕ) (command : Command) : Type 0 where
+pub record IsCommand (code : KnownCode) (line : List ℕ) (command : Command) : Type 0 where
   pub fits : length line ≤ most_line
-  pub says : Says line (meant command)
+  pub says : Says code line (meant command)
 
 -- why a line is no command: it is past its limit, or else by what its words say
-abbrev pub IsNoCommand : List ℕ → DebugFault → Type 0
-IsNoCommand line fault = ((most_line < length line) × (fault ≡ faults.Command))
-    ⊎ ((length line ≤ most_line) × (words line ≢ []) × OnAsked (Says line) fault)
+abbrev pub IsNoCommand : KnownCode → List ℕ → DebugFault → Type 0
+IsNoCommand code line fault = ((most_line < length line) × (fault ≡ faults.Command))
+    ⊎ ((length line ≤ most_line) × (words line ≢ []) × OnAsked (Says code line) fault)
 
 -- the command of a line is carried out, with this outcome
-abbrev pub CarriesOut : SessionState → SessionState → List ℕ → Result Answer DebugFault → Type 0
-CarriesOut old new line outcome = (command : Command) × IsCommand line command × Does old new command outcome
+abbrev pub CarriesOut : KnownCode → SessionState → SessionState → List ℕ → Result Answer DebugFault → Type 0
+CarriesOut code old new line outcome = (command : Command) × IsCommand code line command × Does old new command outcome
 
 -- what a line does, and how it comes out
-abbrev pub ComesOut : SessionState → SessionState → List ℕ → LineOutcome → Type 0
-ComesOut old new line (Ok None) = (length line ≤ most_line) × (words line ≡ []) × (new ≡ old)
-ComesOut old new line (Ok (Some answer)) = CarriesOut old new line (Ok answer)
-ComesOut old new line (Err fault) = (IsNoCommand line fault × (new ≡ old)) ⊎ CarriesOut old new line (Err fault)
+abbrev pub ComesOut : KnownCode → SessionState → SessionState → List ℕ → LineOutcome → Type 0
+ComesOut code old new line (Ok None) = (length line ≤ most_line) × (words line ≡ []) × (new ≡ old)
+ComesOut code old new line (Ok (Some answer)) = CarriesOut code old new line (Ok answer)
+ComesOut code old new line (Err fault) = (IsNoCommand code line fault × (new ≡ old)) ⊎ CarriesOut code old new line (Err fault)
 
 -- a further line is read, but for `quit` and for want of memory
 abbrev pub GoesOn : LineOutcome → Type 0
@@ -48,27 +49,27 @@ GoesOn (Err faults.Memory) = ⊥
 GoesOn outcome = ⊤
 
 -- the turn of a line with its answer, after which the session goes on
-pub record Turn (old new : SessionState) (line answer : List ℕ) : Type 0 where
+pub record Turn (code : KnownCode) (old new : SessionState) (line answer : List ℕ) : Type 0 where
   pub outcome : LineOutcome
-  pub comes_out : ComesOut old new line outcome
+  pub comes_out : ComesOut code old new line outcome
   pub goes_on : GoesOn outcome
-  pub answered : answer ≡ outcome_text new.debugger.machine outcome
+  pub answered : answer ≡ outcome_text code new.debugger.machine outcome
 
 -- the line says `quit`, and is answered by nothing
-abbrev pub Quits : SessionState → SessionState → List ℕ → Type 0
-Quits old new line = ComesOut old new line (Ok (Some answers.Quit))
+abbrev pub Quits : KnownCode → SessionState → SessionState → List ℕ → Type 0
+Quits code old new line = ComesOut code old new line (Ok (Some answers.Quit))
 
 -- the line is answered and the session goes on, or it quits
-abbrev pub IsAnswered : SessionState → SessionState → List ℕ → Bool → Option (List ℕ) → Option (List ℕ) → Type 0
-IsAnswered old new line true sink sink_then = (answer : List ℕ) × Turn old new line answer × Appends sink sink_then answer
-IsAnswered old new line false sink sink_then = Quits old new line × (sink_then ≡ sink)
+abbrev pub IsAnswered : KnownCode → SessionState → SessionState → List ℕ → Bool → Option (List ℕ) → Option (List ℕ) → Type 0
+IsAnswered code old new line true sink sink_then = (answer : List ℕ) × Turn code old new line answer × Appends sink sink_then answer
+IsAnswered code old new line false sink sink_then = Quits code old new line × (sink_then ≡ sink)
 
 -- the line is carried out, and a front of its answer is written; nothing where memory was refused
-pub record LacksAnswer (old new : SessionState) (line : List ℕ) (sink sink_then : Option (List ℕ)) (fault : DebugFault) : Type 0 where
+pub record LacksAnswer (code : KnownCode) (old new : SessionState) (line : List ℕ) (sink sink_then : Option (List ℕ)) (fault : DebugFault) : Type 0 where
   pub outcome : LineOutcome
   pub part : List ℕ
-  pub comes_out : ComesOut old new line outcome
-  pub begun : BeginsWith part (outcome_text new.debugger.machine outcome)
+  pub comes_out : ComesOut code old new line outcome
+  pub begun : BeginsWith part (outcome_text code new.debugger.machine outcome)
   pub writes : Appends sink sink_then part
   pub none : fault ≡ faults.Memory → part ≡ []
 
@@ -77,10 +78,10 @@ abbrev pub IsLine : List ℕ → Type 0
 IsLine line = All (λ byte. byte ≢ 10) line
 
 -- the turns of lines that each have their line end: the bytes of the lines, and those of their answers
-pub data Turns : SessionState → SessionState → List ℕ → List ℕ → Type 0 where
-  none : (state : SessionState) → Turns state state [] []
-  more : (old middle new : SessionState) (taken answered line answer : List ℕ) → Turns old middle taken answered
-      → IsLine line → Turn middle new line answer → Turns old new (taken ++ (line ++ 10 ∷ [])) (answered ++ answer)
+pub data Turns (code : KnownCode) : SessionState → SessionState → List ℕ → List ℕ → Type 0 where
+  none : (state : SessionState) → Turns code state state [] []
+  more : (old middle new : SessionState) (taken answered line answer : List ℕ) → Turns code old middle taken answered
+      → IsLine line → Turn code middle new line answer → Turns code old new (taken ++ (line ++ 10 ∷ [])) (answered ++ answer)
 
 -- a session begins without a schedule
 abbrev pub beginning : DebuggerView → SessionState

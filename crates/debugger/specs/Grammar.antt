@@ -1,5 +1,7 @@
 -- The commands of lines: the first word is a command's name, and what follows it is what the command takes.
-use Rattle.std.specs.Prelude.{◌≡◌, ◌≢◌, ◌≤◌, ◌^◌, ℕ, List, [], ◌∷◌, codes, ⊤}
+use Rattle.std.specs.Prelude.{◌≡◌, ◌≢◌, ◌≤◌, ◌<◌, ◌^◌, ◌⊎◌, ℕ, true, false, List, [], ◌∷◌, codes, ⊤}
+use Rattle.debugger.specs.Code.{KnownCode}
+use Rattle.debugger.specs.Points.{can_break}
 use Rattle.debugger.specs.declared.fault.DebugFault.{DebugFault}
 use Rattle.debugger.specs.declared.fault.DebugFault.TheVariants as faults
 use Rattle.machine.specs.Grammar.{IsSchedule}
@@ -20,6 +22,7 @@ pub data Asked : Type 0 where
   clears : Number → Asked
   steps : Number → Asked
   shows : Number → Asked
+  locates : Number → Asked
   peeks : Number → ℕ → Asked
   goes : List Item → Asked
   goes_on : Asked
@@ -36,6 +39,29 @@ pub record IsOneHart (parts : List (List ℕ)) (number : Number) : Type 0 where
   pub spelled : parts ≡ word ∷ []
   pub writes : Writes 10 word number
 
+-- a name stands for no address of 64 bits, or for one at which no instruction of the text region may begin
+abbrev pub NamesNone : KnownCode → List ℕ → Type 0
+NamesNone code word = ((address : ℕ) → address < 2 ^ 64 → ¬ (code.stands_for word address))
+    ⊎ ((address : ℕ) × code.stands_for word address × (can_break address ≡ false))
+
+-- it stands for an address at which one may; or it is as a number past 64 bits, Large
+abbrev pub Names : KnownCode → List ℕ → Number → Type 0
+Names code word (Small address) = code.stands_for word address × (can_break address ≡ true)
+Names code word Large = NamesNone code word
+
+-- a word is the number of an address, or else a name, where the code has names
+abbrev pub IsName : KnownCode → List ℕ → Type 0
+IsName code word = ((number : Number) → ¬ (IsWritten word number)) × (code.named ≡ true)
+
+abbrev pub MeansPlace : KnownCode → List ℕ → Number → Type 0
+MeansPlace code word number = IsWritten word number ⊎ (IsName code word × Names code word number)
+
+-- the words are one that means the address of an instruction
+pub record IsOnePlace (code : KnownCode) (parts : List (List ℕ)) (number : Number) : Type 0 where
+  pub word : List ℕ
+  pub spelled : parts ≡ word ∷ []
+  pub place : MeansPlace code word number
+
 -- they are an address and a number of bytes, from 1 to 64
 pub record IsRange (parts : List (List ℕ)) (number : Number) (count : ℕ) : Type 0 where
   pub word : List ℕ
@@ -46,20 +72,27 @@ pub record IsRange (parts : List (List ℕ)) (number : Number) (count : ℕ) : T
   pub least : 1 ≤ count
   pub most : count ≤ 64
 
--- `break A`, `watch A`, `clear A`, `step H`, `regs H`, `peek A N`, `go ITEMS`, `go` and `quit`
-abbrev pub SaysNamed : List ℕ → List ℕ → Asked → Type 0
-SaysNamed name rest (breaks number) = (name ≡ codes "break") × IsOneAddress (words rest) number
-SaysNamed name rest (watches number) = (name ≡ codes "watch") × IsOneAddress (words rest) number
-SaysNamed name rest (clears number) = (name ≡ codes "clear") × IsOneAddress (words rest) number
-SaysNamed name rest (steps number) = (name ≡ codes "step") × IsOneHart (words rest) number
-SaysNamed name rest (shows number) = (name ≡ codes "regs") × IsOneHart (words rest) number
-SaysNamed name rest (peeks number count) = (name ≡ codes "peek") × IsRange (words rest) number count
-SaysNamed name rest (goes items) = (name ≡ codes "go") × (words rest ≢ []) × IsSchedule rest items
-SaysNamed name rest goes_on = (name ≡ codes "go") × (words rest ≡ [])
-SaysNamed name rest quits = (name ≡ codes "quit") × (words rest ≡ [])
+-- `watch A`, `step H`, `regs H`, `where H`, `peek A N`, `go ITEMS`, `go` and `quit`
+abbrev pub SaysPlain : List ℕ → List ℕ → Asked → Type 0
+SaysPlain name rest (breaks number) = ⊥
+SaysPlain name rest (watches number) = (name ≡ codes "watch") × IsOneAddress (words rest) number
+SaysPlain name rest (clears number) = ⊥
+SaysPlain name rest (steps number) = (name ≡ codes "step") × IsOneHart (words rest) number
+SaysPlain name rest (shows number) = (name ≡ codes "regs") × IsOneHart (words rest) number
+SaysPlain name rest (locates number) = (name ≡ codes "where") × IsOneHart (words rest) number
+SaysPlain name rest (peeks number count) = (name ≡ codes "peek") × IsRange (words rest) number count
+SaysPlain name rest (goes items) = (name ≡ codes "go") × (words rest ≢ []) × IsSchedule rest items
+SaysPlain name rest goes_on = (name ≡ codes "go") × (words rest ≡ [])
+SaysPlain name rest quits = (name ≡ codes "quit") × (words rest ≡ [])
 
-abbrev pub Says : List ℕ → Asked → Type 0
-Says line asked = SaysNamed (first_part is_space line) (behind_part is_space line) asked
+-- these, `break A` and `clear A`
+abbrev pub SaysNamed : KnownCode → List ℕ → List ℕ → Asked → Type 0
+SaysNamed code name rest (breaks number) = (name ≡ codes "break") × IsOnePlace code (words rest) number
+SaysNamed code name rest (clears number) = (name ≡ codes "clear") × IsOnePlace code (words rest) number
+SaysNamed code name rest asked = SaysPlain name rest asked
+
+abbrev pub Says : KnownCode → List ℕ → Asked → Type 0
+Says code line asked = SaysNamed code (first_part is_space line) (behind_part is_space line) asked
 
 -- what a command was asked for by
 abbrev pub meant : Command → Asked
@@ -70,10 +103,11 @@ meant (commands.Step hart) = steps (Small hart)
 meant (commands.Go items) = goes items
 meant commands.GoOn = goes_on
 meant (commands.Registers hart) = shows (Small hart)
+meant (commands.Where hart) = locates (Small hart)
 meant (commands.Peek address count) = peeks (Small address) count
 meant commands.Quit = quits
 
--- an address past 64 bits is that of no point and of no byte
+-- an address past 64 bits, and a name of none, are that of no point and of no byte
 abbrev pub IsFar : Asked → Type 0
 IsFar (breaks number) = number ≡ Large
 IsFar (watches number) = number ≡ Large
@@ -89,6 +123,7 @@ IsNoHart Large = ⊤
 abbrev pub NamesNoHart : Asked → Type 0
 NamesNoHart (steps number) = IsNoHart number
 NamesNoHart (shows number) = IsNoHart number
+NamesNoHart (locates number) = IsNoHart number
 NamesNoHart asked = ⊥
 
 -- why there is no command of what is said: nothing is asked for, what is asked for can't be, or memory is wanted for the schedule
@@ -104,11 +139,22 @@ OnAsked P (faults.Step fault) = OnNoHart P fault
 OnAsked P faults.Memory = (items : List Item) × P (goes items)
 OnAsked P fault = ⊥
 
--- the same of one address and of one number of a hart
+-- the same of one address, of one place and of one number of a hart
 abbrev pub OnAddress : List (List ℕ) → DebugFault → Type 0
 OnAddress parts faults.Command = (number : Number) → ¬ (IsOneAddress parts number)
 OnAddress parts faults.Address = IsOneAddress parts Large
 OnAddress parts fault = ⊥
+
+abbrev pub OnPlace : KnownCode → List (List ℕ) → DebugFault → Type 0
+OnPlace code parts faults.Command = (number : Number) → ¬ (IsOnePlace code parts number)
+OnPlace code parts faults.Address = IsOnePlace code parts Large
+OnPlace code parts fault = ⊥
+
+-- why a word that is no number is no name of an instruction
+abbrev pub OnName : KnownCode → List ℕ → DebugFault → Type 0
+OnName code word faults.Command = code.named ≡ false
+OnName code word faults.Address = (code.named ≡ true) × NamesNone code word
+OnName code word fault = ⊥
 
 abbrev pub OnHartFault : List (List ℕ) → StepFault → Type 0
 OnHartFault parts refusals.NoSuchHart = (number : Number) × IsOneHart parts number × IsNoHart number

@@ -1,3 +1,4 @@
+pub mod Code
 pub mod Going
 pub mod Laws
 pub mod Points

@@ -7,5 +7,5 @@ mod effects;
 mod input;
 mod line_reader;
 
-pub use dialogue::session;
+pub use dialogue::{session, session_of};
 pub use input::{Failed, Sink, Source};

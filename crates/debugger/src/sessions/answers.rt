@@ -1,28 +1,31 @@
 //! The text that answers a command.
 
-ghost use Rattle.std.specs.Prelude.{◌≡◌, ◌++◌, IfOk, OnOk, string_bytes};
-ghost use Rattle.debugger.specs.Answers.{answer_text, bytes_text, fault_text, hart_text, parted_byte, register_line, state_text, stop_text};
+ghost use Rattle.std.specs.Prelude.{◌≡◌, ◌++◌, IfOk, OnOk, codes, string_bytes};
+ghost use Rattle.debugger.specs.Answers.{answer_text, bytes_text, fault_text, hart_place, hart_text, line_of, parted_byte, register_line, state_text, stop_place, stop_text};
 
+use crate::code::plain_place;
 use crate::sessions::effects::{Answer, byte_at};
-use crate::{Cause, DebugFault, Debugger};
+use crate::{Cause, Code, DebugFault, Debugger};
 use hart::{HartLine, HartState};
 use isa_table::Reg;
 use std::alloc::{AllocError, Global};
 use std::fmt::Write;
 
 /// The lines that answer a command which was carried out.
-pub(crate) fn answer_text(
+pub(crate) fn answer_text<C: Code>(
     alloc: Global,
+    code: &C,
     debugger: &Debugger,
     answer: Answer,
 ) -> Result<String, AllocError>
-    ensures { IfOk result (λ text. string_bytes text ≡ answer_text debugger.now.machine answer) }
+    ensures { IfOk result (λ text. string_bytes text ≡ answer_text (C.known code.now) debugger.now.machine answer) }
 {
     match answer {
         Answer::Done => String::from_str(alloc, "ok\n"),
         Answer::Hart(hart, state) => hart_text(alloc, hart, state),
-        Answer::Stop(cause) => stop_text(alloc, cause),
+        Answer::Stop(cause) => stop_text(alloc, code, cause),
         Answer::Registers(state) => state_text(alloc, &state),
+        Answer::Where { hart, pc } => where_text(alloc, code, hart, pc),
         Answer::Bytes { address, count } => bytes_text(alloc, debugger, address, count),
         Answer::Quit => Ok(String::new(alloc)),
     }
@@ -42,14 +45,41 @@ fn hart_text(alloc: Global, hart: u32, state: HartState) -> Result<String, Alloc
     format!(in alloc; "{}\n", HartLine { hart, state })
 }
 
-fn stop_text(alloc: Global, cause: Cause) -> Result<String, AllocError>
-    ensures { IfOk result (λ text. string_bytes text ≡ stop_text cause) }
+fn stop_text<C: Code>(alloc: Global, code: &C, cause: Cause) -> Result<String, AllocError>
+    ensures { IfOk result (λ text. string_bytes text ≡ stop_text (C.known code.now) cause) }
 {
     match cause {
-        Cause::Break { hart, pc } => format!(in alloc; "break h{hart} pc=0x{pc:x}\n"),
+        Cause::Break { hart, pc } => break_text(alloc, code, hart, pc),
         Cause::Watch { hart, line } => format!(in alloc; "watch h{hart} line=0x{line:x}\n"),
         Cause::End => String::from_str(alloc, "end\n"),
     }
+}
+
+/// `break` and where it is.
+fn break_text<C: Code>(alloc: Global, code: &C, hart: u32, pc: u64) -> Result<String, AllocError>
+    ensures { IfOk result (λ text. string_bytes text ≡ line_of (codes "break " ++ hart_place hart (stop_place (C.known code.now) pc))) }
+{
+    let place = stop_place(alloc, code, pc)?;
+    format!(in alloc; "break h{hart}{place}\n")
+}
+
+/// The pc of a stop, with what is known of it where the code has names.
+fn stop_place<C: Code>(alloc: Global, code: &C, pc: u64) -> Result<String, AllocError>
+    ensures { IfOk result (λ text. string_bytes text ≡ stop_place (C.known code.now) pc) }
+{
+    if code.is_named() {
+        code.place_of(alloc, pc)
+    } else {
+        plain_place(alloc, pc)
+    }
+}
+
+/// `hN`, and where it is.
+fn where_text<C: Code>(alloc: Global, code: &C, hart: u32, pc: u64) -> Result<String, AllocError>
+    ensures { IfOk result (λ text. string_bytes text ≡ line_of (hart_place hart ((C.known code.now).place pc))) }
+{
+    let place = code.place_of(alloc, pc)?;
+    format!(in alloc; "h{hart}{place}\n")
 }
 
 /// `pc=0xH`, and a line `xN=0xH` for each register.

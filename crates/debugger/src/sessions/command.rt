@@ -1,12 +1,13 @@
 //! The command that a line says.
 
-ghost use Rattle.std.specs.Prelude.{◌≡◌, ◌≢◌, ◌≤◌, [], ℕ, IfErr, IfOk, MatchOption, OnErr, codes};
-ghost use Rattle.debugger.specs.Grammar.{IsOneAddress, IsOneHart, IsRange, OnAddress, OnAsked, OnHart, Says, SaysNamed, meant};
+ghost use Rattle.std.specs.Prelude.{◌≡◌, ◌≢◌, ◌≤◌, [], ℕ, true, IfErr, IfOk, MatchOption, OnErr, OnOk, codes};
+ghost use Rattle.debugger.specs.Grammar.{IsOneAddress, IsOneHart, IsOnePlace, IsRange, Names, OnAddress, OnAsked, OnHart, OnName, OnPlace, Says, SaysNamed, SaysPlain, meant};
 ghost use Rattle.text.specs.Numbers.{Writes};
 ghost use Rattle.text.specs.Words.{words};
 ghost use Rattle.text.specs.declared.numbers.Number.{Number as ANumber};
 
-use crate::{DebugFault, Schedule, StepFault};
+use crate::points::can_break;
+use crate::{Code, DebugFault, Schedule, StepFault};
 use machine::ScheduleFault;
 use std::alloc::Global;
 use text::{Blanks, Number, first_word, is_blank, number_in, only_word, written_number};
@@ -20,11 +21,11 @@ const MAX_HART: u64 = 4_294_967_295;
 /// What a line asks of a debugger.
 #[derive(Drop)]
 pub(crate) enum Command {
-    /// `break A`: set a breakpoint.
+    /// `break A`, `break NAME`: set a breakpoint.
     Break(u64),
     /// `watch A`: watch the line of an address.
     Watch(u64),
-    /// `clear A`: take both away.
+    /// `clear A`, `clear NAME`: take both away.
     Clear(u64),
     /// `step H`: make one step of a hart.
     Step(u32),
@@ -34,6 +35,8 @@ pub(crate) enum Command {
     GoOn,
     /// `regs H`: show a hart's pc and registers.
     Registers(u32),
+    /// `where H`: show a hart's pc, and where that is.
+    Where(u32),
     /// `peek A N`: show from 1 to 64 bytes.
     Peek { address: u64, count: u64 },
     /// `quit`.
@@ -43,38 +46,63 @@ pub(crate) enum Command {
 /// The command that a line says; None where it has no words.
 ///
 /// # Errors
-/// Command where it says none; Address where an address is past 64 bits; NoSuchHart where the number of a hart is past 32
+/// Command where it says none; Address where an address is past 64 bits, or a name is that of no instruction; NoSuchHart where the number of a hart is past 32
 /// bits; Memory where it says `go` with a schedule, for which a growth is refused.
-pub(crate) fn read_command(alloc: Global, line: &[u8]) -> Result<Option<Command>, DebugFault>
-    ensures ok { IfOk result (λ found. MatchOption found (words line.now ≡ []) (λ command. Says line.now (meant command))) }
-    ensures err { IfErr result (OnAsked (Says line.now)) }
+pub(crate) fn read_command<C: Code>(
+    alloc: Global,
+    code: &C,
+    line: &[u8],
+) -> Result<Option<Command>, DebugFault>
+    ensures ok { IfOk result (λ found. MatchOption found (words line.now ≡ []) (λ command. Says (C.known code.now) line.now (meant command))) }
+    ensures err { IfErr result (OnAsked (Says (C.known code.now) line.now)) }
     ensures filled { OnErr result (words line.now ≢ []) }
 {
     let Some((name, rest)) = first_word(line, Blanks::Spaces) else {
         return Ok(None);
     };
-    match named_command(alloc, name, rest) {
+    match named_command(alloc, code, name, rest) {
         Ok(command) => Ok(Some(command)),
         Err(fault) => Err(fault),
     }
 }
 
 /// The command of a name, with what follows the name.
-#[tactic(auto, using(crate::proofs::Commands::no_name))]
-fn named_command(alloc: Global, name: &[u8], rest: &[u8]) -> Result<Command, DebugFault>
-    ensures ok { IfOk result (λ command. SaysNamed name.now rest.now (meant command)) }
-    ensures err { IfErr result (OnAsked (SaysNamed name.now rest.now)) }
+#[tactic(auto, using(crate::proofs::Commands::plain_said, crate::proofs::Commands::plain_fault))]
+fn named_command<C: Code>(
+    alloc: Global,
+    code: &C,
+    name: &[u8],
+    rest: &[u8],
+) -> Result<Command, DebugFault>
+    ensures ok { IfOk result (λ command. SaysNamed (C.known code.now) name.now rest.now (meant command)) }
+    ensures err { IfErr result (OnAsked (SaysNamed (C.known code.now) name.now rest.now)) }
 {
     if name == b"break".as_slice() {
-        break_command(rest)
-    } else if name == b"watch".as_slice() {
+        return break_command(code, rest);
+    }
+    if name == b"clear".as_slice() {
+        return clear_command(code, rest);
+    }
+    match plain_command(alloc, name, rest) {
+        Ok(command) => Ok(command),
+        Err(fault) => Err(fault),
+    }
+}
+
+/// That of a name other than `break` and `clear`, whose words mean the same whatever is known of the code.
+#[tactic(auto, using(crate::proofs::Commands::no_name))]
+fn plain_command(alloc: Global, name: &[u8], rest: &[u8]) -> Result<Command, DebugFault>
+    ensures ok { IfOk result (λ command. SaysPlain name.now rest.now (meant command)) }
+    ensures err { IfErr result (OnAsked (SaysPlain name.now rest.now)) }
+{
+    if name == b"watch".as_slice() {
         watch_command(rest)
-    } else if name == b"clear".as_slice() {
-        clear_command(rest)
     } else if name == b"step".as_slice() {
         step_command(rest)
     } else if name == b"regs".as_slice() {
         registers_command(rest)
+    } else if name == b"where".as_slice() {
+        where_command(rest)
     } else if name == b"peek".as_slice() {
         peek_command(rest)
     } else if name == b"go".as_slice() {
@@ -87,11 +115,11 @@ fn named_command(alloc: Global, name: &[u8], rest: &[u8]) -> Result<Command, Deb
 }
 
 #[tactic(auto, using(crate::proofs::Commands::break_fault))]
-fn break_command(rest: &[u8]) -> Result<Command, DebugFault>
-    ensures ok { IfOk result (λ command. SaysNamed (codes "break") rest.now (meant command)) }
-    ensures err { IfErr result (OnAsked (SaysNamed (codes "break") rest.now)) }
+fn break_command<C: Code>(code: &C, rest: &[u8]) -> Result<Command, DebugFault>
+    ensures ok { IfOk result (λ command. SaysNamed (C.known code.now) (codes "break") rest.now (meant command)) }
+    ensures err { IfErr result (OnAsked (SaysNamed (C.known code.now) (codes "break") rest.now)) }
 {
-    match one_address(rest) {
+    match one_place(code, rest) {
         Ok(address) => Ok(Command::Break(address)),
         Err(fault) => Err(fault),
     }
@@ -99,8 +127,8 @@ fn break_command(rest: &[u8]) -> Result<Command, DebugFault>
 
 #[tactic(auto, using(crate::proofs::Commands::watch_fault))]
 fn watch_command(rest: &[u8]) -> Result<Command, DebugFault>
-    ensures ok { IfOk result (λ command. SaysNamed (codes "watch") rest.now (meant command)) }
-    ensures err { IfErr result (OnAsked (SaysNamed (codes "watch") rest.now)) }
+    ensures ok { IfOk result (λ command. SaysPlain (codes "watch") rest.now (meant command)) }
+    ensures err { IfErr result (OnAsked (SaysPlain (codes "watch") rest.now)) }
 {
     match one_address(rest) {
         Ok(address) => Ok(Command::Watch(address)),
@@ -109,11 +137,11 @@ fn watch_command(rest: &[u8]) -> Result<Command, DebugFault>
 }
 
 #[tactic(auto, using(crate::proofs::Commands::clear_fault))]
-fn clear_command(rest: &[u8]) -> Result<Command, DebugFault>
-    ensures ok { IfOk result (λ command. SaysNamed (codes "clear") rest.now (meant command)) }
-    ensures err { IfErr result (OnAsked (SaysNamed (codes "clear") rest.now)) }
+fn clear_command<C: Code>(code: &C, rest: &[u8]) -> Result<Command, DebugFault>
+    ensures ok { IfOk result (λ command. SaysNamed (C.known code.now) (codes "clear") rest.now (meant command)) }
+    ensures err { IfErr result (OnAsked (SaysNamed (C.known code.now) (codes "clear") rest.now)) }
 {
-    match one_address(rest) {
+    match one_place(code, rest) {
         Ok(address) => Ok(Command::Clear(address)),
         Err(fault) => Err(fault),
     }
@@ -121,8 +149,8 @@ fn clear_command(rest: &[u8]) -> Result<Command, DebugFault>
 
 #[tactic(auto, using(crate::proofs::Commands::step_fault))]
 fn step_command(rest: &[u8]) -> Result<Command, DebugFault>
-    ensures ok { IfOk result (λ command. SaysNamed (codes "step") rest.now (meant command)) }
-    ensures err { IfErr result (OnAsked (SaysNamed (codes "step") rest.now)) }
+    ensures ok { IfOk result (λ command. SaysPlain (codes "step") rest.now (meant command)) }
+    ensures err { IfErr result (OnAsked (SaysPlain (codes "step") rest.now)) }
 {
     match one_hart(rest) {
         Ok(hart) => Ok(Command::Step(hart)),
@@ -132,8 +160,8 @@ fn step_command(rest: &[u8]) -> Result<Command, DebugFault>
 
 #[tactic(auto, using(crate::proofs::Commands::regs_fault))]
 fn registers_command(rest: &[u8]) -> Result<Command, DebugFault>
-    ensures ok { IfOk result (λ command. SaysNamed (codes "regs") rest.now (meant command)) }
-    ensures err { IfErr result (OnAsked (SaysNamed (codes "regs") rest.now)) }
+    ensures ok { IfOk result (λ command. SaysPlain (codes "regs") rest.now (meant command)) }
+    ensures err { IfErr result (OnAsked (SaysPlain (codes "regs") rest.now)) }
 {
     match one_hart(rest) {
         Ok(hart) => Ok(Command::Registers(hart)),
@@ -141,11 +169,22 @@ fn registers_command(rest: &[u8]) -> Result<Command, DebugFault>
     }
 }
 
+#[tactic(auto, using(crate::proofs::Commands::where_fault))]
+fn where_command(rest: &[u8]) -> Result<Command, DebugFault>
+    ensures ok { IfOk result (λ command. SaysPlain (codes "where") rest.now (meant command)) }
+    ensures err { IfErr result (OnAsked (SaysPlain (codes "where") rest.now)) }
+{
+    match one_hart(rest) {
+        Ok(hart) => Ok(Command::Where(hart)),
+        Err(fault) => Err(fault),
+    }
+}
+
 /// A number of bytes that is wrong is told before an address that is too large.
 #[tactic(auto, using(crate::proofs::Commands::range_fault))]
 fn peek_command(rest: &[u8]) -> Result<Command, DebugFault>
-    ensures ok { IfOk result (λ command. SaysNamed (codes "peek") rest.now (meant command)) }
-    ensures err { IfErr result (OnAsked (SaysNamed (codes "peek") rest.now)) }
+    ensures ok { IfOk result (λ command. SaysPlain (codes "peek") rest.now (meant command)) }
+    ensures err { IfErr result (OnAsked (SaysPlain (codes "peek") rest.now)) }
 {
     match range(rest) {
         Some((Number::Small(address), count)) => Ok(Command::Peek { address, count }),
@@ -156,8 +195,8 @@ fn peek_command(rest: &[u8]) -> Result<Command, DebugFault>
 
 #[tactic(auto, using(crate::proofs::Commands::go_none, crate::proofs::Commands::go_wants))]
 fn go_command(alloc: Global, rest: &[u8]) -> Result<Command, DebugFault>
-    ensures ok { IfOk result (λ command. SaysNamed (codes "go") rest.now (meant command)) }
-    ensures err { IfErr result (OnAsked (SaysNamed (codes "go") rest.now)) }
+    ensures ok { IfOk result (λ command. SaysPlain (codes "go") rest.now (meant command)) }
+    ensures err { IfErr result (OnAsked (SaysPlain (codes "go") rest.now)) }
 {
     if is_blank(rest) {
         return Ok(Command::GoOn);
@@ -171,8 +210,8 @@ fn go_command(alloc: Global, rest: &[u8]) -> Result<Command, DebugFault>
 
 #[tactic(auto, using(crate::proofs::Commands::quit_none))]
 fn quit_command(rest: &[u8]) -> Result<Command, DebugFault>
-    ensures ok { IfOk result (λ command. SaysNamed (codes "quit") rest.now (meant command)) }
-    ensures err { IfErr result (OnAsked (SaysNamed (codes "quit") rest.now)) }
+    ensures ok { IfOk result (λ command. SaysPlain (codes "quit") rest.now (meant command)) }
+    ensures err { IfErr result (OnAsked (SaysPlain (codes "quit") rest.now)) }
 {
     if is_blank(rest) {
         Ok(Command::Quit)
@@ -194,6 +233,40 @@ fn one_address(line: &[u8]) -> Result<u64, DebugFault>
         Some(Number::Small(address)) => Ok(address),
         Some(Number::Large) => Err(DebugFault::Address),
         None => Err(DebugFault::Command),
+    }
+}
+
+/// The address of an instruction that a line's only word means: a number, or where the code has names, a name.
+#[tactic(auto, using(crate::proofs::Commands::place_said, crate::proofs::Commands::no_place_word, crate::proofs::Commands::place_named, crate::proofs::Commands::name_fault))]
+fn one_place<C: Code>(code: &C, line: &[u8]) -> Result<u64, DebugFault>
+    ensures ok { IfOk result (λ address. IsOnePlace (C.known code.now) (words line.now) (Number.Small address)) }
+    ensures err { IfErr result (OnPlace (C.known code.now) (words line.now)) }
+{
+    let Some(word) = only_word(line) else {
+        return Err(DebugFault::Command);
+    };
+    match written_number(word) {
+        Some(Number::Small(address)) => Ok(address),
+        Some(Number::Large) => Err(DebugFault::Address),
+        None => match named_place(code, word) {
+            Ok(address) => Ok(address),
+            Err(fault) => Err(fault),
+        },
+    }
+}
+
+/// The address of an instruction that a name stands for.
+fn named_place<C: Code>(code: &C, word: &[u8]) -> Result<u64, DebugFault>
+    ensures named { IfOk result (λ address. Names (C.known code.now) word.now (Number.Small address)) }
+    ensures ok { OnOk result ((C.known code.now).named ≡ true) }
+    ensures err { IfErr result (OnName (C.known code.now) word.now) }
+{
+    if !code.is_named() {
+        return Err(DebugFault::Command);
+    }
+    match code.address_of(word) {
+        Some(address) if can_break(address) => Ok(address),
+        _ => Err(DebugFault::Address),
     }
 }
 

@@ -3,6 +3,7 @@
 ghost use Rattle.std.specs.Prelude.{◌≡◌, ℕ, List, true, IfErr, IfOk, MatchResult, OnErr, OnOk, string_bytes};
 ghost use Rattle.std.specs.Io.KnownBytes.{Appends};
 ghost use Rattle.debugger.specs.StreamFailures.{AppendsFront, EndsBy, FailsBy};
+ghost use Rattle.debugger.specs.Code.{unknown_code};
 ghost use Rattle.debugger.specs.Reading.{IsHeld};
 ghost use Rattle.debugger.specs.Running.{SomeRun};
 ghost use Rattle.debugger.specs.Sessions.{Fails, Session};
@@ -12,7 +13,7 @@ use crate::sessions::answers::{answer_text, fault_text};
 use crate::sessions::command::read_command;
 use crate::sessions::effects::{Answer, Progress, carry_out};
 use crate::sessions::input::{Failed, Fit, Input, Sink, Source};
-use crate::{DebugFault, Debugger};
+use crate::{Code, DebugFault, Debugger, UnknownCode};
 use std::alloc::{AllocError, Global};
 
 /// Reads commands line by line, up to `quit` or the end of the input, carries each out, and answers it before the next is
@@ -31,9 +32,31 @@ pub fn session<S: Source, K: Sink>(
 ) -> Result<(), DebugFault>
     ensures runs { SomeRun debugger.old.machine debugger.new.machine }
     ensures same { (S.name_of source.new ≡ S.name_of source.old) × (K.name_of sink.new ≡ K.name_of sink.old) }
-    ensures session { OnOk result (Session debugger.old debugger.new (S.remaining_of source.old) (S.remaining_of source.new)
+    ensures session { OnOk result (Session unknown_code debugger.old debugger.new (S.remaining_of source.old) (S.remaining_of source.new)
         (K.contents_of sink.old) (K.contents_of sink.new)) }
-    ensures fails { IfErr result (Fails debugger.old debugger.new (S.remaining_of source.old) (S.remaining_of source.new)
+    ensures fails { IfErr result (Fails unknown_code debugger.old debugger.new (S.remaining_of source.old) (S.remaining_of source.new)
+        (K.contents_of sink.old) (K.contents_of sink.new) (K.failures_of sink.old) (K.failures_of sink.new)) }
+    ensures source { OnOk result (S.failures_of source.new ≡ S.failures_of source.old) }
+    ensures sink { OnOk result (K.failures_of sink.new ≡ K.failures_of sink.old) }
+    ensures err { IfErr result (EndsBy (S.failures_of source.old) (S.failures_of source.new)
+        (K.failures_of sink.old) (K.failures_of sink.new)) }
+{
+    session_of(alloc, &UnknownCode, debugger, source, sink)
+}
+
+/// The same of a machine of whose code something is known: words then stand for addresses, and places are told.
+pub fn session_of<C: Code, S: Source, K: Sink>(
+    alloc: Global,
+    code: &C,
+    debugger: &mut Debugger,
+    source: &mut S,
+    sink: &mut K,
+) -> Result<(), DebugFault>
+    ensures runs { SomeRun debugger.old.machine debugger.new.machine }
+    ensures same { (S.name_of source.new ≡ S.name_of source.old) × (K.name_of sink.new ≡ K.name_of sink.old) }
+    ensures session { OnOk result (Session (C.known code.now) debugger.old debugger.new (S.remaining_of source.old) (S.remaining_of source.new)
+        (K.contents_of sink.old) (K.contents_of sink.new)) }
+    ensures fails { IfErr result (Fails (C.known code.now) debugger.old debugger.new (S.remaining_of source.old) (S.remaining_of source.new)
         (K.contents_of sink.old) (K.contents_of sink.new) (K.failures_of sink.old) (K.failures_of sink.new)) }
     ensures source { OnOk result (S.failures_of source.new ≡ S.failures_of source.old) }
     ensures sink { OnOk result (K.failures_of sink.new ≡ K.failures_of sink.old) }
@@ -48,7 +71,11 @@ pub fn session<S: Source, K: Sink>(
             Ok(read) => read,
             Err(unread) => return Err(unread),
         };
-        match answer_line(alloc, debugger, &mut last, read.fit, &line, sink) {
+        let held = HeldLine {
+            fit: read.fit,
+            bytes: &line,
+        };
+        match answer_line(alloc, code, debugger, &mut last, held, sink) {
             Ok(goes_on) => {
                 if !goes_on || read.is_last {
                     return Ok(());
@@ -59,51 +86,58 @@ pub fn session<S: Source, K: Sink>(
     }
 }
 
+/// A line, as far as its bytes are held.
+#[derive(Clone, Copy)]
+struct HeldLine<'a> {
+    fit: Fit,
+    bytes: &'a [u8],
+}
+
 /// Carries out the command of a line and answers it; false where no further line is to be read.
-fn answer_line<K: Sink>(
+fn answer_line<C: Code, K: Sink>(
     alloc: Global,
+    code: &C,
     debugger: &mut Debugger,
     last: &mut Option<Progress>,
-    fit: Fit,
-    line: &[u8],
+    line: HeldLine<'_>,
     sink: &mut K,
 ) -> Result<bool, DebugFault>
     ensures runs { SomeRun debugger.old.machine debugger.new.machine }
     ensures same { K.name_of sink.new ≡ K.name_of sink.old }
-    ensures answered { IfOk result (λ goes_on. (whole : List ℕ) → IsHeld fit line.now whole
-        → IsAnswered (record { debugger = debugger.old; last = last.old }) (record { debugger = debugger.new; last = last.new })
+    ensures answered { IfOk result (λ goes_on. (whole : List ℕ) → IsHeld line.entry.fit line.entry.bytes.now whole
+        → IsAnswered (C.known code.now) (record { debugger = debugger.old; last = last.old }) (record { debugger = debugger.new; last = last.new })
         whole goes_on (K.contents_of sink.old) (K.contents_of sink.new)) }
-    ensures unanswered { IfErr result (λ fault. (whole : List ℕ) → IsHeld fit line.now whole
-        → LacksAnswer (record { debugger = debugger.old; last = last.old }) (record { debugger = debugger.new; last = last.new })
+    ensures unanswered { IfErr result (λ fault. (whole : List ℕ) → IsHeld line.entry.fit line.entry.bytes.now whole
+        → LacksAnswer (C.known code.now) (record { debugger = debugger.old; last = last.old }) (record { debugger = debugger.new; last = last.new })
         whole (K.contents_of sink.old) (K.contents_of sink.new) fault) }
     ensures ok { OnOk result (K.failures_of sink.new ≡ K.failures_of sink.old) }
     ensures err { IfErr result (FailsBy (K.failures_of sink.old) (K.failures_of sink.new)) }
 {
-    match carried(alloc, debugger, last, fit, line) {
+    match carried(alloc, code, debugger, last, line) {
         Ok(None) => Ok(true),
         Ok(Some(Answer::Quit)) => Ok(false),
-        Ok(Some(answer)) => write_answer(answer_text(alloc, debugger, answer), sink),
+        Ok(Some(answer)) => write_answer(answer_text(alloc, code, debugger, answer), sink),
         Err(DebugFault::Memory) => Err(DebugFault::Memory),
         Err(fault) => write_answer(fault_text(alloc, fault), sink),
     }
 }
 
 /// Carries out the command of a line; None where the line has no words.
-fn carried(
+fn carried<C: Code>(
     alloc: Global,
+    code: &C,
     debugger: &mut Debugger,
     last: &mut Option<Progress>,
-    fit: Fit,
-    line: &[u8],
+    line: HeldLine<'_>,
 ) -> Result<Option<Answer>, DebugFault>
     ensures runs { SomeRun debugger.old.machine debugger.new.machine }
-    ensures comes_out { (whole : List ℕ) → IsHeld fit line.now whole
-        → ComesOut (record { debugger = debugger.old; last = last.old }) (record { debugger = debugger.new; last = last.new })
+    ensures comes_out { (whole : List ℕ) → IsHeld line.entry.fit line.entry.bytes.now whole
+        → ComesOut (C.known code.now) (record { debugger = debugger.old; last = last.old }) (record { debugger = debugger.new; last = last.new })
         whole result }
 {
-    match fit {
+    match line.fit {
         Fit::TooLong => Err(DebugFault::Command),
-        Fit::Whole => match read_command(alloc, line) {
+        Fit::Whole => match read_command(alloc, code, line.bytes) {
             Ok(None) => Ok(None),
             Ok(Some(command)) => match carry_out(debugger, last, command) {
                 Ok(answer) => Ok(Some(answer)),

@@ -1,7 +1,7 @@
 //! Carrying out a command.
 
 ghost use Rattle.std.specs.Prelude.{◌≡◌, ◌+◌};
-ghost use Rattle.debugger.specs.CommandEffects.{Breaks, Clears, Does, Goes, GoesOnBy, MakesStep, ShowsBytes, ShowsHart, Watches, byte_at};
+ghost use Rattle.debugger.specs.CommandEffects.{Breaks, Clears, Does, Goes, GoesOnBy, MakesStep, ShowsBytes, ShowsHart, ShowsPlace, Watches, byte_at};
 ghost use Rattle.debugger.specs.Running.{SomeRun};
 
 use crate::sessions::command::Command;
@@ -24,6 +24,8 @@ pub(crate) enum Answer {
     Stop(Cause),
     /// The pc and the registers of a hart in this state.
     Registers(HartState),
+    /// Where this hart is.
+    Where { hart: u32, pc: u64 },
     /// The bytes from this address on.
     Bytes { address: u64, count: u64 },
     /// Nothing: no further command is read.
@@ -53,6 +55,7 @@ pub(crate) fn carry_out(
         }
         Command::GoOn => go_on(debugger, last),
         Command::Registers(hart) => registers(debugger, hart),
+        Command::Where(hart) => place(debugger, hart),
         Command::Peek { address, count } => peek(debugger, address, count),
         Command::Quit => Ok(Answer::Quit),
     }
@@ -106,6 +109,16 @@ fn registers(debugger: &Debugger, hart: u32) -> Result<Answer, DebugFault>
 {
     match debugger.regs(hart) {
         Ok(state) => Ok(Answer::Registers(*state)),
+        Err(fault) => Err(fault),
+    }
+}
+
+/// Where a hart is.
+fn place(debugger: &Debugger, hart: u32) -> Result<Answer, DebugFault>
+    ensures { ShowsPlace debugger.now.machine hart result }
+{
+    match debugger.regs(hart) {
+        Ok(state) => Ok(Answer::Where { hart, pc: state.pc }),
         Err(fault) => Err(fault),
     }
 }

@@ -4,12 +4,7 @@ use Rattle.hart.specs.HartLines.{hexadecimal}
 use Rattle.debugger.proofs.Texts.{end_of_line}
 use Rattle.debugger.proofs.sessions.answers.stop_text.Goals as goal
 
-pub returns-in-Break : goal.returns-in-Break
-returns-in-Break c = rw c.in-Break.is (IfOk-weaker c.format.result _ _ (λ text written.
-    let plain = rw c.in_radix.ensures at written in
-    plain ∙ end_of_line (codes "break h") (decimal c.in-Break.hart) (codes " pc=0x" ++ hexadecimal c.in-Break.pc)) c.format.ensures.ok)
-
 pub returns-in-Watch : goal.returns-in-Watch
-returns-in-Watch c = rw c.in-Watch.is (IfOk-weaker c.format-in-Watch.result _ _ (λ text written.
-    let plain = rw c.in_radix-in-Watch.ensures at written in
-    plain ∙ end_of_line (codes "watch h") (decimal c.in-Watch.hart) (codes " line=0x" ++ hexadecimal c.in-Watch.line)) c.format-in-Watch.ensures.ok)
+returns-in-Watch g c = rw c.in-Watch.is (IfOk-weaker c.format.result _ _ (λ text written.
+    let plain = rw c.in_radix.ensures at written in
+    plain ∙ end_of_line (codes "watch h") (decimal c.in-Watch.hart) (codes " line=0x" ++ hexadecimal c.in-Watch.line)) c.format.ensures.ok)

@@ -1,13 +1,13 @@
 use Rattle.std.proofs.Common.{◌≡◌, ◌∙◌, ◌⊎◌, inl, inr, refl, true, false, rules}
 use Rattle.debugger.proofs.Runs.{no_run, run_joined}
 use Rattle.debugger.proofs.Underway.{answered_more, begun, ended, ends_by_read, ends_by_write, failed_answer, failed_read}
-use Rattle.debugger.proofs.sessions.dialogue.session.Goals as goal
-use Rattle.debugger.proofs.sessions.dialogue.session.Goals.{then-not-goes_on-via-then-not-goes_on, then-not-goes_on-via-else-not-goes_on+then-read}
+use Rattle.debugger.proofs.sessions.dialogue.session_of.Goals as goal
+use Rattle.debugger.proofs.sessions.dialogue.session_of.Goals.{then-not-goes_on-via-then-not-goes_on, then-not-goes_on-via-else-not-goes_on+then-read}
 
 pub lines-init : goal.lines-init
 lines-init g c = record {
   runs = no_run _ _ refl;
-  underway = begun _ c.new-input.result _ _;
+  underway = begun (g.C.Code.known c.args.code.now) _ c.new-input.result _ _;
   same_source = refl;
   same_sink = refl;
   source = refl;
@@ -28,7 +28,7 @@ pub returns-in-Err-clause-fails : goal.returns-in-Err-clause-fails
 returns-in-Err-clause-fails g c =
     let sink = g.K.Sink.failures_of in
     let source = g.S.Source.failures_of in
-    failed_read _ _ c.lines.last c.new-input.result c.lines.input c.read_line.new.self _ _ _ _ _ (sink c.args.sink.now) (sink c.lines.sink)
+    failed_read (g.C.Code.known c.args.code.now) _ _ c.lines.last c.new-input.result c.lines.input c.read_line.new.self _ _ _ _ _ (sink c.args.sink.now) (sink c.lines.sink)
     (source c.lines.source) (source c.read_line.new.source) c.in-Err.unread c.new-input.ensures.ahead c.new-input.ensures.left c.lines.invariant.underway
     c.in-Err.ensures.part c.in-Err.ensures.err
 
@@ -53,7 +53,7 @@ returns-then-not-goes_on-clause-session g c =
       | then-not-goes_on-via-else-not-goes_on+then-read w ↦ inr (search rules)
     ] in
     let answered = rw c.deref.ensures.value at c.in-Ok-answer_line.ensures.answered in
-    ended _ _ c.answer_line.new.debugger c.answer_line.new.last c.new-input.result c.lines.input c.read_line.new.self _ _ _ _ _ _ c.in-Ok.read
+    ended (g.C.Code.known c.args.code.now) _ _ c.answer_line.new.debugger c.answer_line.new.last c.new-input.result c.lines.input c.read_line.new.self _ _ _ _ _ _ c.in-Ok.read
     c.read_line.new.line.items c.in-Ok-answer_line.goes_on c.new-input.ensures.ahead c.new-input.ensures.left c.lines.invariant.underway
     c.in-Ok.ensures.line answered over
 
@@ -75,7 +75,7 @@ returns-in-Err-answer_line-clause-fails g c =
     let sink = g.K.Sink.failures_of in
     let out = rw c.deref.ensures.value at arm.ensures.unanswered in
     let by = rw c.lines.invariant.sink at arm.ensures.err in
-    failed_answer _ _ c.answer_line.new.debugger c.answer_line.new.last c.new-input.result c.lines.input c.read_line.new.self _ _ _ _ _ _
+    failed_answer (g.C.Code.known c.args.code.now) _ _ c.answer_line.new.debugger c.answer_line.new.last c.new-input.result c.lines.input c.read_line.new.self _ _ _ _ _ _
     (sink c.args.sink.now) (sink c.answer_line.new.sink) c.in-Ok.read c.read_line.new.line.items arm.fault c.new-input.ensures.ahead c.new-input.ensures.left
     c.lines.invariant.underway c.in-Ok.ensures.line out by
 
@@ -86,7 +86,7 @@ lines-preserved g c =
     let answered = rw c.deref.ensures.value at c.in-Ok-answer_line.ensures.answered in
     record {
       runs = run_joined _ _ _ c.lines.invariant.runs c.answer_line.ensures.runs;
-      underway = answered_more _ _ _ c.new-input.result c.lines.input c.read_line.new.self _ _ _ _ _ _ c.in-Ok.read c.read_line.new.line.items
+      underway = answered_more (g.C.Code.known c.args.code.now) _ _ _ c.new-input.result c.lines.input c.read_line.new.self _ _ _ _ _ _ c.in-Ok.read c.read_line.new.line.items
           c.in-Ok-answer_line.goes_on c.lines.invariant.underway c.in-Ok.ensures.line answered on further;
       same_source = c.read_line.ensures.same ∙ c.lines.invariant.same_source;
       same_sink = c.answer_line.ensures.same ∙ c.lines.invariant.same_sink;
