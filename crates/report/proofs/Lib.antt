@@ -1,4 +1,6 @@
 mod Lines
+pub mod Addresses
+mod Parts
 mod Stored
 mod LossesLines
 mod Counting

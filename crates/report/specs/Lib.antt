@@ -1,6 +1,7 @@
 pub mod PrintedNames
 pub mod PrintedWords
 pub mod Places
+pub mod Addresses
 pub mod Events
 pub mod Causes
 pub mod Json

@@ -1,6 +1,7 @@
 //! What is printed of a run: its events, each with its place in the program, and what keeps it from being whole.
 #![tactic(auto)]
 
+mod address;
 mod answer;
 mod causes;
 mod disassembly;
@@ -23,7 +24,7 @@ pub use causes::unfinished_text;
 pub use disassembly::listing_text;
 pub use events::{PlacedEvent, hart_of, trace_text};
 pub use json::trace_json;
-pub use laws::printed_is_a_trace_file;
+pub use laws::{one_address, printed_is_a_trace_file};
 pub use losses::{unpersisted_json, unpersisted_text, why_json, why_text};
 pub use medium::{line_text, volume_text};
 pub use origin::{ExecutablePlace, FileLine, FunctionPlace, Origin};
