@@ -32,6 +32,11 @@ pub record IsProgramOf (file : List ℕ) (program : Sections) : Type 0 where
   pub is_object : IsObjectOf (file_kind file) file object
   pub loaded : Loads program object
 
+-- files of one object give one program
+abbrev pub OneProgram : Type 0
+OneProgram = (file other : List ℕ) (object program : Sections) → IsObjectOf (file_kind file) file object → IsObjectOf (file_kind other) other object
+    → IsProgramOf file program → IsProgramOf other program
+
 -- what a fault of loading says of the file
 abbrev pub IsLoadFault : List ℕ → ProgramFault → Type 0
 IsLoadFault file (Assembly fault) = (file_kind file ≡ kinds.Source) × IsFirstFault file fault

@@ -27,7 +27,7 @@ pub use image_causes::{
 };
 pub use images::{ImageLine, count_images, image_lines};
 pub use judging::{judge_events, judge_program};
-pub use loading::{ProgramFault, load_object, load_program};
+pub use loading::{ProgramFault, load_object, load_program, one_program};
 pub use losses::{ExplainedImage, explain_losses};
 pub use places::places_of;
 pub use reading::RoutineReader;

@@ -3,7 +3,7 @@
 ghost use Rattle.machine.specs.Replies.{starting_memory};
 ghost use Rattle.std.specs.Prelude.{◌≡◌, IfErr, IfOk, List, ℕ};
 ghost use Rattle.crash_test.specs.Places.{HoldsSource};
-ghost use Rattle.crash_test.specs.Programs.{IsLoadFault, IsObjectOf, IsProgramOf, file_kind};
+ghost use Rattle.crash_test.specs.Programs.{IsLoadFault, IsObjectOf, IsProgramOf, OneProgram, file_kind};
 
 use crate::file_kind::FileKind;
 use assemble::{AsmCode, AsmFault, assemble};
@@ -27,6 +27,15 @@ pub enum ProgramFault {
     /// Memory was refused.
     #[error("out of memory")]
     Memory,
+}
+
+/// Files of one object give one program: a law, with nothing to run.
+///
+/// So an executable runs and is judged as the object with its text and its data is. What else stands in it says places alone.
+pub fn one_program()
+    ensures { OneProgram }
+{
+    assemble::one_answer();
 }
 
 /// The program of a file, loaded: the file is an ELF file where it begins with 7f 45 4c 46, an object's where it begins with

@@ -1,7 +1,7 @@
 //! Where the instructions of a program's file come from.
 
 ghost use Rattle.program.specs.Sections.{Sections};
-ghost use Rattle.crash_test.specs.Origins.{origin_of};
+ghost use Rattle.crash_test.specs.Origins.{AreNamesOf, origin_of};
 ghost use Rattle.report.specs.Places.{origin_in};
 ghost use Rattle.std.specs.Prelude.{◌≡◌, IfOk};
 ghost use Rattle.crash_test.specs.Programs.{IsProgramOf, file_kind};
@@ -17,7 +17,8 @@ use std::alloc::{AllocError, Global};
 #[tactic(auto, using(crate::proofs::OriginsOfFiles::nothing_known))]
 pub fn places_of(alloc: Global, file: &[u8]) -> Result<Places<'_>, AllocError>
     requires { (program : Sections) × IsProgramOf file.now program }
-    ensures { IfOk result (λ places. origin_in places ≡ origin_of file.now) }
+    ensures origins { IfOk result (λ places. origin_in places ≡ origin_of file.now) }
+    ensures names { IfOk result (AreNamesOf file.now) }
 {
     match FileKind::of(file) {
         FileKind::Source => places_of_source(alloc, file),
@@ -30,7 +31,8 @@ pub fn places_of(alloc: Global, file: &[u8]) -> Result<Places<'_>, AllocError>
 #[tactic(auto, using(crate::proofs::OriginsOfFiles::executable_known))]
 fn places_of_executable(alloc: Global, file: &[u8]) -> Result<Places<'_>, AllocError>
     requires { file_kind file.now ≡ FileKind.Elf }
-    ensures { IfOk result (λ places. origin_in places ≡ origin_of file.now) }
+    ensures origins { IfOk result (λ places. origin_in places ≡ origin_of file.now) }
+    ensures names { IfOk result (AreNamesOf file.now) }
 {
     let lines = LineTable::read(alloc, file)?;
     let functions = Functions::read(alloc, file)?;
@@ -42,7 +44,8 @@ fn places_of_executable(alloc: Global, file: &[u8]) -> Result<Places<'_>, AllocE
 fn places_of_source(alloc: Global, file: &[u8]) -> Result<Places<'_>, AllocError>
     requires source { file_kind file.now ≡ FileKind.Source }
     requires program { (program : Sections) × IsProgramOf file.now program }
-    ensures { IfOk result (λ places. origin_in places ≡ origin_of file.now) }
+    ensures origins { IfOk result (λ places. origin_in places ≡ origin_of file.now) }
+    ensures names { IfOk result (AreNamesOf file.now) }
 {
     match line_numbers(alloc, file) {
         Ok(numbers) => Ok(Places::Source(numbers)),
