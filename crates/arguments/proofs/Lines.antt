@@ -18,7 +18,7 @@ use Rattle.clap.specs.declared.parser.matches.ArgMatches.TheViews.{out-SubComman
 use Rattle.clap.proofs.WalkLemmas.{first_value-rows}
 use Rattle.arguments.specs.Codes.{IsMeaningOf}
 use Rattle.arguments.specs.declared.codes.table.Meaning.{Meaning}
-use Rattle.arguments.specs.Grammar.{IsGrammar, novacrash, grammar_of, is_of_file, making, running, asking_of_runs, asking_of_files, telling, judging, drawing_of_runs, drawing_of_files, showing, assemble_shape, make_volume_shape, upgrade_shape, run_shape, replay_shape, debug_shape, trace_shape, images_shape, image_shape, trace_of_file_shape, images_of_file_shape, image_of_file_shape, unpersisted_shape, waste_shape, unpersisted_of_file_shape, waste_of_file_shape, explain_shape, check_shape, judge_shape, check_all_shape, judge_all_shape, answer_shape, picture_shape, picture_of_file_shape, interleave_shape, show_shape, listing_shape, code_shape, help_shape}
+use Rattle.arguments.specs.Grammar.{IsGrammar, novacrash, grammar_of, is_of_file, making, running, asking_of_runs, asking_of_files, telling, judging, drawing_of_runs, drawing_of_files, showing, assemble_shape, make_volume_shape, upgrade_shape, run_shape, replay_shape, debug_shape, trace_shape, images_shape, image_shape, trace_of_file_shape, images_of_file_shape, image_of_file_shape, unpersisted_shape, waste_shape, unpersisted_of_file_shape, waste_of_file_shape, explain_shape, check_shape, judge_shape, check_all_shape, judge_all_shape, answer_shape, picture_shape, picture_of_file_shape, interleave_shape, show_shape, listing_shape, program_shape, code_shape, help_shape}
 use Rattle.arguments.specs.Line.{IsAsked, IsCommand, IsEventSource, IsFault, IsHelp, IsKindOf, IsNoCommand, IsOf, IsReport, IsTrace, OnFault, Refuses}
 use Rattle.arguments.specs.Values.{IsCodeWord, IsOptional}
 use Rattle.arguments.specs.declared.asked.Command.{Command}
@@ -59,12 +59,12 @@ refused_by_kind words kind (Fault text) (inr among) is =
 refused_by_kind words kind Memory among is = tt
 
 simple_and_free : (of_file : Bool) → is_simple_and_free (novacrash of_file) ≡ true
-unfolding novacrash making running telling judging showing assemble_shape make_volume_shape upgrade_shape run_shape replay_shape debug_shape asking_of_runs asking_of_files drawing_of_runs drawing_of_files trace_shape images_shape image_shape trace_of_file_shape images_of_file_shape image_of_file_shape unpersisted_shape waste_shape unpersisted_of_file_shape waste_of_file_shape explain_shape check_shape judge_shape check_all_shape judge_all_shape answer_shape picture_shape picture_of_file_shape interleave_shape show_shape listing_shape code_shape help_shape
+unfolding novacrash making running telling judging showing assemble_shape make_volume_shape upgrade_shape run_shape replay_shape debug_shape asking_of_runs asking_of_files drawing_of_runs drawing_of_files trace_shape images_shape image_shape trace_of_file_shape images_of_file_shape image_of_file_shape unpersisted_shape waste_shape unpersisted_of_file_shape waste_of_file_shape explain_shape check_shape judge_shape check_all_shape judge_all_shape answer_shape picture_shape picture_of_file_shape interleave_shape show_shape listing_shape program_shape code_shape help_shape
 simple_and_free false = refl
 simple_and_free true = refl
 
 simple : (of_file : Bool) → is_simple (novacrash of_file) ≡ true
-unfolding novacrash making running telling judging showing assemble_shape make_volume_shape upgrade_shape run_shape replay_shape debug_shape asking_of_runs asking_of_files drawing_of_runs drawing_of_files trace_shape images_shape image_shape trace_of_file_shape images_of_file_shape image_of_file_shape unpersisted_shape waste_shape unpersisted_of_file_shape waste_of_file_shape explain_shape check_shape judge_shape check_all_shape judge_all_shape answer_shape picture_shape picture_of_file_shape interleave_shape show_shape listing_shape code_shape help_shape
+unfolding novacrash making running telling judging showing assemble_shape make_volume_shape upgrade_shape run_shape replay_shape debug_shape asking_of_runs asking_of_files drawing_of_runs drawing_of_files trace_shape images_shape image_shape trace_of_file_shape images_of_file_shape image_of_file_shape unpersisted_shape waste_shape unpersisted_of_file_shape waste_of_file_shape explain_shape check_shape judge_shape check_all_shape judge_all_shape answer_shape picture_shape picture_of_file_shape interleave_shape show_shape listing_shape program_shape code_shape help_shape
 simple false = refl
 simple true = refl
 
@@ -185,6 +185,7 @@ no_trace_of name rows is none (commands.Picture command) asked = let e : 112 ≡
 no_trace_of name rows is none (commands.Interleave command) asked = let e : 105 ≡ 116 = ap (λ (t : Text). slice_index t 0) (sym asked.0 ∙ is) in absurd (omega (arith, e))
 no_trace_of name rows is none (commands.Show command) asked = let e : 115 ≡ 116 = ap (λ (t : Text). slice_index t 0) (sym asked.0 ∙ is) in absurd (omega (arith, e))
 no_trace_of name rows is none (commands.Listing command) asked = let e : 108 ≡ 116 = ap (λ (t : Text). slice_index t 0) (sym asked.0 ∙ is) in absurd (omega (arith, e))
+no_trace_of name rows is none (commands.Program command) asked = let e : 112 ≡ 116 = ap (λ (t : Text). slice_index t 0) (sym asked.0 ∙ is) in absurd (omega (arith, e))
 no_trace_of name rows is none (commands.Code command) asked = let e : 99 ≡ 116 = ap (λ (t : Text). slice_index t 0) (sym asked.0 ∙ is) in absurd (omega (arith, e))
 
 pub no_trace : (name : Text) (rows : List Row) (result : Result Command LineFault) → name ≡ codes "trace"
@@ -215,6 +216,7 @@ no_unpersisted_of name rows is none (commands.Picture command) asked = let e : 1
 no_unpersisted_of name rows is none (commands.Interleave command) asked = let e : 105 ≡ 117 = ap (λ (t : Text). slice_index t 0) (sym asked.0 ∙ is) in absurd (omega (arith, e))
 no_unpersisted_of name rows is none (commands.Show command) asked = let e : 115 ≡ 117 = ap (λ (t : Text). slice_index t 0) (sym asked.0 ∙ is) in absurd (omega (arith, e))
 no_unpersisted_of name rows is none (commands.Listing command) asked = let e : 108 ≡ 117 = ap (λ (t : Text). slice_index t 0) (sym asked.0 ∙ is) in absurd (omega (arith, e))
+no_unpersisted_of name rows is none (commands.Program command) asked = let e : 112 ≡ 117 = ap (λ (t : Text). slice_index t 0) (sym asked.0 ∙ is) in absurd (omega (arith, e))
 no_unpersisted_of name rows is none (commands.Code command) asked = let e : 99 ≡ 117 = ap (λ (t : Text). slice_index t 0) (sym asked.0 ∙ is) in absurd (omega (arith, e))
 
 pub no_unpersisted : (name : Text) (rows : List Row) (result : Result Command LineFault) → name ≡ codes "unpersisted"
@@ -245,6 +247,7 @@ no_waste_of name rows is none (commands.Picture command) asked = let e : 112 ≡
 no_waste_of name rows is none (commands.Interleave command) asked = let e : 105 ≡ 119 = ap (λ (t : Text). slice_index t 0) (sym asked.0 ∙ is) in absurd (omega (arith, e))
 no_waste_of name rows is none (commands.Show command) asked = let e : 115 ≡ 119 = ap (λ (t : Text). slice_index t 0) (sym asked.0 ∙ is) in absurd (omega (arith, e))
 no_waste_of name rows is none (commands.Listing command) asked = let e : 108 ≡ 119 = ap (λ (t : Text). slice_index t 0) (sym asked.0 ∙ is) in absurd (omega (arith, e))
+no_waste_of name rows is none (commands.Program command) asked = let e : 112 ≡ 119 = ap (λ (t : Text). slice_index t 0) (sym asked.0 ∙ is) in absurd (omega (arith, e))
 no_waste_of name rows is none (commands.Code command) asked = let e : 99 ≡ 119 = ap (λ (t : Text). slice_index t 0) (sym asked.0 ∙ is) in absurd (omega (arith, e))
 
 pub no_waste : (name : Text) (rows : List Row) (result : Result Command LineFault) → name ≡ codes "waste"

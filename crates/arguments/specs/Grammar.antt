@@ -228,6 +228,10 @@ show_shape = record (new_shape (codes "show")) {
 unfoldable pub listing_shape : Shape
 listing_shape = record (new_shape (codes "listing")) { rules = needed_word (codes "PROGRAM") ∷ help_option ∷ [] }
 
+-- `program PROGRAM`
+unfoldable pub program_shape : Shape
+program_shape = record (new_shape (codes "program")) { rules = needed_word (codes "PROGRAM") ∷ help_option ∷ [] }
+
 -- `code [CODE]`
 unfoldable pub code_shape : Shape
 code_shape = record (new_shape (codes "code")) { rules = optional_word (codes "CODE") ∷ help_option ∷ [] }
@@ -294,7 +298,7 @@ drawing false = drawing_of_runs
 drawing true = drawing_of_files
 
 unfoldable pub showing : List Shape
-showing = interleave_shape ∷ show_shape ∷ listing_shape ∷ code_shape ∷ help_shape ∷ []
+showing = interleave_shape ∷ show_shape ∷ listing_shape ∷ program_shape ∷ code_shape ∷ help_shape ∷ []
 
 -- the whole line, of a trace file or without one
 unfoldable pub novacrash : Bool → App

@@ -14,7 +14,7 @@ use Rattle.arguments.specs.declared.asked.CheckAllCommand.{CheckAllCommand}
 use Rattle.arguments.specs.declared.asked.CheckCommand.{CheckCommand}
 use Rattle.arguments.specs.declared.asked.CodeCommand.{CodeCommand}
 use Rattle.arguments.specs.declared.asked.Command.{Command}
-use Rattle.arguments.specs.declared.asked.Command.TheVariants.{Answer, Assemble, Check, CheckAll, Code, Debug, Explain, Image, Images, Interleave, Judge, JudgeAll, Listing, MakeVolume, Picture, Replay, Run, Show, Trace, Unpersisted, Upgrade, Waste}
+use Rattle.arguments.specs.declared.asked.Command.TheVariants.{Answer, Assemble, Check, CheckAll, Code, Debug, Explain, Image, Images, Interleave, Judge, JudgeAll, Listing, MakeVolume, Picture, Program, Replay, Run, Show, Trace, Unpersisted, Upgrade, Waste}
 use Rattle.arguments.specs.declared.asked.DebugCommand.{DebugCommand}
 use Rattle.arguments.specs.declared.asked.EventSource.{EventSource}
 use Rattle.arguments.specs.declared.asked.EventSource.TheVariants as sources
@@ -32,6 +32,7 @@ use Rattle.arguments.specs.declared.asked.ListingCommand.{ListingCommand}
 use Rattle.arguments.specs.declared.asked.MachineOptions.{MachineOptions}
 use Rattle.arguments.specs.declared.asked.MakeVolumeCommand.{MakeVolumeCommand}
 use Rattle.arguments.specs.declared.asked.PictureCommand.{PictureCommand}
+use Rattle.arguments.specs.declared.asked.ProgramCommand.{ProgramCommand}
 use Rattle.arguments.specs.declared.asked.ReplayCommand.{ReplayCommand}
 use Rattle.arguments.specs.declared.asked.ReportCommand.{ReportCommand}
 use Rattle.arguments.specs.declared.asked.RightAnswers.{RightAnswers}
@@ -231,6 +232,10 @@ pub record IsShow (rows : List Row) (command : ShowCommand) : Type 0 where
 pub record IsListing (rows : List Row) (command : ListingCommand) : Type 0 where
   pub program : IsWord (codes "PROGRAM") rows command.program
 
+-- `program` of this program
+pub record IsProgram (rows : List Row) (command : ProgramCommand) : Type 0 where
+  pub program : IsWord (codes "PROGRAM") rows command.program
+
 -- `code` with this code, or with none
 pub record IsCode (rows : List Row) (command : CodeCommand) : Type 0 where
   pub code : IsCodeWord (first_of (codes "CODE") rows) command.meaning
@@ -258,6 +263,7 @@ IsOf name rows (Picture command) = (name ≡ codes "picture") × IsPicture rows 
 IsOf name rows (Interleave command) = (name ≡ codes "interleave") × IsInterleave rows command
 IsOf name rows (Show command) = (name ≡ codes "show") × IsShow rows command
 IsOf name rows (Listing command) = (name ≡ codes "listing") × IsListing rows command
+IsOf name rows (Program command) = (name ≡ codes "program") × IsProgram rows command
 IsOf name rows (Code command) = (name ≡ codes "code") × IsCode rows command
 
 -- the name of no subcommand that makes a file from others
@@ -347,6 +353,7 @@ IsWithinLimits (Picture command) = IsSourceWithin command.source × (command.mom
 IsWithinLimits (Interleave command) = IsMachineWithin command.machine × IsWithin 1 500000000 command.steps × IsWithin 0 65536 command.evictions
 IsWithinLimits (Show command) = IfSome command.line (λ line. line < 2 ^ 32)
 IsWithinLimits (Listing command) = ⊤
+IsWithinLimits (Program command) = ⊤
 IsWithinLimits (Code command) = ⊤
 
 -- why a subcommand gives no command: it is `help`, or none is asked for by these values

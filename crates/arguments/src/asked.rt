@@ -50,6 +50,8 @@ pub enum Command {
     Show(ShowCommand),
     /// `listing PROGRAM`.
     Listing(ListingCommand),
+    /// `program PROGRAM`.
+    Program(ProgramCommand),
     /// `code [CODE]`.
     Code(CodeCommand),
 }
@@ -364,6 +366,13 @@ pub struct ShowCommand {
 /// What `listing` is to do.
 #[derive(Drop)]
 pub struct ListingCommand {
+    /// The name of the program's file.
+    pub program: String,
+}
+
+/// What `program` is to do.
+#[derive(Drop)]
+pub struct ProgramCommand {
     /// The name of the program's file.
     pub program: String,
 }

@@ -3,7 +3,7 @@
 ghost use Rattle.std.specs.Prelude.{◌<◌, ◌^◌, ℕ, IfOk, IfErr, IfSome, String, codes};
 ghost use Rattle.std.specs.declared.alloc.Global.{Global as AGlobal};
 ghost use Rattle.clap.specs.Words.{found_of, rows_of};
-ghost use Rattle.arguments.specs.Line.{IsAnswer, IsAssemble, IsCheck, IsCheckAll, IsCode, IsDebug, IsEventSource, IsExplain, IsImage, IsImages, IsInterleave, IsJudge, IsJudgeAll, IsListing, IsMakeVolume, IsPicture, IsReplay, IsReport, IsRun, IsScheduledRun, IsShow, IsTrace, IsTracedEvents, IsUpgrade};
+ghost use Rattle.arguments.specs.Line.{IsAnswer, IsAssemble, IsCheck, IsCheckAll, IsCode, IsDebug, IsEventSource, IsExplain, IsImage, IsImages, IsInterleave, IsJudge, IsJudgeAll, IsListing, IsMakeVolume, IsPicture, IsProgram, IsReplay, IsReport, IsRun, IsScheduledRun, IsShow, IsTrace, IsTracedEvents, IsUpgrade};
 ghost use Rattle.arguments.specs.Line.{IsCachedMachine, IsSourceWithin, IsJudgedProgram, IsJudgedRun, IsJudgedWithin, IsMachineWithin, IsOf, IsProgramWithin, IsRight, IsWithin, IsWithinLimits, OnFault};
 ghost use Rattle.arguments.specs.Started.{IsStarted};
 ghost use Rattle.arguments.specs.Values.{IsWord};
@@ -29,6 +29,7 @@ ghost use Rattle.arguments.specs.declared.asked.PictureCommand.{PictureCommand a
 ghost use Rattle.arguments.specs.declared.asked.ReportCommand.{ReportCommand as AReportCommand};
 ghost use Rattle.arguments.specs.declared.asked.ShowCommand.{ShowCommand as AShowCommand};
 ghost use Rattle.arguments.specs.declared.asked.ListingCommand.{ListingCommand as AListingCommand};
+ghost use Rattle.arguments.specs.declared.asked.ProgramCommand.{ProgramCommand as AProgramCommand};
 ghost use Rattle.arguments.specs.declared.asked.CodeCommand.{CodeCommand as ACodeCommand};
 ghost use Rattle.arguments.specs.declared.asked.MachineOptions.{MachineOptions as AMachine};
 ghost use Rattle.arguments.specs.declared.asked.JudgedProgram.{JudgedProgram as AJudgedProgram};
@@ -40,8 +41,9 @@ use crate::asked::{
     AnswerCommand, AssembleCommand, CheckAllCommand, CheckCommand, CodeCommand, Command,
     DebugCommand, EventSource, ExplainCommand, ImageCommand, ImagesCommand, InterleaveCommand,
     JudgeAllCommand, JudgeCommand, JudgedProgram, JudgedRun, LineFault, ListingCommand,
-    MachineOptions, MakeVolumeCommand, PictureCommand, ReplayCommand, ReportCommand, RightAnswers,
-    RunCommand, ScheduledRun, ShowCommand, TraceCommand, TracedEvents, UpgradeCommand,
+    MachineOptions, MakeVolumeCommand, PictureCommand, ProgramCommand, ReplayCommand,
+    ReportCommand, RightAnswers, RunCommand, ScheduledRun, ShowCommand, TraceCommand, TracedEvents,
+    UpgradeCommand,
 };
 use crate::machine::{cached_machine, whole_machine};
 use crate::moments::optional_moments;
@@ -506,6 +508,18 @@ pub(crate) fn listing(alloc: Global, found: &ArgMatches<'_>) -> Result<Command, 
         → ¬ (IsListing (rows_of (found_of found.now)) command))) }
 {
     Ok(Command::Listing(ListingCommand {
+        program: word(alloc, found, "PROGRAM")?,
+    }))
+}
+
+/// What `program` is to do.
+pub(crate) fn program(alloc: Global, found: &ArgMatches<'_>) -> Result<Command, LineFault>
+    ensures ok { IfOk result (IsOf (codes "program") (rows_of (found_of found.now))) }
+    ensures within { IfOk result IsWithinLimits }
+    ensures err { IfErr result (OnFault ((command : AProgramCommand)
+        → ¬ (IsProgram (rows_of (found_of found.now)) command))) }
+{
+    Ok(Command::Program(ProgramCommand {
         program: word(alloc, found, "PROGRAM")?,
     }))
 }

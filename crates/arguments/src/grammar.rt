@@ -350,7 +350,7 @@ static RUNNING: [Subcommand; 3] = [
         arguments: &[PROGRAM, MEDIUM, HARTS, CAPACITY],
         ending: ending!(
             "debug append.s --medium append.medium",
-            "Commands of the session: break A, watch A, clear A, step H, go [ITEMS], regs H, peek A N, quit.\n\n"
+            "Commands of the session: break A, watch A, clear A, step H, go [ITEMS], regs H, where H, peek A N, quit.\nOf an ELF file break and clear also take NAME, NAME+0xOFF and FILE:LINE.\n\n"
         ),
     },
 ];
@@ -564,7 +564,7 @@ static DRAWING_OF_FILES: [Subcommand; 1] = [Subcommand {
 }];
 
 /// The subcommands that show files, and that tell of what the program prints, behind the others.
-static SHOWING: [Subcommand; 5] = [
+static SHOWING: [Subcommand; 6] = [
     Subcommand {
         name: "interleave",
         group: Group::Make,
@@ -585,6 +585,13 @@ static SHOWING: [Subcommand; 5] = [
         about: "Print the words of a program, each with its instruction and its source line",
         arguments: &[PROGRAM],
         ending: ending!("listing append.s"),
+    },
+    Subcommand {
+        name: "program",
+        group: Group::Look,
+        about: "Print the sizes of a program, and of an executable what is known of its places",
+        arguments: &[PROGRAM],
+        ending: ending!("program append.s"),
     },
     Subcommand {
         name: "code",

@@ -14,8 +14,8 @@ pub use asked::{
     AnswerCommand, AssembleCommand, CheckAllCommand, CheckCommand, CodeCommand, Command,
     DebugCommand, EventSource, ExplainCommand, ImageCommand, ImagesCommand, InterleaveCommand,
     JudgeAllCommand, JudgeCommand, JudgedProgram, JudgedRun, LineFault, ListingCommand,
-    MachineOptions, MakeVolumeCommand, Moments, PictureCommand, ReplayCommand, ReportCommand,
-    RightAnswers, RunCommand, ScheduledRun, ShowCommand, TraceCommand, TracedEvents,
+    MachineOptions, MakeVolumeCommand, Moments, PictureCommand, ProgramCommand, ReplayCommand,
+    ReportCommand, RightAnswers, RunCommand, ScheduledRun, ShowCommand, TraceCommand, TracedEvents,
     UpgradeCommand,
 };
 pub use codes::{Meaning, all_have_meanings, list, meaning_of};

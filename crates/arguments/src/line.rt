@@ -10,8 +10,8 @@ ghost use Rattle.arguments.specs.declared.asked.Command.{Command as ACommand};
 use crate::asked::{Command, LineFault};
 use crate::commands::{
     answer, assemble, check, check_all, code, debug, explain, image, images, interleave, judge,
-    judge_all, listing, make_volume, picture, replay, run, show, trace, unpersisted, upgrade,
-    waste,
+    judge_all, listing, make_volume, picture, program, replay, run, show, trace, unpersisted,
+    upgrade, waste,
 };
 use crate::grammar::{grammar, overview};
 use clap::ArgMatches;
@@ -189,6 +189,7 @@ fn asked_to_show(alloc: Global, name: &str, found: &ArgMatches<'_>) -> Result<Co
         "interleave" => interleave(alloc, found),
         "show" => show(alloc, found),
         "listing" => listing(alloc, found),
+        "program" => program(alloc, found),
         "code" => code(alloc, found),
         _ => Err(unknown(alloc)?),
     }
@@ -227,6 +228,7 @@ fn asked_to_show(alloc: Global, name: &str, found: &ArgMatches<'_>) -> Result<Co
 /// - `interleave PROGRAM --seed N [--medium FILE --harts N --steps N --evictions N]`
 /// - `show MEDIUM [LINE]`
 /// - `listing PROGRAM`
+/// - `program PROGRAM`
 /// - `code [CODE]`
 #[tactic(auto, using(crate::proofs::Lines::has_none))]
 pub fn command(alloc: Global, words: &[String]) -> Result<Command, LineFault>

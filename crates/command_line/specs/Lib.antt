@@ -14,6 +14,7 @@ pub mod Imaging
 pub mod Judging
 pub mod JudgingAll
 pub mod Listing
+pub mod Sizes
 pub mod Making
 pub mod Naming
 pub mod Outcomes

@@ -4,7 +4,7 @@ use Rattle.std.specs.Io.KnownBytes.{Appends}
 use Rattle.std.specs.Result.{result_map_both}
 use Rattle.arguments.specs.Line.{IsCommand, Refuses}
 use Rattle.arguments.specs.declared.asked.Command.{Command}
-use Rattle.arguments.specs.declared.asked.Command.TheVariants.{Answer as AnswerCommand, Assemble, Check, CheckAll, Code, Debug, Explain, Image, Images, Interleave, Judge, JudgeAll, Listing, MakeVolume, Picture, Replay, Run, Show, Trace, Unpersisted, Upgrade, Waste}
+use Rattle.arguments.specs.declared.asked.Command.TheVariants.{Answer as AnswerCommand, Assemble, Check, CheckAll, Code, Debug, Explain, Image, Images, Interleave, Judge, JudgeAll, Listing, MakeVolume, Picture, Program, Replay, Run, Show, Trace, Unpersisted, Upgrade, Waste}
 use Rattle.arguments.specs.declared.asked.LineFault.{LineFault}
 use Rattle.arguments.specs.declared.asked.LineFault.TheVariants as line_faults
 use Rattle.debugger.specs.StreamFailures.{AppendsFront}
@@ -14,7 +14,7 @@ use Rattle.command_line.specs.Checking.{IsOpen, JudgesCheck, OpensCheck}
 use Rattle.command_line.specs.AllSchedules.{FailsBehind}
 use Rattle.command_line.specs.CheckingAll.{ChecksAll, IsOpen as IsOpenCheckAll, OpensCheckAll}
 use Rattle.command_line.specs.Coding.{code_text}
-use Rattle.command_line.specs.Debugging.{HoldsSession, OpensFile}
+use Rattle.command_line.specs.Debugging.{DebugsFile, IsOpen as IsOpenDebug, OpensFile}
 use Rattle.command_line.specs.Drawing.{InterleavesFile}
 use Rattle.command_line.specs.Explaining.{ExplainsFile}
 use Rattle.command_line.specs.Failures.{failure_status, failure_text}
@@ -28,6 +28,7 @@ use Rattle.command_line.specs.Persisting.{UnpersistedFile}
 use Rattle.command_line.specs.Picturing.{PicturesFile}
 use Rattle.command_line.specs.Running.{ReplaysFile, RunsFile}
 use Rattle.command_line.specs.Showing.{ShowsFile}
+use Rattle.command_line.specs.Sizes.{SizesFile}
 use Rattle.command_line.specs.Steps.{Prints, Reads, Step, Still, Writes}
 use Rattle.command_line.specs.Tracing.{TracesFile}
 use Rattle.command_line.specs.Wasting.{WasteFile}
@@ -71,6 +72,7 @@ CarriesOut reads writes (Picture command) = LeadsTo (PicturesFile reads writes c
 CarriesOut reads writes (Interleave command) = LeadsTo (InterleavesFile reads command) actions.Print
 CarriesOut reads writes (Show command) = LeadsTo (ShowsFile reads command) actions.Print
 CarriesOut reads writes (Listing command) = LeadsTo (ListsFile reads command) actions.Print
+CarriesOut reads writes (Program command) = LeadsTo (SizesFile reads command) actions.Print
 CarriesOut reads writes (Code command) = LeadsTo (Still (Prints (code_text command.meaning) 0)) actions.Print
 
 -- what is known of what is left to be done: of a verdict, that its files have been read
@@ -80,7 +82,7 @@ IsReady (actions.Check check) = IsOpen check
 IsReady (actions.Judge judge) = IsOpenJudge judge
 IsReady (actions.CheckAll check) = IsOpenCheckAll check
 IsReady (actions.JudgeAll judge) = IsOpenJudgeAll judge
-IsReady (actions.Debug machine) = Unit {0}
+IsReady (actions.Debug debug) = IsOpenDebug debug
 
 -- the text is to be printed with status 0
 pub record ShowsHelp (text : List ℕ) (action : Action) : Type 0 where
@@ -166,8 +168,8 @@ Delivers remaining contents said old new errors errors' (Ok (actions.CheckAll ch
     (new.0 ≡ old.0) × DeliversConclusion contents (ChecksAll said check) old.1 new.1 errors errors' ended
 Delivers remaining contents said old new errors errors' (Ok (actions.JudgeAll judge)) ended =
     (new.0 ≡ old.0) × DeliversConclusion contents (JudgesAll said judge) old.1 new.1 errors errors' ended
-Delivers remaining contents said old new errors errors' (Ok (actions.Debug machine)) ended =
-    HoldsSession machine (remaining old.0) (remaining new.0) (contents old.1) (contents new.1) ended × (errors' ≡ errors)
+Delivers remaining contents said old new errors errors' (Ok (actions.Debug debug)) ended =
+    DebugsFile debug (remaining old.0) (remaining new.0) (contents old.1) (contents new.1) ended × (errors' ≡ errors)
 Delivers remaining contents said old new errors errors' (Err failure) ended = (ended ≡ Err failure) × (new ≡ old) × (errors' ≡ errors)
 
 -- the status of the program

@@ -3,8 +3,7 @@
 ghost use Rattle.std.specs.Prelude.{◌≡◌, string_bytes};
 
 use crate::failure::Failure;
-use crate::opened::{OpenCheck, OpenCheckAll, OpenJudge, OpenJudgeAll};
-use machine::Machine;
+use crate::opened::{OpenCheck, OpenCheckAll, OpenDebug, OpenJudge, OpenJudgeAll};
 
 /// What a command prints on standard output, of whole lines, and the status that the program then ends with.
 #[derive(Drop)]
@@ -48,6 +47,6 @@ pub enum Action {
     CheckAll(OpenCheckAll),
     /// The same by a recovery routine.
     JudgeAll(OpenJudgeAll),
-    /// A session is to be held on a machine that has made no step.
-    Debug(Machine),
+    /// A session is to be held on a program.
+    Debug(OpenDebug),
 }

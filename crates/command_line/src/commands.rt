@@ -5,6 +5,7 @@ ghost use Rattle.std.specs.Result.{result_map_both};
 ghost use Rattle.arguments.specs.Line.{IsWithinLimits};
 ghost use Rattle.command_line.specs.Checking.{IsOpen};
 ghost use Rattle.command_line.specs.CheckingAll.{IsOpen as IsOpenCheckAll};
+ghost use Rattle.command_line.specs.Debugging.{IsOpen as IsOpenDebug};
 ghost use Rattle.command_line.specs.Judging.{IsOpen as IsOpenJudge};
 ghost use Rattle.command_line.specs.JudgingAll.{IsOpen as IsOpenJudgeAll};
 ghost use Rattle.command_line.specs.Outcomes.{AnswersFault, CarriesOut, ComesTo, IsReady};
@@ -27,16 +28,16 @@ use crate::judge::open_judge;
 use crate::judge_all::open_judge_all;
 use crate::listing::list_file;
 use crate::mkfs::make_file;
-use crate::opened::{OpenCheck, OpenCheckAll, OpenJudge, OpenJudgeAll};
+use crate::opened::{OpenCheck, OpenCheckAll, OpenDebug, OpenJudge, OpenJudgeAll};
 use crate::picture::picture_file;
 use crate::run::{replay_file, run_file};
 use crate::show::show_file;
+use crate::sizes::size_file;
 use crate::trace::trace_file;
 use crate::unpersisted::unpersisted_file;
 use crate::upgrade::upgrade_file;
 use crate::waste::waste_file;
 use arguments::{Command, LineFault, command};
-use machine::Machine;
 use std::alloc::Global;
 use std::sync::Wait;
 use std::thread::Threads;
@@ -90,6 +91,7 @@ fn carry_out<T: Threads + Wait + Sync, F: Files>(
         Command::Interleave(command) => printed(interleave_file(alloc, &command, files)),
         Command::Show(command) => printed(show_file(alloc, &command, files)),
         Command::Listing(command) => printed(list_file(alloc, &command, files)),
+        Command::Program(command) => printed(size_file(alloc, &command, files)),
         Command::Code(command) => printed(tell_code(alloc, &command)),
     }
 }
@@ -138,12 +140,13 @@ fn all_judged(judge: Result<OpenJudgeAll, Failure>) -> Result<Action, Failure>
     Ok(Action::JudgeAll(judge?))
 }
 
-/// A session is held on a machine.
-fn debugged(machine: Result<Machine, Failure>) -> Result<Action, Failure>
-    ensures is { result ≡ result_map_both Debug (λ failure. failure) machine }
+/// A session is held on a program.
+fn debugged(debug: Result<OpenDebug, Failure>) -> Result<Action, Failure>
+    requires { IfOk debug IsOpenDebug }
+    ensures is { result ≡ result_map_both Debug (λ failure. failure) debug }
     ensures ready { IfOk result IsReady }
 {
-    Ok(Action::Debug(machine?))
+    Ok(Action::Debug(debug?))
 }
 
 /// What a line comes to that asks for no command.

@@ -1,23 +1,25 @@
-//! The command that debugs a program: its machine, and the session over the standard streams.
+//! The command that debugs a program: its machine, what is known of its code, and the session over the standard streams.
 
-ghost use Rattle.std.specs.Prelude.{◌≡◌, IfErr};
+ghost use Rattle.std.specs.Prelude.{◌≡◌, IfErr, IfOk};
 ghost use Rattle.std.specs.Result.{result_map_both};
-ghost use Rattle.command_line.specs.Debugging.{FailsBy, HoldsSession, OpensFile, Starts};
+ghost use Rattle.command_line.specs.Debugging.{DebugsFile, FailsBy, HoldsSession, IsOpen, OpensFile, Starts, known_code};
 ghost use Rattle.command_line.specs.Failures.{failure_of_session};
 ghost use Rattle.command_line.specs.Reading.{machine_of};
 
 use crate::failure::Failure;
 use crate::files::Files;
-use crate::reading::{read_medium, read_program};
+use crate::opened::OpenDebug;
+use crate::reading::{program_of, read_file, read_medium};
 use crate::run::capacity;
 use crate::streams::{StandardInput, StandardOutput};
 use arguments::{DebugCommand, MachineOptions};
-use crash_test::start_program;
-use debugger::{DebugFault, Debugger, session};
+use crash_test::{places_of, start_program};
+use debugger::{Code, DebugFault, Debugger, session_of};
 use line_memory::Medium;
 use machine::Machine;
 use program::Program;
-use std::alloc::Global;
+use report::Places;
+use std::alloc::{AllocError, Global};
 use std::io::{Read, Write};
 
 /// `debug`: reads the files of a program and of a medium, and makes the machine of a session.
@@ -25,12 +27,15 @@ pub(crate) fn open_file<F: Files>(
     alloc: Global,
     command: &DebugCommand,
     files: &mut F,
-) -> Result<Machine, Failure>
-    ensures { OpensFile F.read_gives command.now files.old result files.new }
+) -> Result<OpenDebug, Failure>
+    ensures opens { OpensFile F.read_gives command.now files.old result files.new }
+    ensures ready { IfOk result IsOpen }
 {
-    let program = read_program(alloc, command.program.as_str(), files)?;
+    let file = read_file(command.program.as_str(), files)?;
+    let program = program_of(alloc, &file)?;
     let medium = read_medium(alloc, &command.machine.medium, files)?;
-    start(alloc, &command.machine, program, medium)
+    let machine = start(alloc, &command.machine, program, medium)?;
+    Ok(OpenDebug { file, machine })
 }
 
 /// The machine that the options ask for.
@@ -46,38 +51,79 @@ pub(crate) fn start(
     Ok(start_program(alloc, program, medium, options.harts, capacity)?)
 }
 
-/// Holds a session on a machine, and gives the status with which it ends: each command is answered on standard output
+/// What is known of the code of a program.
+#[derive(Drop)]
+struct ProgramCode<'a> {
+    places: Places<'a>,
+}
+
+impl Code for ProgramCode<'_> {
+    ghost known = { λ code. known_code code.places };
+
+    fn is_named(&self) -> bool {
+        self.places.have_names()
+    }
+
+    fn address_of(&self, word: &[u8]) -> Option<u64> {
+        self.places.address_of(word)
+    }
+
+    fn place_of(&self, alloc: Global, pc: u64) -> Result<String, AllocError> {
+        format!(in alloc; "{}", self.places.at(pc))
+    }
+}
+
+/// Holds a session on a program, and gives the status with which it ends: each command is answered on standard output
 /// before the next is asked for on standard input.
 pub(crate) fn hold_session<R: Read, W: Write>(
     alloc: Global,
+    debug: OpenDebug,
+    input: &mut R,
+    output: &mut W,
+) -> Result<u8, Failure>
+    requires { IsOpen debug }
+    ensures { DebugsFile debug (R.remaining input.old) (R.remaining input.new) (W.contents output.old) (W.contents output.new) result }
+{
+    let OpenDebug { file, machine } = debug;
+    let places = places_of(alloc, &file)?;
+    let code = ProgramCode { places };
+    talk(alloc, &code, machine, input, output)
+}
+
+/// A session on a machine of whose code this is known.
+fn talk<R: Read, W: Write>(
+    alloc: Global,
+    code: &ProgramCode<'_>,
     machine: Machine,
     input: &mut R,
     output: &mut W,
 ) -> Result<u8, Failure>
-    ensures { HoldsSession machine (R.remaining input.old) (R.remaining input.new) (W.contents output.old) (W.contents output.new) result }
+    ensures { HoldsSession (known_code code.now.places) machine (R.remaining input.old) (R.remaining input.new)
+        (W.contents output.old) (W.contents output.new) result }
 {
     let mut source = StandardInput { input, failures: 0 };
     let mut sink = StandardOutput {
         output,
         failures: 0,
     };
-    converse(alloc, machine, &mut source, &mut sink)
+    converse(alloc, code, machine, &mut source, &mut sink)
 }
 
 /// A session over standard input and standard output, whose failures are counted.
 fn converse<R: Read, W: Write>(
     alloc: Global,
+    code: &ProgramCode<'_>,
     machine: Machine,
     source: &mut StandardInput<R>,
     sink: &mut StandardOutput<W>,
 ) -> Result<u8, Failure>
     ensures same { (source.new.input.ghost_name ≡ source.old.input.ghost_name) × (sink.new.output.ghost_name ≡ sink.old.output.ghost_name) }
-    ensures holds { HoldsSession machine (R.remaining source.old.input.now) (R.remaining source.new.input.now)
+    ensures holds { HoldsSession (known_code code.now.places) machine (R.remaining source.old.input.now) (R.remaining source.new.input.now)
         (W.contents sink.old.output.now) (W.contents sink.new.output.now) result }
     ensures counts { IfErr result (FailsBy source.old.failures source.new.failures sink.old.failures sink.new.failures) }
 {
     let mut debugger = Debugger::new(machine);
-    let held = session(alloc, &mut debugger, source, sink);
+    let held = session_of(alloc, code, &mut debugger, source, sink);
     status_of(held)
 }
 

@@ -89,7 +89,7 @@ fn deliver<T: Threads + Sync + Clock, R: Read, W: Write, E: Write>(
         Action::Judge(judge) => deliver_judge(rt, alloc, &judge, output, errors),
         Action::CheckAll(check) => deliver_check_all(rt, alloc, check, output, errors),
         Action::JudgeAll(judge) => deliver_judge_all(rt, alloc, judge, output, errors),
-        Action::Debug(machine) => hold_session(alloc, machine, input, output),
+        Action::Debug(debug) => hold_session(alloc, debug, input, output),
     }
 }
 

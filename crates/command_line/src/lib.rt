@@ -33,6 +33,7 @@ mod reasons;
 mod reporting;
 mod run;
 mod show;
+mod sizes;
 mod streams;
 mod telling;
 mod trace;

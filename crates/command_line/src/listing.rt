@@ -27,7 +27,8 @@ pub(crate) fn list_file<F: Files>(
     listed(alloc, &file, &object)
 }
 
-fn object_in(alloc: Global, file: &[u8]) -> Result<Object, Failure>
+/// The object of a program's file.
+pub(crate) fn object_in(alloc: Global, file: &[u8]) -> Result<Object, Failure>
     ensures says { SaysObject file.now result }
 {
     Ok(load_object(alloc, file)?)

@@ -2,7 +2,7 @@
 
 use crate::made_run::MadeRun;
 use arguments::{CheckAllCommand, CheckCommand, JudgeAllCommand, JudgeCommand};
-use machine::Setup;
+use machine::{Machine, Setup};
 use plan::Plan;
 use program::Program;
 
@@ -44,4 +44,13 @@ pub struct OpenJudgeAll {
     pub(crate) file: Vec<u8>,
     /// What every schedule starts from.
     pub(crate) setup: Setup,
+}
+
+/// A program that is to be debugged. Its files have been read.
+#[derive(Drop)]
+pub struct OpenDebug {
+    /// The bytes of the program's file.
+    pub(crate) file: Vec<u8>,
+    /// Its machine, which has made no step.
+    pub(crate) machine: Machine,
 }

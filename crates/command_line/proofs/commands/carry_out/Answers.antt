@@ -18,7 +18,7 @@ pub returns-in-Replay-clause-carries : goal.returns-in-Replay-clause-carries
 returns-in-Replay-clause-carries g c = rw c.in-Replay.is (record { found = c.replay_file.result; finding = c.replay_file.ensures; leads = c.printed-in-Replay.ensures.is })
 
 pub returns-in-Debug-clause-carries : goal.returns-in-Debug-clause-carries
-returns-in-Debug-clause-carries g c = rw c.in-Debug.is (record { found = c.open_file.result; finding = c.open_file.ensures; leads = c.debugged.ensures.is })
+returns-in-Debug-clause-carries g c = rw c.in-Debug.is (record { found = c.open_file.result; finding = c.open_file.ensures.opens; leads = c.debugged.ensures.is })
 
 pub returns-in-Trace-clause-carries : goal.returns-in-Trace-clause-carries
 returns-in-Trace-clause-carries g c = rw c.in-Trace.is (record { found = c.trace_file.result; finding = c.trace_file.ensures; leads = c.printed-in-Trace.ensures.is })
@@ -64,6 +64,9 @@ returns-in-Show-clause-carries g c = rw c.in-Show.is (record { found = c.show_fi
 
 pub returns-in-Listing-clause-carries : goal.returns-in-Listing-clause-carries
 returns-in-Listing-clause-carries g c = rw c.in-Listing.is (record { found = c.list_file.result; finding = c.list_file.ensures; leads = c.printed-in-Listing.ensures.is })
+
+pub returns-in-Program-clause-carries : goal.returns-in-Program-clause-carries
+returns-in-Program-clause-carries g c = rw c.in-Program.is (record { found = c.size_file.result; finding = c.size_file.ensures; leads = c.printed-in-Program.ensures.is })
 
 pub returns-in-Code-clause-carries : goal.returns-in-Code-clause-carries
 returns-in-Code-clause-carries g c = rw c.in-Code.is (record {

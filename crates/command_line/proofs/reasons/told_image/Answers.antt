@@ -3,4 +3,4 @@ use Rattle.command_line.proofs.reasons.told_image.Goals as goal
 
 pub returns-in_ok-places-in-Some : goal.returns-in_ok-places-in-Some
 returns-in_ok-places-in-Some c =
-    rw c.in-Some.is (rw (c.traced.ensures.value, c.in_ok-places-in-Some.ensures, c.deref.ensures.value) at c.image_losses.ensures)
+    rw c.in-Some.is (rw (c.traced.ensures.value, c.in_ok-places-in-Some.ensures.origins, c.deref.ensures.value) at c.image_losses.ensures)
