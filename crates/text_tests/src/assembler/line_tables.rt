@@ -219,7 +219,7 @@ fn compiled_files_have_the_lines_that_readelf_tells(rt: HostRuntime) -> Result<(
 }
 
 #[test]
-fn a_line_has_its_least_address_of_text(rt: HostRuntime) -> Result<(), Fail> {
+fn a_line_has_the_address_of_its_first_word(rt: HostRuntime) -> Result<(), Fail> {
     let table = joined(rt.alloc(), &COMPILED)?;
     let file = file_of(rt.alloc(), &table, COMPILED_STRINGS)?;
     let lines = LineTable::read(rt.alloc(), &file)?;
@@ -228,22 +228,6 @@ fn a_line_has_its_least_address_of_text(rt: HostRuntime) -> Result<(), Fail> {
     assert!(rt;
         lines.address_of(b"put.h", 4).is_none() && lines.address_of(b"src/a.c", 6).is_none()
     );
-    Ok(())
-}
-
-/// A program whose first row is at 0x10002, which begins no word: 0x10002 b.h 7; 0x10008 b.h 8; 0x1000c the end.
-const ODD_PROGRAM: &[u8] =
-    b"\0\x09\x02\x02\0\x01\0\0\0\0\0\x03\x06\x01\x02\x06\x03\x01\x01\x02\x04\0\x01\x01";
-
-#[test]
-fn a_line_may_begin_within_a_word(rt: HostRuntime) -> Result<(), Fail> {
-    let unit = [(b"I\0\0\0".as_slice(), 1), (FRONT, 1), (ODD_PROGRAM, 1)];
-    let table = joined(rt.alloc(), &unit)?;
-    let file = file_of(rt.alloc(), &table, b"")?;
-    let lines = LineTable::read(rt.alloc(), &file)?;
-    assert_eq!(rt; lines.address_of(b"b.h", 7), Some(0x1_0002));
-    assert_eq!(rt; lines.address_of(b"b.h", 8), Some(0x1_0008));
-    assert!(rt; lines.at(0x1_0001).is_none());
     Ok(())
 }
 
