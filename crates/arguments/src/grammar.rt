@@ -11,6 +11,9 @@ use overview::Group;
 pub(crate) use overview::overview;
 use std::alloc::{AllocError, Global};
 
+/// What `--version` prints behind the program's name.
+const VERSION: &str = "1.0";
+
 /// A word or an option of a subcommand.
 #[derive(Clone, Copy)]
 pub(crate) enum Argument {
@@ -127,7 +130,7 @@ const UPGRADED_MEDIUM: Argument = Argument::Word {
 
 const CODE: Argument = Argument::Optional {
     name: "CODE",
-    about: "A code as it's printed, as A3, T5 or illegal [default: all codes]",
+    about: "A code as it's printed, as A3, T5 or illegal, in either case [default: all codes]",
 };
 
 const SHOWN_MEDIUM: Argument = Argument::Word {
@@ -274,7 +277,7 @@ const STATES: Argument = Argument::Valued {
 
 const ANY_END: Argument = Argument::Flag {
     name: "any-end",
-    about: "Let harts stop in any way: trap, or exit with another code than 0",
+    about: "Let harts end in any way: by a trap, with another code than 0, or never, with no way out",
 };
 
 const RECORD: Argument = Argument::Valued {
@@ -292,6 +295,11 @@ const OUT: Argument = Argument::Valued {
 const GO_ON: Argument = Argument::Flag {
     name: "go-on",
     about: "Count a moment with over 65,536 branches as open, and go on behind it",
+};
+
+const LEAST: Argument = Argument::Flag {
+    name: "least",
+    about: "Leave out the evictions that change nothing",
 };
 
 const WHOLE: Argument = Argument::Flag {
@@ -468,7 +476,9 @@ static TELLING: [Subcommand; 1] = [Subcommand {
     name: "explain",
     group: Group::Look,
     about: "Print a schedule that leaves a crash image of a moment of a run",
-    arguments: &[PROGRAM, SCHEDULE, MOMENT, IMAGE, MEDIUM, HARTS, WHOLE],
+    arguments: &[
+        PROGRAM, SCHEDULE, MOMENT, IMAGE, MEDIUM, HARTS, LEAST, WHOLE,
+    ],
     ending: ending!("explain append.s append.schedule 5 2 --medium append.medium --whole"),
 }];
 
@@ -700,13 +710,14 @@ impl Argument {
     }
 }
 
-/// The option that asks for help. clap's own would answer to `-h` too.
+/// The option that asks for help, alike at every level.
 fn help_flag<'a>(alloc: Global) -> Arg<'a>
     ensures rule { rule_of result ≡ help_option }
     ensures local { result.global ≡ false }
 {
     Arg::new(alloc, "help")
         .long("help")
+        .short('h')
         .action(ArgAction::Help)
         .help("Print help")
 }
@@ -726,11 +737,12 @@ impl Subcommand {
     }
 }
 
-/// The line without subcommands, with `--help` anywhere.
+/// The line without subcommands, with `--help` anywhere and `--version`.
 fn bare<'a>(alloc: Global) -> Result<clap::Command<'a>, AllocError>
     ensures { IfOk result (IsGrammar (line [])) }
 {
     clap::Command::new(alloc, "novacrash")
+        .version(VERSION)
         .disable_help_flag(true)
         .disable_help_subcommand(true)
         .subcommand_required(true)
