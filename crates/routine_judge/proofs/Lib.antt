@@ -40,3 +40,5 @@ pub mod Chaining
 pub mod Unsettled
 pub mod PlainRight
 pub mod WidePassing
+pub mod OutsideAgreeing
+pub mod OutsideMeaning

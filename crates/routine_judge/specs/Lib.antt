@@ -31,3 +31,9 @@ pub mod ChainCuts
 pub mod CutRows
 pub mod WidePasses
 pub mod CutJudges
+pub mod OutsideViews
+pub mod Outside
+pub mod OutsideTables
+pub mod OutsideBranches
+pub mod OutsideJudging
+pub mod OutsideLoops

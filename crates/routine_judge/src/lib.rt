@@ -18,6 +18,7 @@ mod images_judge;
 mod judge;
 mod judging;
 mod order;
+mod outside;
 mod passing;
 mod right;
 mod rule;
@@ -46,6 +47,7 @@ pub use order::{
     Operation, Precedence, SequentialRun, SequentialRuns, SequentialState, Word, precedences_stand,
     sequential_states_stand,
 };
+pub use outside::{Answering, OutsideCause, OutsideFault, OutsideRun, Reply, Wanted};
 pub use right::RightAnswers;
 pub use rule::{ProgramRuns, Rule};
 pub use run::MarkedRun;
