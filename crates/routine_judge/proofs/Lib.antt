@@ -42,3 +42,4 @@ pub mod PlainRight
 pub mod WidePassing
 pub mod OutsideAgreeing
 pub mod OutsideMeaning
+pub mod OutsideGoing

@@ -5,7 +5,7 @@ use Rattle.std.specs.List.{Contains}
 use Rattle.recovery.specs.Images.{has_same_bytes}
 use Rattle.routine_judge.specs.Outside.{AreRepliesOf, HasManyImages, IsFoundOn, IsMomentBy, IsOutsideMoment, IsRightAmong, Outside, asks_all, last_of, shown_full}
 use Rattle.routine_judge.specs.OutsideJudging.{AreOfTwo, IsSaid, IsWordOf, SaysCause}
-use Rattle.routine_judge.specs.OutsideTables.{AreKnownIn, AreRightIn, IsReplyAt, IsSoughtOn}
+use Rattle.routine_judge.specs.OutsideTables.{AreKeptIn, AreRightIn, IsReplyAt, IsSoughtOn}
 use Rattle.routine_judge.specs.OutsideViews.{KnownView}
 use Rattle.routine_judge.specs.RightAnswers.{is_among}
 use Rattle.routine_judge.specs.Windows.{IsWindow}
@@ -101,7 +101,7 @@ sought_means recovery start events replies window m right gave are medium size (
 
 -- a verdict in which images without a reply are bad, as it is said
 pub said_means : (recovery : Outside) (start : List (List ℕ)) (events : List Event) (replies : Replies) (window : Window) (m : ℕ) (right : RightReplies)
-    (verdict : MomentVerdict Sought) (other : MomentVerdict OutsideCause) → AreKnownIn start events replies → AreRepliesOf recovery start events replies.known.items →
+    (verdict : MomentVerdict Sought) (other : MomentVerdict OutsideCause) → AreKeptIn start events replies → AreRepliesOf recovery start events replies.known.items →
     AreRightIn recovery start events replies.known.items window m right →
     IsMomentVerdict true (has_same_bytes (image_at start events m)) (asks_all replies.lines.items)
     (λ k. IsSoughtOn start events replies.known.items right.answers.answers.items (image_at start events m k)) (at_moment events m) verdict →

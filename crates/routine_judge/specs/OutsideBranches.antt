@@ -11,13 +11,13 @@ use Rattle.routine_judge.specs.declared.outside.cause.Sought.{Sought}
 use Rattle.routine_judge.specs.declared.outside.cause.Sought.TheVariants.{Unknown, Missing, Different, Full}
 use Rattle.routine_judge.specs.declared.outside.replies.Replies.{Replies}
 use Rattle.store_trace.proofs.Images.{length_image}
-use Rattle.store_trace.proofs.Members.{contains_cases, no_members}
 use Rattle.store_trace.specs.History.{at_moment}
 use Rattle.store_trace.specs.declared.event.Event.{Event}
 use Rattle.verdict.specs.Branches.{Agree, IsAdaptive, IsShared}
 use Rattle.verdict.specs.Bytes.{has_byte}
 use Rattle.verdict.specs.ByLine.{line_decides}
 use Rattle.verdict.specs.CutImages.{AreMedia, image_at}
+use Rattle.verdict.specs.Numbers.{has}
 use Rattle.verdict.specs.declared.branches.question.Question.{Question}
 
 -- of every image the same is asked
@@ -66,11 +66,14 @@ same_whole (x ∷ xs) (y ∷ ys) i most e h =
     let same : x ≡ y = grind (arith, one) in
     ap (λ (z : ℕ). z ∷ xs) same ∙ ap (λ (zs : List ℕ). y ∷ zs) rest
 
+has_cases : (x l : ℕ) (xs : List ℕ) → has l (x ∷ xs) ≡ true → (x ≡ l) ⊎ (has l xs ≡ true)
+has_cases x l xs h = grind (arith, h)
+
 -- where cuts agree on lines, asked as wholes, they are alike in each of them
-agree_in : (lines : List ℕ) (alike : Question → ℕ → ℕ → Bool) (k c : ℕ → ℕ) → Agree alike k c (map whole_line lines) → (l : ℕ) → Contains lines l →
+agree_in : (lines : List ℕ) (alike : Question → ℕ → ℕ → Bool) (k c : ℕ → ℕ) → Agree alike k c (map whole_line lines) → (l : ℕ) → has l lines ≡ true →
     alike (whole_line l) (k l) (c l) ≡ true
-agree_in [] alike k c h l there = absurd (no_members l there)
-agree_in (x ∷ xs) alike k c h l there = elim (contains_cases x xs l there) [
+agree_in [] alike k c h l there = absurd cc
+agree_in (x ∷ xs) alike k c h l there = elim (has_cases x l xs there) [
   | inl e ↦ subst (λ (n : ℕ). alike (whole_line n) (k n) (c n) ≡ true) e h.0
   | inr d ↦ agree_in xs alike k c h.1 l d
 ]
@@ -92,26 +95,27 @@ line_same start events m whole k c l there h =
     ∙ sym (line_decides start (λ _. c l) c (at_moment events m) l refl)
 
 -- so the same replies are on both
-abbrev AreLike : List ℕ → List (List ℕ) → List (List ℕ) → Type 0
-AreLike lines one other = (l : ℕ) → Contains lines l → line_at one l ≡ line_at other l
+abbrev AreLike : ℕ → List ℕ → List (List ℕ) → List (List ℕ) → Type 0
+AreLike count lines one other = (l : ℕ) → l < count → has l lines ≡ true → line_at one l ≡ line_at other l
 
 agrees_too : (start : List (List ℕ)) (events : List Event) (replies : Replies) → AreKnownIn start events replies → (one other : List (List ℕ)) →
-    AreLike replies.lines.items one other → (known : KnownView) → Contains replies.known.items known → AgreesWith start events known other → AgreesWith start events known one
-agrees_too start events replies are one other like known there agrees l named = like l (are.listed known l there named) ∙ agrees l named
+    AreLike (length start) replies.lines.items one other → (known : KnownView) → Contains replies.known.items known → AgreesWith start events known other → AgreesWith start events known one
+agrees_too start events replies are one other like known there agrees l named =
+    like l ((are.each known there).there l named) (are.listed known l there named) ∙ agrees l named
 
 reply_too : (start : List (List ℕ)) (events : List Event) (replies : Replies) → AreKnownIn start events replies → (one other : List (List ℕ)) →
-    AreLike replies.lines.items one other → (i : ℕ) (known : KnownView) → IsReplyAt start events replies.known.items i other known →
+    AreLike (length start) replies.lines.items one other → (i : ℕ) (known : KnownView) → IsReplyAt start events replies.known.items i other known →
     IsReplyAt start events replies.known.items i one known
 reply_too start events replies are one other like i known is =
     record { there = is.there; here = is.here; agrees = agrees_too start events replies are one other like known (i, is.there, is.here) is.agrees }
 
 sought_too : (start : List (List ℕ)) (events : List Event) (replies : Replies) (right : List (List ℕ)) → AreKnownIn start events replies →
-    (one other : List (List ℕ)) → AreLike replies.lines.items one other → (found : Option Sought) →
+    (one other : List (List ℕ)) → AreLike (length start) replies.lines.items one other → (found : Option Sought) →
     IsSoughtOn start events replies.known.items right other found → IsSoughtOn start events replies.known.items right one found
 sought_too start events replies right are one other like None f =
     (f.0, f.1, reply_too start events replies are one other like f.0 f.1 f.2, f.3)
 sought_too start events replies right are one other like (Some Unknown) f = λ known there agrees.
-    f known there (agrees_too start events replies are other one (λ l named. sym (like l named)) known there agrees)
+    f known there (agrees_too start events replies are other one (λ l less named. sym (like l less named)) known there agrees)
 sought_too start events replies right are one other like (Some (Missing i)) f =
     (f.0, reply_too start events replies are one other like i f.0 f.1, f.2)
 sought_too start events replies right are one other like (Some Different) f =
@@ -125,7 +129,7 @@ pub known_branchwise : (start : List (List ℕ)) (events : List Event) (m : ℕ)
     IsSoughtOn start events replies.known.items right (image_at start events m c) found → IsSoughtOn start events replies.known.items right (image_at start events m k) found
 known_branchwise start events m replies right are whole c k questions found a h f =
     sought_too start events replies right are (image_at start events m k) (image_at start events m c)
-    (λ l named. line_same start events m whole k c l (are.there l named)
+    (λ l less named. line_same start events m whole k c l less
     (agree_in replies.lines.items (has_same_bytes (image_at start events m)) k c
     (subst (λ (qs : List Question). Agree (has_same_bytes (image_at start events m)) k c qs) a h) l named))
     found f

@@ -10,17 +10,22 @@ use Rattle.routine_judge.specs.declared.outside.cause.Sought.TheVariants.{Unknow
 use Rattle.routine_judge.specs.declared.outside.replies.Replies.{Replies}
 use Rattle.routine_judge.specs.declared.outside.right_replies.RightReplies.{RightReplies}
 use Rattle.store_trace.specs.declared.event.Event.{Event}
+use Rattle.verdict.specs.Numbers.{has}
 
 -- a reply on an image of these events, whose lines are there
 pub record IsKnownIn (start : List (List ℕ)) (events : List Event) (known : KnownView) : Type 0 where
   pub numbers : AreNumbersIn start events known.numbers
   pub there : (l : ℕ) → Contains known.reply.lines l → l < length start
 
--- the replies are of such images, and the lines are those that they name
+-- the replies are of such images, and the lines have those that they name
 pub record AreKnownIn (start : List (List ℕ)) (events : List Event) (replies : Replies) : Type 0 where
   pub each : (known : KnownView) → Contains replies.known.items known → IsKnownIn start events known
   pub there : (l : ℕ) → Contains replies.lines.items l → l < length start
-  pub listed : (known : KnownView) (l : ℕ) → Contains replies.known.items known → Contains known.reply.lines l → Contains replies.lines.items l
+  pub listed : (known : KnownView) (l : ℕ) → Contains replies.known.items known → Contains known.reply.lines l → has l replies.lines.items ≡ true
+
+-- and each of these lines is named by a reply
+pub record AreKeptIn (start : List (List ℕ)) (events : List Event) (replies : Replies) : Type 0 where
+  pub known : AreKnownIn start events replies
   pub named : AreNamed replies.known.items replies.lines.items
 
 -- reply i is one on a medium

@@ -5,7 +5,7 @@ ghost use Rattle.routine_judge.specs.MarkFaults.{AreSound};
 ghost use Rattle.routine_judge.specs.Outside.{IsOutsideVerdict};
 ghost use Rattle.routine_judge.specs.OutsideJudging.{IsAskedFor};
 ghost use Rattle.routine_judge.specs.OutsideLoops.{IsAnswered, IsMissing, IsSettled, IsStopped, IsUnanswered, IsVerdictAt};
-ghost use Rattle.routine_judge.specs.OutsideTables.{AreKnownIn};
+ghost use Rattle.routine_judge.specs.OutsideTables.{AreKeptIn};
 ghost use Rattle.routine_judge.specs.Verdicts.{IsRefusal};
 ghost use Rattle.routine_judge.specs.declared.history.overlap.Overlap.TheVariants.{Never};
 ghost use Rattle.std.specs.Prelude.{◌≡◌, ◌≢◌, ◌+◌, ◌≤◌, [], length, IfErr, IfOk, IfSome, OnOk};
@@ -183,11 +183,11 @@ impl<'a> OutsideRun<'a> {
         moment: u32,
         numbers: Vec<u32>,
     ) -> Result<(), OutsideFault<A::Fault>>
-        requires known { AreKnownIn self.now.start self.now.events replies.old }
+        requires known { AreKeptIn self.now.start self.now.events replies.old }
         requires wanted { IsAskedFor self.now.start self.now.events moment numbers.items }
         ensures ok { OnOk result (IsAnswered A.gives self.now.start self.now.events moment numbers.items answering.old answering.new
             replies.old.known.items replies.new.known.items) }
-        ensures known { OnOk result (AreKnownIn self.now.start self.now.events replies.new) }
+        ensures known { OnOk result (AreKeptIn self.now.start self.now.events replies.new) }
         ensures err { IfErr result (IsUnanswered A.fails self.now.start self.now.events moment numbers.items answering.old answering.new) }
     {
         let wanted = Wanted {

@@ -3,7 +3,7 @@
 ghost use Rattle.crash_image.specs.TraceIndexView.{IndexView};
 ghost use Rattle.routine_judge.specs.Images.{full_cut};
 ghost use Rattle.routine_judge.specs.OutsideJudging.{IsJudgedSoFar, IsRightOfTwo, IsRightSoFar, IsSaid, IsWordOf, SaysCause};
-ghost use Rattle.routine_judge.specs.OutsideTables.{AreKnownIn, IsReplyAt};
+ghost use Rattle.routine_judge.specs.OutsideTables.{AreKeptIn, AreKnownIn, IsReplyAt};
 ghost use Rattle.routine_judge.specs.OutsideViews.{AreNumbersIn, KnownView as AKnown};
 ghost use Rattle.std.specs.Prelude.{◌≡◌, ◌<◌, ◌≤◌, ℕ, All, List, IfOk, IfSome, length};
 ghost use Rattle.store_trace.specs.History.{history};
@@ -50,7 +50,7 @@ impl OutsideRun<'_> {
         opener: &mut Opener,
         moment: u32,
     ) -> Result<Judged, AllocError>
-        requires known { AreKnownIn self.now.start self.now.events replies.now }
+        requires known { AreKeptIn self.now.start self.now.events replies.now }
         requires there { moment ≤ length self.now.events }
         requires size { length opener.old ≡ length self.now.start }
         ensures ok { IfOk result (IsJudgedSoFar self.now.start self.now.events replies.now.known.items moment) }

@@ -2,7 +2,7 @@
 
 ghost use Rattle.crash_image.specs.TraceIndexView.{IndexView};
 ghost use Rattle.routine_judge.specs.Outside.{AgreesWith};
-ghost use Rattle.routine_judge.specs.OutsideTables.{AreKnownIn, HasNoneOn, IsKnownIn, IsReplyAt};
+ghost use Rattle.routine_judge.specs.OutsideTables.{AreKeptIn, AreKnownIn, HasNoneOn, IsKnownIn, IsReplyAt};
 ghost use Rattle.routine_judge.specs.OutsideViews.{KnownView as AKnown};
 ghost use Rattle.std.specs.Prelude.{◌≡◌, ◌↔◌, ◌⊎◌, ℕ, List, [], ◌∷◌, ◌++◌, Contains, IfNone, IfSome, IsTrue, OnOk, length};
 
@@ -43,6 +43,7 @@ impl Known {
     }
 
     /// Whether the reply is one on the medium, which has the bytes of the image in each line that the reply names.
+    #[tactic(auto, using(crate::proofs::OutsideAgreeing::agrees_none, crate::proofs::OutsideAgreeing::agrees_more, crate::proofs::OutsideAgreeing::number_there, crate::proofs::OutsideAgreeing::line_there))]
     fn is_on<S: Source>(&self, index: &TraceIndex<'_>, medium: &S) -> bool
         requires known { IsKnownIn index.now.start index.now.events self.now }
         requires size { length (S.medium medium.now) ≡ length index.now.start }
@@ -78,6 +79,7 @@ impl Replies {
     }
 
     /// The number of the first reply that is one on the medium.
+    #[tactic(auto, using(crate::proofs::OutsideAgreeing::none_yet, crate::proofs::OutsideAgreeing::none_more))]
     pub(crate) fn find<S: Source>(&self, index: &TraceIndex<'_>, medium: &S) -> Option<usize>
         requires known { AreKnownIn index.now.start index.now.events self.now }
         requires size { length (S.medium medium.now) ≡ length index.now.start }
@@ -93,10 +95,11 @@ impl Replies {
     }
 
     /// Takes in a reply on the image in which each line has so many of its stores.
+    #[tactic(auto, using(crate::proofs::OutsideAgreeing::kept_more))]
     pub(crate) fn add(&mut self, numbers: Vec<u32>, reply: Reply) -> Result<(), AllocError>
         ensures added { OnOk result (self.new.known.items ≡ self.old.known.items ++ (record { numbers = numbers.items; reply = reply } ∷ [])) }
-        ensures known { OnOk result ((index : IndexView) → AreKnownIn index.start index.events self.old →
-            IsKnownIn index.start index.events (record { numbers = numbers.items; reply = reply }) → AreKnownIn index.start index.events self.new) }
+        ensures known { OnOk result ((index : IndexView) → AreKeptIn index.start index.events self.old →
+            IsKnownIn index.start index.events (record { numbers = numbers.items; reply = reply }) → AreKeptIn index.start index.events self.new) }
     {
         self.list(reply.lines())?;
         self.known.push(Known::new(numbers, reply))?;

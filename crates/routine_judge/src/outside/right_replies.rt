@@ -63,7 +63,7 @@ fn add_found(
     found: Result<&[u8], &[u8]>,
 ) -> Result<(), AllocError>
     ensures { OnOk result ((bytes : List ℕ) → Contains answers.new.answers.items bytes ↔ (Contains answers.old.answers.items bytes
-        ⊎ (result_map_both (λ answer. answer.now) (λ word. word.now) found ≡ Ok bytes))) }
+        ⊎ (result_map_both (λ answer. answer.now) (λ word. word.now) found.entry ≡ Ok bytes))) }
 {
     if let Ok(bytes) = found {
         answers.add_answer(HeldAnswer::of(alloc, bytes)?)?;
