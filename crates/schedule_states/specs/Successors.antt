@@ -1,5 +1,5 @@
 -- What comes of a state by a request of one of its harts.
-use Rattle.std.specs.Prelude.{◌≡◌, ◌≢◌, ◌⊎◌, ◌<◌, ◌++◌, ℕ, true, false, List, [], All, Some, None, length, slice_get, slice_index_or}
+use Rattle.std.specs.Prelude.{Option, ◌≡◌, ◌≢◌, ◌⊎◌, ◌<◌, ◌++◌, ℕ, true, false, List, [], All, Some, None, length, slice_get, slice_index_or}
 use Rattle.bus.specs.Alone.{Asks}
 use Rattle.hart.specs.Effect.{answered, start}
 use Rattle.hart.specs.Needs.{IsSpelledBy}

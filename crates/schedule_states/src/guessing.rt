@@ -58,7 +58,7 @@ fn touch_by(
     requires few { length state.harts.items ≤ 8 }
     requires lists { HasLists parts.old state }
     ensures lists { IfOk result (HasLists parts.new) }
-    ensures count { IfOk result (λ next. length next.harts.items ≡ length state.entry.harts.items) }
+    ensures count { IfOk result (λ next. length next.harts.items ≡ length state.harts.items) }
 {
     let mut at = state;
     for _made in 0..MOST_REQUESTS {
