@@ -20,6 +20,7 @@ use Rattle.machine.specs.Histories.{memory_after}
 use Rattle.machine.specs.Replies.{events_of, replied, reply_after, trace_in}
 use Rattle.store_trace.specs.History.{history}
 use Rattle.store_trace.specs.declared.crash_model.step.PersistenceStep.{PersistenceStep}
+use Rattle.store_trace.specs.declared.event.Event.{Event}
 use Rattle.schedule_states.specs.Marks.{IsMarkedBy}
 use Rattle.schedule_states.specs.Memories.{IsMemoryOf, memory_over}
 use Rattle.schedule_states.specs.Requests.{is_reserved}
