@@ -55,10 +55,14 @@ abbrev pub ExplainsIf : {F E : Type 0} → Bool → Reads F → (E → Option (L
 ExplainsIf true reads said words failure files files' errors errors' = Explains reads said words failure files files' errors errors'
 ExplainsIf false reads said words failure files files' errors errors' = (files' ≡ files) × (errors' ≡ errors)
 
--- the object of a refusal, or a front of it, where the command's answer is JSON
+-- a text, or a front of it, where it is asked for, and else nothing
+abbrev pub PrintsIf : {W : Type 0} → Bool → (W → Option (List ℕ)) → List ℕ → W → W → Type 0
+PrintsIf true contents text old new = AppendsFront (contents old) (contents new) text
+PrintsIf false contents text old new = new ≡ old
+
+-- the object of a refusal, where the command's answer is JSON
 abbrev pub PrintsObject : {W : Type 0} → (W → Option (List ℕ)) → Refusal → W → W → Command → Type 0
-PrintsObject contents refusal old new command =
-    if is_json command then AppendsFront (contents old) (contents new) (refusal_json (names_of command) refusal) else new ≡ old
+PrintsObject contents refusal old new command = PrintsIf (is_json command) contents (refusal_json (names_of command) refusal) old new
 
 abbrev pub PrintsRefusal : {W : Type 0} → (W → Option (List ℕ)) → List (List ℕ) → Failure → W → W → Type 0
 PrintsRefusal contents words (Refused refusal) old new = OfCommand words (PrintsObject contents refusal old new) (new ≡ old)

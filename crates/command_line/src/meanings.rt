@@ -44,7 +44,7 @@ fn refused_text<F: Files>(
     refusal: &Refusal,
     files: &mut F,
 ) -> Result<String, Failure>
-    ensures { ReadsRefused F.read_gives refusal.now (option_map (λ name. name.now) name) files.old (result_map_both (λ text. string_bytes text) (λ failure. failure) result) files.new }
+    ensures { ReadsRefused F.read_gives refusal.now (option_map (λ name. name.now) name.entry) files.old (result_map_both (λ text. string_bytes text) (λ failure. failure) result) files.new }
 {
     match name {
         Some(file) => refused_in(alloc, file, refusal, files),
@@ -71,7 +71,7 @@ fn meaning_text(
     refusal: &Refusal,
     file: &[u8],
 ) -> Result<String, Failure>
-    ensures { SaysRefused (option_map (λ name. name.now) name) refusal.now file.now (result_map_both (λ text. string_bytes text) (λ failure. failure) result) }
+    ensures { SaysRefused (option_map (λ name. name.now) name.entry) refusal.now file.now (result_map_both (λ text. string_bytes text) (λ failure. failure) result) }
 {
     let Some(row) = meaning_of(refusal.code()) else {
         return Ok(String::new(alloc));
@@ -84,7 +84,7 @@ fn meaning_text(
 
 /// `FILE:LINE: `, or `FILE: ` where no line is at fault.
 fn place_text(alloc: Global, name: Option<&str>, line: Option<u32>) -> Result<String, AllocError>
-    ensures { IfOk result (λ text. string_bytes text ≡ place_text (option_map (λ name. name.now) name) line) }
+    ensures { IfOk result (λ text. string_bytes text ≡ place_text (option_map (λ name. name.now) name.entry) line) }
 {
     let Some(name) = name else {
         return Ok(String::new(alloc));
@@ -168,7 +168,7 @@ fn refused_file<'a>(names: &FileNames<'a>, refusal: &Refusal) -> Option<&'a str>
 }
 
 fn first_name<'a>(one: Option<&'a str>, other: Option<&'a str>) -> Option<&'a str>
-    ensures { option_map (λ name. name.now) result ≡ first_name (option_map (λ name. name.now) one) (option_map (λ name. name.now) other) }
+    ensures { option_map (λ name. name.now) result ≡ first_name (option_map (λ name. name.now) one.entry) (option_map (λ name. name.now) other.entry) }
 {
     match one {
         Some(name) => Some(name),
@@ -193,7 +193,7 @@ pub(crate) fn refusal_json(
 }
 
 fn name_or_null(alloc: Global, name: Option<&str>) -> Result<String, AllocError>
-    ensures { IfOk result (λ text. string_bytes text ≡ name_or_null (option_map (λ name. name.now) name)) }
+    ensures { IfOk result (λ text. string_bytes text ≡ name_or_null (option_map (λ name. name.now) name.entry)) }
 {
     match name {
         Some(name) => {
