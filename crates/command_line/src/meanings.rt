@@ -11,7 +11,7 @@ use crate::file_names::FileNames;
 use crate::files::Files;
 use crate::lost_files::find_lost;
 use crate::reading::read_file;
-use crate::shown::Shown;
+use crate::shown::{Form, Shown};
 use crate::source_lines::shown_line;
 use arguments::meaning_of;
 use std::alloc::{AllocError, Global};
@@ -91,7 +91,7 @@ fn place_text(alloc: Global, name: Option<&str>, line: Option<u32>) -> Result<St
     };
     let name = Shown {
         bytes: name.as_bytes(),
-        json: false,
+        form: Form::Line,
     };
     match line {
         Some(line) => format!(in alloc; "{name}:{line}: "),
@@ -141,7 +141,7 @@ fn lost_text<F: Files>(
         Some(name) => {
             let name = Shown {
                 bytes: name.as_bytes(),
-                json: false,
+                form: Form::Line,
             };
             Ok(format!(in alloc; "{name}: can't be read\n")?)
         }
@@ -199,7 +199,7 @@ fn name_or_null(alloc: Global, name: Option<&str>) -> Result<String, AllocError>
         Some(name) => {
             let name = Shown {
                 bytes: name.as_bytes(),
-                json: true,
+                form: Form::Json,
             };
             format!(in alloc; "\"{name}\"")
         }

@@ -6,12 +6,20 @@ ghost use Rattle.std.specs.Prelude.{◌≡◌};
 
 use std::fmt;
 
+/// Where bytes are printed.
+#[derive(Clone, Copy)]
+pub(crate) enum Form {
+    /// In a line of text.
+    Line,
+    /// In a string of JSON (RFC 8259).
+    Json,
+}
+
 /// Bytes, those outside 0x20 to 0x7e as `\xhh`. In a string of JSON a quotation mark and a backslash stand behind a backslash.
 #[derive(Clone, Copy)]
 pub(crate) struct Shown<'a> {
     pub(crate) bytes: &'a [u8],
-    /// Whether they stand in a string of JSON.
-    pub(crate) json: bool,
+    pub(crate) form: Form,
 }
 
 impl fmt::Display for Shown<'_> {
@@ -19,13 +27,13 @@ impl fmt::Display for Shown<'_> {
     ghost use Rattle.std.specs.Prelude.{Some};
     ghost use Rattle.command_line.specs.Shown.{shown_byte};
 
-    ghost output = { λ shown. Some (flat_map (shown_byte shown.json) shown.bytes.now) };
+    ghost output = { λ shown. Some (flat_map (shown_byte shown.form) shown.bytes.now) };
 
     fn fmt<W: fmt::Write>(&self, f: &mut fmt::Formatter<W>) -> fmt::Result {
         for byte in self.bytes {
             let byte = ShownByte {
                 byte: *byte,
-                json: self.json,
+                form: self.form,
             };
             write!(f, "{byte}")?;
         }
@@ -37,26 +45,26 @@ impl fmt::Display for Shown<'_> {
 #[derive(Clone, Copy)]
 struct ShownByte {
     byte: u8,
-    json: bool,
+    form: Form,
 }
 
 impl fmt::Display for ShownByte {
     ghost use Rattle.std.specs.Prelude.{Some};
     ghost use Rattle.command_line.specs.Shown.{shown_byte};
 
-    ghost output = { λ shown. Some (shown_byte shown.json shown.byte) };
+    ghost output = { λ shown. Some (shown_byte shown.form shown.byte) };
 
     #[tactic(auto, using(std::proofs::lemmas::Fmt::hex_byte))]
     fn fmt<W: fmt::Write>(&self, f: &mut fmt::Formatter<W>) -> fmt::Result {
         let byte = self.byte;
         let shown = char::from(byte);
-        match self.json {
-            false if is_shown(byte) => write!(f, "{shown}"),
-            false => write!(f, "\\x{byte:02x}"),
-            true if byte == b'"' => write!(f, "\\\""),
-            true if byte == b'\\' => write!(f, "\\\\"),
-            true if is_shown(byte) => write!(f, "{shown}"),
-            true => write!(f, "\\\\x{byte:02x}"),
+        match self.form {
+            Form::Line if is_shown(byte) => write!(f, "{shown}"),
+            Form::Line => write!(f, "\\x{byte:02x}"),
+            Form::Json if byte == b'"' => write!(f, "\\\""),
+            Form::Json if byte == b'\\' => write!(f, "\\\\"),
+            Form::Json if is_shown(byte) => write!(f, "{shown}"),
+            Form::Json => write!(f, "\\\\x{byte:02x}"),
         }
     }
 }

@@ -4,7 +4,7 @@ ghost use Rattle.asm_lex.specs.Lines.{lines_of};
 ghost use Rattle.command_line.specs.SourceLines.{front_of_line, is_indent, numbered_line, shown_line};
 ghost use Rattle.std.specs.Prelude.{◌≡◌, IfOk, option_map, string_bytes};
 
-use crate::shown::Shown;
+use crate::shown::{Form, Shown};
 use asm_lex::next_line;
 use std::alloc::{AllocError, Global};
 
@@ -19,7 +19,7 @@ pub(crate) fn shown_line(alloc: Global, text: &[u8], number: u32) -> Result<Stri
         Some(line) => {
             let shown = Shown {
                 bytes: front_of_line(line),
-                json: false,
+                form: Form::Line,
             };
             format!(in alloc; ": {shown}")
         }
@@ -28,6 +28,7 @@ pub(crate) fn shown_line(alloc: Global, text: &[u8], number: u32) -> Result<Stri
 }
 
 /// The line of this number, from 1; None where the text has fewer.
+#[tactic(auto, using(crate::proofs::NumberedLines::next_number, crate::proofs::NumberedLines::no_number, crate::proofs::NumberedLines::this_number))]
 fn numbered_line(text: &[u8], number: u32) -> Option<&[u8]>
     ensures { option_map (λ line. line.now) result ≡ numbered_line text.now number }
 {

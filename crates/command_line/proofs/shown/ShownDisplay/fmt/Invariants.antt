@@ -6,4 +6,4 @@ use Rattle.command_line.proofs.shown.ShownDisplay.fmt.Given as goal
 
 abbrev pub invariant-loop-byte : goal.invariant-loop-byte
 invariant-loop-byte g l = IsPlainFormatter l.initial.f
-    → HasWritten g.W.Write.write_str_gives l.initial.f (flat_map (shown_byte l.self.json) (take l.byte-index l.byte-items)) l.f
+    → HasWritten g.W.Write.write_str_gives l.initial.f (flat_map (shown_byte l.self.form) (take l.byte-index l.byte-items)) l.f
