@@ -1,17 +1,11 @@
 -- What is printed of a failure beyond its first line: the file that is refused, the line in it, and what the code means. And the object of a
 -- refusal in JSON.
-use Rattle.std.specs.Prelude.{◌≡◌, ◌⊎◌, ℕ, Bool, true, false, List, [], ◌∷◌, ◌++◌, Option, Some, None, Result, Ok, Err, MatchOption, MatchResult, String, codes, decimal, drop, length, map, string_bytes, if◌then◌else◌}
-use Rattle.std.specs.Str.{bytes_eq}
-use Rattle.std.specs.declared.alloc.Global.{Global}
+use Rattle.std.specs.Prelude.{◌≡◌, ℕ, List, [], ◌∷◌, ◌++◌, Option, Some, None, Result, Ok, MatchOption, MatchResult, codes, decimal, length}
 use Rattle.arguments.specs.Codes.{IsMeaningOf}
-use Rattle.arguments.specs.Line.{IsCommand, Refuses}
-use Rattle.arguments.specs.declared.asked.Command.{Command}
-use Rattle.arguments.specs.declared.asked.LineFault.{LineFault}
 use Rattle.arguments.specs.declared.codes.table.Meaning.{Meaning}
-use Rattle.debugger.specs.StreamFailures.{AppendsFront}
 use Rattle.command_line.specs.CutVerdicts.{number_or_null}
-use Rattle.command_line.specs.Failures.{failure_text, refusal_code}
-use Rattle.command_line.specs.FileNames.{Names, is_json, names_of}
+use Rattle.command_line.specs.Failures.{refusal_code}
+use Rattle.command_line.specs.FileNames.{Names}
 use Rattle.command_line.specs.LostFiles.{FindsLost}
 use Rattle.command_line.specs.Reports.{line_end}
 use Rattle.command_line.specs.Shown.{shown, shown_json}

@@ -64,6 +64,7 @@ pub(crate) fn tell_failure<F: Files, W: io::Write, E: io::Write>(
 }
 
 /// Writes what is known of a failure beyond its own lines.
+#[tactic(auto, using(crate::proofs::Written::front_all))]
 fn explain<F: Files, E: io::Write>(
     alloc: Global,
     words: &[String],
