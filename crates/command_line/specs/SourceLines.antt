@@ -1,6 +1,6 @@
 -- A line of a text, as it is printed of a refusal.
-use Rattle.std.specs.Prelude.{ℕ, Bool, ◌-◌, ◌==◌, ◌||◌, List, [], ◌++◌, Option, Some, None, codes, drop, not, slice_get, take}
-use Rattle.std.specs.List.{position_or_len}
+use Rattle.std.specs.Prelude.{ℕ, Bool, ◌-◌, ◌==◌, ◌||◌, List, [], ◌++◌, Option, Some, None, codes, drop, slice_get, take}
+use Rattle.std.specs.List.{prefix_len}
 use Rattle.asm_lex.specs.Lines.{lines_of}
 use Rattle.command_line.specs.Shown.{shown}
 
@@ -14,7 +14,7 @@ is_indent byte = (byte == 32) || (byte == 9)
 
 -- a line from its first byte on that is neither, and of that at most 80 bytes
 abbrev pub front_of_line : List ℕ → List ℕ
-front_of_line line = take 80 (drop (position_or_len (λ byte. not (is_indent byte)) line) line)
+front_of_line line = take 80 (drop (prefix_len is_indent line) line)
 
 -- behind a colon
 abbrev pub shown_line : Option (List ℕ) → List ℕ

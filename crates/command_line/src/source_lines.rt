@@ -2,7 +2,8 @@
 
 ghost use Rattle.asm_lex.specs.Lines.{lines_of};
 ghost use Rattle.command_line.specs.SourceLines.{front_of_line, is_indent, numbered_line, shown_line};
-ghost use Rattle.std.specs.Prelude.{◌≡◌, IfOk, option_map, string_bytes};
+ghost use Rattle.std.specs.List.{prefix_len};
+ghost use Rattle.std.specs.Prelude.{◌≡◌, ◌≤◌, IfOk, length, option_map, string_bytes, take};
 
 use crate::shown::{Form, Shown};
 use asm_lex::next_line;
@@ -44,9 +45,26 @@ fn numbered_line(text: &[u8], number: u32) -> Option<&[u8]>
 fn front_of_line(line: &[u8]) -> &[u8]
     ensures { result.now ≡ front_of_line line.now }
 {
-    let start = line.iter().position(|byte| !is_indent(*byte));
-    let line = &line[start.unwrap_or(line.len())..];
-    &line[..line.len().min(MOST_SHOWN)]
+    first_bytes(&line[indent_len(line)..])
+}
+
+/// How many spaces and tabs a line begins with.
+fn indent_len(line: &[u8]) -> usize
+    ensures in_range { result ≤ length line.now }
+    ensures value { result ≡ prefix_len is_indent line.now }
+{
+    line.iter().take_while(|byte| is_indent(**byte)).count()
+}
+
+/// As many bytes as are shown, or all where there are fewer.
+fn first_bytes(bytes: &[u8]) -> &[u8]
+    ensures { result.now ≡ take 80 bytes.now }
+{
+    if bytes.len() > MOST_SHOWN {
+        &bytes[..MOST_SHOWN]
+    } else {
+        bytes
+    }
 }
 
 fn is_indent(byte: u8) -> bool
