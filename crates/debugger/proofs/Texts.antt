@@ -7,7 +7,7 @@ use Rattle.hart.specs.Registers.{register}
 use Rattle.hart.specs.declared.state.HartState.{HartState}
 use Rattle.hart.specs.HartLines.{hexadecimal}
 use Rattle.machine.specs.Represents.{MachineView}
-use Rattle.debugger.specs.Answers.{changed_register, line_of, parted_byte, register_line}
+use Rattle.debugger.specs.Answers.{changed_register, changed_text, line_of, parted_byte, register_line}
 use Rattle.debugger.specs.Help.{Row, Texts, help_line, help_lines, texts_of_row, texts_of_rows}
 use Rattle.debugger.specs.CommandEffects.{byte_at}
 
@@ -49,15 +49,19 @@ pub bytes_more : (machine : MachineView) (address place : ℕ)
     → bytes_below machine address (place + 1) ≡ bytes_below machine address place ++ parted_byte place (byte_at machine (address + place))
 bytes_more machine address place = texts_more (λ k. parted_byte k (byte_at machine (address + k))) place
 
--- the text of a step up to a register
-abbrev pub changes_below : List ℕ → HartState → HartState → ℕ → List ℕ
-changes_below front before after number = front ++ flat_map (changed_register before after) (range_with_len 0 number)
+-- what a step has changed up to a register
+pub changes_begun : (front : List ℕ) (before after : HartState) → front ≡ front ++ changed_text before after 0
+unfolding changed_text
+changes_begun front before after = sym (append_none front)
 
-pub changes_more : (front : List ℕ) (before after : HartState) (number : ℕ)
-    → changes_below front before after (number + 1) ≡ changes_below front before after number ++ changed_register before after number
-changes_more front before after number =
+pub changes_more : (front old new : List ℕ) (before after : HartState) (number : ℕ) → old ≡ front ++ changed_text before after number
+    → new ≡ old ++ changed_register before after number → new ≡ front ++ changed_text before after (number + 1)
+unfolding changed_text
+changes_more front old new before after number so_far is =
     let f : ℕ → List ℕ = changed_register before after in
-    ap (λ (l : List ℕ). front ++ l) (texts_more f number) ∙ sym (append_assoc front (flat_map f (range_with_len 0 number)) (f number))
+    let below : List ℕ = flat_map f (range_with_len 0 number) in
+    is ∙ ap (λ (l : List ℕ). l ++ f number) so_far ∙ append_assoc front below (f number)
+    ∙ ap (λ (l : List ℕ). front ++ l) (sym (texts_more f number))
 
 -- the list of commands up to a row
 pub help_more : (rows : List Row) (i : ℕ) (d : Row) → i < length rows

@@ -94,12 +94,13 @@ changed_register before after number =
     if register before.registers number == register after.registers number then []
     else register_line number (register after.registers number)
 
-unfoldable pub changed_text : HartState → HartState → List ℕ
-changed_text before after = flat_map (changed_register before after) (range_with_len 0 32)
+-- those of the first registers
+unfoldable pub changed_text : HartState → HartState → ℕ → List ℕ
+changed_text before after registers = flat_map (changed_register before after) (range_with_len 0 registers)
 
 -- what is said behind an answer with `verbose on`: where the hart of a step or of a stop is, and what the step has changed
 abbrev pub further_text : KnownCode → MachineView → Answer → List ℕ
-further_text known machine (answers.Hart hart before after) = hart_where known hart after ++ changed_text before after
+further_text known machine (answers.Hart hart before after) = hart_where known hart after ++ changed_text before after 32
 further_text known machine (answers.Stop (causes.Break hart pc)) = machine_where known machine hart
 further_text known machine (answers.Stop (causes.Watch hart line)) = machine_where known machine hart
 further_text known machine answer = []

@@ -90,7 +90,6 @@ fn machine_where<C: Code>(
 }
 
 /// Where a hart is after a step, and the registers that the step has changed.
-#[tactic(auto, unfolding(crate::specs::Answers::changed_text), using(crate::proofs::Texts::changes_more))]
 fn step_text<C: Code>(
     alloc: Global,
     code: &C,
@@ -99,7 +98,7 @@ fn step_text<C: Code>(
     after: &HartState,
 ) -> Result<String, AllocError>
     ensures { IfOk result (λ text. string_bytes text
-        ≡ hart_where (C.known code.now) hart after.now ++ changed_text before.now after.now) }
+        ≡ hart_where (C.known code.now) hart after.now ++ changed_text before.now after.now 32) }
 {
     let mut text = where_text(alloc, code, hart, after.pc)?;
     for number in 0..32 {
