@@ -22,7 +22,7 @@ abbrev pub line_text : List PersistenceStep → ℕ → List ℕ
 line_text p line =
     if nat_lt (floor line p) (stores line p)
     then codes "l" ++ (decimal line ++ (codes " stores=" ++ (decimal (stores line p) ++ (codes " floor="
-        ++ (decimal (floor line p) ++ (waiting_texts p line ++ codes "\n"))))))
+    ++ (decimal (floor line p) ++ (waiting_texts p line ++ codes "\n"))))))
     else []
 
 -- what is kept of a line, by the persistence steps so far

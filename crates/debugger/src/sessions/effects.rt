@@ -38,9 +38,15 @@ pub(crate) enum Answer {
     /// The pc and the registers of a hart in this state.
     Registers(HartState),
     /// Where this hart is.
-    Where { hart: u32, pc: u64 },
+    Where {
+        hart: u32,
+        pc: u64,
+    },
     /// The bytes from this address on.
-    Bytes { address: u64, count: u64 },
+    Bytes {
+        address: u64,
+        count: u64,
+    },
     /// The cache lines of which a power cut may lose stores.
     Lines,
     /// The list of commands.

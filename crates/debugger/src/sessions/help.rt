@@ -11,17 +11,32 @@ type Row = (&'static str, &'static str);
 
 /// The commands, in the order in which they are listed.
 static COMMANDS: [Row; 14] = [
-    ("break A", "stop before a running hart makes the instruction at A"),
-    ("watch A", "stop behind an access to the 64 bytes that hold A"),
-    ("clear A", "take the breakpoint at A and the watch of its 64 bytes away"),
+    (
+        "break A",
+        "stop before a running hart makes the instruction at A",
+    ),
+    (
+        "watch A",
+        "stop behind an access to the 64 bytes that hold A",
+    ),
+    (
+        "clear A",
+        "take the breakpoint at A and the watch of its 64 bytes away",
+    ),
     ("step H", "make one step of hart H, and print the hart"),
     ("go ITEMS", "make the steps of a schedule, up to a stop"),
     ("go", "go on by the last schedule"),
     ("regs H", "print the pc and all registers of hart H"),
     ("where H", "print where hart H is"),
     ("peek A N", "print the N bytes from A on, 1 to 64"),
-    ("lines", "print the cache lines of which a power cut may lose stores"),
-    ("verbose on", "print where the hart is behind each stop and step, and the registers that the step changed"),
+    (
+        "lines",
+        "print the cache lines of which a power cut may lose stores",
+    ),
+    (
+        "verbose on",
+        "print where the hart is behind each stop and step, and the registers that the step changed",
+    ),
     ("verbose off", "print no more of that"),
     ("help", "print this list"),
     ("quit", "end the session"),

@@ -138,7 +138,11 @@ fn push_tally(text: &mut String, line: u32, tally: &Tally) -> Result<(), AllocEr
     if tally.floor >= tally.stores {
         return Ok(());
     }
-    write!(text, "l{line} stores={} floor={}", tally.stores, tally.floor)?;
+    write!(
+        text,
+        "l{line} stores={} floor={}",
+        tally.stores, tally.floor
+    )?;
     push_waiting_cleans(text, tally)?;
     text.push_str("\n")
 }
