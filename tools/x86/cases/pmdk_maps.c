@@ -82,7 +82,7 @@ static int show(struct map_ctx *context, TOID(struct map) map)
     for (size_t i = 0; i < key_count; i++) {
         if (i && keys[i] == keys[i - 1]) return 66;
         if (!map_lookup(context, map, keys[i])) return 67;
-        printf("%lu ", keys[i]);
+        printf("%s%lu", i ? " " : "", keys[i]);
     }
     if (context->ops->count && map_count(context, map) != key_count) return 68;
     puts("");
