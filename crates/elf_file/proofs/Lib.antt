@@ -15,4 +15,6 @@ pub mod Runs
 pub mod SaidLines
 pub mod Signed
 pub mod UnitLaws
+pub mod RowLaws
+pub mod NumberLaws
 mod Cells

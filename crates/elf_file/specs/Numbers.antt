@@ -38,3 +38,7 @@ signed_at bytes = option_and_then with_signed_64 (signed_in 10 bytes)
 -- a number in so many bytes, the lowest first
 abbrev pub fixed_at : ℕ → List ℕ → Option (ℕ × List ℕ)
 fixed_at size bytes = if nat_lt (length bytes) size then None else Some (number_at size bytes 0, drop size bytes)
+
+-- this number, and these bytes behind it
+abbrev pub number_read : ℕ → List ℕ → Option (ℕ × List ℕ)
+number_read number behind = Some (number, behind)

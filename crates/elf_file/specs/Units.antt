@@ -68,6 +68,10 @@ rows_of_parts texts parts = option_and_then (λ coding. option_and_then (λ file
 abbrev pub rows_of_unit : TextsByPlace → List ℕ → Option (List KnownRow)
 rows_of_unit texts unit = option_and_then (rows_of_parts texts) (parts_of unit)
 
+-- these rows, of a unit that is read
+abbrev pub given_rows : List KnownRow → Option (List KnownRow)
+given_rows rows = Some rows
+
 -- a unit by its length, which is below 0xfffffff0, and the bytes behind it
 abbrev pub unit_at : List ℕ → Option (List ℕ × List ℕ)
 unit_at bytes = option_and_then (λ size.

@@ -18,5 +18,5 @@ mod symbol;
 pub use executable::{is_elf, one_reading, read};
 pub use fault::ElfFault;
 pub use functions::Functions;
-pub use lines::{LineTable, units_stand_alone};
+pub use lines::{LineTable, lines_are_of_rows, numbers_stand_alone, units_stand_alone};
 pub use section_header::section;

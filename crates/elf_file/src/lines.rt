@@ -12,5 +12,5 @@ mod table;
 mod texts;
 mod units;
 
-pub use laws::units_stand_alone;
+pub use laws::{lines_are_of_rows, numbers_stand_alone, units_stand_alone};
 pub use table::LineTable;
