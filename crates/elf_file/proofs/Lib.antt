@@ -13,6 +13,7 @@ pub mod Reading
 pub mod Repeating
 pub mod Runs
 pub mod SaidLines
+pub mod Skipping
 pub mod Signed
 pub mod UnitLaws
 pub mod RowLaws

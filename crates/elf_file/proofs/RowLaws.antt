@@ -1,5 +1,5 @@
 -- A line is said by a row of a unit that is read.
-use Rattle.std.proofs.Common.{◌≡◌, ◌∙◌, ◌≤◌, ◌<◌, ◌++◌, ◌&&◌, ◌⊎◌, not, ℕ, Bool, true, false, List, [], ◌∷◌, refl, sym, ap, arith, subst, inl, inr, Option, Some, None, option_and_then, unwrap_or, if◌then◌else◌}
+use Rattle.std.proofs.Common.{◌≡◌, ◌≤◌, ◌&&◌, not, ℕ, Bool, true, false, List, [], ◌∷◌, refl, arith, subst, inl, inr, Option, Some, None, option_and_then, unwrap_or, if◌then◌else◌}
 use Rattle.std.proofs.lemmas.Bool.{leb-true}
 use Rattle.std.proofs.lemmas.List.Elements.{Contains-append_cases, Contains-append_right}
 use Rattle.std.specs.List.{Contains, flat_map}
@@ -68,14 +68,14 @@ row_of_unit texts (unit ∷ units) row there =
     elim (Contains-append_cases (rows_given texts unit) (flat_map (rows_given texts) units) row there) [
       | inl own ↦ of_first texts unit units row (read_unit texts unit) refl own
       | inr others ↦
-        let later = row_of_unit texts units row others in
-        record {
-          unit = later.unit;
-          rows = later.rows;
-          of_units = Contains-append_right (unit ∷ []) units (Some later.unit) later.of_units;
-          read = later.read;
-          of_unit = later.of_unit;
-        }
+          let later = row_of_unit texts units row others in
+          record {
+            unit = later.unit;
+            rows = later.rows;
+            of_units = Contains-append_right (unit ∷ []) units (Some later.unit) later.of_units;
+            read = later.read;
+            of_unit = later.of_unit;
+          }
     ]
 
 line_of : (texts : TextsByPlace) (table name : List ℕ) (line pc : ℕ) (found : Option KnownRow) → row_at (table_of texts table).rows pc ≡ found

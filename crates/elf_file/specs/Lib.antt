@@ -14,6 +14,7 @@ pub mod Opcodes
 pub mod Repeated
 pub mod Sections
 pub mod Segments
+pub mod Skips
 pub mod SourceRows
 pub mod Texts
 pub mod UnitLaws

@@ -1,5 +1,5 @@
 -- The laws of the units of a line table: each is read by itself.
-use Rattle.std.specs.Prelude.{◌≡◌, ◌≤◌, ◌++◌, ℕ, Bool, true, false, List, Contains, Option, Some, is_some, length}
+use Rattle.std.specs.Prelude.{◌≡◌, ◌≤◌, ◌++◌, ℕ, true, false, List, Contains, Some, is_some, length}
 use Rattle.std.specs.List.{list_all, list_any}
 use Rattle.elf_file.specs.Forms.{TextsByPlace}
 use Rattle.elf_file.specs.Lines.{file_line, line_at, said_line}

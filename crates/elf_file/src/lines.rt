@@ -8,6 +8,7 @@ mod laws;
 mod numbers;
 mod opcodes;
 mod reading;
+mod skips;
 mod table;
 mod texts;
 mod units;

@@ -1,9 +1,11 @@
 //! Which row holds at an address.
 
 ghost use Rattle.elf_file.specs.Lines.{AreCells, IsRowAt, filled, holds, with_row};
+ghost use Rattle.elf_file.specs.Skips.{AreSkips};
 ghost use Rattle.elf_file.specs.SourceRows.{known_row};
 ghost use Rattle.std.specs.Prelude.{◌≡◌, ◌↔◌, ◌+◌, ◌<◌, ◌≤◌, ℕ, IfOk, IfSome, None, length, map, slice_index_or};
 
+use crate::lines::skips::{no_skips, skip};
 use crate::lines::units::SourceRow;
 use crate::program_header::TEXT;
 use std::alloc::{AllocError, Global};
@@ -38,7 +40,8 @@ fn holds(row: &SourceRow<'_>, next: &SourceRow<'_>, pc: u64) -> bool
     !row.ends && row.address <= pc && pc < next.address
 }
 
-/// The number of the row that holds at each byte of text, in one pass over the rows.
+/// The number of the row that holds at each byte of text, in one pass over the rows. A row that holds at many bytes costs no more
+/// than those that no row before it has.
 pub(crate) fn cells_of(
     alloc: Global,
     rows: &[SourceRow<'_>],
@@ -46,8 +49,15 @@ pub(crate) fn cells_of(
     ensures { IfOk result (λ cells. AreCells (map known_row rows.now) cells.items) }
 {
     let mut cells = empty_cells(alloc, TEXT_BYTES)?;
+    let mut skips = no_skips(alloc, TEXT_BYTES)?;
     for number in 1..rows.len() {
-        fill_row(&mut cells, number - 1, &rows[number - 1], &rows[number]);
+        fill_row(
+            &mut cells,
+            &mut skips,
+            number - 1,
+            &rows[number - 1],
+            &rows[number],
+        );
     }
     Ok(cells)
 }
@@ -62,16 +72,24 @@ fn empty_cells(alloc: Global, count: usize) -> Result<Vec<Option<usize>>, AllocE
 }
 
 /// Puts the number of a row into the cells of the bytes at which it holds, where these have none.
-fn fill_row(cells: &mut [Option<usize>], number: usize, row: &SourceRow<'_>, next: &SourceRow<'_>)
-    requires { length cells.old ≡ TEXT_BYTES }
-    ensures { (at : ℕ) → at < TEXT_BYTES → slice_index_or cells.new at None
+fn fill_row(
+    cells: &mut [Option<usize>],
+    skips: &mut [usize],
+    number: usize,
+    row: &SourceRow<'_>,
+    next: &SourceRow<'_>,
+)
+    requires { (length cells.old ≡ TEXT_BYTES) × (AreSkips cells.old skips.old) }
+    ensures cells { (at : ℕ) → at < TEXT_BYTES → slice_index_or cells.new at None
         ≡ with_row (known_row row.now) (known_row next.now) number at (slice_index_or cells.old at None) }
+    ensures skips { AreSkips cells.new skips.new }
 {
     if row.ends {
         return;
     }
     fill(
         cells,
+        skips,
         bytes_before(row.address),
         bytes_before(next.address),
         number,
@@ -87,11 +105,15 @@ fn bytes_before(address: u64) -> usize
 }
 
 /// Puts a number into these cells, where they have none.
-fn fill(cells: &mut [Option<usize>], first: usize, end: usize, number: usize)
-    requires { end ≤ length cells.old }
-    ensures { (at : ℕ) → slice_index_or cells.new at None ≡ filled first end number at (slice_index_or cells.old at None) }
+fn fill(cells: &mut [Option<usize>], skips: &mut [usize], first: usize, end: usize, number: usize)
+    requires { (first ≤ length cells.old) × (end ≤ length cells.old) × (AreSkips cells.old skips.old) }
+    ensures cells { (at : ℕ) → slice_index_or cells.new at None ≡ filled first end number at (slice_index_or cells.old at None) }
+    ensures skips { AreSkips cells.new skips.new }
 {
-    for at in first..end {
+    let mut at = skip(skips, first);
+    while at < end {
         cells[at] = Some(cells[at].unwrap_or(number));
+        skips[at] = at + 1;
+        at = skip(skips, at + 1);
     }
 }
