@@ -2,6 +2,8 @@ pub mod Following
 pub mod HartRuns
 pub mod Leaving
 pub mod Lists
+pub mod OneLine
+pub mod Needed
 pub mod RunFrom
 pub mod Counting
 pub mod Existing

@@ -1,2 +1,4 @@
 pub mod Explains
+pub mod Least
+pub mod LineState
 pub mod Walking
