@@ -4,7 +4,8 @@ use Rattle.crash_test.specs.Explaining.{ExplainsImage, ExplainsImageBy, Explains
 use Rattle.store_trace.specs.Cut.{number_in}
 use Rattle.store_trace.specs.History.{at_moment}
 use Rattle.witness.specs.Explains.{Explains, Leaves}
-use Rattle.witness.specs.Least.{ExplainsLeast, needed}
+use Rattle.witness.specs.Least.{ExplainsLeast}
+use Rattle.witness.specs.Needed.{needed}
 use Rattle.text.specs.declared.image_name.name.ImageName.{ImageName}
 use Rattle.machine.specs.Recorded.{RecordedView}
 use Rattle.machine.specs.RunValues.{IsRecordOf, RunView, start_of}

@@ -4,6 +4,7 @@ pub mod Leaving
 pub mod Lists
 pub mod OneLine
 pub mod Needed
+pub mod NeededRuns
 pub mod RunFrom
 pub mod Counting
 pub mod Existing

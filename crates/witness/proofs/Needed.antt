@@ -1,33 +1,15 @@
--- The needed evictions of a cut leave the cut, and none of them can be left out.
-use Rattle.std.proofs.Common.{◌≡◌, ◌≢◌, ◌⊎◌, ℕ, ◌+◌, ◌≤◌, ◌==◌, List, [], ◌∷◌, ◌++◌, Bool, true, false, All, Contains, if◌then◌else◌, length, map, take, refl, sym, ap, subst, ◌∙◌, inl, inr, arith}
+-- The needed evictions of a cut leave each line at its number.
+use Rattle.std.proofs.Common.{◌≡◌, ℕ, ◌==◌, List, [], ◌∷◌, if◌then◌else◌, map, refl, ◌∙◌, inl, inr, arith}
 use Rattle.std.proofs.lemmas.Bool.{cases_Bool}
 use Rattle.std.proofs.lemmas.Bool.Decides.{nat_tests}
-use Rattle.std.proofs.lemmas.List.Elements.{Contains-append_right}
 use Rattle.store_trace.proofs.Explained.{explained_leaves}
 use Rattle.store_trace.proofs.Lines.{within_from_cut}
 use Rattle.store_trace.specs.Cut.{IsCut, number_in}
 use Rattle.store_trace.specs.Schedule.{explained, without_evictions}
 use Rattle.store_trace.specs.WrittenBack.{written_back}
-use Rattle.store_trace.specs.History.{at_moment, history}
-use Rattle.store_trace.specs.declared.event.Event.{Event}
 use Rattle.store_trace.specs.declared.crash_model.step.PersistenceStep.{PersistenceStep}
-use Rattle.store_trace.specs.declared.crash_model.step.PersistenceStep.TheVariants as step
-use Rattle.machine.specs.declared.schedule.items.Step.{Step}
-use Rattle.machine.specs.declared.schedule.items.Step.TheVariants.{Hart, Evict}
-use Rattle.machine.specs.Persisted.{persisted}
-use Rattle.machine.specs.Replies.{trace_in}
-use Rattle.machine.specs.Evicting.{hart_steps}
-use Rattle.machine.specs.Recorded.{RecordedView, Records}
-use Rattle.machine.specs.Run.{Config, RunsTo, started}
-use Rattle.machine.proofs.Determined.{runs_once}
-use Rattle.machine.proofs.Evicting.{alike_itself as same_config, runs_alike, trace_alike}
-use Rattle.machine.proofs.SharedMemoryStepping.{history_evicts_nothing, history_more}
-use Rattle.witness.specs.Explains.{Leaves, steps_by}
-use Rattle.witness.specs.Least.{EvictsNoOthers, ExplainsLeast, LeavesNumbers, needed, needed_entry}
-use Rattle.witness.specs.Walking.{Follows, IsStart}
-use Rattle.witness.proofs.HartRuns.{step_adds}
-use Rattle.witness.proofs.Leaving.{leaves_from}
-use Rattle.witness.proofs.OneLine.{AreAlike, alike_itself, alike_on, alike_then, explained_alike, other_evicted, unevicted_alike}
+use Rattle.witness.specs.Needed.{needed, needed_entry}
+use Rattle.witness.proofs.OneLine.{explained_alike, unevicted_alike}
 
 -- the needed entries of a cut give each line its needed number
 needed_at : (p : List PersistenceStep) (cut : List (ℕ × ℕ)) (l : ℕ) → number_in (map (needed_entry p) cut) l ≡ needed cut p l
@@ -55,90 +37,3 @@ needed_leaves p cut alone is l = elim (cases_Bool (written_back l p == number_in
       (explained_alike (needed cut p) (number_in cut) l p same).written ∙ explained_leaves p (number_in cut) (within_from_cut p cut is) l
 ]
 
--- a list of steps that evicts the line, or none of whose evictions is of it
-abbrev IsUnevicted : ℕ → List Step → Type 0
-IsUnevicted l [] = Unit {0}
-IsUnevicted l (Hart h ∷ steps) = IsUnevicted l steps
-IsUnevicted l (Evict m ∷ steps) = ((m == l) ≡ false) × IsUnevicted l steps
-
-after_one : (x : Step) (l : ℕ) (steps : List Step) → Contains steps (Evict l) → Contains (x ∷ steps) (Evict l)
-after_one x l steps there = Contains-append_right (x ∷ []) steps (Evict l) there
-
-evicted_or_not : (l : ℕ) (steps : List Step) → Contains steps (Evict l) ⊎ IsUnevicted l steps
-evicted_or_not l [] = inr tt
-evicted_or_not l (Hart h ∷ steps) = elim (evicted_or_not l steps) [
-  | inl there ↦ inl (after_one (Hart h) l steps there)
-  | inr none ↦ inr none
-]
-evicted_or_not l (Evict m ∷ steps) = elim (cases_Bool (m == l)) [
-  | inl mine ↦ let is : m ≡ l = grind (arith, nat_tests, mine) in inl (0, omega arith, ap (λ (n : ℕ). Evict n) is)
-  | inr other ↦ elim (evicted_or_not l steps) [
-    | inl there ↦ inl (after_one (Evict m) l steps there)
-    | inr none ↦ inr (other, none)
-  ]
-]
-
--- a run that doesn't evict a line leaves it as the events alone do
-pub unevicted_run : (c d : Config) (l : ℕ) (steps : List Step) → IsUnevicted l steps → RunsTo c steps d
-    → AreAlike l (persisted c.common.history) (history (trace_in c.common))
-    → AreAlike l (persisted d.common.history) (history (trace_in d.common))
-unevicted_run c d l [] none run a = rw run a
-unevicted_run c d l (Hart h ∷ steps) none run a =
-    let adds = step_adds c run.0 h run.1 in
-    let events : history (trace_in run.0.common) ≡ history adds.more ++ history (trace_in c.common) =
-    ap (λ (t : List Event). history t) adds.trace ∙ history_more (trace_in c.common) adds.more in
-    unevicted_run run.0 d l steps none run.2
-    (rw (adds.steps, events) (alike_on l (history adds.more) (persisted c.common.history) (history (trace_in c.common)) a))
-unevicted_run c d l (Evict m ∷ steps) none run a =
-    unevicted_run run.0 d l steps none.1 run.2
-    (rw run.1 (alike_then l _ (persisted c.common.history) _ (other_evicted l m (persisted c.common.history) none.0) a))
-
--- steps with the same hart steps make the same events
-same_events : (c d e : Config) (steps others : List Step) → hart_steps others ≡ hart_steps steps → RunsTo c steps d → RunsTo c others e
-    → trace_in e.common ≡ trace_in d.common
-same_events c d e steps others same run other =
-    let mine = runs_alike c c d steps others (same_config c) (sym same) run in
-    let there : e ≡ mine.0 = runs_once c others e mine.0 other mine.1 in
-    ap (λ (x : Config). trace_in x.common) there ∙ sym (trace_alike d mine.0 mine.2)
-
-none_left_out : (c : Config) (recorded : RecordedView) (moment : ℕ) (cut : List (ℕ × ℕ)) (steps others : List Step) → IsStart c
-    → Leaves c recorded moment cut (needed cut (at_moment recorded.trace moment)) steps → hart_steps others ≡ hart_steps steps
-    → LeavesNumbers c cut others → EvictsNoOthers steps others
-none_left_out c recorded moment cut steps others start leaves same other before after line split =
-    elim (evicted_or_not line others) [
-      | inl there ↦ there
-      | inr none ↦
-          let p : List PersistenceStep = at_moment recorded.trace moment in
-          let begin : AreAlike line (persisted c.common.history) (history (trace_in c.common)) =
-          rw (start.trace, start.history) (alike_itself line []) in
-          let stands = unevicted_run c other.end line others none other.runs begin in
-          let events : trace_in other.end.common ≡ take moment recorded.trace =
-          same_events c leaves.end other.end steps others same leaves.runs other.runs ∙ leaves.trace in
-          let number : written_back line (at_moment recorded.trace moment) ≡ number_in cut line =
-          ap (λ (t : List Event). written_back line (history t)) (sym events) ∙ sym stands.written ∙ other.written line in
-          let is : (written_back line (at_moment recorded.trace moment) == number_in cut line) ≡ true = grind (arith, nat_tests, number) in
-          let store = (leaves.evictions before after line split).number_is in
-          let needless : needed cut (at_moment recorded.trace moment) line ≡ 0 = rw is refl in
-          absurd (omega (arith, store, needless))
-    ]
-
-pub explains_least : (recorded : RecordedView) (moment : ℕ) (cut entries : List (ℕ × ℕ)) (steps : List Step)
-    → IsCut (at_moment recorded.trace moment) cut → entries ≡ map (needed_entry (at_moment recorded.trace moment)) cut
-    → Follows recorded (number_in entries) moment (steps_by recorded.steps moment) steps → ExplainsLeast recorded moment cut steps
-explains_least recorded moment cut entries steps is entries_are follows =
-    let p : List PersistenceStep = at_moment recorded.trace moment in
-    let numbers : number_in entries ≡ needed cut (at_moment recorded.trace moment) =
-    ap (λ (es : List (ℕ × ℕ)). number_in es) entries_are ∙ needed_numbers (at_moment recorded.trace moment) cut in
-    let by : Follows recorded (needed cut (at_moment recorded.trace moment)) moment (steps_by recorded.steps moment) steps =
-    rw numbers at follows in
-    let leaves = needed_leaves (at_moment recorded.trace moment) cut (history_evicts_nothing (take moment recorded.trace)) is in
-    record {
-      is_cut = is;
-      hart_steps_are = follows.hart_steps_are;
-      leaves = λ program lines harts r. leaves_from (started program lines harts) recorded moment cut (needed cut p) steps leaves r
-          (record { history = refl; trace = refl }) by;
-      least = λ program lines harts r others same other.
-          none_left_out (started program lines harts) recorded moment cut steps others (record { history = refl; trace = refl })
-          (leaves_from (started program lines harts) recorded moment cut (needed cut p) steps leaves r (record { history = refl; trace = refl }) by)
-          same other;
-    }

@@ -1,9 +1,8 @@
 -- Which schedule explains a cut of a moment of a recorded run without an eviction that changes nothing.
-use Rattle.std.specs.Prelude.{◌≡◌, ℕ, ◌==◌, List, ◌∷◌, ◌++◌, Contains, if◌then◌else◌, take}
+use Rattle.std.specs.Prelude.{◌≡◌, ℕ, List, ◌∷◌, ◌++◌, Contains, take}
 use Rattle.store_trace.specs.Cut.{IsCut, number_in}
 use Rattle.store_trace.specs.WrittenBack.{written_back}
 use Rattle.store_trace.specs.History.{at_moment}
-use Rattle.store_trace.specs.declared.crash_model.step.PersistenceStep.{PersistenceStep}
 use Rattle.program.specs.Sections.{Sections}
 use Rattle.machine.specs.Steps.{all_steps}
 use Rattle.machine.specs.declared.schedule.items.Step.{Step}
@@ -13,15 +12,7 @@ use Rattle.machine.specs.Evicting.{hart_steps}
 use Rattle.machine.specs.Recorded.{RecordedView, Records}
 use Rattle.machine.specs.Run.{Config, RunsTo, started}
 use Rattle.witness.specs.Explains.{Leaves, steps_by}
-
--- The store, by its number, behind which a line has to be evicted after these steps, which evict nothing: its store of the
--- cut's number, or none, 0, where so many of its stores are written back by themselves.
-abbrev pub needed : List (ℕ × ℕ) → List PersistenceStep → ℕ → ℕ
-needed cut p line = if written_back line p == number_in cut line then 0 else number_in cut line
-
--- the same of an entry of a cut
-abbrev pub needed_entry : List PersistenceStep → ℕ × ℕ → ℕ × ℕ
-needed_entry p entry = (entry.0, if written_back entry.0 p == entry.1 then 0 else entry.1)
+use Rattle.witness.specs.Needed.{needed}
 
 -- the steps, run from c, leave the number of the cut written back of each line
 pub record LeavesNumbers (c : Config) (cut : List (ℕ × ℕ)) (steps : List Step) : Type 0 where
