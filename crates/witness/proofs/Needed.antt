@@ -1,7 +1,8 @@
 -- The needed evictions of a cut leave each line at its number.
-use Rattle.std.proofs.Common.{◌≡◌, ℕ, ◌==◌, List, [], ◌∷◌, if◌then◌else◌, map, refl, ◌∙◌, inl, inr, arith}
+use Rattle.std.proofs.Common.{◌≡◌, ℕ, ◌<◌, ◌==◌, All, List, [], ◌∷◌, if◌then◌else◌, map, refl, ◌∙◌, inl, inr, arith}
 use Rattle.std.proofs.lemmas.Bool.{cases_Bool}
 use Rattle.std.proofs.lemmas.Bool.Decides.{nat_tests}
+use Rattle.std.proofs.lemmas.List.Elements.{All-map}
 use Rattle.store_trace.proofs.Explained.{explained_leaves}
 use Rattle.store_trace.proofs.Lines.{within_from_cut}
 use Rattle.store_trace.specs.Cut.{IsCut, number_in}
@@ -24,6 +25,11 @@ needed_at p (entry ∷ cut) l = elim (cases_Bool (entry.0 == l)) [
 pub needed_numbers : (p : List PersistenceStep) (cut : List (ℕ × ℕ)) → number_in (map (needed_entry p) cut) ≡ needed cut p
 needed_numbers p cut = λ i. λ l. needed_at p cut l i
 
+-- and name no other lines
+pub needed_lines : (n : ℕ) (p : List PersistenceStep) (cut found : List (ℕ × ℕ)) → found ≡ map (needed_entry p) cut
+    → All (λ entry. entry.0 < n) cut → All (λ entry. entry.0 < n) found
+needed_lines n p cut found is named = rw is (All-map (λ (entry : ℕ × ℕ). entry.0 < n) (needed_entry p) cut named)
+
 -- by them each line stands at its number
 pub needed_leaves : (p : List PersistenceStep) (cut : List (ℕ × ℕ)) → without_evictions p ≡ p → IsCut p cut → (l : ℕ)
     → written_back l (explained (needed cut p) p) ≡ number_in cut l
@@ -36,4 +42,3 @@ needed_leaves p cut alone is l = elim (cases_Bool (written_back l p == number_in
       let same : needed cut p l ≡ number_in cut l = rw other refl in
       (explained_alike (needed cut p) (number_in cut) l p same).written ∙ explained_leaves p (number_in cut) (within_from_cut p cut is) l
 ]
-

@@ -19,6 +19,9 @@ pub record AreAlike (l : ℕ) (p q : List PersistenceStep) : Type 0 where
 pub alike_itself : (l : ℕ) (p : List PersistenceStep) → AreAlike l p p
 alike_itself l p = record { stores_are = refl; written = refl; cleaned_are = λ h. refl }
 
+pub alike_same : (l : ℕ) (p q : List PersistenceStep) → p ≡ q → AreAlike l p q
+alike_same l p q same = rw same (alike_itself l q)
+
 pub alike_then : (l : ℕ) (p q r : List PersistenceStep) → AreAlike l p q → AreAlike l q r → AreAlike l p r
 alike_then l p q r a b = record {
   stores_are = a.stores_are ∙ b.stores_are;

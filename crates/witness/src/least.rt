@@ -37,8 +37,8 @@ pub fn explain_least(
     ensures cut { IsErrOf result ImageFault.NotACut → ¬ IsCut (at_moment recorded.now.trace moment) cut.now }
 {
     demand_cut(alloc, recorded, moment, cut)?;
-    let events = &recorded.trace().events()[..moment as usize];
-    let needed = needed_entries(alloc, events, cut.entries())?;
+    let events = recorded.trace().events();
+    let needed = needed_entries(alloc, &events[..moment as usize], cut.entries())?;
     Ok(explained(alloc, recorded, moment, &needed)?)
 }
 
