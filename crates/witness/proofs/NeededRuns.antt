@@ -1,5 +1,5 @@
 -- Runs by the needed evictions of a cut leave the cut, and none of these evictions can be left out.
-use Rattle.std.proofs.Common.{◌≡◌, ◌≢◌, ◌⊎◌, ℕ, ◌+◌, ◌≤◌, ◌==◌, List, [], ◌∷◌, ◌++◌, Bool, true, false, All, Contains, if◌then◌else◌, length, map, take, refl, sym, ap, subst, ◌∙◌, inl, inr, eq-eqb, arith}
+use Rattle.std.proofs.Common.{◌≡◌, ◌⊎◌, ℕ, ◌==◌, List, [], ◌∷◌, ◌++◌, true, false, Contains, map, take, refl, sym, ap, subst, ◌∙◌, inl, inr, eq-eqb, arith}
 use Rattle.std.proofs.lemmas.Bool.{cases_Bool}
 use Rattle.std.proofs.lemmas.Bool.Decides.{nat_tests}
 use Rattle.std.proofs.lemmas.List.Elements.{Contains-append_right}
@@ -7,7 +7,6 @@ use Rattle.store_trace.specs.Cut.{IsCut, number_in}
 use Rattle.store_trace.specs.WrittenBack.{written_back}
 use Rattle.store_trace.specs.History.{at_moment, history}
 use Rattle.store_trace.specs.declared.event.Event.{Event}
-use Rattle.store_trace.specs.declared.crash_model.step.PersistenceStep.{PersistenceStep}
 use Rattle.store_trace.specs.declared.crash_model.step.PersistenceStep.TheVariants as step
 use Rattle.machine.specs.declared.schedule.items.Step.{Step}
 use Rattle.machine.specs.declared.schedule.items.Step.TheVariants.{Hart, Evict}
@@ -15,7 +14,7 @@ use Rattle.machine.specs.Persisted.{persisted}
 use Rattle.machine.specs.Replies.{trace_in}
 use Rattle.machine.specs.declared.shared_memory.history.Entry.{Entry}
 use Rattle.machine.specs.Evicting.{hart_steps}
-use Rattle.machine.specs.Recorded.{RecordedView, Records}
+use Rattle.machine.specs.Recorded.{RecordedView}
 use Rattle.machine.specs.Run.{Config, RunsTo, started}
 use Rattle.machine.proofs.Determined.{runs_once}
 use Rattle.machine.proofs.Evicting.{alike_itself as same_config, runs_alike, trace_alike}

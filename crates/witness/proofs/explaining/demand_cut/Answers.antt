@@ -1,4 +1,4 @@
-use Rattle.std.proofs.Common.{ℕ, List, refl, ap, subst, ◌∙◌, rules}
+use Rattle.std.proofs.Common.{List, refl, ap, subst, ◌∙◌, rules}
 use Rattle.store_trace.specs.Cut.{IsCut}
 use Rattle.store_trace.specs.declared.crash_model.step.PersistenceStep.{PersistenceStep}
 use Rattle.store_trace.specs.History.{at_moment}
