@@ -36,8 +36,13 @@ fn explanation(alloc: Global, run: &Run, command: &ExplainCommand) -> Result<Sch
     ensures explained { Explained run.now command.now result }
     ensures few { IfOk result (λ explanation. hart_steps explanation < 2 ^ 32) }
 {
-    let ExplainCommand { moment, image, .. } = command;
-    if command.least {
+    let ExplainCommand {
+        moment,
+        image,
+        least,
+        ..
+    } = command;
+    if *least {
         return Ok(explain_image_least(alloc, run, *moment, image)?);
     }
     Ok(explain_image(alloc, run, *moment, image)?)
