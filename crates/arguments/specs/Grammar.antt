@@ -146,12 +146,12 @@ waste_of_file_shape = record (new_shape (codes "waste")) {
   rules = needed_option (codes "trace") ∷ flag_option (codes "whole") ∷ flag_option (codes "json") ∷ help_option ∷ [];
 }
 
--- `explain PROGRAM SCHEDULE MOMENT IMAGE [--medium FILE --harts N --whole]`
+-- `explain PROGRAM SCHEDULE MOMENT IMAGE [--medium FILE --harts N --least --whole]`
 unfoldable pub explain_shape : Shape
 explain_shape = record (new_shape (codes "explain")) {
   rules = needed_word (codes "PROGRAM") ∷ needed_word (codes "SCHEDULE") ∷ needed_word (codes "MOMENT")
       ∷ needed_word (codes "IMAGE") ∷ valued_option (codes "medium") ∷ valued_option (codes "harts")
-      ∷ flag_option (codes "whole") ∷ help_option ∷ [];
+      ∷ flag_option (codes "least") ∷ flag_option (codes "whole") ∷ help_option ∷ [];
 }
 
 -- `check PLAN PROGRAM SCHEDULE [--medium FILE --harts N --workers N --moments A-B --go-on --whole --why --json --progress]`

@@ -140,11 +140,12 @@ pub record IsImage (rows : List Row) (command : ImageCommand) : Type 0 where
   pub image : IsImageWord (first_of (codes "IMAGE") rows) command.image
   pub out : IsWord (codes "OUT") rows command.out
 
--- `explain` of this image of this moment of this run
+-- `explain` of this image of this moment of this run, by the needed evictions alone or by all
 pub record IsExplain (rows : List Row) (command : ExplainCommand) : Type 0 where
   pub run : IsScheduledRun rows command.run
   pub moment : IsNumberWord (first_of (codes "MOMENT") rows) command.moment
   pub image : IsImageWord (first_of (codes "IMAGE") rows) command.image
+  pub least : command.least ≡ is_set (first_of (codes "least") rows)
 
 -- What `check` and `judge` have in common: these events, by so many workers, these moments of them or all, whether judging goes on behind those
 -- with too many branches, whether a failure is explained, as text or as JSON, and whether it is told how far the check has come.

@@ -30,7 +30,7 @@ pub enum Command {
     Images(ImagesCommand),
     /// `image PROGRAM SCHEDULE MOMENT IMAGE OUT [--medium FILE --harts N --whole]`, or `image --trace FILE MOMENT IMAGE OUT [--medium FILE --whole]`.
     Image(ImageCommand),
-    /// `explain PROGRAM SCHEDULE MOMENT IMAGE [--medium FILE --harts N --whole]`.
+    /// `explain PROGRAM SCHEDULE MOMENT IMAGE [--medium FILE --harts N --least --whole]`.
     Explain(ExplainCommand),
     /// `check PLAN PROGRAM SCHEDULE [--medium FILE --harts N --workers N --moments A-B --go-on --whole --why --json --progress]`, or
     /// `check PLAN --trace FILE [--medium FILE --workers N --moments A-B --go-on --whole --why --json --progress]`.
@@ -219,6 +219,8 @@ pub struct ExplainCommand {
     pub moment: u32,
     /// The crash image among those of the moment. Its lines go strictly upwards.
     pub image: ImageName,
+    /// Whether evictions that change nothing are left out of the schedule.
+    pub least: bool,
 }
 
 /// Events that `check` or `judge` gives the verdict on: those of a run, or of a trace file.

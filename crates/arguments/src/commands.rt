@@ -364,6 +364,7 @@ pub(crate) fn explain(alloc: Global, found: &ArgMatches<'_>) -> Result<Command, 
     Ok(Command::Explain(ExplainCommand {
         moment: number_word(alloc, found, "MOMENT")?,
         image: image_word(alloc, found, "IMAGE")?,
+        least: flag(found, "least"),
         run: scheduled_run(alloc, found)?,
     }))
 }

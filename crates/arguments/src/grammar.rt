@@ -294,6 +294,11 @@ const GO_ON: Argument = Argument::Flag {
     about: "Count a moment with over 65,536 branches as open, and go on behind it",
 };
 
+const LEAST: Argument = Argument::Flag {
+    name: "least",
+    about: "Leave out the evictions that change nothing",
+};
+
 const WHOLE: Argument = Argument::Flag {
     name: "whole",
     about: "Refuse a run in which a hart doesn't exit with 0, or an operation doesn't end",
@@ -468,7 +473,9 @@ static TELLING: [Subcommand; 1] = [Subcommand {
     name: "explain",
     group: Group::Look,
     about: "Print a schedule that leaves a crash image of a moment of a run",
-    arguments: &[PROGRAM, SCHEDULE, MOMENT, IMAGE, MEDIUM, HARTS, WHOLE],
+    arguments: &[
+        PROGRAM, SCHEDULE, MOMENT, IMAGE, MEDIUM, HARTS, LEAST, WHOLE,
+    ],
     ending: ending!("explain append.s append.schedule 5 2 --medium append.medium --whole"),
 }];
 

@@ -218,7 +218,7 @@ fn asked_to_show(alloc: Global, name: &str, found: &ArgMatches<'_>) -> Result<Co
 /// - `images --trace FILE MOMENT [--whole --json]`
 /// - `image PROGRAM SCHEDULE MOMENT IMAGE OUT [--medium FILE --harts N --whole]`
 /// - `image --trace FILE MOMENT IMAGE OUT [--medium FILE --whole]`
-/// - `explain PROGRAM SCHEDULE MOMENT IMAGE [--medium FILE --harts N --whole]`
+/// - `explain PROGRAM SCHEDULE MOMENT IMAGE [--medium FILE --harts N --least --whole]`
 /// - `check PLAN PROGRAM SCHEDULE [--medium FILE --harts N --workers N --moments A-B --go-on --whole --why --json --progress]`
 /// - `check PLAN --trace FILE [--medium FILE --workers N --moments A-B --go-on --whole --why --json --progress]`
 /// - `judge PROGRAM SCHEDULE RECOVERY [--medium FILE --harts N --steps N --workers N --atomic --states N --overlapping --recovery-cuts N --moments A-B --go-on --whole --why --json --progress]`

@@ -13,7 +13,7 @@ use crate::made_run::open_run;
 use crate::whole::demand_whole;
 use crate::writing::schedule_line;
 use arguments::ExplainCommand;
-use crash_test::explain_image;
+use crash_test::{explain_image, explain_image_least};
 use machine::{Run, Schedule};
 use std::alloc::Global;
 
@@ -33,10 +33,19 @@ pub(crate) fn explain_file<F: Files>(
 }
 
 fn explanation(alloc: Global, run: &Run, command: &ExplainCommand) -> Result<Schedule, Failure>
-    ensures explained { Explained run.now command.now.moment command.now.image result }
+    ensures explained { Explained run.now command.now result }
     ensures few { IfOk result (λ explanation. hart_steps explanation < 2 ^ 32) }
 {
-    Ok(explain_image(alloc, run, command.moment, &command.image)?)
+    let ExplainCommand {
+        moment,
+        image,
+        least,
+        ..
+    } = command;
+    if *least {
+        return Ok(explain_image_least(alloc, run, *moment, image)?);
+    }
+    Ok(explain_image(alloc, run, *moment, image)?)
 }
 
 /// The line of a schedule.

@@ -3,7 +3,7 @@
 ghost use Rattle.std.specs.Prelude.{◌^◌, ◌<◌, ◌≤◌, IfErr, IfOk};
 ghost use Rattle.machine.specs.Grammar.{hart_steps};
 ghost use Rattle.crash_image.specs.View.{HasLines};
-ghost use Rattle.crash_test.specs.Explaining.{ExplainsImage, HasImage};
+ghost use Rattle.crash_test.specs.Explaining.{ExplainsImage, ExplainsImageLeast, HasImage};
 ghost use Rattle.crash_test.specs.Told.{LacksImage};
 
 use crash_image::{Cut, Cuts, ImageFault, ImageName};
@@ -11,7 +11,7 @@ use line_memory::Medium;
 use machine::{Run, Schedule};
 use std::alloc::Global;
 use store_trace::Trace;
-use witness::explain;
+use witness::{explain, explain_least};
 
 /// The schedule that leaves one crash image of a moment of a run. A moment is the number of events before it. A number names an image,
 /// from 0, where the moment has at most 65,536 images; lines with their numbers name, at any moment, the one in which the other lines
@@ -34,6 +34,29 @@ pub fn explain_image(
 {
     let cut = named_cut(alloc, run.start(), run.trace(), moment, image)?;
     match explain(alloc, run.recorded(), moment, &cut) {
+        Ok(explanation) => Ok(explanation),
+        Err(_) => Err(ImageFault::Memory),
+    }
+}
+
+/// The schedule of `explain_image` without the evictions that change nothing. It leaves the image too, and no schedule with its hart steps
+/// leaves the cut of this name without an eviction of each line that it evicts.
+///
+/// # Errors
+/// Those of `explain_image`.
+pub fn explain_image_least(
+    alloc: Global,
+    run: &Run,
+    moment: u32,
+    image: &ImageName,
+) -> Result<Schedule, ImageFault>
+    ensures ok { IfOk result (ExplainsImageLeast run.now moment image.now) }
+    ensures few { IfOk result (λ explanation. hart_steps explanation ≤ hart_steps run.now.schedule) }
+    ensures counted { IfOk result (λ explanation. hart_steps explanation < 2 ^ 32) }
+    ensures err { IfErr result (LacksImage run.now.events moment image.now) }
+{
+    let cut = named_cut(alloc, run.start(), run.trace(), moment, image)?;
+    match explain_least(alloc, run.recorded(), moment, &cut) {
         Ok(explanation) => Ok(explanation),
         Err(_) => Err(ImageFault::Memory),
     }

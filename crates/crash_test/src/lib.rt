@@ -23,7 +23,7 @@ pub use answering::answer_on;
 pub use checking::{check_events, check_program};
 pub use cuts::{CutJudgement, judge_event_cuts, judge_run_cuts};
 pub use events::Events;
-pub use explaining::explain_image;
+pub use explaining::{explain_image, explain_image_least};
 pub use image_causes::{
     LogReader, Reader, ToldImage, kept_lines_are_read, tell_image, tell_image_by,
 };

@@ -10,7 +10,7 @@ use line_memory::Medium;
 use machine::{Recorded, Schedule, record};
 use std::alloc::Global;
 use store_trace::Trace;
-use witness::explain;
+use witness::{explain, explain_least};
 
 /// What a call comes to that an image refused.
 fn refused_image(fault: ImageFault) -> Result<bool, Refused> {
@@ -23,6 +23,7 @@ enum Call {
     Cuts,
     Image,
     Explain,
+    ExplainLeast,
 }
 
 /// A recorded run of nine steps, whose last moment has two images.
@@ -94,11 +95,21 @@ fn is_explained(alloc: Global, recorded: &Recorded) -> Result<bool, Refused> {
     }
 }
 
+/// Whether image 0 is explained by the needed evictions.
+fn is_explained_least(alloc: Global, recorded: &Recorded) -> Result<bool, Refused> {
+    let cut = cut_of_line_5(alloc)?;
+    match explain_least(alloc, recorded, 5, &cut) {
+        Ok(schedule) => says(alloc, &schedule, "h0*5 e5 h0*4"),
+        Err(fault) => refused_image(fault),
+    }
+}
+
 fn called(alloc: Global, recorded: &Recorded, call: Call) -> Result<bool, Refused> {
     match call {
         Call::Cuts => are_two(alloc, recorded.start(), recorded.trace()),
         Call::Image => older_image(alloc, recorded.start(), recorded.trace()),
         Call::Explain => is_explained(alloc, recorded),
+        Call::ExplainLeast => is_explained_least(alloc, recorded),
     }
 }
 
@@ -124,4 +135,9 @@ fn image_of_a_number(rt: HostRuntime) -> Result<(), Refused> {
 #[test]
 fn explain_a_cut(rt: HostRuntime) -> Result<(), Refused> {
     ended(&rt, on_recorded(rt.alloc(), Call::Explain))
+}
+
+#[test]
+fn explain_a_cut_by_needed_evictions(rt: HostRuntime) -> Result<(), Refused> {
+    ended(&rt, on_recorded(rt.alloc(), Call::ExplainLeast))
 }

@@ -1,7 +1,7 @@
 -- An explanation has no more hart steps than the schedule of the recorded run.
 use Rattle.std.proofs.Common.{◌≡◌, ℕ, ◌≤◌, List, length, take, ap, arith}
 use Rattle.std.proofs.lemmas.List.{length-take}
-use Rattle.witness.specs.Explains.{Explains, steps_by}
+use Rattle.witness.specs.Explains.{steps_by}
 use Rattle.machine.proofs.Counting.{items_counted}
 use Rattle.machine.specs.Evicting.{hart_steps}
 use Rattle.machine.specs.Recorded.{RecordedView}
@@ -10,10 +10,11 @@ use Rattle.machine.specs.Steps.{all_steps}
 use Rattle.machine.specs.declared.schedule.items.Item.{Item}
 use Rattle.machine.specs.declared.schedule.items.Step.{Step}
 
-pub few_explained : (recorded : RecordedView) (moment : ℕ) (cut : List (ℕ × ℕ)) (schedule : List Item)
-    → Explains recorded moment cut (all_steps schedule) → count_of_hart_steps schedule ≤ count_of_hart_steps recorded.items
-few_explained recorded moment cut schedule e =
+pub few_explained : (recorded : RecordedView) (moment : ℕ) (schedule : List Item)
+    → hart_steps (all_steps schedule) ≡ take (steps_by recorded.steps moment) (hart_steps (all_steps recorded.items))
+    → count_of_hart_steps schedule ≤ count_of_hart_steps recorded.items
+few_explained recorded moment schedule same =
     let all : List Step = hart_steps (all_steps recorded.items) in
     let made : ℕ = steps_by recorded.steps moment in
-    let taken : length (hart_steps (all_steps schedule)) ≡ length (take made all) = ap length e.hart_steps_are in
+    let taken : length (hart_steps (all_steps schedule)) ≡ length (take made all) = ap length same in
     omega (arith, items_counted schedule, taken, items_counted recorded.items, length-take made all)

@@ -2,6 +2,9 @@ pub mod Following
 pub mod HartRuns
 pub mod Leaving
 pub mod Lists
+pub mod OneLine
+pub mod Needed
+pub mod NeededRuns
 pub mod RunFrom
 pub mod Counting
 pub mod Existing

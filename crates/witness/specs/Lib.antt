@@ -1,2 +1,5 @@
 pub mod Explains
+pub mod Least
+pub mod LineState
+pub mod Needed
 pub mod Walking

@@ -37,16 +37,34 @@ pub fn explain(
     ensures moment { IsErrOf result ImageFault.NoSuchMoment ↔ (length recorded.now.trace < moment) }
     ensures cut { IsErrOf result ImageFault.NotACut → ¬ IsCut (at_moment recorded.now.trace moment) cut.now }
 {
+    demand_cut(alloc, recorded, moment, cut)?;
+    Ok(explained(alloc, recorded, moment, cut.entries())?)
+}
+
+/// Demands that the moment is there, and that this is a cut of it.
+pub(crate) fn demand_cut(
+    alloc: Global,
+    recorded: &Recorded,
+    moment: u32,
+    cut: &Cut,
+) -> Result<(), ImageFault>
+    ensures within { OnOk result (moment ≤ length recorded.now.trace) }
+    ensures ok { OnOk result (IsCut (at_moment recorded.now.trace moment) cut.now) }
+    ensures lines { OnOk result (All (λ entry. entry.0 < length recorded.now.start) cut.now) }
+    ensures moment { IsErrOf result ImageFault.NoSuchMoment ↔ (length recorded.now.trace < moment) }
+    ensures cut { IsErrOf result ImageFault.NotACut → ¬ IsCut (at_moment recorded.now.trace moment) cut.now }
+{
     let cuts = Cuts::at(alloc, recorded.start(), recorded.trace(), moment)?;
     if !cuts.contains(cut) {
         return Err(ImageFault::NotACut);
     }
-    Ok(explained(alloc, recorded, moment, cut.entries())?)
+    Ok(())
 }
 
-/// The schedule of the cut with these entries, of which each is of a line that is there.
+/// The hart steps through those that made the first `moment` events, with one eviction for each line to which the entries
+/// give a number of at least 1, right after the hart step of its store of that number. Each entry is of a line that is there.
 #[tactic(auto, using(crate::proofs::Following::at_start))]
-fn explained(
+pub(crate) fn explained(
     alloc: Global,
     recorded: &Recorded,
     moment: u32,

@@ -3,7 +3,10 @@
 
 pub use explaining::explain;
 pub use laws::every_cut_has_a_schedule;
+pub use least::explain_least;
 
 mod explaining;
 mod laws;
+mod least;
+mod line_state;
 mod recorded_steps;

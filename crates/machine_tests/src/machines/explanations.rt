@@ -7,7 +7,7 @@ use isa_table::Reg;
 use line_memory::Medium;
 use machine::{Recorded, Schedule};
 use std::alloc::{AllocError, Global};
-use witness::explain;
+use witness::{explain, explain_least};
 
 /// A run of a program, a moment of it, the entries of a cut, and the text of the schedule that explains the cut, or of the
 /// fault. Where there is such a schedule, `left` is the first doublewords of lines 1 and 5 that it leaves.
@@ -286,14 +286,139 @@ static EXPLANATIONS: [Explanation; 29] = [
     },
 ];
 
+/// The same by the needed evictions alone.
+static LEAST_EXPLANATIONS: [Explanation; 11] = [
+    Explanation {
+        words: &TWO_IMAGES,
+        harts: 1,
+        schedule: "h0*9",
+        moment: 5,
+        entries: &[(5, 3)],
+        text: "h0*9",
+        left: Some([0, 3]),
+    },
+    Explanation {
+        words: &TWO_IMAGES,
+        harts: 1,
+        schedule: "h0*9",
+        moment: 5,
+        entries: &[(5, 2)],
+        text: "h0*5 e5 h0*4",
+        left: Some([0, 2]),
+    },
+    Explanation {
+        words: &TWO_IMAGES,
+        harts: 1,
+        schedule: "h0*9",
+        moment: 4,
+        entries: &[(5, 3)],
+        text: "h0*8 e5",
+        left: Some([0, 3]),
+    },
+    Explanation {
+        words: &TWO_IMAGES,
+        harts: 1,
+        schedule: "h0*4 e5 h0*4 e5 h0 e5 e7",
+        moment: 5,
+        entries: &[(5, 3)],
+        text: "h0*9",
+        left: Some([0, 3]),
+    },
+    // the fence of hart 0 writes back its store behind the clean too
+    Explanation {
+        words: &TWO_IMAGES,
+        harts: 2,
+        schedule: "h0*9 h1*9",
+        moment: 9,
+        entries: &[(5, 3)],
+        text: "h0*9 h1*8",
+        left: Some([0, 3]),
+    },
+    Explanation {
+        words: &TWO_IMAGES,
+        harts: 2,
+        schedule: "h0*9 h1*9",
+        moment: 9,
+        entries: &[(5, 4)],
+        text: "h0*9 h1*3 e5 h1*5",
+        left: Some([0, 1]),
+    },
+    Explanation {
+        words: &ENTRY_AND_TAIL,
+        harts: 1,
+        schedule: "h0*12",
+        moment: 7,
+        entries: &[(1, 1), (5, 3)],
+        text: "h0*10 e1 h0*1",
+        left: Some([8, 7]),
+    },
+    Explanation {
+        words: &ENTRY_AND_TAIL,
+        harts: 1,
+        schedule: "h0*12",
+        moment: 8,
+        entries: &[(1, 1), (5, 3)],
+        text: "h0*12",
+        left: Some([8, 7]),
+    },
+    Explanation {
+        words: &TWO_IMAGES,
+        harts: 1,
+        schedule: "h0*9",
+        moment: 0,
+        entries: &[],
+        text: "",
+        left: Some([0, 0]),
+    },
+    Explanation {
+        words: &TWO_IMAGES,
+        harts: 1,
+        schedule: "h0*9",
+        moment: 6,
+        entries: &[(5, 2)],
+        text: "no such moment",
+        left: None,
+    },
+    Explanation {
+        words: &TWO_IMAGES,
+        harts: 1,
+        schedule: "h0*9",
+        moment: 5,
+        entries: &[(5, 1)],
+        text: "not a cut",
+        left: None,
+    },
+];
+
+/// By which evictions a cut is explained.
+#[derive(Clone, Copy)]
+enum Evictions {
+    OfEachStoredLine,
+    Needed,
+}
+
+fn schedule_of(
+    alloc: Global,
+    evictions: Evictions,
+    recorded: &Recorded,
+    moment: u32,
+    cut: &Cut,
+) -> Result<Schedule, ImageFault> {
+    match evictions {
+        Evictions::OfEachStoredLine => explain(alloc, recorded, moment, cut),
+        Evictions::Needed => explain_least(alloc, recorded, moment, cut),
+    }
+}
+
 /// The text of the schedule that explains a cut.
 fn explained(
     alloc: Global,
+    evictions: Evictions,
     recorded: &Recorded,
     moment: u32,
     cut: &Cut,
 ) -> Result<String, ImageFault> {
-    match explain(alloc, recorded, moment, cut)?.write(alloc) {
+    match schedule_of(alloc, evictions, recorded, moment, cut)?.write(alloc) {
         Ok(text) => Ok(text),
         Err(_) => Err(ImageFault::Memory),
     }
@@ -302,12 +427,13 @@ fn explained(
 /// The text that explains a cut, or of the fault. A call that is refused memory is made again.
 fn answer(
     alloc: Global,
+    evictions: Evictions,
     recorded: &Recorded,
     moment: u32,
     cut: &Cut,
 ) -> Result<String, AllocError> {
-    let answer = match explained(alloc, recorded, moment, cut) {
-        Err(ImageFault::Memory) => explained(alloc, recorded, moment, cut),
+    let answer = match explained(alloc, evictions, recorded, moment, cut) {
+        Err(ImageFault::Memory) => explained(alloc, evictions, recorded, moment, cut),
         answer => answer,
     };
     match answer {
@@ -353,12 +479,13 @@ fn is_left(alloc: Global, image: &Medium, explanation: &Explanation, first: [u64
 /// Whether a cut is explained by this text, and a run by it leaves the image of the cut.
 fn is_cut_explained(
     alloc: Global,
+    evictions: Evictions,
     recorded: &Recorded,
     cut: &Cut,
     explanation: &Explanation,
 ) -> bool {
     let moment = explanation.moment;
-    let is_answered = match answer(alloc, recorded, moment, cut) {
+    let is_answered = match answer(alloc, evictions, recorded, moment, cut) {
         Ok(text) => text.as_str() == explanation.text,
         Err(_) => false,
     };
@@ -369,7 +496,7 @@ fn is_cut_explained(
     }
 }
 
-fn is_explained_so(alloc: Global, explanation: &Explanation) -> bool {
+fn is_explained_so(alloc: Global, evictions: Evictions, explanation: &Explanation) -> bool {
     let Explanation {
         words,
         harts,
@@ -381,7 +508,7 @@ fn is_explained_so(alloc: Global, explanation: &Explanation) -> bool {
     match (run, entries) {
         (Ok(recorded), Ok(entries)) => {
             let cut = Cut::from_entries(entries);
-            is_cut_explained(alloc, &recorded, &cut, explanation)
+            is_cut_explained(alloc, evictions, &recorded, &cut, explanation)
         }
         _ => false,
     }
@@ -391,7 +518,15 @@ fn is_explained_so(alloc: Global, explanation: &Explanation) -> bool {
 fn cuts_are_explained_so(rt: HostRuntime) {
     let differing = EXPLANATIONS
         .iter()
-        .position(|explanation| !is_explained_so(rt.alloc(), explanation));
+        .position(|explanation| !is_explained_so(rt.alloc(), Evictions::OfEachStoredLine, explanation));
+    assert_eq!(rt; differing, None);
+}
+
+#[test]
+fn cuts_are_explained_by_needed_evictions_so(rt: HostRuntime) {
+    let differing = LEAST_EXPLANATIONS
+        .iter()
+        .position(|explanation| !is_explained_so(rt.alloc(), Evictions::Needed, explanation));
     assert_eq!(rt; differing, None);
 }
 

@@ -4,7 +4,7 @@ use crate::calls::starts::{
     END, ENTRY, FENCE, FIRST_RUN, ONE_APPEND, STRAYS, TAIL, TWO_IMAGES, is_written_so, run_of,
 };
 use crash_image::ImageFault;
-use crash_test::{count_images, explain_image, image_lines};
+use crash_test::{count_images, explain_image, explain_image_least, image_lines};
 use machine::Schedule;
 use std::alloc::Global;
 use text::ImageName;
@@ -72,6 +72,8 @@ struct Explanation {
     moment: u32,
     image: &'static str,
     explained: Result<&'static str, Lacking>,
+    /// The same by the needed evictions alone.
+    least: Result<&'static str, Lacking>,
 }
 
 static EXPLANATIONS: [Explanation; 5] = [
@@ -83,6 +85,7 @@ static EXPLANATIONS: [Explanation; 5] = [
         moment: 5,
         image: "1",
         explained: Ok("h0*8 e5 h0*1"),
+        least: Ok("h0*9"),
     },
     // a tail without its entry
     Explanation {
@@ -92,6 +95,7 @@ static EXPLANATIONS: [Explanation; 5] = [
         moment: 6,
         image: "4",
         explained: Ok("h0*13 e1"),
+        least: Ok("h0*13 e1"),
     },
     // a line among over 65,536 images
     Explanation {
@@ -101,6 +105,7 @@ static EXPLANATIONS: [Explanation; 5] = [
         moment: 17,
         image: "l300:1",
         explained: Ok("h0*5 e300 h0*64"),
+        least: Ok("h0*5 e300 h0*64"),
     },
     Explanation {
         plan: None,
@@ -109,6 +114,7 @@ static EXPLANATIONS: [Explanation; 5] = [
         moment: 5,
         image: "2",
         explained: Err(Lacking::Image),
+        least: Err(Lacking::Image),
     },
     Explanation {
         plan: None,
@@ -117,6 +123,7 @@ static EXPLANATIONS: [Explanation; 5] = [
         moment: 6,
         image: "0",
         explained: Err(Lacking::Moment),
+        least: Err(Lacking::Moment),
     },
 ];
 
@@ -134,10 +141,18 @@ fn explained(alloc: Global, of: &Explanation) -> Option<Result<Schedule, Lacking
     Some(explain_image(alloc, &run, of.moment, &image).map_err(missing))
 }
 
+fn explained_least(alloc: Global, of: &Explanation) -> Option<Result<Schedule, Lacking>> {
+    let run = run_of(alloc, of.plan, of.pieces, of.schedule)?.ok()?;
+    let image = ImageName::read(alloc, of.image).ok()??;
+    Some(explain_image_least(alloc, &run, of.moment, &image).map_err(missing))
+}
+
 fn is_explained_so(alloc: Global, of: &Explanation) -> bool {
-    match explained(alloc, of) {
-        Some(found) => is_so(alloc, &found, of.explained),
-        None => false,
+    match (explained(alloc, of), explained_least(alloc, of)) {
+        (Some(found), Some(least)) => {
+            is_so(alloc, &found, of.explained) && is_so(alloc, &least, of.least)
+        }
+        _ => false,
     }
 }
 
