@@ -42,9 +42,6 @@ AreRightFor judge moment right = AreRightBy (right_asked judge.command.right jud
 abbrev pub IsRefused : OpenJudge → ℕ → Failure → Type 0
 IsRefused judge moment = Tells (IsRefusal (overlap_asked judge.command.right) (events_of judge.events) moment) failure_of_judge
 
-pub record TellsRight (judge : OpenJudge) (moment : ℕ) (outcome : Result (List RightAnswer) Failure) : Type 0 where
-  pub tells : MatchResult outcome (AreRightFor judge moment) (IsRefused judge moment)
-
 -- the answer that the routine has on an image, and the right ones of its moment; where it has none nothing is told
 abbrev pub AreToldBy : OpenJudge → ℕ → Result (List ℕ) RunCause → Option ToldAnswers → Type 0
 AreToldBy judge moment (Ok bytes) (Some told) = (told.answer ≡ bytes) × AreRightFor judge moment told.right.items
@@ -82,9 +79,12 @@ told_right true right = right_object right.answer right.moment
 told_right false right = right_line right.answer right.moment
 
 -- the answer, and behind it each right one
+abbrev pub answers_text : Bool → ToldAnswers → List ℕ
+answers_text json told = told_answer json told.answer ++ flat_map (told_right json) told.right.items
+
 abbrev pub told_answers : Bool → Option ToldAnswers → List ℕ
 told_answers json None = []
-told_answers json (Some told) = told_answer json told.answer ++ flat_map (told_right json) told.right.items
+told_answers json (Some told) = answers_text json told
 
 -- the verdict, behind it the answers on a failing image, and behind them what that lacks and keeps; with the verdict's status
 pub record IsJudgedAnswer (judge : OpenJudge) (verdict : Verdict Cause) (answers : Option ToldAnswers) (why : Option ExplainedImage) (answer : Answer) : Type 0 where

@@ -2,10 +2,10 @@
 
 ghost use Rattle.command_line.specs.Judging.{IsOpen, IsRuleOf};
 ghost use Rattle.command_line.specs.Reasons.{HasFewSteps};
-ghost use Rattle.command_line.specs.ToldAnswers.{PrintsJudged, TellsAnswers, TellsAnswersAt, TellsRight, told_answer, told_answers, told_right};
+ghost use Rattle.command_line.specs.ToldAnswers.{AreRightFor, IsRefused, PrintsJudged, TellsAnswers, TellsAnswersAt, answers_text, told_answer, told_answers, told_right};
 ghost use Rattle.routine_judge.specs.Rules.{right_by};
 ghost use Rattle.routine_judge.specs.Views.{own_moments};
-ghost use Rattle.std.specs.Prelude.{◌≡◌, IfOk, IfSome, string_bytes};
+ghost use Rattle.std.specs.Prelude.{◌≡◌, IfOk, IfSome, MatchResult, string_bytes};
 
 use crate::answer::Answer;
 use crate::failure::Failure;
@@ -82,7 +82,7 @@ fn right_at(
 ) -> Result<Vec<RightAnswer>, Failure>
     requires open { IsOpen judge.now }
     requires rule { IsRuleOf judge.now rule }
-    ensures { TellsRight judge.now moment result }
+    ensures { MatchResult result (λ right. AreRightFor judge.now moment right.items) (IsRefused judge.now moment) }
 {
     match rule {
         Rule::Atomic(_) => Ok(Vec::new(alloc)),
@@ -99,12 +99,13 @@ fn right_of_moments(
     requires open { IsOpen judge.now }
     requires rule { IsRuleOf judge.now rule }
     requires own { right_by rule ≡ own_moments }
-    ensures { TellsRight judge.now moment result }
+    ensures { MatchResult result (λ right. AreRightFor judge.now moment right.items) (IsRefused judge.now moment) }
 {
     let medium = judge.events.medium();
     let trace = judge.events.trace();
     let judgement = judgement(judge, rule);
-    Ok(right_answers(alloc, medium, trace, judgement, moment)?)
+    let right = right_answers(alloc, medium, trace, judgement, moment)?;
+    Ok(right)
 }
 
 /// What is printed of a verdict, of the answers on a failing image and of what that lacks and keeps, and the status.
@@ -121,14 +122,13 @@ pub(crate) fn judged_answer(
 {
     let json = judge.command.judged.json;
     let mut text = told_verdict(alloc, verdict, json)?;
-    let answers = told_answers(alloc, answers, json)?;
+    let mut lines = told_answers(alloc, answers, json)?;
     let reasons = told_why(alloc, &judge.events, why, json)?;
-    text.push_str(answers.as_str())?;
-    text.push_str(reasons.as_str())?;
+    lines.push_str(reasons.as_str())?;
+    text.push_str(lines.as_str())?;
     Ok(Answer::of(text, verdict_status(verdict)))
 }
 
-/// The answer on an image, and behind it each right one.
 fn told_answers(
     alloc: Global,
     answers: &Option<ToldAnswers>,
@@ -136,9 +136,16 @@ fn told_answers(
 ) -> Result<String, AllocError>
     ensures { IfOk result (λ text. string_bytes text ≡ told_answers json answers.now) }
 {
-    let Some(told) = answers else {
-        return Ok(String::new(alloc));
-    };
+    match answers {
+        Some(told) => answers_text(alloc, told, json),
+        None => Ok(String::new(alloc)),
+    }
+}
+
+/// The answer on an image, and behind it each right one.
+fn answers_text(alloc: Global, told: &ToldAnswers, json: bool) -> Result<String, AllocError>
+    ensures { IfOk result (λ text. string_bytes text ≡ answers_text json told.now) }
+{
     let mut text = told_answer(alloc, told.answer.bytes(), json)?;
     for right in &told.right {
         let line = told_right(alloc, right, json)?;
