@@ -112,9 +112,9 @@ given_answer view among given old new (inl there) before shown are =
     subst (λ (right : List RightAnswer). AreGivenBy view (λ j. among j || (j == given.moment)) right) (sym there.1)
     (given_still view among given.moment old before
     (λ bytes s.
-        let one : ◌≡◌ {A = Found} (Ok given.answer) (Ok bytes) = shows_once view given.moment (full_cut view.events given.moment) (Ok given.answer) (Ok bytes) shown s in
-        let same : given.answer ≡ bytes = cc in
-        subst (λ (b : List ℕ). Any (gives b) old) same there.0)
+    let one : ◌≡◌ {A = Found} (Ok given.answer) (Ok bytes) = shows_once view given.moment (full_cut view.events given.moment) (Ok given.answer) (Ok bytes) shown s in
+    let same : given.answer ≡ bytes = cc in
+    subst (λ (b : List ℕ). Any (gives b) old) same there.0)
     are)
 given_answer view among given old new (inr added) before shown are =
     subst (λ (right : List RightAnswer). AreGivenBy view (λ j. among j || (j == given.moment)) right) (sym added.1)
@@ -125,8 +125,8 @@ pub given_none : (view : JudgeView) (among : ℕ → Bool) (moment : ℕ) (cause
 given_none view among moment cause right before shown are =
     given_still view among moment right before
     (λ bytes s.
-        let one : ◌≡◌ {A = Found} (Err cause) (Ok bytes) = shows_once view moment (full_cut view.events moment) (Err cause) (Ok bytes) shown s in
-        absurd cc)
+    let one : ◌≡◌ {A = Found} (Err cause) (Ok bytes) = shows_once view moment (full_cut view.events moment) (Err cause) (Ok bytes) shown s in
+    absurd cc)
     are
 
 -- the answers of no moment

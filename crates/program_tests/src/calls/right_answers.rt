@@ -14,7 +14,8 @@ const STORED_AGAIN: &str =
     sd t0, 0(a1)\ncbo.clean (a1)\nfence w, w\nli a7, 2002\necall\nli a7, 93\nli a0, 0\necall\n";
 
 /// Recovery shows the first eight bytes of the medium.
-const SHOWN: &str = "ld t0, 0(a1)\nlui a1, 256\nsd t0, 0(a1)\nli a2, 8\nli a7, 93\nli a0, 0\necall\n";
+const SHOWN: &str =
+    "ld t0, 0(a1)\nlui a1, 256\nsd t0, 0(a1)\nli a2, 8\nli a7, 93\nli a0, 0\necall\n";
 
 /// More steps than it makes.
 const STEPS: u32 = 100;

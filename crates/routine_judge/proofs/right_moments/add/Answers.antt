@@ -7,8 +7,8 @@ pub returns-in-Ok : goal.returns-in-Ok
 returns-in-Ok c =
     on_ok c.add_answer.result
     (λ added view among before shown are.
-        given_answer view among (record { moment = c.args.moment; answer = c.in-Ok.answer }) c.args.right.now.items c.add_answer.new.right.items added before
-        (rw c.in-Ok.is at shown) are)
+    given_answer view among (record { moment = c.args.moment; answer = c.in-Ok.answer }) c.args.right.now.items c.add_answer.new.right.items added before
+    (rw c.in-Ok.is at shown) are)
     c.add_answer.ensures
 
 pub returns-in-Err : goal.returns-in-Err
