@@ -4,8 +4,8 @@ use Rattle.routine_judge.specs.Rules.{JudgementView}
 use Rattle.command_line.proofs.RightTold.{moments_told}
 use Rattle.command_line.proofs.told_answers.right_of_moments.Goals as goal
 
-pub right_answers-right-requires-clause-own : goal.right_answers-right-requires-clause-own
-right_answers-right-requires-clause-own c =
+pub right_answers-requires-clause-own : goal.right_answers-requires-clause-own
+right_answers-requires-clause-own c =
     ap (λ (v : JudgementView). v.right) c.judgement-judgement.ensures.asked ∙ sym c.requires.rule.right ∙ c.requires.own
 
 pub returns : goal.returns
