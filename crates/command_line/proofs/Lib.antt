@@ -16,3 +16,4 @@ pub mod StatesTold
 mod RankedLines
 mod ToldReasons
 mod TraceFiles
+pub mod RightTold

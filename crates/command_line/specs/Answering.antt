@@ -4,7 +4,7 @@ use Rattle.arguments.specs.declared.asked.AnswerCommand.{AnswerCommand}
 use Rattle.crash_test.specs.Loading.{IsAnswerOn}
 use Rattle.program.specs.Sections.{Sections}
 use Rattle.recovery.specs.declared.recovery_run.Cause.{Cause}
-use Rattle.report.specs.Answers.{answer_text}
+use Rattle.report.specs.Answers.{answer_line}
 use Rattle.command_line.specs.Judging.{missing_text}
 use Rattle.command_line.specs.Reading.{ReadsMedium, ReadsRecovery}
 use Rattle.command_line.specs.Reports.{line_end}
@@ -15,7 +15,7 @@ use Rattle.command_line.specs.declared.failure.Failure.TheVariants.{Memory}
 
 -- the answer, or why there is none
 abbrev pub found_text : Result (List ℕ) Cause → List ℕ
-found_text (Ok bytes) = codes "answer " ++ (answer_text bytes ++ line_end)
+found_text (Ok bytes) = answer_line bytes
 found_text (Err cause) = codes "no answer: " ++ (missing_text cause ++ line_end)
 
 -- 0 where there is one, else 1

@@ -33,7 +33,6 @@ use Rattle.recovery.specs.declared.recovery_run.Cause.{Cause as RunCause}
 use Rattle.recovery.specs.declared.recovery_run.Cause.TheVariants as runs
 use Rattle.debugger.specs.StreamFailures.{AppendsFront}
 use Rattle.command_line.specs.AllSchedules.{told_bound}
-use Rattle.command_line.specs.Answered.{PrintsVerdict}
 use Rattle.command_line.specs.Demanding.{MeetsWhole}
 use Rattle.command_line.specs.Failures.{failure_of_judge}
 use Rattle.command_line.specs.JudgedEvents.{OpensJudgedTrace}
@@ -234,14 +233,6 @@ pub record Notes {E : Type 0} (said : E → Option (List ℕ)) (is_none : Bool) 
 pub record Answers {E : Type 0} (said : E → Option (List ℕ)) (is_none : Bool) (answer : Answer) (errors : E) (outcome : Result Answer Failure) (errors' : E) : Type 0 where
   pub answers : outcome ≡ Ok answer
   pub notes : Notes said is_none errors errors'
-
--- what the events come to by the right answers, without power cuts in recovery
-abbrev pub JudgesOnce : {E : Type 0} → (E → Option (List ℕ)) → OpenJudge → Step E Answer
-JudgesOnce said judge =
-    First (Watches said judge) (λ verdict.
-    First (Still (ExplainsFailing judge verdict)) (λ why.
-    First (Still (PrintsVerdict cause_text judge.command.judged.json judge.events verdict why))
-    (Answers said (judges_none verdict))))
 
 -- the sequential runs of the program are known, all of them, or a bound that the search for them passes
 abbrev pub AreRunsFrom : OpenJudge → Option Setup → Sequential → Type 0

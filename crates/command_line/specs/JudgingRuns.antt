@@ -5,8 +5,9 @@ use Rattle.every_schedule.specs.declared.sequential.Sequential.{Sequential}
 use Rattle.every_schedule.specs.declared.sequential.Sequential.TheVariants as known
 use Rattle.command_line.specs.AllSchedules.{told_bound}
 use Rattle.command_line.specs.CutVerdicts.{cuts_asked}
-use Rattle.command_line.specs.Judging.{FindsRuns, JudgesOnce}
+use Rattle.command_line.specs.Judging.{FindsRuns}
 use Rattle.command_line.specs.JudgingCuts.{JudgesCuts}
+use Rattle.command_line.specs.JudgingOnce.{JudgesOnce}
 use Rattle.command_line.specs.Steps.{First, Prints, Step, Still}
 use Rattle.command_line.specs.declared.answer.Answer.{Answer}
 use Rattle.command_line.specs.declared.opened.OpenJudge.{OpenJudge}

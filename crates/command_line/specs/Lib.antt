@@ -16,6 +16,8 @@ pub mod JudgedEvents
 pub mod CutReasons
 pub mod CutVerdicts
 pub mod JudgingCuts
+pub mod ToldAnswers
+pub mod JudgingOnce
 pub mod JudgingRuns
 pub mod Judging
 pub mod JudgingAll

@@ -11,7 +11,7 @@ use arguments::AnswerCommand;
 use crash_test::answer_on;
 use line_memory::Medium;
 use program::Program;
-use report::answer_text;
+use report::answer_line;
 use std::alloc::Global;
 
 /// `answer`: reads the files of a recovery routine and of a medium, and prints what the routine answers on the medium, or why it has no
@@ -38,8 +38,7 @@ fn answered(
 {
     match answer_on(alloc, recovery, medium, steps)? {
         Ok(answer) => {
-            let shown = answer_text(alloc, answer.bytes())?;
-            let text = format!(in alloc; "answer {shown}\n")?;
+            let text = answer_line(alloc, answer.bytes())?;
             Ok(Answer::of(text, 0))
         }
         Err(cause) => {

@@ -3,7 +3,8 @@
 ghost use Rattle.arguments.specs.Cuts.{AreFewCuts};
 ghost use Rattle.arguments.specs.Line.{AreCutsOf, IsJudgedWithin, IsMachineWithin, IsRightOf};
 ghost use Rattle.arguments.specs.declared.asked.RightAnswers.TheVariants.{Atomic};
-ghost use Rattle.command_line.specs.Judging.{AreRunsFor, CopiesStart, IsOpen, IsReadyFor, IsRuleOf, JudgesOnce, JudgesOpen, KeepsStart, Notes, OpensJudge, OpensSubject, OpensSubjectOfFile, OpensSubjectOfRun, TellsProgress, Watches, cause_text, judgement_asked, judges_none, missing_text, note_if};
+ghost use Rattle.command_line.specs.Judging.{AreRunsFor, CopiesStart, IsOpen, IsReadyFor, IsRuleOf, JudgesOpen, KeepsStart, Notes, OpensJudge, OpensSubject, OpensSubjectOfFile, OpensSubjectOfRun, TellsProgress, Watches, cause_text, judgement_asked, judges_none, missing_text, note_if};
+ghost use Rattle.command_line.specs.JudgingOnce.{JudgesOnce};
 ghost use Rattle.command_line.specs.JudgingRuns.{JudgesRight, JudgesRun};
 ghost use Rattle.command_line.specs.Reading.{setup_of};
 ghost use Rattle.routine_judge.specs.Rules.{AreNotedFor, judgement_view};
@@ -25,7 +26,8 @@ use crate::progress::Reporter;
 use crate::reading::{ReadRoutine, RunFiles, read_routine, read_run};
 use crate::reasons::why_of;
 use crate::streams::print;
-use crate::verdicts::{ToldCause, verdict_answer, work};
+use crate::told_answers::{answers_of, judged_answer};
+use crate::verdicts::{ToldCause, work};
 use crate::whole::demand_whole;
 use arguments::{EventSource, JudgeCommand, RightAnswers, ScheduledRun, TracedEvents};
 use crash_test::{Events, Judgement, RoutineReader, judge_events, judge_program};
@@ -274,13 +276,14 @@ fn judge_once<T: Threads + Sync + Clock, E: Write>(
     ensures { JudgesOnce E.contents judge.now errors.old result errors.new }
 {
     let verdict = verdict(rt, alloc, judge, rule, errors)?;
-    let judged = &judge.command.judged;
+    let answers = answers_of(alloc, judge, rule, &verdict)?;
     let reader = RoutineReader {
         program: &judge.recovery,
         steps: judge.command.steps,
     };
-    let why = why_of(alloc, judged.why, &judge.events, &verdict, &reader)?;
-    let answer = verdict_answer(alloc, &judge.events, &verdict, &why, judged.json)?;
+    let asked = judge.command.judged.why;
+    let why = why_of(alloc, asked, &judge.events, &verdict, &reader)?;
+    let answer = judged_answer(alloc, judge, &verdict, &answers, &why)?;
     let _ = note_none(judges_none(&verdict), errors);
     Ok(answer)
 }

@@ -40,6 +40,7 @@ mod show;
 mod sizes;
 mod streams;
 mod telling;
+mod told_answers;
 mod trace;
 mod unpersisted;
 mod upgrade;

@@ -11,3 +11,4 @@ pub mod Checking
 pub mod Judging
 pub mod Told
 pub mod CutsJudging
+pub mod Answers

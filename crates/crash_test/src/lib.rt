@@ -19,7 +19,7 @@ mod runs;
 mod volumes;
 mod work;
 
-pub use answering::answer_on;
+pub use answering::{answer_at, answer_on};
 pub use checking::{check_events, check_program};
 pub use cuts::{CutJudgement, judge_event_cuts, judge_run_cuts};
 pub use events::Events;
@@ -33,7 +33,7 @@ pub use loading::{ProgramFault, load_object, load_program, one_program};
 pub use losses::{ExplainedImage, explain_losses, tell_losses};
 pub use places::places_of;
 pub use reading::RoutineReader;
-pub use routine_judge::Judgement;
+pub use routine_judge::{Judgement, RightAnswer, right_answers};
 pub use runs::{TogetherFault, record_run, replay, run_program, start_program};
 pub use verdict::{Progress, Unwatched};
 pub use volumes::{default_medium, make_volume};

@@ -13,6 +13,7 @@ mod library_messages;
 mod loading;
 mod messages;
 mod orders;
+mod right_answers;
 mod runs;
 mod starts;
 mod states;

@@ -1,6 +1,6 @@
 //! What is printed of the answer of a recovery routine.
 
-ghost use Rattle.report.specs.Answers.{answer_text, digits_text};
+ghost use Rattle.report.specs.Answers.{answer_line, answer_object, answer_text, bytes_members, digits_text, right_line, right_object};
 ghost use Rattle.report.specs.Rows.{two_digits};
 ghost use Rattle.std.specs.Prelude.{◌≡◌, ◌++◌, IfOk, OnOk, string_bytes, take};
 
@@ -9,6 +9,47 @@ use std::fmt::Write;
 
 /// How many bytes of an answer are printed.
 const SHOWN_BYTES: usize = 64;
+
+/// The line of an answer: `answer 8 bytes 0500000000000000`.
+pub fn answer_line(alloc: Global, answer: &[u8]) -> Result<String, AllocError>
+    ensures { IfOk result (λ text. string_bytes text ≡ answer_line answer.now) }
+{
+    let shown = answer_text(alloc, answer)?;
+    format!(in alloc; "answer {shown}\n")
+}
+
+/// The line of a right answer, with the moment whose full image gives it: `right 8 bytes 0500000000000000 moment=6`.
+pub fn right_line(alloc: Global, answer: &[u8], moment: u32) -> Result<String, AllocError>
+    ensures { IfOk result (λ text. string_bytes text ≡ right_line answer.now moment) }
+{
+    let shown = answer_text(alloc, answer)?;
+    format!(in alloc; "right {shown} moment={moment}\n")
+}
+
+/// An answer as an object of JSON (RFC 8259) on a line of its own: `{"kind":"answer","bytes":8,"hex":"0500000000000000"}`.
+pub fn answer_object(alloc: Global, answer: &[u8]) -> Result<String, AllocError>
+    ensures { IfOk result (λ text. string_bytes text ≡ answer_object answer.now) }
+{
+    let members = bytes_members(alloc, answer)?;
+    format!(in alloc; "{{\"kind\":\"answer\",{members}}}\n")
+}
+
+/// A right answer so: `{"kind":"right","bytes":8,"hex":"0500000000000000","moment":6}`.
+pub fn right_object(alloc: Global, answer: &[u8], moment: u32) -> Result<String, AllocError>
+    ensures { IfOk result (λ text. string_bytes text ≡ right_object answer.now moment) }
+{
+    let members = bytes_members(alloc, answer)?;
+    format!(in alloc; "{{\"kind\":\"right\",{members},\"moment\":{moment}}}\n")
+}
+
+/// How many bytes an answer has, and the first 64 of them, as members of an object.
+fn bytes_members(alloc: Global, answer: &[u8]) -> Result<String, AllocError>
+    ensures { IfOk result (λ text. string_bytes text ≡ bytes_members answer.now) }
+{
+    let digits = digits_text(alloc, shown(answer))?;
+    let count = answer.len();
+    format!(in alloc; "\"bytes\":{count},\"hex\":\"{digits}\"")
+}
 
 /// How many bytes an answer has, and the first 64 of them in hexadecimal: `8 bytes 0500000000000000`.
 pub fn answer_text(alloc: Global, answer: &[u8]) -> Result<String, AllocError>

@@ -30,11 +30,11 @@ shows_once view m cut found other a b =
     let one = ends_once (started view.routine (image view.start cut (at_moment view.events m)) 1) a.end b.end view.steps a.full b.full a.runs b.runs in
     a.comes ∙ sym (b.comes ∙ ap (λ (full : Bool). answer b.end full) one.1 ∙ ap (λ (end : Config). answer end a.full) one.0)
 
-or_cases : (a b : Bool) → (a || b) ≡ true → (a ≡ true) ⊎ (b ≡ true)
+pub or_cases : (a b : Bool) → (a || b) ≡ true → (a ≡ true) ⊎ (b ≡ true)
 or_cases true b e = inl refl
 or_cases false b e = inr e
 
-or_first : (a b : Bool) → a ≡ true → (a || b) ≡ true
+pub or_first : (a b : Bool) → a ≡ true → (a || b) ≡ true
 or_first a b e = rw e refl
 
 or_last : (a : Bool) → (a || true) ≡ true
@@ -47,7 +47,7 @@ nothing_in bytes c = absurd (omega (arith, c.1))
 pub none_in : (xs : List (List ℕ)) (bytes : List ℕ) → xs ≡ [] → ¬ Contains xs bytes
 none_in xs bytes e c = nothing_in bytes (subst (λ (ys : List (List ℕ)). Contains ys bytes) e c)
 
-here_too : (among : ℕ → Bool) (moment : ℕ) → (among moment || (moment == moment)) ≡ true
+pub here_too : (among : ℕ → Bool) (moment : ℕ) → (among moment || (moment == moment)) ≡ true
 here_too among moment = rw (eq-eqb moment moment refl) (or_last (among moment))
 
 -- one moment more, where the routine runs on among the others or on its full image

@@ -40,3 +40,4 @@ pub mod Chaining
 pub mod Unsettled
 pub mod PlainRight
 pub mod WidePassing
+pub mod GivenAnswers

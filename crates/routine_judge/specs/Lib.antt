@@ -31,3 +31,4 @@ pub mod ChainCuts
 pub mod CutRows
 pub mod WidePasses
 pub mod CutJudges
+pub mod RightMoments

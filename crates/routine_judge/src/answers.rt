@@ -99,7 +99,7 @@ impl MomentAnswers {
     }
 
     /// The window of a moment, without the moments before a change that has to last.
-    fn right_window(
+    pub(crate) fn right_window(
         &mut self,
         alloc: Global,
         run: &MarkedRun<'_>,

@@ -20,6 +20,7 @@ mod judging;
 mod order;
 mod passing;
 mod right;
+mod right_moments;
 mod rule;
 mod run;
 mod sources;
@@ -47,6 +48,7 @@ pub use order::{
     sequential_states_stand,
 };
 pub use right::RightAnswers;
+pub use right_moments::{RightAnswer, right_answers};
 pub use rule::{ProgramRuns, Rule};
 pub use run::MarkedRun;
 pub use verdict::{ImageName, ImagesVerdict, MomentVerdict, Verdict};

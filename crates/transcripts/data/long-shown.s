@@ -1,0 +1,7 @@
+ld t0, 0(a1)
+lui a1, 256
+sd t0, 0(a1)
+li a2, 65
+li a7, 93
+li a0, 0
+ecall
