@@ -7,7 +7,7 @@ use Rattle.debugger.specs.declared.fault.DebugFault.TheVariants as faults
 use Rattle.machine.specs.Grammar.{IsSchedule}
 use Rattle.machine.specs.declared.schedule.items.Item.{Item}
 use Rattle.machine.specs.declared.shared_memory.fault.StepFault.TheVariants as refusals
-use Rattle.debugger.specs.Grammar.{Asked, IsFar, IsNoHart, IsOneAddress, IsOneHart, IsOnePlace, IsRange, Names, NamesNoHart, OnAddress, OnAsked, OnHart, OnName, OnPlace, SaysNamed, SaysPlain, breaks, watches, clears, steps, shows, locates, peeks, goes, goes_on, quits}
+use Rattle.debugger.specs.Grammar.{Asked, IsFar, IsNoHart, IsOneAddress, IsOneHart, IsOnePlace, IsRange, Names, NamesNoHart, OnAddress, OnAsked, OnHart, OnName, OnPlace, SaysNamed, SaysPlain, breaks, watches, clears, steps, shows, locates, peeks, goes, goes_on, lists_lines, says_more, helps, quits, IsSwitch}
 use Rattle.std.specs.Str.Parse.{IsNumeral}
 use Rattle.text.specs.Numbers.{IsWritten, Writes}
 use Rattle.text.specs.Words.{words}
@@ -262,19 +262,51 @@ quit_none rest (breaks number) filled s = absurd s
 quit_none rest (clears number) filled s = absurd s
 quit_none rest asked filled s = absurd (differ (codes "quit") _ refl s.0)
 
+pub lines_none : (rest : List ℕ) (asked : Asked) → words rest ≢ [] → ¬ (SaysPlain (codes "lines") rest asked)
+lines_none rest lists_lines filled s = filled s.1
+lines_none rest (breaks number) filled s = absurd s
+lines_none rest (clears number) filled s = absurd s
+lines_none rest asked filled s = absurd (differ (codes "lines") _ refl s.0)
+
+pub help_none : (rest : List ℕ) (asked : Asked) → words rest ≢ [] → ¬ (SaysPlain (codes "help") rest asked)
+help_none rest helps filled s = filled s.1
+help_none rest (breaks number) filled s = absurd s
+help_none rest (clears number) filled s = absurd s
+help_none rest asked filled s = absurd (differ (codes "help") _ refl s.0)
+
+-- a switch
+pub no_switch_word : (parts : List (List ℕ)) (on : Bool) → ((word : List ℕ) → parts ≢ word ∷ []) → ¬ (IsSwitch parts on)
+no_switch_word parts true none is = none (codes "on") is
+no_switch_word parts false none is = none (codes "off") is
+
+pub no_switch : (parts : List (List ℕ)) (word : List ℕ) (on : Bool) → parts ≡ word ∷ [] → word ≢ codes "on" → word ≢ codes "off"
+    → ¬ (IsSwitch parts on)
+no_switch parts word true spelled up down is = up (sym (same_word parts word (codes "on") spelled is))
+no_switch parts word false spelled up down is = down (sym (same_word parts word (codes "off") spelled is))
+
+pub verbose_none : (rest : List ℕ) (asked : Asked) → ((on : Bool) → ¬ (IsSwitch (words rest) on)) → ¬ (SaysPlain (codes "verbose") rest asked)
+verbose_none rest (says_more on) none s = none on s.1
+verbose_none rest (breaks number) none s = absurd s
+verbose_none rest (clears number) none s = absurd s
+verbose_none rest asked none s = absurd (differ (codes "verbose") _ refl s.0)
+
 -- no name
 pub no_name : (name rest : List ℕ) (asked : Asked) → name ≢ codes "watch" → name ≢ codes "step" → name ≢ codes "regs" → name ≢ codes "where"
-    → name ≢ codes "peek" → name ≢ codes "go" → name ≢ codes "quit" → ¬ (SaysPlain name rest asked)
-no_name name rest (breaks number) w s r p k g q said = said
-no_name name rest (watches number) w s r p k g q said = w said.0
-no_name name rest (clears number) w s r p k g q said = said
-no_name name rest (steps number) w s r p k g q said = s said.0
-no_name name rest (shows number) w s r p k g q said = r said.0
-no_name name rest (locates number) w s r p k g q said = p said.0
-no_name name rest (peeks number count) w s r p k g q said = k said.0
-no_name name rest (goes items) w s r p k g q said = g said.0
-no_name name rest goes_on w s r p k g q said = g said.0
-no_name name rest quits w s r p k g q said = q said.0
+    → name ≢ codes "peek" → name ≢ codes "go" → name ≢ codes "lines" → name ≢ codes "verbose" → name ≢ codes "help" → name ≢ codes "quit"
+    → ¬ (SaysPlain name rest asked)
+no_name name rest (breaks number) w s r p k g l v h q said = said
+no_name name rest (watches number) w s r p k g l v h q said = w said.0
+no_name name rest (clears number) w s r p k g l v h q said = said
+no_name name rest (steps number) w s r p k g l v h q said = s said.0
+no_name name rest (shows number) w s r p k g l v h q said = r said.0
+no_name name rest (locates number) w s r p k g l v h q said = p said.0
+no_name name rest (peeks number count) w s r p k g l v h q said = k said.0
+no_name name rest (goes items) w s r p k g l v h q said = g said.0
+no_name name rest goes_on w s r p k g l v h q said = g said.0
+no_name name rest lists_lines w s r p k g l v h q said = l said.0
+no_name name rest (says_more on) w s r p k g l v h q said = v said.0
+no_name name rest helps w s r p k g l v h q said = h said.0
+no_name name rest quits w s r p k g l v h q said = q said.0
 
 -- a command of another name takes no address of an instruction
 pub plain_said : (code : KnownCode) (name rest : List ℕ) (asked : Asked) → SaysPlain name rest asked → SaysNamed code name rest asked

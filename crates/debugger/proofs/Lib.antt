@@ -8,5 +8,6 @@ pub mod Outcomes
 pub mod SessionPoints
 pub mod Runs
 pub mod Taking
+pub mod Tallies
 pub mod Texts
 pub mod Underway

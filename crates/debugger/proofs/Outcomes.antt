@@ -49,7 +49,7 @@ answered_none code old new line sink out =
     ([], record { outcome = Ok None; comes_out = out; goes_on = tt; answered = refl }, appends_none sink)
 
 answered_by : (code : KnownCode) (old new : SessionState) (line text : List ℕ) (outcome : LineOutcome) (goes_on : Bool) (s t : Option (List ℕ)) → goes_on ≡ true
-    → GoesOn outcome → text ≡ outcome_text code new.debugger.machine outcome → Appends s t text → ComesOut code old new line outcome
+    → GoesOn outcome → text ≡ outcome_text code new outcome → Appends s t text → ComesOut code old new line outcome
     → IsAnswered code old new line goes_on s t
 answered_by code old new line text outcome goes_on s t on goes said appends out =
     rw on (text, record { outcome = outcome; comes_out = out; goes_on = goes; answered = said }, appends)
@@ -63,13 +63,13 @@ goes_on_past faults.Memory other = absurd (other refl)
 goes_on_past fault other = tt
 
 pub answered_done : (code : KnownCode) (old new : SessionState) (line text : List ℕ) (answer : Answer) (goes_on : Bool) (s t : Option (List ℕ)) → goes_on ≡ true
-    → answer ≢ answers.Quit → text ≡ outcome_text code new.debugger.machine (Ok (Some answer)) → Appends s t text
+    → answer ≢ answers.Quit → text ≡ outcome_text code new (Ok (Some answer)) → Appends s t text
     → ComesOut code old new line (Ok (Some answer)) → IsAnswered code old new line goes_on s t
 answered_done code old new line text answer goes_on s t on other said appends out =
     answered_by code old new line text (Ok (Some answer)) goes_on s t on (goes_on_behind answer other) said appends out
 
 pub answered_refused : (code : KnownCode) (old new : SessionState) (line text : List ℕ) (fault : DebugFault) (goes_on : Bool) (s t : Option (List ℕ)) → goes_on ≡ true
-    → fault ≢ faults.Memory → text ≡ outcome_text code new.debugger.machine (Err fault) → Appends s t text
+    → fault ≢ faults.Memory → text ≡ outcome_text code new (Err fault) → Appends s t text
     → ComesOut code old new line (Err fault) → IsAnswered code old new line goes_on s t
 answered_refused code old new line text fault goes_on s t on other said appends out =
     answered_by code old new line text (Err fault) goes_on s t on (goes_on_past fault other) said appends out
@@ -92,13 +92,13 @@ lacks_all code old new line outcome s t fault same out = record {
   outcome = outcome;
   part = [];
   comes_out = out;
-  begun = (outcome_text code new.debugger.machine outcome, refl);
+  begun = (outcome_text code new outcome, refl);
   writes = rw same (appends_none s);
   none = λ want. refl;
 }
 
 -- a failed write leaves a front of what was to be said
-lacks_rest : (code : KnownCode) (old new : SessionState) (line text : List ℕ) (outcome : LineOutcome) (s t : Option (List ℕ)) → text ≡ outcome_text code new.debugger.machine outcome
+lacks_rest : (code : KnownCode) (old new : SessionState) (line text : List ℕ) (outcome : LineOutcome) (s t : Option (List ℕ)) → text ≡ outcome_text code new outcome
     → AppendsFront s t text → ComesOut code old new line outcome → LacksAnswer code old new line s t faults.InputOutput
 lacks_rest code old new line text outcome s t is begins out = record {
   outcome = outcome;
@@ -111,7 +111,7 @@ lacks_rest code old new line text outcome s t is begins out = record {
 
 -- an answer that isn't written
 pub says_part : {A E : Type 0} (code : KnownCode) (bytes : A → List ℕ) (old new : SessionState) (kind : Fit) (held : List ℕ) (outcome : LineOutcome) (text : Result A E)
-    (result : Result Bool DebugFault) (s t : Option (List ℕ)) (a b : ℕ) → IfOk text (λ said. bytes said ≡ outcome_text code new.debugger.machine outcome)
+    (result : Result Bool DebugFault) (s t : Option (List ℕ)) (a b : ℕ) → IfOk text (λ said. bytes said ≡ outcome_text code new outcome)
     → IfErr result (λ fault. fault ≡ faults.Memory → t ≡ s)
     → IfErr result (λ fault. fault ≡ faults.InputOutput → MatchResult text (λ said. AppendsFront s t (bytes said)) (λ _. ⊥))
     → IfErr result (FailsBy a b) → ((whole : List ℕ) → IsHeld kind held whole → ComesOut code old new whole outcome)

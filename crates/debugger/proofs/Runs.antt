@@ -44,7 +44,7 @@ stopped_run old new items from faults.Memory s = absurd s
 stopped_run old new items from faults.InputOutput s = absurd s
 
 stepped_run : (old new : DebuggerView) (hart : ℕ) (outcome : Outcome) → MakesStep old new hart outcome → SomeRun old.machine new.machine
-stepped_run old new hart (Ok (answers.Hart number state)) s = one_run old.machine new.machine _ s.3
+stepped_run old new hart (Ok (answers.Hart number before after)) s = one_run old.machine new.machine _ s.4
 stepped_run old new hart (Ok answer) s = absurd s
 stepped_run old new hart (Err fault) s = no_run old.machine new.machine (ap (λ (d : DebuggerView). d.machine) s.1)
 
@@ -91,8 +91,12 @@ command_run old new (commands.Watch address) outcome s = watched_run old.debugge
 command_run old new (commands.Clear address) outcome s = cleared_run old.debugger new.debugger address outcome s.0
 command_run old new (commands.Step hart) outcome s = stepped_run old.debugger new.debugger hart outcome s.0
 command_run old new (commands.Go items) outcome s = went_on_run old new (Some (at_start items)) outcome s
-command_run old new commands.GoOn outcome s = went_on_run old new old.last outcome s
+command_run old new commands.GoOn outcome s = went_on_run old new old.kept.last outcome s
 command_run old new (commands.Registers hart) outcome s = same_machine old new s.1
 command_run old new (commands.Where hart) outcome s = same_machine old new s.1
 command_run old new (commands.Peek address count) outcome s = same_machine old new s.1
+command_run old new commands.Lines outcome s = same_machine old new s.1
+command_run old new (commands.Verbose on) outcome s =
+    no_run old.debugger.machine new.debugger.machine (ap (λ (t : SessionState). t.debugger.machine) s.1)
+command_run old new commands.Help outcome s = same_machine old new s.1
 command_run old new commands.Quit outcome s = same_machine old new s.1

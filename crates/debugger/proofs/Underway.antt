@@ -12,13 +12,13 @@ use Rattle.debugger.specs.Reading.{IsHeld, IsOver, OverIf, ReadsLine, Takes, ahe
 use Rattle.debugger.specs.Sessions.{BreaksOff, Fails, IsInputEnd, IsLastLine, Session}
 use Rattle.debugger.specs.Dialogue.{IsAnswered, LacksAnswer, Turns, beginning, none, more}
 use Rattle.debugger.specs.declared.sessions.input.Input.{Input}
-use Rattle.debugger.specs.declared.sessions.effects.Progress.{Progress}
+use Rattle.debugger.specs.declared.sessions.effects.Kept.{Kept}
 use Rattle.debugger.specs.declared.sessions.input.ReadLine.{ReadLine}
 use Rattle.debugger.proofs.Ahead.{near_ahead}
 use Rattle.debugger.proofs.Taking.{takes_more, takes_none}
 
-abbrev pub state_of : DebuggerView → Option Progress → SessionState
-state_of debugger last = record { debugger = debugger; last = last }
+abbrev pub state_of : DebuggerView → Kept → SessionState
+state_of debugger kept = record { debugger = debugger; kept = kept }
 
 -- the sink has the answers to the lines that were taken
 pub record IsUnderway (code : KnownCode) (old : DebuggerView) (state : SessionState) (fresh input : Input) (source source_then sink sink_then : Option (List ℕ)) : Type 0 where
@@ -181,16 +181,16 @@ ended_by_input code old state after fresh input further s t u k l m read held em
     }
 
 -- it ends by the line that was answered last
-pub ended : (code : KnownCode) (old : DebuggerView) (state : SessionState) (debugger : DebuggerView) (last : Option Progress) (fresh input further : Input) (s t u k l m : Option (List ℕ))
+pub ended : (code : KnownCode) (old : DebuggerView) (state : SessionState) (debugger : DebuggerView) (kept : Kept) (fresh input further : Input) (s t u k l m : Option (List ℕ))
     (read : ReadLine) (held : List ℕ) (goes_on : Bool) → ahead_of fresh ≡ [] → fresh.left ≡ 4294967295
     → IsUnderway code old state fresh input s t k l → ReadsLine input further t u read held
-    → ((whole : List ℕ) → IsHeld read.fit held whole → IsAnswered code state (state_of debugger last) whole goes_on l m) → (goes_on ≡ false) ⊎ (read.is_last ≡ true)
+    → ((whole : List ℕ) → IsHeld read.fit held whole → IsAnswered code state (state_of debugger kept) whole goes_on l m) → (goes_on ≡ false) ⊎ (read.is_last ≡ true)
     → Session code old debugger s u k m
-ended code old state debugger last fresh input further s t u k l m read held false empty all so_far line answered e =
-    ended_by_quit code old state (state_of debugger last) fresh input further s t u k l m read held empty all so_far line (answered line.whole line.held)
-ended code old state debugger last fresh input further s t u k l m read held true empty all so_far line answered (inl e) = absurd (cc)
-ended code old state debugger last fresh input further s t u k l m read held true empty all so_far line answered (inr e) =
-    ended_by_input code old state (state_of debugger last) fresh input further s t u k l m read held empty all so_far line e (answered line.whole line.held)
+ended code old state debugger kept fresh input further s t u k l m read held false empty all so_far line answered e =
+    ended_by_quit code old state (state_of debugger kept) fresh input further s t u k l m read held empty all so_far line (answered line.whole line.held)
+ended code old state debugger kept fresh input further s t u k l m read held true empty all so_far line answered (inl e) = absurd (cc)
+ended code old state debugger kept fresh input further s t u k l m read held true empty all so_far line answered (inr e) =
+    ended_by_input code old state (state_of debugger kept) fresh input further s t u k l m read held empty all so_far line e (answered line.whole line.held)
 
 -- a session that is broken off while a line is read
 further_read : (fresh input : Input) (s t : Option (List ℕ)) (taken part : List ℕ) → ahead_of fresh ≡ []
@@ -213,19 +213,19 @@ unread code old state fresh input further s t u k l part empty all so_far takes 
   stands = inl (refl, refl);
 }
 
-pub failed_read : (code : KnownCode) (old debugger : DebuggerView) (last : Option Progress) (fresh input further : Input) (s t u k l : Option (List ℕ)) (n m a b : ℕ)
-    (fault : DebugFault) → ahead_of fresh ≡ [] → fresh.left ≡ 4294967295 → IsUnderway code old (state_of debugger last) fresh input s t k l
+pub failed_read : (code : KnownCode) (old debugger : DebuggerView) (kept : Kept) (fresh input further : Input) (s t u k l : Option (List ℕ)) (n m a b : ℕ)
+    (fault : DebugFault) → ahead_of fresh ≡ [] → fresh.left ≡ 4294967295 → IsUnderway code old (state_of debugger kept) fresh input s t k l
     → ((part : List ℕ) × Takes input further t u part) → FailsBy a b fault → Fails code old debugger s u k l n m fault
-failed_read code old debugger last fresh input further s t u k l n m a b faults.Memory empty all so_far takes by =
-    (so_far.answered, unread code old (state_of debugger last) fresh input further s t u k l takes.0 empty all so_far takes.1, so_far.writes)
-failed_read code old debugger last fresh input further s t u k l n m a b faults.InputOutput empty all so_far takes by = (
+failed_read code old debugger kept fresh input further s t u k l n m a b faults.Memory empty all so_far takes by =
+    (so_far.answered, unread code old (state_of debugger kept) fresh input further s t u k l takes.0 empty all so_far takes.1, so_far.writes)
+failed_read code old debugger kept fresh input further s t u k l n m a b faults.InputOutput empty all so_far takes by = (
   so_far.answered,
   [],
-  unread code old (state_of debugger last) fresh input further s t u k l takes.0 empty all so_far takes.1,
+  unread code old (state_of debugger kept) fresh input further s t u k l takes.0 empty all so_far takes.1,
   rw append-nil so_far.writes,
   inl refl,
 )
-failed_read code old debugger last fresh input further s t u k l n m a b fault empty all so_far takes by = absurd by
+failed_read code old debugger kept fresh input further s t u k l n m a b fault empty all so_far takes by = absurd by
 
 -- and while it is answered
 unanswered : (code : KnownCode) (old : DebuggerView) (state after : SessionState) (fresh input further : Input) (s t u k l m : Option (List ℕ))
@@ -255,26 +255,26 @@ unanswered code old state after fresh input further s t u k l m read held fault 
       });
     }
 
-pub failed_answer : (code : KnownCode) (old : DebuggerView) (state : SessionState) (debugger : DebuggerView) (last : Option Progress) (fresh input further : Input) (s t u k l m : Option (List ℕ)) (a b : ℕ)
+pub failed_answer : (code : KnownCode) (old : DebuggerView) (state : SessionState) (debugger : DebuggerView) (kept : Kept) (fresh input further : Input) (s t u k l m : Option (List ℕ)) (a b : ℕ)
     (read : ReadLine) (held : List ℕ) (fault : DebugFault) → ahead_of fresh ≡ [] → fresh.left ≡ 4294967295
     → IsUnderway code old state fresh input s t k l → ReadsLine input further t u read held
-    → ((whole : List ℕ) → IsHeld read.fit held whole → LacksAnswer code state (state_of debugger last) whole l m fault)
+    → ((whole : List ℕ) → IsHeld read.fit held whole → LacksAnswer code state (state_of debugger kept) whole l m fault)
     → FailsBy a b fault → Fails code old debugger s u k m a b fault
-failed_answer code old state debugger last fresh input further s t u k l m a b read held faults.Memory empty all so_far line out by =
+failed_answer code old state debugger kept fresh input further s t u k l m a b read held faults.Memory empty all so_far line out by =
     let lacks = out line.whole line.held in
     let none = lacks.none refl in
-    let broken = unanswered code old state (state_of debugger last) fresh input further s t u k l m read held faults.Memory empty all so_far line lacks in
+    let broken = unanswered code old state (state_of debugger kept) fresh input further s t u k l m read held faults.Memory empty all so_far line lacks in
     let writes = appends_more k l m so_far.answered lacks.part so_far.writes lacks.writes in
     (so_far.answered, rw none at broken, rw (none, append-nil) at writes)
-failed_answer code old state debugger last fresh input further s t u k l m a b read held faults.InputOutput empty all so_far line out by =
+failed_answer code old state debugger kept fresh input further s t u k l m a b read held faults.InputOutput empty all so_far line out by =
     let lacks = out line.whole line.held in (
       so_far.answered,
       lacks.part,
-      unanswered code old state (state_of debugger last) fresh input further s t u k l m read held faults.InputOutput empty all so_far line lacks,
+      unanswered code old state (state_of debugger kept) fresh input further s t u k l m read held faults.InputOutput empty all so_far line lacks,
       appends_more k l m so_far.answered lacks.part so_far.writes lacks.writes,
       inr by,
     )
-failed_answer code old state debugger last fresh input further s t u k l m a b read held fault empty all so_far line out by = absurd by
+failed_answer code old state debugger kept fresh input further s t u k l m a b read held fault empty all so_far line out by = absurd by
 
 -- why the session ends by a line that wasn't read, and by one that wasn't answered
 pub ends_by_read : (s t u k l : ℕ) (fault : DebugFault) → FailsBy t u fault → t ≡ s → l ≡ k → EndsBy s u k l fault

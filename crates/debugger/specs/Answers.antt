@@ -1,5 +1,5 @@
 -- The text that answers a line.
-use Rattle.std.specs.Prelude.{ℕ, ◌+◌, ◌/◌, ◌%◌, ◌++◌, ◌∷◌, List, [], Option, Some, None, Result, Ok, Err, codes, decimal, if◌then◌else◌, ◌==◌}
+use Rattle.std.specs.Prelude.{ℕ, ◌+◌, ◌/◌, ◌%◌, ◌++◌, ◌∷◌, Bool, List, [], Option, Some, None, Result, Ok, Err, codes, decimal, if◌then◌else◌, slice_get, ◌==◌}
 use Rattle.std.specs.List.{flat_map, range_with_len}
 use Rattle.hart.specs.Registers.{register}
 use Rattle.hart.specs.declared.state.HartState.{HartState}
@@ -10,7 +10,9 @@ use Rattle.debugger.specs.declared.stop.Cause.{Cause}
 use Rattle.debugger.specs.declared.stop.Cause.TheVariants as causes
 use Rattle.debugger.specs.Code.{KnownCode, plain_place}
 use Rattle.debugger.specs.Codes.{code}
-use Rattle.debugger.specs.CommandEffects.{byte_at}
+use Rattle.debugger.specs.CommandEffects.{SessionState, byte_at}
+use Rattle.debugger.specs.Help.{help_text}
+use Rattle.debugger.specs.LinesAtRisk.{lines_text}
 use Rattle.debugger.specs.declared.sessions.effects.Answer.{Answer}
 use Rattle.debugger.specs.declared.sessions.effects.Answer.TheVariants as answers
 
@@ -70,14 +72,45 @@ bytes_text machine address count =
 -- what a command that was carried out is answered with
 abbrev pub answer_text : KnownCode → MachineView → Answer → List ℕ
 answer_text known machine answers.Done = line_of (codes "ok")
-answer_text known machine (answers.Hart hart state) = hart_text hart state
+answer_text known machine (answers.Hart hart before after) = hart_text hart after
 answer_text known machine (answers.Stop cause) = stop_text known cause
 answer_text known machine (answers.Registers state) = state_text state
 answer_text known machine (answers.Where hart pc) = line_of (hart_place hart (known.place pc))
 answer_text known machine (answers.Bytes address count) = bytes_text machine address count
+answer_text known machine answers.Lines = lines_text machine.shared.trace
+answer_text known machine answers.Help = help_text
 answer_text known machine answers.Quit = []
 
+-- where a hart of the machine is
+abbrev pub hart_where : KnownCode → ℕ → HartState → List ℕ
+hart_where known hart state = line_of (hart_place hart (known.place state.pc))
+
+abbrev pub machine_where : KnownCode → MachineView → ℕ → List ℕ
+machine_where known machine hart = text_of (hart_where known hart) (slice_get machine.harts hart)
+
+-- `xN=0xH` of a register that has changed
+abbrev pub changed_register : HartState → HartState → ℕ → List ℕ
+changed_register before after number =
+    if register before.registers number == register after.registers number then []
+    else register_line number (register after.registers number)
+
+-- those of the first registers
+unfoldable pub changed_text : HartState → HartState → ℕ → List ℕ
+changed_text before after registers = flat_map (changed_register before after) (range_with_len 0 registers)
+
+-- what is said behind an answer with `verbose on`: where the hart of a step or of a stop is, and what the step has changed
+abbrev pub further_text : KnownCode → MachineView → Answer → List ℕ
+further_text known machine (answers.Hart hart before after) = hart_where known hart after ++ changed_text before after 32
+further_text known machine (answers.Stop (causes.Break hart pc)) = machine_where known machine hart
+further_text known machine (answers.Stop (causes.Watch hart line)) = machine_where known machine hart
+further_text known machine answer = []
+
+-- an answer with what is said behind it
+abbrev pub told_text : Bool → KnownCode → MachineView → Answer → List ℕ
+told_text verbose known machine answer =
+    answer_text known machine answer ++ (if verbose then further_text known machine answer else [])
+
 -- what a line is answered with; nothing where it has no words
-abbrev pub outcome_text : KnownCode → MachineView → Result (Option Answer) DebugFault → List ℕ
-outcome_text known machine (Ok found) = text_of (answer_text known machine) found
-outcome_text known machine (Err fault) = fault_text fault
+abbrev pub outcome_text : KnownCode → SessionState → Result (Option Answer) DebugFault → List ℕ
+outcome_text known state (Ok found) = text_of (told_text state.kept.verbose known state.debugger.machine) found
+outcome_text known state (Err fault) = fault_text fault

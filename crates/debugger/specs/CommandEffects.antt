@@ -15,14 +15,15 @@ use Rattle.debugger.specs.declared.points.Point.{Point}
 use Rattle.machine.specs.declared.schedule.place.Place.{Place}
 use Rattle.debugger.specs.declared.sessions.effects.Answer.{Answer}
 use Rattle.debugger.specs.declared.sessions.effects.Answer.TheVariants as answers
+use Rattle.debugger.specs.declared.sessions.effects.Kept.{Kept}
 use Rattle.debugger.specs.declared.sessions.effects.Progress.{Progress}
 use Rattle.debugger.specs.declared.sessions.command.Command.{Command}
 use Rattle.debugger.specs.declared.sessions.command.Command.TheVariants as commands
 
--- what a session holds between two lines: the debugger, and the last schedule with its place
+-- what a session holds between two lines: the debugger, the last schedule with its place, and whether it says more
 pub record SessionState : Type 0 where
   pub debugger : DebuggerView
-  pub last : Option Progress
+  pub kept : Kept
 
 abbrev pub Outcome : Type 0
 Outcome = Result Answer DebugFault
@@ -59,8 +60,9 @@ Clears old new address outcome = ⊥
 
 -- `step H`: one step of the hart, whatever points are set
 abbrev pub MakesStep : DebuggerView → DebuggerView → ℕ → Outcome → Type 0
-MakesStep old new hart (Ok (answers.Hart number state)) =
-    (number ≡ hart) × (slice_get new.machine.harts hart ≡ Some state) × (new.points ≡ old.points) × Runs old.machine new.machine (steps.Hart hart ∷ [])
+MakesStep old new hart (Ok (answers.Hart number before after)) = (number ≡ hart)
+    × (slice_get old.machine.harts hart ≡ Some before) × (slice_get new.machine.harts hart ≡ Some after)
+    × (new.points ≡ old.points) × Runs old.machine new.machine (steps.Hart hart ∷ [])
 MakesStep old new hart (Ok answer) = ⊥
 MakesStep old new hart (Err fault) = RefusesStep old.machine (steps.Hart hart) fault × (new ≡ old)
 
@@ -73,14 +75,14 @@ Goes old new items from reached (Err (faults.Stopped place fault)) =
 Goes old new items from reached (Err fault) = ⊥
 
 -- a schedule stays the last one, and keeps the place that is reached
-abbrev pub GoesOnFrom : DebuggerView → SessionState → Progress → Outcome → Type 0
+abbrev pub GoesOnFrom : SessionState → SessionState → Progress → Outcome → Type 0
 GoesOnFrom old new from outcome =
-    (reached : Place) × (new.last ≡ Some (record from { place = reached })) × Goes old new.debugger from.schedule from.place reached outcome
+    (reached : Place) × (new.kept ≡ record old.kept { last = Some (record from { place = reached }) }) × Goes old.debugger new.debugger from.schedule from.place reached outcome
 
 -- without a schedule there is nothing to go on by
 abbrev pub GoesOnBy : SessionState → SessionState → Option Progress → Outcome → Type 0
 GoesOnBy old new None outcome = (outcome ≡ Err faults.Command) × (new ≡ old)
-GoesOnBy old new (Some progress) outcome = GoesOnFrom old.debugger new progress outcome
+GoesOnBy old new (Some progress) outcome = GoesOnFrom old new progress outcome
 
 -- a schedule at its start
 abbrev pub at_start : List Item → Progress
@@ -111,15 +113,18 @@ ShowsBytes machine address count (Err faults.Address) =
     (place : ℕ) × (place < count) × (byte_at machine (address + place) ≡ None)
 ShowsBytes machine address count outcome = ⊥
 
--- what a command does; but for `go`, the last schedule stays with its place
+-- what a command does; but for `go`, the last schedule stays with its place, and but for `verbose` how much is said
 abbrev pub Does : SessionState → SessionState → Command → Outcome → Type 0
-Does old new (commands.Break address) outcome = Breaks old.debugger new.debugger address outcome × (new.last ≡ old.last)
-Does old new (commands.Watch address) outcome = Watches old.debugger new.debugger address outcome × (new.last ≡ old.last)
-Does old new (commands.Clear address) outcome = Clears old.debugger new.debugger address outcome × (new.last ≡ old.last)
-Does old new (commands.Step hart) outcome = MakesStep old.debugger new.debugger hart outcome × (new.last ≡ old.last)
-Does old new (commands.Go items) outcome = GoesOnFrom old.debugger new (at_start items) outcome
-Does old new commands.GoOn outcome = GoesOnBy old new old.last outcome
+Does old new (commands.Break address) outcome = Breaks old.debugger new.debugger address outcome × (new.kept ≡ old.kept)
+Does old new (commands.Watch address) outcome = Watches old.debugger new.debugger address outcome × (new.kept ≡ old.kept)
+Does old new (commands.Clear address) outcome = Clears old.debugger new.debugger address outcome × (new.kept ≡ old.kept)
+Does old new (commands.Step hart) outcome = MakesStep old.debugger new.debugger hart outcome × (new.kept ≡ old.kept)
+Does old new (commands.Go items) outcome = GoesOnFrom old new (at_start items) outcome
+Does old new commands.GoOn outcome = GoesOnBy old new old.kept.last outcome
 Does old new (commands.Registers hart) outcome = ShowsHart old.debugger.machine hart outcome × (new ≡ old)
 Does old new (commands.Where hart) outcome = ShowsPlace old.debugger.machine hart outcome × (new ≡ old)
 Does old new (commands.Peek address count) outcome = ShowsBytes old.debugger.machine address count outcome × (new ≡ old)
+Does old new commands.Lines outcome = (outcome ≡ Ok answers.Lines) × (new ≡ old)
+Does old new (commands.Verbose on) outcome = (outcome ≡ Ok answers.Done) × (new ≡ record old { kept = record old.kept { verbose = on } })
+Does old new commands.Help outcome = (outcome ≡ Ok answers.Help) × (new ≡ old)
 Does old new commands.Quit outcome = (outcome ≡ Ok answers.Quit) × (new ≡ old)

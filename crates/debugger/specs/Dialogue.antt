@@ -53,7 +53,7 @@ pub record Turn (code : KnownCode) (old new : SessionState) (line answer : List 
   pub outcome : LineOutcome
   pub comes_out : ComesOut code old new line outcome
   pub goes_on : GoesOn outcome
-  pub answered : answer ≡ outcome_text code new.debugger.machine outcome
+  pub answered : answer ≡ outcome_text code new outcome
 
 -- the line says `quit`, and is answered by nothing
 abbrev pub Quits : KnownCode → SessionState → SessionState → List ℕ → Type 0
@@ -69,7 +69,7 @@ pub record LacksAnswer (code : KnownCode) (old new : SessionState) (line : List 
   pub outcome : LineOutcome
   pub part : List ℕ
   pub comes_out : ComesOut code old new line outcome
-  pub begun : BeginsWith part (outcome_text code new.debugger.machine outcome)
+  pub begun : BeginsWith part (outcome_text code new outcome)
   pub writes : Appends sink sink_then part
   pub none : fault ≡ faults.Memory → part ≡ []
 
@@ -83,6 +83,6 @@ pub data Turns (code : KnownCode) : SessionState → SessionState → List ℕ �
   more : (old middle new : SessionState) (taken answered line answer : List ℕ) → Turns code old middle taken answered
       → IsLine line → Turn code middle new line answer → Turns code old new (taken ++ (line ++ 10 ∷ [])) (answered ++ answer)
 
--- a session begins without a schedule
+-- a session begins without a schedule, and says no more than it is asked
 abbrev pub beginning : DebuggerView → SessionState
-beginning debugger = record { debugger = debugger; last = None }
+beginning debugger = record { debugger = debugger; kept = record { last = None; verbose = false } }

@@ -1,5 +1,5 @@
 -- The commands of lines: the first word is a command's name, and what follows it is what the command takes.
-use Rattle.std.specs.Prelude.{◌≡◌, ◌≢◌, ◌≤◌, ◌<◌, ◌^◌, ◌⊎◌, ℕ, true, false, List, [], ◌∷◌, codes, ⊤}
+use Rattle.std.specs.Prelude.{◌≡◌, ◌≢◌, ◌≤◌, ◌<◌, ◌^◌, ◌⊎◌, ℕ, Bool, true, false, List, [], ◌∷◌, codes, ⊤}
 use Rattle.debugger.specs.Code.{KnownCode}
 use Rattle.debugger.specs.Points.{can_break}
 use Rattle.debugger.specs.declared.fault.DebugFault.{DebugFault}
@@ -26,6 +26,9 @@ pub data Asked : Type 0 where
   peeks : Number → ℕ → Asked
   goes : List Item → Asked
   goes_on : Asked
+  lists_lines : Asked
+  says_more : Bool → Asked
+  helps : Asked
   quits : Asked
 
 -- the words are one address, and one number of a hart
@@ -72,7 +75,12 @@ pub record IsRange (parts : List (List ℕ)) (number : Number) (count : ℕ) : T
   pub least : 1 ≤ count
   pub most : count ≤ 64
 
--- `watch A`, `step H`, `regs H`, `where H`, `peek A N`, `go ITEMS`, `go` and `quit`
+-- the words are `on`, or `off`
+abbrev pub IsSwitch : List (List ℕ) → Bool → Type 0
+IsSwitch parts true = parts ≡ codes "on" ∷ []
+IsSwitch parts false = parts ≡ codes "off" ∷ []
+
+-- `watch A`, `step H`, `regs H`, `where H`, `peek A N`, `go ITEMS`, `go`, `lines`, `verbose on`, `verbose off`, `help` and `quit`
 abbrev pub SaysPlain : List ℕ → List ℕ → Asked → Type 0
 SaysPlain name rest (breaks number) = ⊥
 SaysPlain name rest (watches number) = (name ≡ codes "watch") × IsOneAddress (words rest) number
@@ -83,6 +91,9 @@ SaysPlain name rest (locates number) = (name ≡ codes "where") × IsOneHart (wo
 SaysPlain name rest (peeks number count) = (name ≡ codes "peek") × IsRange (words rest) number count
 SaysPlain name rest (goes items) = (name ≡ codes "go") × (words rest ≢ []) × IsSchedule rest items
 SaysPlain name rest goes_on = (name ≡ codes "go") × (words rest ≡ [])
+SaysPlain name rest lists_lines = (name ≡ codes "lines") × (words rest ≡ [])
+SaysPlain name rest (says_more on) = (name ≡ codes "verbose") × IsSwitch (words rest) on
+SaysPlain name rest helps = (name ≡ codes "help") × (words rest ≡ [])
 SaysPlain name rest quits = (name ≡ codes "quit") × (words rest ≡ [])
 
 -- these, `break A` and `clear A`
@@ -105,6 +116,9 @@ meant commands.GoOn = goes_on
 meant (commands.Registers hart) = shows (Small hart)
 meant (commands.Where hart) = locates (Small hart)
 meant (commands.Peek address count) = peeks (Small address) count
+meant commands.Lines = lists_lines
+meant (commands.Verbose on) = says_more on
+meant commands.Help = helps
 meant commands.Quit = quits
 
 -- an address past 64 bits, and a name of none, are that of no point and of no byte

@@ -9,6 +9,8 @@ pub mod Codes
 pub mod CommandEffects
 pub mod Dialogue
 pub mod Grammar
+pub mod Help
+pub mod LinesAtRisk
 pub mod Reading
 pub mod Running
 pub mod Sessions

@@ -74,7 +74,7 @@ pub record IsUnanswered (code : KnownCode) (before : SessionState) (new : Debugg
   pub outcome : LineOutcome
   pub after : SessionState
   pub comes_out : ComesOut code before after line outcome
-  pub begun : BeginsWith part (outcome_text code after.debugger.machine outcome)
+  pub begun : BeginsWith part (outcome_text code after outcome)
   pub debugger : after.debugger ≡ new
 
 -- a session that is broken off: lines were answered, and of the answer to the next one this part was written; the debugger stands as

@@ -15,6 +15,7 @@ use arrayvec::ArrayVec;
 use hart::HartState;
 use machine::{Machine, Outcome, Step, StepFault};
 use std::marker::Model;
+use store_trace::Event;
 
 /// A machine, and the points at which it is to stop. It writes nothing into the machine's memory.
 #[derive(Drop)]
@@ -142,6 +143,14 @@ impl Debugger {
         ensures { result ≡ memory_of self.now.machine.shared address }
     {
         self.machine.peek(address)
+    }
+
+    /// The machine's events so far, the oldest first.
+    pub(crate) fn events(&self) -> &[Event]
+        ensures value { result.now ≡ self.now.machine.shared.trace }
+        ensures limit { length self.now.machine.shared.trace ≤ 65536 }
+    {
+        self.machine.events()
     }
 
     pub(crate) fn has_break(&self, address: u64) -> bool

@@ -4,8 +4,10 @@ mod answers;
 mod command;
 mod dialogue;
 mod effects;
+mod help;
 mod input;
 mod line_reader;
+mod lines_at_risk;
 
 pub use dialogue::{session, session_of};
 pub use input::{Failed, Sink, Source};

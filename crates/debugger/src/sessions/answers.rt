@@ -1,10 +1,12 @@
 //! The text that answers a command.
 
-ghost use Rattle.std.specs.Prelude.{◌≡◌, ◌++◌, IfOk, OnOk, codes, string_bytes};
-ghost use Rattle.debugger.specs.Answers.{answer_text, bytes_text, fault_text, hart_place, hart_text, line_of, parted_byte, register_line, state_text, stop_place, stop_text};
+ghost use Rattle.std.specs.Prelude.{◌≡◌, ◌<◌, ◌++◌, IfOk, OnOk, codes, string_bytes};
+ghost use Rattle.debugger.specs.Answers.{answer_text, bytes_text, changed_register, changed_text, fault_text, further_text, hart_place, hart_text, hart_where, line_of, machine_where, parted_byte, register_line, state_text, stop_place, stop_text, told_text};
 
 use crate::code::plain_place;
 use crate::sessions::effects::{Answer, byte_at};
+use crate::sessions::help::help_text;
+use crate::sessions::lines_at_risk::lines_text;
 use crate::{Cause, Code, DebugFault, Debugger};
 use hart::{HartLine, HartState};
 use isa_table::Reg;
@@ -22,13 +24,104 @@ pub(crate) fn answer_text<C: Code>(
 {
     match answer {
         Answer::Done => String::from_str(alloc, "ok\n"),
-        Answer::Hart(hart, state) => hart_text(alloc, hart, state),
+        Answer::Hart { hart, after, .. } => hart_text(alloc, hart, after),
         Answer::Stop(cause) => stop_text(alloc, code, cause),
         Answer::Registers(state) => state_text(alloc, &state),
         Answer::Where { hart, pc } => where_text(alloc, code, hart, pc),
         Answer::Bytes { address, count } => bytes_text(alloc, debugger, address, count),
+        Answer::Lines => lines_text(alloc, debugger.events()),
+        Answer::Help => help_text(alloc),
         Answer::Quit => Ok(String::new(alloc)),
     }
+}
+
+/// An answer, with `verbose on` with what is said behind it.
+pub(crate) fn told_text<C: Code>(
+    alloc: Global,
+    code: &C,
+    debugger: &Debugger,
+    verbose: bool,
+    answer: Answer,
+) -> Result<String, AllocError>
+    ensures { IfOk result (λ text. string_bytes text ≡ told_text verbose (C.known code.now) debugger.now.machine answer) }
+{
+    let mut text = answer_text(alloc, code, debugger, answer)?;
+    if verbose {
+        text.push_str(further_text(alloc, code, debugger, answer)?.as_str())?;
+    }
+    Ok(text)
+}
+
+/// Where the hart of a step or of a stop is, and what the step has changed.
+fn further_text<C: Code>(
+    alloc: Global,
+    code: &C,
+    debugger: &Debugger,
+    answer: Answer,
+) -> Result<String, AllocError>
+    ensures { IfOk result (λ text. string_bytes text ≡ further_text (C.known code.now) debugger.now.machine answer) }
+{
+    match answer {
+        Answer::Hart {
+            hart,
+            before,
+            after,
+        } => step_text(alloc, code, hart, &before, &after),
+        Answer::Stop(Cause::Break { hart, .. } | Cause::Watch { hart, .. }) => {
+            machine_where(alloc, code, debugger, hart)
+        }
+        _ => Ok(String::new(alloc)),
+    }
+}
+
+/// Where a hart of the machine is.
+fn machine_where<C: Code>(
+    alloc: Global,
+    code: &C,
+    debugger: &Debugger,
+    hart: u32,
+) -> Result<String, AllocError>
+    ensures { IfOk result (λ text. string_bytes text ≡ machine_where (C.known code.now) debugger.now.machine hart) }
+{
+    match debugger.regs(hart) {
+        Ok(state) => where_text(alloc, code, hart, state.pc),
+        Err(_) => Ok(String::new(alloc)),
+    }
+}
+
+/// Where a hart is after a step, and the registers that the step has changed.
+fn step_text<C: Code>(
+    alloc: Global,
+    code: &C,
+    hart: u32,
+    before: &HartState,
+    after: &HartState,
+) -> Result<String, AllocError>
+    ensures { IfOk result (λ text. string_bytes text
+        ≡ hart_where (C.known code.now) hart after.now ++ changed_text before.now after.now 32) }
+{
+    let mut text = where_text(alloc, code, hart, after.pc)?;
+    for number in 0..32 {
+        push_changed(&mut text, before, after, number)?;
+    }
+    Ok(text)
+}
+
+/// Adds a register where it has changed.
+fn push_changed(
+    text: &mut String,
+    before: &HartState,
+    after: &HartState,
+    number: u8,
+) -> Result<(), AllocError>
+    requires { number < 32 }
+    ensures { OnOk result (string_bytes text.new ≡ string_bytes text.old ++ changed_register before.now after.now number) }
+{
+    let value = after.registers.get(Reg { number });
+    if before.registers.get(Reg { number }) == value {
+        return Ok(());
+    }
+    push_register(text, number, value)
 }
 
 /// `fault CODE`.

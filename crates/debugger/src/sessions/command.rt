@@ -39,6 +39,12 @@ pub(crate) enum Command {
     Where(u32),
     /// `peek A N`: show from 1 to 64 bytes.
     Peek { address: u64, count: u64 },
+    /// `lines`: show the cache lines of which a power cut may lose stores.
+    Lines,
+    /// `verbose on`, `verbose off`: say more of stops and steps, or no more.
+    Verbose(bool),
+    /// `help`: list the commands.
+    Help,
     /// `quit`.
     Quit,
 }
@@ -107,6 +113,12 @@ fn plain_command(alloc: Global, name: &[u8], rest: &[u8]) -> Result<Command, Deb
         peek_command(rest)
     } else if name == b"go".as_slice() {
         go_command(alloc, rest)
+    } else if name == b"lines".as_slice() {
+        lines_command(rest)
+    } else if name == b"verbose".as_slice() {
+        verbose_command(rest)
+    } else if name == b"help".as_slice() {
+        help_command(rest)
     } else if name == b"quit".as_slice() {
         quit_command(rest)
     } else {
@@ -205,6 +217,47 @@ fn go_command(alloc: Global, rest: &[u8]) -> Result<Command, DebugFault>
         Ok(schedule) => Ok(Command::Go(schedule)),
         Err(ScheduleFault::Text) => Err(DebugFault::Command),
         Err(ScheduleFault::Memory) => Err(DebugFault::Memory),
+    }
+}
+
+#[tactic(auto, using(crate::proofs::Commands::lines_none))]
+fn lines_command(rest: &[u8]) -> Result<Command, DebugFault>
+    ensures ok { IfOk result (λ command. SaysPlain (codes "lines") rest.now (meant command)) }
+    ensures err { IfErr result (OnAsked (SaysPlain (codes "lines") rest.now)) }
+{
+    if is_blank(rest) {
+        Ok(Command::Lines)
+    } else {
+        Err(DebugFault::Command)
+    }
+}
+
+#[tactic(auto, using(crate::proofs::Commands::no_switch_word, crate::proofs::Commands::no_switch, crate::proofs::Commands::verbose_none))]
+fn verbose_command(rest: &[u8]) -> Result<Command, DebugFault>
+    ensures ok { IfOk result (λ command. SaysPlain (codes "verbose") rest.now (meant command)) }
+    ensures err { IfErr result (OnAsked (SaysPlain (codes "verbose") rest.now)) }
+{
+    let Some(word) = only_word(rest) else {
+        return Err(DebugFault::Command);
+    };
+    if word == b"on".as_slice() {
+        Ok(Command::Verbose(true))
+    } else if word == b"off".as_slice() {
+        Ok(Command::Verbose(false))
+    } else {
+        Err(DebugFault::Command)
+    }
+}
+
+#[tactic(auto, using(crate::proofs::Commands::help_none))]
+fn help_command(rest: &[u8]) -> Result<Command, DebugFault>
+    ensures ok { IfOk result (λ command. SaysPlain (codes "help") rest.now (meant command)) }
+    ensures err { IfErr result (OnAsked (SaysPlain (codes "help") rest.now)) }
+{
+    if is_blank(rest) {
+        Ok(Command::Help)
+    } else {
+        Err(DebugFault::Command)
     }
 }
 

@@ -9,9 +9,9 @@ ghost use Rattle.debugger.specs.Running.{SomeRun};
 ghost use Rattle.debugger.specs.Sessions.{Fails, Session};
 ghost use Rattle.debugger.specs.Dialogue.{ComesOut, IsAnswered, LacksAnswer};
 
-use crate::sessions::answers::{answer_text, fault_text};
+use crate::sessions::answers::{fault_text, told_text};
 use crate::sessions::command::read_command;
-use crate::sessions::effects::{Answer, Progress, carry_out};
+use crate::sessions::effects::{Answer, Kept, carry_out};
 use crate::sessions::input::{Failed, Fit, Input, Sink, Source};
 use crate::{Code, DebugFault, Debugger, UnknownCode};
 use std::alloc::{AllocError, Global};
@@ -65,7 +65,10 @@ pub fn session_of<C: Code, S: Source, K: Sink>(
 {
     let mut input = Input::new();
     let mut line = Vec::new(alloc);
-    let mut last = None;
+    let mut kept = Kept {
+        last: None,
+        verbose: false,
+    };
     'lines: loop {
         let read = match input.read_line(source, &mut line) {
             Ok(read) => read,
@@ -75,7 +78,7 @@ pub fn session_of<C: Code, S: Source, K: Sink>(
             fit: read.fit,
             bytes: &line,
         };
-        match answer_line(alloc, code, debugger, &mut last, held, sink) {
+        match answer_line(alloc, code, debugger, &mut kept, held, sink) {
             Ok(goes_on) => {
                 if !goes_on || read.is_last {
                     return Ok(());
@@ -98,25 +101,27 @@ fn answer_line<C: Code, K: Sink>(
     alloc: Global,
     code: &C,
     debugger: &mut Debugger,
-    last: &mut Option<Progress>,
+    kept: &mut Kept,
     line: HeldLine<'_>,
     sink: &mut K,
 ) -> Result<bool, DebugFault>
     ensures runs { SomeRun debugger.old.machine debugger.new.machine }
     ensures same { K.name_of sink.new ≡ K.name_of sink.old }
     ensures answered { IfOk result (λ goes_on. (whole : List ℕ) → IsHeld line.entry.fit line.entry.bytes.now whole
-        → IsAnswered (C.known code.now) (record { debugger = debugger.old; last = last.old }) (record { debugger = debugger.new; last = last.new })
+        → IsAnswered (C.known code.now) (record { debugger = debugger.old; kept = kept.old }) (record { debugger = debugger.new; kept = kept.new })
         whole goes_on (K.contents_of sink.old) (K.contents_of sink.new)) }
     ensures unanswered { IfErr result (λ fault. (whole : List ℕ) → IsHeld line.entry.fit line.entry.bytes.now whole
-        → LacksAnswer (C.known code.now) (record { debugger = debugger.old; last = last.old }) (record { debugger = debugger.new; last = last.new })
+        → LacksAnswer (C.known code.now) (record { debugger = debugger.old; kept = kept.old }) (record { debugger = debugger.new; kept = kept.new })
         whole (K.contents_of sink.old) (K.contents_of sink.new) fault) }
     ensures ok { OnOk result (K.failures_of sink.new ≡ K.failures_of sink.old) }
     ensures err { IfErr result (FailsBy (K.failures_of sink.old) (K.failures_of sink.new)) }
 {
-    match carried(alloc, code, debugger, last, line) {
+    match carried(alloc, code, debugger, kept, line) {
         Ok(None) => Ok(true),
         Ok(Some(Answer::Quit)) => Ok(false),
-        Ok(Some(answer)) => write_answer(answer_text(alloc, code, debugger, answer), sink),
+        Ok(Some(answer)) => {
+            write_answer(told_text(alloc, code, debugger, kept.verbose, answer), sink)
+        },
         Err(DebugFault::Memory) => Err(DebugFault::Memory),
         Err(fault) => write_answer(fault_text(alloc, fault), sink),
     }
@@ -127,19 +132,19 @@ fn carried<C: Code>(
     alloc: Global,
     code: &C,
     debugger: &mut Debugger,
-    last: &mut Option<Progress>,
+    kept: &mut Kept,
     line: HeldLine<'_>,
 ) -> Result<Option<Answer>, DebugFault>
     ensures runs { SomeRun debugger.old.machine debugger.new.machine }
     ensures comes_out { (whole : List ℕ) → IsHeld line.entry.fit line.entry.bytes.now whole
-        → ComesOut (C.known code.now) (record { debugger = debugger.old; last = last.old }) (record { debugger = debugger.new; last = last.new })
+        → ComesOut (C.known code.now) (record { debugger = debugger.old; kept = kept.old }) (record { debugger = debugger.new; kept = kept.new })
         whole result }
 {
     match line.fit {
         Fit::TooLong => Err(DebugFault::Command),
         Fit::Whole => match read_command(alloc, code, line.bytes) {
             Ok(None) => Ok(None),
-            Ok(Some(command)) => match carry_out(debugger, last, command) {
+            Ok(Some(command)) => match carry_out(debugger, kept, command) {
                 Ok(answer) => Ok(Some(answer)),
                 Err(fault) => Err(fault),
             },

@@ -15,19 +15,42 @@ pub(crate) struct Progress {
     pub(crate) place: Place,
 }
 
+/// What a session keeps from line to line, beside the debugger.
+#[derive(Drop)]
+pub(crate) struct Kept {
+    /// The last schedule, where there is one.
+    pub(crate) last: Option<Progress>,
+    /// Whether a stop is answered with where its hart is, and a step with that and what it changed.
+    pub(crate) verbose: bool,
+}
+
 /// What a command that was carried out is answered with.
 #[derive(Clone, Copy)]
 pub(crate) enum Answer {
     Done,
-    /// The line of this hart, which is in this state.
-    Hart(u32, HartState),
+    /// The line of this hart, which a step has brought from one state to the other.
+    Hart {
+        hart: u32,
+        before: HartState,
+        after: HartState,
+    },
     Stop(Cause),
     /// The pc and the registers of a hart in this state.
     Registers(HartState),
     /// Where this hart is.
-    Where { hart: u32, pc: u64 },
+    Where {
+        hart: u32,
+        pc: u64,
+    },
     /// The bytes from this address on.
-    Bytes { address: u64, count: u64 },
+    Bytes {
+        address: u64,
+        count: u64,
+    },
+    /// The cache lines of which a power cut may lose stores.
+    Lines,
+    /// The list of commands.
+    Help,
     /// Nothing: no further command is read.
     Quit,
 }
@@ -36,12 +59,12 @@ pub(crate) enum Answer {
 #[tactic(auto, using(crate::proofs::Runs::command_run))]
 pub(crate) fn carry_out(
     debugger: &mut Debugger,
-    last: &mut Option<Progress>,
+    kept: &mut Kept,
     command: Command,
 ) -> Result<Answer, DebugFault>
     ensures runs { SomeRun debugger.old.machine debugger.new.machine }
-    ensures does { Does (record { debugger = debugger.old; last = last.old })
-        (record { debugger = debugger.new; last = last.new }) command result }
+    ensures does { Does (record { debugger = debugger.old; kept = kept.old })
+        (record { debugger = debugger.new; kept = kept.new }) command result }
 {
     match command {
         Command::Break(address) => break_at(debugger, address),
@@ -50,13 +73,19 @@ pub(crate) fn carry_out(
         Command::Step(hart) => step(debugger, hart),
         Command::Go(schedule) => {
             let place = Place::start();
-            *last = Some(Progress { schedule, place });
-            go_on(debugger, last)
+            kept.last = Some(Progress { schedule, place });
+            go_on(debugger, kept)
         }
-        Command::GoOn => go_on(debugger, last),
+        Command::GoOn => go_on(debugger, kept),
         Command::Registers(hart) => registers(debugger, hart),
         Command::Where(hart) => place(debugger, hart),
         Command::Peek { address, count } => peek(debugger, address, count),
+        Command::Lines => Ok(Answer::Lines),
+        Command::Verbose(on) => {
+            kept.verbose = on;
+            Ok(Answer::Done)
+        }
+        Command::Help => Ok(Answer::Help),
         Command::Quit => Ok(Answer::Quit),
     }
 }
@@ -94,11 +123,19 @@ fn clear(debugger: &mut Debugger, address: u64) -> Result<Answer, DebugFault>
 fn step(debugger: &mut Debugger, hart: u32) -> Result<Answer, DebugFault>
     ensures { MakesStep debugger.old debugger.new hart result }
 {
+    let before = match debugger.regs(hart) {
+        Ok(state) => *state,
+        Err(fault) => return Err(fault),
+    };
     if let Err(fault) = debugger.step(hart) {
         return Err(fault);
     }
     match debugger.regs(hart) {
-        Ok(state) => Ok(Answer::Hart(hart, *state)),
+        Ok(state) => Ok(Answer::Hart {
+            hart,
+            before,
+            after: *state,
+        }),
         // A step of a hart that isn't there is refused.
         Err(_) => unreachable!(),
     }
@@ -124,11 +161,11 @@ fn place(debugger: &Debugger, hart: u32) -> Result<Answer, DebugFault>
 }
 
 /// Goes on by the last schedule, which keeps the place that is reached: a step that was refused is the next one.
-fn go_on(debugger: &mut Debugger, last: &mut Option<Progress>) -> Result<Answer, DebugFault>
-    ensures { GoesOnBy (record { debugger = debugger.old; last = last.old })
-        (record { debugger = debugger.new; last = last.new }) last.old result }
+fn go_on(debugger: &mut Debugger, kept: &mut Kept) -> Result<Answer, DebugFault>
+    ensures { GoesOnBy (record { debugger = debugger.old; kept = kept.old })
+        (record { debugger = debugger.new; kept = kept.new }) kept.old.last result }
 {
-    match last {
+    match &mut kept.last {
         Some(progress) => go_from(debugger, progress),
         None => Err(DebugFault::Command),
     }

@@ -101,7 +101,7 @@ fn outcome_of(alloc: Global, commands: &[u8], limits: Limits) -> Result<Outcome,
         failures: 0,
     };
     let mut sink = Answers {
-        text: Vec::with_capacity(alloc, 1_024)?,
+        text: Vec::with_capacity(alloc, 2_048)?,
         writes: limits.writes,
         failures: 0,
     };
@@ -115,7 +115,7 @@ fn outcome_of(alloc: Global, commands: &[u8], limits: Limits) -> Result<Outcome,
 }
 
 /// Commands, and the answers to them. More of them stand in `sessions.transcript` of `transcripts`.
-static TALKS: [(&str, &str); 5] = [
+static TALKS: [(&str, &str); 8] = [
     (
         DEBUG_SESSION,
         "ok\nbreak h0 pc=0x10008\nok\nwatch h0 line=0x40000000\n07 00\nend\nfault D1\n",
@@ -130,7 +130,50 @@ static TALKS: [(&str, &str); 5] = [
     ),
     ("quit\nstep 0\n", ""),
     ("break 0x10002", "fault D2\n"),
+    (MORE_SESSION, MORE_ANSWERS),
+    (
+        "go h0*4 h1*3\nlines\ngo h0\nlines\nlines 0\n",
+        "end\nl0 stores=2 floor=0 cleaned=h0:1\nend\nl0 stores=2 floor=1\nfault D1\n",
+    ),
+    ("help\nhelp me\nverbose\n", HELPED),
 ];
+
+/// A session that says more.
+const MORE_SESSION: &str =
+    "verbose on\nstep 0\nbreak 0x10008\ngo h0*2\ngo h0*2\nlines\nverbose off\nstep 0\nlines\n";
+
+const MORE_ANSWERS: &str = "ok
+h0 running pc=0x10004 x2=0x200000 x5=0x7 x11=0x40000000
+h0 pc=0x10004
+x5=0x7
+ok
+break h0 pc=0x10008
+h0 pc=0x10008
+end
+l0 stores=1 floor=0 cleaned=h0:1
+ok
+h0 running pc=0x10014 x2=0x200000 x5=0x7 x6=0x40000000 x11=0x40000000
+none
+";
+
+/// The list of commands, and two lines that are none.
+const HELPED: &str = "break A: stop before a running hart makes the instruction at A
+watch A: stop behind an access to the 64 bytes that hold A
+clear A: take the breakpoint at A and the watch of its 64 bytes away
+step H: make one step of hart H, and print the hart
+go ITEMS: make the steps of a schedule, up to a stop
+go: go on by the last schedule
+regs H: print the pc and all registers of hart H
+where H: print where hart H is
+peek A N: print the N bytes from A on, 1 to 64
+lines: print the cache lines of which a power cut may lose stores
+verbose on: print where the hart is behind each stop and step, and the registers that the step changed
+verbose off: print no more of that
+help: print this list
+quit: end the session
+fault D1
+fault D1
+";
 
 /// The first of these commands that are answered in another way, and their answers.
 fn first_difference(alloc: Global, talks: &[(&str, &str)]) -> Result<Option<String>, Fail> {
@@ -257,5 +300,47 @@ fn growths_refused_in_turn(rt: HostRuntime) -> Result<(), Fail> {
         Err(DebugFault::Memory)
     };
     assert_eq!(rt; (end, stands), (wanted, true));
+    Ok(())
+}
+
+/// The answers to the lines of `MORE_SESSION`.
+const MORE_LINES: [&str; 9] = [
+    "ok\n",
+    "h0 running pc=0x10004 x2=0x200000 x5=0x7 x11=0x40000000\nh0 pc=0x10004\nx5=0x7\n",
+    "ok\n",
+    "break h0 pc=0x10008\nh0 pc=0x10008\n",
+    "end\n",
+    "l0 stores=1 floor=0 cleaned=h0:1\n",
+    "ok\n",
+    "h0 running pc=0x10014 x2=0x200000 x5=0x7 x6=0x40000000 x11=0x40000000\n",
+    "none\n",
+];
+
+/// How many answers a text has, where it has no part of another.
+fn answered(text: &[u8], answers: &[&str]) -> Option<usize> {
+    let mut rest = text;
+    let mut count = 0usize;
+    for answer in answers {
+        match rest.strip_prefix(answer.as_bytes()) {
+            Some(more) => {
+                rest = more;
+                count = count.saturating_add(1);
+            }
+            None => break,
+        }
+    }
+    if rest.is_empty() { Some(count) } else { None }
+}
+
+// Of an answer for which a growth is refused nothing is written.
+#[test]
+fn growths_of_more_refused_in_turn(rt: HostRuntime) -> Result<(), Fail> {
+    let (end, answers, _pc) = outcome_of(rt.alloc(), MORE_SESSION.as_bytes(), NINE)?;
+    let wanted = match answered(answers.as_slice(), &MORE_LINES) {
+        Some(9) => Ok(()),
+        Some(_) => Err(DebugFault::Memory),
+        None => Err(DebugFault::Command),
+    };
+    assert_eq!(rt; end, wanted);
     Ok(())
 }

@@ -16,7 +16,7 @@ returns-in-Err-clause-answered g c =
 pub returns-in-Ok-Some-clause-unanswered : goal.returns-in-Ok-Some-clause-unanswered
 returns-in-Ok-Some-clause-unanswered g c =
     let said = c.write_answer.ensures in
-    says_part (g.C.Code.known c.args.code.now) string_bytes _ _ _ _ (Ok (Some c.in-Ok-Some.answer)) _ _ _ _ _ _ c.answer_text.ensures said.unwritten said.front said.err (rw c.in-Ok-Some.field-0-is at c.in-Ok-Some.ensures.comes_out)
+    says_part (g.C.Code.known c.args.code.now) string_bytes _ _ _ _ (Ok (Some c.in-Ok-Some.answer)) _ _ _ _ _ _ c.told_text.ensures said.unwritten said.front said.err (rw c.in-Ok-Some.field-0-is at c.in-Ok-Some.ensures.comes_out)
 
 pub returns-in-Err-clause-unanswered : goal.returns-in-Err-clause-unanswered
 returns-in-Err-clause-unanswered g c =

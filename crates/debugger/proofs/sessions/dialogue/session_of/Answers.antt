@@ -28,7 +28,7 @@ pub returns-in-Err-clause-fails : goal.returns-in-Err-clause-fails
 returns-in-Err-clause-fails g c =
     let sink = g.K.Sink.failures_of in
     let source = g.S.Source.failures_of in
-    failed_read (g.C.Code.known c.args.code.now) _ _ c.lines.last c.new-input.result c.lines.input c.read_line.new.self _ _ _ _ _ (sink c.args.sink.now) (sink c.lines.sink)
+    failed_read (g.C.Code.known c.args.code.now) _ _ c.lines.kept c.new-input.result c.lines.input c.read_line.new.self _ _ _ _ _ (sink c.args.sink.now) (sink c.lines.sink)
     (source c.lines.source) (source c.read_line.new.source) c.in-Err.unread c.new-input.ensures.ahead c.new-input.ensures.left c.lines.invariant.underway
     c.in-Err.ensures.part c.in-Err.ensures.err
 
@@ -53,7 +53,7 @@ returns-then-not-goes_on-clause-session g c =
       | then-not-goes_on-via-else-not-goes_on+then-read w ↦ inr (search rules)
     ] in
     let answered = rw c.deref.ensures.value at c.in-Ok-answer_line.ensures.answered in
-    ended (g.C.Code.known c.args.code.now) _ _ c.answer_line.new.debugger c.answer_line.new.last c.new-input.result c.lines.input c.read_line.new.self _ _ _ _ _ _ c.in-Ok.read
+    ended (g.C.Code.known c.args.code.now) _ _ c.answer_line.new.debugger c.answer_line.new.kept c.new-input.result c.lines.input c.read_line.new.self _ _ _ _ _ _ c.in-Ok.read
     c.read_line.new.line.items c.in-Ok-answer_line.goes_on c.new-input.ensures.ahead c.new-input.ensures.left c.lines.invariant.underway
     c.in-Ok.ensures.line answered over
 
@@ -75,7 +75,7 @@ returns-in-Err-answer_line-clause-fails g c =
     let sink = g.K.Sink.failures_of in
     let out = rw c.deref.ensures.value at arm.ensures.unanswered in
     let by = rw c.lines.invariant.sink at arm.ensures.err in
-    failed_answer (g.C.Code.known c.args.code.now) _ _ c.answer_line.new.debugger c.answer_line.new.last c.new-input.result c.lines.input c.read_line.new.self _ _ _ _ _ _
+    failed_answer (g.C.Code.known c.args.code.now) _ _ c.answer_line.new.debugger c.answer_line.new.kept c.new-input.result c.lines.input c.read_line.new.self _ _ _ _ _ _
     (sink c.args.sink.now) (sink c.answer_line.new.sink) c.in-Ok.read c.read_line.new.line.items arm.fault c.new-input.ensures.ahead c.new-input.ensures.left
     c.lines.invariant.underway c.in-Ok.ensures.line out by
 
