@@ -60,8 +60,8 @@ def printed(program, *words):
 
 
 def rows(lines):
-    """The rows of a list with a heading: what stands before two blanks, and what behind them."""
-    return [Word(*re.fullmatch(r"(\S.*?)  +(\S.*)", line.strip()).groups()) for line in lines[1:]]
+    """The rows of a list with a heading: what stands before two blanks, but for an option's short form, and what behind them."""
+    return [Word(*re.fullmatch(r"(?:-\w, )?(\S.*?)  +(\S.*)", line.strip()).groups()) for line in lines[1:]]
 
 
 def command_of(program, name):

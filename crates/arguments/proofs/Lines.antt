@@ -37,9 +37,9 @@ pub value_found : (found : Found) (name : Text) (value : Option (Bor Text))
 value_found found name None e = sym (e ∙ first_value-rows found name)
 value_found found name (Some s) e = sym (e ∙ first_value-rows found name)
 
--- a list with another kind in it than help isn't help alone, nor empty
-others : (kind : ErrorKind) (faults : Kinds) → IsAmong kind faults → kind ≢ kinds.DisplayHelp → faults ≢ kinds.DisplayHelp ∷ []
-others kind faults among other e =
+-- a list with another kind in it than this one isn't this one alone, nor empty
+others : (this kind : ErrorKind) (faults : Kinds) → IsAmong kind faults → kind ≢ this → faults ≢ this ∷ []
+others this kind faults among other e =
     let P : Kinds → Type 0 = λ all. IsAmong kind all in
     elim (subst P e among) [ inl is ↦ other is | inr never ↦ absurd never ]
 
@@ -49,13 +49,20 @@ some kind faults among e = let P : Kinds → Type 0 = λ all. IsAmong kind all i
 -- what clap refuses by this kind, the line refuses by this fault
 refused_by_kind : (words : List Text) (kind : ErrorKind) (fault : LineFault)
     → (kind ≡ kinds.OutOfMemory) ⊎ IsAmong kind (fault_of (grammar_of words) words) → IsKindOf kind fault → Refuses words fault
-refused_by_kind words kind (Help text) (inl memory) is = absurd cc
-refused_by_kind words kind (Help text) (inr among) is =
+refused_by_kind words kind (Help text) (inl memory) (inl is) = absurd cc
+refused_by_kind words kind (Help text) (inl memory) (inr is) = absurd cc
+refused_by_kind words kind (Help text) (inr among) (inl is) =
     let P : ErrorKind → Type 0 = λ k. IsAmong k (fault_of (grammar_of words) words) in inl (subst P is among)
-refused_by_kind words kind (Fault text) (inl memory) is = absurd (is.1 memory)
+refused_by_kind words kind (Help text) (inr among) (inr is) =
+    let P : ErrorKind → Type 0 = λ k. IsAmong k (fault_of (grammar_of words) words) in inr (inl (subst P is among))
+refused_by_kind words kind (Fault text) (inl memory) is = absurd (is.2 memory)
 refused_by_kind words kind (Fault text) (inr among) is =
-    let faulty : fault_of (grammar_of words) words ≢ [] = some kind (fault_of (grammar_of words) words) among in
-    (others kind (fault_of (grammar_of words) words) among is.0, λ help. faulty help.grammatical, λ command line. faulty line.grammatical)
+    let faulty : fault_of (grammar_of words) words ≢ [] = some kind (fault_of (grammar_of words) words) among in (
+      others kinds.DisplayHelp kind (fault_of (grammar_of words) words) among is.0,
+      others kinds.DisplayVersion kind (fault_of (grammar_of words) words) among is.1,
+      λ help. faulty help.grammatical,
+      λ command line. faulty line.grammatical,
+    )
 refused_by_kind words kind Memory among is = tt
 
 simple_and_free : (of_file : Bool) → is_simple_and_free (novacrash of_file) ≡ true
@@ -128,11 +135,11 @@ pub asks_none : (words : List Text) (name : Text) (rows : List Row) (result : Re
 asks_none words name rows (Ok command) grammatical used none = tt
 asks_none words name rows (Err (Help text)) grammatical used is =
     let P : Option (Text × List Row) → Type 0 = λ sub. IsHelp sub in
-    inr (record { grammatical = grammatical; asked = subst P (sym used) is })
+    inr (inr (record { grammatical = grammatical; asked = subst P (sym used) is }))
 asks_none words name rows (Err (Fault text)) grammatical used none =
     let P : (c : Command) → Option (Text × List Row) → Type 0 = λ c sub. IsAsked sub c in
     let Q : Option (Text × List Row) → Type 0 = λ sub. IsHelp sub in
-    (λ e. absurd cc, λ help. none.0 (subst Q used help.asked), λ command line. none.1 command (subst (P command) used line.asked))
+    (λ e. absurd cc, λ e. absurd cc, λ help. none.0 (subst Q used help.asked), λ command line. none.1 command (subst (P command) used line.asked))
 asks_none words name rows (Err Memory) grammatical used none = tt
 
 -- nor where it has no subcommand
@@ -142,7 +149,7 @@ has_none words (Help text) grammatical used is = absurd is
 has_none words (Fault text) grammatical used is =
     let P : (c : Command) → Option (Text × List Row) → Type 0 = λ c sub. IsAsked sub c in
     let Q : Option (Text × List Row) → Type 0 = λ sub. IsHelp sub in
-    (λ e. absurd cc, λ help. absurd (subst Q used help.asked), λ command line. absurd (subst (P command) used line.asked))
+    (λ e. absurd cc, λ e. absurd cc, λ help. absurd (subst Q used help.asked), λ command line. absurd (subst (P command) used line.asked))
 has_none words Memory grammatical used is = absurd is
 
 -- a word that is none of the codes has no meaning

@@ -8,7 +8,7 @@ use Rattle.std.proofs.lemmas.List.{append-nil, get_or-map, length-map, take_more
 use Rattle.std.proofs.lemmas.List.Concat.{get_or-flat_map}
 use Rattle.std.proofs.lemmas.List.Elements.{All-append, All-contains, All-head, All-map, All-nil, All-tail}
 use Rattle.std.proofs.lemmas.List.Folds.{flat_map-map, length-flat_map-take}
-use Rattle.arguments.specs.Codes.{HasRow, IsMeaningOf, Row, Texts, lines, meaning_line, table, texts_of, texts_of_families, texts_of_row, texts_of_rows}
+use Rattle.arguments.specs.Codes.{HasRow, IsMeaningOf, IsSameWord, Row, Texts, lines, meaning_line, table, texts_of, texts_of_families, texts_of_row, texts_of_rows}
 use Rattle.arguments.specs.declared.codes.table.Meaning.{Meaning}
 
 abbrev pub Family : Type 0
@@ -19,14 +19,14 @@ texts_of_family rows = texts_of_rows rows.now
 
 -- another code than this one
 abbrev pub IsOther : List ℕ → Texts → Type 0
-IsOther code row = ¬ (row.0 ≡ code)
+IsOther code row = ¬ IsSameWord row.0 code
 
 -- where no row of any family has the code, no row of the table of them has
-others : (families : List Family) (code : List ℕ) → All (λ rows. All (λ row. ¬ (row.0.now ≡ code)) rows.now) families
+others : (families : List Family) (code : List ℕ) → All (λ rows. All (λ row. ¬ IsSameWord row.0.now code) rows.now) families
     → All (IsOther code) (texts_of_families families)
 others [] code none = All-nil (IsOther code)
 others (rows ∷ families) code none =
-    let P : Family → Type 0 = λ rows. All (λ row. ¬ (row.0.now ≡ code)) rows.now in
+    let P : Family → Type 0 = λ rows. All (λ row. ¬ IsSameWord row.0.now code) rows.now in
     All-append
     (IsOther code)
     (texts_of_rows rows.now)
@@ -62,8 +62,8 @@ says_within families m has =
 -- a code that no row has means nothing, and the row of a code says what it means
 pub meaning_by_row : (families : List Family) (code : List ℕ) (found : Option Meaning)
     → MatchOption found
-    (All (λ rows. All (λ row. ¬ (row.0.now ≡ code)) rows.now) families)
-    (λ m. (m.code.now ≡ code) × Any (λ rows. HasRow rows.now m) families)
+    (All (λ rows. All (λ row. ¬ IsSameWord row.0.now code) rows.now) families)
+    (λ m. IsSameWord m.code.now code × Any (λ rows. HasRow rows.now m) families)
     → texts_of_families families ≡ table
     → MatchOption found ((m : Meaning) → ¬ IsMeaningOf code m) (IsMeaningOf code)
 meaning_by_row families code None none is = λ m means.

@@ -1,5 +1,6 @@
 -- The codes that the program prints, the row of a code in their table, and how rows are printed.
 use Rattle.std.specs.Prelude.{◌≡◌, ℕ, List, [], ◌∷◌, ◌++◌, Any, Contains, codes, flat_map, map}
+use Rattle.std.specs.Char.{to_ascii_lowercase}
 use Rattle.std.specs.Borrow.{Bor}
 use Rattle.arguments.specs.declared.codes.table.Meaning.{Meaning}
 use Rattle.arguments.specs.declared.codes.table.sources.TheConstants.{SOURCES}
@@ -23,7 +24,7 @@ all_codes =
     codes "N6" ∷ codes "N7" ∷ codes "N8" ∷ codes "N9" ∷ codes "N10" ∷ codes "N11" ∷ codes "L1" ∷ codes "L2" ∷ codes "L3" ∷ codes "L4" ∷
     codes "L5" ∷ codes "O1" ∷ codes "O2" ∷ codes "O3" ∷ codes "O4" ∷ codes "O5" ∷ codes "O6" ∷ codes "D1" ∷ codes "D2" ∷ codes "D3" ∷ codes "D4" ∷ codes "D5" ∷
     codes "T1" ∷ codes "T2" ∷ codes "T3" ∷ codes "T4" ∷ codes "T5" ∷ codes "T6" ∷ codes "T7" ∷
-    codes "illegal" ∷ codes "different" ∷ codes "changed" ∷ codes "unmatched" ∷ codes "running" ∷ codes "answer" ∷ codes "events" ∷ codes "memory" ∷ codes "file" ∷ []
+    codes "pass" ∷ codes "fail" ∷ codes "open" ∷ codes "too-many" ∷ codes "too-long" ∷ codes "not-whole" ∷ codes "illegal" ∷ codes "different" ∷ codes "changed" ∷ codes "unmatched" ∷ codes "running" ∷ codes "answer" ∷ codes "events" ∷ codes "memory" ∷ codes "file" ∷ []
 
 -- the texts of a row: a code, what it means, and what to do
 abbrev pub Texts : Type 0
@@ -71,9 +72,13 @@ codes_of_table = map (λ (row : Texts). row.0) table
 abbrev pub texts_of : Meaning → Texts
 texts_of m = (m.code.now, m.meaning.now, m.remedy.now)
 
--- the table says that this code means this
+-- two words are one but for the case of their letters
+abbrev pub IsSameWord : List ℕ → List ℕ → Type 0
+IsSameWord one other = map to_ascii_lowercase one ≡ map to_ascii_lowercase other
+
+-- the table says that this code, in either case, means this
 pub record IsMeaningOf (code : List ℕ) (m : Meaning) : Type 0 where
-  pub named : m.code.now ≡ code
+  pub named : IsSameWord m.code.now code
   pub among : Contains table (texts_of m)
 
 -- a code with what it means, as a line

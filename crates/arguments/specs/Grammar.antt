@@ -11,9 +11,9 @@ use Rattle.arguments.specs.declared.grammar.Argument.{Argument}
 use Rattle.arguments.specs.declared.grammar.Argument.TheVariants.{Word, Optional, Valued, Needed, Flag}
 use Rattle.arguments.specs.declared.grammar.Subcommand.{Subcommand}
 
--- `--help`, with no short form
+-- `--help`, or `-h`
 abbrev pub help_option : Rule
-help_option = record (new_rule (codes "help")) { long = Some (codes "help"); action = Some Help }
+help_option = record (new_rule (codes "help")) { long = Some (codes "help"); short = Some 104; action = Some Help }
 
 -- a word that has to be given
 abbrev pub needed_word : Text → Rule
@@ -261,12 +261,13 @@ help_shape = record (new_shape (codes "help")) { rules = help_option ∷ [] }
 abbrev pub leaf : Shape → App
 leaf shape = record { top = shape; subs = [] }
 
--- the line before it has a subcommand: no `help` subcommand of clap's, no `-h`, and a subcommand has to be given
+-- the line before it has a subcommand: no `help` subcommand of clap's, `--version` or `-V`, and a subcommand has to be given
 abbrev pub bare : Shape
 bare = record (new_shape (codes "novacrash")) {
   rules = help_option ∷ [];
   disable_help_flag = true;
   disable_help_subcommand = true;
+  has_version = true;
   subcommand_required = true;
 }
 

@@ -389,11 +389,13 @@ pub record IsHelpLine (words : List Text) : Type 0 where
   pub grammatical : fault_of (grammar_of words) words ≡ []
   pub asked : IsHelp (subcommand_of (grammar_of words) words)
 
--- help comes where the grammar answers with help, or the line is `help`; and a fault where the line asks for no command,
--- isn't `help`, and doesn't ask for help alone by its grammar
+-- help comes where the grammar answers with help or the version, or the line is `help`; and a fault where the line asks for no command,
+-- isn't `help`, and doesn't ask for help or the version alone by its grammar
 abbrev pub Refuses : List Text → LineFault → Type 0
-Refuses words (Help text) = IsAmong kinds.DisplayHelp (fault_of (grammar_of words) words) ⊎ IsHelpLine words
-Refuses words (Fault text) = (fault_of (grammar_of words) words ≢ kinds.DisplayHelp ∷ []) × (¬ IsHelpLine words)
+Refuses words (Help text) = IsAmong kinds.DisplayHelp (fault_of (grammar_of words) words)
+    ⊎ (IsAmong kinds.DisplayVersion (fault_of (grammar_of words) words) ⊎ IsHelpLine words)
+Refuses words (Fault text) = (fault_of (grammar_of words) words ≢ kinds.DisplayHelp ∷ [])
+    × (fault_of (grammar_of words) words ≢ kinds.DisplayVersion ∷ []) × (¬ IsHelpLine words)
     × ((command : Command) → ¬ IsCommand words command)
 Refuses words Memory = ⊤
 
@@ -411,6 +413,6 @@ IsFault Memory = ⊥
 
 -- the fault for an error of clap of this kind
 abbrev pub IsKindOf : ErrorKind → LineFault → Type 0
-IsKindOf kind (Help text) = kind ≡ kinds.DisplayHelp
-IsKindOf kind (Fault text) = (kind ≢ kinds.DisplayHelp) × (kind ≢ kinds.OutOfMemory)
+IsKindOf kind (Help text) = (kind ≡ kinds.DisplayHelp) ⊎ (kind ≡ kinds.DisplayVersion)
+IsKindOf kind (Fault text) = (kind ≢ kinds.DisplayHelp) × (kind ≢ kinds.DisplayVersion) × (kind ≢ kinds.OutOfMemory)
 IsKindOf kind Memory = kind ≡ kinds.OutOfMemory

@@ -402,7 +402,7 @@ pub struct CodeCommand {
 /// Why a line gives no command.
 #[derive(Debug, Drop, Error)]
 pub enum LineFault {
-    /// It asks for help, whose text this is: for standard output, with status 0.
+    /// It asks for help or for the version, whose text this is: for standard output, with status 0.
     #[error("{0}")]
     Help(String),
     /// It is at fault, and the text says how: for standard error, with status 2.

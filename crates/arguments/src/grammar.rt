@@ -11,6 +11,9 @@ use overview::Group;
 pub(crate) use overview::overview;
 use std::alloc::{AllocError, Global};
 
+/// What `--version` prints behind the program's name.
+const VERSION: &str = "1.0";
+
 /// A word or an option of a subcommand.
 #[derive(Clone, Copy)]
 pub(crate) enum Argument {
@@ -127,7 +130,7 @@ const UPGRADED_MEDIUM: Argument = Argument::Word {
 
 const CODE: Argument = Argument::Optional {
     name: "CODE",
-    about: "A code as it's printed, as A3, T5 or illegal [default: all codes]",
+    about: "A code as it's printed, as A3, T5 or illegal, in either case [default: all codes]",
 };
 
 const SHOWN_MEDIUM: Argument = Argument::Word {
@@ -707,13 +710,14 @@ impl Argument {
     }
 }
 
-/// The option that asks for help. clap's own would answer to `-h` too.
+/// The option that asks for help, alike at every level.
 fn help_flag<'a>(alloc: Global) -> Arg<'a>
     ensures rule { rule_of result ≡ help_option }
     ensures local { result.global ≡ false }
 {
     Arg::new(alloc, "help")
         .long("help")
+        .short('h')
         .action(ArgAction::Help)
         .help("Print help")
 }
@@ -733,11 +737,12 @@ impl Subcommand {
     }
 }
 
-/// The line without subcommands, with `--help` anywhere.
+/// The line without subcommands, with `--help` anywhere and `--version`.
 fn bare<'a>(alloc: Global) -> Result<clap::Command<'a>, AllocError>
     ensures { IfOk result (IsGrammar (line [])) }
 {
     clap::Command::new(alloc, "novacrash")
+        .version(VERSION)
         .disable_help_flag(true)
         .disable_help_subcommand(true)
         .subcommand_required(true)

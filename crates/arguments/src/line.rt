@@ -26,10 +26,9 @@ fn refusal(alloc: Global, error: &clap::Error) -> Result<LineFault, AllocError>
         return Ok(LineFault::Memory);
     }
     let text = format!(in alloc; "{error}")?;
-    if error.kind() == ErrorKind::DisplayHelp {
-        Ok(LineFault::Help(text))
-    } else {
-        Ok(LineFault::Fault(text))
+    match error.kind() {
+        ErrorKind::DisplayHelp | ErrorKind::DisplayVersion => Ok(LineFault::Help(text)),
+        _ => Ok(LineFault::Fault(text)),
     }
 }
 
@@ -198,11 +197,11 @@ fn asked_to_show(alloc: Global, name: &str, found: &ArgMatches<'_>) -> Result<Co
 /// The command that a line asks for. `words` begins with the program's name.
 ///
 /// # Errors
-/// Help where the line asks for it, by `--help` or as `help` alone, Memory where memory is refused, and else Fault where the line
+/// Help where the line asks for it, by `--help`, `-h` or as `help` alone, or for the version by `--version` or `-V`, Memory where memory is refused, and else Fault where the line
 /// isn't one of these, with FILE any word that isn't empty and doesn't begin with `-`, PAGES, LINES, LINE and MOMENT
 /// below 2^32 and each N within the limits that `Command` has for it, in decimal digits all, IMAGE a
 /// text that `ImageName::read` takes as a name, A-B two such numbers of which the second isn't the lesser, or the first alone, with or
-/// without the dash, CODE one of `code_table`'s, and OBJECT another word than SOURCE:
+/// without the dash, CODE one of the table's, in either case, and OBJECT another word than SOURCE:
 ///
 /// - `asm SOURCE OBJECT`
 /// - `mkfs PLAN LINES MEDIUM`

@@ -5,7 +5,37 @@ ghost use Rattle.arguments.specs.Codes.{texts_of_rows, words};
 
 use crate::codes::table::Row;
 
-static WORDS: [Row; 9] = [
+static WORDS: [Row; 15] = [
+    (
+        "pass",
+        "every crash image that was judged is good",
+        "What it doesn't say is in README.md. The status is 0, and 3 where moments are open.",
+    ),
+    (
+        "fail",
+        "this crash image is bad; no earlier moment has a bad one, and this one none of a lower number",
+        "Look by `--why` for the stores that it lost and kept. The status is 1.",
+    ),
+    (
+        "open",
+        "so many moments of over 65,536 branches, passed over by --go-on, and no bad image elsewhere",
+        "Judge them alone by --moments, with fewer lines that are uncertain there. The status is 3.",
+    ),
+    (
+        "too-many",
+        "printed `too many`: a moment of over 65,536 branches, or a search past its bound",
+        "Clean and fence sooner, or use fewer lines; raise the bound of a search by --states. The status is 3.",
+    ),
+    (
+        "too-long",
+        "printed `too long`: a recovery that gives a right answer ran out of its steps",
+        "Allow more by --steps. The status is 3.",
+    ),
+    (
+        "not-whole",
+        "printed `not whole`: a hart hasn't exited with 0, or an operation hasn't ended, and --whole asks for both",
+        "Step each hart to its end in the schedule, and end each operation. The status is 2.",
+    ),
     (
         "illegal",
         "the image recovers to a volume, but not to one that the plan may have left",
