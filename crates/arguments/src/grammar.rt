@@ -277,7 +277,7 @@ const STATES: Argument = Argument::Valued {
 
 const ANY_END: Argument = Argument::Flag {
     name: "any-end",
-    about: "Let harts stop in any way: trap, or exit with another code than 0",
+    about: "Let harts end in any way: by a trap, with another code than 0, or never, with no way out",
 };
 
 const RECORD: Argument = Argument::Valued {
