@@ -2,6 +2,7 @@
  *
  * A log in a mapped file, by intrinsics. own_log FILE appends three entries.
  * -DMISSING_CLEAN: the entry is not cleaned. -DMISSING_FENCE: it is cleaned, and fenced only with the tail.
+ * own_log_recovery.c is the recovery.
  */
 #include <fcntl.h>
 #include <immintrin.h>
@@ -9,11 +10,9 @@
 #include <sys/mman.h>
 #include <unistd.h>
 #include "novacrash_marks.h"
+#include "own_log.h"
 
 #define LINE_SIZE 64
-
-struct entry { unsigned long value, check; char name[48]; };
-struct log { unsigned long tail; char rest[56]; struct entry entries[62]; };
 
 static void clean(void *start, size_t size)
 {

@@ -2,17 +2,15 @@
  *
  * A log of records by libpmem. pmem_log FILE appends three records.
  * -DMISSING_DRAIN: a record is copied without a drain of its own, so it may be lost though the tail counts it.
+ * pmem_log_recovery.c is the recovery.
  */
 #include <libpmem.h>
-#include <stdint.h>
 #include <stdio.h>
 #include <string.h>
 #include "novacrash_marks.h"
+#include "pmem_log.h"
 
-struct record { uint64_t value; char text[184]; };
-struct log { uint64_t used; char rest[56]; struct record records[20]; };
-
-static void append(struct log *log, uint64_t value)
+static void append(struct log *log, unsigned long value)
 {
     struct record record = { value, "" };
     memset(record.text, 'a' + value % 26, sizeof record.text);

@@ -1,6 +1,7 @@
 /* SPDX-License-Identifier: Apache-2.0
  *
- * A list in a pool of libpmemobj. pmemobj_list FILE create makes the pool, pmemobj_list FILE push N pushes N nodes in transactions.
+ * A list in a pool of libpmemobj. pmemobj_list FILE create makes the pool, pmemobj_list FILE push N pushes N nodes in transactions,
+ * and pmemobj_list FILE show, the recovery, prints the values: the library rolls back what was under way when it opens the pool.
  * There are no marks: each transaction is an operation, or each call of push. -DWITH_MARKS has some, for the second tracer.
  * -DMISSING_ADD: the sum isn't added to the transaction, so a power cut may leave it changed where the rest is rolled back.
  */
@@ -45,6 +46,21 @@ __attribute__((noinline)) static void push(PMEMobjpool *pool, uint64_t value)
     } TX_END
 }
 
+/* Prints the values, and gives another number than 0 where the list contradicts itself. */
+static int show(PMEMobjpool *pool)
+{
+    TOID(struct root) root = POBJ_ROOT(pool, struct root);
+    TOID(struct node) node;
+    uint64_t count = 0, sum = 0;
+    for (node = D_RO(root)->head; !TOID_IS_NULL(node); node = D_RO(node)->next) {
+        if (D_RO(node)->check != ~D_RO(node)->value) return 3;
+        printf("%lu\n", D_RO(node)->value);
+        sum += D_RO(node)->value;
+        count++;
+    }
+    return count == D_RO(root)->count && sum == D_RO(root)->sum ? 0 : 4;
+}
+
 int main(int count, char **words)
 {
     if (count < 3) return 2;
@@ -55,6 +71,7 @@ int main(int count, char **words)
         fprintf(stderr, "%s\n", pmemobj_errormsg());
         return 2;
     }
+    if (!strcmp(words[2], "show")) return show(pool);
     if (creates) push(pool, 1);
     for (int i = 1; !creates && i <= atoi(words[3]); i++) {
         nc_begin(i);

@@ -294,12 +294,13 @@ static void cleaned(ThreadId id, Addr instruction, ULong line)
     put_clean(id, &threads[id].hart, instruction, line);
 }
 
+/* A line that is volatile in part is cleaned as a whole, and so by any address in it. */
 void on_line_instruction(const VexGuestAMD64State *state, Addr instruction)
 {
     const UChar *bytes = (const UChar *)instruction;
     ThreadId id = VG_(get_running_tid)();
     ULong offset;
-    if (phase != Recording || !find_offset(line_address(state, bytes), &offset)) return;
+    if (phase != Recording || !find_mapped(line_address(state, bytes), &offset)) return;
     if (offset / LINE_SIZE * LINE_SIZE >= file_copy_size()) return; /* the page's rest behind the file's end */
     settle();
     if (read_instruction(bytes).kind == LineFlush) flushed(id, instruction, offset / LINE_SIZE);

@@ -98,13 +98,22 @@ void remove_mapping(Addr start, SizeT length)
 
 void expect_shared_mapping(Bool is_shared) { next_is_shared = is_shared; }
 
+/* Whether a name is that of the file, or another one of it. */
+static Bool is_named_file(const HChar *name)
+{
+    struct vg_stat file, named;
+    if (VG_(strcmp)(name, options.file) == 0) return True;
+    return !sr_isError(VG_(stat)(name, &file)) && !sr_isError(VG_(stat)(options.file, &named)) && file.dev == named.dev
+           && file.ino == named.ino;
+}
+
 void add_mapping(Addr start, SizeT length)
 {
     const NSegment *segment = VG_(am_find_nsegment)(start);
     const HChar *name = segment ? VG_(am_get_filename)(segment) : NULL;
     Bool is_of_interest = next_is_shared || options.loads; /* a private copy shows the file, too */
     remove_mapping(start, length); /* a new mapping may lie over an old one */
-    if (!is_of_interest || !name || VG_(strcmp)(name, options.file) != 0) return;
+    if (!is_of_interest || !name || !is_named_file(name)) return;
     add_range(start, start + length, segment->offset + (start - segment->start));
     find_bounds();
     if (options.from_mapping) start_recording();

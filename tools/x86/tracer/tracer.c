@@ -120,13 +120,50 @@ static void before_system_call(ThreadId id, UInt number, UWord *words, UInt coun
         give_up("the program writes to the file by a system call (write, ftruncate or the like)");
 }
 
-/* What read and its like brought from the file is loaded. Without a place of its own it ends where the descriptor now stands. */
+/* Where a system call takes bytes from: a descriptor, and the place in its file, which is a number or stands where a pointer says. */
+typedef struct {
+    Int descriptor; /* -1 if it takes none */
+    Bool has_place;
+    ULong place; /* where the bytes began */
+} Source;
+
+/* A place in memory stands behind the bytes once the call is done, and so does the descriptor's own. */
+static Source source_by_pointer(Int descriptor, UWord pointer, ULong length)
+{
+    Source source = { descriptor, pointer != 0, pointer ? *(ULong *)pointer - length : 0 };
+    return source;
+}
+
+static Source source_of(UInt number, const UWord *words, ULong length)
+{
+    Source source = { -1, False, 0 };
+    switch (number) {
+    case __NR_pread64: case __NR_preadv: case __NR_preadv2:
+        source.has_place = True;
+        source.place = words[3];
+        source.descriptor = words[0];
+        return source;
+    case __NR_read: case __NR_readv:
+        source.descriptor = words[0];
+        return source;
+    case __NR_copy_file_range: case __NR_splice:
+        return source_by_pointer(words[0], words[1], length);
+    case __NR_sendfile:
+        return source_by_pointer(words[1], words[2], length);
+    default:
+        return source;
+    }
+}
+
+/* What a system call brought from the file is loaded. Without a place of its own it ends where the descriptor now stands. */
 static void after_system_call(ThreadId id, UInt number, UWord *words, UInt count, SysRes result)
 {
-    Bool is_at_place = number == __NR_pread64 || number == __NR_preadv || number == __NR_preadv2;
-    Bool is_read = is_at_place || number == __NR_read || number == __NR_readv;
-    if (!options.loads || !is_read || sr_isError(result) || !is_of_named_file(words[0])) return;
-    load_range(is_at_place ? words[3] : VG_(lseek)(words[0], 0, VKI_SEEK_CUR) - sr_Res(result), sr_Res(result));
+    Source source;
+    if (!options.loads || sr_isError(result)) return;
+    source = source_of(number, words, sr_Res(result));
+    if (source.descriptor < 0 || !is_of_named_file(source.descriptor)) return;
+    if (!source.has_place) source.place = VG_(lseek)(source.descriptor, 0, VKI_SEEK_CUR) - sr_Res(result);
+    load_range(source.place, sr_Res(result));
 }
 
 /* What a system call takes from the mapping, as write does. */
