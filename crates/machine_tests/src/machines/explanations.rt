@@ -516,17 +516,21 @@ fn is_explained_so(alloc: Global, evictions: Evictions, explanation: &Explanatio
 
 #[test]
 fn cuts_are_explained_so(rt: HostRuntime) {
-    let differing = EXPLANATIONS
-        .iter()
-        .position(|explanation| !is_explained_so(rt.alloc(), Evictions::OfEachStoredLine, explanation));
+    let differing = EXPLANATIONS.iter().position(|explanation| !is_explained_so(
+        rt.alloc(),
+        Evictions::OfEachStoredLine,
+        explanation,
+    ));
     assert_eq!(rt; differing, None);
 }
 
 #[test]
 fn cuts_are_explained_by_needed_evictions_so(rt: HostRuntime) {
-    let differing = LEAST_EXPLANATIONS
-        .iter()
-        .position(|explanation| !is_explained_so(rt.alloc(), Evictions::Needed, explanation));
+    let differing = LEAST_EXPLANATIONS.iter().position(|explanation| !is_explained_so(
+        rt.alloc(),
+        Evictions::Needed,
+        explanation,
+    ));
     assert_eq!(rt; differing, None);
 }
 
