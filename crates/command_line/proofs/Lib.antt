@@ -1,8 +1,12 @@
 pub mod Concluding
+mod FirstBad
 mod Held
 mod Kept
 pub mod ImageLines
 mod Loops
+mod LostNames
+mod NotedChecks
+mod NumberedLines
 mod Texts
 mod Unexplained
 mod Chains

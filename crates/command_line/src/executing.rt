@@ -6,20 +6,20 @@ ghost use Rattle.command_line.specs.AllSchedules.{FailsBehind};
 ghost use Rattle.command_line.specs.CheckingAll.{ChecksAll, IsOpen as IsOpenCheckAll};
 ghost use Rattle.command_line.specs.Judging.{IsOpen as IsOpenJudge};
 ghost use Rattle.command_line.specs.JudgingAll.{IsOpen as IsOpenJudgeAll, JudgesAll};
+ghost use Rattle.command_line.specs.Noting.{GetsNotes};
 ghost use Rattle.command_line.specs.Outcomes.{Delivers, DeliversCheck, DeliversConclusion, DeliversJudge, Ends, EndsWith, IsConcluded, IsPrinted, IsReady};
 
-use crate::answer::{Action, Answer, Conclusion};
-use crate::check::judge_check;
+use crate::answer::{Action, Answer, Conclusion, NotedAnswer};
 use crate::check_all::check_every;
 use crate::commands::outcome;
 use crate::debug::hold_session;
 use crate::failure::Failure;
 use crate::files::Files;
-use crate::judge::judge_run;
 use crate::judge_all::judge_every;
+use crate::noting::{judge_noted_check, judge_noted_run, write_notes};
 use crate::opened::{OpenCheck, OpenCheckAll, OpenJudge, OpenJudgeAll};
 use crate::streams::print;
-use crate::telling::report_failure;
+use crate::telling::{plain_words, tell_failure};
 use std::alloc::Global;
 use std::io::{Read, Write};
 use std::sync::Wait;
@@ -29,11 +29,13 @@ use std::time::Clock;
 /// Carries out what a command line asks for, over files, standard input, standard output and standard error, and gives the
 /// status that the program ends with: 0 done or a verdict that passes, 1 one that fails, 2 refused input or command line,
 /// 3 a verdict with too many branches or a search that passes a bound, 4 want of memory, 5 a file, standard input or standard output that
-/// couldn't be read or written. `words` begins with the program's name.
+/// couldn't be read or written. `words` begins with the program's name, and perhaps `--explain`.
 ///
 /// An answer goes to standard output, and nothing of a failure does, but the schedule that `check-all` or `judge-all` found of a run which is
-/// refused. The lines of a failure go to standard error, and where they can't be written the status still stands. With `--progress` `check`, `judge`,
-/// `check-all` and `judge-all` tell there, before that, how far they have come. Only the session of `debug` reads standard input, once its files have been read and its
+/// refused, and with `--json` the object of a refusal. The lines of a failure go to standard error, with `--explain` also one that says more, and
+/// where they can't be written the status still stands. With `--whole` and without `--quiet`, `check`, `judge`, `unpersisted` and `waste` write notes
+/// there, before all else. With `--progress` `check`, `judge`, `check-all` and `judge-all` tell there, before a failure, how far they have come.
+/// Only the session of `debug` reads standard input, once its files have been read and its
 /// machine made. `run` of several harts, `check`, `judge`, `check-all` and `judge-all` start threads, of `rt`; what the last four print
 /// doesn't depend on how many, and what `run` prints is the run that its harts made.
 pub fn execute<T: Threads + Wait + Sync + Clock, F: Files, R: Read, W: Write, E: Write>(
@@ -45,18 +47,19 @@ pub fn execute<T: Threads + Wait + Sync + Clock, F: Files, R: Read, W: Write, E:
     output: &mut W,
     errors: &mut E,
 ) -> u8
-    ensures { EndsWith F.read_gives F.write_gives R.remaining W.contents E.contents (map string_bytes words.now) files.old files.new (input.old, output.old) (input.new, output.new) errors.old errors.new result }
+    ensures { EndsWith F.read_gives F.write_gives R.remaining W.contents E.contents words.now files.old files.new (input.old, output.old) (input.new, output.new) errors.old errors.new result }
 {
-    match answer_line(rt, alloc, words, files, input, output, errors) {
+    let plain = plain_words(words);
+    match answer_line(rt, alloc, plain, files, input, output, errors) {
         Ok(status) => status,
         Err(failure) => {
-            let _ = report_failure(&failure, errors);
+            tell_failure(alloc, words, &failure, files, output, errors);
             failure.status()
         }
     }
 }
 
-/// Answers a command line on standard output, and gives the status. Standard error gets nothing but what `--progress` tells.
+/// Answers a command line on standard output, and gives the status. Standard error gets nothing but notes and what `--progress` tells.
 pub fn answer_line<T: Threads + Wait + Sync + Clock, F: Files, R: Read, W: Write, E: Write>(
     rt: &T,
     alloc: Global,
@@ -85,6 +88,7 @@ fn deliver<T: Threads + Sync + Clock, R: Read, W: Write, E: Write>(
 {
     match outcome? {
         Action::Print(answer) => print_answer(answer, output),
+        Action::PrintNoted(noted) => print_noted(noted, output, errors),
         Action::Check(check) => deliver_check(rt, alloc, &check, output, errors),
         Action::Judge(judge) => deliver_judge(rt, alloc, &judge, output, errors),
         Action::CheckAll(check) => deliver_check_all(rt, alloc, check, output, errors),
@@ -103,7 +107,7 @@ fn deliver_check<T: Threads + Sync + Clock, W: Write, E: Write>(
     requires { IsOpen check.now }
     ensures { DeliversCheck W.contents E.contents check.now output.old output.new errors.old errors.new result }
 {
-    let answer = judge_check(rt, alloc, check, errors)?;
+    let answer = judge_noted_check(rt, alloc, check, errors)?;
     print_answer(answer, output)
 }
 
@@ -117,7 +121,7 @@ fn deliver_judge<T: Threads + Sync + Clock, W: Write, E: Write>(
     requires { IsOpenJudge judge.now }
     ensures { DeliversJudge W.contents E.contents judge.now output.old output.new errors.old errors.new result }
 {
-    let answer = judge_run(rt, alloc, judge, errors)?;
+    let answer = judge_noted_run(rt, alloc, judge, errors)?;
     print_answer(answer, output)
 }
 
@@ -166,6 +170,19 @@ fn fail_behind<W: Write>(text: &str, failure: Failure, output: &mut W) -> Failur
         Ok(()) => failure,
         Err(_) => Failure::File,
     }
+}
+
+/// Writes notes on standard error, and whatever comes of that prints the answer.
+fn print_noted<W: Write, E: Write>(
+    noted: NotedAnswer,
+    output: &mut W,
+    errors: &mut E,
+) -> Result<u8, Failure>
+    ensures printed { IsPrinted W.contents output.old output.new noted.answer result }
+    ensures notes { GetsNotes E.contents noted.notes.items errors.old errors.new }
+{
+    let _ = write_notes(&noted.notes, errors);
+    print_answer(noted.answer, output)
 }
 
 fn print_answer<W: Write>(answer: Answer, output: &mut W) -> Result<u8, Failure>

@@ -23,8 +23,15 @@ pub mod Rows
 pub mod Names
 pub mod Volumes
 pub mod Words
+pub mod Notes
 pub mod Begun
 pub mod Listing
 pub mod Picturing
 pub mod Entries
 pub mod Told
+pub mod SlipHints
+pub mod SlipNearest
+pub mod SlipPlaces
+pub mod SlipShapes
+pub mod SlipUnknown
+pub mod Slips
