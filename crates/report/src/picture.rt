@@ -1,6 +1,9 @@
 //! A picture of events up to a moment: which stores, cleans and fences were made, and what a power cut may lose then.
 
+mod colours;
 mod drawing;
+mod labels;
+mod legend;
 mod marks;
 mod picturing;
 mod rows;

@@ -56,8 +56,8 @@ impl fmt::Display for XmlPlace<'_> {
 
 /// A name whose markup is escaped (XML 1.0, section 2.4).
 #[derive(Clone, Copy)]
-struct XmlName<'a> {
-    name: &'a [u8],
+pub(crate) struct XmlName<'a> {
+    pub(crate) name: &'a [u8],
 }
 
 impl fmt::Display for XmlName<'_> {
@@ -79,8 +79,8 @@ impl fmt::Display for XmlName<'_> {
 
 /// Place words whose markup is escaped.
 #[derive(Clone, Copy)]
-struct XmlWords<'a> {
-    words: &'a [u8],
+pub(crate) struct XmlWords<'a> {
+    pub(crate) words: &'a [u8],
 }
 
 impl fmt::Display for XmlWords<'_> {

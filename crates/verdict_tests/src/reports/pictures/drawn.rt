@@ -6,9 +6,15 @@ use std::alloc::{AllocError, Global};
 use std::test::Fail;
 use store_trace::Event;
 
-/// What the picture of `EVENTS` with `IMAGE` tells: of each event where it was made, of each row its floor, its stores and those of
-/// the image. A store that a power cut may lose is hollow, and any other in the colour of its hart.
-const TOLD: [&str; 11] = [
+/// What the picture of `EVENTS` with `IMAGE` tells: how the stores fare, of each event where it was made, of each row its floor, its
+/// stores and those of the image. A store that a power cut may lose is hollow, and any other in the colour of its hart. Over a hollow
+/// one lies a cross where the image lacks it, and a full half where the image has it.
+const TOLD: [&str; 16] = [
+    ">power cut at moment 7: stores lost 1, kept 1, durable 1</text>",
+    "l10 12m0 -12l-10 12\" fill=\"none\" stroke=\"#2ca02c\"",
+    "m0 6h10v6h-10z\" fill=\"#d62728\"",
+    ">2 line=7</text>",
+    ">power cut</text>",
     "<title>h1 step=3 pc=0x10008 line=3 begin 7</title>",
     "fill=\"#d62728\" stroke=\"#d62728\"><title>h1 step=7 pc=0x10018 line=7 store l256+0 w8 0x4d</title>",
     "<title>h1 step=8 pc=0x1001c clean l256</title>",
