@@ -1,14 +1,15 @@
 //! What a recovery routine answers on a medium, and on a crash image.
 
 ghost use Rattle.crash_image.specs.View.{HasLines};
-ghost use Rattle.crash_test.specs.Answers.{IsAnswerAt, IsImageOf};
+ghost use Rattle.crash_test.specs.Answers.{IsAnswerAt};
 ghost use Rattle.crash_test.specs.Loading.{IsAnswerOn};
 ghost use Rattle.crash_test.specs.Told.{LacksImage};
 ghost use Rattle.std.specs.Prelude.{IfErr, IfOk};
 
 use crate::events::Events;
+use crate::images::named_image;
 use crate::reading::RoutineReader;
-use crash_image::{Cuts, ImageFault, ImageName};
+use crash_image::{ImageFault, ImageName};
 use line_memory::Medium;
 use program::Program;
 use recovery::{Answer, Cause, Routine};
@@ -45,34 +46,7 @@ pub fn answer_at(
     ensures ok { IfOk result (IsAnswerAt reader.now.program.now reader.now.steps events.entry.medium.now events.entry.trace.now.events moment image.now) }
     ensures err { IfErr result (LacksImage events.entry.trace.now.events moment image.now) }
 {
-    let medium = image_of(alloc, events, moment, image)?;
+    let (_, medium) = named_image(alloc, events.medium, events.trace, moment, image)?;
     let program = reader.program.copy(alloc)?;
     Ok(answer_on(alloc, program, &medium, reader.steps)?)
-}
-
-/// The crash image of this name, of a moment of events.
-fn image_of(
-    alloc: Global,
-    events: Events<'_>,
-    moment: u32,
-    image: &ImageName,
-) -> Result<Medium, ImageFault>
-    requires { HasLines events.medium.now events.trace.now.events }
-    ensures ok { IfOk result (IsImageOf events.entry.medium.now events.entry.trace.now.events moment image.now) }
-    ensures err { IfErr result (LacksImage events.entry.trace.now.events moment image.now) }
-{
-    let cuts = match Cuts::at(alloc, events.medium, events.trace, moment) {
-        Ok(cuts) => cuts,
-        Err(ImageFault::NoSuchMoment) => return Err(ImageFault::NoSuchMoment),
-        Err(_) => return Err(ImageFault::Memory),
-    };
-    let cut = match cuts.named(alloc, image) {
-        Ok(cut) => cut,
-        Err(ImageFault::NotACut) => return Err(ImageFault::NotACut),
-        Err(_) => return Err(ImageFault::Memory),
-    };
-    match cuts.image_of(alloc, &cut) {
-        Ok(medium) => Ok(medium),
-        Err(_) => Err(ImageFault::Memory),
-    }
 }

@@ -1,10 +1,13 @@
 //! The crash images of a moment of events over a medium: how many there are, and the lines of one.
 
 ghost use Rattle.crash_image.specs.View.{HasLines, NamesLine};
+ghost use Rattle.crash_test.specs.Answers.{IsImageOf};
 ghost use Rattle.crash_test.specs.Images.{AreImageLines, CountsImages, LacksMoment, lines_of};
 ghost use Rattle.crash_test.specs.Told.{LacksImage};
 ghost use Rattle.crash_test.specs.declared.images.ImageLine.{ImageLine as AnImageLine};
 ghost use Rattle.std.specs.Prelude.{◌≡◌, ◌<◌, ℕ, All, IfErr, IfOk, length};
+ghost use Rattle.store_trace.specs.Cut.{IsCut};
+ghost use Rattle.store_trace.specs.History.{at_moment};
 
 use crash_image::{Cut, Cuts, ImageFault, ImageName};
 use line_memory::Medium;
@@ -58,6 +61,23 @@ pub fn image_lines(
     ensures there { (count : ℕ) → All (NamesLine count) trace.now.events → IfOk result (λ lines. All (λ (l : AnImageLine). l.line < count) lines.items) }
     ensures err { IfErr result (LacksImage trace.now.events moment image.now) }
 {
+    let (cut, image) = named_image(alloc, medium, trace, moment, image)?;
+    Ok(lines_of(alloc, &image, &cut)?)
+}
+
+/// The cut of this name at a moment of the trace, and the image that it leaves on the medium.
+pub(crate) fn named_image(
+    alloc: Global,
+    medium: &Medium,
+    trace: &Trace,
+    moment: u32,
+    image: &ImageName,
+) -> Result<(Cut, Medium), ImageFault>
+    requires { HasLines medium.now trace.now.events }
+    ensures ok { IfOk result (λ found. IsImageOf medium.now trace.now.events moment image.now found.0 found.1) }
+    ensures cut { IfOk result (λ found. IsCut (at_moment trace.now.events moment) found.0) }
+    ensures err { IfErr result (LacksImage trace.now.events moment image.now) }
+{
     let cuts = match Cuts::at(alloc, medium, trace, moment) {
         Ok(cuts) => cuts,
         Err(ImageFault::NoSuchMoment) => return Err(ImageFault::NoSuchMoment),
@@ -69,7 +89,7 @@ pub fn image_lines(
         Err(_) => return Err(ImageFault::Memory),
     };
     match cuts.image_of(alloc, &cut) {
-        Ok(image) => Ok(lines_of(alloc, &image, &cut)?),
+        Ok(image) => Ok((cut, image)),
         Err(_) => Err(ImageFault::Memory),
     }
 }

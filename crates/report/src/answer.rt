@@ -52,7 +52,7 @@ fn bytes_members(alloc: Global, answer: &[u8]) -> Result<String, AllocError>
 }
 
 /// How many bytes an answer has, and the first 64 of them in hexadecimal: `8 bytes 0500000000000000`.
-pub fn answer_text(alloc: Global, answer: &[u8]) -> Result<String, AllocError>
+fn answer_text(alloc: Global, answer: &[u8]) -> Result<String, AllocError>
     ensures { IfOk result (λ text. string_bytes text ≡ answer_text answer.now) }
 {
     let digits = digits_text(alloc, shown(answer))?;

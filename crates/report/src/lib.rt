@@ -19,7 +19,7 @@ mod printed_words;
 mod redundant;
 mod told;
 
-pub use answer::{answer_line, answer_object, answer_text, right_line, right_object};
+pub use answer::{answer_line, answer_object, right_line, right_object};
 pub use causes::unfinished_text;
 pub use disassembly::listing_text;
 pub use events::{PlacedEvent, hart_of, trace_text};
