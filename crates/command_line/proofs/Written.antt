@@ -65,3 +65,7 @@ pub front_either : (first second : Option (List ℕ)) (text : List ℕ) (outcome
     OnErr outcome (AppendsFront first second text) → AppendsFront first second text
 front_either first second text (Ok done) whole part = front_all first second text whole
 front_either first second text (Err failed) whole part = part
+
+-- an empty text
+pub nothing_written : (stream : Option (List ℕ)) (text : List ℕ) → text ≡ [] → Appends stream stream text
+nothing_written stream text none = rw none (part_none stream [])
