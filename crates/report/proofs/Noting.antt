@@ -10,7 +10,7 @@ use Rattle.machine.specs.declared.run_trace.traced_event.TracedEvent.{TracedEven
 use Rattle.store_trace.specs.History.{at_moment, steps_of}
 use Rattle.store_trace.specs.TraceView.{IsEvent, NamesLine}
 use Rattle.store_trace.specs.declared.crash_model.step.PersistenceStep.{PersistenceStep}
-use Rattle.store_trace.specs.declared.crash_model.step.PersistenceStep.TheVariants as steps
+use Rattle.store_trace.specs.declared.crash_model.step.PersistenceStep.TheVariants as step
 use Rattle.store_trace.specs.declared.event.Event.{Event}
 use Rattle.durability.proofs.Moments.{at_moment_more}
 use Rattle.report.proofs.Lines.{lines_below, lines_more}
@@ -23,21 +23,21 @@ use Rattle.report.specs.declared.notes.Note.{Note}
 same_or_not : (a b : ℕ) → (a ≡ b) ⊎ (a ≢ b)
 same_or_not a b = grind (arith, nat_tests)
 
-clean_here : (h line : ℕ) (p : List PersistenceStep) → has_cleaned h (steps.Clean h line ∷ p) ≡ true
+clean_here : (h line : ℕ) (p : List PersistenceStep) → has_cleaned h (step.Clean h line ∷ p) ≡ true
 clean_here h line p = grind (arith, nat_tests)
 
-clean_other : (by h line : ℕ) (p : List PersistenceStep) → by ≢ h → has_cleaned h (steps.Clean by line ∷ p) ≡ has_cleaned h p
+clean_other : (by h line : ℕ) (p : List PersistenceStep) → by ≢ h → has_cleaned h (step.Clean by line ∷ p) ≡ has_cleaned h p
 clean_other by h line p other = grind (arith, nat_tests, other)
 
-fence_here : (h : ℕ) (p : List PersistenceStep) → has_cleaned h (steps.Fence h ∷ p) ≡ false
+fence_here : (h : ℕ) (p : List PersistenceStep) → has_cleaned h (step.Fence h ∷ p) ≡ false
 fence_here h p = grind (arith, nat_tests)
 
-fence_other : (by h : ℕ) (p : List PersistenceStep) → by ≢ h → has_cleaned h (steps.Fence by ∷ p) ≡ has_cleaned h p
+fence_other : (by h : ℕ) (p : List PersistenceStep) → by ≢ h → has_cleaned h (step.Fence by ∷ p) ≡ has_cleaned h p
 fence_other by h p other = grind (arith, nat_tests, other)
 
 -- a clean by a hart
 pub cleaned_now : (by line : ℕ) (p : List PersistenceStep) (cleaned : List Bool) → length cleaned ≡ 8 → AreCleaned p cleaned →
-    AreCleaned (steps.Clean by line ∷ p) (set cleaned by true)
+    AreCleaned (step.Clean by line ∷ p) (set cleaned by true)
 cleaned_now by line p cleaned size are = λ h d low. elim (same_or_not by h) [
   | inl e ↦ rw e (get_or-set_same cleaned h true d (omega (arith, size, low)) ∙ sym (clean_here h line p))
   | inr other ↦ get_or-set_other cleaned by h true d (λ e. other (sym e)) ∙ are h d low ∙ sym (clean_other by h line p other)
@@ -45,7 +45,7 @@ cleaned_now by line p cleaned size are = λ h d low. elim (same_or_not by h) [
 
 -- a fence of one
 pub cleaned_none : (by : ℕ) (p : List PersistenceStep) (cleaned : List Bool) → length cleaned ≡ 8 → AreCleaned p cleaned →
-    AreCleaned (steps.Fence by ∷ p) (set cleaned by false)
+    AreCleaned (step.Fence by ∷ p) (set cleaned by false)
 cleaned_none by p cleaned size are = λ h d low. elim (same_or_not by h) [
   | inl e ↦ rw e (get_or-set_same cleaned h false d (omega (arith, size, low)) ∙ sym (fence_here h p))
   | inr other ↦ get_or-set_other cleaned by h false d (λ e. other (sym e)) ∙ are h d low ∙ sym (fence_other by h p other)

@@ -14,7 +14,7 @@ use Rattle.store_trace.specs.History.{at_moment}
 use Rattle.store_trace.specs.Stores.{stores}
 use Rattle.store_trace.specs.TraceView.{IsEvent, NamesLine}
 use Rattle.store_trace.specs.declared.crash_model.step.PersistenceStep.{PersistenceStep}
-use Rattle.store_trace.specs.declared.crash_model.step.PersistenceStep.TheVariants as steps
+use Rattle.store_trace.specs.declared.crash_model.step.PersistenceStep.TheVariants as step
 use Rattle.store_trace.specs.declared.event.Event.{Event}
 use Rattle.store_trace.specs.declared.event.Event.TheVariants.{Store, Clean, Fence, Begin, End}
 use Rattle.report.specs.Events.{place_of}
@@ -49,15 +49,15 @@ lets_stores_pass instr = false
 
 -- after these steps a line has stores past its floor, which aren't in the medium for certain
 abbrev pub is_unwritten : ℕ → List PersistenceStep → Bool
-is_unwritten line steps = nat_lt (floor line steps) (stores line steps)
+is_unwritten line p = nat_lt (floor line p) (stores line p)
 
 -- the newest clean or fence of a hart is a clean, which its next fence completes
 abbrev pub has_cleaned : ℕ → List PersistenceStep → Bool
 has_cleaned hart [] = false
-has_cleaned hart (steps.Store line offset width value ∷ p) = has_cleaned hart p
-has_cleaned hart (steps.Clean by line ∷ p) = (by == hart) || has_cleaned hart p
-has_cleaned hart (steps.Fence by ∷ p) = if by == hart then false else has_cleaned hart p
-has_cleaned hart (steps.Evict line ∷ p) = has_cleaned hart p
+has_cleaned hart (step.Store line offset width value ∷ p) = has_cleaned hart p
+has_cleaned hart (step.Clean by line ∷ p) = (by == hart) || has_cleaned hart p
+has_cleaned hart (step.Fence by ∷ p) = if by == hart then false else has_cleaned hart p
+has_cleaned hart (step.Evict line ∷ p) = has_cleaned hart p
 
 -- so says this list of each of the eight harts
 abbrev pub AreCleaned : List PersistenceStep → List Bool → Type 0
