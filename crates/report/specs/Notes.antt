@@ -1,8 +1,8 @@
 -- What is noted of a run: events at which a processor may lose or reorder stores, where this machine doesn't.
 -- Sources: RISC-V CMO 1.0, chapter 2 (an invalidate may drop stores of its block); RISC-V Unprivileged ISA 20191213, chapter 2, "Memory Ordering
 -- Instructions" (a FENCE orders accesses of its predecessor set before those of its successor set, and before no others).
-use Rattle.std.specs.Prelude.{◌≡◌, ℕ, ◌-◌, ◌/◌, ◌<◌, ◌==◌, ◌&&◌, ◌||◌, Bool, true, false, not, nat_lt, List, [], ◌∷◌, ◌++◌, Option, Some, None, codes, decimal, if◌then◌else◌, slice_get, slice_index_or}
-use Rattle.std.specs.List.{enumerate_from, flat_map}
+use Rattle.std.specs.Prelude.{◌≡◌, ℕ, ◌-◌, ◌/◌, ◌<◌, ◌==◌, ◌&&◌, Bool, true, false, not, nat_lt, List, [], ◌∷◌, ◌++◌, Option, Some, None, codes, decimal, slice_get, slice_index_or}
+use Rattle.std.specs.List.{enumerate_from, find, flat_map}
 use Rattle.isa_table.specs.declared.instruction.CacheOp.{CacheOp}
 use Rattle.isa_table.specs.declared.instruction.CacheOp.TheVariants as caches
 use Rattle.isa_table.specs.declared.instruction.Instr.{Instr}
@@ -51,13 +51,20 @@ lets_stores_pass instr = false
 abbrev pub is_unwritten : ℕ → List PersistenceStep → Bool
 is_unwritten line p = nat_lt (floor line p) (stores line p)
 
--- the newest clean or fence of a hart is a clean, which its next fence completes
+-- a clean or a fence of a hart
+abbrev pub is_of : ℕ → PersistenceStep → Bool
+is_of hart (step.Store line offset width value) = false
+is_of hart (step.Clean by line) = by == hart
+is_of hart (step.Fence by) = by == hart
+is_of hart (step.Evict line) = false
+
+abbrev pub is_clean : Option PersistenceStep → Bool
+is_clean (Some (step.Clean by line)) = true
+is_clean found = false
+
+-- the newest of them is a clean, which the hart's next fence completes
 abbrev pub has_cleaned : ℕ → List PersistenceStep → Bool
-has_cleaned hart [] = false
-has_cleaned hart (step.Store line offset width value ∷ p) = has_cleaned hart p
-has_cleaned hart (step.Clean by line ∷ p) = (by == hart) || has_cleaned hart p
-has_cleaned hart (step.Fence by ∷ p) = if by == hart then false else has_cleaned hart p
-has_cleaned hart (step.Evict line ∷ p) = has_cleaned hart p
+has_cleaned hart p = is_clean (find (is_of hart) p)
 
 -- so says this list of each of the eight harts
 abbrev pub AreCleaned : List PersistenceStep → List Bool → Type 0
