@@ -1,7 +1,7 @@
 -- What is noted of a run: events at which a processor may lose or reorder stores, where this machine doesn't.
 -- Sources: RISC-V CMO 1.0, chapter 2 (an invalidate may drop stores of its block); RISC-V Unprivileged ISA 20191213, chapter 2, "Memory Ordering
 -- Instructions" (a FENCE orders accesses of its predecessor set before those of its successor set, and before no others).
-use Rattle.std.specs.Prelude.{◌≡◌, ℕ, ◌-◌, ◌/◌, ◌<◌, ◌==◌, ◌&&◌, Bool, true, false, not, nat_lt, List, [], ◌∷◌, ◌++◌, Option, Some, None, codes, decimal, slice_get, slice_index_or}
+use Rattle.std.specs.Prelude.{◌≡◌, ℕ, ◌-◌, ◌/◌, ◌<◌, ◌==◌, ◌&&◌, Bool, true, false, not, nat_lt, List, [], ◌++◌, Option, Some, None, codes, decimal, slice_get, slice_index_or}
 use Rattle.std.specs.List.{enumerate_from, find, flat_map}
 use Rattle.isa_table.specs.declared.instruction.CacheOp.{CacheOp}
 use Rattle.isa_table.specs.declared.instruction.CacheOp.TheVariants as caches

@@ -33,7 +33,6 @@ use store_trace::{Event, MAX_HARTS};
 ///
 /// # Errors
 /// AllocError where a growth is refused.
-#[tactic(auto, using(crate::proofs::Noting::each_there))]
 pub fn notes_text(
     alloc: Global,
     text: &[u8],

@@ -1,6 +1,5 @@
 -- One more event: its note, if it has one, and what its hart has cleaned then.
-use Rattle.std.proofs.Common.{◌∙◌, ◌≤◌, length, arith, sym, subst}
-use Rattle.std.proofs.lemmas.List.{length-map}
+use Rattle.std.proofs.Common.{◌∙◌, sym}
 use Rattle.report.proofs.Lines.{lines_all}
 use Rattle.report.proofs.Noting.{cleaned_more, notes_more}
 use Rattle.report.proofs.Telling.{no_event}
