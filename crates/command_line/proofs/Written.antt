@@ -1,5 +1,5 @@
 -- What is known of a stream to which a text is written part by part.
-use Rattle.std.proofs.Common.{◌≡◌, ◌∙◌, ◌+◌, ◌++◌, ℕ, List, [], Option, Some, None, Result, Ok, Err, ap, sym, length, take, drop}
+use Rattle.std.proofs.Common.{◌≡◌, ◌∙◌, ◌+◌, ◌++◌, ℕ, List, [], ◌∷◌, Option, Some, None, Result, Ok, Err, ap, arith, refl, sym, length, take, drop}
 use Rattle.std.proofs.Math.Seq.{take-add, take-length}
 use Rattle.std.proofs.lemmas.List.{append_assoc, append-nil, take-append-drop}
 use Rattle.std.specs.Prelude.{OnErr, OnOk}
@@ -67,5 +67,9 @@ front_either first second text (Ok done) whole part = front_all first second tex
 front_either first second text (Err failed) whole part = part
 
 -- an empty text
-pub nothing_written : (stream : Option (List ℕ)) (text : List ℕ) → text ≡ [] → Appends stream stream text
-nothing_written stream text none = rw none (part_none stream [])
+empty_is : (text : List ℕ) → length text ≡ 0 → text ≡ []
+empty_is [] none = refl
+empty_is (x ∷ text) none = absurd (omega (arith, none))
+
+pub nothing_written : (stream : Option (List ℕ)) (text : List ℕ) → length text ≡ 0 → Appends stream stream text
+nothing_written stream text none = rw (empty_is text none) (part_none stream [])
