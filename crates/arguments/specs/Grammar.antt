@@ -84,18 +84,20 @@ trace_shape = record (new_shape (codes "trace")) {
       ∷ valued_option (codes "harts") ∷ flag_option (codes "whole") ∷ flag_option (codes "json") ∷ help_option ∷ [];
 }
 
--- `unpersisted PROGRAM SCHEDULE [--medium FILE --harts N --whole --json]`
+-- `unpersisted PROGRAM SCHEDULE [--medium FILE --harts N --whole --json --quiet]`
 unfoldable pub unpersisted_shape : Shape
 unpersisted_shape = record (new_shape (codes "unpersisted")) {
   rules = needed_word (codes "PROGRAM") ∷ needed_word (codes "SCHEDULE") ∷ valued_option (codes "medium")
-      ∷ valued_option (codes "harts") ∷ flag_option (codes "whole") ∷ flag_option (codes "json") ∷ help_option ∷ [];
+      ∷ valued_option (codes "harts") ∷ flag_option (codes "whole") ∷ flag_option (codes "json") ∷ flag_option (codes "quiet")
+      ∷ help_option ∷ [];
 }
 
--- `waste PROGRAM SCHEDULE [--medium FILE --harts N --whole --json]`
+-- `waste PROGRAM SCHEDULE [--medium FILE --harts N --whole --json --quiet]`
 unfoldable pub waste_shape : Shape
 waste_shape = record (new_shape (codes "waste")) {
   rules = needed_word (codes "PROGRAM") ∷ needed_word (codes "SCHEDULE") ∷ valued_option (codes "medium")
-      ∷ valued_option (codes "harts") ∷ flag_option (codes "whole") ∷ flag_option (codes "json") ∷ help_option ∷ [];
+      ∷ valued_option (codes "harts") ∷ flag_option (codes "whole") ∷ flag_option (codes "json") ∷ flag_option (codes "quiet")
+      ∷ help_option ∷ [];
 }
 
 -- `images PROGRAM SCHEDULE MOMENT [--medium FILE --harts N --whole --json]`
@@ -134,16 +136,18 @@ image_of_file_shape = record (new_shape (codes "image")) {
       ∷ valued_option (codes "medium") ∷ flag_option (codes "whole") ∷ help_option ∷ [];
 }
 
--- `unpersisted --trace FILE [--whole --json]`
+-- `unpersisted --trace FILE [--whole --json --quiet]`
 unfoldable pub unpersisted_of_file_shape : Shape
 unpersisted_of_file_shape = record (new_shape (codes "unpersisted")) {
-  rules = needed_option (codes "trace") ∷ flag_option (codes "whole") ∷ flag_option (codes "json") ∷ help_option ∷ [];
+  rules = needed_option (codes "trace") ∷ flag_option (codes "whole") ∷ flag_option (codes "json") ∷ flag_option (codes "quiet")
+      ∷ help_option ∷ [];
 }
 
--- `waste --trace FILE [--whole --json]`
+-- `waste --trace FILE [--whole --json --quiet]`
 unfoldable pub waste_of_file_shape : Shape
 waste_of_file_shape = record (new_shape (codes "waste")) {
-  rules = needed_option (codes "trace") ∷ flag_option (codes "whole") ∷ flag_option (codes "json") ∷ help_option ∷ [];
+  rules = needed_option (codes "trace") ∷ flag_option (codes "whole") ∷ flag_option (codes "json") ∷ flag_option (codes "quiet")
+      ∷ help_option ∷ [];
 }
 
 -- `explain PROGRAM SCHEDULE MOMENT IMAGE [--medium FILE --harts N --least --whole]`
@@ -154,39 +158,39 @@ explain_shape = record (new_shape (codes "explain")) {
       ∷ flag_option (codes "least") ∷ flag_option (codes "whole") ∷ help_option ∷ [];
 }
 
--- `check PLAN PROGRAM SCHEDULE [--medium FILE --harts N --workers N --moments A-B --go-on --whole --why --json --progress]`
+-- `check PLAN PROGRAM SCHEDULE [--medium FILE --harts N --workers N --moments A-B --go-on --whole --why --json --progress --quiet]`
 unfoldable pub check_shape : Shape
 check_shape = record (new_shape (codes "check")) {
   rules = needed_word (codes "PLAN") ∷ needed_word (codes "PROGRAM") ∷ needed_word (codes "SCHEDULE")
       ∷ valued_option (codes "medium") ∷ valued_option (codes "harts") ∷ valued_option (codes "workers")
       ∷ valued_option (codes "moments") ∷ flag_option (codes "go-on") ∷ flag_option (codes "whole") ∷ flag_option (codes "why")
-      ∷ flag_option (codes "json") ∷ flag_option (codes "progress") ∷ help_option ∷ [];
+      ∷ flag_option (codes "json") ∷ flag_option (codes "progress") ∷ flag_option (codes "quiet") ∷ help_option ∷ [];
 }
 
--- `judge PROGRAM SCHEDULE RECOVERY [--medium FILE --harts N --steps N --workers N --atomic --states N --overlapping --recovery-cuts N --moments A-B --go-on --whole --why --json --progress]`
+-- `judge PROGRAM SCHEDULE RECOVERY [--medium FILE --harts N --steps N --workers N --atomic --states N --overlapping --recovery-cuts N --moments A-B --go-on --whole --why --json --progress --quiet]`
 unfoldable pub judge_shape : Shape
 judge_shape = record (new_shape (codes "judge")) {
   rules = needed_word (codes "PROGRAM") ∷ needed_word (codes "SCHEDULE") ∷ needed_word (codes "RECOVERY")
       ∷ valued_option (codes "medium") ∷ valued_option (codes "harts") ∷ valued_option (codes "steps")
       ∷ valued_option (codes "workers") ∷ flag_option (codes "atomic") ∷ valued_option (codes "states")
       ∷ flag_option (codes "overlapping") ∷ valued_option (codes "recovery-cuts") ∷ valued_option (codes "moments") ∷ flag_option (codes "go-on") ∷ flag_option (codes "whole") ∷ flag_option (codes "why") ∷ flag_option (codes "json")
-      ∷ flag_option (codes "progress") ∷ help_option ∷ [];
+      ∷ flag_option (codes "progress") ∷ flag_option (codes "quiet") ∷ help_option ∷ [];
 }
 
--- `check PLAN --trace FILE [--medium FILE --workers N --moments A-B --go-on --whole --why --json --progress]`
+-- `check PLAN --trace FILE [--medium FILE --workers N --moments A-B --go-on --whole --why --json --progress --quiet]`
 unfoldable pub check_of_file_shape : Shape
 check_of_file_shape = record (new_shape (codes "check")) {
   rules = needed_word (codes "PLAN") ∷ needed_option (codes "trace") ∷ valued_option (codes "medium") ∷ valued_option (codes "workers")
       ∷ valued_option (codes "moments") ∷ flag_option (codes "go-on") ∷ flag_option (codes "whole") ∷ flag_option (codes "why")
-      ∷ flag_option (codes "json") ∷ flag_option (codes "progress") ∷ help_option ∷ [];
+      ∷ flag_option (codes "json") ∷ flag_option (codes "progress") ∷ flag_option (codes "quiet") ∷ help_option ∷ [];
 }
 
--- `judge --trace FILE RECOVERY [--medium FILE --steps N --workers N --overlapping --moments A-B --go-on --whole --why --json --progress]`
+-- `judge --trace FILE RECOVERY [--medium FILE --steps N --workers N --overlapping --moments A-B --go-on --whole --why --json --progress --quiet]`
 unfoldable pub judge_of_file_shape : Shape
 judge_of_file_shape = record (new_shape (codes "judge")) {
   rules = needed_option (codes "trace") ∷ needed_word (codes "RECOVERY") ∷ valued_option (codes "medium") ∷ valued_option (codes "steps")
       ∷ valued_option (codes "workers") ∷ flag_option (codes "overlapping") ∷ valued_option (codes "moments") ∷ flag_option (codes "go-on")
-      ∷ flag_option (codes "whole") ∷ flag_option (codes "why") ∷ flag_option (codes "json") ∷ flag_option (codes "progress")
+      ∷ flag_option (codes "whole") ∷ flag_option (codes "why") ∷ flag_option (codes "json") ∷ flag_option (codes "progress") ∷ flag_option (codes "quiet")
       ∷ help_option ∷ [];
 }
 

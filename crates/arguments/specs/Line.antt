@@ -122,10 +122,11 @@ pub record IsTrace (rows : List Row) (command : TraceCommand) : Type 0 where
   pub source : IsEventSource rows command.source
   pub json : command.json ≡ is_set (first_of (codes "json") rows)
 
--- `unpersisted` or `waste` of these events, as text or as JSON
+-- `unpersisted` or `waste` of these events, as text or as JSON, with notes or without
 pub record IsReport (rows : List Row) (command : ReportCommand) : Type 0 where
   pub source : IsEventSource rows command.source
   pub json : command.json ≡ is_set (first_of (codes "json") rows)
+  pub quiet : command.quiet ≡ is_set (first_of (codes "quiet") rows)
 
 -- `images` of this moment of these events, as text or as JSON
 pub record IsImages (rows : List Row) (command : ImagesCommand) : Type 0 where
@@ -148,7 +149,8 @@ pub record IsExplain (rows : List Row) (command : ExplainCommand) : Type 0 where
   pub least : command.least ≡ is_set (first_of (codes "least") rows)
 
 -- What `check` and `judge` have in common: these events, by so many workers, these moments of them or all, whether judging goes on behind those
--- with too many branches, whether a failure is explained, as text or as JSON, and whether it is told how far the check has come.
+-- with too many branches, whether a failure is explained, as text or as JSON, whether it is told how far the check has come, and whether notes are
+-- left out.
 pub record IsJudgedRun (rows : List Row) (judged : JudgedRun) : Type 0 where
   pub source : IsEventSource rows judged.source
   pub workers : IsWorkers rows judged.workers
@@ -157,6 +159,7 @@ pub record IsJudgedRun (rows : List Row) (judged : JudgedRun) : Type 0 where
   pub why : judged.why ≡ is_set (first_of (codes "why") rows)
   pub json : judged.json ≡ is_set (first_of (codes "json") rows)
   pub progress : judged.progress ≡ is_set (first_of (codes "progress") rows)
+  pub quiet : judged.quiet ≡ is_set (first_of (codes "quiet") rows)
 
 -- `check` of these events by this plan
 pub record IsCheck (rows : List Row) (command : CheckCommand) : Type 0 where

@@ -22,9 +22,9 @@ pub enum Command {
     Debug(DebugCommand),
     /// `trace PROGRAM SCHEDULE [--medium FILE --harts N --whole --json]`, or `trace --trace FILE [--whole]`.
     Trace(TraceCommand),
-    /// `unpersisted PROGRAM SCHEDULE [--medium FILE --harts N --whole --json]`, or `unpersisted --trace FILE [--whole --json]`.
+    /// `unpersisted PROGRAM SCHEDULE [--medium FILE --harts N --whole --json --quiet]`, or `unpersisted --trace FILE [--whole --json --quiet]`.
     Unpersisted(ReportCommand),
-    /// `waste PROGRAM SCHEDULE [--medium FILE --harts N --whole --json]`, or `waste --trace FILE [--whole --json]`.
+    /// `waste PROGRAM SCHEDULE [--medium FILE --harts N --whole --json --quiet]`, or `waste --trace FILE [--whole --json --quiet]`.
     Waste(ReportCommand),
     /// `images PROGRAM SCHEDULE MOMENT [--medium FILE --harts N --whole --json]`, or `images --trace FILE MOMENT [--whole --json]`.
     Images(ImagesCommand),
@@ -32,11 +32,11 @@ pub enum Command {
     Image(ImageCommand),
     /// `explain PROGRAM SCHEDULE MOMENT IMAGE [--medium FILE --harts N --least --whole]`.
     Explain(ExplainCommand),
-    /// `check PLAN PROGRAM SCHEDULE [--medium FILE --harts N --workers N --moments A-B --go-on --whole --why --json --progress]`, or
-    /// `check PLAN --trace FILE [--medium FILE --workers N --moments A-B --go-on --whole --why --json --progress]`.
+    /// `check PLAN PROGRAM SCHEDULE [--medium FILE --harts N --workers N --moments A-B --go-on --whole --why --json --progress --quiet]`, or
+    /// `check PLAN --trace FILE [--medium FILE --workers N --moments A-B --go-on --whole --why --json --progress --quiet]`.
     Check(CheckCommand),
-    /// `judge PROGRAM SCHEDULE RECOVERY [--medium FILE --harts N --steps N --workers N --atomic --states N --overlapping --recovery-cuts N --moments A-B --go-on --whole --why --json --progress]`,
-    /// or `judge --trace FILE RECOVERY [--medium FILE --steps N --workers N --overlapping --moments A-B --go-on --whole --why --json --progress]`.
+    /// `judge PROGRAM SCHEDULE RECOVERY [--medium FILE --harts N --steps N --workers N --atomic --states N --overlapping --recovery-cuts N --moments A-B --go-on --whole --why --json --progress --quiet]`,
+    /// or `judge --trace FILE RECOVERY [--medium FILE --steps N --workers N --overlapping --moments A-B --go-on --whole --why --json --progress --quiet]`.
     Judge(JudgeCommand),
     /// `check-all PLAN PROGRAM [--medium FILE --harts N --states N --any-end --why --json --progress]`.
     CheckAll(CheckAllCommand),
@@ -187,6 +187,8 @@ pub struct ReportCommand {
     pub source: EventSource,
     /// Whether the answer is one JSON object a line.
     pub json: bool,
+    /// Whether notes are left out.
+    pub quiet: bool,
 }
 
 /// What `images` is to do.
@@ -239,6 +241,8 @@ pub struct JudgedRun {
     pub json: bool,
     /// Whether standard error is told how far the check has come.
     pub progress: bool,
+    /// Whether notes are left out.
+    pub quiet: bool,
 }
 
 /// What `check` is to do.

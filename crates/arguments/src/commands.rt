@@ -159,6 +159,7 @@ fn judged_run(alloc: Global, found: &ArgMatches<'_>) -> Result<JudgedRun, LineFa
         why: flag(found, "why"),
         json: flag(found, "json"),
         progress: flag(found, "progress"),
+        quiet: flag(found, "quiet"),
         workers: number(alloc, found, &WORKERS)?,
         moments: optional_moments(alloc, found, "moments")?,
         source: event_source(alloc, found)?,
@@ -288,6 +289,7 @@ fn report(alloc: Global, found: &ArgMatches<'_>) -> Result<ReportCommand, LineFa
 {
     Ok(ReportCommand {
         json: flag(found, "json"),
+        quiet: flag(found, "quiet"),
         source: event_source(alloc, found)?,
     })
 }

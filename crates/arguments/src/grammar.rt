@@ -322,6 +322,11 @@ const PROGRESS: Argument = Argument::Flag {
     about: "Tell on standard error how far the check has come, at most twice a second",
 };
 
+const QUIET: Argument = Argument::Flag {
+    name: "quiet",
+    about: "With --whole, leave out the notes on standard error",
+};
+
 /// The subcommands that make files, in the order in which help tells them.
 static MAKING: [Subcommand; 3] = [
     Subcommand {
@@ -413,7 +418,7 @@ static ASKING_OF_RUNS: [Subcommand; 5] = [
         name: "unpersisted",
         group: Group::Look,
         about: "Print the stores of a run that weren't durable when their operation ended",
-        arguments: &[PROGRAM, SCHEDULE, MEDIUM, HARTS, WHOLE, JSON],
+        arguments: &[PROGRAM, SCHEDULE, MEDIUM, HARTS, WHOLE, JSON, QUIET],
         ending: ending!(
             "unpersisted append.s append.schedule --medium append.medium --whole",
             "With --trace FILE in place of PROGRAM and SCHEDULE it takes the events of a trace file: docs/TRACES.md.\n\n"
@@ -423,7 +428,7 @@ static ASKING_OF_RUNS: [Subcommand; 5] = [
         name: "waste",
         group: Group::Look,
         about: "Print the cleans and fences that a run makes in vain",
-        arguments: &[PROGRAM, SCHEDULE, MEDIUM, HARTS, WHOLE, JSON],
+        arguments: &[PROGRAM, SCHEDULE, MEDIUM, HARTS, WHOLE, JSON, QUIET],
         ending: ending!(
             "waste append.s append.schedule --medium append.medium --whole",
             "This speaks of the run by this schedule alone: only an instruction with `always` can be deleted, where each run has it.\n\n\
@@ -459,14 +464,14 @@ static ASKING_OF_FILES: [Subcommand; 5] = [
         name: "unpersisted",
         group: Group::Look,
         about: "Print the stores of a trace file that weren't durable when their operation ended",
-        arguments: &[TRACE, WHOLE, JSON],
+        arguments: &[TRACE, WHOLE, JSON, QUIET],
         ending: ending!("unpersisted --trace log.trace"),
     },
     Subcommand {
         name: "waste",
         group: Group::Look,
         about: "Print the cleans and fences of a trace file that are made in vain",
-        arguments: &[TRACE, WHOLE, JSON],
+        arguments: &[TRACE, WHOLE, JSON, QUIET],
         ending: ending!("waste --trace log.trace"),
     },
 ];
@@ -490,7 +495,7 @@ static JUDGING_OF_RUNS: [Subcommand; 2] = [
         about: "Judge every crash image of a run, or of a trace file, by a plan of operations",
         arguments: &[
             PLAN, PROGRAM, SCHEDULE, MEDIUM, HARTS, WORKERS, MOMENTS, GO_ON, WHOLE, WHY, JSON,
-            PROGRESS,
+            PROGRESS, QUIET,
         ],
         ending: ending!(
             "check append.plan append.s append.schedule --medium append.medium --whole --why",
@@ -519,6 +524,7 @@ static JUDGING_OF_RUNS: [Subcommand; 2] = [
             WHY,
             JSON,
             PROGRESS,
+            QUIET,
         ],
         ending: ending!(
             "judge ring.s ring.schedule ring-recovery.s --whole --why",
@@ -544,6 +550,7 @@ static JUDGING_OF_FILES: [Subcommand; 2] = [
             WHY,
             JSON,
             PROGRESS,
+            QUIET,
         ],
         ending: ending!(
             "check append.plan --trace append.trace --medium append.medium --whole --why"
@@ -566,6 +573,7 @@ static JUDGING_OF_FILES: [Subcommand; 2] = [
             WHY,
             JSON,
             PROGRESS,
+            QUIET,
         ],
         ending: ending!("judge --trace ring.trace ring-recovery.s --whole --why"),
     },

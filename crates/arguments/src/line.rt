@@ -211,17 +211,17 @@ fn asked_to_show(alloc: Global, name: &str, found: &ArgMatches<'_>) -> Result<Co
 /// - `debug PROGRAM [--medium FILE --harts N --capacity N]`
 /// - `trace PROGRAM SCHEDULE [--medium FILE --harts N --whole --json]`
 /// - `trace --trace FILE [--whole]`
-/// - `unpersisted PROGRAM SCHEDULE [--medium FILE --harts N --whole --json]`
-/// - `waste PROGRAM SCHEDULE [--medium FILE --harts N --whole --json]`
+/// - `unpersisted PROGRAM SCHEDULE [--medium FILE --harts N --whole --json --quiet]`
+/// - `waste PROGRAM SCHEDULE [--medium FILE --harts N --whole --json --quiet]`
 /// - `images PROGRAM SCHEDULE MOMENT [--medium FILE --harts N --whole --json]`
 /// - `images --trace FILE MOMENT [--whole --json]`
 /// - `image PROGRAM SCHEDULE MOMENT IMAGE OUT [--medium FILE --harts N --whole]`
 /// - `image --trace FILE MOMENT IMAGE OUT [--medium FILE --whole]`
 /// - `explain PROGRAM SCHEDULE MOMENT IMAGE [--medium FILE --harts N --least --whole]`
-/// - `check PLAN PROGRAM SCHEDULE [--medium FILE --harts N --workers N --moments A-B --go-on --whole --why --json --progress]`
-/// - `check PLAN --trace FILE [--medium FILE --workers N --moments A-B --go-on --whole --why --json --progress]`
-/// - `judge PROGRAM SCHEDULE RECOVERY [--medium FILE --harts N --steps N --workers N --atomic --states N --overlapping --recovery-cuts N --moments A-B --go-on --whole --why --json --progress]`
-/// - `judge --trace FILE RECOVERY [--medium FILE --steps N --workers N --overlapping --moments A-B --go-on --whole --why --json --progress]`
+/// - `check PLAN PROGRAM SCHEDULE [--medium FILE --harts N --workers N --moments A-B --go-on --whole --why --json --progress --quiet]`
+/// - `check PLAN --trace FILE [--medium FILE --workers N --moments A-B --go-on --whole --why --json --progress --quiet]`
+/// - `judge PROGRAM SCHEDULE RECOVERY [--medium FILE --harts N --steps N --workers N --atomic --states N --overlapping --recovery-cuts N --moments A-B --go-on --whole --why --json --progress --quiet]`
+/// - `judge --trace FILE RECOVERY [--medium FILE --steps N --workers N --overlapping --moments A-B --go-on --whole --why --json --progress --quiet]`
 /// - `check-all PLAN PROGRAM [--medium FILE --harts N --states N --any-end --why --json --progress]`
 /// - `judge-all PROGRAM RECOVERY [--medium FILE --harts N --steps N --states N --any-end --why --json --progress]`
 /// - `answer RECOVERY [--medium FILE --steps N]`

@@ -1,5 +1,5 @@
 -- What is known of a stream to which a text is written part by part.
-use Rattle.std.proofs.Common.{◌≡◌, ◌∙◌, ◌+◌, ◌++◌, ℕ, List, [], Option, Some, None, Result, Ok, Err, ap, sym, length, take, drop}
+use Rattle.std.proofs.Common.{◌≡◌, ◌∙◌, ◌+◌, ◌++◌, ℕ, List, [], ◌∷◌, Option, Some, None, Result, Ok, Err, ap, arith, refl, sym, length, take, drop}
 use Rattle.std.proofs.Math.Seq.{take-add, take-length}
 use Rattle.std.proofs.lemmas.List.{append_assoc, append-nil, take-append-drop}
 use Rattle.std.specs.Prelude.{OnErr, OnOk}
@@ -65,3 +65,11 @@ pub front_either : (first second : Option (List ℕ)) (text : List ℕ) (outcome
     OnErr outcome (AppendsFront first second text) → AppendsFront first second text
 front_either first second text (Ok done) whole part = front_all first second text whole
 front_either first second text (Err failed) whole part = part
+
+-- an empty text
+empty_is : (text : List ℕ) → length text ≡ 0 → text ≡ []
+empty_is [] none = refl
+empty_is (x ∷ text) none = absurd (omega (arith, none))
+
+pub nothing_written : (stream : Option (List ℕ)) (text : List ℕ) → length text ≡ 0 → Appends stream stream text
+nothing_written stream text none = rw (empty_is text none) (part_none stream [])

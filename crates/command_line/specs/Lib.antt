@@ -25,6 +25,7 @@ pub mod Listing
 pub mod Sizes
 pub mod Making
 pub mod Naming
+pub mod Noting
 pub mod Outcomes
 pub mod Picturing
 pub mod Progress

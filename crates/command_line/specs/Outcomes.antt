@@ -25,6 +25,7 @@ use Rattle.command_line.specs.JudgingRuns.{JudgesRun}
 use Rattle.command_line.specs.JudgingAll.{IsOpen as IsOpenJudgeAll, JudgesAll, OpensJudgeAll}
 use Rattle.command_line.specs.Listing.{ListsFile}
 use Rattle.command_line.specs.Making.{MakesFile}
+use Rattle.command_line.specs.Noting.{GetsNotes, JudgesNoted, NotesCheck, NotesJudge}
 use Rattle.command_line.specs.Persisting.{UnpersistedFile}
 use Rattle.command_line.specs.Picturing.{PicturesFile}
 use Rattle.command_line.specs.Running.{ReplaysFile, RunsFile}
@@ -59,8 +60,8 @@ CarriesOut reads writes (Run command) = LeadsTo (RunsFile reads writes command) 
 CarriesOut reads writes (Replay command) = LeadsTo (ReplaysFile reads writes command) actions.Print
 CarriesOut reads writes (Debug command) = LeadsTo (OpensFile reads command) actions.Debug
 CarriesOut reads writes (Trace command) = LeadsTo (TracesFile reads command) actions.Print
-CarriesOut reads writes (Unpersisted command) = LeadsTo (UnpersistedFile reads command) actions.Print
-CarriesOut reads writes (Waste command) = LeadsTo (WasteFile reads command) actions.Print
+CarriesOut reads writes (Unpersisted command) = LeadsTo (UnpersistedFile reads command) actions.PrintNoted
+CarriesOut reads writes (Waste command) = LeadsTo (WasteFile reads command) actions.PrintNoted
 CarriesOut reads writes (Images command) = LeadsTo (CountsFile reads command) actions.Print
 CarriesOut reads writes (Image command) = LeadsTo (ImageFile reads writes command) actions.Print
 CarriesOut reads writes (Explain command) = LeadsTo (ExplainsFile reads command) actions.Print
@@ -79,6 +80,7 @@ CarriesOut reads writes (Code command) = LeadsTo (Still (Prints (code_text comma
 -- what is known of what is left to be done: of a verdict, that its files have been read
 abbrev pub IsReady : Action → Type 0
 IsReady (actions.Print answer) = Unit {0}
+IsReady (actions.PrintNoted noted) = Unit {0}
 IsReady (actions.Check check) = IsOpen check
 IsReady (actions.Judge judge) = IsOpenJudge judge
 IsReady (actions.CheckAll check) = IsOpenCheckAll check
@@ -126,18 +128,18 @@ abbrev pub IsPrintedIf : {W : Type 0} → (W → Option (List ℕ)) → W → W 
 IsPrintedIf contents old new (Ok answer) ended = IsPrinted contents old new answer ended
 IsPrintedIf contents old new (Err failure) ended = (ended ≡ Err failure) × (new ≡ old)
 
--- what is found of a check whose files have been read, printed; `said` is what is known of the bytes that standard error holds
+-- what is found of a check whose files have been read, printed, once standard error has got the notes; `said` is what is known of the bytes that standard error holds
 pub record DeliversCheck {W E : Type 0} (contents : W → Option (List ℕ)) (said : E → Option (List ℕ)) (check : OpenCheck) (old new : W) (errors errors' : E)
     (ended : Result ℕ Failure) : Type 0 where
   pub found : Result Answer Failure
-  pub judges : JudgesCheck said check errors found errors'
+  pub judges : JudgesNoted said (NotesCheck check) (JudgesCheck said check) errors found errors'
   pub printed : IsPrintedIf contents old new found ended
 
 -- the same of a run that is judged by a recovery routine
 pub record DeliversJudge {W E : Type 0} (contents : W → Option (List ℕ)) (said : E → Option (List ℕ)) (judge : OpenJudge) (old new : W) (errors errors' : E)
     (ended : Result ℕ Failure) : Type 0 where
   pub found : Result Answer Failure
-  pub judges : JudgesRun said judge errors found errors'
+  pub judges : JudgesNoted said (NotesJudge judge) (JudgesRun said judge) errors found errors'
   pub printed : IsPrintedIf contents old new found ended
 
 -- what is concluded is printed: an answer, or a schedule and behind it the failure of its run; of a failure nothing is
@@ -161,6 +163,8 @@ abbrev pub Delivers : {R W E : Type 0} → (R → Option (List ℕ)) → (W → 
     → Result Action Failure → Result ℕ Failure → Type 0
 Delivers remaining contents said old new errors errors' (Ok (actions.Print answer)) ended =
     (new.0 ≡ old.0) × IsPrinted contents old.1 new.1 answer ended × (errors' ≡ errors)
+Delivers remaining contents said old new errors errors' (Ok (actions.PrintNoted noted)) ended =
+    (new.0 ≡ old.0) × IsPrinted contents old.1 new.1 noted.answer ended × GetsNotes said noted.notes.items errors errors'
 Delivers remaining contents said old new errors errors' (Ok (actions.Check check)) ended =
     (new.0 ≡ old.0) × DeliversCheck contents said check old.1 new.1 errors errors' ended
 Delivers remaining contents said old new errors errors' (Ok (actions.Judge judge)) ended =
@@ -186,8 +190,8 @@ pub record Ends {F R W E : Type 0} (reads : Reads F) (writes : Writes F)
   pub comes : ComesTo reads writes words files files' outcome
   pub delivers : Delivers remaining contents said streams streams' errors errors' outcome ended
 
--- a status with which the program may end so; standard error stays as it was but for a failure, for what `--progress` tells, and for the line of
--- `judge` that no moment is judged
+-- a status with which the program may end so; standard error stays as it was but for a failure, for notes, for what `--progress` tells, and for
+-- the line of `judge` that no moment is judged
 pub record EndsWith {F R W E : Type 0} (reads : Reads F) (writes : Writes F)
     (remaining : R → Option (List ℕ)) (contents : W → Option (List ℕ)) (said : E → Option (List ℕ)) (words : List (List ℕ)) (files files' : F)
     (streams streams' : R × W) (errors errors' : E) (status : ℕ) : Type 0 where

@@ -13,9 +13,11 @@ use Rattle.report.specs.Unpersisted.{count_of, unpersisted_text}
 use Rattle.report.specs.Told.{events_in}
 use Rattle.report.specs.declared.told.ToldEvents.{ToldEvents}
 use Rattle.store_trace.specs.declared.event.Event.{Event}
+use Rattle.command_line.specs.Noting.{IsNoted, NotesEvents, are_wanted}
 use Rattle.command_line.specs.Steps.{First, Reads, Step, Still}
 use Rattle.command_line.specs.Traces.{AreTold, OpensEvents, events_of, name_in}
 use Rattle.command_line.specs.declared.answer.Answer.{Answer}
+use Rattle.command_line.specs.declared.answer.NotedAnswer.{NotedAnswer}
 use Rattle.command_line.specs.declared.events.OpenEvents.{OpenEvents}
 use Rattle.command_line.specs.declared.failure.Failure.{Failure}
 use Rattle.command_line.specs.declared.failure.Failure.TheVariants.{Memory}
@@ -62,8 +64,10 @@ pub record IsStoresAnswer (json : Bool) (opened : OpenEvents) (found : Unpersist
 pub record PrintsStores (json : Bool) (opened : OpenEvents) (found : Unpersisted) (outcome : Result Answer Failure) : Type 0 where
   pub prints : MatchResult outcome (IsStoresAnswer json opened found) (λ failure. failure ≡ Memory)
 
-abbrev pub UnpersistedFile : {F : Type 0} → Reads F → ReportCommand → Step F Answer
+abbrev pub UnpersistedFile : {F : Type 0} → Reads F → ReportCommand → Step F NotedAnswer
 UnpersistedFile reads command =
     First (OpensEvents reads command.source) (λ opened.
+    First (Still (NotesEvents (are_wanted command.source command.quiet) opened)) (λ notes.
     First (Still (Finds (events_of opened))) (λ found.
-    Still (PrintsStores command.json opened found)))
+    First (Still (PrintsStores command.json opened found)) (λ answer.
+    Still (IsNoted notes answer)))))

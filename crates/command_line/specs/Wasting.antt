@@ -13,9 +13,11 @@ use Rattle.report.specs.Waste.{IsWasteText}
 use Rattle.report.specs.Told.{events_in}
 use Rattle.report.specs.declared.told.ToldEvents.{ToldEvents}
 use Rattle.store_trace.specs.declared.event.Event.{Event}
+use Rattle.command_line.specs.Noting.{IsNoted, NotesEvents, are_wanted}
 use Rattle.command_line.specs.Steps.{First, Reads, Step, Still}
 use Rattle.command_line.specs.Traces.{AreTold, OpensEvents, events_of}
 use Rattle.command_line.specs.declared.answer.Answer.{Answer}
+use Rattle.command_line.specs.declared.answer.NotedAnswer.{NotedAnswer}
 use Rattle.command_line.specs.declared.events.OpenEvents.{OpenEvents}
 use Rattle.command_line.specs.declared.failure.Failure.{Failure}
 use Rattle.command_line.specs.declared.failure.Failure.TheVariants.{Memory}
@@ -45,8 +47,10 @@ pub record IsWasteAnswer (json : Bool) (opened : OpenEvents) (reasons : List (Op
 pub record PrintsWaste (json : Bool) (opened : OpenEvents) (reasons : List (Option Reason)) (outcome : Result Answer Failure) : Type 0 where
   pub prints : MatchResult outcome (IsWasteAnswer json opened reasons) (λ failure. failure ≡ Memory)
 
-abbrev pub WasteFile : {F : Type 0} → Reads F → ReportCommand → Step F Answer
+abbrev pub WasteFile : {F : Type 0} → Reads F → ReportCommand → Step F NotedAnswer
 WasteFile reads command =
     First (OpensEvents reads command.source) (λ opened.
+    First (Still (NotesEvents (are_wanted command.source command.quiet) opened)) (λ notes.
     First (Still (FindsNeedless (events_of opened))) (λ reasons.
-    Still (PrintsWaste command.json opened reasons)))
+    First (Still (PrintsWaste command.json opened reasons)) (λ answer.
+    Still (IsNoted notes answer)))))

@@ -25,6 +25,13 @@ impl Answer {
     }
 }
 
+/// An answer, and the lines that standard error gets before it.
+#[derive(Drop)]
+pub struct NotedAnswer {
+    pub notes: Vec<u8>,
+    pub answer: Answer,
+}
+
 /// What is found of every schedule of a program.
 #[derive(Drop)]
 pub(crate) enum Conclusion {
@@ -39,6 +46,8 @@ pub(crate) enum Conclusion {
 pub enum Action {
     /// An answer is to be printed.
     Print(Answer),
+    /// The same once standard error has got notes.
+    PrintNoted(NotedAnswer),
     /// A run is to be judged. What is found is printed, and standard error is told how far the check has come where that is asked for.
     Check(OpenCheck),
     /// The same by a recovery routine.

@@ -9,9 +9,9 @@ ghost use Rattle.command_line.specs.Debugging.{IsOpen as IsOpenDebug};
 ghost use Rattle.command_line.specs.Judging.{IsOpen as IsOpenJudge};
 ghost use Rattle.command_line.specs.JudgingAll.{IsOpen as IsOpenJudgeAll};
 ghost use Rattle.command_line.specs.Outcomes.{AnswersFault, CarriesOut, ComesTo, IsReady};
-ghost use Rattle.command_line.specs.declared.answer.Action.TheVariants.{Check, CheckAll, Debug, Judge, JudgeAll, Print};
+ghost use Rattle.command_line.specs.declared.answer.Action.TheVariants.{Check, CheckAll, Debug, Judge, JudgeAll, Print, PrintNoted};
 
-use crate::answer::{Action, Answer};
+use crate::answer::{Action, Answer, NotedAnswer};
 use crate::answering::answer_file;
 use crate::asm::assemble_file;
 use crate::check::open_check;
@@ -77,8 +77,8 @@ fn carry_out<T: Threads + Wait + Sync, F: Files>(
         Command::Replay(command) => printed(replay_file(alloc, &command, files)),
         Command::Debug(command) => debugged(open_file(alloc, &command, files)),
         Command::Trace(command) => printed(trace_file(alloc, &command, files)),
-        Command::Unpersisted(command) => printed(unpersisted_file(alloc, &command, files)),
-        Command::Waste(command) => printed(waste_file(alloc, &command, files)),
+        Command::Unpersisted(command) => noted(unpersisted_file(alloc, &command, files)),
+        Command::Waste(command) => noted(waste_file(alloc, &command, files)),
         Command::Images(command) => printed(count_file(alloc, &command, files)),
         Command::Image(command) => printed(image_file(alloc, &command, files)),
         Command::Explain(command) => printed(explain_file(alloc, &command, files)),
@@ -102,6 +102,14 @@ fn printed(answer: Result<Answer, Failure>) -> Result<Action, Failure>
     ensures ready { IfOk result IsReady }
 {
     Ok(Action::Print(answer?))
+}
+
+/// An answer is printed once standard error has got notes.
+fn noted(answer: Result<NotedAnswer, Failure>) -> Result<Action, Failure>
+    ensures is { result ≡ result_map_both PrintNoted (λ failure. failure) answer }
+    ensures ready { IfOk result IsReady }
+{
+    Ok(Action::PrintNoted(answer?))
 }
 
 /// A run is judged.

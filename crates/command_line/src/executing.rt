@@ -6,17 +6,17 @@ ghost use Rattle.command_line.specs.AllSchedules.{FailsBehind};
 ghost use Rattle.command_line.specs.CheckingAll.{ChecksAll, IsOpen as IsOpenCheckAll};
 ghost use Rattle.command_line.specs.Judging.{IsOpen as IsOpenJudge};
 ghost use Rattle.command_line.specs.JudgingAll.{IsOpen as IsOpenJudgeAll, JudgesAll};
+ghost use Rattle.command_line.specs.Noting.{GetsNotes};
 ghost use Rattle.command_line.specs.Outcomes.{Delivers, DeliversCheck, DeliversConclusion, DeliversJudge, Ends, EndsWith, IsConcluded, IsPrinted, IsReady};
 
-use crate::answer::{Action, Answer, Conclusion};
-use crate::check::judge_check;
+use crate::answer::{Action, Answer, Conclusion, NotedAnswer};
 use crate::check_all::check_every;
 use crate::commands::outcome;
 use crate::debug::hold_session;
 use crate::failure::Failure;
 use crate::files::Files;
-use crate::judge::judge_run;
 use crate::judge_all::judge_every;
+use crate::noting::{judge_noted_check, judge_noted_run, write_notes};
 use crate::opened::{OpenCheck, OpenCheckAll, OpenJudge, OpenJudgeAll};
 use crate::streams::print;
 use crate::telling::report_failure;
@@ -32,8 +32,9 @@ use std::time::Clock;
 /// couldn't be read or written. `words` begins with the program's name.
 ///
 /// An answer goes to standard output, and nothing of a failure does, but the schedule that `check-all` or `judge-all` found of a run which is
-/// refused. The lines of a failure go to standard error, and where they can't be written the status still stands. With `--progress` `check`, `judge`,
-/// `check-all` and `judge-all` tell there, before that, how far they have come. Only the session of `debug` reads standard input, once its files have been read and its
+/// refused. The lines of a failure go to standard error, and where they can't be written the status still stands. With `--whole` and without
+/// `--quiet`, `check`, `judge`, `unpersisted` and `waste` write notes there, before all else. With `--progress` `check`, `judge`,
+/// `check-all` and `judge-all` tell there, before a failure, how far they have come. Only the session of `debug` reads standard input, once its files have been read and its
 /// machine made. `run` of several harts, `check`, `judge`, `check-all` and `judge-all` start threads, of `rt`; what the last four print
 /// doesn't depend on how many, and what `run` prints is the run that its harts made.
 pub fn execute<T: Threads + Wait + Sync + Clock, F: Files, R: Read, W: Write, E: Write>(
@@ -56,7 +57,7 @@ pub fn execute<T: Threads + Wait + Sync + Clock, F: Files, R: Read, W: Write, E:
     }
 }
 
-/// Answers a command line on standard output, and gives the status. Standard error gets nothing but what `--progress` tells.
+/// Answers a command line on standard output, and gives the status. Standard error gets nothing but notes and what `--progress` tells.
 pub fn answer_line<T: Threads + Wait + Sync + Clock, F: Files, R: Read, W: Write, E: Write>(
     rt: &T,
     alloc: Global,
@@ -85,6 +86,7 @@ fn deliver<T: Threads + Sync + Clock, R: Read, W: Write, E: Write>(
 {
     match outcome? {
         Action::Print(answer) => print_answer(answer, output),
+        Action::PrintNoted(noted) => print_noted(noted, output, errors),
         Action::Check(check) => deliver_check(rt, alloc, &check, output, errors),
         Action::Judge(judge) => deliver_judge(rt, alloc, &judge, output, errors),
         Action::CheckAll(check) => deliver_check_all(rt, alloc, check, output, errors),
@@ -103,7 +105,7 @@ fn deliver_check<T: Threads + Sync + Clock, W: Write, E: Write>(
     requires { IsOpen check.now }
     ensures { DeliversCheck W.contents E.contents check.now output.old output.new errors.old errors.new result }
 {
-    let answer = judge_check(rt, alloc, check, errors)?;
+    let answer = judge_noted_check(rt, alloc, check, errors)?;
     print_answer(answer, output)
 }
 
@@ -117,7 +119,7 @@ fn deliver_judge<T: Threads + Sync + Clock, W: Write, E: Write>(
     requires { IsOpenJudge judge.now }
     ensures { DeliversJudge W.contents E.contents judge.now output.old output.new errors.old errors.new result }
 {
-    let answer = judge_run(rt, alloc, judge, errors)?;
+    let answer = judge_noted_run(rt, alloc, judge, errors)?;
     print_answer(answer, output)
 }
 
@@ -166,6 +168,19 @@ fn fail_behind<W: Write>(text: &str, failure: Failure, output: &mut W) -> Failur
         Ok(()) => failure,
         Err(_) => Failure::File,
     }
+}
+
+/// Writes notes on standard error, and whatever comes of that prints the answer.
+fn print_noted<W: Write, E: Write>(
+    noted: NotedAnswer,
+    output: &mut W,
+    errors: &mut E,
+) -> Result<u8, Failure>
+    ensures printed { IsPrinted W.contents output.old output.new noted.answer result }
+    ensures notes { GetsNotes E.contents noted.notes.items errors.old errors.new }
+{
+    let _ = write_notes(&noted.notes, errors);
+    print_answer(noted.answer, output)
 }
 
 fn print_answer<W: Write>(answer: Answer, output: &mut W) -> Result<u8, Failure>

@@ -29,6 +29,7 @@ mod listing;
 mod made_run;
 mod mkfs;
 mod naming;
+mod noting;
 mod opened;
 mod picture;
 mod progress;
@@ -49,7 +50,7 @@ mod waste;
 mod whole;
 mod writing;
 
-pub use answer::{Action, Answer};
+pub use answer::{Action, Answer, NotedAnswer};
 pub use commands::outcome;
 pub use executing::{answer_line, execute};
 pub use failure::{Failure, Refusal};

@@ -6,27 +6,30 @@ ghost use Rattle.report.specs.Places.{origin_in};
 ghost use Rattle.report.specs.Told.{events_in};
 ghost use Rattle.std.specs.Prelude.{◌≡◌, IfOk, map, string_bytes};
 
-use crate::answer::Answer;
+use crate::answer::{Answer, NotedAnswer};
 use crate::events::{OpenEvents, open_events};
 use crate::failure::Failure;
 use crate::files::Files;
+use crate::noting::{are_wanted, notes_of};
 use arguments::ReportCommand;
 use durability::{EndLoss, Lost, Unpersisted, tell_unpersisted};
 use report::{ToldEvents, unpersisted_json, unpersisted_text};
 use std::alloc::{AllocError, Global};
 
 /// `unpersisted`: reads the files of a program, a schedule and a medium, or a trace file, and prints the stores that weren't durable
-/// when their operation ended, each with what it lacks.
+/// when their operation ended, each with what it lacks. With `--whole` it notes events of a run at which a processor may lose or reorder stores.
 pub(crate) fn unpersisted_file<F: Files>(
     alloc: Global,
     command: &ReportCommand,
     files: &mut F,
-) -> Result<Answer, Failure>
+) -> Result<NotedAnswer, Failure>
     ensures { UnpersistedFile F.read_gives command.now files.old result files.new }
 {
     let opened = open_events(alloc, &command.source, files)?;
+    let notes = notes_of(alloc, &opened, are_wanted(&command.source, command.quiet))?;
     let found = found(alloc, &opened)?;
-    stores_answer(alloc, &opened, &found, command.json)
+    let answer = stores_answer(alloc, &opened, &found, command.json)?;
+    Ok(NotedAnswer { notes, answer })
 }
 
 /// The stores that weren't durable in time.

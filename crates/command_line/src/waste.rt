@@ -8,27 +8,31 @@ ghost use Rattle.std.specs.List.{zip};
 ghost use Rattle.std.specs.Prelude.{◌≡◌, IfOk, length, string_bytes};
 ghost use Rattle.std.specs.Result.{result_map_both};
 
-use crate::answer::Answer;
+use crate::answer::{Answer, NotedAnswer};
 use crate::events::{OpenEvents, open_events};
 use crate::failure::Failure;
 use crate::files::Files;
+use crate::noting::{are_wanted, notes_of};
 use arguments::ReportCommand;
 use durability::{Reason, needless_events};
 use report::{ToldEvents, waste_json, waste_text};
 use std::alloc::{AllocError, Global};
 
 /// `waste`: reads the files of a program, a schedule and a medium, or a trace file, and prints the cleans and fences that are made in
-/// vain, each with the reason, and the instructions or places that make none but such.
+/// vain, each with the reason, and the instructions or places that make none but such. With `--whole` it notes events of a run at which a
+/// processor may lose or reorder stores.
 pub(crate) fn waste_file<F: Files>(
     alloc: Global,
     command: &ReportCommand,
     files: &mut F,
-) -> Result<Answer, Failure>
+) -> Result<NotedAnswer, Failure>
     ensures { WasteFile F.read_gives command.now files.old result files.new }
 {
     let opened = open_events(alloc, &command.source, files)?;
+    let notes = notes_of(alloc, &opened, are_wanted(&command.source, command.quiet))?;
     let reasons = found(alloc, &opened)?;
-    waste_answer(alloc, &opened, &reasons, command.json)
+    let answer = waste_answer(alloc, &opened, &reasons, command.json)?;
+    Ok(NotedAnswer { notes, answer })
 }
 
 /// Why each event is needless, where it is.

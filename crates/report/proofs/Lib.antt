@@ -11,5 +11,6 @@ mod TextWords
 mod SourceLines
 mod DisassemblyListing
 mod EntryLines
+mod Noting
 pub mod TracePlaces
 pub mod PrintedNames

@@ -23,6 +23,7 @@ pub mod Rows
 pub mod Names
 pub mod Volumes
 pub mod Words
+pub mod Notes
 pub mod Begun
 pub mod Listing
 pub mod Picturing

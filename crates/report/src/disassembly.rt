@@ -2,6 +2,6 @@
 
 mod begun;
 mod printed;
-mod words;
+pub(crate) mod words;
 
 pub use printed::listing_text;

@@ -24,10 +24,10 @@ pub returns-in-Trace-clause-carries : goal.returns-in-Trace-clause-carries
 returns-in-Trace-clause-carries g c = rw c.in-Trace.is (record { found = c.trace_file.result; finding = c.trace_file.ensures; leads = c.printed-in-Trace.ensures.is })
 
 pub returns-in-Unpersisted-clause-carries : goal.returns-in-Unpersisted-clause-carries
-returns-in-Unpersisted-clause-carries g c = rw c.in-Unpersisted.is (record { found = c.unpersisted_file.result; finding = c.unpersisted_file.ensures; leads = c.printed-in-Unpersisted.ensures.is })
+returns-in-Unpersisted-clause-carries g c = rw c.in-Unpersisted.is (record { found = c.unpersisted_file.result; finding = c.unpersisted_file.ensures; leads = c.noted.ensures.is })
 
 pub returns-in-Waste-clause-carries : goal.returns-in-Waste-clause-carries
-returns-in-Waste-clause-carries g c = rw c.in-Waste.is (record { found = c.waste_file.result; finding = c.waste_file.ensures; leads = c.printed-in-Waste.ensures.is })
+returns-in-Waste-clause-carries g c = rw c.in-Waste.is (record { found = c.waste_file.result; finding = c.waste_file.ensures; leads = c.noted-in-Waste.ensures.is })
 
 pub returns-in-Images-clause-carries : goal.returns-in-Images-clause-carries
 returns-in-Images-clause-carries g c = rw c.in-Images.is (record { found = c.count_file.result; finding = c.count_file.ensures; leads = c.printed-in-Images.ensures.is })
