@@ -10,6 +10,7 @@ pub mod Demanding
 pub mod Drawing
 pub mod Explaining
 pub mod Failures
+pub mod FileNames
 pub mod ImageFiles
 pub mod Imaging
 pub mod JudgedEvents
@@ -22,6 +23,8 @@ pub mod JudgingRuns
 pub mod Judging
 pub mod JudgingAll
 pub mod Listing
+pub mod LostFiles
+pub mod Meanings
 pub mod Sizes
 pub mod Making
 pub mod Naming
@@ -33,7 +36,10 @@ pub mod MakingRuns
 pub mod Reports
 pub mod Running
 pub mod Showing
+pub mod Shown
+pub mod SourceLines
 pub mod Steps
+pub mod Telling
 pub mod Traces
 pub mod Tracing
 pub mod Persisting

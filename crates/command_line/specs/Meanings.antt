@@ -1,0 +1,113 @@
+-- What is printed of a failure beyond its first line: the file that is refused, the line in it, and what the code means. And the object of a
+-- refusal in JSON.
+use Rattle.std.specs.Prelude.{◌≡◌, ℕ, List, [], ◌∷◌, ◌++◌, Option, Some, None, Result, Ok, MatchOption, MatchResult, codes, decimal, length}
+use Rattle.arguments.specs.Codes.{IsMeaningOf}
+use Rattle.arguments.specs.declared.codes.table.Meaning.{Meaning}
+use Rattle.command_line.specs.CutVerdicts.{number_or_null}
+use Rattle.command_line.specs.Failures.{refusal_code}
+use Rattle.command_line.specs.FileNames.{Names}
+use Rattle.command_line.specs.LostFiles.{FindsLost}
+use Rattle.command_line.specs.Reports.{line_end}
+use Rattle.command_line.specs.Shown.{shown, shown_json}
+use Rattle.command_line.specs.SourceLines.{numbered_line, shown_line}
+use Rattle.command_line.specs.Steps.{First, Reads, ReadsFile, Step, Still}
+use Rattle.command_line.specs.declared.failure.Failure.{Failure}
+use Rattle.command_line.specs.declared.failure.Failure.TheVariants.{File, Memory, Refused}
+use Rattle.command_line.specs.declared.failure.Refusal.{Refusal}
+use Rattle.command_line.specs.declared.failure.Refusal.TheVariants.{Assembly, Object, Plan, ScheduleText, Trace, Medium, Volume, Step as Stopped, Foreign, Moment, Image, Operation, Marks, RecoverySource, RecoveryObject, Elf, RecoveryElf}
+
+-- the one, where there is one, and else the other
+abbrev pub first_name : Option (List ℕ) → Option (List ℕ) → Option (List ℕ)
+first_name None other = other
+first_name (Some name) other = Some name
+
+-- the file that is refused, of those that a command reads: none of them alone is, where a moment or an image isn't there
+abbrev pub refused_file : Names → Refusal → Option (List ℕ)
+refused_file names (Assembly fault) = names.program
+refused_file names (Object fault) = names.program
+refused_file names (Elf fault) = names.program
+refused_file names (Plan fault) = names.plan
+refused_file names ScheduleText = names.schedule
+refused_file names (Trace fault) = names.trace
+refused_file names Medium = names.medium
+refused_file names (Volume fault) = names.medium
+refused_file names (Stopped fault) = names.schedule
+refused_file names Foreign = names.program
+refused_file names Moment = None
+refused_file names Image = None
+refused_file names (Operation fault) = first_name names.program names.trace
+refused_file names (Marks fault) = first_name names.program names.trace
+refused_file names (RecoverySource fault) = names.recovery
+refused_file names (RecoveryObject fault) = names.recovery
+refused_file names (RecoveryElf fault) = names.recovery
+
+-- the line at fault in it
+abbrev pub refused_line : Refusal → Option ℕ
+refused_line (Assembly fault) = Some fault.line
+refused_line (Plan fault) = Some fault.line
+refused_line (Trace fault) = Some fault.line
+refused_line (RecoverySource fault) = Some fault.line
+refused_line refusal = None
+
+-- `FILE:LINE: `, or `FILE: ` where no line is at fault
+abbrev pub place_text : Option (List ℕ) → Option ℕ → List ℕ
+place_text None line = []
+place_text (Some name) None = shown name ++ codes ": "
+place_text (Some name) (Some line) = shown name ++ (codes ":" ++ (decimal line ++ codes ": "))
+
+-- what the file has there: the line at fault, or of a medium how many bytes it has
+abbrev pub line_detail : List ℕ → Option ℕ → List ℕ
+line_detail file None = []
+line_detail file (Some line) = shown_line (numbered_line file line)
+
+abbrev pub detail_text : Refusal → List ℕ → List ℕ
+detail_text Medium file = codes ": " ++ (decimal (length file) ++ codes " bytes")
+detail_text refusal file = line_detail file (refused_line refusal)
+
+-- the row of the table for a code, if it has one
+abbrev pub IsRowOf : List ℕ → Option Meaning → Type 0
+IsRowOf code row = MatchOption row ((m : Meaning) → ¬ IsMeaningOf code m) (IsMeaningOf code)
+
+-- `FILE:LINE: MEANING: LINE'S TEXT`
+abbrev pub refused_text : Option (List ℕ) → Refusal → List ℕ → Option Meaning → List ℕ
+refused_text name refusal file None = []
+refused_text name refusal file (Some m) = place_text name (refused_line refusal) ++ (m.meaning.now ++ (detail_text refusal file ++ line_end))
+
+-- this is said of a refusal, where the refused file has these bytes
+pub record SaysRefused (name : Option (List ℕ)) (refusal : Refusal) (file : List ℕ) (outcome : Result (List ℕ) Failure) : Type 0 where
+  pub says : MatchResult outcome (λ text. (row : Option Meaning) × IsRowOf (refusal_code refusal) row × (text ≡ refused_text name refusal file row))
+      (λ failure. failure ≡ Memory)
+
+-- the refused file is read once more
+abbrev pub ReadsRefused : {F : Type 0} → Reads F → Refusal → Option (List ℕ) → Step F (List ℕ)
+ReadsRefused reads refusal None = Still (SaysRefused None refusal [])
+ReadsRefused reads refusal (Some name) = First (ReadsFile reads name) (λ file. Still (SaysRefused (Some name) refusal file))
+
+-- the files that a command reads
+abbrev pub files_read : Names → List (Option (List ℕ))
+files_read names = names.plan ∷ names.program ∷ names.schedule ∷ names.recovery ∷ names.medium ∷ names.trace ∷ []
+
+abbrev pub lost_text : Option (List ℕ) → List ℕ
+lost_text None = []
+lost_text (Some name) = shown name ++ codes ": can't be read\n"
+
+-- which of them can't be read
+pub record SaysLost {F : Type 0} (reads : Reads F) (names : Names) (old : F) (outcome : Result (List ℕ) Failure) (new : F) : Type 0 where
+  pub lost : Option (List ℕ)
+  pub finds : FindsLost reads (files_read names) old lost new
+  pub says : MatchResult outcome (λ text. text ≡ lost_text lost) (λ failure. failure ≡ Memory)
+
+-- what is said of a failure of a command that reads files of these names
+abbrev pub SaysMore : {F : Type 0} → Reads F → Names → Failure → Step F (List ℕ)
+SaysMore reads names (Refused refusal) = ReadsRefused reads refusal (refused_file names refusal)
+SaysMore reads names File = SaysLost reads names
+SaysMore reads names failure = Still (λ outcome. outcome ≡ Ok [])
+
+-- `{"kind":"refused","code":"CODE","file":"FILE","line":N}`, with `null` where no file or no line is at fault
+abbrev pub name_or_null : Option (List ℕ) → List ℕ
+name_or_null None = codes "null"
+name_or_null (Some name) = codes "\"" ++ (shown_json name ++ codes "\"")
+
+abbrev pub refusal_json : Names → Refusal → List ℕ
+refusal_json names refusal = codes "{\"kind\":\"refused\",\"code\":\"" ++ (refusal_code refusal ++ (codes "\",\"file\":" ++ (name_or_null (refused_file names refusal)
+    ++ (codes ",\"line\":" ++ (number_or_null (refused_line refusal) ++ (codes "}" ++ line_end))))))

@@ -1,0 +1,208 @@
+//! What is told of a failure beyond its first line: the file that is refused, the line in it, and what the code means.
+
+ghost use Rattle.command_line.specs.FileNames.{names_in};
+ghost use Rattle.command_line.specs.Meanings.{ReadsRefused, SaysLost, SaysMore, SaysRefused, detail_text, first_name, line_detail, lost_text, name_or_null, place_text, refusal_json, refused_file, refused_line};
+ghost use Rattle.std.specs.Prelude.{◌≡◌, IfOk, length, option_map, string_bytes};
+ghost use Rattle.std.specs.Result.{result_map_both};
+
+use crate::cut_verdicts::number_or_null;
+use crate::failure::{Failure, Refusal};
+use crate::file_names::FileNames;
+use crate::files::Files;
+use crate::lost_files::find_lost;
+use crate::reading::read_file;
+use crate::shown::{Form, Shown};
+use crate::source_lines::shown_line;
+use arguments::meaning_of;
+use std::alloc::{AllocError, Global};
+
+/// What is told of a failure of a command that reads files of these names: a line, or nothing where its first line says all that is known.
+pub(crate) fn further_text<F: Files>(
+    alloc: Global,
+    names: &FileNames<'_>,
+    failure: &Failure,
+    files: &mut F,
+) -> Result<String, Failure>
+    ensures { SaysMore F.read_gives (names_in names.now) failure.now files.old (result_map_both (λ text. string_bytes text) (λ failure. failure) result) files.new }
+{
+    match failure {
+        Failure::Refused(refusal) => refused_text(
+            alloc,
+            refused_file(names, refusal),
+            refusal,
+            files,
+        ),
+        Failure::File => lost_text(alloc, names, files),
+        _ => Ok(String::new(alloc)),
+    }
+}
+
+/// What a refusal means, with the place in the file that is refused.
+fn refused_text<F: Files>(
+    alloc: Global,
+    name: Option<&str>,
+    refusal: &Refusal,
+    files: &mut F,
+) -> Result<String, Failure>
+    ensures { ReadsRefused F.read_gives refusal.now (option_map (λ name. name.now) name.entry) files.old (result_map_both (λ text. string_bytes text) (λ failure. failure) result) files.new }
+{
+    match name {
+        Some(file) => refused_in(alloc, file, refusal, files),
+        None => meaning_text(alloc, None, refusal, &[]),
+    }
+}
+
+fn refused_in<F: Files>(
+    alloc: Global,
+    name: &str,
+    refusal: &Refusal,
+    files: &mut F,
+) -> Result<String, Failure>
+    ensures { ReadsRefused F.read_gives refusal.now (Some name.now) files.old (result_map_both (λ text. string_bytes text) (λ failure. failure) result) files.new }
+{
+    let file = read_file(name, files)?;
+    meaning_text(alloc, Some(name), refusal, &file)
+}
+
+/// What a refusal means, where the file that is refused has these bytes.
+fn meaning_text(
+    alloc: Global,
+    name: Option<&str>,
+    refusal: &Refusal,
+    file: &[u8],
+) -> Result<String, Failure>
+    ensures { SaysRefused (option_map (λ name. name.now) name.entry) refusal.now file.now (result_map_both (λ text. string_bytes text) (λ failure. failure) result) }
+{
+    let Some(row) = meaning_of(refusal.code()) else {
+        return Ok(String::new(alloc));
+    };
+    let place = place_text(alloc, name, refusal.line())?;
+    let detail = detail_text(alloc, refusal, file)?;
+    let meaning = row.meaning;
+    Ok(format!(in alloc; "{place}{meaning}{detail}\n")?)
+}
+
+/// `FILE:LINE: `, or `FILE: ` where no line is at fault.
+fn place_text(alloc: Global, name: Option<&str>, line: Option<u32>) -> Result<String, AllocError>
+    ensures { IfOk result (λ text. string_bytes text ≡ place_text (option_map (λ name. name.now) name.entry) line) }
+{
+    let Some(name) = name else {
+        return Ok(String::new(alloc));
+    };
+    let name = Shown {
+        bytes: name.as_bytes(),
+        form: Form::Line,
+    };
+    match line {
+        Some(line) => format!(in alloc; "{name}:{line}: "),
+        None => format!(in alloc; "{name}: "),
+    }
+}
+
+/// What the file has at the place: the line at fault, or of a medium how many bytes it has.
+fn detail_text(alloc: Global, refusal: &Refusal, file: &[u8]) -> Result<String, AllocError>
+    ensures { IfOk result (λ text. string_bytes text ≡ detail_text refusal.now file.now) }
+{
+    match refusal {
+        Refusal::Medium => {
+            let bytes = file.len();
+            format!(in alloc; ": {bytes} bytes")
+        }
+        _ => line_detail(alloc, file, refusal.line()),
+    }
+}
+
+fn line_detail(alloc: Global, file: &[u8], line: Option<u32>) -> Result<String, AllocError>
+    ensures { IfOk result (λ text. string_bytes text ≡ line_detail file.now line) }
+{
+    match line {
+        Some(line) => shown_line(alloc, file, line),
+        None => Ok(String::new(alloc)),
+    }
+}
+
+/// Which of the files can't be read.
+fn lost_text<F: Files>(
+    alloc: Global,
+    names: &FileNames<'_>,
+    files: &mut F,
+) -> Result<String, Failure>
+    ensures { SaysLost F.read_gives (names_in names.now) files.old (result_map_both (λ text. string_bytes text) (λ failure. failure) result) files.new }
+{
+    let FileNames {
+        plan,
+        program,
+        schedule,
+        recovery,
+        medium,
+        trace,
+    } = *names;
+    match find_lost(&[plan, program, schedule, recovery, medium, trace], files) {
+        Some(name) => {
+            let name = Shown {
+                bytes: name.as_bytes(),
+                form: Form::Line,
+            };
+            Ok(format!(in alloc; "{name}: can't be read\n")?)
+        }
+        None => Ok(String::new(alloc)),
+    }
+}
+
+/// The file that is refused, of those that a command reads; None where no file alone is.
+fn refused_file<'a>(names: &FileNames<'a>, refusal: &Refusal) -> Option<&'a str>
+    ensures { option_map (λ name. name.now) result ≡ refused_file (names_in names.now) refusal.now }
+{
+    match refusal {
+        Refusal::Assembly(_) | Refusal::Object(_) | Refusal::Elf(_) => names.program,
+        Refusal::Plan(_) => names.plan,
+        Refusal::ScheduleText | Refusal::Step(_) => names.schedule,
+        Refusal::Trace(_) => names.trace,
+        Refusal::Medium | Refusal::Volume(_) => names.medium,
+        Refusal::Foreign => names.program,
+        Refusal::Operation(_) | Refusal::Marks(_) => first_name(names.program, names.trace),
+        Refusal::Moment | Refusal::Image => None,
+        Refusal::RecoverySource(_) | Refusal::RecoveryObject(_) | Refusal::RecoveryElf(_) =>
+            names.recovery,
+    }
+}
+
+fn first_name<'a>(one: Option<&'a str>, other: Option<&'a str>) -> Option<&'a str>
+    ensures { option_map (λ name. name.now) result ≡ first_name (option_map (λ name. name.now) one.entry) (option_map (λ name. name.now) other.entry) }
+{
+    match one {
+        Some(name) => Some(name),
+        None => other,
+    }
+}
+
+/// `{"kind":"refused","code":"CODE","file":"FILE","line":N}`, with `null` where no file or no line is at fault.
+pub(crate) fn refusal_json(
+    alloc: Global,
+    names: &FileNames<'_>,
+    refusal: &Refusal,
+) -> Result<String, AllocError>
+    ensures { IfOk result (λ text. string_bytes text ≡ refusal_json (names_in names.now) refusal.now) }
+{
+    let code = refusal.code();
+    let file = name_or_null(alloc, refused_file(names, refusal))?;
+    let line = number_or_null(alloc, refusal.line())?;
+    format!(in alloc;
+        "{{\"kind\":\"refused\",\"code\":\"{code}\",\"file\":{file},\"line\":{line}}}\n"
+    )
+}
+
+fn name_or_null(alloc: Global, name: Option<&str>) -> Result<String, AllocError>
+    ensures { IfOk result (λ text. string_bytes text ≡ name_or_null (option_map (λ name. name.now) name.entry)) }
+{
+    match name {
+        Some(name) => {
+            let name = Shown {
+                bytes: name.as_bytes(),
+                form: Form::Json,
+            };
+            format!(in alloc; "\"{name}\"")
+        }
+        None => format!(in alloc; "null"),
+    }
+}
