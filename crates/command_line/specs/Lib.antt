@@ -7,12 +7,14 @@ pub mod CheckingAll
 pub mod Coding
 pub mod Debugging
 pub mod Demanding
+pub mod Details
 pub mod Drawing
 pub mod Explaining
 pub mod Failures
 pub mod FileNames
 pub mod ImageFiles
 pub mod Imaging
+pub mod Items
 pub mod JudgedEvents
 pub mod CutReasons
 pub mod CutVerdicts
@@ -22,6 +24,7 @@ pub mod JudgingOnce
 pub mod JudgingRuns
 pub mod Judging
 pub mod JudgingAll
+pub mod Kinds
 pub mod Listing
 pub mod LostFiles
 pub mod Meanings

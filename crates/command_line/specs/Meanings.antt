@@ -1,16 +1,18 @@
 -- What is printed of a failure beyond its first line: the file that is refused, the line in it, and what the code means. And the object of a
 -- refusal in JSON.
-use Rattle.std.specs.Prelude.{◌≡◌, ℕ, List, [], ◌∷◌, ◌++◌, Option, Some, None, Result, Ok, MatchOption, MatchResult, codes, decimal, length}
+use Rattle.std.specs.Prelude.{◌≡◌, ℕ, List, [], ◌∷◌, ◌++◌, Option, Some, None, Result, Ok, MatchOption, MatchResult, ◌==◌, codes, decimal, if◌then◌else◌, length, string_bytes}
 use Rattle.arguments.specs.Codes.{IsMeaningOf}
 use Rattle.arguments.specs.declared.codes.table.Meaning.{Meaning}
 use Rattle.command_line.specs.CutVerdicts.{number_or_null}
+use Rattle.command_line.specs.Details.{IsDetail}
 use Rattle.command_line.specs.Failures.{refusal_code}
 use Rattle.command_line.specs.FileNames.{Names}
+use Rattle.command_line.specs.Kinds.{IsKindTold}
 use Rattle.command_line.specs.LostFiles.{FindsLost}
 use Rattle.command_line.specs.Reports.{line_end}
 use Rattle.command_line.specs.Shown.{shown, shown_json}
-use Rattle.command_line.specs.SourceLines.{numbered_line, shown_line}
 use Rattle.command_line.specs.Steps.{First, Reads, ReadsFile, Step, Still}
+use Rattle.command_line.specs.declared.details.Detail.{Detail}
 use Rattle.command_line.specs.declared.failure.Failure.{Failure}
 use Rattle.command_line.specs.declared.failure.Failure.TheVariants.{File, Memory, Refused}
 use Rattle.command_line.specs.declared.failure.Refusal.{Refusal}
@@ -49,34 +51,55 @@ refused_line (Trace fault) = Some fault.line
 refused_line (RecoverySource fault) = Some fault.line
 refused_line refusal = None
 
--- `FILE:LINE: `, or `FILE: ` where no line is at fault
-abbrev pub place_text : Option (List ℕ) → Option ℕ → List ℕ
-place_text None line = []
-place_text (Some name) None = shown name ++ codes ": "
-place_text (Some name) (Some line) = shown name ++ (codes ":" ++ (decimal line ++ codes ": "))
+-- `FILE:LINE:COLUMN: `, without a line or a column where none is at fault
+abbrev pub behind_name : Option ℕ → Option ℕ → List ℕ
+behind_name None column = codes ": "
+behind_name (Some line) None = codes ":" ++ (decimal line ++ codes ": ")
+behind_name (Some line) (Some column) = codes ":" ++ (decimal line ++ (codes ":" ++ (decimal column ++ codes ": ")))
 
--- what the file has there: the line at fault, or of a medium how many bytes it has
-abbrev pub line_detail : List ℕ → Option ℕ → List ℕ
-line_detail file None = []
-line_detail file (Some line) = shown_line (numbered_line file line)
+abbrev pub place_text : Option (List ℕ) → Option ℕ → Option ℕ → List ℕ
+place_text None line column = []
+place_text (Some name) line column = shown name ++ behind_name line column
 
-abbrev pub detail_text : Refusal → List ℕ → List ℕ
-detail_text Medium file = codes ": " ++ (decimal (length file) ++ codes " bytes")
-detail_text refusal file = line_detail file (refused_line refusal)
+-- `: TEXT`, and ` (TEXT)`, or nothing
+abbrev pub behind_colon : List ℕ → List ℕ
+behind_colon text = if length text == 0 then [] else codes ": " ++ text
+
+abbrev pub in_brackets : List ℕ → List ℕ
+in_brackets text = if length text == 0 then [] else codes " (" ++ (text ++ codes ")")
+
+-- what is told of the file, and else what is wanted
+abbrev pub told_hint : List ℕ → List ℕ → List ℕ
+told_hint kind hint = if length kind == 0 then hint else kind
 
 -- the row of the table for a code, if it has one
 abbrev pub IsRowOf : List ℕ → Option Meaning → Type 0
 IsRowOf code row = MatchOption row ((m : Meaning) → ¬ IsMeaningOf code m) (IsMeaningOf code)
 
--- `FILE:LINE: MEANING: LINE'S TEXT`
-abbrev pub refused_text : Option (List ℕ) → Refusal → List ℕ → Option Meaning → List ℕ
-refused_text name refusal file None = []
-refused_text name refusal file (Some m) = place_text name (refused_line refusal) ++ (m.meaning.now ++ (detail_text refusal file ++ line_end))
+-- `FILE:LINE:COLUMN: MEANING: WHAT STANDS THERE (WHAT IS WANTED)`
+abbrev pub refused_text : Option (List ℕ) → Option ℕ → Meaning → Detail → List ℕ → List ℕ
+refused_text name line m detail kind = place_text name line detail.column
+    ++ (m.meaning.now ++ (behind_colon (string_bytes detail.text) ++ (in_brackets (told_hint kind detail.hint.now) ++ line_end)))
 
--- this is said of a refusal, where the refused file has these bytes
+-- it is said of a refusal by a row of the table, where the refused file has these bytes
+pub record IsRefusedText (name : Option (List ℕ)) (refusal : Refusal) (file : List ℕ) (m : Meaning) (text : List ℕ) : Type 0 where
+  pub detail : Detail
+  pub kind : List ℕ
+  pub is_detail : IsDetail refusal file detail
+  pub is_kind : IsKindTold name refusal file kind
+  pub text_is : text ≡ refused_text name (refused_line refusal) m detail kind
+
+abbrev pub IsTextByRow : Option (List ℕ) → Refusal → List ℕ → Option Meaning → List ℕ → Type 0
+IsTextByRow name refusal file None text = text ≡ []
+IsTextByRow name refusal file (Some m) text = IsRefusedText name refusal file m text
+
+pub record SaysByRow (name : Option (List ℕ)) (refusal : Refusal) (file text : List ℕ) : Type 0 where
+  pub row : Option Meaning
+  pub is_row : IsRowOf (refusal_code refusal) row
+  pub is_text : IsTextByRow name refusal file row text
+
 pub record SaysRefused (name : Option (List ℕ)) (refusal : Refusal) (file : List ℕ) (outcome : Result (List ℕ) Failure) : Type 0 where
-  pub says : MatchResult outcome (λ text. (row : Option Meaning) × IsRowOf (refusal_code refusal) row × (text ≡ refused_text name refusal file row))
-      (λ failure. failure ≡ Memory)
+  pub says : MatchResult outcome (SaysByRow name refusal file) (λ failure. failure ≡ Memory)
 
 -- the refused file is read once more
 abbrev pub ReadsRefused : {F : Type 0} → Reads F → Refusal → Option (List ℕ) → Step F (List ℕ)

@@ -1,8 +1,7 @@
 -- A line of a text, as it is printed of a refusal.
-use Rattle.std.specs.Prelude.{ℕ, Bool, ◌-◌, ◌==◌, ◌||◌, List, [], ◌++◌, Option, Some, None, codes, drop, slice_get, take}
+use Rattle.std.specs.Prelude.{ℕ, Bool, ◌-◌, ◌==◌, ◌||◌, List, Option, drop, slice_get, take}
 use Rattle.std.specs.List.{prefix_len}
 use Rattle.asm_lex.specs.Lines.{lines_of}
-use Rattle.command_line.specs.Shown.{shown}
 
 -- the line of this number, from 1; lines end at LF, which may have a CR before it
 abbrev pub numbered_line : List ℕ → ℕ → Option (List ℕ)
@@ -15,8 +14,3 @@ is_indent byte = (byte == 32) || (byte == 9)
 -- a line from its first byte on that is neither, and of that at most 80 bytes
 abbrev pub front_of_line : List ℕ → List ℕ
 front_of_line line = take 80 (drop (prefix_len is_indent line) line)
-
--- behind a colon
-abbrev pub shown_line : Option (List ℕ) → List ℕ
-shown_line None = []
-shown_line (Some line) = codes ": " ++ shown (front_of_line line)

@@ -1,18 +1,19 @@
 //! What is told of a failure beyond its first line: the file that is refused, the line in it, and what the code means.
 
 ghost use Rattle.command_line.specs.FileNames.{names_in};
-ghost use Rattle.command_line.specs.Meanings.{ReadsRefused, SaysLost, SaysMore, SaysRefused, detail_text, first_name, line_detail, lost_text, name_or_null, place_text, refusal_json, refused_file, refused_line};
-ghost use Rattle.std.specs.Prelude.{◌≡◌, IfOk, length, option_map, string_bytes};
+ghost use Rattle.command_line.specs.Meanings.{ReadsRefused, SaysLost, SaysMore, SaysRefused, behind_colon, first_name, in_brackets, lost_text, name_or_null, place_text, refusal_json, refused_file, told_hint};
+ghost use Rattle.std.specs.Prelude.{◌≡◌, IfOk, option_map, string_bytes};
 ghost use Rattle.std.specs.Result.{result_map_both};
 
 use crate::cut_verdicts::number_or_null;
+use crate::details::detail_of;
 use crate::failure::{Failure, Refusal};
 use crate::file_names::FileNames;
 use crate::files::Files;
+use crate::kinds::kind_told;
 use crate::lost_files::find_lost;
 use crate::reading::read_file;
 use crate::shown::{Form, Shown};
-use crate::source_lines::shown_line;
 use arguments::meaning_of;
 use std::alloc::{AllocError, Global};
 
@@ -76,15 +77,23 @@ fn meaning_text(
     let Some(row) = meaning_of(refusal.code()) else {
         return Ok(String::new(alloc));
     };
-    let place = place_text(alloc, name, refusal.line())?;
-    let detail = detail_text(alloc, refusal, file)?;
+    let detail = detail_of(alloc, refusal, file)?;
+    let kind = kind_told(alloc, name, refusal, file)?;
+    let place = place_text(alloc, name, refusal.line(), detail.column)?;
+    let found = behind_colon(alloc, detail.text.as_str())?;
+    let hint = in_brackets(alloc, told_hint(kind, detail.hint))?;
     let meaning = row.meaning;
-    Ok(format!(in alloc; "{place}{meaning}{detail}\n")?)
+    Ok(format!(in alloc; "{place}{meaning}{found}{hint}\n")?)
 }
 
-/// `FILE:LINE: `, or `FILE: ` where no line is at fault.
-fn place_text(alloc: Global, name: Option<&str>, line: Option<u32>) -> Result<String, AllocError>
-    ensures { IfOk result (λ text. string_bytes text ≡ place_text (option_map (λ name. name.now) name.entry) line) }
+/// `FILE:LINE:COLUMN: `, without a line or a column where none is at fault.
+fn place_text(
+    alloc: Global,
+    name: Option<&str>,
+    line: Option<u32>,
+    column: Option<usize>,
+) -> Result<String, AllocError>
+    ensures { IfOk result (λ text. string_bytes text ≡ place_text (option_map (λ name. name.now) name.entry) line column) }
 {
     let Some(name) = name else {
         return Ok(String::new(alloc));
@@ -93,32 +102,40 @@ fn place_text(alloc: Global, name: Option<&str>, line: Option<u32>) -> Result<St
         bytes: name.as_bytes(),
         form: Form::Line,
     };
-    match line {
-        Some(line) => format!(in alloc; "{name}:{line}: "),
-        None => format!(in alloc; "{name}: "),
+    match (line, column) {
+        (Some(line), Some(column)) => format!(in alloc; "{name}:{line}:{column}: "),
+        (Some(line), None) => format!(in alloc; "{name}:{line}: "),
+        (None, _) => format!(in alloc; "{name}: "),
     }
 }
 
-/// What the file has at the place: the line at fault, or of a medium how many bytes it has.
-fn detail_text(alloc: Global, refusal: &Refusal, file: &[u8]) -> Result<String, AllocError>
-    ensures { IfOk result (λ text. string_bytes text ≡ detail_text refusal.now file.now) }
+/// `: TEXT`, or nothing.
+fn behind_colon(alloc: Global, text: &str) -> Result<String, AllocError>
+    ensures { IfOk result (λ told. string_bytes told ≡ behind_colon text.now) }
 {
-    match refusal {
-        Refusal::Medium => {
-            let bytes = file.len();
-            format!(in alloc; ": {bytes} bytes")
-        }
-        _ => line_detail(alloc, file, refusal.line()),
+    if text.is_empty() {
+        Ok(String::new(alloc))
+    } else {
+        format!(in alloc; ": {text}")
     }
 }
 
-fn line_detail(alloc: Global, file: &[u8], line: Option<u32>) -> Result<String, AllocError>
-    ensures { IfOk result (λ text. string_bytes text ≡ line_detail file.now line) }
+/// ` (TEXT)`, or nothing.
+fn in_brackets(alloc: Global, text: &str) -> Result<String, AllocError>
+    ensures { IfOk result (λ told. string_bytes told ≡ in_brackets text.now) }
 {
-    match line {
-        Some(line) => shown_line(alloc, file, line),
-        None => Ok(String::new(alloc)),
+    if text.is_empty() {
+        Ok(String::new(alloc))
+    } else {
+        format!(in alloc; " ({text})")
     }
+}
+
+/// What is told of the file, and else what is wanted.
+fn told_hint(kind: &'static str, hint: &'static str) -> &'static str
+    ensures { result.now ≡ told_hint kind.now hint.now }
+{
+    if kind.is_empty() { hint } else { kind }
 }
 
 /// Which of the files can't be read.

@@ -1,36 +1,17 @@
 //! Lines of a text, as they are printed of a refusal.
 
-ghost use Rattle.asm_lex.specs.Lines.{lines_of};
-ghost use Rattle.command_line.specs.SourceLines.{front_of_line, is_indent, numbered_line, shown_line};
+ghost use Rattle.command_line.specs.SourceLines.{front_of_line, is_indent, numbered_line};
 ghost use Rattle.std.specs.List.{prefix_len};
-ghost use Rattle.std.specs.Prelude.{◌≡◌, ◌≤◌, IfOk, length, option_map, string_bytes, take};
+ghost use Rattle.std.specs.Prelude.{◌≡◌, ◌≤◌, length, option_map, take};
 
-use crate::shown::{Form, Shown};
 use asm_lex::next_line;
-use std::alloc::{AllocError, Global};
 
 /// The most bytes that are shown of a line.
 const MOST_SHOWN: usize = 80;
 
-/// The line of this number, from 1, of a text behind a colon; nothing where the text has no such line.
-pub(crate) fn shown_line(alloc: Global, text: &[u8], number: u32) -> Result<String, AllocError>
-    ensures { IfOk result (λ shown. string_bytes shown ≡ shown_line (numbered_line text.now number)) }
-{
-    match numbered_line(text, number) {
-        Some(line) => {
-            let shown = Shown {
-                bytes: front_of_line(line),
-                form: Form::Line,
-            };
-            format!(in alloc; ": {shown}")
-        }
-        None => Ok(String::new(alloc)),
-    }
-}
-
 /// The line of this number, from 1; None where the text has fewer.
 #[tactic(auto, using(crate::proofs::NumberedLines::next_number, crate::proofs::NumberedLines::no_number, crate::proofs::NumberedLines::this_number))]
-fn numbered_line(text: &[u8], number: u32) -> Option<&[u8]>
+pub(crate) fn numbered_line(text: &[u8], number: u32) -> Option<&[u8]>
     ensures { option_map (λ line. line.now) result ≡ numbered_line text.now number }
 {
     let mut rest = text;
@@ -42,7 +23,7 @@ fn numbered_line(text: &[u8], number: u32) -> Option<&[u8]>
 }
 
 /// A line from its first byte on that is neither a space nor a tab, and no more of it than is shown.
-fn front_of_line(line: &[u8]) -> &[u8]
+pub(crate) fn front_of_line(line: &[u8]) -> &[u8]
     ensures { result.now ≡ front_of_line line.now }
 {
     first_bytes(&line[indent_len(line)..])

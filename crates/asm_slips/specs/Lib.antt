@@ -1,0 +1,5 @@
+pub mod Hints
+pub mod Places
+pub mod Shapes
+pub mod Slips
+pub mod Unknown

@@ -1,0 +1,11 @@
+//! What stands at fault in a line of assembler source that is refused, and what is wanted in its place.
+#![tactic(auto)]
+
+mod hints;
+mod places;
+mod shapes;
+mod slip;
+mod unknown;
+
+pub use places::Part;
+pub use slip::{Slip, slip_in};

@@ -1,0 +1,79 @@
+-- What a refused file has at its fault: a token, a line, an item or its size, and what is wanted in place of it.
+use Rattle.std.specs.Prelude.{◌≡◌, ◌⊎◌, ◌==◌, ℕ, List, [], ◌++◌, Option, Some, None, All, codes, decimal, if◌then◌else◌, length, option_map, string_bytes}
+use Rattle.std.specs.List.{list_any}
+use Rattle.asm_slips.specs.Slips.{IsSlip}
+use Rattle.asm_slips.specs.declared.places.Part.{Part}
+use Rattle.asm_slips.specs.declared.slip.Slip.{Slip}
+use Rattle.assemble.specs.declared.asm_line.fault.AsmCode.{AsmCode}
+use Rattle.command_line.specs.Items.{IsFirstBad, IsScheduleText, word_hint}
+use Rattle.command_line.specs.Shown.{shown}
+use Rattle.command_line.specs.SourceLines.{front_of_line, numbered_line}
+use Rattle.command_line.specs.declared.details.Detail.{Detail}
+use Rattle.command_line.specs.declared.failure.Refusal.{Refusal}
+use Rattle.command_line.specs.declared.failure.Refusal.TheVariants.{Assembly, Marks, Medium, Plan, RecoverySource, ScheduleText, Trace}
+use Rattle.routine_judge.specs.declared.history.fault.MarkFault.TheVariants.{NoOperation}
+use Rattle.text.specs.Words.{words_of_lines}
+
+-- a token's column, what stands at the fault, and what is wanted
+pub record HasParts (column : Option ℕ) (text hint : List ℕ) (detail : Detail) : Type 0 where
+  pub column_is : detail.column ≡ column
+  pub text_is : string_bytes detail.text ≡ text
+  pub hint_is : detail.hint.now ≡ hint
+
+-- a part of a line, or the front of the line where no part alone is at fault
+abbrev pub part_text : List ℕ → Option Part → List ℕ
+part_text line None = shown (front_of_line line)
+part_text line (Some part) = shown part.text.now
+
+abbrev pub line_text : Option (List ℕ) → List ℕ
+line_text None = []
+line_text (Some line) = shown (front_of_line line)
+
+-- of a line of a source, what is known of its slip
+pub record IsSlipDetail (code : AsmCode) (line : List ℕ) (detail : Detail) : Type 0 where
+  pub slip : Slip
+  pub is : IsSlip line code slip
+  pub parts : HasParts (option_map (λ (part : Part). part.column) slip.part) (part_text line slip.part) slip.hint.now detail
+
+abbrev pub IsSourceDetail : AsmCode → Option (List ℕ) → Detail → Type 0
+IsSourceDetail code None detail = HasParts None [] [] detail
+IsSourceDetail code (Some line) detail = IsSlipDetail code line detail
+
+-- a plan has neither CR nor tabs
+abbrev pub plan_hint : List ℕ → List ℕ
+plan_hint file =
+    if list_any (λ byte. byte == 13) file then codes "lines end with LF, without CR"
+    else (if list_any (λ byte. byte == 9) file then codes "words are parted by spaces, not tabs" else [])
+
+-- `item N, WORD`
+abbrev pub item_text : ℕ → List ℕ → List ℕ
+item_text number word = codes "item " ++ (decimal number ++ (codes ", " ++ shown (front_of_line word)))
+
+-- the first item of a schedule's text that is none, or its steps are too many
+pub record IsBadItemDetail (text : List ℕ) (detail : Detail) : Type 0 where
+  pub number : ℕ
+  pub word : List ℕ
+  pub first : IsFirstBad text number word
+  pub parts : HasParts None (item_text number word) (word_hint word) detail
+
+pub record IsSumDetail (text : List ℕ) (detail : Detail) : Type 0 where
+  pub items : All IsScheduleText (words_of_lines text)
+  pub parts : HasParts None [] (codes "the steps of all harts together are below 4294967296") detail
+
+abbrev pub IsItemDetail : List ℕ → Detail → Type 0
+IsItemDetail text detail = IsBadItemDetail text detail ⊎ IsSumDetail text detail
+
+-- `N bytes`
+abbrev pub size_text : ℕ → List ℕ
+size_text bytes = decimal bytes ++ codes " bytes"
+
+-- what a refused file has at its fault
+abbrev pub IsDetail : Refusal → List ℕ → Detail → Type 0
+IsDetail (Assembly fault) file detail = IsSourceDetail fault.code (numbered_line file fault.line) detail
+IsDetail (RecoverySource fault) file detail = IsSourceDetail fault.code (numbered_line file fault.line) detail
+IsDetail (Plan fault) file detail = HasParts None (line_text (numbered_line file fault.line)) (plan_hint file) detail
+IsDetail (Trace fault) file detail = HasParts None (line_text (numbered_line file fault.line)) [] detail
+IsDetail ScheduleText file detail = IsItemDetail file detail
+IsDetail Medium file detail = HasParts None (size_text (length file)) (codes "64 times 512 to 16384") detail
+IsDetail (Marks NoOperation) file detail = HasParts None [] (codes "is this the recovery routine?") detail
+IsDetail refusal file detail = HasParts None [] [] detail

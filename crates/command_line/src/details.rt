@@ -1,0 +1,184 @@
+//! What a refused file has at its fault: a token, a line, an item or its size, and what is wanted in place of it.
+
+ghost use Rattle.command_line.specs.Details.{HasParts, IsDetail, IsItemDetail, IsSourceDetail, item_text, line_text, part_text, plan_hint, size_text};
+ghost use Rattle.command_line.specs.Items.{word_hint};
+ghost use Rattle.command_line.specs.Shown.{shown};
+ghost use Rattle.command_line.specs.SourceLines.{numbered_line};
+ghost use Rattle.std.specs.Prelude.{◌≡◌, [], None, IfOk, codes, option_map, string_bytes};
+
+use crate::failure::Refusal;
+use crate::items::{BadItem, bad_item, word_hint};
+use crate::shown::{Form, Shown};
+use crate::source_lines::{front_of_line, numbered_line};
+use asm_slips::{Part, Slip, slip_in};
+use assemble::AsmFault;
+use routine_judge::MarkFault;
+use std::alloc::{AllocError, Global};
+
+/// What a refused file has at its fault.
+#[derive(Drop)]
+pub(crate) struct Detail {
+    /// The column of a token at fault, from 1.
+    pub(crate) column: Option<usize>,
+    /// What stands there, or nothing.
+    pub(crate) text: String,
+    /// What is wanted, in words, or nothing.
+    pub(crate) hint: &'static str,
+}
+
+/// What the refused file, of these bytes, has at its fault.
+pub(crate) fn detail_of(alloc: Global, refusal: &Refusal, file: &[u8]) -> Result<Detail, AllocError>
+    ensures { IfOk result (IsDetail refusal.now file.now) }
+{
+    match refusal {
+        Refusal::Assembly(fault) | Refusal::RecoverySource(fault) => source_detail(alloc, fault, file),
+        Refusal::Plan(fault) => plan_detail(alloc, file, fault.line),
+        Refusal::Trace(fault) => line_detail(alloc, numbered_line(file, fault.line), ""),
+        Refusal::ScheduleText => schedule_detail(alloc, file),
+        Refusal::Medium => size_detail(alloc, file.len()),
+        Refusal::Marks(MarkFault::NoOperation) => Ok(hint_detail(alloc, "is this the recovery routine?")),
+        _ => Ok(hint_detail(alloc, "")),
+    }
+}
+
+/// Nothing stands at the fault.
+fn hint_detail(alloc: Global, hint: &'static str) -> Detail
+    ensures { HasParts None [] hint.now result }
+{
+    Detail {
+        column: None,
+        text: String::new(alloc),
+        hint,
+    }
+}
+
+/// The token of a source's line at fault, or the line.
+fn source_detail(alloc: Global, fault: &AsmFault, file: &[u8]) -> Result<Detail, AllocError>
+    ensures { IfOk result (IsSourceDetail fault.now.code (numbered_line file.now fault.now.line)) }
+{
+    match numbered_line(file, fault.line) {
+        Some(line) => {
+            let slip = slip_in(alloc, line, fault.code)?;
+            slip_detail(alloc, line, slip)
+        }
+        None => Ok(hint_detail(alloc, "")),
+    }
+}
+
+fn slip_detail(alloc: Global, line: &[u8], slip: Slip<'_>) -> Result<Detail, AllocError>
+    ensures { IfOk result (HasParts (option_map (λ part. part.column) slip.entry.part) (part_text line.now slip.entry.part) slip.entry.hint.now) }
+{
+    Ok(Detail {
+        column: column_of(slip.part),
+        text: shown_part(alloc, line, slip.part)?,
+        hint: slip.hint,
+    })
+}
+
+/// The part at fault, or the front of the line.
+fn shown_part(alloc: Global, line: &[u8], part: Option<Part<'_>>) -> Result<String, AllocError>
+    ensures { IfOk result (λ text. string_bytes text ≡ part_text line.now part.entry) }
+{
+    match part {
+        Some(part) => shown_text(alloc, part.text),
+        None => shown_text(alloc, front_of_line(line)),
+    }
+}
+
+fn column_of(part: Option<Part<'_>>) -> Option<usize>
+    ensures { result ≡ option_map (λ part. part.column) part.entry }
+{
+    match part {
+        Some(part) => Some(part.column),
+        None => None,
+    }
+}
+
+/// The line of a plan at fault.
+fn plan_detail(alloc: Global, file: &[u8], number: u32) -> Result<Detail, AllocError>
+    ensures { IfOk result (HasParts None (line_text (numbered_line file.now number)) (plan_hint file.now)) }
+{
+    line_detail(alloc, numbered_line(file, number), plan_hint(file))
+}
+
+/// What a plan may not have that other texts may: CR and tabs.
+fn plan_hint(file: &[u8]) -> &'static str
+    ensures { result.now ≡ plan_hint file.now }
+{
+    if file.contains(&b'\r') {
+        "lines end with LF, without CR"
+    } else if file.contains(&b'\t') {
+        "words are parted by spaces, not tabs"
+    } else {
+        ""
+    }
+}
+
+/// A line at fault, and what is wanted.
+fn line_detail(alloc: Global, line: Option<&[u8]>, hint: &'static str) -> Result<Detail, AllocError>
+    ensures { IfOk result (HasParts None (line_text (option_map (λ line. line.now) line.entry)) hint.now) }
+{
+    Ok(Detail {
+        column: None,
+        text: shown_line(alloc, line)?,
+        hint,
+    })
+}
+
+fn shown_line(alloc: Global, line: Option<&[u8]>) -> Result<String, AllocError>
+    ensures { IfOk result (λ text. string_bytes text ≡ line_text (option_map (λ line. line.now) line.entry)) }
+{
+    match line {
+        Some(line) => shown_text(alloc, front_of_line(line)),
+        None => Ok(String::new(alloc)),
+    }
+}
+
+/// The first item of a schedule's text that is none; or there is none, as its steps are too many.
+fn schedule_detail(alloc: Global, file: &[u8]) -> Result<Detail, AllocError>
+    ensures { IfOk result (IsItemDetail file.now) }
+{
+    match bad_item(alloc, file)? {
+        Some(item) => item_detail(alloc, item),
+        None => Ok(hint_detail(
+            alloc,
+            "the steps of all harts together are below 4294967296",
+        )),
+    }
+}
+
+fn item_detail(alloc: Global, item: BadItem<'_>) -> Result<Detail, AllocError>
+    ensures { IfOk result (HasParts None (item_text item.entry.number item.entry.word.now) (word_hint item.entry.word.now)) }
+{
+    let number = item.number;
+    let word = Shown {
+        bytes: front_of_line(item.word),
+        form: Form::Line,
+    };
+    Ok(Detail {
+        column: None,
+        text: format!(in alloc; "item {number}, {word}")?,
+        hint: word_hint(item.word),
+    })
+}
+
+/// How many bytes a medium's file has.
+fn size_detail(alloc: Global, bytes: usize) -> Result<Detail, AllocError>
+    ensures { IfOk result (HasParts None (size_text bytes) (codes "64 times 512 to 16384")) }
+{
+    Ok(Detail {
+        column: None,
+        text: format!(in alloc; "{bytes} bytes")?,
+        hint: "64 times 512 to 16384",
+    })
+}
+
+fn shown_text(alloc: Global, bytes: &[u8]) -> Result<String, AllocError>
+    ensures { IfOk result (λ text. string_bytes text ≡ shown bytes.now) }
+{
+    let shown = Shown {
+        bytes,
+        form: Form::Line,
+    };
+    format!(in alloc; "{shown}")
+}
