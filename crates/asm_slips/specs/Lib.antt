@@ -1,4 +1,5 @@
 pub mod Hints
+pub mod Nearest
 pub mod Places
 pub mod Shapes
 pub mod Slips

@@ -2,10 +2,12 @@
 #![tactic(auto)]
 
 mod hints;
+mod nearest;
 mod places;
 mod shapes;
 mod slip;
 mod unknown;
 
+pub use nearest::nearest_mnemonic;
 pub use places::Part;
 pub use slip::{Slip, slip_in};

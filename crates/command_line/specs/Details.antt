@@ -1,10 +1,12 @@
 -- What a refused file has at its fault: a token, a line, an item or its size, and what is wanted in place of it.
-use Rattle.std.specs.Prelude.{◌≡◌, ◌⊎◌, ◌==◌, ℕ, List, [], ◌++◌, Option, Some, None, All, codes, decimal, if◌then◌else◌, length, option_map, string_bytes}
+use Rattle.std.specs.Prelude.{◌≡◌, ◌⊎◌, ◌==◌, ℕ, Bool, true, false, List, [], ◌++◌, Option, Some, None, All, codes, decimal, if◌then◌else◌, length, option_map, string_bytes}
 use Rattle.std.specs.List.{list_any}
+use Rattle.asm_slips.specs.Nearest.{IsFar, IsNear}
 use Rattle.asm_slips.specs.Slips.{IsSlip}
 use Rattle.asm_slips.specs.declared.places.Part.{Part}
 use Rattle.asm_slips.specs.declared.slip.Slip.{Slip}
 use Rattle.assemble.specs.declared.asm_line.fault.AsmCode.{AsmCode}
+use Rattle.assemble.specs.declared.asm_line.fault.AsmCode.TheVariants.{Mnemonic}
 use Rattle.command_line.specs.Items.{IsFirstBad, IsScheduleText, word_hint}
 use Rattle.command_line.specs.Shown.{shown}
 use Rattle.command_line.specs.SourceLines.{front_of_line, numbered_line}
@@ -29,11 +31,38 @@ abbrev pub line_text : Option (List ℕ) → List ℕ
 line_text None = []
 line_text (Some line) = shown (front_of_line line)
 
--- of a line of a source, what is known of its slip
+-- a line is refused for a name of which nothing is known
+abbrev pub is_unnamed : AsmCode → List ℕ → Bool
+is_unnamed Mnemonic hint = length hint == 0
+is_unnamed code hint = false
+
+-- ` (did you mean NAME?)`, of a mnemonic that is near a name, or nothing
+abbrev pub near_text : List ℕ → List ℕ
+near_text near = codes " (did you mean " ++ (shown near ++ codes "?)")
+
+pub record TellsNear (name text : List ℕ) : Type 0 where
+  pub near : List ℕ
+  pub is_near : IsNear name near
+  pub text_is : text ≡ near_text near
+
+abbrev pub IsNearText : List ℕ → List ℕ → Type 0
+IsNearText name text = TellsNear name text ⊎ (IsFar name × (text ≡ []))
+
+abbrev pub IsMeant : Bool → Option Part → List ℕ → Type 0
+IsMeant true (Some part) text = IsNearText part.text.now text
+IsMeant true None text = text ≡ []
+IsMeant false part text = text ≡ []
+
+-- what is known of a line's slip, and of a name that is no mnemonic the nearest one
+pub record IsSlipOf (code : AsmCode) (line : List ℕ) (slip : Slip) (detail : Detail) : Type 0 where
+  pub meant : List ℕ
+  pub is_meant : IsMeant (is_unnamed code slip.hint.now) slip.part meant
+  pub parts : HasParts (option_map (λ (part : Part). part.column) slip.part) (part_text line slip.part ++ meant) slip.hint.now detail
+
 pub record IsSlipDetail (code : AsmCode) (line : List ℕ) (detail : Detail) : Type 0 where
   pub slip : Slip
-  pub is : IsSlip line code slip
-  pub parts : HasParts (option_map (λ (part : Part). part.column) slip.part) (part_text line slip.part) slip.hint.now detail
+  pub is_slip : IsSlip line code slip
+  pub known : IsSlipOf code line slip detail
 
 abbrev pub IsSourceDetail : AsmCode → Option (List ℕ) → Detail → Type 0
 IsSourceDetail code None detail = HasParts None [] [] detail

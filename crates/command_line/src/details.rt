@@ -1,6 +1,6 @@
 //! What a refused file has at its fault: a token, a line, an item or its size, and what is wanted in place of it.
 
-ghost use Rattle.command_line.specs.Details.{HasParts, IsDetail, IsItemDetail, IsSourceDetail, item_text, line_text, part_text, plan_hint, size_text};
+ghost use Rattle.command_line.specs.Details.{HasParts, IsDetail, IsItemDetail, IsMeant, IsNearText, IsSlipOf, IsSourceDetail, is_unnamed, item_text, line_text, near_text, part_text, plan_hint, size_text};
 ghost use Rattle.command_line.specs.Items.{word_hint};
 ghost use Rattle.command_line.specs.Shown.{shown};
 ghost use Rattle.command_line.specs.SourceLines.{numbered_line};
@@ -10,8 +10,8 @@ use crate::failure::Refusal;
 use crate::items::{BadItem, bad_item, word_hint};
 use crate::shown::{Form, Shown};
 use crate::source_lines::{front_of_line, numbered_line};
-use asm_slips::{Part, Slip, slip_in};
-use assemble::AsmFault;
+use asm_slips::{Part, Slip, nearest_mnemonic, slip_in};
+use assemble::{AsmCode, AsmFault};
 use routine_judge::MarkFault;
 use std::alloc::{AllocError, Global};
 
@@ -59,20 +59,67 @@ fn source_detail(alloc: Global, fault: &AsmFault, file: &[u8]) -> Result<Detail,
     match numbered_line(file, fault.line) {
         Some(line) => {
             let slip = slip_in(alloc, line, fault.code)?;
-            slip_detail(alloc, line, slip)
+            slip_detail(alloc, fault.code, line, slip)
         }
         None => Ok(hint_detail(alloc, "")),
     }
 }
 
-fn slip_detail(alloc: Global, line: &[u8], slip: Slip<'_>) -> Result<Detail, AllocError>
-    ensures { IfOk result (HasParts (option_map (λ part. part.column) slip.entry.part) (part_text line.now slip.entry.part) slip.entry.hint.now) }
+/// What is known of a line's slip, and of a name that is no mnemonic the nearest one.
+fn slip_detail(
+    alloc: Global,
+    code: AsmCode,
+    line: &[u8],
+    slip: Slip<'_>,
+) -> Result<Detail, AllocError>
+    ensures { IfOk result (IsSlipOf code line.now slip.entry) }
 {
+    let part = shown_part(alloc, line, slip.part)?;
+    let meant = meant_text(alloc, is_unnamed(code, slip.hint), slip.part)?;
     Ok(Detail {
         column: column_of(slip.part),
-        text: shown_part(alloc, line, slip.part)?,
+        text: format!(in alloc; "{part}{meant}")?,
         hint: slip.hint,
     })
+}
+
+/// Whether a line is refused for a name of which nothing is known.
+fn is_unnamed(code: AsmCode, hint: &str) -> bool
+    ensures { result ≡ is_unnamed code hint.now }
+{
+    match code {
+        AsmCode::Mnemonic => hint.is_empty(),
+        _ => false,
+    }
+}
+
+/// ` (did you mean NAME?)`, where it is asked for and there is such a name.
+fn meant_text(alloc: Global, asked: bool, part: Option<Part<'_>>) -> Result<String, AllocError>
+    ensures { IfOk result (λ text. IsMeant asked part.entry (string_bytes text)) }
+{
+    match part {
+        Some(part) if asked => near_text(alloc, part.text),
+        _ => Ok(String::new(alloc)),
+    }
+}
+
+fn near_text(alloc: Global, name: &[u8]) -> Result<String, AllocError>
+    ensures { IfOk result (λ text. IsNearText name.now (string_bytes text)) }
+{
+    match nearest_mnemonic(alloc, name)? {
+        Some(near) => told_near(alloc, &near),
+        None => Ok(String::new(alloc)),
+    }
+}
+
+fn told_near(alloc: Global, near: &[u8]) -> Result<String, AllocError>
+    ensures { IfOk result (λ text. string_bytes text ≡ near_text near.now) }
+{
+    let near = Shown {
+        bytes: near,
+        form: Form::Line,
+    };
+    format!(in alloc; " (did you mean {near}?)")
 }
 
 /// The part at fault, or the front of the line.
