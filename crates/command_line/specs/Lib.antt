@@ -31,6 +31,7 @@ pub mod Meanings
 pub mod Sizes
 pub mod Making
 pub mod Naming
+pub mod Objects
 pub mod Outcomes
 pub mod Picturing
 pub mod Progress

@@ -1,16 +1,15 @@
--- What is printed of a failure beyond its first line: the file that is refused, the line in it, and what the code means. And the object of a
--- refusal in JSON.
+-- What is printed of a failure beyond its first line: the file that is refused, the place in it, what the code means, what stands there and
+-- what is wanted.
 use Rattle.std.specs.Prelude.{◌≡◌, ℕ, List, [], ◌∷◌, ◌++◌, Option, Some, None, Result, Ok, MatchOption, MatchResult, ◌==◌, codes, decimal, if◌then◌else◌, length, string_bytes}
 use Rattle.arguments.specs.Codes.{IsMeaningOf}
 use Rattle.arguments.specs.declared.codes.table.Meaning.{Meaning}
-use Rattle.command_line.specs.CutVerdicts.{number_or_null}
 use Rattle.command_line.specs.Details.{IsDetail}
 use Rattle.command_line.specs.Failures.{refusal_code}
 use Rattle.command_line.specs.FileNames.{Names}
 use Rattle.command_line.specs.Kinds.{IsKindTold}
 use Rattle.command_line.specs.LostFiles.{FindsLost}
 use Rattle.command_line.specs.Reports.{line_end}
-use Rattle.command_line.specs.Shown.{shown, shown_json}
+use Rattle.command_line.specs.Shown.{shown}
 use Rattle.command_line.specs.Steps.{First, Reads, ReadsFile, Step, Still}
 use Rattle.command_line.specs.declared.details.Detail.{Detail}
 use Rattle.command_line.specs.declared.failure.Failure.{Failure}
@@ -101,10 +100,10 @@ pub record SaysByRow (name : Option (List ℕ)) (refusal : Refusal) (file text :
 pub record SaysRefused (name : Option (List ℕ)) (refusal : Refusal) (file : List ℕ) (outcome : Result (List ℕ) Failure) : Type 0 where
   pub says : MatchResult outcome (SaysByRow name refusal file) (λ failure. failure ≡ Memory)
 
--- the refused file is read once more
-abbrev pub ReadsRefused : {F : Type 0} → Reads F → Refusal → Option (List ℕ) → Step F (List ℕ)
-ReadsRefused reads refusal None = Still (SaysRefused None refusal [])
-ReadsRefused reads refusal (Some name) = First (ReadsFile reads name) (λ file. Still (SaysRefused (Some name) refusal file))
+-- what is said of the bytes of the refused file, which is read once more, where one is refused
+abbrev pub ReadsThen : {F : Type 0} → Reads F → Option (List ℕ) → (List ℕ → Result (List ℕ) Failure → Type 0) → Step F (List ℕ)
+ReadsThen reads None says = Still (says [])
+ReadsThen reads (Some name) says = First (ReadsFile reads name) (λ file. Still (says file))
 
 -- the files that a command reads
 abbrev pub files_read : Names → List (Option (List ℕ))
@@ -122,15 +121,6 @@ pub record SaysLost {F : Type 0} (reads : Reads F) (names : Names) (old : F) (ou
 
 -- what is said of a failure of a command that reads files of these names
 abbrev pub SaysMore : {F : Type 0} → Reads F → Names → Failure → Step F (List ℕ)
-SaysMore reads names (Refused refusal) = ReadsRefused reads refusal (refused_file names refusal)
+SaysMore reads names (Refused refusal) = ReadsThen reads (refused_file names refusal) (SaysRefused (refused_file names refusal) refusal)
 SaysMore reads names File = SaysLost reads names
 SaysMore reads names failure = Still (λ outcome. outcome ≡ Ok [])
-
--- `{"kind":"refused","code":"CODE","file":"FILE","line":N}`, with `null` where no file or no line is at fault
-abbrev pub name_or_null : Option (List ℕ) → List ℕ
-name_or_null None = codes "null"
-name_or_null (Some name) = codes "\"" ++ (shown_json name ++ codes "\"")
-
-abbrev pub refusal_json : Names → Refusal → List ℕ
-refusal_json names refusal = codes "{\"kind\":\"refused\",\"code\":\"" ++ (refusal_code refusal ++ (codes "\",\"file\":" ++ (name_or_null (refused_file names refusal)
-    ++ (codes ",\"line\":" ++ (number_or_null (refused_line refusal) ++ (codes "}" ++ line_end))))))

@@ -9,7 +9,8 @@ use Rattle.arguments.specs.declared.asked.LineFault.{LineFault}
 use Rattle.debugger.specs.StreamFailures.{AppendsFront}
 use Rattle.command_line.specs.Failures.{failure_text}
 use Rattle.command_line.specs.FileNames.{is_json, names_of}
-use Rattle.command_line.specs.Meanings.{SaysMore, refusal_json}
+use Rattle.command_line.specs.Meanings.{ReadsThen, SaysMore, refused_file}
+use Rattle.command_line.specs.Objects.{SaysObject}
 use Rattle.command_line.specs.Steps.{Reads, Step}
 use Rattle.command_line.specs.declared.failure.Failure.{Failure}
 use Rattle.command_line.specs.declared.failure.Failure.TheVariants.{Refused}
@@ -55,23 +56,31 @@ abbrev pub ExplainsIf : {F E : Type 0} → Bool → Reads F → (E → Option (L
 ExplainsIf true reads said words failure files files' errors errors' = Explains reads said words failure files files' errors errors'
 ExplainsIf false reads said words failure files files' errors errors' = (files' ≡ files) × (errors' ≡ errors)
 
--- a text, or a front of it, where it is asked for, and else nothing
-abbrev pub PrintsIf : {W : Type 0} → Bool → (W → Option (List ℕ)) → List ℕ → W → W → Type 0
-PrintsIf true contents text old new = AppendsFront (contents old) (contents new) text
-PrintsIf false contents text old new = new ≡ old
-
 -- the object of a refusal, where the command's answer is JSON
-abbrev pub PrintsObject : {W : Type 0} → (W → Option (List ℕ)) → Refusal → W → W → Command → Type 0
-PrintsObject contents refusal old new command = PrintsIf (is_json command) contents (refusal_json (names_of command) refusal) old new
+pub record PrintsObject {F W : Type 0} (reads : Reads F) (contents : W → Option (List ℕ)) (name : Option (List ℕ)) (refusal : Refusal)
+    (files files' : F) (old new : W) : Type 0 where
+  pub found : Result (List ℕ) Failure
+  pub says : ReadsThen reads name (SaysObject name refusal) files found files'
+  pub told : IsToldIfFound contents found old new
 
-abbrev pub PrintsRefusal : {W : Type 0} → (W → Option (List ℕ)) → List (List ℕ) → Failure → W → W → Type 0
-PrintsRefusal contents words (Refused refusal) old new = OfCommand words (PrintsObject contents refusal old new) (new ≡ old)
-PrintsRefusal contents words failure old new = new ≡ old
+abbrev pub PrintsIf : {F W : Type 0} → Bool → Reads F → (W → Option (List ℕ)) → Option (List ℕ) → Refusal → F → F → W → W → Type 0
+PrintsIf true reads contents name refusal files files' old new = PrintsObject reads contents name refusal files files' old new
+PrintsIf false reads contents name refusal files files' old new = (files' ≡ files) × (new ≡ old)
+
+abbrev pub PrintsOfCommand : {F W : Type 0} → Reads F → (W → Option (List ℕ)) → Refusal → F → F → W → W → Command → Type 0
+PrintsOfCommand reads contents refusal files files' old new command =
+    PrintsIf (is_json command) reads contents (refused_file (names_of command) refusal) refusal files files' old new
+
+abbrev pub PrintsRefusal : {F W : Type 0} → Reads F → (W → Option (List ℕ)) → List (List ℕ) → Failure → F → F → W → W → Type 0
+PrintsRefusal reads contents words (Refused refusal) files files' old new =
+    OfCommand words (PrintsOfCommand reads contents refusal files files' old new) ((files' ≡ files) × (new ≡ old))
+PrintsRefusal reads contents words failure files files' old new = (files' ≡ files) × (new ≡ old)
 
 -- all of it, on the files, standard output and standard error
 pub record TellsFailure {F W E : Type 0} (reads : Reads F) (contents : W → Option (List ℕ)) (said : E → Option (List ℕ)) (words : Words)
     (failure : Failure) (old new : F × W × E) : Type 0 where
-  pub between : E
-  pub told : AppendsFront (said old.2) (said between) (failure_text failure)
-  pub object : PrintsRefusal contents (plain_texts words) failure old.1 new.1
-  pub explained : ExplainsIf (is_explained words) reads said (plain_texts words) failure old.0 new.0 between new.2
+  pub files : F
+  pub errors : E
+  pub told : AppendsFront (said old.2) (said errors) (failure_text failure)
+  pub object : PrintsRefusal reads contents (plain_texts words) failure old.0 files old.1 new.1
+  pub explained : ExplainsIf (is_explained words) reads said (plain_texts words) failure files new.0 errors new.2

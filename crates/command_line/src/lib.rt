@@ -35,6 +35,7 @@ mod made_run;
 mod meanings;
 mod mkfs;
 mod naming;
+mod objects;
 mod opened;
 mod picture;
 mod progress;

@@ -1,11 +1,10 @@
-//! What is told of a failure beyond its first line: the file that is refused, the line in it, and what the code means.
+//! What is told of a failure beyond its first line: the file that is refused, the place in it, what the code means, and what is wanted.
 
 ghost use Rattle.command_line.specs.FileNames.{names_in};
-ghost use Rattle.command_line.specs.Meanings.{ReadsRefused, SaysLost, SaysMore, SaysRefused, behind_colon, first_name, in_brackets, lost_text, name_or_null, place_text, refusal_json, refused_file, told_hint};
+ghost use Rattle.command_line.specs.Meanings.{ReadsThen, SaysLost, SaysMore, SaysRefused, behind_colon, first_name, in_brackets, lost_text, place_text, refused_file, told_hint};
 ghost use Rattle.std.specs.Prelude.{◌≡◌, IfOk, option_map, string_bytes};
 ghost use Rattle.std.specs.Result.{result_map_both};
 
-use crate::cut_verdicts::number_or_null;
 use crate::details::detail_of;
 use crate::failure::{Failure, Refusal};
 use crate::file_names::FileNames;
@@ -45,7 +44,7 @@ fn refused_text<F: Files>(
     refusal: &Refusal,
     files: &mut F,
 ) -> Result<String, Failure>
-    ensures { ReadsRefused F.read_gives refusal.now (option_map (λ name. name.now) name.entry) files.old (result_map_both (λ text. string_bytes text) (λ failure. failure) result) files.new }
+    ensures { ReadsThen F.read_gives (option_map (λ name. name.now) name.entry) (SaysRefused (option_map (λ name. name.now) name.entry) refusal.now) files.old (result_map_both (λ text. string_bytes text) (λ failure. failure) result) files.new }
 {
     match name {
         Some(file) => refused_in(alloc, file, refusal, files),
@@ -59,7 +58,7 @@ fn refused_in<F: Files>(
     refusal: &Refusal,
     files: &mut F,
 ) -> Result<String, Failure>
-    ensures { ReadsRefused F.read_gives refusal.now (Some name.now) files.old (result_map_both (λ text. string_bytes text) (λ failure. failure) result) files.new }
+    ensures { ReadsThen F.read_gives (Some name.now) (SaysRefused (Some name.now) refusal.now) files.old (result_map_both (λ text. string_bytes text) (λ failure. failure) result) files.new }
 {
     let file = read_file(name, files)?;
     meaning_text(alloc, Some(name), refusal, &file)
@@ -167,7 +166,7 @@ fn lost_text<F: Files>(
 }
 
 /// The file that is refused, of those that a command reads; None where no file alone is.
-fn refused_file<'a>(names: &FileNames<'a>, refusal: &Refusal) -> Option<&'a str>
+pub(crate) fn refused_file<'a>(names: &FileNames<'a>, refusal: &Refusal) -> Option<&'a str>
     ensures { option_map (λ name. name.now) result ≡ refused_file (names_in names.now) refusal.now }
 {
     match refusal {
@@ -190,36 +189,5 @@ fn first_name<'a>(one: Option<&'a str>, other: Option<&'a str>) -> Option<&'a st
     match one {
         Some(name) => Some(name),
         None => other,
-    }
-}
-
-/// `{"kind":"refused","code":"CODE","file":"FILE","line":N}`, with `null` where no file or no line is at fault.
-pub(crate) fn refusal_json(
-    alloc: Global,
-    names: &FileNames<'_>,
-    refusal: &Refusal,
-) -> Result<String, AllocError>
-    ensures { IfOk result (λ text. string_bytes text ≡ refusal_json (names_in names.now) refusal.now) }
-{
-    let code = refusal.code();
-    let file = name_or_null(alloc, refused_file(names, refusal))?;
-    let line = number_or_null(alloc, refusal.line())?;
-    format!(in alloc;
-        "{{\"kind\":\"refused\",\"code\":\"{code}\",\"file\":{file},\"line\":{line}}}\n"
-    )
-}
-
-fn name_or_null(alloc: Global, name: Option<&str>) -> Result<String, AllocError>
-    ensures { IfOk result (λ text. string_bytes text ≡ name_or_null (option_map (λ name. name.now) name.entry)) }
-{
-    match name {
-        Some(name) => {
-            let name = Shown {
-                bytes: name.as_bytes(),
-                form: Form::Json,
-            };
-            format!(in alloc; "\"{name}\"")
-        }
-        None => format!(in alloc; "null"),
     }
 }

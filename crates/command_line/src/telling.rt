@@ -3,15 +3,18 @@
 ghost use Rattle.std.specs.Prelude.{◌≡◌, ◌++◌, IfSome, OnOk, map, string_bytes};
 ghost use Rattle.std.specs.Io.KnownBytes.{Appends};
 ghost use Rattle.command_line.specs.Failures.{failure_text, refusal_text};
+ghost use Rattle.command_line.specs.FileNames.{names_in};
+ghost use Rattle.command_line.specs.Meanings.{refused_file};
 ghost use Rattle.command_line.specs.Reports.{line_end};
-ghost use Rattle.command_line.specs.Telling.{Explains, OfCommand, PrintsObject, PrintsRefusal, SaysMoreOfLine, TellsFailure, is_explained, plain_words};
+ghost use Rattle.command_line.specs.Telling.{Explains, OfCommand, PrintsObject, PrintsOfCommand, PrintsRefusal, SaysMoreOfLine, TellsFailure, is_explained, plain_words};
 ghost use Rattle.debugger.specs.StreamFailures.{AppendsFront};
 ghost use Rattle.std.specs.Result.{result_map_both};
 
 use crate::failure::{Failure, Refusal};
-use crate::file_names::{is_json, names_of};
+use crate::file_names::{FileNames, is_json, names_of};
 use crate::files::Files;
-use crate::meanings::{further_text, refusal_json};
+use crate::meanings::further_text;
+use crate::objects::object_text;
 use crate::streams::print;
 use arguments::{Command, command};
 use arrayvec::ArrayString;
@@ -57,7 +60,7 @@ pub(crate) fn tell_failure<F: Files, W: io::Write, E: io::Write>(
 {
     let plain = plain_words(words);
     let _ = report_failure(failure, errors);
-    print_refusal(alloc, plain, failure, output);
+    print_refusal(alloc, plain, failure, files, output);
     if is_explained(words) {
         explain(alloc, plain, failure, files, errors);
     }
@@ -95,35 +98,60 @@ fn more_of_line<F: Files>(
 }
 
 /// Writes the object of a refusal, where the answer of the command is JSON.
-fn print_refusal<W: io::Write>(alloc: Global, words: &[String], failure: &Failure, output: &mut W)
-    ensures { PrintsRefusal W.contents (map string_bytes words.now) failure.now output.old output.new }
+fn print_refusal<F: Files, W: io::Write>(
+    alloc: Global,
+    words: &[String],
+    failure: &Failure,
+    files: &mut F,
+    output: &mut W,
+)
+    ensures { PrintsRefusal F.read_gives W.contents (map string_bytes words.now) failure.now files.old files.new output.old output.new }
 {
     if let Failure::Refused(refusal) = failure {
-        print_object_of_line(alloc, words, refusal, output);
+        print_object_of_line(alloc, words, refusal, files, output);
     }
 }
 
-fn print_object_of_line<W: io::Write>(
+fn print_object_of_line<F: Files, W: io::Write>(
     alloc: Global,
     words: &[String],
     refusal: &Refusal,
+    files: &mut F,
     output: &mut W,
 )
-    ensures { OfCommand (map string_bytes words.now) (PrintsObject W.contents refusal.now output.old output.new) (output.new ≡ output.old) }
+    ensures { OfCommand (map string_bytes words.now) (PrintsOfCommand F.read_gives W.contents refusal.now files.old files.new output.old output.new) ((files.new ≡ files.old) × (output.new ≡ output.old)) }
 {
     if let Ok(command) = command(alloc, words) {
-        print_object(alloc, &command, refusal, output);
+        print_object_of(alloc, &command, refusal, files, output);
     }
 }
 
-#[tactic(auto, using(crate::proofs::Written::front_all, crate::proofs::Written::front_nothing))]
-fn print_object<W: io::Write>(alloc: Global, command: &Command, refusal: &Refusal, output: &mut W)
-    ensures { PrintsObject W.contents refusal.now output.old output.new command.now }
+fn print_object_of<F: Files, W: io::Write>(
+    alloc: Global,
+    command: &Command,
+    refusal: &Refusal,
+    files: &mut F,
+    output: &mut W,
+)
+    ensures { PrintsOfCommand F.read_gives W.contents refusal.now files.old files.new output.old output.new command.now }
 {
     if is_json(command) {
-        if let Ok(text) = refusal_json(alloc, &names_of(command), refusal) {
-            let _ = print(text.as_bytes(), output);
-        }
+        print_object(alloc, &names_of(command), refusal, files, output);
+    }
+}
+
+#[tactic(auto, using(crate::proofs::Written::front_all))]
+fn print_object<F: Files, W: io::Write>(
+    alloc: Global,
+    names: &FileNames<'_>,
+    refusal: &Refusal,
+    files: &mut F,
+    output: &mut W,
+)
+    ensures { PrintsObject F.read_gives W.contents (refused_file (names_in names.now) refusal.now) refusal.now files.old files.new output.old output.new }
+{
+    if let Ok(text) = object_text(alloc, names, refusal, files) {
+        let _ = print(text.as_bytes(), output);
     }
 }
 
