@@ -1,5 +1,5 @@
 -- What is wanted in place of what is at fault in a source line, in words; an empty text says nothing.
-use Rattle.std.specs.Prelude.{ℕ, ◌==◌, Bool, ◌||◌, List, [], ◌∷◌, Option, Some, None, codes, if◌then◌else◌}
+use Rattle.std.specs.Prelude.{ℕ, ◌==◌, Bool, ◌||◌, List, [], ◌∷◌, Option, Some, None, codes, if◌then◌else◌, length}
 use Rattle.std.specs.Char.{is_ascii_uppercase}
 use Rattle.std.specs.List.{list_any}
 use Rattle.asm_lex.specs.Mnemonics.{mnemonic_of}
@@ -14,8 +14,7 @@ use Rattle.asm_slips.specs.Unknown.{instead_of}
 
 -- a text, or another one in place of nothing
 abbrev pub or_else : List ℕ → List ℕ → List ℕ
-or_else [] other = other
-or_else (byte ∷ bytes) other = byte ∷ bytes
+or_else text other = if length text == 0 then other else text
 
 abbrev pub has_capital : List ℕ → Bool
 has_capital text = list_any is_ascii_uppercase text

@@ -29,9 +29,11 @@ fn name_hint(at: Option<&Token>) -> &'static str
     let Some(token) = at else {
         return "";
     };
-    match instead_of(token.text) {
-        "" => letters_hint(at),
-        instead => instead,
+    let instead = instead_of(token.text);
+    if instead.is_empty() {
+        letters_hint(at)
+    } else {
+        instead
     }
 }
 

@@ -5,9 +5,6 @@
 ghost use Rattle.asm_slips.specs.Unknown.{instead_in, instead_of, texts_of};
 ghost use Rattle.std.specs.Prelude.{◌≡◌};
 
-/// The word for instructions of extension M.
-const MULTIPLIES: &str = "of extension M, which isn't there";
-
 static OTHERS: [(&[u8], &str); 30] = [
     (b"lla", "use la"),
     (b"call", "use jal"),
@@ -28,15 +25,15 @@ static OTHERS: [(&[u8], &str); 30] = [
     (b".string", "use .byte, with numbers"),
     (b".ascii", "use .byte, with numbers"),
     (b".asciz", "use .byte, with numbers"),
-    (b"mul", MULTIPLIES),
-    (b"mulh", MULTIPLIES),
-    (b"mulw", MULTIPLIES),
-    (b"div", MULTIPLIES),
-    (b"divu", MULTIPLIES),
-    (b"divw", MULTIPLIES),
-    (b"rem", MULTIPLIES),
-    (b"remu", MULTIPLIES),
-    (b"remw", MULTIPLIES),
+    (b"mul", "of extension M, which isn't there"),
+    (b"mulh", "of extension M, which isn't there"),
+    (b"mulw", "of extension M, which isn't there"),
+    (b"div", "of extension M, which isn't there"),
+    (b"divu", "of extension M, which isn't there"),
+    (b"divw", "of extension M, which isn't there"),
+    (b"rem", "of extension M, which isn't there"),
+    (b"remu", "of extension M, which isn't there"),
+    (b"remw", "of extension M, which isn't there"),
     (b"clwb", "use cbo.clean"),
     (b"sfence", "use fence w, w"),
 ];

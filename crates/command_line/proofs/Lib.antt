@@ -3,6 +3,7 @@ mod Held
 mod Kept
 pub mod ImageLines
 mod Loops
+mod LostNames
 mod NumberedLines
 mod Texts
 mod Unexplained

@@ -31,12 +31,17 @@ pub(crate) fn detail_of(alloc: Global, refusal: &Refusal, file: &[u8]) -> Result
     ensures { IfOk result (IsDetail refusal.now file.now) }
 {
     match refusal {
-        Refusal::Assembly(fault) | Refusal::RecoverySource(fault) => source_detail(alloc, fault, file),
+        Refusal::Assembly(fault) | Refusal::RecoverySource(fault) => source_detail(
+            alloc, fault, file,
+        ),
         Refusal::Plan(fault) => plan_detail(alloc, file, fault.line),
         Refusal::Trace(fault) => line_detail(alloc, numbered_line(file, fault.line), ""),
         Refusal::ScheduleText => schedule_detail(alloc, file),
         Refusal::Medium => size_detail(alloc, file.len()),
-        Refusal::Marks(MarkFault::NoOperation) => Ok(hint_detail(alloc, "is this the recovery routine?")),
+        Refusal::Marks(MarkFault::NoOperation) => Ok(hint_detail(
+            alloc,
+            "is this the recovery routine?",
+        )),
         _ => Ok(hint_detail(alloc, "")),
     }
 }

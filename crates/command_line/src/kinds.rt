@@ -19,8 +19,9 @@ pub(crate) fn kind_told(
     ensures { IfOk result (λ told. IsKindTold (option_map (λ name. name.now) name.entry) refusal.now file.now told.now) }
 {
     match refusal {
-        Refusal::Assembly(_) if is_c(name) =>
-            Ok("this is C: tools/c/novacrash-cc makes an executable of it"),
+        Refusal::Assembly(_) if is_c(name) => Ok(
+            "this is C: tools/c/novacrash-cc makes an executable of it",
+        ),
         Refusal::Assembly(_) => told_of_schedule(
             alloc,
             file,
