@@ -1,17 +1,19 @@
 //! What a refused file has at its fault: a token, a line, an item or its size, and what is wanted in place of it.
 
-ghost use Rattle.command_line.specs.Details.{HasParts, IsDetail, IsItemDetail, IsMeant, IsNearText, IsSlipOf, IsSourceDetail, is_unnamed, item_text, line_text, near_text, part_text, plan_hint, size_text};
+ghost use Rattle.command_line.specs.Details.{HasParts, IsDetail, IsGreatestDetail, IsItemDetail, IsMeant, IsNearText, IsSlipOf, IsSourceDetail, IsStepDetail, is_unnamed, item_text, line_text, named_hint, near_text, part_text, placed_text, plan_hint, size_text};
 ghost use Rattle.command_line.specs.Items.{word_hint};
 ghost use Rattle.command_line.specs.Shown.{shown};
 ghost use Rattle.command_line.specs.SourceLines.{numbered_line};
 ghost use Rattle.std.specs.Prelude.{◌≡◌, [], None, IfOk, codes, option_map, string_bytes};
 
 use crate::failure::Refusal;
+use crate::greatest::{Named, Placed, greatest_item};
 use crate::items::{BadItem, bad_item, word_hint};
 use crate::shown::{Form, Shown};
 use crate::source_lines::{front_of_line, numbered_line};
 use asm_slips::{Part, Slip, nearest_mnemonic, slip_in};
 use assemble::{AsmCode, AsmFault};
+use machine::{Item, Schedule, ScheduleFault, StepFault};
 use routine_judge::MarkFault;
 use std::alloc::{AllocError, Global};
 
@@ -37,6 +39,8 @@ pub(crate) fn detail_of(alloc: Global, refusal: &Refusal, file: &[u8]) -> Result
         Refusal::Plan(fault) => plan_detail(alloc, file, fault.line),
         Refusal::Trace(fault) => line_detail(alloc, numbered_line(file, fault.line), ""),
         Refusal::ScheduleText => schedule_detail(alloc, file),
+        Refusal::Step(StepFault::NoSuchHart) => step_detail(alloc, file, Named::Hart),
+        Refusal::Step(StepFault::NoSuchLine) => step_detail(alloc, file, Named::CacheLine),
         Refusal::Medium => size_detail(alloc, file.len()),
         Refusal::Marks(MarkFault::NoOperation) => Ok(hint_detail(
             alloc,
@@ -212,6 +216,48 @@ fn item_detail(alloc: Global, item: BadItem<'_>) -> Result<Detail, AllocError>
         text: format!(in alloc; "item {number}, {word}")?,
         hint: word_hint(item.word),
     })
+}
+
+/// The item of a schedule that names the greatest hart or cache line.
+fn step_detail(alloc: Global, file: &[u8], named: Named) -> Result<Detail, AllocError>
+    ensures { IfOk result (IsStepDetail named file.now) }
+{
+    match Schedule::read(alloc, file) {
+        Ok(schedule) => greatest_detail(alloc, schedule.items(), named),
+        Err(ScheduleFault::Text) => Ok(hint_detail(alloc, "")),
+        Err(ScheduleFault::Memory) => Err(AllocError),
+    }
+}
+
+fn greatest_detail(alloc: Global, items: &[Item], named: Named) -> Result<Detail, AllocError>
+    ensures { IfOk result (IsGreatestDetail named items.now) }
+{
+    match greatest_item(items, named) {
+        Some(placed) => placed_detail(alloc, placed, named),
+        None => Ok(hint_detail(alloc, "")),
+    }
+}
+
+fn placed_detail(alloc: Global, placed: Placed, named: Named) -> Result<Detail, AllocError>
+    ensures { IfOk result (HasParts None (placed_text placed) (named_hint named)) }
+{
+    let number = placed.number;
+    let item = placed.item;
+    Ok(Detail {
+        column: None,
+        text: format!(in alloc; "item {number}, {item}")?,
+        hint: named_hint(named),
+    })
+}
+
+/// What is said of harts and of cache lines.
+fn named_hint(named: Named) -> &'static str
+    ensures { result.now ≡ named_hint named }
+{
+    match named {
+        Named::Hart => "--harts says how many there are",
+        Named::CacheLine => "the medium says how many there are, 512 where none is given",
+    }
 }
 
 /// How many bytes a medium's file has.
