@@ -16,11 +16,13 @@ use Rattle.command_line.specs.declared.failure.Refusal.TheVariants.{Assembly, Ma
 use Rattle.machine.specs.Grammar.{IsSchedule}
 use Rattle.machine.specs.Joined.{item_text as written_item}
 use Rattle.machine.specs.declared.schedule.items.Item.{Item}
+use Rattle.machine.specs.declared.shared_memory.fault.StepFault.{StepFault}
 use Rattle.machine.specs.declared.shared_memory.fault.StepFault.TheVariants.{NoSuchHart, NoSuchLine}
 use Rattle.command_line.specs.Greatest.{IsGreatest, number_of}
 use Rattle.command_line.specs.declared.greatest.Named.{Named}
 use Rattle.command_line.specs.declared.greatest.Named.TheVariants.{CacheLine, Hart}
 use Rattle.command_line.specs.declared.greatest.Placed.{Placed}
+use Rattle.routine_judge.specs.declared.history.fault.MarkFault.{MarkFault}
 use Rattle.routine_judge.specs.declared.history.fault.MarkFault.TheVariants.{NoOperation}
 use Rattle.text.specs.Words.{words_of_lines}
 
@@ -123,11 +125,21 @@ pub record HasItems (named : Named) (text : List ℕ) (detail : Detail) : Type 0
   pub greatest : IsGreatestDetail named items detail
 
 abbrev pub IsStepDetail : Named → List ℕ → Detail → Type 0
-IsStepDetail named text detail = HasItems named text detail ⊎ (¬ IsScheduleText text × HasParts None [] [] detail)
+IsStepDetail named text detail = HasItems named text detail ⊎ ((¬ IsScheduleText text) × HasParts None [] [] detail)
 
 -- `N bytes`
 abbrev pub size_text : ℕ → List ℕ
 size_text bytes = decimal bytes ++ codes " bytes"
+
+abbrev pub IsStoppedDetail : StepFault → List ℕ → Detail → Type 0
+IsStoppedDetail NoSuchHart text detail = IsStepDetail Hart text detail
+IsStoppedDetail NoSuchLine text detail = IsStepDetail CacheLine text detail
+IsStoppedDetail fault text detail = HasParts None [] [] detail
+
+-- a run in which no operation begins may be a recovery routine's
+abbrev pub mark_hint : MarkFault → List ℕ
+mark_hint NoOperation = codes "is this the recovery routine?"
+mark_hint fault = []
 
 -- what a refused file has at its fault
 abbrev pub IsDetail : Refusal → List ℕ → Detail → Type 0
@@ -136,8 +148,7 @@ IsDetail (RecoverySource fault) file detail = IsSourceDetail fault.code (numbere
 IsDetail (Plan fault) file detail = HasParts None (line_text (numbered_line file fault.line)) (plan_hint file) detail
 IsDetail (Trace fault) file detail = HasParts None (line_text (numbered_line file fault.line)) [] detail
 IsDetail ScheduleText file detail = IsItemDetail file detail
-IsDetail (Stopped NoSuchHart) file detail = IsStepDetail Hart file detail
-IsDetail (Stopped NoSuchLine) file detail = IsStepDetail CacheLine file detail
+IsDetail (Stopped fault) file detail = IsStoppedDetail fault file detail
 IsDetail Medium file detail = HasParts None (size_text (length file)) (codes "64 times 512 to 16384") detail
-IsDetail (Marks NoOperation) file detail = HasParts None [] (codes "is this the recovery routine?") detail
+IsDetail (Marks fault) file detail = HasParts None [] (mark_hint fault) detail
 IsDetail refusal file detail = HasParts None [] [] detail

@@ -1,6 +1,6 @@
 //! What a refused file has at its fault: a token, a line, an item or its size, and what is wanted in place of it.
 
-ghost use Rattle.command_line.specs.Details.{HasParts, IsDetail, IsGreatestDetail, IsItemDetail, IsMeant, IsNearText, IsSlipOf, IsSourceDetail, IsStepDetail, is_unnamed, item_text, line_text, named_hint, near_text, part_text, placed_text, plan_hint, size_text};
+ghost use Rattle.command_line.specs.Details.{HasParts, IsDetail, IsGreatestDetail, IsItemDetail, IsMeant, IsNearText, IsSlipOf, IsSourceDetail, IsStepDetail, IsStoppedDetail, is_unnamed, item_text, line_text, mark_hint, named_hint, near_text, part_text, placed_text, plan_hint, size_text};
 ghost use Rattle.command_line.specs.Items.{word_hint};
 ghost use Rattle.command_line.specs.Shown.{shown};
 ghost use Rattle.command_line.specs.SourceLines.{numbered_line};
@@ -39,13 +39,9 @@ pub(crate) fn detail_of(alloc: Global, refusal: &Refusal, file: &[u8]) -> Result
         Refusal::Plan(fault) => plan_detail(alloc, file, fault.line),
         Refusal::Trace(fault) => line_detail(alloc, numbered_line(file, fault.line), ""),
         Refusal::ScheduleText => schedule_detail(alloc, file),
-        Refusal::Step(StepFault::NoSuchHart) => step_detail(alloc, file, Named::Hart),
-        Refusal::Step(StepFault::NoSuchLine) => step_detail(alloc, file, Named::CacheLine),
+        Refusal::Step(fault) => stopped_detail(alloc, *fault, file),
         Refusal::Medium => size_detail(alloc, file.len()),
-        Refusal::Marks(MarkFault::NoOperation) => Ok(hint_detail(
-            alloc,
-            "is this the recovery routine?",
-        )),
+        Refusal::Marks(fault) => Ok(hint_detail(alloc, mark_hint(*fault))),
         _ => Ok(hint_detail(alloc, "")),
     }
 }
@@ -216,6 +212,27 @@ fn item_detail(alloc: Global, item: BadItem<'_>) -> Result<Detail, AllocError>
         text: format!(in alloc; "item {number}, {word}")?,
         hint: word_hint(item.word),
     })
+}
+
+/// What is said of marks.
+fn mark_hint(fault: MarkFault) -> &'static str
+    ensures { result.now ≡ mark_hint fault }
+{
+    match fault {
+        MarkFault::NoOperation => "is this the recovery routine?",
+        _ => "",
+    }
+}
+
+/// What a schedule has where a step is refused.
+fn stopped_detail(alloc: Global, fault: StepFault, file: &[u8]) -> Result<Detail, AllocError>
+    ensures { IfOk result (IsStoppedDetail fault file.now) }
+{
+    match fault {
+        StepFault::NoSuchHart => step_detail(alloc, file, Named::Hart),
+        StepFault::NoSuchLine => step_detail(alloc, file, Named::CacheLine),
+        _ => Ok(hint_detail(alloc, "")),
+    }
 }
 
 /// The item of a schedule that names the greatest hart or cache line.
