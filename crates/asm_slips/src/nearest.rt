@@ -25,13 +25,11 @@ pub fn nearest_mnemonic(alloc: Global, name: &[u8]) -> Result<Option<Vec<u8>>, A
     if name.len() > MOST_BYTES {
         return Ok(None);
     }
-    let found = with_byte_left_out(alloc, name)?;
-    if found.is_some() {
-        return Ok(found);
+    if let Some(near) = with_byte_left_out(alloc, name)? {
+        return Ok(Some(near));
     }
-    let found = with_letter_put_in(alloc, name)?;
-    if found.is_some() {
-        return Ok(found);
+    if let Some(near) = with_letter_put_in(alloc, name)? {
+        return Ok(Some(near));
     }
     with_letter_anywhere(alloc, name, 1)
 }
@@ -41,9 +39,8 @@ fn with_byte_left_out(alloc: Global, name: &[u8]) -> Result<Option<Vec<u8>>, All
     ensures { IfOk result (λ found. MatchOption found (IsFarWithout name.now) (λ near. IsNear name.now near.items)) }
 {
     for place in 0..name.len() {
-        let found = known(alloc, name, place, &[], 1)?;
-        if found.is_some() {
-            return Ok(found);
+        if let Some(near) = known(alloc, name, place, &[], 1)? {
+            return Ok(Some(near));
         }
     }
     Ok(None)
@@ -53,9 +50,8 @@ fn with_byte_left_out(alloc: Global, name: &[u8]) -> Result<Option<Vec<u8>>, All
 fn with_letter_put_in(alloc: Global, name: &[u8]) -> Result<Option<Vec<u8>>, AllocError>
     ensures { IfOk result (λ found. MatchOption found (IsFarWith name.now) (λ near. IsNear name.now near.items)) }
 {
-    let found = with_letter_anywhere(alloc, name, 0)?;
-    if found.is_some() {
-        return Ok(found);
+    if let Some(near) = with_letter_anywhere(alloc, name, 0)? {
+        return Ok(Some(near));
     }
     with_letter(alloc, name, name.len(), 0)
 }
@@ -70,9 +66,8 @@ fn with_letter_anywhere(
     ensures { IfOk result (λ found. MatchOption found (IsFarAnywhere name.now removed) (λ near. IsNear name.now near.items)) }
 {
     for place in 0..name.len() {
-        let found = with_letter(alloc, name, place, removed)?;
-        if found.is_some() {
-            return Ok(found);
+        if let Some(near) = with_letter(alloc, name, place, removed)? {
+            return Ok(Some(near));
         }
     }
     Ok(None)
@@ -90,9 +85,8 @@ fn with_letter(
     ensures { IfOk result (λ found. MatchOption found (IsFarThere name.now place removed) (λ near. IsNear name.now near.items)) }
 {
     for letter in &LETTERS {
-        let found = known(alloc, name, place, &[*letter], removed)?;
-        if found.is_some() {
-            return Ok(found);
+        if let Some(near) = known(alloc, name, place, &[*letter], removed)? {
+            return Ok(Some(near));
         }
     }
     Ok(None)

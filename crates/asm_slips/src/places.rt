@@ -2,7 +2,7 @@
 
 ghost use Rattle.asm_lex.specs.Kinds.{lexeme_of};
 ghost use Rattle.asm_slips.specs.Places.{can_stand, fault_token, is_colon, is_name, is_number, is_other_name, is_sign, only_number, operands, other_name, statement, uncommented};
-ghost use Rattle.std.specs.Prelude.{◌≡◌, ◌==◌, ◌≤◌, count_by, find, length, not, option_map, position};
+ghost use Rattle.std.specs.Prelude.{◌≡◌, ◌==◌, ◌<◌, ◌≤◌, IfSome, count_by, find, length, not, option_map, position};
 ghost use Rattle.std.specs.List.{prefix_len};
 
 use asm_lex::{Kind, Token, register_of};
@@ -17,7 +17,8 @@ pub struct Part<'a> {
 
 /// The place of a line's first byte before its comment that no source may have; None where it has none.
 pub(crate) fn bad_byte(line: &[u8]) -> Option<usize>
-    ensures { result ≡ position (λ byte. not (can_stand byte)) (uncommented line.now) }
+    ensures value { result ≡ position (λ byte. not (can_stand byte)) (uncommented line.now) }
+    ensures in_range { IfSome result (λ place. place < length line.now) }
 {
     uncommented(line).iter().position(|byte| !can_stand(*byte))
 }
