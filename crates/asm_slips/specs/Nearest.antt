@@ -24,9 +24,13 @@ pub record IsNear (name near : List ℕ) : Type 0 where
 abbrev pub IsUnknown : List ℕ → Type 0
 IsUnknown text = mnemonic_of text ≡ None
 
--- no letter makes a mnemonic of the name at a place, of those of which mnemonics are made
+-- none of these letters makes a mnemonic of the name at a place
+abbrev pub IsFarBy : List ℕ → ℕ → ℕ → List ℕ → Type 0
+IsFarBy name place removed letters = All (λ letter. IsUnknown (edited name place (letter ∷ []) removed)) letters
+
+-- nor any of those of which mnemonics are made
 abbrev pub IsFarThere : List ℕ → ℕ → ℕ → Type 0
-IsFarThere name place removed = All (λ letter. IsUnknown (edited name place (letter ∷ []) removed)) LETTERS
+IsFarThere name place removed = IsFarBy name place removed LETTERS
 
 -- nor at any place that has a byte
 abbrev pub IsFarAnywhere : List ℕ → ℕ → Type 0

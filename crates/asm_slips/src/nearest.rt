@@ -1,7 +1,7 @@
 //! Mnemonics that differ from a name by one byte.
 
 ghost use Rattle.asm_lex.specs.Mnemonics.{mnemonic_of};
-ghost use Rattle.asm_slips.specs.Nearest.{IsFar, IsFarAnywhere, IsFarThere, IsFarWith, IsFarWithout, IsNear, IsUnknown, edited};
+ghost use Rattle.asm_slips.specs.Nearest.{IsFar, IsFarAnywhere, IsFarBy, IsFarThere, IsFarWith, IsFarWithout, IsNear, IsUnknown, edited};
 ghost use Rattle.std.specs.Prelude.{◌≡◌, ◌+◌, ◌≤◌, IfOk, MatchOption, length};
 
 use asm_lex::mnemonic_of;
@@ -84,7 +84,22 @@ fn with_letter(
     requires one { removed ≤ 1 }
     ensures { IfOk result (λ found. MatchOption found (IsFarThere name.now place removed) (λ near. IsNear name.now near.items)) }
 {
-    for letter in &LETTERS {
+    with_one_of(alloc, name, place, removed, &LETTERS)
+}
+
+/// The same, where it is one of these letters.
+fn with_one_of(
+    alloc: Global,
+    name: &[u8],
+    place: usize,
+    removed: usize,
+    letters: &[u8],
+) -> Result<Option<Vec<u8>>, AllocError>
+    requires within { place + removed ≤ length name.now }
+    requires one { removed ≤ 1 }
+    ensures { IfOk result (λ found. MatchOption found (IsFarBy name.now place removed letters.now) (λ near. IsNear name.now near.items)) }
+{
+    for letter in letters {
         if let Some(near) = known(alloc, name, place, &[*letter], removed)? {
             return Ok(Some(near));
         }
