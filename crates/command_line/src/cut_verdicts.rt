@@ -182,8 +182,7 @@ fn total_text(alloc: Global, images: Option<u64>) -> Result<String, AllocError>
     }
 }
 
-/// A number in JSON; `null` where there is none.
-pub(crate) fn number_or_null(alloc: Global, number: Option<u32>) -> Result<String, AllocError>
+fn number_or_null(alloc: Global, number: Option<u32>) -> Result<String, AllocError>
     ensures { IfOk result (λ text. string_bytes text ≡ number_or_null number) }
 {
     match number {

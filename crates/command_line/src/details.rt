@@ -61,7 +61,7 @@ fn hint_detail(alloc: Global, hint: &'static str) -> Detail
 fn source_detail(alloc: Global, fault: &AsmFault, file: &[u8]) -> Result<Detail, AllocError>
     ensures { IfOk result (IsSourceDetail fault.now.code (numbered_line file.now fault.now.line)) }
 {
-    match numbered_line(file, fault.line) {
+    match numbered_line(file, fault.line as usize) {
         Some(line) => {
             let slip = slip_in(alloc, line, fault.code)?;
             slip_detail(alloc, fault.code, line, slip)
@@ -147,7 +147,7 @@ fn column_of(part: Option<Part<'_>>) -> Option<usize>
 }
 
 /// The line of a plan at fault.
-fn plan_detail(alloc: Global, file: &[u8], number: u32) -> Result<Detail, AllocError>
+fn plan_detail(alloc: Global, file: &[u8], number: usize) -> Result<Detail, AllocError>
     ensures { IfOk result (HasParts None (line_text (numbered_line file.now number)) (plan_hint file.now)) }
 {
     line_detail(alloc, numbered_line(file, number), plan_hint(file))

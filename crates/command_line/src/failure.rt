@@ -80,11 +80,11 @@ impl Refusal {
     }
 
     /// The line at fault, of the file that is refused.
-    pub(crate) fn line(&self) -> Option<u32>
+    pub(crate) fn line(&self) -> Option<usize>
         ensures { result ≡ refused_line self.now }
     {
         match self {
-            Refusal::Assembly(fault) | Refusal::RecoverySource(fault) => Some(fault.line),
+            Refusal::Assembly(fault) | Refusal::RecoverySource(fault) => Some(fault.line as usize),
             Refusal::Plan(fault) => Some(fault.line),
             Refusal::Trace(fault) => Some(fault.line),
             _ => None,

@@ -89,7 +89,7 @@ fn meaning_text(
 fn place_text(
     alloc: Global,
     name: Option<&str>,
-    line: Option<u32>,
+    line: Option<usize>,
     column: Option<usize>,
 ) -> Result<String, AllocError>
     ensures { IfOk result (λ text. string_bytes text ≡ place_text (option_map (λ name. name.now) name.entry) line column) }

@@ -1,5 +1,6 @@
 //! Refusals as objects of JSON.
 
+ghost use Rattle.command_line.specs.CutVerdicts.{number_or_null};
 ghost use Rattle.command_line.specs.Meanings.{ReadsThen, refused_file};
 ghost use Rattle.command_line.specs.FileNames.{names_in};
 ghost use Rattle.command_line.specs.Objects.{IsToken, IsTokenIn, SaysObject, refusal_json, text_or_null};
@@ -7,7 +8,6 @@ ghost use Rattle.command_line.specs.SourceLines.{numbered_line};
 ghost use Rattle.std.specs.Prelude.{◌≡◌, IfOk, Some, option_map, string_bytes};
 ghost use Rattle.std.specs.Result.{result_map_both};
 
-use crate::cut_verdicts::number_or_null;
 use crate::failure::{Failure, Refusal};
 use crate::file_names::FileNames;
 use crate::files::Files;
@@ -57,12 +57,21 @@ fn refusal_json(
     ensures { SaysObject (option_map (λ name. name.now) name.entry) refusal.now file.now (result_map_both (λ text. string_bytes text) (λ failure. failure) result) }
 {
     let code = refusal.code();
-    let line = number_or_null(alloc, refusal.line())?;
+    let line = line_or_null(alloc, refusal.line())?;
     let token = text_or_null(alloc, token_of(alloc, refusal, file)?)?;
     let name = text_or_null(alloc, bytes_of(name))?;
     Ok(format!(in alloc;
         "{{\"kind\":\"refused\",\"code\":\"{code}\",\"file\":{name},\"line\":{line},\"token\":{token}}}\n"
     )?)
+}
+
+fn line_or_null(alloc: Global, line: Option<usize>) -> Result<String, AllocError>
+    ensures { IfOk result (λ text. string_bytes text ≡ number_or_null line) }
+{
+    match line {
+        Some(line) => format!(in alloc; "{line}"),
+        None => format!(in alloc; "null"),
+    }
 }
 
 fn bytes_of(name: Option<&str>) -> Option<&[u8]>
@@ -95,7 +104,7 @@ fn token_in<'a>(
 ) -> Result<Option<&'a [u8]>, AllocError>
     ensures { IfOk result (λ token. IsTokenIn fault.now.code (numbered_line file.now fault.now.line) (option_map (λ text. text.now) token)) }
 {
-    let Some(line) = numbered_line(file, fault.line) else {
+    let Some(line) = numbered_line(file, fault.line as usize) else {
         return Ok(None);
     };
     let slip = slip_in(alloc, line, fault.code)?;

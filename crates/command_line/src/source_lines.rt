@@ -11,7 +11,7 @@ const MOST_SHOWN: usize = 80;
 
 /// The line of this number, from 1; None where the text has fewer.
 #[tactic(auto, using(crate::proofs::NumberedLines::next_number, crate::proofs::NumberedLines::no_number, crate::proofs::NumberedLines::this_number))]
-pub(crate) fn numbered_line(text: &[u8], number: u32) -> Option<&[u8]>
+pub(crate) fn numbered_line(text: &[u8], number: usize) -> Option<&[u8]>
     ensures { option_map (λ line. line.now) result ≡ numbered_line text.now number }
 {
     let mut rest = text;
