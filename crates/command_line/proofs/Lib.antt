@@ -3,6 +3,8 @@ mod Held
 mod Kept
 pub mod ImageLines
 mod Loops
+mod LostNames
+mod NumberedLines
 mod Texts
 mod Unexplained
 mod Chains

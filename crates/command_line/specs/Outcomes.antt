@@ -17,7 +17,7 @@ use Rattle.command_line.specs.Coding.{code_text}
 use Rattle.command_line.specs.Debugging.{DebugsFile, IsOpen as IsOpenDebug, OpensFile}
 use Rattle.command_line.specs.Drawing.{InterleavesFile}
 use Rattle.command_line.specs.Explaining.{ExplainsFile}
-use Rattle.command_line.specs.Failures.{failure_status, failure_text}
+use Rattle.command_line.specs.Failures.{failure_status}
 use Rattle.command_line.specs.ImageFiles.{ImageFile}
 use Rattle.command_line.specs.Imaging.{CountsFile}
 use Rattle.command_line.specs.Judging.{IsOpen as IsOpenJudge, OpensJudge}
@@ -32,6 +32,7 @@ use Rattle.command_line.specs.Running.{ReplaysFile, RunsFile}
 use Rattle.command_line.specs.Showing.{ShowsFile}
 use Rattle.command_line.specs.Sizes.{SizesFile}
 use Rattle.command_line.specs.Steps.{Prints, Reads, Step, Still, Writes}
+use Rattle.command_line.specs.Telling.{TellsFailure, Words, plain_texts}
 use Rattle.command_line.specs.Tracing.{TracesFile}
 use Rattle.command_line.specs.Wasting.{WasteFile}
 use Rattle.command_line.specs.Upgrading.{UpgradesFile}
@@ -190,14 +191,15 @@ pub record Ends {F R W E : Type 0} (reads : Reads F) (writes : Writes F)
   pub comes : ComesTo reads writes words files files' outcome
   pub delivers : Delivers remaining contents said streams streams' errors errors' outcome ended
 
--- a status with which the program may end so; standard error stays as it was but for a failure, for notes, for what `--progress` tells, and for
--- the line of `judge` that no moment is judged
+-- a status with which the program may end so; behind the answer a failure is told, and standard error stays as it was but for that, for notes, for
+-- what `--progress` tells, and for the line of `judge` that no moment is judged. `between` is what answering leaves: the files, standard output and
+-- standard error
 pub record EndsWith {F R W E : Type 0} (reads : Reads F) (writes : Writes F)
-    (remaining : R → Option (List ℕ)) (contents : W → Option (List ℕ)) (said : E → Option (List ℕ)) (words : List (List ℕ)) (files files' : F)
+    (remaining : R → Option (List ℕ)) (contents : W → Option (List ℕ)) (said : E → Option (List ℕ)) (words : Words) (files files' : F)
     (streams streams' : R × W) (errors errors' : E) (status : ℕ) : Type 0 where
   pub ended : Result ℕ Failure
-  pub between : E
-  pub ends : Ends reads writes remaining contents said words files files' streams streams' errors between ended
+  pub between : F × W × E
+  pub ends : Ends reads writes remaining contents said (plain_texts words) files between.0 streams (streams'.0, between.1) errors between.2 ended
   pub status_is : status ≡ status_of ended
-  pub quiet : OnOk ended (errors' ≡ between)
-  pub told : IfErr ended (λ failure. AppendsFront (said between) (said errors') (failure_text failure))
+  pub quiet : OnOk ended ((files', streams'.1, errors') ≡ between)
+  pub told : IfErr ended (λ failure. TellsFailure reads contents said words failure between (files', streams'.1, errors'))

@@ -19,7 +19,7 @@ use crate::judge_all::judge_every;
 use crate::noting::{judge_noted_check, judge_noted_run, write_notes};
 use crate::opened::{OpenCheck, OpenCheckAll, OpenJudge, OpenJudgeAll};
 use crate::streams::print;
-use crate::telling::report_failure;
+use crate::telling::{plain_words, tell_failure};
 use std::alloc::Global;
 use std::io::{Read, Write};
 use std::sync::Wait;
@@ -29,12 +29,13 @@ use std::time::Clock;
 /// Carries out what a command line asks for, over files, standard input, standard output and standard error, and gives the
 /// status that the program ends with: 0 done or a verdict that passes, 1 one that fails, 2 refused input or command line,
 /// 3 a verdict with too many branches or a search that passes a bound, 4 want of memory, 5 a file, standard input or standard output that
-/// couldn't be read or written. `words` begins with the program's name.
+/// couldn't be read or written. `words` begins with the program's name, and perhaps `--explain`.
 ///
 /// An answer goes to standard output, and nothing of a failure does, but the schedule that `check-all` or `judge-all` found of a run which is
-/// refused. The lines of a failure go to standard error, and where they can't be written the status still stands. With `--whole` and without
-/// `--quiet`, `check`, `judge`, `unpersisted` and `waste` write notes there, before all else. With `--progress` `check`, `judge`,
-/// `check-all` and `judge-all` tell there, before a failure, how far they have come. Only the session of `debug` reads standard input, once its files have been read and its
+/// refused, and with `--json` the object of a refusal. The lines of a failure go to standard error, with `--explain` also one that says more, and
+/// where they can't be written the status still stands. With `--whole` and without `--quiet`, `check`, `judge`, `unpersisted` and `waste` write notes
+/// there, before all else. With `--progress` `check`, `judge`, `check-all` and `judge-all` tell there, before a failure, how far they have come.
+/// Only the session of `debug` reads standard input, once its files have been read and its
 /// machine made. `run` of several harts, `check`, `judge`, `check-all` and `judge-all` start threads, of `rt`; what the last four print
 /// doesn't depend on how many, and what `run` prints is the run that its harts made.
 pub fn execute<T: Threads + Wait + Sync + Clock, F: Files, R: Read, W: Write, E: Write>(
@@ -46,12 +47,13 @@ pub fn execute<T: Threads + Wait + Sync + Clock, F: Files, R: Read, W: Write, E:
     output: &mut W,
     errors: &mut E,
 ) -> u8
-    ensures { EndsWith F.read_gives F.write_gives R.remaining W.contents E.contents (map string_bytes words.now) files.old files.new (input.old, output.old) (input.new, output.new) errors.old errors.new result }
+    ensures { EndsWith F.read_gives F.write_gives R.remaining W.contents E.contents words.now files.old files.new (input.old, output.old) (input.new, output.new) errors.old errors.new result }
 {
-    match answer_line(rt, alloc, words, files, input, output, errors) {
+    let plain = plain_words(words);
+    match answer_line(rt, alloc, plain, files, input, output, errors) {
         Ok(status) => status,
         Err(failure) => {
-            let _ = report_failure(&failure, errors);
+            tell_failure(alloc, words, &failure, files, output, errors);
             failure.status()
         }
     }

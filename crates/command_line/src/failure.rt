@@ -55,9 +55,10 @@ pub enum Refusal {
 impl Refusal {
     ghost use Rattle.std.specs.Prelude.{◌≡◌};
     ghost use Rattle.command_line.specs.Failures.{refusal_code};
+    ghost use Rattle.command_line.specs.Meanings.{refused_line};
 
     /// The code of the fault.
-    fn code(&self) -> &'static str
+    pub(crate) fn code(&self) -> &'static str
         ensures { result.now ≡ refusal_code self.now }
     {
         match *self {
@@ -75,6 +76,18 @@ impl Refusal {
             Refusal::Image => ImageFault::NotACut.code(),
             Refusal::Operation(fault) => fault.code(),
             Refusal::Marks(fault) => fault.code(),
+        }
+    }
+
+    /// The line at fault, of the file that is refused.
+    pub(crate) fn line(&self) -> Option<usize>
+        ensures { result ≡ refused_line self.now }
+    {
+        match self {
+            Refusal::Assembly(fault) | Refusal::RecoverySource(fault) => Some(fault.line as usize),
+            Refusal::Plan(fault) => Some(fault.line),
+            Refusal::Trace(fault) => Some(fault.line),
+            _ => None,
         }
     }
 }

@@ -13,6 +13,7 @@ use Rattle.command_line.specs.Failures.{failure_status, failure_text}
 use Rattle.command_line.specs.Outcomes.{EndsWith}
 use Rattle.command_line.specs.Reports.{line_end}
 use Rattle.command_line.specs.Steps.{Reads, Writes}
+use Rattle.command_line.specs.Telling.{Words}
 use Rattle.command_line.specs.declared.failure.Failure.{Failure}
 use Rattle.command_line.specs.declared.failure.Failure.TheVariants.{File, Line, Memory, Refused, Unfinished}
 use Rattle.debugger.specs.StreamFailures.{AppendsFront}
@@ -45,7 +46,7 @@ pub record IsLeft {F S E : Type 0} (said : E → Option (List ℕ)) (failure : F
 
 -- the status with which a line ends: that of its words, where they were found
 abbrev pub EndsBy : {F R W E : Type 0} → Reads F → Writes F → (R → Option (List ℕ)) → (W → Option (List ℕ)) → (E → Option (List ℕ))
-    → Result (List (List ℕ)) Failure → F → F → R × W → R × W → E → E → ℕ → Type 0
+    → Result Words Failure → F → F → R × W → R × W → E → E → ℕ → Type 0
 EndsBy reads writes remaining contents said (Ok words) files files' streams streams' errors errors' status =
     EndsWith reads writes remaining contents said words files files' streams streams' errors errors' status
 EndsBy reads writes remaining contents said (Err failure) files files' streams streams' errors errors' status =

@@ -1,11 +1,11 @@
 //! A line of the program, from its words to its status.
 
-ghost use Rattle.std.specs.Prelude.{IfErr, map, string_bytes};
+ghost use Rattle.std.specs.Prelude.{IfErr};
 ghost use Rattle.std.specs.Process.{exit_status};
 ghost use Rattle.std.specs.Result.{result_map_both};
 ghost use Rattle.host.specs.Lines.{AreLent, EndsBy, IsLost};
 
-use command_line::{Failure, Files, execute, report_failure};
+use command_line::{Failure, Files, execute, is_explained, report_failure};
 use std::alloc::Global;
 use std::env::{Args, Env};
 use std::io::{ErrorKind, Read, Write};
@@ -15,14 +15,28 @@ use std::thread::Threads;
 use std::time::Clock;
 use std::{env, io};
 
-/// The words of the command line, which begin with the program's name.
+/// The words of the command line, which begin with the program's name. `--explain` is put behind it where the environment says
+/// `NOVACRASH_EXPLAIN=1`, and it isn't there.
 ///
 /// # Errors
 /// Memory where memory is refused, and Line where a word isn't UTF-8.
 pub fn words<T: Env + AllocGlobal>(rt: &T) -> Result<Vec<String>, Failure>
     ensures { IfErr result IsLost }
 {
-    lent_words(rt.alloc(), env::args(rt))
+    let mut words = lent_words(rt.alloc(), env::args(rt))?;
+    if is_asked(rt) && !words.is_empty() && !is_explained(&words) {
+        let option = String::from_str(rt.alloc(), "--explain")?;
+        if words.insert(1, option).is_err() {
+            return Err(Failure::Memory);
+        }
+    }
+    Ok(words)
+}
+
+/// Whether the environment asks to explain each failure.
+fn is_asked<T: Env>(rt: &T) -> bool {
+    let mut value = [0];
+    matches!(rt.var("NOVACRASH_EXPLAIN", &mut value), Ok(1)) && value == *b"1"
 }
 
 /// The words that the system lends, all of them in their order, or why it lends none.
@@ -49,7 +63,7 @@ pub fn run<T: Threads + Wait + Sync + Clock + AllocGlobal, F: Files, R: Read, W:
     output: &mut W,
     errors: &mut E,
 ) -> ExitCode
-    ensures { EndsBy F.read_gives F.write_gives R.remaining W.contents E.contents (result_map_both (λ found. map string_bytes found.items) (λ lost. lost) words)
+    ensures { EndsBy F.read_gives F.write_gives R.remaining W.contents E.contents (result_map_both (λ found. found.items) (λ lost. lost) words)
         files.old files.new (input.old, output.old) (input.new, output.new) errors.old errors.new (exit_status result) }
 {
     match words {

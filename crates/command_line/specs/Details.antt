@@ -1,0 +1,154 @@
+-- What a refused file has at its fault: a token, a line, an item or its size, and what is wanted in place of it.
+use Rattle.std.specs.Prelude.{◌≡◌, ◌⊎◌, ◌==◌, ℕ, Bool, true, false, List, [], ◌++◌, Option, Some, None, All, codes, decimal, if◌then◌else◌, length, option_map, string_bytes}
+use Rattle.std.specs.List.{list_any}
+use Rattle.asm_slips.specs.Nearest.{IsFar, IsNear}
+use Rattle.asm_slips.specs.Slips.{IsSlip}
+use Rattle.asm_slips.specs.declared.places.Part.{Part}
+use Rattle.asm_slips.specs.declared.slip.Slip.{Slip}
+use Rattle.assemble.specs.declared.asm_line.fault.AsmCode.{AsmCode}
+use Rattle.assemble.specs.declared.asm_line.fault.AsmCode.TheVariants.{Mnemonic}
+use Rattle.command_line.specs.Items.{IsFirstBad, IsScheduleText, word_hint}
+use Rattle.command_line.specs.Shown.{shown}
+use Rattle.command_line.specs.SourceLines.{front_of_line, numbered_line}
+use Rattle.command_line.specs.declared.details.Detail.{Detail}
+use Rattle.command_line.specs.declared.failure.Refusal.{Refusal}
+use Rattle.command_line.specs.declared.failure.Refusal.TheVariants.{Assembly, Marks, Medium, Plan, RecoverySource, ScheduleText, Step as Stopped, Trace}
+use Rattle.machine.specs.Grammar.{IsSchedule}
+use Rattle.machine.specs.Joined.{item_text as written_item}
+use Rattle.machine.specs.declared.schedule.items.Item.{Item}
+use Rattle.machine.specs.declared.shared_memory.fault.StepFault.{StepFault}
+use Rattle.machine.specs.declared.shared_memory.fault.StepFault.TheVariants.{NoSuchHart, NoSuchLine}
+use Rattle.command_line.specs.Greatest.{IsGreatest, number_of}
+use Rattle.command_line.specs.declared.greatest.Named.{Named}
+use Rattle.command_line.specs.declared.greatest.Named.TheVariants.{CacheLine, Hart}
+use Rattle.command_line.specs.declared.greatest.Placed.{Placed}
+use Rattle.routine_judge.specs.declared.history.fault.MarkFault.{MarkFault}
+use Rattle.routine_judge.specs.declared.history.fault.MarkFault.TheVariants.{NoOperation}
+use Rattle.text.specs.Words.{words_of_lines}
+
+-- a token's column, what stands at the fault, and what is wanted
+pub record HasParts (column : Option ℕ) (text hint : List ℕ) (detail : Detail) : Type 0 where
+  pub column_is : detail.column ≡ column
+  pub text_is : string_bytes detail.text ≡ text
+  pub hint_is : detail.hint.now ≡ hint
+
+-- a part of a line, or the front of the line where no part alone is at fault
+abbrev pub part_text : List ℕ → Option Part → List ℕ
+part_text line None = shown (front_of_line line)
+part_text line (Some part) = shown part.text.now
+
+abbrev pub line_text : Option (List ℕ) → List ℕ
+line_text None = []
+line_text (Some line) = shown (front_of_line line)
+
+-- a line is refused for a name of which nothing is known
+abbrev pub is_unnamed : AsmCode → List ℕ → Bool
+is_unnamed Mnemonic hint = length hint == 0
+is_unnamed code hint = false
+
+-- ` (did you mean NAME?)`, of a mnemonic that is near a name, or nothing
+abbrev pub near_text : List ℕ → List ℕ
+near_text near = codes " (did you mean " ++ (shown near ++ codes "?)")
+
+pub record TellsNear (name text : List ℕ) : Type 0 where
+  pub near : List ℕ
+  pub is_near : IsNear name near
+  pub text_is : text ≡ near_text near
+
+abbrev pub IsNearText : List ℕ → List ℕ → Type 0
+IsNearText name text = TellsNear name text ⊎ (IsFar name × (text ≡ []))
+
+abbrev pub IsMeant : Bool → Option Part → List ℕ → Type 0
+IsMeant true (Some part) text = IsNearText part.text.now text
+IsMeant true None text = text ≡ []
+IsMeant false part text = text ≡ []
+
+-- what is known of a line's slip, and of a name that is no mnemonic the nearest one
+pub record IsSlipOf (code : AsmCode) (line : List ℕ) (slip : Slip) (detail : Detail) : Type 0 where
+  pub meant : List ℕ
+  pub is_meant : IsMeant (is_unnamed code slip.hint.now) slip.part meant
+  pub parts : HasParts (option_map (λ (part : Part). part.column) slip.part) (part_text line slip.part ++ meant) slip.hint.now detail
+
+pub record IsSlipDetail (code : AsmCode) (line : List ℕ) (detail : Detail) : Type 0 where
+  pub slip : Slip
+  pub is_slip : IsSlip line code slip
+  pub known : IsSlipOf code line slip detail
+
+abbrev pub IsSourceDetail : AsmCode → Option (List ℕ) → Detail → Type 0
+IsSourceDetail code None detail = HasParts None [] [] detail
+IsSourceDetail code (Some line) detail = IsSlipDetail code line detail
+
+-- a plan has neither CR nor tabs
+abbrev pub plan_hint : List ℕ → List ℕ
+plan_hint file =
+    if list_any (λ byte. byte == 13) file then codes "lines end with LF, without CR"
+    else (if list_any (λ byte. byte == 9) file then codes "words are parted by spaces, not tabs" else [])
+
+-- `item N, WORD`
+abbrev pub item_text : ℕ → List ℕ → List ℕ
+item_text number word = codes "item " ++ (decimal number ++ (codes ", " ++ shown (front_of_line word)))
+
+-- the first item of a schedule's text that is none, or its steps are too many
+pub record IsBadItemDetail (text : List ℕ) (detail : Detail) : Type 0 where
+  pub number : ℕ
+  pub word : List ℕ
+  pub first : IsFirstBad text number word
+  pub parts : HasParts None (item_text number word) (word_hint word) detail
+
+pub record IsSumDetail (text : List ℕ) (detail : Detail) : Type 0 where
+  pub items : All IsScheduleText (words_of_lines text)
+  pub parts : HasParts None [] (codes "the steps of all harts together are below 4294967296") detail
+
+abbrev pub IsItemDetail : List ℕ → Detail → Type 0
+IsItemDetail text detail = IsBadItemDetail text detail ⊎ IsSumDetail text detail
+
+-- `item N, ITEM`
+abbrev pub placed_text : Placed → List ℕ
+placed_text placed = codes "item " ++ (decimal placed.number ++ (codes ", " ++ written_item placed.item))
+
+abbrev pub named_hint : Named → List ℕ
+named_hint Hart = codes "--harts says how many there are"
+named_hint CacheLine = codes "the medium says how many there are, 512 where none is given"
+
+-- the item of a schedule that names the greatest hart or cache line, if one does
+pub record HasGreatest (named : Named) (items : List Item) (detail : Detail) : Type 0 where
+  pub placed : Placed
+  pub greatest : IsGreatest named items placed
+  pub parts : HasParts None (placed_text placed) (named_hint named) detail
+
+abbrev pub IsGreatestDetail : Named → List Item → Detail → Type 0
+IsGreatestDetail named items detail = HasGreatest named items detail ⊎ (All (λ item. number_of named item ≡ 0) items × HasParts None [] [] detail)
+
+pub record HasItems (named : Named) (text : List ℕ) (detail : Detail) : Type 0 where
+  pub items : List Item
+  pub are : IsSchedule text items
+  pub greatest : IsGreatestDetail named items detail
+
+abbrev pub IsStepDetail : Named → List ℕ → Detail → Type 0
+IsStepDetail named text detail = HasItems named text detail ⊎ ((¬ IsScheduleText text) × HasParts None [] [] detail)
+
+-- `N bytes`
+abbrev pub size_text : ℕ → List ℕ
+size_text bytes = decimal bytes ++ codes " bytes"
+
+abbrev pub IsStoppedDetail : StepFault → List ℕ → Detail → Type 0
+IsStoppedDetail NoSuchHart text detail = IsStepDetail Hart text detail
+IsStoppedDetail NoSuchLine text detail = IsStepDetail CacheLine text detail
+IsStoppedDetail fault text detail = HasParts None [] [] detail
+
+-- a run in which no operation begins may be a recovery routine's
+abbrev pub mark_hint : MarkFault → List ℕ
+mark_hint NoOperation = codes "is this the recovery routine?"
+mark_hint fault = []
+
+-- what a refused file has at its fault
+abbrev pub IsDetail : Refusal → List ℕ → Detail → Type 0
+IsDetail (Assembly fault) file detail = IsSourceDetail fault.code (numbered_line file fault.line) detail
+IsDetail (RecoverySource fault) file detail = IsSourceDetail fault.code (numbered_line file fault.line) detail
+IsDetail (Plan fault) file detail = HasParts None (line_text (numbered_line file fault.line)) (plan_hint file) detail
+IsDetail (Trace fault) file detail = HasParts None (line_text (numbered_line file fault.line)) [] detail
+IsDetail ScheduleText file detail = IsItemDetail file detail
+IsDetail (Stopped fault) file detail = IsStoppedDetail fault file detail
+IsDetail Medium file detail = HasParts None (size_text (length file)) (codes "64 times 512 to 16384") detail
+IsDetail (Marks fault) file detail = HasParts None [] (mark_hint fault) detail
+IsDetail refusal file detail = HasParts None [] [] detail

@@ -1,0 +1,1 @@
+ lla t0, value

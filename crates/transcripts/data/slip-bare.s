@@ -1,0 +1,1 @@
+cbo.clean a1

@@ -1,0 +1,2 @@
+ nop
+ cbo.clean 64(a1)

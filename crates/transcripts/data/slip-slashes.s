@@ -1,0 +1,2 @@
+nop
+nop // a remark
