@@ -1,10 +1,10 @@
 -- What a refused file has at its fault: a token, a line, an item or its size, and what is wanted in place of it.
 use Rattle.std.specs.Prelude.{◌≡◌, ◌⊎◌, ◌==◌, ℕ, Bool, true, false, List, [], ◌++◌, Option, Some, None, All, codes, decimal, if◌then◌else◌, length, option_map, string_bytes}
 use Rattle.std.specs.List.{list_any}
-use Rattle.asm_slips.specs.Nearest.{IsFar, IsNear}
-use Rattle.asm_slips.specs.Slips.{IsSlip}
-use Rattle.asm_slips.specs.declared.places.Part.{Part}
-use Rattle.asm_slips.specs.declared.slip.Slip.{Slip}
+use Rattle.report.specs.SlipNearest.{IsFar, IsNear}
+use Rattle.report.specs.Slips.{IsSlip}
+use Rattle.report.specs.declared.slips.places.Part.{Part}
+use Rattle.report.specs.declared.slips.slip.Slip.{Slip}
 use Rattle.assemble.specs.declared.asm_line.fault.AsmCode.{AsmCode}
 use Rattle.assemble.specs.declared.asm_line.fault.AsmCode.TheVariants.{Mnemonic}
 use Rattle.command_line.specs.Items.{IsFirstBad, IsScheduleText, word_hint}

@@ -1,8 +1,8 @@
 -- Refusals as objects of JSON.
 use Rattle.std.specs.Prelude.{◌≡◌, ℕ, List, ◌++◌, Option, Some, None, Result, MatchResult, codes, option_map}
-use Rattle.asm_slips.specs.Slips.{IsSlip}
-use Rattle.asm_slips.specs.declared.places.Part.{Part}
-use Rattle.asm_slips.specs.declared.slip.Slip.{Slip}
+use Rattle.report.specs.Slips.{IsSlip}
+use Rattle.report.specs.declared.slips.places.Part.{Part}
+use Rattle.report.specs.declared.slips.slip.Slip.{Slip}
 use Rattle.assemble.specs.declared.asm_line.fault.AsmCode.{AsmCode}
 use Rattle.command_line.specs.CutVerdicts.{number_or_null}
 use Rattle.command_line.specs.Failures.{refusal_code}

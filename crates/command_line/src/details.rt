@@ -11,7 +11,7 @@ use crate::greatest::{Named, Placed, greatest_item};
 use crate::items::{BadItem, bad_item, word_hint};
 use crate::shown::{Form, Shown};
 use crate::source_lines::{front_of_line, numbered_line};
-use asm_slips::{Part, Slip, nearest_mnemonic, slip_in};
+use report::{Part, Slip, nearest_mnemonic, slip_in};
 use assemble::{AsmCode, AsmFault};
 use machine::{Item, Schedule, ScheduleFault, StepFault};
 use routine_judge::MarkFault;

@@ -15,7 +15,7 @@ use crate::meanings::refused_file;
 use crate::reading::read_file;
 use crate::shown::{Form, Shown};
 use crate::source_lines::numbered_line;
-use asm_slips::slip_in;
+use report::slip_in;
 use assemble::AsmFault;
 use std::alloc::{AllocError, Global};
 

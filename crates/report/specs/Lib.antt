@@ -29,3 +29,9 @@ pub mod Listing
 pub mod Picturing
 pub mod Entries
 pub mod Told
+pub mod SlipHints
+pub mod SlipNearest
+pub mod SlipPlaces
+pub mod SlipShapes
+pub mod SlipUnknown
+pub mod Slips

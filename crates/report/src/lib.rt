@@ -1,4 +1,4 @@
-//! What is printed of a run: its events, each with its place in the program, and what keeps it from being whole.
+//! What is printed of a run: its events, each with its place in the program, and what keeps it from being whole. And what is wrong in a line of source.
 #![tactic(auto)]
 
 mod address;
@@ -18,6 +18,7 @@ mod place;
 mod printed_name;
 mod printed_words;
 mod redundant;
+mod slips;
 mod told;
 
 pub use answer::{answer_line, answer_object, right_line, right_object};
@@ -33,4 +34,5 @@ pub use origin::{ExecutablePlace, FileLine, FunctionPlace, Origin};
 pub use picture::{ImageLine, image_stores, picture_at, picture_text};
 pub use place::{CodePlace, Place, Places};
 pub use redundant::{waste_json, waste_text};
+pub use slips::{Part, Slip, nearest_mnemonic, slip_in};
 pub use told::ToldEvents;

@@ -1,6 +1,0 @@
-use Rattle.std.proofs.Common.{take}
-use Rattle.asm_slips.specs.Nearest.{IsFarBy}
-use Rattle.asm_slips.proofs.nearest.with_one_of.Given as goal
-
-abbrev pub invariant-loop-letter : goal.invariant-loop-letter
-invariant-loop-letter l = IsFarBy l.name l.place l.removed (take l.letter-index l.letters)
