@@ -39,7 +39,7 @@ static OTHERS: [(&[u8], &str); 30] = [
 ];
 
 /// What to write in place of a name that another assembler has; nothing where it isn't one of them.
-#[tactic(auto, unfolding(crate::specs::Unknown::instead_of, crate::specs::Unknown::others))]
+#[tactic(auto, unfolding(crate::specs::SlipUnknown::instead_of, crate::specs::SlipUnknown::others))]
 pub(crate) fn instead_of(name: &[u8]) -> &'static str
     ensures { result.now ≡ instead_of name.now }
 {
