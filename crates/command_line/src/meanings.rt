@@ -33,7 +33,7 @@ pub(crate) fn further_text<F: Files>(
             files,
         ),
         Failure::File => lost_text(alloc, names, files),
-        _ => Ok(String::new(alloc)),
+        Failure::Line(_) | Failure::Unfinished(_) | Failure::Memory => Ok(String::new(alloc)),
     }
 }
 
