@@ -12,9 +12,7 @@ returns c = record {
       kind = c.in_ok-kind.kind.now;
       is_detail = c.in_ok-detail.ensures;
       is_kind = c.in_ok-kind.ensures;
-      text_is = first_of (
-        rw (c.in_ok-format.ensures.ok, c.in_ok-place.ensures, c.line.ensures, c.in_ok-found.ensures, c.as_str.ensures.value, c.in_ok-hint.ensures, c.told_hint.ensures) refl,
-        cc);
+      text_is = rw (c.in_ok-format.ensures.ok, c.in_ok-place.ensures, c.line.ensures, c.in_ok-found.ensures, c.as_str.ensures.value, c.in_ok-hint.ensures, c.told_hint.ensures) refl;
     };
   };
 }
