@@ -8,7 +8,7 @@ pub returns-in-Line : goal.returns-in-Line
 returns-in-Line g c = rw c.in-Line.is (record { value = c.nothing.ensures; untouched = refl })
 
 pub returns-in-Unfinished : goal.returns-in-Unfinished
-returns-in-Unfinished g c = rw c.in-Unfinished.is (record { value = c.nothing.ensures; untouched = refl })
+returns-in-Unfinished g c = rw c.in-Unfinished.is (record { value = c.nothing-in-Unfinished.ensures; untouched = refl })
 
 pub returns-in-Memory : goal.returns-in-Memory
-returns-in-Memory g c = rw c.in-Memory.is (record { value = c.nothing.ensures; untouched = refl })
+returns-in-Memory g c = rw c.in-Memory.is (record { value = c.nothing-in-Memory.ensures; untouched = refl })
