@@ -1,4 +1,5 @@
 pub mod Concluding
+mod FirstBad
 mod Held
 mod Kept
 pub mod ImageLines

@@ -12,16 +12,7 @@ use Rattle.command_line.specs.Shown.{shown}
 use Rattle.command_line.specs.SourceLines.{front_of_line, numbered_line}
 use Rattle.command_line.specs.declared.details.Detail.{Detail}
 use Rattle.command_line.specs.declared.failure.Refusal.{Refusal}
-use Rattle.command_line.specs.declared.failure.Refusal.TheVariants.{Assembly, Marks, Medium, Plan, RecoverySource, ScheduleText, Step as Stopped, Trace}
-use Rattle.machine.specs.Grammar.{IsSchedule}
-use Rattle.machine.specs.Joined.{item_text as written_item}
-use Rattle.machine.specs.declared.schedule.items.Item.{Item}
-use Rattle.machine.specs.declared.shared_memory.fault.StepFault.{StepFault}
-use Rattle.machine.specs.declared.shared_memory.fault.StepFault.TheVariants.{NoSuchHart, NoSuchLine}
-use Rattle.command_line.specs.Greatest.{IsGreatest, number_of}
-use Rattle.command_line.specs.declared.greatest.Named.{Named}
-use Rattle.command_line.specs.declared.greatest.Named.TheVariants.{CacheLine, Hart}
-use Rattle.command_line.specs.declared.greatest.Placed.{Placed}
+use Rattle.command_line.specs.declared.failure.Refusal.TheVariants.{Assembly, Marks, Medium, Plan, RecoverySource, ScheduleText, Trace}
 use Rattle.routine_judge.specs.declared.history.fault.MarkFault.{MarkFault}
 use Rattle.routine_judge.specs.declared.history.fault.MarkFault.TheVariants.{NoOperation}
 use Rattle.text.specs.Words.{words_of_lines}
@@ -102,39 +93,9 @@ pub record IsSumDetail (text : List ℕ) (detail : Detail) : Type 0 where
 abbrev pub IsItemDetail : List ℕ → Detail → Type 0
 IsItemDetail text detail = IsBadItemDetail text detail ⊎ IsSumDetail text detail
 
--- `item N, ITEM`
-abbrev pub placed_text : Placed → List ℕ
-placed_text placed = codes "item " ++ (decimal placed.number ++ (codes ", " ++ written_item placed.item))
-
-abbrev pub named_hint : Named → List ℕ
-named_hint Hart = codes "--harts says how many there are"
-named_hint CacheLine = codes "the medium says how many there are, 512 where none is given"
-
--- the item of a schedule that names the greatest hart or cache line, if one does
-pub record HasGreatest (named : Named) (items : List Item) (detail : Detail) : Type 0 where
-  pub placed : Placed
-  pub greatest : IsGreatest named items placed
-  pub parts : HasParts None (placed_text placed) (named_hint named) detail
-
-abbrev pub IsGreatestDetail : Named → List Item → Detail → Type 0
-IsGreatestDetail named items detail = HasGreatest named items detail ⊎ (All (λ item. number_of named item ≡ 0) items × HasParts None [] [] detail)
-
-pub record HasItems (named : Named) (text : List ℕ) (detail : Detail) : Type 0 where
-  pub items : List Item
-  pub are : IsSchedule text items
-  pub greatest : IsGreatestDetail named items detail
-
-abbrev pub IsStepDetail : Named → List ℕ → Detail → Type 0
-IsStepDetail named text detail = HasItems named text detail ⊎ ((¬ IsScheduleText text) × HasParts None [] [] detail)
-
 -- `N bytes`
 abbrev pub size_text : ℕ → List ℕ
 size_text bytes = decimal bytes ++ codes " bytes"
-
-abbrev pub IsStoppedDetail : StepFault → List ℕ → Detail → Type 0
-IsStoppedDetail NoSuchHart text detail = IsStepDetail Hart text detail
-IsStoppedDetail NoSuchLine text detail = IsStepDetail CacheLine text detail
-IsStoppedDetail fault text detail = HasParts None [] [] detail
 
 -- a run in which no operation begins may be a recovery routine's
 abbrev pub mark_hint : MarkFault → List ℕ
@@ -148,7 +109,6 @@ IsDetail (RecoverySource fault) file detail = IsSourceDetail fault.code (numbere
 IsDetail (Plan fault) file detail = HasParts None (line_text (numbered_line file fault.line)) (plan_hint file) detail
 IsDetail (Trace fault) file detail = HasParts None (line_text (numbered_line file fault.line)) [] detail
 IsDetail ScheduleText file detail = IsItemDetail file detail
-IsDetail (Stopped fault) file detail = IsStoppedDetail fault file detail
 IsDetail Medium file detail = HasParts None (size_text (length file)) (codes "64 times 512 to 16384") detail
 IsDetail (Marks fault) file detail = HasParts None [] (mark_hint fault) detail
 IsDetail refusal file detail = HasParts None [] [] detail

@@ -12,7 +12,6 @@ pub mod Drawing
 pub mod Explaining
 pub mod Failures
 pub mod FileNames
-pub mod Greatest
 pub mod ImageFiles
 pub mod Imaging
 pub mod Items

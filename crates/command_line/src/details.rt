@@ -1,19 +1,17 @@
 //! What a refused file has at its fault: a token, a line, an item or its size, and what is wanted in place of it.
 
-ghost use Rattle.command_line.specs.Details.{HasParts, IsDetail, IsGreatestDetail, IsItemDetail, IsMeant, IsNearText, IsSlipOf, IsSourceDetail, IsStepDetail, IsStoppedDetail, is_unnamed, item_text, line_text, mark_hint, named_hint, near_text, part_text, placed_text, plan_hint, size_text};
+ghost use Rattle.command_line.specs.Details.{HasParts, IsDetail, IsItemDetail, IsMeant, IsNearText, IsSlipOf, IsSourceDetail, is_unnamed, item_text, line_text, mark_hint, near_text, part_text, plan_hint, size_text};
 ghost use Rattle.command_line.specs.Items.{word_hint};
 ghost use Rattle.command_line.specs.Shown.{shown};
 ghost use Rattle.command_line.specs.SourceLines.{numbered_line};
 ghost use Rattle.std.specs.Prelude.{◌≡◌, [], None, IfOk, codes, option_map, string_bytes};
 
 use crate::failure::Refusal;
-use crate::greatest::{Named, Placed, greatest_item};
 use crate::items::{BadItem, bad_item, word_hint};
 use crate::shown::{Form, Shown};
 use crate::source_lines::{front_of_line, numbered_line};
 use report::{Part, Slip, nearest_mnemonic, slip_in};
 use assemble::{AsmCode, AsmFault};
-use machine::{Item, Schedule, ScheduleFault, StepFault};
 use routine_judge::MarkFault;
 use std::alloc::{AllocError, Global};
 
@@ -39,7 +37,6 @@ pub(crate) fn detail_of(alloc: Global, refusal: &Refusal, file: &[u8]) -> Result
         Refusal::Plan(fault) => plan_detail(alloc, file, fault.line),
         Refusal::Trace(fault) => line_detail(alloc, numbered_line(file, fault.line), ""),
         Refusal::ScheduleText => schedule_detail(alloc, file),
-        Refusal::Step(fault) => stopped_detail(alloc, *fault, file),
         Refusal::Medium => size_detail(alloc, file.len()),
         Refusal::Marks(fault) => Ok(hint_detail(alloc, mark_hint(*fault))),
         _ => Ok(hint_detail(alloc, "")),
@@ -221,59 +218,6 @@ fn mark_hint(fault: MarkFault) -> &'static str
     match fault {
         MarkFault::NoOperation => "is this the recovery routine?",
         _ => "",
-    }
-}
-
-/// What a schedule has where a step is refused.
-fn stopped_detail(alloc: Global, fault: StepFault, file: &[u8]) -> Result<Detail, AllocError>
-    ensures { IfOk result (IsStoppedDetail fault file.now) }
-{
-    match fault {
-        StepFault::NoSuchHart => step_detail(alloc, file, Named::Hart),
-        StepFault::NoSuchLine => step_detail(alloc, file, Named::CacheLine),
-        _ => Ok(hint_detail(alloc, "")),
-    }
-}
-
-/// The item of a schedule that names the greatest hart or cache line.
-fn step_detail(alloc: Global, file: &[u8], named: Named) -> Result<Detail, AllocError>
-    ensures { IfOk result (IsStepDetail named file.now) }
-{
-    match Schedule::read(alloc, file) {
-        Ok(schedule) => greatest_detail(alloc, schedule.items(), named),
-        Err(ScheduleFault::Text) => Ok(hint_detail(alloc, "")),
-        Err(ScheduleFault::Memory) => Err(AllocError),
-    }
-}
-
-fn greatest_detail(alloc: Global, items: &[Item], named: Named) -> Result<Detail, AllocError>
-    ensures { IfOk result (IsGreatestDetail named items.now) }
-{
-    match greatest_item(items, named) {
-        Some(placed) => placed_detail(alloc, placed, named),
-        None => Ok(hint_detail(alloc, "")),
-    }
-}
-
-fn placed_detail(alloc: Global, placed: Placed, named: Named) -> Result<Detail, AllocError>
-    ensures { IfOk result (HasParts None (placed_text placed) (named_hint named)) }
-{
-    let number = placed.number;
-    let item = placed.item;
-    Ok(Detail {
-        column: None,
-        text: format!(in alloc; "item {number}, {item}")?,
-        hint: named_hint(named),
-    })
-}
-
-/// What is said of harts and of cache lines.
-fn named_hint(named: Named) -> &'static str
-    ensures { result.now ≡ named_hint named }
-{
-    match named {
-        Named::Hart => "--harts says how many there are",
-        Named::CacheLine => "the medium says how many there are, 512 where none is given",
     }
 }
 

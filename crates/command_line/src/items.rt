@@ -16,16 +16,20 @@ pub(crate) struct BadItem<'a> {
 }
 
 /// The first word of a text that is no item of a schedule; None where each word is one.
+#[tactic(auto, using(crate::proofs::FirstBad::nothing_passed, crate::proofs::FirstBad::one_more_passed, crate::proofs::FirstBad::all_passed, crate::proofs::FirstBad::first_bad))]
 pub(crate) fn bad_item<'a>(alloc: Global, text: &'a [u8]) -> Result<Option<BadItem<'a>>, AllocError>
     ensures { IfOk result (λ found. MatchOption found (All IsScheduleText (words_of_lines text.now)) (λ item. IsFirstBad text.now item.number item.word.now)) }
 {
     let mut rest = text;
-    let mut number = 1;
+    let mut passed = 0;
     while let Some((word, after)) = first_word(rest, Blanks::SpacesAndLineEnds) {
         if !is_schedule(alloc, word)? {
-            return Ok(Some(BadItem { number, word }));
+            return Ok(Some(BadItem {
+                number: passed + 1,
+                word,
+            }));
         }
-        number += 1;
+        passed += 1;
         rest = after;
     }
     Ok(None)

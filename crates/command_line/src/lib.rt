@@ -20,7 +20,6 @@ mod failure;
 mod failures;
 mod file_names;
 mod files;
-mod greatest;
 mod image;
 mod images;
 mod interleave;

@@ -2,7 +2,7 @@
 
 ghost use Rattle.command_line.specs.FileNames.{names_in};
 ghost use Rattle.command_line.specs.Meanings.{ReadsThen, SaysLost, SaysMore, SaysRefused, behind_colon, first_name, in_brackets, lost_text, place_text, refused_file, told_hint};
-ghost use Rattle.std.specs.Prelude.{◌≡◌, IfOk, option_map, string_bytes};
+ghost use Rattle.std.specs.Prelude.{◌≡◌, [], IfOk, Ok, option_map, string_bytes};
 ghost use Rattle.std.specs.Result.{result_map_both};
 
 use crate::details::detail_of;
@@ -33,8 +33,16 @@ pub(crate) fn further_text<F: Files>(
             files,
         ),
         Failure::File => lost_text(alloc, names, files),
-        _ => Ok(String::new(alloc)),
+        Failure::Line(_) => nothing(alloc),
+        Failure::Unfinished(_) => nothing(alloc),
+        Failure::Memory => nothing(alloc),
     }
+}
+
+fn nothing(alloc: Global) -> Result<String, Failure>
+    ensures { result_map_both (λ text. string_bytes text) (λ failure. failure) result ≡ Ok [] }
+{
+    Ok(String::new(alloc))
 }
 
 /// What a refusal means, with the place in the file that is refused.

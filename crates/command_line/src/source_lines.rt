@@ -41,8 +41,15 @@ fn indent_len(line: &[u8]) -> usize
 fn first_bytes(bytes: &[u8]) -> &[u8]
     ensures { result.now ≡ take 80 bytes.now }
 {
-    if bytes.len() > MOST_SHOWN {
-        &bytes[..MOST_SHOWN]
+    at_most(bytes, MOST_SHOWN)
+}
+
+/// So many bytes, or all where there are fewer.
+fn at_most(bytes: &[u8], most: usize) -> &[u8]
+    ensures { result.now ≡ take most bytes.now }
+{
+    if bytes.len() > most {
+        &bytes[..most]
     } else {
         bytes
     }

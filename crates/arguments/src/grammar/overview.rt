@@ -28,7 +28,7 @@ const BEGINNING: &str =
     "A crash tester for persistent-memory routines\n\nUsage: novacrash <COMMAND>\n";
 
 const END: &str =
-    "\nOptions:\n  -h, --help     Print this list, as `novacrash help` does\n  -V, --version  Print the version\n\n\
+    "\nOptions:\n  -h, --help     Print this list, as `novacrash help` does\n  -V, --version  Print the version\n      --explain  Before COMMAND: say behind a refusal where the fault is, what it means and what is wanted\n\n\
     `novacrash COMMAND --help` says what a command takes, with an example.\n";
 
 /// What the program prints where its line asks for help on no command: each command in a line of its group.
