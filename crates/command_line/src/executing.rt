@@ -9,6 +9,7 @@ ghost use Rattle.command_line.specs.JudgingAll.{IsOpen as IsOpenJudgeAll, Judges
 ghost use Rattle.command_line.specs.Outcomes.{Delivers, DeliversCheck, DeliversConclusion, DeliversJudge, Ends, EndsWith, IsConcluded, IsPrinted, IsReady};
 
 use crate::answer::{Action, Answer, Conclusion};
+use crate::asking::judge_asked;
 use crate::check::judge_check;
 use crate::check_all::check_every;
 use crate::commands::outcome;
@@ -17,7 +18,7 @@ use crate::failure::Failure;
 use crate::files::Files;
 use crate::judge::judge_run;
 use crate::judge_all::judge_every;
-use crate::opened::{OpenCheck, OpenCheckAll, OpenJudge, OpenJudgeAll};
+use crate::opened::{OpenAsk, OpenCheck, OpenCheckAll, OpenJudge, OpenJudgeAll};
 use crate::streams::print;
 use crate::telling::report_failure;
 use std::alloc::Global;
@@ -87,6 +88,7 @@ fn deliver<T: Threads + Sync + Clock, R: Read, W: Write, E: Write>(
         Action::Print(answer) => print_answer(answer, output),
         Action::Check(check) => deliver_check(rt, alloc, &check, output, errors),
         Action::Judge(judge) => deliver_judge(rt, alloc, &judge, output, errors),
+        Action::Ask(ask) => deliver_ask(rt, alloc, &ask, input, output),
         Action::CheckAll(check) => deliver_check_all(rt, alloc, check, output, errors),
         Action::JudgeAll(judge) => deliver_judge_all(rt, alloc, judge, output, errors),
         Action::Debug(debug) => hold_session(alloc, debug, input, output),
@@ -118,6 +120,17 @@ fn deliver_judge<T: Threads + Sync + Clock, W: Write, E: Write>(
     ensures { DeliversJudge W.contents E.contents judge.now output.old output.new errors.old errors.new result }
 {
     let answer = judge_run(rt, alloc, judge, errors)?;
+    print_answer(answer, output)
+}
+
+fn deliver_ask<T: Threads + Sync, R: Read, W: Write>(
+    rt: &T,
+    alloc: Global,
+    ask: &OpenAsk,
+    input: &mut R,
+    output: &mut W,
+) -> Result<u8, Failure> {
+    let answer = judge_asked(rt, alloc, ask, input, output)?;
     print_answer(answer, output)
 }
 

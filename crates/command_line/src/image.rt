@@ -99,7 +99,7 @@ fn over_medium(alloc: Global, made: MadeRun) -> Result<OpenStart, Failure>
     })
 }
 
-fn start_trace<F: Files>(
+pub(crate) fn start_trace<F: Files>(
     alloc: Global,
     events: &TracedEvents,
     files: &mut F,
@@ -263,7 +263,7 @@ fn ranked_entries(
 }
 
 /// The rank of a line, and their number where it isn't among these.
-fn rank_in(names: &[u32], line: u32) -> u32
+pub(crate) fn rank_in(names: &[u32], line: u32) -> u32
     requires { length names.now ≤ 16384 }
     ensures { result ≡ rank_in names.now line }
 {

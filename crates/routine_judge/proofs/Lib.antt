@@ -41,3 +41,6 @@ pub mod Unsettled
 pub mod PlainRight
 pub mod WidePassing
 pub mod GivenAnswers
+pub mod OutsideAgreeing
+pub mod OutsideMeaning
+pub mod OutsideGoing
