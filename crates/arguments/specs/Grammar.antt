@@ -182,7 +182,7 @@ check_of_file_shape = record (new_shape (codes "check")) {
 }
 
 -- `judge --trace FILE RECOVERY [--medium FILE --steps N --workers N --overlapping --moments A-B --go-on --whole --why --json --progress]`, or
--- `judge --trace FILE --ask [--medium FILE --moments A-B --whole --json]`
+-- `judge --trace FILE --ask [--medium FILE --moments A-B --whole --why --json]`
 unfoldable pub judge_of_file_shape : Shape
 judge_of_file_shape = record (new_shape (codes "judge")) {
   rules = needed_option (codes "trace") ∷ optional_word (codes "RECOVERY") ∷ flag_option (codes "ask") ∷ valued_option (codes "medium")

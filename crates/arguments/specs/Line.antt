@@ -198,20 +198,22 @@ pub record IsJudge (rows : List Row) (command : JudgeCommand) : Type 0 where
   pub cuts_of_run : AreCutsOf command.judged.source command.cuts
   pub by_routine : is_set (first_of (codes "ask") rows) ≡ false
 
--- the options that `--ask` takes no part in
+-- no recovery routine is named, and no option of one is given
 pub record AsksAlone (rows : List Row) : Type 0 where
   pub recovery : first_of (codes "RECOVERY") rows ≡ None
+  pub steps : first_of (codes "steps") rows ≡ None
+  pub workers : first_of (codes "workers") rows ≡ None
   pub overlapping : is_set (first_of (codes "overlapping") rows) ≡ false
   pub goes_on : is_set (first_of (codes "go-on") rows) ≡ false
-  pub why : is_set (first_of (codes "why") rows) ≡ false
   pub progress : is_set (first_of (codes "progress") rows) ≡ false
 
--- `judge --ask` of these events of a trace file, these moments of them or all, as text or as JSON
+-- `judge --ask` of these events of a trace file, these moments of them or all, whether a failing image is explained, as text or as JSON
 pub record IsAsk (rows : List Row) (command : AskCommand) : Type 0 where
   pub asks : is_set (first_of (codes "ask") rows) ≡ true
   pub alone : AsksAlone rows
   pub events : IsEventSource rows (sources.Trace command.events)
   pub moments : IsOptionalMoments (first_of (codes "moments") rows) command.moments
+  pub why : command.why ≡ is_set (first_of (codes "why") rows)
   pub json : command.json ≡ is_set (first_of (codes "json") rows)
 
 -- What `check-all` and `judge-all` have in common: this program, at most so many states, whether harts may stop in any way, whether a failure is

@@ -38,7 +38,7 @@ pub enum Command {
     /// `judge PROGRAM SCHEDULE RECOVERY [--medium FILE --harts N --steps N --workers N --atomic --states N --overlapping --recovery-cuts N --moments A-B --go-on --whole --why --json --progress]`,
     /// or `judge --trace FILE RECOVERY [--medium FILE --steps N --workers N --overlapping --moments A-B --go-on --whole --why --json --progress]`.
     Judge(JudgeCommand),
-    /// `judge --trace FILE --ask [--medium FILE --moments A-B --whole --json]`.
+    /// `judge --trace FILE --ask [--medium FILE --moments A-B --whole --why --json]`.
     Ask(AskCommand),
     /// `check-all PLAN PROGRAM [--medium FILE --harts N --states N --any-end --why --json --progress]`.
     CheckAll(CheckAllCommand),
@@ -272,7 +272,9 @@ pub struct AskCommand {
     pub events: TracedEvents,
     /// The moments that are judged; None: all are.
     pub moments: Option<Moments>,
-    /// Whether the verdict is one JSON object.
+    /// Whether it is told what a failing image lacks and keeps.
+    pub why: bool,
+    /// Whether each line of what is found is a JSON object.
     pub json: bool,
 }
 

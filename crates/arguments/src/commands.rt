@@ -1,10 +1,10 @@
 //! What each subcommand asks for, by the values found for its words and options.
 
-ghost use Rattle.std.specs.Prelude.{◌≡◌, ◌<◌, ◌^◌, ℕ, IfOk, IfErr, IfSome, String, codes, false, true};
+ghost use Rattle.std.specs.Prelude.{◌≡◌, ◌≢◌, ◌<◌, ◌^◌, ℕ, IfOk, IfErr, IfSome, IsTrue, None, String, codes, false, true};
 ghost use Rattle.std.specs.declared.alloc.Global.{Global as AGlobal};
 ghost use Rattle.clap.specs.Words.{first_of, found_of, rows_of};
 ghost use Rattle.arguments.specs.Line.{AsksAlone, IsAnswer, IsAsk, IsAssemble, IsCheck, IsCheckAll, IsCode, IsDebug, IsEventSource, IsExplain, IsImage, IsImages, IsInterleave, IsJudge, IsJudgeAll, IsListing, IsMakeVolume, IsPicture, IsProgram, IsReplay, IsReport, IsRun, IsScheduledRun, IsShow, IsTrace, IsTracedEvents, IsUpgrade};
-ghost use Rattle.arguments.specs.Line.{AreCutsOf, IsCachedMachine, IsSourceWithin, IsJudgedProgram, IsJudgedRun, IsJudgedWithin, IsMachineWithin, IsOf, IsProgramWithin, IsRight, IsRightOf, IsWithin, IsWithinLimits, OnFault};
+ghost use Rattle.arguments.specs.Line.{AreCutsOf, IsCachedMachine, IsSourceWithin, IsJudgedProgram, IsJudgedRun, IsJudgedWithin, IsFault, IsMachineWithin, IsOf, IsProgramWithin, IsRight, IsRightOf, IsWithin, IsWithinLimits, OnFault};
 ghost use Rattle.arguments.specs.Started.{IsStarted};
 ghost use Rattle.arguments.specs.Values.{IsWord, is_set};
 ghost use Rattle.text.specs.Texts.{IsProper};
@@ -54,7 +54,7 @@ use crate::values::{
     optional_number_word, seed, value, word,
 };
 use clap::ArgMatches;
-use std::alloc::Global;
+use std::alloc::{AllocError, Global};
 
 /// The most steps of each hart that `run` makes.
 const STEPS: NumberOption = NumberOption {
@@ -466,6 +466,7 @@ fn judge_by_routine(alloc: Global, found: &ArgMatches<'_>) -> Result<Command, Li
 }
 
 /// What it is to do by answers that are asked for.
+#[tactic(auto, using(crate::proofs::Traced::none_of_run))]
 fn ask(alloc: Global, found: &ArgMatches<'_>) -> Result<Command, LineFault>
     requires { is_set (first_of (codes "ask") (rows_of (found_of found.now))) ≡ true }
     ensures ok { IfOk result (IsOf (codes "judge") (rows_of (found_of found.now))) }
@@ -479,6 +480,7 @@ fn ask(alloc: Global, found: &ArgMatches<'_>) -> Result<Command, LineFault>
         EventSource::Trace(events) => Ok(Command::Ask(AskCommand {
             events,
             moments,
+            why: flag(found, "why"),
             json: flag(found, "json"),
         })),
         EventSource::Run(_) => {
@@ -487,22 +489,34 @@ fn ask(alloc: Global, found: &ArgMatches<'_>) -> Result<Command, LineFault>
     }
 }
 
-/// Refuses what `--ask` takes no part in.
+/// Refuses a recovery routine, and the options of one.
 fn demand_alone(alloc: Global, found: &ArgMatches<'_>) -> Result<(), LineFault>
     ensures ok { IfOk result (λ _. AsksAlone (rows_of (found_of found.now))) }
     ensures err { IfErr result (OnFault (¬ (AsksAlone (rows_of (found_of found.now))))) }
 {
-    if value(found, "RECOVERY").is_some()
-        || flag(found, "overlapping")
-        || flag(found, "go-on")
-        || flag(found, "why")
-        || flag(found, "progress")
-    {
-        return Err(LineFault::Fault(format!(in alloc;
-            "error: --ask stands in place of RECOVERY, without --overlapping, --go-on, --why and --progress\n"
-        )?));
+    if is_given(found, "RECOVERY") || is_given(found, "steps") || is_given(found, "workers") {
+        return Err(not_alone(alloc)?);
+    }
+    if flag(found, "overlapping") || flag(found, "go-on") || flag(found, "progress") {
+        return Err(not_alone(alloc)?);
     }
     Ok(())
+}
+
+/// Whether the line has a word, or an option with a value.
+fn is_given(found: &ArgMatches<'_>, name: &str) -> bool
+    ensures some { IsTrue result → first_of name.now (rows_of (found_of found.now)) ≢ None }
+    ensures none { ¬ (IsTrue result) → first_of name.now (rows_of (found_of found.now)) ≡ None }
+{
+    value(found, name).is_some()
+}
+
+fn not_alone(alloc: Global) -> Result<LineFault, AllocError>
+    ensures { IfOk result IsFault }
+{
+    Ok(LineFault::Fault(format!(in alloc;
+        "error: --ask stands in place of RECOVERY, without --steps, --workers, --overlapping, --go-on and --progress\n"
+    )?))
 }
 
 /// What `check-all` is to do.

@@ -3,6 +3,9 @@ mod Held
 mod Kept
 pub mod ImageLines
 mod Loops
+mod Replies
+mod Requests
+mod Asked
 mod Texts
 mod Unexplained
 mod Chains

@@ -1,205 +1,252 @@
 //! The replies of an outside recovery, each a line of standard input.
 
-use crate::events::OpenEvents;
+ghost use Rattle.command_line.specs.Asking.{IsReplied, IsUnreplied, LacksLine, ReadsLine};
+ghost use Rattle.command_line.specs.Replies.{IsLineList, IsLineName, IsParted, SaysAnswer, SaysLoads, SaysNone, SaysReply, is_cause_byte, rank_of};
+ghost use Rattle.hex.specs.Hex.{decode_of};
+ghost use Rattle.routine_judge.specs.OutsideViews.{ReplyView as AReply};
+ghost use Rattle.std.specs.List.{AllZip, flat_map, list_all, range_with_len};
+ghost use Rattle.std.specs.Prelude.{◌≡◌, ◌≢◌, ◌<◌, ◌≤◌, ◌++◌, ℕ, List, Ok, All, IfErr, IfNone, IfOk, IfSome, MatchOption, OnOk, length};
+ghost use Rattle.text.specs.Grammar.{words as listed};
+ghost use Rattle.text.specs.Words.{words};
+
 use crate::failure::{Failure, Refusal};
-use crate::image::rank_in;
+use crate::image::place_of;
 use crate::streams::read_uninterrupted;
+use hex::FromHexError;
 use routine_judge::Reply;
 use std::alloc::{AllocError, Global};
 use std::io::Read;
-use text::{Blanks, decimal, first_word, is_blank, only_word};
+use std::str;
+use text::{Blanks, after_keyword, decimal, first_word, is_blank, only_word};
 
-/// The reply that the next line of standard input is, by the ranks of so many lines.
+/// The reply that the next line of standard input is, by the ranks of these lines.
+///
+/// # Errors
+/// Reply where it is none; NoReply where standard input ends before the line does; Memory where a growth is refused; File where a read fails.
 pub(crate) fn read_reply<R: Read>(
     alloc: Global,
-    events: &OpenEvents,
-    lines: u32,
+    names: &[u32],
     input: &mut R,
-) -> Result<Reply, Failure> {
+) -> Result<Reply, Failure>
+    requires few { length names.now ≤ 16384 }
+    ensures ok { IfOk result (IsReplied names.now (R.remaining input.old) (R.remaining input.new)) }
+    ensures there { IfOk result (λ reply. All (λ line. line < length names.now) reply.lines) }
+    ensures err { IfErr result (IsUnreplied names.now (R.remaining input.old) (R.remaining input.new)) }
+{
     let line = read_line(alloc, input)?;
-    match reply_in(alloc, events, lines, &line)? {
-        Some(reply) => Ok(reply),
-        None => Err(Failure::Refused(Refusal::Reply)),
+    match reply_in(alloc, names, &line) {
+        Ok(Some(reply)) => Ok(reply),
+        Ok(None) => Err(Failure::Refused(Refusal::Reply)),
+        Err(_) => Err(Failure::Memory),
     }
 }
 
 /// The next line without its LF. Nothing is read behind it.
-fn read_line<R: Read>(alloc: Global, input: &mut R) -> Result<Vec<u8>, Failure> {
+#[tactic(auto, using(crate::proofs::Asked::line_begun, crate::proofs::Asked::line_more, crate::proofs::Asked::line_ended, crate::proofs::Asked::line_kept, crate::proofs::Asked::input_ended))]
+fn read_line<R: Read>(alloc: Global, input: &mut R) -> Result<Vec<u8>, Failure>
+    ensures ok { IfOk result (λ line. ReadsLine (R.remaining input.old) (R.remaining input.new) line.items) }
+    ensures err { IfErr result (LacksLine (R.remaining input.old) (R.remaining input.new)) }
+{
     let mut line = Vec::new(alloc);
     for _ in 0..u64::MAX {
         let mut byte = [0u8; 1];
         match read_uninterrupted(input, &mut byte) {
             Ok(0) => return Err(Failure::Refused(Refusal::NoReply)),
             Ok(_) if byte[0] == b'\n' => return Ok(line),
-            Ok(_) => add(&mut line, byte[0])?,
+            Ok(_) => line.push(byte[0])?,
             Err(_) => return Err(Failure::File),
         }
     }
     Err(Failure::Memory)
 }
 
-fn add(line: &mut Vec<u8>, byte: u8) -> Result<(), AllocError> {
-    line.push(byte)?;
-    Ok(())
-}
-
 /// The reply that a line is: `answer` and the digits of bytes, or `none` and a word, and behind either `loads` and lines.
-fn reply_in(
+#[tactic(auto, using(crate::proofs::Replies::no_reply, crate::proofs::Replies::no_answer, crate::proofs::Replies::no_cause))]
+pub(crate) fn reply_in(
     alloc: Global,
-    events: &OpenEvents,
-    lines: u32,
+    names: &[u32],
     line: &[u8],
-) -> Result<Option<Reply>, AllocError> {
-    let Some((kind, rest)) = first_word(line, Blanks::Spaces) else {
-        return Ok(None);
-    };
-    if kind == b"answer".as_slice() {
-        answer_in(alloc, events, lines, rest)
-    } else if kind == b"none".as_slice() {
-        none_in(alloc, events, lines, rest)
-    } else {
-        Ok(None)
+) -> Result<Option<Reply>, AllocError>
+    requires few { length names.now ≤ 16384 }
+    ensures says { IfOk result (λ found. MatchOption found ((reply : AReply) → ¬ SaysReply names.now (words line.now) reply)
+        (SaysReply names.now (words line.now))) }
+    ensures there { IfOk result (λ found. IfSome found (λ reply. All (λ line. line < length names.now) reply.lines)) }
+{
+    if let Some(rest) = after_keyword(line, b"answer") {
+        return answer_in(alloc, names, rest);
+    }
+    match after_keyword(line, b"none") {
+        Some(rest) => cause_in(alloc, names, rest),
+        None => Ok(None),
     }
 }
 
-/// The digits of an answer's bytes may be left out where it has none.
-fn answer_in(
-    alloc: Global,
-    events: &OpenEvents,
-    lines: u32,
-    rest: &[u8],
-) -> Result<Option<Reply>, AllocError> {
-    let (digits, behind) = match first_word(rest, Blanks::Spaces) {
-        Some((word, behind)) if word != b"loads".as_slice() => (word, behind),
-        _ => (b"".as_slice(), rest),
-    };
+/// The reply whose words behind `answer` these are.
+#[tactic(auto, using(crate::proofs::Replies::no_digits, crate::proofs::Replies::no_loads))]
+fn answer_in(alloc: Global, names: &[u32], rest: &[u8]) -> Result<Option<Reply>, AllocError>
+    requires few { length names.now ≤ 16384 }
+    ensures says { IfOk result (λ found. MatchOption found ((reply : AReply) → ¬ SaysAnswer names.now (words rest.now) reply)
+        (SaysAnswer names.now (words rest.now))) }
+    ensures there { IfOk result (λ found. IfSome found (λ reply. All (λ line. line < length names.now) reply.lines)) }
+{
+    let (digits, behind) = digits_in(rest);
     let Some(bytes) = bytes_in(alloc, digits)? else {
         return Ok(None);
     };
-    match loaded_in(alloc, events, lines, behind)? {
+    match loads_in(alloc, names, behind)? {
         Some(loaded) => Ok(Some(Reply::new(Ok(bytes), loaded))),
         None => Ok(None),
     }
 }
 
-fn none_in(
-    alloc: Global,
-    events: &OpenEvents,
-    lines: u32,
-    rest: &[u8],
-) -> Result<Option<Reply>, AllocError> {
+/// The digits of an answer, and what follows them. They may be left out where it has no bytes.
+fn digits_in(rest: &[u8]) -> (&[u8], &[u8])
+    ensures { IsParted (words rest.now) result.0.now (words result.1.now) }
+{
+    match first_word(rest, Blanks::Spaces) {
+        Some((word, behind)) if word != b"loads".as_slice() => (word, behind),
+        _ => (b"".as_slice(), rest),
+    }
+}
+
+/// The bytes that pairs of hexadecimal digits write.
+fn bytes_in(alloc: Global, digits: &[u8]) -> Result<Option<Vec<u8>>, AllocError>
+    ensures { IfOk result (λ found. MatchOption found ((bytes : List ℕ) → decode_of digits.now ≢ Ok bytes)
+        (λ bytes. decode_of digits.now ≡ Ok bytes.items)) }
+{
+    match hex::decode(alloc, digits) {
+        Ok(bytes) => Ok(Some(bytes)),
+        Err(FromHexError::OutOfMemory) => Err(AllocError),
+        Err(_) => Ok(None),
+    }
+}
+
+/// The reply whose words behind `none` these are.
+#[tactic(auto, using(crate::proofs::Replies::no_word, crate::proofs::Replies::no_plain, crate::proofs::Replies::no_loaded))]
+fn cause_in(alloc: Global, names: &[u32], rest: &[u8]) -> Result<Option<Reply>, AllocError>
+    requires few { length names.now ≤ 16384 }
+    ensures says { IfOk result (λ found. MatchOption found ((reply : AReply) → ¬ SaysNone names.now (words rest.now) reply)
+        (SaysNone names.now (words rest.now))) }
+    ensures there { IfOk result (λ found. IfSome found (λ reply. All (λ line. line < length names.now) reply.lines)) }
+{
     let Some((word, behind)) = first_word(rest, Blanks::Spaces) else {
         return Ok(None);
     };
     if !is_cause(word) {
         return Ok(None);
     }
-    let word = Vec::from_slice(alloc, word)?;
-    match loaded_in(alloc, events, lines, behind)? {
-        Some(loaded) => Ok(Some(Reply::new(Err(word), loaded))),
+    let cause = Vec::from_slice(alloc, word)?;
+    match loads_in(alloc, names, behind)? {
+        Some(loaded) => Ok(Some(Reply::new(Err(cause), loaded))),
         None => Ok(None),
     }
 }
 
 /// Whether a word is of lower-case letters, digits and hyphens.
-fn is_cause(word: &[u8]) -> bool {
-    word.iter()
-        .all(|byte| matches!(*byte, b'a'..=b'z' | b'0'..=b'9' | b'-'))
+fn is_cause(word: &[u8]) -> bool
+    ensures { result ≡ list_all is_cause_byte word.now }
+{
+    word.iter().all(|byte| is_cause_byte(*byte))
 }
 
-/// The bytes that pairs of lower-case hexadecimal digits write.
-fn bytes_in(alloc: Global, digits: &[u8]) -> Result<Option<Vec<u8>>, AllocError> {
-    if digits.len() % 2 != 0 {
-        return Ok(None);
-    }
-    let mut bytes = Vec::new(alloc);
-    for at in 0..digits.len() / 2 {
-        let (Some(high), Some(low)) = (digit(digits[2 * at]), digit(digits[2 * at + 1])) else {
-            return Ok(None);
-        };
-        bytes.push(16 * high + low)?;
-    }
-    Ok(Some(bytes))
+#[tactic(auto, unfolding(crate::specs::Replies::is_cause_byte))]
+fn is_cause_byte(byte: u8) -> bool
+    ensures { result ≡ is_cause_byte byte }
+{
+    matches!(byte, b'a'..=b'z' | b'0'..=b'9' | b'-')
 }
 
-fn digit(byte: u8) -> Option<u8> {
-    match byte {
-        b'0'..=b'9' => Some(byte - b'0'),
-        b'a'..=b'f' => Some(byte - b'a' + 10),
-        _ => None,
-    }
-}
-
-/// The lines behind `loads`, by their ranks, without those that the events don't name; all where nothing is behind.
-fn loaded_in(
-    alloc: Global,
-    events: &OpenEvents,
-    lines: u32,
-    rest: &[u8],
-) -> Result<Option<Vec<u32>>, AllocError> {
+/// The lines that the words behind an answer or a cause say, by their ranks.
+#[tactic(auto, using(crate::proofs::Replies::no_keyword, crate::proofs::Replies::no_list, crate::proofs::Replies::no_lines, crate::proofs::Replies::all_there))]
+fn loads_in(alloc: Global, names: &[u32], rest: &[u8]) -> Result<Option<Vec<u32>>, AllocError>
+    requires few { length names.now ≤ 16384 }
+    ensures says { IfOk result (λ found. MatchOption found ((ranks : List ℕ) → ¬ SaysLoads names.now (words rest.now) ranks)
+        (λ ranks. SaysLoads names.now (words rest.now) ranks.items)) }
+    ensures there { IfOk result (λ found. IfSome found (λ ranks. All (λ line. line < length names.now) ranks.items)) }
+{
     if is_blank(rest) {
-        return Ok(Some(all_lines(alloc, lines)?));
+        return Ok(Some(all_ranks(alloc, names)?));
     }
-    let Some((keyword, rest)) = first_word(rest, Blanks::Spaces) else {
+    let Some(list) = after_keyword(rest, b"loads") else {
         return Ok(None);
     };
-    if keyword != b"loads".as_slice() {
-        return Ok(None);
-    }
-    match only_word(rest) {
-        Some(word) => listed(alloc, events, lines, word),
+    match only_word(list) {
+        Some(word) => list_in(alloc, names, word),
         None => Ok(None),
     }
 }
 
-fn all_lines(alloc: Global, lines: u32) -> Result<Vec<u32>, AllocError> {
-    let mut all = Vec::new(alloc);
-    for line in 0..lines {
-        all.push(line)?;
-    }
-    Ok(all)
+/// The ranks of all lines.
+fn all_ranks(alloc: Global, names: &[u32]) -> Result<Vec<u32>, AllocError>
+    requires few { length names.now ≤ 16384 }
+    ensures { IfOk result (λ ranks. ranks.items ≡ range_with_len 0 (length names.now)) }
+{
+    (0..names.len() as u32).collect(alloc)
 }
 
-/// Lines with a comma between each two.
-fn listed(
-    alloc: Global,
-    events: &OpenEvents,
-    lines: u32,
-    word: &[u8],
-) -> Result<Option<Vec<u32>>, AllocError> {
-    let mut ranks = Vec::new(alloc);
-    let mut start = 0;
-    for at in 0..word.len() + 1 {
-        if at < word.len() && word[at] != b',' {
-            continue;
-        }
-        let Some(line) = line_in(&word[start..at]) else {
+/// The ranks of the lines that a word lists, but for those that have none.
+#[tactic(auto, using(crate::proofs::Replies::not_utf8, crate::proofs::Replies::not_listed))]
+fn list_in(alloc: Global, names: &[u32], word: &[u8]) -> Result<Option<Vec<u32>>, AllocError>
+    requires few { length names.now ≤ 16384 }
+    ensures says { IfOk result (λ found. MatchOption found ((ranks : List ℕ) → ¬ IsLineList names.now word.now ranks)
+        (λ ranks. IsLineList names.now word.now ranks.items)) }
+    ensures there { IfOk result (λ found. IfSome found (λ ranks. All (λ line. line < length names.now) ranks.items)) }
+{
+    let Ok(text) = str::from_utf8(word) else {
+        return Ok(None);
+    };
+    match lines_in(alloc, text)? {
+        Some(lines) => Ok(Some(ranks_of(alloc, names, &lines)?)),
+        None => Ok(None),
+    }
+}
+
+/// The lines that a text lists.
+fn lines_in(alloc: Global, text: &str) -> Result<Option<Vec<u32>>, AllocError>
+    ensures { IfOk result (λ found. MatchOption found ((lines : List ℕ) → ¬ AllZip IsLineName (listed text.now) lines)
+        (λ lines. AllZip IsLineName (listed text.now) lines.items)) }
+{
+    let mut lines = Vec::new(alloc);
+    for word in text.split(',') {
+        let Some(line) = line_in(word) else {
             return Ok(None);
         };
-        let rank = rank_of(events, line);
-        if rank < lines {
-            ranks.push(rank)?;
-        }
-        start = at + 1;
+        lines.push(line)?;
     }
-    Ok(Some(ranks))
+    Ok(Some(lines))
 }
 
 /// The line that `lN` names.
-fn line_in(name: &[u8]) -> Option<u32> {
-    match name {
-        [b'l', digits @ ..] => decimal(digits),
-        _ => None,
-    }
+fn line_in(word: &str) -> Option<u32>
+    ensures some { IfSome result (IsLineName word.now) }
+    ensures none { IfNone result ((line : ℕ) → ¬ IsLineName word.now line) }
+{
+    decimal(word.strip_prefix('l')?.as_bytes())
 }
 
-/// The rank of a line among those that the events name; one past every line where they don't name it.
-fn rank_of(events: &OpenEvents, line: u32) -> u32 {
-    match events {
-        OpenEvents::Run(_) => line,
-        OpenEvents::Trace(open) => match rank_in(&open.ranked.names, line) {
-            rank if (rank as usize) < open.ranked.names.len() => rank,
-            _ => u32::MAX,
-        },
+/// The ranks of those of these lines that have one.
+#[tactic(auto, using(crate::proofs::Replies::rank_more, crate::proofs::Replies::ranks_all))]
+fn ranks_of(alloc: Global, names: &[u32], lines: &[u32]) -> Result<Vec<u32>, AllocError>
+    requires few { length names.now ≤ 16384 }
+    ensures ranks { IfOk result (λ ranks. ranks.items ≡ flat_map (rank_of names.now) lines.now) }
+    ensures there { IfOk result (λ ranks. All (λ line. line < length names.now) ranks.items) }
+{
+    let mut ranks = Vec::new(alloc);
+    for line in lines {
+        push_rank(&mut ranks, names, *line)?;
+    }
+    Ok(ranks)
+}
+
+/// Adds the rank of a line, if it has one.
+#[tactic(auto, using(crate::proofs::Replies::still_there, crate::proofs::Replies::more_there))]
+fn push_rank(ranks: &mut Vec<u32>, names: &[u32], line: u32) -> Result<(), AllocError>
+    requires few { length names.now ≤ 16384 }
+    ensures rank { OnOk result (ranks.new.items ≡ ranks.old.items ++ rank_of names.now line) }
+    ensures there { OnOk result (All (λ rank. rank < length names.now) ranks.old.items → All (λ rank. rank < length names.now) ranks.new.items) }
+{
+    match place_of(names, line) {
+        Some(place) => ranks.push(place as u32),
+        None => Ok(()),
     }
 }
