@@ -42,5 +42,6 @@ pub mod PlainRight
 pub mod WidePassing
 pub mod GivenAnswers
 pub mod OutsideAgreeing
+pub mod OutsideAsking
 pub mod OutsideMeaning
 pub mod OutsideGoing

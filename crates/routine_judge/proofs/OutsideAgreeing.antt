@@ -5,8 +5,8 @@ use Rattle.std.specs.List.{Contains}
 use Rattle.std.proofs.lemmas.List.{take_more}
 use Rattle.std.proofs.lemmas.List.Elements.{Contains-append_left, Contains-get_or, Contains-push, Contains-push_cases}
 use Rattle.line_memory.specs.Lines.{line_at}
-use Rattle.routine_judge.specs.Outside.{AgreesWith, AreNamed}
-use Rattle.routine_judge.specs.OutsideTables.{AreKeptIn, AreKnownIn, HasNoneOn, IsKnownIn}
+use Rattle.routine_judge.specs.Outside.{AgreesWith, AreNamed, HasNoneOn}
+use Rattle.routine_judge.specs.OutsideTables.{AreKeptIn, AreKnownIn, IsKnownIn}
 use Rattle.routine_judge.specs.OutsideViews.{KnownView, known_image}
 use Rattle.routine_judge.specs.declared.outside.replies.Replies.{Replies}
 use Rattle.store_trace.proofs.Members.{contains_cases, contains_first, contains_later, no_members}

@@ -3,14 +3,19 @@ use Rattle.std.proofs.Common.{◌≡◌, ◌≢◌, ◌⊎◌, ℕ, ◌+◌, ◌
 use Rattle.std.specs.List.{Contains}
 use Rattle.std.proofs.lemmas.List.Elements.{Contains-append_left}
 use Rattle.crash_image.specs.Totals.{IsImageSum}
-use Rattle.routine_judge.specs.Outside.{AreRepliesOf, HasAsked, HasNoReply, IsOutsideMoment, IsOutsideVerdict, Outside}
-use Rattle.routine_judge.specs.OutsideLoops.{IsAnswered, IsFirstFailing, IsSettled, IsVerdictAt}
+use Rattle.routine_judge.specs.Outside.{AreNamed, AreRepliesOf, HasAsked, HasNoReply, IsAskedFor, IsOutsideMoment, IsOutsideVerdict, Outside}
+use Rattle.routine_judge.specs.OutsideLoops.{IsAnswered, IsFirstFailing, IsMissing, IsSettled, IsStopped, IsUnanswered, IsVerdictAt}
 use Rattle.routine_judge.specs.OutsideTables.{AreKeptIn, AreKnownIn}
 use Rattle.routine_judge.specs.OutsideViews.{KnownView, ReplyView, WantedView}
+use Rattle.routine_judge.specs.Verdicts.{judged_from}
+use Rattle.routine_judge.specs.declared.fault.JudgeFault.TheVariants.{Marks, NoSuchMoment, Memory}
 use Rattle.routine_judge.specs.declared.outside.cause.OutsideCause.{OutsideCause}
+use Rattle.routine_judge.specs.declared.outside.fault.OutsideFault.{OutsideFault}
+use Rattle.routine_judge.specs.declared.outside.fault.OutsideFault.TheVariants.{Judge, Answer}
 use Rattle.routine_judge.specs.declared.outside.replies.Replies.{Replies}
 use Rattle.store_trace.proofs.Members.{no_members}
 use Rattle.store_trace.specs.declared.event.Event.{Event}
+use Rattle.verdict.specs.Rows.{end_of}
 use Rattle.verdict.specs.Verdicts.{IsLeastMoment, IsVerdictBetween, PassBetween}
 use Rattle.verdict.specs.declared.moment_verdict.verdict.MomentVerdict.{MomentVerdict}
 use Rattle.verdict.specs.declared.moment_verdict.verdict.MomentVerdict.TheVariants as moments
@@ -78,8 +83,14 @@ going_passed gives start events first end old next replies now is not here =
 
 -- a moment that passes by some replies passes by more
 still_passes : (recovery : Outside) (start : List (List ℕ)) (events : List Event) (replies more : List KnownView) (m : ℕ) →
-    IsOutsideMoment recovery start events replies m moments.Pass → IsOutsideMoment recovery start events more m moments.Pass
-still_passes recovery start events replies more m is = record { window = is.window; is_window = is.is_window; judged = is.judged }
+    IsOutsideMoment recovery start events replies m moments.Pass → IsOutsideMoment recovery start events (replies ++ more) m moments.Pass
+still_passes recovery start events replies more m is = record {
+  window = is.window;
+  is_window = is.is_window;
+  lines = is.lines;
+  named = λ l there. let w = is.named l there in (w.0, Contains-append_left replies more w.0 w.1, w.2);
+  judged = is.judged;
+}
 
 first_gave : (recovery : Outside) (start : List (List ℕ)) (events : List Event) (replies more : List KnownView) → AreRepliesOf recovery start events (replies ++ more) →
     AreRepliesOf recovery start events replies
@@ -87,20 +98,37 @@ first_gave recovery start events replies more gave known there = gave known (Con
 
 pub going_answered : {A : Type 0} (gives : A → WantedView → ReplyView → A → Type 0) (start : List (List ℕ)) (events : List Event) (first end : ℕ) (old : A)
     (next m : ℕ) (numbers : List ℕ) (replies more : Replies) (now after : A) → IsGoing gives start events first end old next replies now →
+    IsAskedFor start events replies.known.items m numbers →
     IsAnswered gives start events m numbers now after replies.known.items more.known.items → AreKeptIn start events more →
     IsGoing gives start events first end old next more after
-going_answered gives start events first end old next m numbers replies more now after is answered kept =
+going_answered gives start events first end old next m numbers replies more now after is wanted answered kept =
     let one : KnownView = record { numbers = numbers; reply = answered.reply } in
     record {
       from = is.from;
       within = is.within;
       kept = kept;
       asked = subst (λ (ks : List KnownView). HasAsked gives start events old ks after) (sym answered.kept)
-          (HasAsked.more replies.known.items m numbers answered.reply now after is.asked answered.given);
-      passed = λ recovery gave k from below. still_passes recovery start events replies.known.items more.known.items k
-          (is.passed recovery (first_gave recovery start events replies.known.items (one ∷ [])
-          (subst (λ (ks : List KnownView). AreRepliesOf recovery start events ks) answered.kept gave)) k from below);
+          (HasAsked.more replies.known.items m numbers answered.reply now after is.asked wanted answered.given);
+      passed = subst (λ (ks : List KnownView). PassSoFar start events ks first next) (sym answered.kept)
+          (λ recovery gave k from below. still_passes recovery start events replies.known.items (one ∷ []) k
+          (is.passed recovery (first_gave recovery start events replies.known.items (one ∷ []) gave) k from below));
     }
+
+-- where no reply is given, none was
+pub going_unanswered : {A F : Type 0} (gives : A → WantedView → ReplyView → A → Type 0) (fails : A → WantedView → F → A → Type 0) (start : List (List ℕ))
+    (events : List Event) (first end : ℕ) (old : A) (next m : ℕ) (numbers : List ℕ) (replies : Replies) (now after : A) (fault : OutsideFault F) →
+    IsGoing gives start events first end old next replies now → IsAskedFor start events replies.known.items m numbers →
+    IsUnanswered fails start events m numbers now after fault → IsStopped gives fails start events old after fault
+going_unanswered gives fails start events first end old next m numbers replies now after (Judge fault) is wanted failed = failed
+going_unanswered gives fails start events first end old next m numbers replies now after (Answer fault) is wanted failed = record {
+  replies = replies.known.items;
+  before = now;
+  asked = is.asked;
+  moment = m;
+  numbers = numbers;
+  wanted = wanted;
+  failed = failed;
+}
 
 pub going_all : {A : Type 0} (gives : A → WantedView → ReplyView → A → Type 0) (start : List (List ℕ)) (events : List Event) (first end : ℕ) (old : A)
     (next : ℕ) (replies : Replies) (now : A) → IsGoing gives start events first end old next replies now → next ≡ end →
@@ -129,13 +157,24 @@ going_failed gives start events first end old next replies now verdict is not ba
       });
     }
 
+row_from : (judged : ℕ → MomentVerdict OutsideCause → Type 0) (events : List Event) (first : ℕ) (last : Option ℕ) (from end : ℕ) (row : Verdict OutsideCause) →
+    from ≡ judged_from events first end → end ≡ end_of events last → IsVerdictBetween judged events from end row →
+    IsVerdictBetween judged events (judged_from events first (end_of events last)) (end_of events last) row
+row_from judged events first last from end row f e v =
+    subst (λ (n : ℕ). IsVerdictBetween judged events (judged_from events first n) n row) e
+    (subst (λ (n : ℕ). IsVerdictBetween judged events n end row) f v)
+
 -- the verdict on a row of moments, by the first of them that doesn't pass
-pub settled_passes : {A : Type 0} (gives : A → WantedView → ReplyView → A → Type 0) (start : List (List ℕ)) (events : List Event) (first end count : ℕ)
-    (images : Option ℕ) (old new : A) → IsSettled gives start events first end old new None → first + count ≡ end → IsImageSum events first end images →
-    (replies : List KnownView) × HasAsked gives start events old replies new × ((recovery : Outside) → AreRepliesOf recovery start events replies →
-    IsVerdictBetween (IsOutsideMoment recovery start events replies) events first end (rows.Pass count images))
-settled_passes gives start events first end count images old new is all sum =
-    (is.replies, is.asked, λ recovery gave. (all, sum, is.found_is recovery gave))
+pub verdict_passes : {A : Type 0} (gives : A → WantedView → ReplyView → A → Type 0) (start : List (List ℕ)) (events : List Event) (first : ℕ) (last : Option ℕ)
+    (from end count : ℕ) (images : Option ℕ) (old new : A) → from ≡ judged_from events first end → end ≡ end_of events last →
+    IsSettled gives start events from end old new None → from + count ≡ end → IsImageSum events from end images →
+    IsOutsideVerdict gives start events first last old new (rows.Pass count images)
+verdict_passes gives start events first last from end count images old new f e is all sum = record {
+  replies = is.replies;
+  asked = is.asked;
+  verdict_is = λ recovery gave. row_from (IsOutsideMoment recovery start events is.replies) events first last from end (rows.Pass count images) f e
+      (all, sum, is.found_is recovery gave);
+}
 
 at_least : (judged : ℕ → MomentVerdict OutsideCause → Type 0) (events : List Event) (first end m : ℕ) (verdict : MomentVerdict OutsideCause) (row : Verdict OutsideCause) →
     IsLeastMoment judged first end m verdict → IsVerdictAt m verdict row → IsVerdictBetween judged events first end row
@@ -147,10 +186,22 @@ at_least judged events first end m (moments.TooMany named) row least at =
 at_least judged events first end m moments.TooLong row least at =
     subst (λ (v : Verdict OutsideCause). IsVerdictBetween judged events first end v) (sym at) least
 
-pub settled_fails : {A : Type 0} (gives : A → WantedView → ReplyView → A → Type 0) (start : List (List ℕ)) (events : List Event) (first end m : ℕ)
-    (verdict : MomentVerdict OutsideCause) (row : Verdict OutsideCause) (old new : A) → IsSettled gives start events first end old new (Some (m, verdict)) →
-    IsVerdictAt m verdict row →
-    (replies : List KnownView) × HasAsked gives start events old replies new × ((recovery : Outside) → AreRepliesOf recovery start events replies →
-    IsVerdictBetween (IsOutsideMoment recovery start events replies) events first end row)
-settled_fails gives start events first end m verdict row old new is at =
-    (is.replies, is.asked, λ recovery gave. at_least (IsOutsideMoment recovery start events is.replies) events first end m verdict row (is.found_is recovery gave).1 at)
+pub verdict_fails : {A : Type 0} (gives : A → WantedView → ReplyView → A → Type 0) (start : List (List ℕ)) (events : List Event) (first : ℕ) (last : Option ℕ)
+    (from end m : ℕ) (verdict : MomentVerdict OutsideCause) (row : Verdict OutsideCause) (old new : A) → from ≡ judged_from events first end → end ≡ end_of events last →
+    IsSettled gives start events from end old new (Some (m, verdict)) → IsVerdictAt m verdict row →
+    IsOutsideVerdict gives start events first last old new row
+verdict_fails gives start events first last from end m verdict row old new f e is at = record {
+  replies = is.replies;
+  asked = is.asked;
+  verdict_is = λ recovery gave. row_from (IsOutsideMoment recovery start events is.replies) events first last from end row f e
+      (at_least (IsOutsideMoment recovery start events is.replies) events from end m verdict row (is.found_is recovery gave).1 at);
+}
+
+-- why there is no verdict
+pub missing_stopped : {A F : Type 0} (gives : A → WantedView → ReplyView → A → Type 0) (fails : A → WantedView → F → A → Type 0) (start : List (List ℕ))
+    (events : List Event) (first : ℕ) (old new : A) (fault : OutsideFault F) → IsStopped gives fails start events old new fault →
+    IsMissing gives fails start events first old new fault
+missing_stopped gives fails start events first old new (Judge (Marks fault)) is = absurd cc
+missing_stopped gives fails start events first old new (Judge NoSuchMoment) is = absurd cc
+missing_stopped gives fails start events first old new (Judge Memory) is = tt
+missing_stopped gives fails start events first old new (Answer fault) is = is

@@ -1,32 +1,26 @@
 -- The verdict by the answers of an outside recovery, of which only replies on some images are known.
 -- This project's own: right answers are those on full images, as for a recovery routine.
-use Rattle.std.specs.Prelude.{◌≡◌, ◌≢◌, ℕ, ◌++◌, Bool, true, false, List, [], ◌∷◌, Option, Some, None, Result, Ok, Err, length, map}
+use Rattle.std.specs.Prelude.{◌≡◌, ℕ, ◌≤◌, ◌++◌, Bool, true, List, [], ◌∷◌, Option, Some, None, Result, Ok, Err, length, map}
 use Rattle.std.specs.List.{Contains}
-use Rattle.crash_image.specs.Named.{IsNameOf}
 use Rattle.image_check.specs.Verdicts.{whole_line}
 use Rattle.line_memory.specs.Lines.{line_at}
 use Rattle.recovery.specs.Images.{has_same_bytes}
 use Rattle.routine_judge.specs.Images.{full_cut}
-use Rattle.routine_judge.specs.MarkFaults.{AreSound}
-use Rattle.routine_judge.specs.OutsideViews.{KnownView, ReplyView, WantedView, known_image}
+use Rattle.routine_judge.specs.OutsideViews.{AreNumbersAt, KnownView, ReplyView, WantedView, known_image}
 use Rattle.routine_judge.specs.RightAnswers.{is_among}
 use Rattle.routine_judge.specs.Verdicts.{judged_from}
 use Rattle.routine_judge.specs.Windows.{IsWindow}
 use Rattle.routine_judge.specs.declared.history.moments.Window.{Window}
 use Rattle.routine_judge.specs.declared.history.moments.Window.TheVariants.{Itself, Either, Through}
-use Rattle.routine_judge.specs.declared.history.overlap.Overlap.TheVariants.{Never}
 use Rattle.routine_judge.specs.declared.outside.cause.OutsideCause.{OutsideCause}
 use Rattle.routine_judge.specs.declared.outside.cause.OutsideCause.TheVariants.{Missing, Different, Full}
 use Rattle.store_trace.specs.History.{at_moment}
-use Rattle.store_trace.specs.Marks.{begun}
-use Rattle.store_trace.specs.declared.crash_model.step.PersistenceStep.{PersistenceStep}
 use Rattle.store_trace.specs.declared.event.Event.{Event}
 use Rattle.verdict.specs.CutImages.{image_at}
 use Rattle.verdict.specs.Rows.{end_of}
-use Rattle.verdict.specs.Verdicts.{AreGood, HasManyBranches, IsBad, IsLeastBad, IsVerdictBetween}
+use Rattle.verdict.specs.Verdicts.{IsMomentVerdict, IsVerdictBetween}
 use Rattle.verdict.specs.declared.branches.question.Question.{Question}
 use Rattle.verdict.specs.declared.moment_verdict.verdict.MomentVerdict.{MomentVerdict}
-use Rattle.verdict.specs.declared.moment_verdict.verdict.MomentVerdict.TheVariants as moments
 use Rattle.verdict.specs.declared.moment_verdict.verdict.Verdict.{Verdict}
 
 -- what it comes to on a medium: the bytes of its answer, or a word for why it has none
@@ -86,33 +80,33 @@ AreNamed replies lines = (l : ℕ) → Contains lines l → (known : KnownView) 
 abbrev pub asks_all : List ℕ → (ℕ → ℕ) → List Question → Type 0
 asks_all lines k questions = questions ≡ map whole_line lines
 
--- over 65,536 images differ in lines that replies name
-pub record HasManyImages (start : List (List ℕ)) (events : List Event) (m : ℕ) (replies : List KnownView) : Type 0 where
-  pub lines : List ℕ
-  pub named : AreNamed replies lines
-  pub many : HasManyBranches (has_same_bytes (image_at start events m)) (asks_all lines) (at_moment events m)
-
--- the verdict on a moment after these persistence steps, by what is found of the image of each cut
-abbrev pub IsMomentBy : ((ℕ → ℕ) → Option OutsideCause → Type 0) → Type 0 → List PersistenceStep → MomentVerdict OutsideCause → Type 0
-IsMomentBy found many p moments.Pass = AreGood found p
-IsMomentBy found many p (moments.Fail name cause false) = (cut : List (ℕ × ℕ)) × IsNameOf p cut name × IsLeastBad found p cut cause
-IsMomentBy found many p (moments.Fail name cause true) = (cut : List (ℕ × ℕ)) × IsNameOf p cut name × IsBad found p cut cause
-IsMomentBy found many p (moments.TooMany named) = many
-IsMomentBy found many p moments.TooLong = ⊥
-
--- the verdict on moment m by this recovery, of which these replies are known
+-- The verdict on moment m by this recovery, of which these replies are known. Images share a branch that have the same bytes in some lines, which
+-- the replies name.
 pub record IsOutsideMoment (recovery : Outside) (start : List (List ℕ)) (events : List Event) (replies : List KnownView) (m : ℕ)
     (verdict : MomentVerdict OutsideCause) : Type 0 where
   pub window : Window
   pub is_window : IsWindow events m window
-  pub judged : IsMomentBy (λ k. IsFoundOn recovery start events window m (image_at start events m k)) (HasManyImages start events m replies)
-      (at_moment events m) verdict
+  pub lines : List ℕ
+  pub named : AreNamed replies lines
+  pub judged : IsMomentVerdict true (has_same_bytes (image_at start events m)) (asks_all lines)
+      (λ k. IsFoundOn recovery start events window m (image_at start events m k)) (at_moment events m) verdict
+
+-- no reply is one on the medium
+abbrev pub HasNoneOn : List (List ℕ) → List Event → List KnownView → List (List ℕ) → Type 0
+HasNoneOn start events replies medium = (known : KnownView) → Contains replies known → ¬ AgreesWith start events known medium
+
+-- the image in which each line has so many of its stores is asked for: it is one of moment m, and none of these replies is one on it
+pub record IsAskedFor (start : List (List ℕ)) (events : List Event) (replies : List KnownView) (m : ℕ) (numbers : List ℕ) : Type 0 where
+  pub there : m ≤ length events
+  pub numbers_are : AreNumbersAt start events m numbers
+  pub none_known : HasNoneOn start events replies (known_image start events numbers)
 
 -- Images of these events were asked for in turn, and these replies given; `gives` says what becomes of the one who gives them each time.
 pub data HasAsked {A : Type 0} (gives : A → WantedView → ReplyView → A → Type 0) (start : List (List ℕ)) (events : List Event) (old : A) :
     List KnownView → A → Type 0 where
   nothing : HasAsked gives start events old [] old
   more : (replies : List KnownView) (moment : ℕ) (numbers : List ℕ) (reply : ReplyView) (before after : A) → HasAsked gives start events old replies before →
+      IsAskedFor start events replies moment numbers →
       gives before (record { start = start; events = events; moment = moment; numbers = numbers }) reply after →
       HasAsked gives start events old (replies ++ (record { numbers = numbers; reply = reply } ∷ [])) after
 
@@ -133,4 +127,5 @@ pub record HasNoReply {A F : Type 0} (gives : A → WantedView → ReplyView →
   pub asked : HasAsked gives start events old replies before
   pub moment : ℕ
   pub numbers : List ℕ
+  pub wanted : IsAskedFor start events replies moment numbers
   pub failed : fails before (record { start = start; events = events; moment = moment; numbers = numbers }) fault new

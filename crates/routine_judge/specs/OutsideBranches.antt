@@ -4,8 +4,8 @@ use Rattle.std.specs.List.{Contains}
 use Rattle.image_check.specs.Verdicts.{whole_line}
 use Rattle.line_memory.specs.Lines.{line_at}
 use Rattle.recovery.specs.Images.{content, has_same_bytes, same_at}
-use Rattle.routine_judge.specs.Outside.{AgreesWith, asks_all}
-use Rattle.routine_judge.specs.OutsideTables.{AreKnownIn, HasNoneOn, IsReplyAt, IsSoughtOn}
+use Rattle.routine_judge.specs.Outside.{AgreesWith, HasNoneOn, asks_all}
+use Rattle.routine_judge.specs.OutsideTables.{AreKnownIn, IsReplyAt, IsSoughtOn}
 use Rattle.routine_judge.specs.OutsideViews.{KnownView, known_image}
 use Rattle.routine_judge.specs.declared.outside.cause.Sought.{Sought}
 use Rattle.routine_judge.specs.declared.outside.cause.Sought.TheVariants.{Unknown, Missing, Different, Full}

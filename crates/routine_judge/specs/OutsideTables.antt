@@ -1,7 +1,7 @@
 -- The replies of an outside recovery as they are kept, and what they say of images.
 use Rattle.std.specs.Prelude.{◌≡◌, ◌≢◌, ℕ, ◌<◌, true, List, [], Option, Some, None, Result, Ok, Err, length, slice_index_or}
 use Rattle.std.specs.List.{Contains}
-use Rattle.routine_judge.specs.Outside.{AgreesWith, AreNamed, AreRepliesOf, IsRightAmong, Outside, last_of, shown_full}
+use Rattle.routine_judge.specs.Outside.{AgreesWith, AreNamed, AreRepliesOf, HasNoneOn, IsRightAmong, Outside, last_of, shown_full}
 use Rattle.routine_judge.specs.OutsideViews.{AreNumbersIn, KnownView}
 use Rattle.routine_judge.specs.RightAnswers.{is_among}
 use Rattle.routine_judge.specs.declared.history.moments.Window.{Window}
@@ -33,10 +33,6 @@ pub record IsReplyAt (start : List (List ℕ)) (events : List Event) (replies : 
   pub there : i < length replies
   pub here : slice_index_or replies i known ≡ known
   pub agrees : AgreesWith start events known medium
-
--- no reply is one on it
-abbrev pub HasNoneOn : List (List ℕ) → List Event → List KnownView → List (List ℕ) → Type 0
-HasNoneOn start events replies medium = (known : KnownView) → Contains replies known → ¬ AgreesWith start events known medium
 
 -- what the replies say of a medium, where these answers are right: that it is good, or why not
 abbrev pub IsSoughtOn : List (List ℕ) → List Event → List KnownView → List (List ℕ) → List (List ℕ) → Option Sought → Type 0

@@ -1,6 +1,7 @@
 -- What a contract sees of an outside recovery's replies, and of the images that it is asked for.
 use Rattle.std.specs.Prelude.{◌≡◌, ℕ, ◌≤◌, List, Result, length, slice_index}
-use Rattle.store_trace.specs.History.{history}
+use Rattle.store_trace.specs.Cut.{IsWithin}
+use Rattle.store_trace.specs.History.{at_moment, history}
 use Rattle.store_trace.specs.Image.{image}
 use Rattle.store_trace.specs.Stores.{stores}
 use Rattle.store_trace.specs.declared.event.Event.{Event}
@@ -26,6 +27,11 @@ pub record WantedView : Type 0 where
 pub record AreNumbersIn (start : List (List ℕ)) (events : List Event) (numbers : List ℕ) : Type 0 where
   pub size : length numbers ≡ length start
   pub most : (l : ℕ) → slice_index numbers l ≤ stores l (history events)
+
+-- and these are the numbers of an image of moment m
+pub record AreNumbersAt (start : List (List ℕ)) (events : List Event) (m : ℕ) (numbers : List ℕ) : Type 0 where
+  pub size : length numbers ≡ length start
+  pub within : IsWithin (at_moment events m) (λ l. slice_index numbers l)
 
 -- the image in which each line stands after so many of its stores
 abbrev pub known_image : List (List ℕ) → List Event → List ℕ → List (List ℕ)

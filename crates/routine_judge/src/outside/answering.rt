@@ -11,7 +11,7 @@ use crash_image::TraceIndex;
 use line_memory::Medium;
 use std::marker::Model;
 
-/// An image that is asked for: each line stands after a number of its first stores.
+/// An image of a moment that is asked for: each line stands after a number of its first stores.
 ///
 /// A contract sees the lines that the events started from, the events, the moment, and the numbers, one for each line.
 #[derive(Drop)]
@@ -23,7 +23,7 @@ pub struct Wanted<'a, 'b> {
 }
 
 impl<'a, 'b> Model for Wanted<'a, 'b> {
-    ghost use Rattle.routine_judge.specs.OutsideViews.{AreNumbersIn, WantedView};
+    ghost use Rattle.routine_judge.specs.OutsideViews.{AreNumbersAt, WantedView};
     ghost use Rattle.std.specs.Prelude.{◌≡◌, ◌≤◌, length};
 
     ghost Value = { WantedView };
@@ -32,7 +32,7 @@ impl<'a, 'b> Model for Wanted<'a, 'b> {
 
     ghost invariant = { λ w. (w.index.now.start ≡ w.medium.now)
         × (w.moment ≤ length w.index.now.events)
-        × AreNumbersIn w.medium.now w.index.now.events w.numbers.now };
+        × AreNumbersAt w.medium.now w.index.now.events w.moment w.numbers.now };
 }
 
 impl<'a, 'b> Wanted<'a, 'b> {

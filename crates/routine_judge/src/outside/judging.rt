@@ -2,8 +2,7 @@
 
 ghost use Rattle.crash_image.specs.View.{HasLines};
 ghost use Rattle.routine_judge.specs.MarkFaults.{AreSound};
-ghost use Rattle.routine_judge.specs.Outside.{IsOutsideVerdict};
-ghost use Rattle.routine_judge.specs.OutsideJudging.{IsAskedFor};
+ghost use Rattle.routine_judge.specs.Outside.{IsAskedFor, IsOutsideVerdict};
 ghost use Rattle.routine_judge.specs.OutsideLoops.{IsAnswered, IsMissing, IsSettled, IsStopped, IsUnanswered, IsVerdictAt};
 ghost use Rattle.routine_judge.specs.OutsideTables.{AreKeptIn};
 ghost use Rattle.routine_judge.specs.Verdicts.{IsRefusal};
@@ -165,8 +164,12 @@ impl<'a> OutsideRun<'a> {
                 return Ok(None);
             }
             match self.judge_moment(rt, alloc, &replies, &mut opener, next)? {
-                Judged::Is(MomentVerdict::Pass) => next += 1,
-                Judged::Is(verdict) => return Ok(Some((next, verdict))),
+                Judged::Is(verdict) => {
+                    if !verdict.is_pass() {
+                        return Ok(Some((next, verdict)));
+                    }
+                    next += 1;
+                }
                 Judged::Asks { moment, numbers } => {
                     self.ask(answering, &mut replies, moment, numbers)?;
                 }
@@ -184,7 +187,7 @@ impl<'a> OutsideRun<'a> {
         numbers: Vec<u32>,
     ) -> Result<(), OutsideFault<A::Fault>>
         requires known { AreKeptIn self.now.start self.now.events replies.old }
-        requires wanted { IsAskedFor self.now.start self.now.events moment numbers.items }
+        requires wanted { IsAskedFor self.now.start self.now.events replies.old.known.items moment numbers.items }
         ensures ok { OnOk result (IsAnswered A.gives self.now.start self.now.events moment numbers.items answering.old answering.new
             replies.old.known.items replies.new.known.items) }
         ensures known { OnOk result (AreKeptIn self.now.start self.now.events replies.new) }

@@ -29,25 +29,6 @@ pub(crate) struct KnownImages<'a, 'b, 'c> {
     ghost known: { AreKnownIn cuts.now.index.now.start cuts.now.index.now.events replies.now },
 }
 
-impl<'a, 'b, 'c> KnownImages<'a, 'b, 'c> {
-    pub(crate) fn new(
-        cuts: &'a MomentCuts<'b, 'c>,
-        replies: &'a Replies,
-        right: &'a RightReplies,
-    ) -> KnownImages<'a, 'b, 'c>
-        requires { AreKnownIn cuts.now.index.now.start cuts.now.index.now.events replies.now }
-        ensures cuts { result.cuts.now ≡ cuts.now }
-        ensures replies { result.replies.now ≡ replies.now }
-        ensures right { result.right.now ≡ right.now }
-    {
-        KnownImages {
-            cuts,
-            replies,
-            right,
-        }
-    }
-}
-
 impl Recovery for KnownImages<'_, '_, '_> {
     ghost use Rattle.recovery.specs.Images.{has_same_bytes};
     ghost use Rattle.routine_judge.specs.Branchwise.{bytes_alike, bytes_both, bytes_nothing};

@@ -1,14 +1,12 @@
 //! A moment as the replies so far judge it.
 
-ghost use Rattle.crash_image.specs.TraceIndexView.{IndexView};
 ghost use Rattle.routine_judge.specs.Images.{full_cut};
-ghost use Rattle.routine_judge.specs.OutsideJudging.{IsJudgedSoFar, IsRightOfTwo, IsRightSoFar, IsSaid, IsWordOf, SaysCause};
+ghost use Rattle.routine_judge.specs.Outside.{HasNoneOn};
+ghost use Rattle.routine_judge.specs.OutsideJudging.{AreAllStores, AreNumbersOf, IsJudgedSoFar, IsRightOfTwo, IsRightSoFar, IsSaid, IsWordOf, SaysCause};
 ghost use Rattle.routine_judge.specs.OutsideTables.{AreKeptIn, AreKnownIn, IsReplyAt};
-ghost use Rattle.routine_judge.specs.OutsideViews.{AreNumbersIn, KnownView as AKnown};
-ghost use Rattle.std.specs.Prelude.{◌≡◌, ◌<◌, ◌≤◌, ℕ, All, List, IfOk, IfSome, length};
-ghost use Rattle.store_trace.specs.History.{history};
-ghost use Rattle.store_trace.specs.Stores.{stores};
-ghost use Rattle.store_trace.specs.declared.event.Event.{Event as AnEvent};
+ghost use Rattle.routine_judge.specs.OutsideViews.{KnownView as AKnown};
+ghost use Rattle.std.specs.Prelude.{◌≡◌, ◌<◌, ◌≤◌, ℕ, All, IfNone, IfOk, IfSome, length, slice_index};
+ghost use Rattle.store_trace.specs.Cut.{number_in};
 ghost use Rattle.verdict.specs.CutImages.{image_at};
 
 use crate::full_image::FullImage;
@@ -58,13 +56,20 @@ impl OutsideRun<'_> {
     {
         let right = match self.right_at(alloc, replies, moment)? {
             RightSoFar::Are(right) => right,
-            RightSoFar::Lacks(moment) => {
-                let numbers = self.full_numbers(alloc, moment)?;
-                return Ok(Judged::Asks { moment, numbers });
+            RightSoFar::Lacks(at) => {
+                let numbers = self.full_numbers(alloc, at)?;
+                return Ok(Judged::Asks {
+                    moment: at,
+                    numbers,
+                });
             }
         };
         let cuts = MomentCuts::new(&self.index, moment);
-        let images = KnownImages::new(&cuts, replies, &right);
+        let images = KnownImages {
+            cuts: &cuts,
+            replies,
+            right: &right,
+        };
         let (medium, trace) = (self.medium, self.trace);
         let verdict = open_moment(rt, alloc, medium, trace, moment, &images, &mut (), opener)?;
         self.said(alloc, replies, right.last, moment, verdict)
@@ -80,7 +85,7 @@ impl OutsideRun<'_> {
         verdict: MomentVerdict<Sought>,
     ) -> Result<Judged, AllocError>
         requires { moment ≤ length self.now.events }
-        ensures { IfOk result (IsSaid self.now.start self.now.events replies.now.known.items last verdict) }
+        ensures { IfOk result (IsSaid self.now.start self.now.events replies.now.known.items last moment verdict) }
     {
         match verdict {
             MomentVerdict::Pass => Ok(Judged::Is(MomentVerdict::Pass)),
@@ -88,21 +93,19 @@ impl OutsideRun<'_> {
             MomentVerdict::TooMany { lines } => Ok(Judged::Is(MomentVerdict::TooMany { lines })),
             MomentVerdict::Fail {
                 image,
-                cause: Sought::Unknown,
-                ..
-            } => {
-                let numbers = self.cut_numbers(alloc, moment, &image)?;
-                Ok(Judged::Asks { moment, numbers })
-            }
-            MomentVerdict::Fail {
-                image,
                 cause,
                 of_too_many,
-            } => Ok(Judged::Is(MomentVerdict::Fail {
-                image,
-                cause: told_cause(alloc, replies, last, cause)?,
-                of_too_many,
-            })),
+            } => match told_cause(alloc, replies, last, cause)? {
+                Some(cause) => Ok(Judged::Is(MomentVerdict::Fail {
+                    image,
+                    cause,
+                    of_too_many,
+                })),
+                None => {
+                    let numbers = self.cut_numbers(alloc, moment, &image)?;
+                    Ok(Judged::Asks { moment, numbers })
+                }
+            },
         }
     }
 
@@ -155,8 +158,10 @@ impl OutsideRun<'_> {
     fn full_reply(&self, replies: &Replies, moment: u32) -> Option<usize>
         requires known { AreKnownIn self.now.start self.now.events replies.now }
         requires there { moment ≤ length self.now.events }
-        ensures { IfSome result (λ i. (known : AKnown) × IsReplyAt self.now.start self.now.events replies.now.known.items i
+        ensures some { IfSome result (λ i. (known : AKnown) × IsReplyAt self.now.start self.now.events replies.now.known.items i
             (image_at self.now.start self.now.events moment (full_cut self.now.events moment)) known) }
+        ensures none { IfNone result (HasNoneOn self.now.start self.now.events replies.now.known.items
+            (image_at self.now.start self.now.events moment (full_cut self.now.events moment))) }
     {
         let cuts = MomentCuts::new(&self.index, moment);
         let image = FullImage::new(&cuts);
@@ -166,7 +171,7 @@ impl OutsideRun<'_> {
     /// How many stores each line has in the full image of a moment.
     fn full_numbers(&self, alloc: Global, moment: u32) -> Result<Vec<u32>, AllocError>
         requires { moment ≤ length self.now.events }
-        ensures { IfOk result (λ numbers. AreNumbersIn self.now.start self.now.events numbers.items) }
+        ensures { IfOk result (λ numbers. AreAllStores self.now.start self.now.events moment numbers.items) }
     {
         let mut numbers = Vec::new(alloc);
         for line in 0..self.index.lines() {
@@ -183,7 +188,7 @@ impl OutsideRun<'_> {
         image: &ImageName,
     ) -> Result<Vec<u32>, AllocError>
         requires { moment ≤ length self.now.events }
-        ensures { IfOk result (λ numbers. AreNumbersIn self.now.start self.now.events numbers.items) }
+        ensures { IfOk result (λ numbers. AreNumbersOf self.now.start self.now.events moment image.now numbers.items) }
     {
         let Ok(cuts) = Cuts::at(alloc, self.medium, self.trace, moment) else {
             return Err(AllocError);
@@ -195,42 +200,45 @@ impl OutsideRun<'_> {
     }
 }
 
-/// The numbers of so many lines: those that the entries give, and 0 for others.
+/// The numbers of so many lines: those that the entries give, and 0 for others. Of two entries of a line the first counts.
 fn numbers_of(
     alloc: Global,
     lines: u32,
     entries: &[(u32, u32)],
 ) -> Result<Vec<u32>, AllocError>
     requires { All (λ (entry : ℕ × ℕ). entry.0 < lines) entries.now }
-    ensures { IfOk result (λ numbers. (start : List (List ℕ)) (events : List AnEvent) → length start ≡ lines →
-        All (λ (entry : ℕ × ℕ). entry.1 ≤ stores entry.0 (history events)) entries.now → AreNumbersIn start events numbers.items) }
+    ensures size { IfOk result (λ numbers. length numbers.items ≡ lines) }
+    ensures each { IfOk result (λ numbers. (l : ℕ) → slice_index numbers.items l ≡ number_in entries.now l) }
 {
     let mut numbers = vec![in alloc; 0; lines as usize]?;
-    for entry in entries {
-        numbers[entry.0 as usize] = entry.1;
+    let mut at = entries.len();
+    while at > 0 {
+        at -= 1;
+        numbers[entries[at].0 as usize] = entries[at].1;
     }
     Ok(numbers)
 }
 
-/// Why an image is bad, by the words of replies; reply `last` is the one on the full image that comes last.
+/// Why an image is bad, by the words of replies; reply `last` is the one on the full image that comes last. None where no reply is one on it.
 fn told_cause(
     alloc: Global,
     replies: &Replies,
     last: usize,
     cause: Sought,
-) -> Result<OutsideCause, AllocError>
+) -> Result<Option<OutsideCause>, AllocError>
     ensures { IfOk result (SaysCause replies.now.known.items last cause) }
 {
     match cause {
+        Sought::Unknown => Ok(None),
+        Sought::Different => Ok(Some(OutsideCause::Different)),
         Sought::Missing(number) => {
             let word = word_of(alloc, replies, number)?;
-            Ok(OutsideCause::Missing(word))
+            Ok(Some(OutsideCause::Missing(word)))
         }
         Sought::Full => {
             let word = word_of(alloc, replies, last)?;
-            Ok(OutsideCause::Full(word))
+            Ok(Some(OutsideCause::Full(word)))
         }
-        Sought::Unknown | Sought::Different => Ok(OutsideCause::Different),
     }
 }
 

@@ -1,8 +1,8 @@
 //! The replies of an outside recovery so far.
 
 ghost use Rattle.crash_image.specs.TraceIndexView.{IndexView};
-ghost use Rattle.routine_judge.specs.Outside.{AgreesWith};
-ghost use Rattle.routine_judge.specs.OutsideTables.{AreKeptIn, AreKnownIn, HasNoneOn, IsKnownIn, IsReplyAt};
+ghost use Rattle.routine_judge.specs.Outside.{AgreesWith, HasNoneOn};
+ghost use Rattle.routine_judge.specs.OutsideTables.{AreKeptIn, AreKnownIn, IsKnownIn, IsReplyAt};
 ghost use Rattle.routine_judge.specs.OutsideViews.{KnownView as AKnown};
 ghost use Rattle.std.specs.Prelude.{◌≡◌, ◌↔◌, ◌⊎◌, ℕ, List, [], ◌∷◌, ◌++◌, Contains, IfNone, IfSome, IsTrue, OnOk, length};
 

@@ -1,5 +1,5 @@
 use Rattle.std.proofs.Common.{take}
-use Rattle.routine_judge.specs.OutsideTables.{HasNoneOn}
+use Rattle.routine_judge.specs.Outside.{HasNoneOn}
 use Rattle.routine_judge.proofs.outside.replies.Replies.find.Given as goal
 
 abbrev pub invariant-loop-at : goal.invariant-loop-at
