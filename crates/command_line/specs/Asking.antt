@@ -2,7 +2,7 @@
 use Rattle.std.specs.Prelude.{◌≡◌, ◌≢◌, ◌⊎◌, ◌++◌, ◌≤◌, ◌<◌, All, ℕ, Bool, IfSome, List, [], ◌∷◌, Option, Some, None, Result, Ok, Err, MatchResult, codes, length, map, string_bytes, take}
 use Rattle.std.specs.List.{range_with_len}
 use Rattle.std.specs.Io.KnownBytes.{Appends, Consumes, IsAtEnd}
-use Rattle.std.specs.Str.{encode_utf8_all}
+use Rattle.std.specs.Str.Lossy.{utf8_lossy}
 use Rattle.arguments.specs.Spans.{IsUpward}
 use Rattle.arguments.specs.declared.asked.AskCommand.{AskCommand}
 use Rattle.crash_test.specs.declared.losses.ExplainedImage.{ExplainedImage}
@@ -170,11 +170,11 @@ named_verdict name (verdicts.TooMany moment lines) = verdicts.TooMany moment Non
 named_verdict name (verdicts.TooLong moment) = verdicts.TooLong moment
 
 -- why an image is bad: recovery has no answer, for this word, its answer isn't a right one, or `full-` and the word for why there is none that is
--- right. A word's bytes are characters.
+-- right
 abbrev pub outside_text : OutsideCause → List ℕ
-outside_text (Missing word) = encode_utf8_all word.items
+outside_text (Missing word) = utf8_lossy word.items
 outside_text Different = codes "different"
-outside_text (Full word) = codes "full-" ++ encode_utf8_all word.items
+outside_text (Full word) = codes "full-" ++ utf8_lossy word.items
 
 -- all lines of an image count
 abbrev pub IsAllOf : List (List ℕ) → List ℕ → Type 0

@@ -9,7 +9,7 @@ ghost use Rattle.command_line.specs.Verdicts.{told_verdict};
 ghost use Rattle.routine_judge.specs.MarkFaults.{AreSound};
 ghost use Rattle.routine_judge.specs.declared.history.overlap.Overlap.TheVariants.{Never};
 ghost use Rattle.std.specs.Prelude.{◌≡◌, ◌≢◌, ◌≤◌, ◌++◌, [], IfErr, IfOk, IfSome, codes, length, map, string_bytes, take};
-ghost use Rattle.std.specs.Str.{encode_utf8_all};
+ghost use Rattle.std.specs.Str.Lossy.{utf8_lossy};
 ghost use Rattle.store_trace.specs.Marks.{begun};
 
 use crate::answer::Answer;
@@ -290,27 +290,15 @@ fn outside_text(alloc: Global, cause: &OutsideCause) -> Result<String, AllocErro
     ensures { IfOk result (λ text. string_bytes text ≡ outside_text cause.now) }
 {
     match cause {
-        OutsideCause::Missing(word) => word_text(alloc, word),
+        OutsideCause::Missing(word) => String::from_utf8_lossy(alloc, word),
         OutsideCause::Different => format!(in alloc; "different"),
         OutsideCause::Full(word) => full_text(alloc, word),
     }
 }
 
 fn full_text(alloc: Global, word: &[u8]) -> Result<String, AllocError>
-    ensures { IfOk result (λ text. string_bytes text ≡ codes "full-" ++ encode_utf8_all word.now) }
+    ensures { IfOk result (λ text. string_bytes text ≡ codes "full-" ++ utf8_lossy word.now) }
 {
-    let word = word_text(alloc, word)?;
+    let word = String::from_utf8_lossy(alloc, word)?;
     format!(in alloc; "full-{word}")
-}
-
-/// The text whose characters are these bytes.
-#[tactic(auto, using(crate::proofs::Asked::text_more))]
-fn word_text(alloc: Global, word: &[u8]) -> Result<String, AllocError>
-    ensures { IfOk result (λ text. string_bytes text ≡ encode_utf8_all word.now) }
-{
-    let mut text = String::new(alloc);
-    for byte in word {
-        text.push(char::from(*byte))?;
-    }
-    Ok(text)
 }

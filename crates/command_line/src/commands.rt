@@ -3,6 +3,7 @@
 ghost use Rattle.std.specs.Prelude.{◌≡◌, IfOk, map, string_bytes};
 ghost use Rattle.std.specs.Result.{result_map_both};
 ghost use Rattle.arguments.specs.Line.{IsWithinLimits};
+ghost use Rattle.command_line.specs.Asking.{IsOpenAsk};
 ghost use Rattle.command_line.specs.Checking.{IsOpen};
 ghost use Rattle.command_line.specs.CheckingAll.{IsOpen as IsOpenCheckAll};
 ghost use Rattle.command_line.specs.Debugging.{IsOpen as IsOpenDebug};

@@ -3,10 +3,11 @@
 ghost use Rattle.std.specs.Prelude.{IfOk, Ok, map, string_bytes};
 ghost use Rattle.command_line.specs.Checking.{IsOpen};
 ghost use Rattle.command_line.specs.AllSchedules.{FailsBehind};
+ghost use Rattle.command_line.specs.Asking.{IsOpenAsk};
 ghost use Rattle.command_line.specs.CheckingAll.{ChecksAll, IsOpen as IsOpenCheckAll};
 ghost use Rattle.command_line.specs.Judging.{IsOpen as IsOpenJudge};
 ghost use Rattle.command_line.specs.JudgingAll.{IsOpen as IsOpenJudgeAll, JudgesAll};
-ghost use Rattle.command_line.specs.Outcomes.{Delivers, DeliversCheck, DeliversConclusion, DeliversJudge, Ends, EndsWith, IsConcluded, IsPrinted, IsReady};
+ghost use Rattle.command_line.specs.Outcomes.{Delivers, DeliversAsk, DeliversCheck, DeliversConclusion, DeliversJudge, Ends, EndsWith, IsConcluded, IsPrinted, IsReady};
 
 use crate::answer::{Action, Answer, Conclusion};
 use crate::asking::judge_asked;
@@ -34,8 +35,8 @@ use std::time::Clock;
 ///
 /// An answer goes to standard output, and nothing of a failure does, but the schedule that `check-all` or `judge-all` found of a run which is
 /// refused. The lines of a failure go to standard error, and where they can't be written the status still stands. With `--progress` `check`, `judge`,
-/// `check-all` and `judge-all` tell there, before that, how far they have come. Only the session of `debug` reads standard input, once its files have been read and its
-/// machine made. `run` of several harts, `check`, `judge`, `check-all` and `judge-all` start threads, of `rt`; what the last four print
+/// `check-all` and `judge-all` tell there, before that, how far they have come. Only the session of `debug` and `judge --ask` read standard input,
+/// once their files have been read. `run` of several harts, `check`, `judge`, `check-all` and `judge-all` start threads, of `rt`; what the last four print
 /// doesn't depend on how many, and what `run` prints is the run that its harts made.
 pub fn execute<T: Threads + Wait + Sync + Clock, F: Files, R: Read, W: Write, E: Write>(
     rt: &T,
@@ -88,7 +89,7 @@ fn deliver<T: Threads + Sync + Clock, R: Read, W: Write, E: Write>(
         Action::Print(answer) => print_answer(answer, output),
         Action::Check(check) => deliver_check(rt, alloc, &check, output, errors),
         Action::Judge(judge) => deliver_judge(rt, alloc, &judge, output, errors),
-        Action::Ask(ask) => deliver_ask(rt, alloc, &ask, input, output),
+        Action::Ask(ask) => deliver_ask(rt, alloc, &ask, input, output, errors),
         Action::CheckAll(check) => deliver_check_all(rt, alloc, check, output, errors),
         Action::JudgeAll(judge) => deliver_judge_all(rt, alloc, judge, output, errors),
         Action::Debug(debug) => hold_session(alloc, debug, input, output),
@@ -123,14 +124,18 @@ fn deliver_judge<T: Threads + Sync + Clock, W: Write, E: Write>(
     print_answer(answer, output)
 }
 
-fn deliver_ask<T: Threads + Sync, R: Read, W: Write>(
+fn deliver_ask<T: Threads + Sync, R: Read, W: Write, E: Write>(
     rt: &T,
     alloc: Global,
     ask: &OpenAsk,
     input: &mut R,
     output: &mut W,
-) -> Result<u8, Failure> {
-    let answer = judge_asked(rt, alloc, ask, input, output)?;
+    errors: &mut E,
+) -> Result<u8, Failure>
+    requires { IsOpenAsk ask.now }
+    ensures { DeliversAsk R.remaining W.contents E.contents ask.now (input.old, output.old) (input.new, output.new) errors.old errors.new result }
+{
+    let answer = judge_asked(rt, alloc, ask, input, output, errors)?;
     print_answer(answer, output)
 }
 

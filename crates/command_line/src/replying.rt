@@ -42,7 +42,7 @@ pub(crate) fn read_reply<R: Read>(
 }
 
 /// The next line without its LF. Nothing is read behind it.
-#[tactic(auto, using(crate::proofs::Asked::line_begun, crate::proofs::Asked::line_more, crate::proofs::Asked::line_ended, crate::proofs::Asked::line_kept, crate::proofs::Asked::input_ended))]
+#[tactic(auto, using(crate::proofs::Asked::line_begun, crate::proofs::Asked::no_ends, crate::proofs::Asked::more_of_line, crate::proofs::Asked::byte_read, crate::proofs::Asked::nothing_read, crate::proofs::Asked::part_read))]
 fn read_line<R: Read>(alloc: Global, input: &mut R) -> Result<Vec<u8>, Failure>
     ensures ok { IfOk result (λ line. ReadsLine (R.remaining input.old) (R.remaining input.new) line.items) }
     ensures err { IfErr result (LacksLine (R.remaining input.old) (R.remaining input.new)) }
@@ -61,7 +61,7 @@ fn read_line<R: Read>(alloc: Global, input: &mut R) -> Result<Vec<u8>, Failure>
 }
 
 /// The reply that a line is: `answer` and the digits of bytes, or `none` and a word, and behind either `loads` and lines.
-#[tactic(auto, using(crate::proofs::Replies::no_reply, crate::proofs::Replies::no_answer, crate::proofs::Replies::no_cause))]
+#[tactic(auto, using(crate::proofs::Replies::no_reply, crate::proofs::Replies::by_answer, crate::proofs::Replies::by_cause))]
 pub(crate) fn reply_in(
     alloc: Global,
     names: &[u32],
@@ -110,6 +110,7 @@ fn digits_in(rest: &[u8]) -> (&[u8], &[u8])
 }
 
 /// The bytes that pairs of hexadecimal digits write.
+#[tactic(auto, using(crate::proofs::Replies::not_decoded))]
 fn bytes_in(alloc: Global, digits: &[u8]) -> Result<Option<Vec<u8>>, AllocError>
     ensures { IfOk result (λ found. MatchOption found ((bytes : List ℕ) → decode_of digits.now ≢ Ok bytes)
         (λ bytes. decode_of digits.now ≡ Ok bytes.items)) }
@@ -157,7 +158,7 @@ fn is_cause_byte(byte: u8) -> bool
 }
 
 /// The lines that the words behind an answer or a cause say, by their ranks.
-#[tactic(auto, using(crate::proofs::Replies::no_keyword, crate::proofs::Replies::no_list, crate::proofs::Replies::no_lines, crate::proofs::Replies::all_there))]
+#[tactic(auto, using(crate::proofs::Replies::no_keyword, crate::proofs::Replies::no_list, crate::proofs::Replies::by_list, crate::proofs::Replies::all_there))]
 fn loads_in(alloc: Global, names: &[u32], rest: &[u8]) -> Result<Option<Vec<u32>>, AllocError>
     requires few { length names.now ≤ 16384 }
     ensures says { IfOk result (λ found. MatchOption found ((ranks : List ℕ) → ¬ SaysLoads names.now (words rest.now) ranks)
@@ -239,7 +240,7 @@ fn ranks_of(alloc: Global, names: &[u32], lines: &[u32]) -> Result<Vec<u32>, All
 }
 
 /// Adds the rank of a line, if it has one.
-#[tactic(auto, using(crate::proofs::Replies::still_there, crate::proofs::Replies::more_there))]
+#[tactic(auto, using(crate::proofs::Replies::more_there))]
 fn push_rank(ranks: &mut Vec<u32>, names: &[u32], line: u32) -> Result<(), AllocError>
     requires few { length names.now ≤ 16384 }
     ensures rank { OnOk result (ranks.new.items ≡ ranks.old.items ++ rank_of names.now line) }
