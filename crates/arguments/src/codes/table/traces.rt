@@ -34,7 +34,7 @@ static TRACES: [Row; 7] = [
     (
         "V6",
         "a line on standard input that is no reply to the image that was asked for",
-        "Reply `answer` and the answer's bytes in lower-case hexadecimal digits, or `none` and a word, and behind either `loads` and the lines loaded.",
+        "Reply `answer` and the answer's bytes in hexadecimal digits, or `none` and a word, and behind either `loads` and the lines loaded.",
     ),
     (
         "V7",
